@@ -1,0 +1,224 @@
+//! A file as a slice of its bytes.
+ghost use Rattle.std.specs.Prelude.{◌≡◌};
+ghost use Rattle.std.specs.Option.{option_map};
+ghost use Rattle.elf_parts.specs.Number.{bytes_at, ok_map};
+ghost use Rattle.elf_parts.specs.Tables.{table_records};
+ghost use Rattle.elf.specs.Opening.{first_section, header_at_front, opened, section_count, section_table, segment_count, segment_table, table_bytes};
+ghost use Rattle.elf.specs.Names.{name_index, named_sections, section_range, seen_tables};
+ghost use Rattle.elf.specs.View.{view};
+
+use elf_abi::abi;
+use elf_parts::endian::EndianParse;
+use elf_parts::file::{Class, ELF32_EHDR_TAILSIZE, ELF64_EHDR_TAILSIZE, FileHeader, parse_ident};
+use elf_parts::parse::{ParseAt, ParseError};
+use elf_parts::section::{SectionHeader, SectionHeaderTable};
+use elf_parts::segment::{ProgramHeader, SegmentTable};
+use elf_parts::string_table::StringTable;
+
+/// A file whose header and whose two tables were found in its bytes. It lends parts of the caller's
+/// slice, copies none of them and takes no memory.
+///
+/// `ehdr` may be changed: methods go by its class, order and `e_shstrndx` as they stand. The two tables
+/// stay those that were found when the file was opened.
+#[derive(Debug, Drop)]
+pub struct ElfBytes<'data, E: EndianParse> {
+    pub ehdr: FileHeader<E>,
+    data: &'data [u8],
+    shdrs: Option<SectionHeaderTable<'data, E>>,
+    phdrs: Option<SegmentTable<'data, E>>,
+}
+
+// So many bytes of the data from start on.
+#[tactic(auto, unfolding(elf_parts::specs::Number::bytes_at))]
+fn get_bytes<'data>(data: &'data [u8], start: usize, size: usize) -> Result<&'data [u8], ParseError>
+    ensures { ok_map (λ bytes. bytes.now) result ≡ bytes_at size «data».now start }
+{
+    let end = start.checked_add(size).ok_or(ParseError::IntegerOverflow)?;
+    data.get(start..end)
+        .ok_or(ParseError::SliceReadError((start, end)))
+}
+
+// The bytes that a section header gives a range of.
+fn section_range<'data>(shdr: &SectionHeader, data: &'data [u8]) -> Result<&'data [u8], ParseError>
+    ensures { ok_map (λ bytes. bytes.now) result ≡ section_range «data».now shdr.now }
+{
+    get_bytes(data, shdr.sh_offset as usize, shdr.sh_size as usize)
+}
+
+// The file header at the front of the data.
+#[tactic(auto, unfolding(crate::specs::Opening::header_at_front))]
+fn parse_ehdr<E: EndianParse>(data: &[u8]) -> Result<FileHeader<E>, ParseError>
+    ensures { result ≡ header_at_front E.little E.of_byte «data».now }
+{
+    let ident = parse_ident(get_bytes(data, 0, abi::EI_NIDENT)?)?;
+    let tail_size = match ident.1 {
+        Class::ELF32 => ELF32_EHDR_TAILSIZE,
+        Class::ELF64 => ELF64_EHDR_TAILSIZE,
+    };
+    let tail = get_bytes(data, abi::EI_NIDENT, tail_size)?;
+    FileHeader::parse_tail(ident, tail)
+}
+
+// The first section header, which has room for counts that the file header has none for.
+fn first_section<E: EndianParse>(
+    ehdr: &FileHeader<E>,
+    data: &[u8],
+) -> Result<SectionHeader, ParseError>
+    ensures { result ≡ first_section E.little ehdr.now «data».now }
+{
+    let mut offset = ehdr.e_shoff as usize;
+    SectionHeader::parse_at(ehdr.endianness, ehdr.class, &mut offset, data)
+}
+
+fn section_count<E: EndianParse>(ehdr: &FileHeader<E>, data: &[u8]) -> Result<usize, ParseError>
+    ensures { result ≡ section_count E.little ehdr.now «data».now }
+{
+    if ehdr.e_shnum == 0 {
+        let first = first_section(ehdr, data)?;
+        Ok(first.sh_size as usize)
+    } else {
+        Ok(ehdr.e_shnum as usize)
+    }
+}
+
+fn segment_count<E: EndianParse>(ehdr: &FileHeader<E>, data: &[u8]) -> Result<usize, ParseError>
+    ensures { result ≡ segment_count E.little ehdr.now «data».now }
+{
+    if ehdr.e_phnum == abi::PN_XNUM {
+        let first = first_section(ehdr, data)?;
+        Ok(first.sh_info as usize)
+    } else {
+        Ok(ehdr.e_phnum as usize)
+    }
+}
+
+// The bytes of so many records at an offset, whose size the file header gives as entsize.
+#[tactic(auto, unfolding(elf_parts::specs::Number::bytes_at))]
+fn table_bytes<'data, P: ParseAt>(
+    class: Class,
+    entsize: u16,
+    count: usize,
+    offset: u64,
+    data: &'data [u8],
+) -> Result<&'data [u8], ParseError>
+    ensures { ok_map (λ bytes. bytes.now) result ≡ table_bytes (P.size class) entsize count offset «data».now }
+{
+    let size = P::validate_entsize(class, entsize as usize)?;
+    let length = size.checked_mul(count).ok_or(ParseError::IntegerOverflow)?;
+    get_bytes(data, offset as usize, length)
+}
+
+#[tactic(auto, unfolding(crate::specs::Opening::section_table))]
+fn find_shdrs<'data, E: EndianParse>(
+    ehdr: &FileHeader<E>,
+    data: &'data [u8],
+) -> Result<Option<SectionHeaderTable<'data, E>>, ParseError>
+    ensures { ok_map (option_map table_records) result ≡ section_table E.little ehdr.now «data».now }
+{
+    if ehdr.e_shoff == 0 {
+        return Ok(None);
+    }
+    let count = section_count(ehdr, data)?;
+    let bytes = table_bytes::<SectionHeader>(
+        ehdr.class,
+        ehdr.e_shentsize,
+        count,
+        ehdr.e_shoff,
+        data,
+    )?;
+    Ok(Some(SectionHeaderTable::new(ehdr.endianness, ehdr.class, bytes)))
+}
+
+#[tactic(auto, unfolding(crate::specs::Opening::segment_table))]
+fn find_phdrs<'data, E: EndianParse>(
+    ehdr: &FileHeader<E>,
+    data: &'data [u8],
+) -> Result<Option<SegmentTable<'data, E>>, ParseError>
+    ensures { ok_map (option_map table_records) result ≡ segment_table E.little ehdr.now «data».now }
+{
+    if ehdr.e_phoff == 0 {
+        return Ok(None);
+    }
+    let count = segment_count(ehdr, data)?;
+    let bytes = table_bytes::<ProgramHeader>(
+        ehdr.class,
+        ehdr.e_phentsize,
+        count,
+        ehdr.e_phoff,
+        data,
+    )?;
+    Ok(Some(SegmentTable::new(ehdr.endianness, ehdr.class, bytes)))
+}
+
+impl<'data, E: EndianParse> ElfBytes<'data, E> {
+    /// Opens a file: reads its header and finds its two tables (gABI, chapters "ELF Header", "Sections"
+    /// and "Program Header"). Refuses at the first of these that is not as it must be: the
+    /// identification, the tail of the header, the section headers, the program headers.
+    pub fn minimal_parse(data: &'data [u8]) -> Result<Self, ParseError>
+        ensures { ok_map view result ≡ opened E.little E.of_byte «data».now }
+    {
+        let ehdr = parse_ehdr(data)?;
+        let shdrs = find_shdrs(&ehdr, data)?;
+        let phdrs = find_phdrs(&ehdr, data)?;
+        Ok(ElfBytes {
+            ehdr,
+            data,
+            shdrs,
+            phdrs,
+        })
+    }
+
+    /// The program headers, where the file declares any.
+    pub fn segments(&self) -> Option<SegmentTable<'data, E>>
+        ensures { option_map table_records result ≡ (view self.now).segments }
+    {
+        self.phdrs
+    }
+
+    /// The section headers, where the file declares any.
+    pub fn section_headers(&self) -> Option<SectionHeaderTable<'data, E>>
+        ensures { option_map table_records result ≡ (view self.now).sections }
+    {
+        self.shdrs
+    }
+
+    /// The section headers and the table of their names, where the file declares them. Refuses where
+    /// the section that holds the names cannot be read or its range does not lie in the file.
+    pub fn section_headers_with_strtab(
+        &self,
+    ) -> Result<
+        (
+            Option<SectionHeaderTable<'data, E>>,
+            Option<StringTable<'data>>,
+        ),
+        ParseError,
+    >
+        ensures { ok_map seen_tables result ≡ named_sections (view self.now) }
+    {
+        let Some(shdrs) = self.section_headers() else {
+            return Ok((None, None));
+        };
+        if self.ehdr.e_shstrndx == abi::SHN_UNDEF {
+            return Ok((Some(shdrs), None));
+        }
+        let index = name_index(&self.ehdr, &shdrs)?;
+        let names = shdrs.get(index)?;
+        let bytes = section_range(&names, self.data)?;
+        Ok((Some(shdrs), Some(StringTable::new(bytes))))
+    }
+}
+
+// Which section holds the names of the sections.
+fn name_index<E: EndianParse>(
+    ehdr: &FileHeader<E>,
+    shdrs: &SectionHeaderTable<'_, E>,
+) -> Result<usize, ParseError>
+    ensures { result ≡ name_index ehdr.now (table_records shdrs.now) }
+{
+    if ehdr.e_shstrndx == abi::SHN_XINDEX {
+        let first = shdrs.get(0)?;
+        Ok(first.sh_link as usize)
+    } else {
+        Ok(ehdr.e_shstrndx as usize)
+    }
+}

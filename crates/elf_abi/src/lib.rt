@@ -1,0 +1,4 @@
+//! The names and numbers of the ELF format: its constants, and the texts that name a value.
+#![tactic(auto)]
+
+pub mod abi;

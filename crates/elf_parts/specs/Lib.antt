@@ -1,0 +1,10 @@
+pub mod Number
+pub mod Record
+pub mod RecordLaws
+pub mod Orders
+pub mod Header
+pub mod Sections
+pub mod Segments
+pub mod Tables
+pub mod Strings
+pub mod Tail

@@ -1,0 +1,252 @@
+//! The file header (gABI, chapter "ELF Header").
+ghost use Rattle.std.specs.Prelude.{◌≡◌, ◌+◌, OnOk};
+ghost use Rattle.elf_parts.specs.Number.{ok_map};
+ghost use Rattle.elf_parts.specs.Tail.{count_fields, kind_fields, part_at, place_fields, places_end, seven, three};
+ghost use Rattle.elf_parts.specs.Header.{byte_in, class_of, header_with_tail, ident_of, magic_in, version_in};
+
+use crate::endian::EndianParse;
+use crate::parse::ParseError;
+use elf_abi::abi;
+
+/// Whether the file's addresses and offsets have 32 or 64 bits.
+#[derive(Debug, Copy, Clone, PartialEq, Eq)]
+pub enum Class {
+    ELF32,
+    ELF64,
+}
+
+/// The file header as a 32-bit file holds it.
+#[derive(Debug, Drop)]
+#[repr(C)]
+pub struct Elf32_Ehdr {
+    pub e_ident: [u8; abi::EI_NIDENT],
+    pub e_type: u16,
+    pub e_machine: u16,
+    pub e_version: u32,
+    pub e_entry: u32,
+    pub e_phoff: u32,
+    pub e_shoff: u32,
+    pub e_flags: u32,
+    pub e_ehsize: u16,
+    pub e_phentsize: u16,
+    pub e_phnum: u16,
+    pub e_shentsize: u16,
+    pub e_shnum: u16,
+    pub e_shstrndx: u16,
+}
+
+/// The file header as a 64-bit file holds it.
+#[derive(Debug, Drop)]
+#[repr(C)]
+pub struct Elf64_Ehdr {
+    pub e_ident: [u8; abi::EI_NIDENT],
+    pub e_type: u16,
+    pub e_machine: u16,
+    pub e_version: u32,
+    pub e_entry: u64,
+    pub e_phoff: u64,
+    pub e_shoff: u64,
+    pub e_flags: u32,
+    pub e_ehsize: u16,
+    pub e_phentsize: u16,
+    pub e_phnum: u16,
+    pub e_shentsize: u16,
+    pub e_shnum: u16,
+    pub e_shstrndx: u16,
+}
+
+/// The file header of either class. Offsets and sizes are in bytes, counts in entries.
+#[derive(Copy, Clone, Debug, PartialEq, Eq)]
+pub struct FileHeader<E: EndianParse> {
+    pub class: Class,
+    /// The order of the bytes of the file's numbers.
+    pub endianness: E,
+    pub version: u32,
+    pub osabi: u8,
+    pub abiversion: u8,
+    pub e_type: u16,
+    pub e_machine: u16,
+    pub e_entry: u64,
+    pub e_phoff: u64,
+    pub e_shoff: u64,
+    pub e_flags: u32,
+    pub e_ehsize: u16,
+    pub e_phentsize: u16,
+    pub e_phnum: u16,
+    pub e_shentsize: u16,
+    pub e_shnum: u16,
+    pub e_shstrndx: u16,
+}
+
+/// How many bytes of a 32-bit file header follow its identification.
+pub const ELF32_EHDR_TAILSIZE: usize = 36;
+
+/// How many bytes of a 64-bit file header follow its identification.
+pub const ELF64_EHDR_TAILSIZE: usize = 48;
+
+// A byte of the identification.
+fn ident_byte(data: &[u8], place: usize) -> Result<u8, ParseError>
+    ensures { result ≡ byte_in «data».now place }
+{
+    data.get(place)
+        .copied()
+        .ok_or(ParseError::SliceReadError((0, abi::EI_NIDENT)))
+}
+
+fn verify_magic(data: &[u8]) -> Result<(), ParseError>
+    ensures { result ≡ magic_in «data».now }
+{
+    let a = ident_byte(data, abi::EI_MAG0)?;
+    let b = ident_byte(data, abi::EI_MAG1)?;
+    let c = ident_byte(data, abi::EI_MAG2)?;
+    let d = ident_byte(data, abi::EI_MAG3)?;
+    if a == abi::ELFMAG0 && b == abi::ELFMAG1 && c == abi::ELFMAG2 && d == abi::ELFMAG3 {
+        Ok(())
+    } else {
+        Err(ParseError::BadMagic([a, b, c, d]))
+    }
+}
+
+fn verify_version(data: &[u8]) -> Result<(), ParseError>
+    ensures { result ≡ version_in «data».now }
+{
+    let version = ident_byte(data, abi::EI_VERSION)?;
+    if version == abi::EV_CURRENT {
+        Ok(())
+    } else {
+        Err(ParseError::UnsupportedVersion((version as u64, abi::EV_CURRENT as u64)))
+    }
+}
+
+fn parse_class(class_byte: u8) -> Result<Class, ParseError>
+    ensures { result ≡ class_of class_byte }
+{
+    match class_byte {
+        abi::ELFCLASS32 => Ok(Class::ELF32),
+        abi::ELFCLASS64 => Ok(Class::ELF64),
+        _ => Err(ParseError::UnsupportedElfClass(class_byte)),
+    }
+}
+
+/// Reads the identification at the front of the data: the order of the file's numbers, its class, its
+/// ABI and the version of that ABI. Nine bytes are enough. Refuses, in this order, a wrong magic number,
+/// a version other than 1, an unknown class, and an order that `E` does not have; data that end before
+/// a byte that is looked at give `SliceReadError((0, 16))`.
+#[tactic(auto, unfolding(crate::specs::Header::ident_of))]
+pub fn parse_ident<E: EndianParse>(data: &[u8]) -> Result<(E, Class, u8, u8), ParseError>
+    ensures { result ≡ ident_of E.of_byte «data».now }
+{
+    verify_magic(data)?;
+    verify_version(data)?;
+    let class = parse_class(ident_byte(data, abi::EI_CLASS)?)?;
+    let endianness = E::from_ei_data(ident_byte(data, abi::EI_DATA)?)?;
+    let osabi = ident_byte(data, abi::EI_OSABI)?;
+    let abiversion = ident_byte(data, abi::EI_ABIVERSION)?;
+    Ok((endianness, class, osabi, abiversion))
+}
+
+impl<E: EndianParse> FileHeader<E> {
+    /// Reads the tail of the header, the bytes behind the identification. Data that end within the tail
+    /// are refused at the first field that does not fit; bytes behind it do no harm.
+    #[tactic(auto, using(crate::proofs::Tail::tail_in_parts))]
+    pub fn parse_tail(ident: (E, Class, u8, u8), data: &[u8]) -> Result<FileHeader<E>, ParseError>
+        ensures { result ≡ header_with_tail E.little ident «data».now }
+    {
+        let (endianness, class, osabi, abiversion) = ident;
+        let mut offset = 0;
+        let kind = parse_kind(endianness, &mut offset, data)?;
+        let places = parse_places(endianness, class, &mut offset, data)?;
+        let counts = parse_counts(endianness, class, &mut offset, data)?;
+        Ok(FileHeader {
+            class,
+            endianness,
+            version: kind.2,
+            osabi,
+            abiversion,
+            e_type: kind.0,
+            e_machine: kind.1,
+            e_entry: places.0,
+            e_phoff: places.1,
+            e_shoff: places.2,
+            e_flags: counts.0,
+            e_ehsize: counts.1,
+            e_phentsize: counts.2,
+            e_phnum: counts.3,
+            e_shentsize: counts.4,
+            e_shnum: counts.5,
+            e_shstrndx: counts.6,
+        })
+    }
+}
+
+// The first part of the tail: e_type, e_machine and the version.
+#[tactic(auto, unfolding(crate::specs::Tail::part_at))]
+fn parse_kind<E: EndianParse>(
+    endian: E,
+    offset: &mut usize,
+    data: &[u8],
+) -> Result<(u16, u16, u32), ParseError>
+    ensures value { ok_map three result ≡ part_at (E.little endian) kind_fields «data».now offset.old }
+    ensures moved { OnOk result (offset.new ≡ offset.old + 8) }
+{
+    let e_type = endian.parse_u16_at(offset, data)?;
+    let e_machine = endian.parse_u16_at(offset, data)?;
+    let version = endian.parse_u32_at(offset, data)?;
+    Ok((e_type, e_machine, version))
+}
+
+// The second part: e_entry, e_phoff and e_shoff.
+#[tactic(auto, unfolding(crate::specs::Tail::part_at))]
+fn parse_places<E: EndianParse>(
+    endian: E,
+    class: Class,
+    offset: &mut usize,
+    data: &[u8],
+) -> Result<(u64, u64, u64), ParseError>
+    requires { offset.old ≡ 8 }
+    ensures value { ok_map three result ≡ part_at (E.little endian) (place_fields class) «data».now offset.old }
+    ensures moved { OnOk result (offset.new ≡ places_end class) }
+{
+    match class {
+        Class::ELF32 => {
+            let e_entry = endian.parse_u32_at(offset, data)? as u64;
+            let e_phoff = endian.parse_u32_at(offset, data)? as u64;
+            let e_shoff = endian.parse_u32_at(offset, data)? as u64;
+            Ok((e_entry, e_phoff, e_shoff))
+        }
+        Class::ELF64 => {
+            let e_entry = endian.parse_u64_at(offset, data)?;
+            let e_phoff = endian.parse_u64_at(offset, data)?;
+            let e_shoff = endian.parse_u64_at(offset, data)?;
+            Ok((e_entry, e_phoff, e_shoff))
+        }
+    }
+}
+
+// The last part: e_flags, e_ehsize, e_phentsize, e_phnum, e_shentsize, e_shnum and e_shstrndx.
+#[tactic(auto, unfolding(crate::specs::Tail::part_at))]
+fn parse_counts<E: EndianParse>(
+    endian: E,
+    class: Class,
+    offset: &mut usize,
+    data: &[u8],
+) -> Result<(u32, u16, u16, u16, u16, u16, u16), ParseError>
+    ensures { ok_map seven result ≡ part_at (E.little endian) (count_fields class) «data».now offset.old }
+{
+    let e_flags = endian.parse_u32_at(offset, data)?;
+    let e_ehsize = endian.parse_u16_at(offset, data)?;
+    let e_phentsize = endian.parse_u16_at(offset, data)?;
+    let e_phnum = endian.parse_u16_at(offset, data)?;
+    let e_shentsize = endian.parse_u16_at(offset, data)?;
+    let e_shnum = endian.parse_u16_at(offset, data)?;
+    let e_shstrndx = endian.parse_u16_at(offset, data)?;
+    Ok((
+        e_flags,
+        e_ehsize,
+        e_phentsize,
+        e_phnum,
+        e_shentsize,
+        e_shnum,
+        e_shstrndx,
+    ))
+}

@@ -1,0 +1,170 @@
+//! Tables of records, and iterators over them.
+ghost use Rattle.std.specs.Prelude.{◌≡◌, ◌==◌, ◌<◌, ◌≤◌, ◌^◌, length};
+ghost use Rattle.std.specs.Iterator.{YieldsFirst, item_count};
+ghost use Rattle.elf_parts.specs.Tables.{items_left, records_in, table_get, table_items, table_len, table_records};
+
+use crate::endian::{BigEndian, EndianParse, LittleEndian};
+use crate::file::Class;
+use crate::parse::{ParseAt, ParseError};
+use std::marker::PhantomData;
+
+// Reads a record in the one order or the other.
+fn record_at<P: ParseAt>(
+    little: bool,
+    class: Class,
+    offset: &mut usize,
+    data: &[u8],
+) -> Result<P, ParseError>
+    ensures value { result ≡ P.record_at little class «data».now offset.old }
+    ensures moved { offset.new ≡ P.offset_after little class «data».now offset.old }
+{
+    if little {
+        P::parse_at(LittleEndian, class, offset, data)
+    } else {
+        P::parse_at(BigEndian, class, offset, data)
+    }
+}
+
+/// Records of one type that lie one behind the other. Nothing is copied: a record is read when it is
+/// asked for.
+// The order is kept as a bool, which is all that the reading of a record depends on.
+#[derive(Debug)]
+#[derive_where(Clone, Copy)]
+pub struct ParsingTable<'data, E: EndianParse, P: ParseAt> {
+    little: bool,
+    class: Class,
+    data: &'data [u8],
+    order: PhantomData<E>,
+    records: PhantomData<P>,
+}
+
+/// The records of a table, one after the other, up to the first that is refused. After its first `None`
+/// it gives `None`.
+#[derive(Debug, Drop)]
+pub struct ParsingIterator<'data, E: EndianParse, P: ParseAt> {
+    little: bool,
+    class: Class,
+    data: &'data [u8],
+    offset: usize,
+    order: PhantomData<E>,
+    records: PhantomData<P>,
+}
+
+impl<'data, E: EndianParse, P: ParseAt> ParsingIterator<'data, E, P> {
+    /// The records of the data, in order.
+    pub fn new(endian: E, class: Class, data: &'data [u8]) -> Self
+        ensures items { items_left P.size P.record_at result
+            ≡ table_items P.size P.record_at (records_in (E.little endian) class «data».now) }
+        ensures few { length (items_left P.size P.record_at result) ≤ length «data».now }
+        ensures bound { length (items_left P.size P.record_at result) < 2 ^ 64 }
+    {
+        Self::starting(endian.is_little(), class, data)
+    }
+
+    // The same, where the order is given as whether it is little.
+    #[tactic(auto, using(crate::proofs::Items::items_bounded), unfolding(crate::specs::Tables::items_left))]
+    fn starting(little: bool, class: Class, data: &'data [u8]) -> Self
+        ensures items { items_left P.size P.record_at result ≡ table_items P.size P.record_at (records_in little class «data».now) }
+        ensures few { length (items_left P.size P.record_at result) ≤ length «data».now }
+        ensures bound { length (items_left P.size P.record_at result) < 2 ^ 64 }
+    {
+        ParsingIterator {
+            little,
+            class,
+            data,
+            offset: 0,
+            order: PhantomData,
+            records: PhantomData,
+        }
+    }
+}
+
+impl<'data, E: EndianParse, P: ParseAt> Iterator for ParsingIterator<'data, E, P> {
+    type Item = P;
+
+    ghost next_gives = { YieldsFirst (items_left P.size P.record_at) };
+
+    ghost remaining = { item_count (items_left P.size P.record_at) };
+
+    fn next(&mut self) -> Option<P> {
+        match record_at::<P>(self.little, self.class, &mut self.offset, self.data) {
+            Ok(record) => Some(record),
+            Err(_) => {
+                self.data = &[];
+                None
+            }
+        }
+    }
+}
+
+impl<'data, E: EndianParse, P: ParseAt> ParsingTable<'data, E, P> {
+    /// The records that the data hold.
+    pub fn new(endian: E, class: Class, data: &'data [u8]) -> Self
+        ensures { table_records result ≡ records_in (E.little endian) class «data».now }
+    {
+        ParsingTable {
+            little: endian.is_little(),
+            class,
+            data,
+            order: PhantomData,
+            records: PhantomData,
+        }
+    }
+
+    /// The records in order, up to the first that is refused.
+    pub fn iter(&self) -> ParsingIterator<'data, E, P>
+        ensures items { items_left P.size P.record_at result ≡ table_items P.size P.record_at (table_records self.now) }
+        ensures few { length (items_left P.size P.record_at result) ≤ length (table_records self.now).bytes }
+        ensures bound { length (items_left P.size P.record_at result) < 2 ^ 64 }
+    {
+        ParsingIterator::starting(self.little, self.class, self.data)
+    }
+
+    /// How many records the table holds.
+    pub fn len(&self) -> usize
+        ensures count { result ≡ table_len P.size P.record_at (table_records self.now) }
+        ensures short { length (table_records self.now).bytes < 2 ^ 64 }
+    {
+        self.data.len() / P::size_for(self.class)
+    }
+
+    /// Whether the table holds no record.
+    pub fn is_empty(&self) -> bool
+        ensures { result ≡ (table_len P.size P.record_at (table_records self.now) == 0) }
+    {
+        self.len() == 0
+    }
+
+    /// The record at an index, counted from 0. Refuses with `BadOffset(index)` where the table is empty
+    /// or the record would begin behind its bytes, with `IntegerOverflow` where the place of the record
+    /// passes 64 bits, and else as the record's own read does.
+    pub fn get(&self, index: usize) -> Result<P, ParseError>
+        ensures { result ≡ table_get P.size P.record_at (table_records self.now) index }
+    {
+        if self.data.is_empty() {
+            return Err(ParseError::BadOffset(index as u64));
+        }
+        let entsize = P::size_for(self.class);
+        let mut start = index
+            .checked_mul(entsize)
+            .ok_or(ParseError::IntegerOverflow)?;
+        if start > self.data.len() {
+            return Err(ParseError::BadOffset(index as u64));
+        }
+        record_at(self.little, self.class, &mut start, self.data)
+    }
+}
+
+impl<'data, E: EndianParse, P: ParseAt> IntoIterator for ParsingTable<'data, E, P> {
+    type Item = P;
+
+    type IntoIter = ParsingIterator<'data, E, P>;
+
+    fn into_iter(self) -> ParsingIterator<'data, E, P>
+        ensures items { items_left P.size P.record_at result ≡ table_items P.size P.record_at (table_records self.entry) }
+        ensures few { length (items_left P.size P.record_at result) ≤ length (table_records self.entry).bytes }
+        ensures bound { length (items_left P.size P.record_at result) < 2 ^ 64 }
+    {
+        self.iter()
+    }
+}

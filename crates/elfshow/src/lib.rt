@@ -1,0 +1,7 @@
+//! What an ELF file holds, as text: the calls of a listing, and the program that writes it.
+#![tactic(auto)]
+
+pub mod calls;
+mod lines;
+mod pieces;
+pub mod show;

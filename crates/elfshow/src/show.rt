@@ -1,0 +1,114 @@
+//! The program without its surroundings: what it does with the words of its command line.
+ghost use Rattle.std.specs.Prelude.{◌≡◌};
+
+use crate::calls::{Call, RunError, run_bytes};
+use elf::endian::AnyEndian;
+use std::alloc::{AllocError, AllocFailed, Global};
+use std::fmt::Display;
+use std::io::Write;
+
+/// The line that tells how the program is called.
+const USAGE: &str = "usage: elfshow bytes|stream|both FILE CALL...";
+
+/// What the words of a command line ask for.
+#[derive(Debug, Drop)]
+pub struct Request<'a> {
+    pub file: &'a str,
+    pub calls: Vec<Call>,
+}
+
+/// Why words ask for nothing.
+#[derive(Clone, Copy, Debug, PartialEq, Eq)]
+pub enum RequestError {
+    Usage,
+    OutOfMemory,
+}
+
+impl<T: Drop> From<AllocFailed<T>> for RequestError {
+    fn from(_error: AllocFailed<T>) -> RequestError {
+        RequestError::OutOfMemory
+    }
+}
+
+/// What the words ask for: the mode `bytes`, a file and at least one call.
+pub fn parse_words<'a>(alloc: Global, words: &[&'a str]) -> Result<Request<'a>, RequestError> {
+    let [mode, file, rest @ ..] = words else {
+        return Err(RequestError::Usage);
+    };
+    if *mode != "bytes" || rest.is_empty() {
+        return Err(RequestError::Usage);
+    }
+    let mut calls = Vec::new(alloc);
+    for word in rest {
+        let call = parse_call(*word).ok_or(RequestError::Usage)?;
+        calls.push(call)?;
+    }
+    Ok(Request { file: *file, calls })
+}
+
+fn parse_call(word: &str) -> Option<Call> {
+    match word {
+        "header" => Some(Call::Header),
+        "sections" => Some(Call::Sections),
+        _ => None,
+    }
+}
+
+/// Does what the program does with these words, the arguments behind its name, where the file that they
+/// name holds the data. Answers the exit status: 0; 1 where the file is refused or a run stopped; 2 for
+/// words that ask for nothing. A message that `err` does not take is passed over.
+pub fn show<W: Write, V: Write>(
+    alloc: Global,
+    words: &[&str],
+    data: &[u8],
+    out: &mut W,
+    err: &mut V,
+) -> u8 {
+    match parse_words(alloc, words) {
+        Ok(request) => answer(&request, data, out, err),
+        Err(error) => tell_request_error(error, err),
+    }
+}
+
+/// Runs the calls of a request over the bytes of its file, tells how the run stopped if it did, and
+/// answers the exit status.
+pub fn answer<W: Write, V: Write>(
+    request: &Request<'_>,
+    data: &[u8],
+    out: &mut W,
+    err: &mut V,
+) -> u8 {
+    match run_bytes::<AnyEndian, W>(data, request.calls.as_slice(), out) {
+        Ok(()) => 0,
+        Err(RunError::Open(error)) => {
+            let _ = writeln!(err, "elfshow: open: {error}");
+            1
+        }
+        Err(RunError::Fault { done, error }) => tell_stopped(done, error, err),
+        Err(RunError::Write { done, error }) => tell_stopped(done, error, err),
+    }
+}
+
+/// Tells why the words ask for nothing, and answers the exit status.
+pub fn tell_request_error<V: Write>(error: RequestError, err: &mut V) -> u8 {
+    match error {
+        RequestError::Usage => tell_usage(err),
+        RequestError::OutOfMemory => tell_stopped(0, AllocError, err),
+    }
+}
+
+/// Tells how the program is called, and answers the exit status.
+pub fn tell_usage<V: Write>(err: &mut V) -> u8
+    ensures { result ≡ 2 }
+{
+    let _ = writeln!(err, "{USAGE}");
+    2
+}
+
+/// Tells that a run stopped behind so many calls, and answers the exit status.
+pub fn tell_stopped<D: Display + Drop, V: Write>(done: usize, error: D, err: &mut V) -> u8
+    ensures { result ≡ 1 }
+{
+    let _ = writeln!(err, "elfshow: stopped after {done} calls: {error}");
+    1
+}
