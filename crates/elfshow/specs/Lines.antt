@@ -41,9 +41,12 @@ header_line little h = codes "header " ⧺ ident_fields little h ⧺ file_fields
 
 -- ---- lists
 
+abbrev pub end_line : ℕ → List ℕ
+end_line count = codes "end " ⧺ decimal count ⧺ newline
+
 -- a line for each item, numbered from k, and a last line with their number
 abbrev pub list_from : {X : Type 0} → (ℕ → X → List ℕ) → ℕ → List X → List ℕ
-list_from line k [] = codes "end " ⧺ decimal k ⧺ newline
+list_from line k [] = end_line k
 list_from line k (x ∷ xs) = line k x ⧺ list_from line (k + 1) xs
 
 -- ---- names

@@ -1,10 +1,10 @@
 //! The lines of an answer.
-ghost use Rattle.std.specs.Prelude.{OnOk, ◌<◌};
+ghost use Rattle.std.specs.Prelude.{◌≡◌, OnOk, ◌<◌};
 ghost use Rattle.std.specs.Option.{option_map};
 ghost use Rattle.std.specs.Io.KnownBytes.{Appends};
 ghost use Rattle.elf_parts.specs.Strings.{strings_in};
 ghost use Rattle.elf_parts.specs.Tables.{table_records};
-ghost use Rattle.elfshow.specs.Lines.{file_fields, class_bits, header_line, ident_fields, list_from, name_field, order_name, place_fields, reading_fields, section_fields, section_line, size_fields};
+ghost use Rattle.elfshow.specs.Lines.{file_fields, class_bits, end_line, header_line, ident_fields, list_from, name_field, order_name, place_fields, reading_fields, section_fields, section_line, size_fields};
 ghost use Rattle.elfshow.specs.Text.{records_of, section_headers};
 
 use crate::pieces::write_escaped;
@@ -30,10 +30,7 @@ pub(crate) fn write_header<E: EndianParse, W: Write>(
 }
 
 #[tactic(auto, unfolding(crate::specs::Lines::ident_fields))]
-fn write_ident_fields<E: EndianParse, W: Write>(
-    ehdr: &FileHeader<E>,
-    out: &mut W,
-) -> io::Result<()>
+fn write_ident_fields<E: EndianParse, W: Write>(ehdr: &FileHeader<E>, out: &mut W) -> io::Result<()>
     ensures { OnOk result (Appends (W.contents out.old) (W.contents out.new) (ident_fields E.little ehdr.now)) }
 {
     let FileHeader {
@@ -198,7 +195,7 @@ pub(crate) fn write_sections<E: EndianParse, W: Write>(
 {
     match sections {
         Some(sections) => write_section_lines(sections, names, out),
-        None => writeln!(out, "end 0"),
+        None => write_end(0, out),
     }
 }
 
@@ -215,5 +212,12 @@ fn write_section_lines<E: EndianParse, W: Write>(
         write_section(count, &section, names, out)?;
         count += 1;
     }
+    write_end(count, out)
+}
+
+/// The last line of a list of so many items.
+fn write_end<W: Write>(count: u64, out: &mut W) -> io::Result<()>
+    ensures { OnOk result (Appends (W.contents out.old) (W.contents out.new) (end_line count)) }
+{
     writeln!(out, "end {count}")
 }

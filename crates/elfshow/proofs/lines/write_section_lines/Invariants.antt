@@ -14,8 +14,8 @@ abbrev pub invariant-loop-section : goal.invariant-loop-section
 invariant-loop-section g l =
     let line = section_line (option_map strings_in l.names) in
     let left = items_left (size_by section_header_layout) (record_by section_header_layout) l.section-iterator in
-    let all = records_of (table_records l.sections) in
-    (l.count + length left ≤ length (table_records l.sections).bytes)
+    let all = records_of (table_records l.fn.sections) in
+    (l.count + length left ≤ length (table_records l.fn.sections).bytes)
     × Leaves (g.W.Write.contents l.initial.out) (g.W.Write.contents l.out) (list_from line l.count left) (list_from line 0 all)
     × (goal.iterator-loop-section g).can_next l.section-iterator
     × (goal.iterator-loop-section g).is_finite l.section-iterator
