@@ -70,3 +70,11 @@ pub fn equal_section_headers(a: &SectionHeader, b: &SectionHeader)
 pub fn equal_program_headers(a: &ProgramHeader, b: &ProgramHeader)
     ensures { IsTrue (⟦<ProgramHeader as PartialEq>⟧.eq a.now b.now) ↔ (a.now ≡ b.now) }
 {}
+
+/// Two file headers are equal exactly where their orders are, as the type of orders compares them, and all
+/// their other fields.
+pub fn equal_file_headers<E: EndianParse>(a: &FileHeader<E>, b: &FileHeader<E>)
+    ensures { IsTrue (⟦<FileHeader<E> as PartialEq>⟧.eq a.now b.now)
+        ↔ (IsTrue (E.eq a.now.endianness b.now.endianness) × (record a.now { endianness = b.now.endianness } ≡ b.now)) }
+{
+}

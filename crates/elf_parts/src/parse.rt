@@ -13,41 +13,58 @@ mod table;
 
 pub use table::{ParsingIterator, ParsingTable};
 
-/// Why bytes are refused.
+/// Why bytes are refused. A pair is what was found and what was expected, or a start and an end.
 #[derive(Debug, Drop, Error)]
 pub enum ParseError {
+    /// The first four bytes are not those of an ELF file.
     #[error("Invalid Magic Bytes: [{:X}, {:X}, {:X}, {:X}]", .0[0], .0[1], .0[2], .0[3])]
     BadMagic([u8; 4]),
+    /// The class byte stands for no class.
     #[error("Unsupported ELF Class: {0}")]
     UnsupportedElfClass(u8),
+    /// The order byte stands for no order that the reader has.
     #[error("Unsupported ELF Endianness: {0}")]
     UnsupportedElfEndianness(u8),
+    /// A version is not the one that there is: found, expected.
     #[error("Unsupported ELF Version field found: {} expected: {}", .0.0, .0.1)]
     UnsupportedVersion((u64, u64)),
+    /// An index or an offset into a table is past its end.
     #[error("Bad offset: {0:#X}")]
     BadOffset(u64),
+    /// No 0 byte ends the string at this offset.
     #[error("Could not find terminating NUL byte starting at offset: {0:#X}")]
     StringTableMissingNul(u64),
+    /// An entry size in bytes is not the record's: found, expected.
     #[error("Invalid entsize. Expected: {:#X}, Found: {:#X}", .0.1, .0.0)]
     BadEntsize((u64, u64)),
+    /// A section is of another type than was asked for: found, expected.
     #[error("Could not interpret section of type {} as type {}", .0.0, .0.1)]
     UnexpectedSectionType((u32, u32)),
+    /// A segment is of another type than was asked for: found, expected.
     #[error("Could not interpret section of type {} as type {}", .0.0, .0.1)]
     UnexpectedSegmentType((u32, u32)),
+    /// An alignment cannot be used. No call answers it: an iterator of notes ends instead.
     #[error("Could not interpret section with unexpected alignment of {0}")]
     UnexpectedAlignment(usize),
+    /// The bytes from start to end, end not included, do not lie in the data.
     #[error("Could not read bytes in range [{:#X}, {:#X})", .0.0, .0.1)]
     SliceReadError((usize, usize)),
+    /// An offset, a size or an end passes 64 bits.
     #[error("Integer overflow detected")]
     IntegerOverflow,
+    /// Bytes that were asked for as text are not UTF-8.
     #[error(transparent)]
     Utf8Error(std::str::Utf8Error),
+    /// Kept from the Rust crate; no call answers it.
     #[error(transparent)]
     TryFromSliceError(std::array::TryFromSliceError),
+    /// Kept from the Rust crate; no call answers it.
     #[error(transparent)]
     TryFromIntError(std::num::TryFromIntError),
+    /// The source of a file failed.
     #[error(transparent)]
     IOError(std::io::Error),
+    /// Memory was refused.
     #[error("Out of memory")]
     OutOfMemory,
 }
@@ -85,6 +102,10 @@ impl From<std::io::Error> for ParseError {
 }
 
 /// A record that can be read at an offset.
+///
+/// The laws: a record has at least one byte, and how many depends on the class alone; the answer and the
+/// offset afterwards are fixed by order, class, offset and data; a read that succeeds lies in the data and
+/// moves the offset by the size, and its value depends on those bytes, the order and the class alone.
 pub trait ParseAt: Sized {
     // How many bytes a record has.
     ghost size: { Class → ℕ };
@@ -95,7 +116,7 @@ pub trait ParseAt: Sized {
     // Where the read of a record leaves the offset.
     ghost offset_after: { Bool → Class → List ℕ → ℕ → ℕ };
 
-    /// Reads the record at the offset.
+    /// Reads the record at the offset, in bytes, and moves the offset behind it.
     fn parse_at<E: EndianParse>(
         endian: E,
         class: Class,
@@ -109,7 +130,7 @@ pub trait ParseAt: Sized {
     fn size_for(class: Class) -> usize
         ensures { result ≡ size class };
 
-    /// The size, where it is that of a record.
+    /// The entry size that a file gives, in bytes, where it is that of the record; else `BadEntsize`.
     fn validate_entsize(class: Class, entsize: usize) -> Result<usize, ParseError>
         ensures { result ≡ (if entsize == size class then Ok entsize else Err (ParseError.BadEntsize (entsize, size class))) }
     {

@@ -1,5 +1,11 @@
 //! The program without its surroundings: what it does with the words of its command line.
-ghost use Rattle.std.specs.Prelude.{◌≡◌};
+ghost use Rattle.std.specs.Prelude.{◌≡◌, ◌≤◌, IsErr, IsNone, IfOk, IsOkAnd, IsSomeAnd, Some};
+ghost use Rattle.std.specs.Io.KnownBytes.{Appends};
+ghost use Rattle.elf_parts.specs.Orders.{any_is_little, any_of_byte};
+ghost use Rattle.elf.specs.Opening.{opened};
+ghost use Rattle.elfshow.specs.Text.{text};
+ghost use Rattle.elfshow.specs.Words.{call_of, calls_of, request_of, status_of};
+ghost use Rattle.elfshow.specs.declared.show.RequestError.TheVariants.{OutOfMemory};
 
 use crate::calls::{Call, RunError, run_bytes};
 use elf::endian::AnyEndian;
@@ -25,32 +31,49 @@ pub enum RequestError {
 }
 
 impl<T: Drop> From<AllocFailed<T>> for RequestError {
+    ghost from_gives = { λ _ error. error ≡ OutOfMemory };
+
     fn from(_error: AllocFailed<T>) -> RequestError {
         RequestError::OutOfMemory
     }
 }
 
 /// What the words ask for: the mode `bytes`, a file and at least one call.
-pub fn parse_words<'a>(alloc: Global, words: &[&'a str]) -> Result<Request<'a>, RequestError> {
+pub fn parse_words<'a>(alloc: Global, words: &[&'a str]) -> Result<Request<'a>, RequestError>
+    ensures ok { IfOk result (λ request. request_of words.now ≡ Some (request.file.now, request.calls.items)) }
+    ensures usage { result ≡ Err RequestError.Usage → IsNone (request_of words.now) }
+{
     let [mode, file, rest @ ..] = words else {
         return Err(RequestError::Usage);
     };
     if *mode != "bytes" || rest.is_empty() {
         return Err(RequestError::Usage);
     }
-    let mut calls = Vec::new(alloc);
-    for word in rest {
-        let call = parse_call(*word).ok_or(RequestError::Usage)?;
-        calls.push(call)?;
-    }
+    let calls = parse_calls(alloc, rest)?;
     Ok(Request { file: *file, calls })
 }
 
-fn parse_call(word: &str) -> Option<Call> {
-    match word {
-        "header" => Some(Call::Header),
-        "sections" => Some(Call::Sections),
-        _ => None,
+fn parse_calls(alloc: Global, words: &[&str]) -> Result<Vec<Call>, RequestError>
+    ensures ok { IfOk result (λ calls. calls_of words.now ≡ Some calls.items) }
+    ensures usage { result ≡ Err RequestError.Usage → IsNone (calls_of words.now) }
+{
+    let mut calls = Vec::new(alloc);
+    for word in words {
+        let call = parse_call(*word).ok_or(RequestError::Usage)?;
+        calls.push(call)?;
+    }
+    Ok(calls)
+}
+
+fn parse_call(word: &str) -> Option<Call>
+    ensures { result ≡ call_of word.now }
+{
+    if word == "header" {
+        Some(Call::Header)
+    } else if word == "sections" {
+        Some(Call::Sections)
+    } else {
+        None
     }
 }
 
@@ -63,7 +86,13 @@ pub fn show<W: Write, V: Write>(
     data: &[u8],
     out: &mut W,
     err: &mut V,
-) -> u8 {
+) -> u8
+    ensures listed { result ≡ 0 → IsSomeAnd (request_of words.now) (λ request.
+        IsOkAnd (opened any_is_little any_of_byte «data».now) (λ file.
+        Appends (W.contents out.old) (W.contents out.new) (text any_is_little file request.1))) }
+    ensures usage { result ≡ 2 → IsNone (request_of words.now) × (out.new ≡ out.old) }
+    ensures status { result ≤ 2 }
+{
     match parse_words(alloc, words) {
         Ok(request) => answer(&request, data, out, err),
         Err(error) => tell_request_error(error, err),
@@ -77,7 +106,12 @@ pub fn answer<W: Write, V: Write>(
     data: &[u8],
     out: &mut W,
     err: &mut V,
-) -> u8 {
+) -> u8
+    ensures listed { result ≡ 0 → IsOkAnd (opened any_is_little any_of_byte «data».now) (λ file.
+        Appends (W.contents out.old) (W.contents out.new) (text any_is_little file request.now.calls.items)) }
+    ensures refused { IsErr (opened any_is_little any_of_byte «data».now) → out.new ≡ out.old }
+    ensures status { result ≤ 1 }
+{
     match run_bytes::<AnyEndian, W>(data, request.calls.as_slice(), out) {
         Ok(()) => 0,
         Err(RunError::Open(error)) => {
@@ -90,7 +124,9 @@ pub fn answer<W: Write, V: Write>(
 }
 
 /// Tells why the words ask for nothing, and answers the exit status.
-pub fn tell_request_error<V: Write>(error: RequestError, err: &mut V) -> u8 {
+pub fn tell_request_error<V: Write>(error: RequestError, err: &mut V) -> u8
+    ensures { result ≡ status_of error }
+{
     match error {
         RequestError::Usage => tell_usage(err),
         RequestError::OutOfMemory => tell_stopped(0, AllocError, err),
