@@ -2,3 +2,4 @@
 #![tactic(auto)]
 
 pub mod abi;
+pub mod to_str;

@@ -1,0 +1,3 @@
+mod Flags
+mod Lists
+mod Rows

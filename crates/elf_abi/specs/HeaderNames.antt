@@ -1,0 +1,45 @@
+-- The names of values in the file header.
+use Rattle.std.specs.Prelude.{ℕ, List, [], ◌∷◌, codes}
+use Rattle.elf_abi.specs.Names.{Row}
+
+-- the operating system's ABI in byte 7 of `e_ident`: gABI chapter 4, "ELF Identification"
+abbrev pub e_osabi_names : List (Row ℕ)
+e_osabi_names =
+    (0, codes "ELFOSABI_SYSV") ∷
+    (1, codes "ELFOSABI_HPUX") ∷
+    (2, codes "ELFOSABI_NETBSD") ∷
+    (3, codes "ELFOSABI_LINUX") ∷
+    (6, codes "ELFOSABI_SOLARIS") ∷
+    (7, codes "ELFOSABI_AIX") ∷
+    (8, codes "ELFOSABI_IRIX") ∷
+    (9, codes "ELFOSABI_FREEBSD") ∷
+    (10, codes "ELFOSABI_TRU64") ∷
+    (11, codes "ELFOSABI_MODESTO") ∷
+    (12, codes "ELFOSABI_OPENBSD") ∷
+    (13, codes "ELFOSABI_OPENVMS") ∷
+    (14, codes "ELFOSABI_NSK") ∷
+    (15, codes "ELFOSABI_AROS") ∷
+    (16, codes "ELFOSABI_FENIXOS") ∷
+    (17, codes "ELFOSABI_CLOUDABI") ∷
+    (18, codes "ELFOSABI_OPENVOS") ∷
+    []
+
+-- what an `e_type` says, in words: gABI chapter 4, "ELF Header"
+abbrev pub e_type_human_names : List (Row ℕ)
+e_type_human_names =
+    (0, codes "No file type") ∷
+    (1, codes "Relocatable file") ∷
+    (2, codes "Executable file") ∷
+    (3, codes "Shared object file") ∷
+    (4, codes "Core file") ∷
+    []
+
+-- `e_type`: gABI chapter 4, "ELF Header"
+abbrev pub e_type_names : List (Row ℕ)
+e_type_names =
+    (0, codes "ET_NONE") ∷
+    (1, codes "ET_REL") ∷
+    (2, codes "ET_EXEC") ∷
+    (3, codes "ET_DYN") ∷
+    (4, codes "ET_CORE") ∷
+    []

@@ -1,0 +1,9 @@
+pub mod Names
+pub mod HeaderNames
+pub mod MachineNames
+pub mod SectionNames
+pub mod SegmentNames
+pub mod SymbolNames
+pub mod NoteNames
+pub mod DynamicNames
+pub mod AllNames

@@ -1,0 +1,41 @@
+-- Values and their names as lists of rows, and what a look-up in such a list answers.
+use Rattle.std.specs.Prelude.{◌≡◌, ℕ, ◌++◌, ◌&&◌, Bool, true, false, List, [], ◌∷◌, codes, Contains, Option, Some, None, nat_eq, unwrap_or, if◌then◌else◌}
+use Rattle.std.specs.Borrow.{Bor}
+use Rattle.std.specs.Fmt.{digits}
+use Rattle.std.specs.Ordering.{is_lt}
+use Rattle.std.specs.declared.cmp.Ordering.{Ordering}
+
+-- a value, and its name
+abbrev pub Row : Type 0 → Type 0
+Row K = K × List ℕ
+
+-- the name that stands beside the value
+unfoldable pub name_of : {K : Type 0} → (K → K → Bool) → List (Row K) → K → Option (List ℕ)
+name_of same [] value = None
+name_of same (row ∷ rows) value = if same row.0 value then Some row.1 else name_of same rows value
+
+-- no value stands beside two names
+abbrev pub NamesEachOnce : {K : Type 0} → List (Row K) → Type 0
+NamesEachOnce {K} rows = (value : K) (one other : List ℕ) → Contains rows (value, one) → Contains rows (value, other) → one ≡ other
+
+-- the prefix, and in parentheses `0x` and the number's lower-case digits, with no zeros before them
+abbrev pub number_text : List ℕ → ℕ → List ℕ
+number_text prefix value = prefix ++ (codes "(0x" ++ (digits 16 false value ++ codes ")"))
+
+-- the name that stands beside the number, and for a number with no name its digits behind the prefix
+abbrev pub name_or_number : List ℕ → List (Row ℕ) → ℕ → List ℕ
+name_or_number prefix rows value = unwrap_or (name_of nat_eq rows value) (number_text prefix value)
+
+-- a row as a table of the program holds it
+abbrev pub row_of : {K : Type 0} → K × Bor (List ℕ) → Row K
+row_of row = (row.0, row.1.now)
+
+-- the first row, if there is one, has a value above this one
+abbrev pub is_before : {K N : Type 0} → (K → K → Ordering) → K → List (K × N) → Bool
+is_before cmp value [] = true
+is_before cmp value (row ∷ rows) = is_lt (cmp value row.0)
+
+-- each value is below the next
+abbrev pub values_rise : {K N : Type 0} → (K → K → Ordering) → List (K × N) → Bool
+values_rise cmp [] = true
+values_rise cmp (row ∷ rows) = is_before cmp row.0 rows && values_rise cmp rows

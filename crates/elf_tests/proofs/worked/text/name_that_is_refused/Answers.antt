@@ -1,0 +1,13 @@
+use Rattle.std.proofs.Common.{refl}
+use Rattle.std.specs.Fmt.{digits}
+use Rattle.elf_parts.specs.Number.{bytes_at, number_at}
+use Rattle.elf_parts.specs.Record.{numbers_at}
+use Rattle.elf_parts.specs.Header.{ident_of}
+use Rattle.elf_parts.specs.Strings.{string_at}
+use Rattle.elf.specs.Opening.{header_at_front, section_table, segment_table}
+use Rattle.elfshow.specs.Lines.{place_fields, reading_fields}
+use Rattle.elf_tests.proofs.worked.text.name_that_is_refused.Goals as goal
+
+pub returns : goal.returns
+unfolding bytes_at ident_of numbers_at number_at header_at_front section_table segment_table string_at place_fields reading_fields digits
+returns c = refl
