@@ -100,9 +100,9 @@ pub fn section_header_of_64_bits()
     ensures moved { offset_by section_header_layout true ELF64 counted 0 ≡ 64 }
 {}
 
-/// A 32-bit section header of the same bytes, from the first on in both orders, and from the 25th on.
+/// A 32-bit section header of the bytes 00 to 27, in both orders, and of the bytes 18 to 3f.
 pub fn section_header_of_32_bits()
-    ensures little { record_by section_header_layout true ELF32 counted 0 ≡ Ok (record {
+    ensures little { record_by section_header_layout true ELF32 (take 40 counted) 0 ≡ Ok (record {
       sh_name = 0x03020100;
       sh_type = 0x07060504;
       sh_flags = 0x0b0a0908;
@@ -141,9 +141,9 @@ pub fn section_header_of_32_bits()
     ensures moved { offset_by section_header_layout true ELF32 counted 24 ≡ 64 }
 {}
 
-/// A 64-bit program header of the same bytes: its flags stand behind its type.
+/// A 64-bit program header of the bytes 00 to 37: its flags stand behind its type.
 pub fn program_header_of_64_bits()
-    ensures little { record_by program_header_layout true ELF64 counted 0 ≡ Ok (record {
+    ensures little { record_by program_header_layout true ELF64 (take 56 counted) 0 ≡ Ok (record {
       p_type = 0x03020100;
       p_offset = 0x0f0e0d0c0b0a0908;
       p_vaddr = 0x1716151413121110;
@@ -153,7 +153,7 @@ pub fn program_header_of_64_bits()
       p_flags = 0x07060504;
       p_align = 0x3736353433323130;
     }) }
-    ensures big { record_by program_header_layout false ELF64 counted 0 ≡ Ok (record {
+    ensures big { record_by program_header_layout false ELF64 (take 56 counted) 0 ≡ Ok (record {
       p_type = 0x00010203;
       p_offset = 0x08090a0b0c0d0e0f;
       p_vaddr = 0x1011121314151617;
@@ -166,9 +166,9 @@ pub fn program_header_of_64_bits()
     ensures moved { offset_by program_header_layout true ELF64 counted 0 ≡ 56 }
 {}
 
-/// A 32-bit program header of the same bytes: its flags stand before its alignment.
+/// A 32-bit program header of the bytes 00 to 1f: its flags stand before its alignment.
 pub fn program_header_of_32_bits()
-    ensures little { record_by program_header_layout true ELF32 counted 0 ≡ Ok (record {
+    ensures little { record_by program_header_layout true ELF32 (take 32 counted) 0 ≡ Ok (record {
       p_type = 0x03020100;
       p_offset = 0x07060504;
       p_vaddr = 0x0b0a0908;
@@ -178,7 +178,7 @@ pub fn program_header_of_32_bits()
       p_flags = 0x1b1a1918;
       p_align = 0x1f1e1d1c;
     }) }
-    ensures big { record_by program_header_layout false ELF32 counted 0 ≡ Ok (record {
+    ensures big { record_by program_header_layout false ELF32 (take 32 counted) 0 ≡ Ok (record {
       p_type = 0x00010203;
       p_offset = 0x04050607;
       p_vaddr = 0x08090a0b;

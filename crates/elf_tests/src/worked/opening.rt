@@ -1,7 +1,7 @@
 //! Files as they are opened: headers, tables and names.
 #![tactic(auto, unfolding(elf_parts::specs::Number::bytes_at, elf_parts::specs::Number::number_at, elf_parts::specs::Record::numbers_at, elf_parts::specs::Header::ident_of, elf::specs::Opening::header_at_front, elf::specs::Opening::section_table, elf::specs::Opening::segment_table))]
 
-ghost use Rattle.std.specs.Prelude.{◌≡◌, [], ◌∷◌, ◌++◌, true, false, None, Some, Ok, Err, take};
+ghost use Rattle.std.specs.Prelude.{◌≡◌, [], ◌∷◌, ◌++◌, true, false, None, Some, Ok, Err, length, take};
 ghost use Rattle.elf_parts.specs.Number.{ok_map};
 ghost use Rattle.elf_parts.specs.Orders.{big_of_byte, little_of_byte};
 ghost use Rattle.elf_parts.specs.Sections.{section_header_layout};
@@ -11,9 +11,22 @@ ghost use Rattle.elf_parts.specs.declared.file.Class.TheVariants.{ELF32, ELF64};
 ghost use Rattle.elf_parts.specs.declared.parse.ParseError.TheVariants.{BadEntsize, BadMagic, BadOffset, IntegerOverflow, SliceReadError, UnsupportedElfEndianness};
 ghost use Rattle.elf.specs.Names.{named_sections, section_at};
 ghost use Rattle.elf.specs.Opening.{opened};
-ghost use Rattle.elf_tests.specs.Files.{counted_by_size, elsewhere, header_as_section, header_of_tables, in_eight, in_four, in_two, loaded_segment, names_section, null_section, one_segment, ones, small_file, small_with, two_names, two_sections, two_sections_big, two_with, zeros};
+ghost use Rattle.elf_tests.specs.Files.{compressed_section, counted_by_info, counted_by_size, elsewhere, header_as_section, header_of_tables, in_eight, in_four, in_two, loaded_segment, names_section, null_section, one_segment, ones, section_with_info, small_file, small_with, two_names, two_sections, two_sections_big, two_with, zeros};
 ghost use Rattle.elf_tests.specs.Known.{names_header, null_header, opening, small_view, two_table, two_view, two_view_with};
 ghost use Rattle.elf_tests.specs.Records.{items_by};
+
+/// How many bytes the files have.
+pub fn sizes_of_files()
+    ensures small { length small_file ≡ 64 }
+    ensures segment { length one_segment ≡ 120 }
+    ensures header_32 { length header_as_section ≡ 52 }
+    ensures by_size { length (counted_by_size (zeros 8)) ≡ 128 }
+    ensures by_info { length (counted_by_info (zeros 4)) ≡ 184 }
+    ensures two { length two_sections ≡ 136 }
+    ensures two_big { length two_sections_big ≡ 136 }
+    ensures compressed { length compressed_section ≡ 108 }
+    ensures tables { length (header_of_tables (zeros 16) (zeros 4) (zeros 6)) ≡ 64 }
+{}
 
 /// The header alone is opened as a file that declares no table.
 pub fn small_file_opened()
@@ -39,6 +52,18 @@ pub fn tail_cut()
 /// whose sh_info is e_phoff, 52, so 52 program headers of 32 bytes are looked for at 52.
 pub fn segments_counted_by_header()
     ensures { opening header_as_section ≡ Err (SliceReadError (52, 1716)) }
+{}
+
+/// A 64-bit file with e_phnum 0xffff has as many program headers as the sh_info of its first section
+/// header says: one, which is there, none, and two, which are one too many.
+pub fn segments_counted_by_section()
+    ensures one { ok_map (λ file. file.segments) (opening (counted_by_info (in_four 1)))
+        ≡ Ok (Some (records_in true ELF64 loaded_segment)) }
+    ensures none { ok_map (λ file. file.segments) (opening (counted_by_info (zeros 4)))
+        ≡ Ok (Some (records_in true ELF64 [])) }
+    ensures two { opening (counted_by_info (in_four 2)) ≡ Err (SliceReadError (128, 240)) }
+    ensures sections { ok_map (λ file. file.sections) (opening (counted_by_info (in_four 1)))
+        ≡ Ok (Some (records_in true ELF64 (section_with_info (in_four 1)))) }
 {}
 
 /// A 64-bit file with e_shnum 0 has as many sections as the sh_size of its first section header says:

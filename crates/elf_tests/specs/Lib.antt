@@ -1,0 +1,3 @@
+pub mod Files
+pub mod Known
+pub mod Records
