@@ -76,5 +76,4 @@ pub fn equal_program_headers(a: &ProgramHeader, b: &ProgramHeader)
 pub fn equal_file_headers<E: EndianParse>(a: &FileHeader<E>, b: &FileHeader<E>)
     ensures { IsTrue (⟦<FileHeader<E> as PartialEq>⟧.eq a.now b.now)
         ↔ (IsTrue (E.eq a.now.endianness b.now.endianness) × (record a.now { endianness = b.now.endianness } ≡ b.now)) }
-{
-}
+{}

@@ -8,8 +8,9 @@ ghost use Rattle.elfshow.specs.Words.{call_of, calls_of, request_of, status_of};
 ghost use Rattle.elfshow.specs.declared.show.RequestError.TheVariants.{OutOfMemory};
 
 use crate::calls::{Call, RunError, run_bytes};
+use elf::ParseError;
 use elf::endian::AnyEndian;
-use std::alloc::{AllocError, AllocFailed, Global};
+use std::alloc::{AllocFailed, Global};
 use std::fmt::Display;
 use std::io::Write;
 
@@ -129,7 +130,7 @@ pub fn tell_request_error<V: Write>(error: RequestError, err: &mut V) -> u8
 {
     match error {
         RequestError::Usage => tell_usage(err),
-        RequestError::OutOfMemory => tell_stopped(0, AllocError, err),
+        RequestError::OutOfMemory => tell_no_memory(err),
     }
 }
 
@@ -139,6 +140,13 @@ pub fn tell_usage<V: Write>(err: &mut V) -> u8
 {
     let _ = writeln!(err, "{USAGE}");
     2
+}
+
+/// Tells that memory was refused before the first call, and answers the exit status.
+pub fn tell_no_memory<V: Write>(err: &mut V) -> u8
+    ensures { result ≡ 1 }
+{
+    tell_stopped(0, ParseError::OutOfMemory, err)
 }
 
 /// Tells that a run stopped behind so many calls, and answers the exit status.

@@ -1,7 +1,7 @@
 //! Lists what an ELF file holds: the program around `elfshow::show`.
 #![tactic(auto)]
 
-use elfshow::show::{Request, answer, parse_words, tell_request_error, tell_stopped, tell_usage};
+use elfshow::show::{Request, answer, parse_words, tell_no_memory, tell_request_error, tell_usage};
 use std::alloc::{AllocError, Global};
 use std::io::{BufWriter, Read, Stderr, Write};
 use std::process::ExitCode;
@@ -21,14 +21,14 @@ fn run(rt: &HostRuntime) -> u8 {
     };
     match args.skip(1).collect(rt.alloc()) {
         Ok(words) => run_words(rt, &words, &mut err),
-        Err(error) => tell_stopped(0, error, &mut err),
+        Err(_) => tell_no_memory(&mut err),
     }
 }
 
 fn run_words(rt: &HostRuntime, words: &Vec<String>, err: &mut Stderr) -> u8 {
     let words = match texts(rt.alloc(), words.as_slice()) {
         Ok(words) => words,
-        Err(error) => return tell_stopped(0, error, err),
+        Err(_) => return tell_no_memory(err),
     };
     match parse_words(rt.alloc(), words.as_slice()) {
         Ok(request) => run_request(rt, &request, err),
@@ -46,7 +46,7 @@ fn run_request(rt: &HostRuntime, request: &Request<'_>, err: &mut Stderr) -> u8 
     };
     match BufWriter::with_capacity(rt.alloc(), OUTPUT_BUFFER, rt.stdout()) {
         Ok(mut out) => answer(request, data.as_slice(), &mut out, err),
-        Err(error) => tell_stopped(0, error, err),
+        Err(_) => tell_no_memory(err),
     }
 }
 

@@ -17,7 +17,7 @@ no_text is_text = let e : false ≡ true = is_utf8-from_IsUtf8 (0xc3 ∷ 0x28 �
 -- what is not UTF-8 is refused as such
 refused_text : (bytes : List ℕ) (answer : Result (Bor (List ℕ)) ParseError) → (IsUtf8 bytes → ⊥) → GivesText (Ok bytes) answer → IsErrAnd answer (λ e. (fault : Fault) × (e ≡ Utf8Error fault))
 refused_text bytes (Ok text) broken given = absurd (broken given.1)
-refused_text bytes (Err e) broken given = given.1
+refused_text bytes (Err e) broken given = let found = given.1 in (found.0, found.1)
 
 pub returns-clause-no_text : goal.returns-clause-no_text
 returns-clause-no_text c = no_text

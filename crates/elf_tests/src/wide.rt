@@ -1,0 +1,61 @@
+//! A file of many sections.
+use crate::writers::Counting;
+use elf::endian::LittleEndian;
+use elfshow::calls::{Call, run_bytes};
+use std::alloc::{AllocError, Global};
+use std::io::BufWriter;
+use std::test::Fail;
+
+/// How many sections there are, which a header has no room to tell.
+const COUNT: u32 = 65000;
+
+/// Where the names lie: behind the section headers, which begin at 64.
+const NAMES: u32 = 64 + 64 * COUNT;
+
+/// How many bytes the listing has.
+const TEXT: u64 = 7073910;
+
+/// How many bytes are held back until they are written at once.
+const BUFFER: usize = 65536;
+
+/// How many writes that takes, each of them but the last of a buffer that has no room for the next piece.
+const WRITES: u64 = 108;
+
+/// The first section tells how many there are, and the second where the names are.
+fn many_sections(alloc: Global) -> Result<Vec<u8>, AllocError> {
+    let [count, more, ..] = COUNT.to_le_bytes();
+    let [a, b, c, d] = NAMES.to_le_bytes();
+    let mut file = vec![in alloc; 0; NAMES as usize]?;
+    for (place, bytes) in [
+        (0, &[0x7f, 0x45, 0x4c, 0x46, 2, 1, 1][..]),
+        // e_shoff, e_shentsize, e_shstrndx
+        (40, &[64]),
+        (58, &[64]),
+        (62, &[1]),
+        // sh_size of the first section
+        (96, &[count, more]),
+        // sh_offset and sh_size of the second
+        (152, &[a, b, c, d]),
+        (160, &[6]),
+    ] {
+        for (found, byte) in file.iter_mut().skip(place).zip(bytes) {
+            *found = *byte;
+        }
+    }
+    file.extend_from_slice(b".data\0")?;
+    Ok(file)
+}
+
+#[test]
+fn a_long_listing_is_written_a_buffer_at_a_time(rt: HostRuntime) -> Result<(), Fail> {
+    let data = many_sections(rt.alloc())?;
+    let mut inner = Counting::new();
+    {
+        let mut out = BufWriter::with_capacity(rt.alloc(), BUFFER, &mut inner)?;
+        run_bytes::<LittleEndian, _>(data.as_slice(), &[Call::Sections], &mut out)?;
+    }
+    assert_eq!(rt; inner.bytes, TEXT);
+    assert_eq!(rt; &inner.last, b"end 65000\n");
+    assert_eq!(rt; inner.writes, WRITES);
+    Ok(())
+}

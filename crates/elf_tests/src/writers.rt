@@ -1,0 +1,133 @@
+//! Writers that fail, and one that counts.
+ghost use Rattle.std.specs.Prelude.{Some};
+
+use std::alloc::Global;
+use std::io;
+use std::io::Write;
+
+/// Takes a few bytes a write, and fails once it holds as many as it has room for.
+#[derive(Drop)]
+pub(crate) struct Narrow {
+    pub(crate) held: Vec<u8>,
+    room: usize,
+    width: usize,
+}
+
+impl Narrow {
+    pub(crate) fn new(alloc: Global, room: usize, width: usize) -> Narrow {
+        Narrow {
+            held: Vec::new(alloc),
+            room,
+            width,
+        }
+    }
+}
+
+impl Write for Narrow {
+    ghost contents = { λ w. Some w.held.items };
+
+    fn write(&mut self, buf: &[u8]) -> io::Result<usize> {
+        let room = self.room.saturating_sub(self.held.len());
+        if room == 0 {
+            return Err(io::Error::from(io::ErrorKind::StorageFull));
+        }
+        let count = buf.len().min(room).min(self.width);
+        self.held.extend_from_slice(&buf[..count])?;
+        Ok(count)
+    }
+
+    fn flush(&mut self) -> io::Result<()> {
+        Ok(())
+    }
+}
+
+/// Fails at one write and goes on behind it, or fails at each flush.
+#[derive(Drop)]
+pub(crate) struct Faulty {
+    pub(crate) held: Vec<u8>,
+    writes_before: Option<usize>,
+    can_flush: bool,
+}
+
+impl Faulty {
+    /// Fails at the write behind so many.
+    pub(crate) fn at_write(alloc: Global, writes_before: usize) -> Faulty {
+        Faulty {
+            held: Vec::new(alloc),
+            writes_before: Some(writes_before),
+            can_flush: true,
+        }
+    }
+
+    /// Fails at each flush.
+    pub(crate) fn at_flush(alloc: Global) -> Faulty {
+        Faulty {
+            held: Vec::new(alloc),
+            writes_before: None,
+            can_flush: false,
+        }
+    }
+
+    /// Whether the write at which it fails has come.
+    pub(crate) fn has_failed(&self) -> bool {
+        self.writes_before.is_none()
+    }
+}
+
+impl Write for Faulty {
+    ghost contents = { λ w. Some w.held.items };
+
+    fn write(&mut self, buf: &[u8]) -> io::Result<usize> {
+        match self.writes_before {
+            Some(0) => {
+                self.writes_before = None;
+                return Err(io::Error::from(io::ErrorKind::StorageFull));
+            }
+            Some(count) => self.writes_before = Some(count - 1),
+            None => {}
+        }
+        self.held.extend_from_slice(buf)?;
+        Ok(buf.len())
+    }
+
+    fn flush(&mut self) -> io::Result<()> {
+        if self.can_flush {
+            Ok(())
+        } else {
+            Err(io::Error::from(io::ErrorKind::BrokenPipe))
+        }
+    }
+}
+
+/// Counts writes and their bytes, and holds the last bytes.
+#[derive(Drop)]
+pub(crate) struct Counting {
+    pub(crate) writes: u64,
+    pub(crate) bytes: u64,
+    pub(crate) last: [u8; 10],
+}
+
+impl Counting {
+    pub(crate) fn new() -> Counting {
+        Counting {
+            writes: 0,
+            bytes: 0,
+            last: [0; 10],
+        }
+    }
+}
+
+impl Write for Counting {
+    fn write(&mut self, buf: &[u8]) -> io::Result<usize> {
+        self.writes = self.writes.saturating_add(1);
+        self.bytes = self.bytes.saturating_add(buf.len() as u64);
+        if let Some(last) = buf.last_chunk() {
+            self.last = *last;
+        }
+        Ok(buf.len())
+    }
+
+    fn flush(&mut self) -> io::Result<()> {
+        Ok(())
+    }
+}
