@@ -4,10 +4,10 @@ use Rattle.elf_parts.specs.declared.parse.ParseError.{ParseError}
 use Rattle.elf_parts.specs.declared.file.Class.{Class}
 use Rattle.elf_parts.specs.declared.file.Class.TheVariants.{ELF32, ELF64}
 use Rattle.elf_parts.specs.Number.{number_at, ok_map}
-use Rattle.elf_parts.specs.Record.{◌>>=◌, Field, accepted, numbers_at, numbers_from}
-use Rattle.elf_parts.specs.RecordLaws.{numbers_at-packed}
+use Rattle.elf_parts.specs.Record.{◌>>=◌, Field, accepted, numbers_at}
+use Rattle.elf_parts.specs.Packed.{numbers_at-packed, numbers_from}
 use Rattle.elf_parts.specs.Header.{tail_fields}
-use Rattle.elf_parts.specs.Tail.{part_at, kind_fields, place_fields, places_end, count_fields}
+use Rattle.elf_parts.specs.Tail.{part_at, kind_fields, place_fields, places_size, count_fields}
 
 width_of : List Field → ℕ
 width_of [] = 0
@@ -50,7 +50,7 @@ parts_from little fs gs hs bytes m n first second =
     numbers_from-append little fs (gs ++ hs) bytes 0 m (omega arith)
     ∙ ap (λ (tail : Result (List ℕ) ParseError). numbers_from little fs bytes 0 >>= λ a. ok_map (λ ns. a ++ ns) tail) (numbers_from-append little gs hs bytes m n second)
 
-pub tail_in_parts : (little : Bool) (class : Class) (bytes : List ℕ) → numbers_at little (tail_fields class) bytes 0 ≡ (part_at little kind_fields bytes 0 >>= λ a. ok_map (λ ns. a ++ ns) (part_at little (place_fields class) bytes 8 >>= λ b. ok_map (λ ns. b ++ ns) (part_at little (count_fields class) bytes (places_end class))))
+pub tail_in_parts : (little : Bool) (class : Class) (bytes : List ℕ) → numbers_at little (tail_fields class) bytes 0 ≡ (part_at little kind_fields bytes 0 >>= λ a. ok_map (λ ns. a ++ ns) (part_at little (place_fields class) bytes 8 >>= λ b. ok_map (λ ns. b ++ ns) (part_at little (count_fields class) bytes (8 + places_size class))))
 unfolding width_of
 tail_in_parts little ELF32 bytes =
     numbers_at-packed little (tail_fields ELF32) bytes 0 refl ∙ parts_from little kind_fields (place_fields ELF32) (count_fields ELF32) bytes 8 20 refl refl

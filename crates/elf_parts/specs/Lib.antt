@@ -1,6 +1,7 @@
 pub mod Number
 pub mod Record
 pub mod RecordLaws
+pub mod Packed
 pub mod Orders
 pub mod Header
 pub mod Sections

@@ -1,5 +1,5 @@
 -- A record: numbers at places of their own, read in the order of a field table. The tables are those of the gABI, one file a subject.
-use Rattle.std.specs.Prelude.{◌≡◌, ℕ, true, ◌&&◌, nat_eq, ◌+◌, ◌^◌, ◌<◌, ◌≤◌, Bool, max, if◌then◌else◌, ◌==◌, Option, Some, None, List, [], ◌∷◌, length, take, drop, Result, Ok, Err, is_ok, IsOk}
+use Rattle.std.specs.Prelude.{◌≡◌, ℕ, ◌+◌, ◌^◌, ◌<◌, ◌≤◌, Bool, max, if◌then◌else◌, ◌==◌, Option, Some, None, List, [], ◌∷◌, length, take, drop, Result, Ok, Err, is_ok, IsOk}
 use Rattle.elf_parts.specs.declared.file.Class.{Class}
 use Rattle.elf_parts.specs.declared.parse.ParseError.{ParseError}
 use Rattle.elf_parts.specs.declared.parse.ParseError.TheVariants.{UnsupportedVersion}
@@ -86,24 +86,3 @@ abbrev pub ReadsWherever : {A : Type 0} → (Class → ℕ) → (Bool → Class 
 ReadsWherever size gives =
     (little : Bool) (class : Class) (bytes : List ℕ) (o : ℕ) →
     o + size class < 2 ^ 64 → o + size class ≤ length bytes → IsOk (gives little class bytes o)
-
--- ---- the same for a packed table, each of whose fields begins where the one before it ends, by an offset that moves
-
-abbrev pub is_packed : ℕ → List Field → Bool
-is_packed place [] = true
-is_packed place (f ∷ fs) = nat_eq f.place place && is_packed (place + f.width) fs
-
-abbrev pub numbers_from : Bool → List Field → List ℕ → ℕ → Result (List ℕ) ParseError
-numbers_from little [] bytes o = Ok []
-numbers_from little (f ∷ fs) bytes o =
-    number_at little f.width bytes o >>= λ x. accepted f.version x >>= λ n.
-    numbers_from little fs bytes (o + f.width) >>= λ ns. Ok (n ∷ ns)
-
-abbrev pub next_offset : ℕ → Field → Result ℕ ParseError → ℕ → ℕ
-next_offset o f (Err e) next = o
-next_offset o f (Ok x) next = if is_ok (accepted f.version x) then next else o + f.width
-
-abbrev pub offset_from : Bool → List Field → List ℕ → ℕ → ℕ
-offset_from little [] bytes o = o
-offset_from little (f ∷ fs) bytes o =
-    next_offset o f (number_at little f.width bytes o) (offset_from little fs bytes (o + f.width))

@@ -1,6 +1,7 @@
 -- The tail of the file header in three parts, each of which is read by a function of its own: what the file is, where it starts and its tables lie, and the counts.
 use Rattle.std.specs.Prelude.{ℕ, Bool, List, [], ◌∷◌, Result}
-use Rattle.elf_parts.specs.Record.{Field, field, numbers_from}
+use Rattle.elf_parts.specs.Packed.{numbers_from}
+use Rattle.elf_parts.specs.Record.{Field, field}
 use Rattle.elf_parts.specs.declared.file.Class.{Class}
 use Rattle.elf_parts.specs.declared.file.Class.TheVariants.{ELF32, ELF64}
 use Rattle.elf_parts.specs.declared.parse.ParseError.{ParseError}
@@ -18,10 +19,10 @@ abbrev pub place_fields : Class → List Field
 place_fields ELF32 = field 8 4 ∷ field 12 4 ∷ field 16 4 ∷ []
 place_fields ELF64 = field 8 8 ∷ field 16 8 ∷ field 24 8 ∷ []
 
--- where these end
-abbrev pub places_end : Class → ℕ
-places_end ELF32 = 20
-places_end ELF64 = 32
+-- how many bytes these have
+abbrev pub places_size : Class → ℕ
+places_size ELF32 = 12
+places_size ELF64 = 24
 
 -- e_flags, e_ehsize, e_phentsize, e_phnum, e_shentsize, e_shnum and e_shstrndx
 abbrev pub count_fields : Class → List Field

@@ -1,7 +1,7 @@
 //! The file header (gABI, chapter "ELF Header").
 ghost use Rattle.std.specs.Prelude.{◌≡◌, ◌+◌, OnOk};
 ghost use Rattle.elf_parts.specs.Number.{ok_map};
-ghost use Rattle.elf_parts.specs.Tail.{count_fields, kind_fields, part_at, place_fields, places_end, seven, three};
+ghost use Rattle.elf_parts.specs.Tail.{count_fields, kind_fields, part_at, place_fields, places_size, seven, three};
 ghost use Rattle.elf_parts.specs.Header.{byte_in, class_of, header_with_tail, ident_of, magic_in, version_in};
 
 use crate::endian::EndianParse;
@@ -203,9 +203,8 @@ fn parse_places<E: EndianParse>(
     offset: &mut usize,
     data: &[u8],
 ) -> Result<(u64, u64, u64), ParseError>
-    requires { offset.old ≡ 8 }
     ensures value { ok_map three result ≡ part_at (E.little endian) (place_fields class) «data».now offset.old }
-    ensures moved { OnOk result (offset.new ≡ places_end class) }
+    ensures moved { OnOk result (offset.new ≡ offset.old + places_size class) }
 {
     match class {
         Class::ELF32 => {

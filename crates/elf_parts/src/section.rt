@@ -70,7 +70,7 @@ impl ParseAt for SectionHeader {
 
     ghost only = { only_by section_header_layout };
 
-    #[tactic(auto, using(crate::specs::RecordLaws::packed))]
+    #[tactic(auto, using(crate::specs::Packed::packed))]
     fn parse_at<E: EndianParse>(
         endian: E,
         class: Class,

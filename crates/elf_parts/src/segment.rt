@@ -64,7 +64,7 @@ impl ParseAt for ProgramHeader {
 
     ghost only = { only_by program_header_layout };
 
-    #[tactic(auto, using(crate::specs::RecordLaws::packed))]
+    #[tactic(auto, using(crate::specs::Packed::packed))]
     fn parse_at<E: EndianParse>(
         endian: E,
         class: Class,

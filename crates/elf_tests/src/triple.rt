@@ -28,7 +28,7 @@ impl ParseAt for Triple {
 
     ghost only = { only_by triple_layout };
 
-    #[tactic(auto, using(elf_parts::specs::RecordLaws::packed))]
+    #[tactic(auto, using(elf_parts::specs::Packed::packed))]
     fn parse_at<E: EndianParse>(
         endian: E,
         _class: Class,
