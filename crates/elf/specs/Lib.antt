@@ -1,3 +1,11 @@
-pub mod Opening
-pub mod Names
 pub mod View
+pub mod Opening
+pub mod Range
+pub mod ObjectFile
+pub mod Choice
+pub mod Names
+pub mod Payload
+pub mod Answers
+pub mod Versions
+pub mod Common
+pub mod inner

@@ -1,41 +1,50 @@
 -- The names of sections (gABI, chapters "Sections" and "String Table").
-use Rattle.std.specs.Prelude.{ℕ, ◌==◌, if◌then◌else◌, List, Option, Some, None, Result, Ok}
+use Rattle.std.specs.Prelude.{ℕ, ◌==◌, Bool, false, if◌then◌else◌, not, List, Option, Some, None, Result, Ok, Err}
 use Rattle.std.specs.Option.{option_map}
-use Rattle.elf_parts.specs.Number.{bytes_at, ok_map}
-use Rattle.elf_parts.specs.Record.{◌>>=◌, record_by, size_by}
-use Rattle.elf_parts.specs.Sections.{section_header_layout}
-use Rattle.elf_parts.specs.Strings.{strings_in}
-use Rattle.elf_parts.specs.Tables.{Records, table_get, table_records}
-use Rattle.elf_parts.specs.declared.file.FileHeader.{FileHeader}
+use Rattle.std.specs.Str.{bytes_eq}
+use Rattle.elf_parts.specs.Number.{ok_map}
+use Rattle.elf_parts.specs.Record.{◌>>=◌}
+use Rattle.elf_parts.specs.StringTable.{string_at, strings_view}
+use Rattle.elf_parts.specs.Table.{Table, table_view}
 use Rattle.elf_parts.specs.declared.parse.ParseError.{ParseError}
 use Rattle.elf_parts.specs.declared.parse.table.ParsingTable.{ParsingTable}
 use Rattle.elf_parts.specs.declared.section.SectionHeader.{SectionHeader}
 use Rattle.elf_parts.specs.declared.string_table.StringTable.{StringTable}
-use Rattle.elf.specs.Opening.{View}
+use Rattle.elf.specs.Choice.{if_found}
+use Rattle.elf.specs.ObjectFile.{ObjectFile}
+use Rattle.elf.specs.Range.{section_range}
 
--- section header i
-abbrev pub section_at : Records → ℕ → Result SectionHeader ParseError
-section_at sections i = table_get (size_by section_header_layout) (record_by section_header_layout) sections i
+-- which section holds the names: e_shstrndx, or where that is SHN_XINDEX (0xffff) the sh_link of section 0
+abbrev pub name_index : ObjectFile → Result ℕ ParseError
+name_index file =
+    if file.e_shstrndx == 0xffff then ok_map (λ first. first.sh_link) (file.section_at 0)
+    else Ok file.e_shstrndx
 
--- the bytes that a section header gives a range of
-abbrev pub section_range : List ℕ → SectionHeader → Result (List ℕ) ParseError
-section_range bytes s = bytes_at s.sh_size bytes s.sh_offset
+-- that section: none without section headers, and none where e_shstrndx is SHN_UNDEF (0)
+unfoldable pub name_section : ObjectFile → Result (Option SectionHeader) ParseError
+name_section file =
+    if not file.has_sections then Ok None
+    else if file.e_shstrndx == 0 then Ok None
+    else name_index file >>= λ index. ok_map Some (file.section_at index)
 
--- which section holds the names: e_shstrndx, or where that is SHN_XINDEX (0xffff) the sh_link of the first section header
-abbrev pub name_index : {E : Type 0} → FileHeader E → Records → Result ℕ ParseError
-name_index h sections = if h.e_shstrndx == 0xffff then ok_map (λ first. first.sh_link) (section_at sections 0) else Ok h.e_shstrndx
+-- the table of the names: the bytes of that section
+unfoldable pub name_table : ObjectFile → Result (Option (List ℕ)) ParseError
+name_table file = name_section file >>= if_found (section_range file.bytes)
 
--- the bytes of the names: none without sections, and none where e_shstrndx is SHN_UNDEF (0)
-abbrev pub name_table : {E : Type 0} → FileHeader E → List ℕ → Option Records → Result (Option (List ℕ)) ParseError
-name_table h bytes None = Ok None
-name_table h bytes (Some sections) =
-    if h.e_shstrndx == 0 then Ok None
-    else name_index h sections >>= λ index. section_at sections index >>= λ names. ok_map Some (section_range bytes names)
+-- whether the bytes of a string are these; a string that cannot be read has none
+abbrev pub is_string : List ℕ → Result (List ℕ) ParseError → Bool
+is_string name (Ok string) = bytes_eq string name
+is_string name (Err e) = false
 
--- the section headers and the bytes of their names
-abbrev pub named_sections : {E : Type 0} → View E → Result (Option Records × Option (List ℕ)) ParseError
-named_sections v = ok_map (λ names. (v.sections, names)) (name_table v.ehdr v.bytes v.sections)
+-- whether a section has this name
+abbrev pub has_name : List ℕ → List ℕ → SectionHeader → Bool
+has_name names name s = is_string name (string_at names s.sh_name)
 
--- what a table of records and a table of strings hold
-abbrev pub seen_tables : {E P : Type 0} → Option (ParsingTable E P) × Option StringTable → Option Records × Option (List ℕ)
-seen_tables found = (option_map table_records found.0, option_map strings_in found.1)
+-- what section headers with a table of their names show
+abbrev pub named_view : {E P : Type 0}
+    → Option (ParsingTable E P) × Option StringTable → Option Table × Option (List ℕ)
+named_view found = (option_map table_view found.0, option_map strings_view found.1)
+
+-- headers with their names
+abbrev pub beside : Option Table → Option (List ℕ) → Option Table × Option (List ℕ)
+beside headers names = (headers, names)

@@ -1,28 +1,26 @@
--- How a file is opened (gABI, chapters "ELF Header", "Sections" and "Program Header"): its header is read, and the two tables that it declares are found. The first step that is refused refuses the file.
+-- How a file is opened (gABI, chapters "ELF Header", "Sections" and "Program Header"): its header is read,
+-- and the two tables that it declares are found. The first step that is refused refuses the file.
 use Rattle.std.specs.Prelude.{ℕ, ◌*◌, ◌==◌, Bool, if◌then◌else◌, List, Option, Some, None, Result, Ok, Err}
 use Rattle.elf_parts.specs.Number.{bytes_at, ok_map}
 use Rattle.elf_parts.specs.Record.{◌>>=◌, record_by, size_by, size_of}
-use Rattle.elf_parts.specs.Header.{header_with_tail, ident_of, tail_fields}
-use Rattle.elf_parts.specs.Sections.{section_header_layout}
-use Rattle.elf_parts.specs.Segments.{program_header_layout}
-use Rattle.elf_parts.specs.Tables.{Records, records_in}
+use Rattle.elf_parts.specs.File.{header_with_tail, ident_of, tail_fields}
+use Rattle.elf_parts.specs.Section.{section_header_layout}
+use Rattle.elf_parts.specs.Segment.{program_header_layout}
+use Rattle.elf_parts.specs.Table.{Table, table_in}
 use Rattle.elf_parts.specs.declared.file.FileHeader.{FileHeader}
 use Rattle.elf_parts.specs.declared.section.SectionHeader.{SectionHeader}
 use Rattle.elf_parts.specs.declared.parse.ParseError.{ParseError}
 use Rattle.elf_parts.specs.declared.parse.ParseError.TheVariants.{BadEntsize}
+use Rattle.elf.specs.View.{View}
 
--- a file that was opened: its header, as it stands, its bytes, and the tables that it declares
-pub record View (E : Type 0) : Type 0 where
-  pub ehdr : FileHeader E
-  pub bytes : List ℕ
-  pub sections : Option Records
-  pub segments : Option Records
-
--- so many records of this size at an offset, where that is the size that the header gives; `IntegerOverflow` where their size or their end passes 64 bits
+-- so many records of this size at an offset, where that is the size that the header gives; `IntegerOverflow`
+-- where their size or their end passes 64 bits
 abbrev pub table_bytes : ℕ → ℕ → ℕ → ℕ → List ℕ → Result (List ℕ) ParseError
-table_bytes size entsize count offset bytes = if entsize == size then bytes_at (size * count) bytes offset else Err (BadEntsize (entsize, size))
+table_bytes size entsize count offset bytes =
+    if entsize == size then bytes_at (size * count) bytes offset else Err (BadEntsize (entsize, size))
 
--- ---- a type of orders, by what it tells of itself: which of its orders are little, and which order a byte stands for
+-- ---- a type of orders, by what it tells of itself: which of its orders are little, and which order a byte
+-- stands for
 
 module _ {E : Type 0} (little : E → Bool) where
   -- the header at the front: the identification in the first sixteen bytes, and the tail behind them
@@ -37,27 +35,29 @@ module _ {E : Type 0} (little : E → Bool) where
 
   -- e_shnum, or where that is 0 the sh_size of the first section header
   abbrev pub section_count : FileHeader E → List ℕ → Result ℕ ParseError
-  section_count h bytes = if h.e_shnum == 0 then ok_map (λ first. first.sh_size) (first_section h bytes) else Ok h.e_shnum
+  section_count h bytes =
+      if h.e_shnum == 0 then ok_map (λ first. first.sh_size) (first_section h bytes) else Ok h.e_shnum
 
   -- e_phnum, or where that is PN_XNUM (0xffff) the sh_info of the first section header
   abbrev pub segment_count : FileHeader E → List ℕ → Result ℕ ParseError
-  segment_count h bytes = if h.e_phnum == 0xffff then ok_map (λ first. first.sh_info) (first_section h bytes) else Ok h.e_phnum
+  segment_count h bytes =
+      if h.e_phnum == 0xffff then ok_map (λ first. first.sh_info) (first_section h bytes) else Ok h.e_phnum
 
   -- the section headers; a file whose e_shoff is 0 declares none
-  unfoldable pub section_table : FileHeader E → List ℕ → Result (Option Records) ParseError
+  unfoldable pub section_table : FileHeader E → List ℕ → Result (Option Table) ParseError
   section_table h bytes =
       if h.e_shoff == 0 then Ok None
       else section_count h bytes >>= λ count.
       table_bytes (size_by section_header_layout h.class) h.e_shentsize count h.e_shoff bytes >>= λ part.
-      Ok (Some (records_in (little h.endianness) h.class part))
+      Ok (Some (table_in (little h.endianness) h.class part))
 
   -- the program headers; a file whose e_phoff is 0 declares none
-  unfoldable pub segment_table : FileHeader E → List ℕ → Result (Option Records) ParseError
+  unfoldable pub segment_table : FileHeader E → List ℕ → Result (Option Table) ParseError
   segment_table h bytes =
       if h.e_phoff == 0 then Ok None
       else segment_count h bytes >>= λ count.
       table_bytes (size_by program_header_layout h.class) h.e_phentsize count h.e_phoff bytes >>= λ part.
-      Ok (Some (records_in (little h.endianness) h.class part))
+      Ok (Some (table_in (little h.endianness) h.class part))
 
   -- the file that the bytes hold, or why they hold none
   abbrev pub opened : (ℕ → Option E) → List ℕ → Result (View E) ParseError

@@ -1,8 +1,36 @@
--- What a file that was opened shows.
+-- What a file that was opened shows: its header as it stands, its bytes, and the two tables that it declares.
+use Rattle.std.specs.Prelude.{ℕ, List, [], Option, Some, None}
 use Rattle.std.specs.Option.{option_map}
-use Rattle.elf_parts.specs.Tables.{table_records}
-use Rattle.elf.specs.Opening.{View}
+use Rattle.elf_parts.specs.Record.{record_by, size_by}
+use Rattle.elf_parts.specs.Section.{section_header_layout}
+use Rattle.elf_parts.specs.Segment.{program_header_layout}
+use Rattle.elf_parts.specs.Table.{Table, table_items, table_view}
+use Rattle.elf_parts.specs.declared.file.FileHeader.{FileHeader}
+use Rattle.elf_parts.specs.declared.section.SectionHeader.{SectionHeader}
+use Rattle.elf_parts.specs.declared.segment.ProgramHeader.{ProgramHeader}
 use Rattle.elf.specs.declared.elf_bytes.ElfBytes.{ElfBytes}
 
+pub record View (E : Type 0) : Type 0 where
+  pub ehdr : FileHeader E
+  pub bytes : List ℕ
+  pub sections : Option Table
+  pub segments : Option Table
+
+-- what an `ElfBytes` shows
 abbrev pub view : {E : Type 0} → ElfBytes E → View E
-view file = record { ehdr = file.ehdr; bytes = file.«data».now; sections = option_map table_records file.shdrs; segments = option_map table_records file.phdrs }
+view file = record {
+  ehdr = file.ehdr;
+  bytes = file.«data».now;
+  sections = option_map table_view file.shdrs;
+  segments = option_map table_view file.phdrs;
+}
+
+-- the section headers of a table; where none is declared there are none
+abbrev pub section_list : Option Table → List SectionHeader
+section_list None = []
+section_list (Some t) = table_items (size_by section_header_layout) (record_by section_header_layout) t
+
+-- the program headers of a table; where none is declared there are none
+abbrev pub segment_list : Option Table → List ProgramHeader
+segment_list None = []
+segment_list (Some t) = table_items (size_by program_header_layout) (record_by program_header_layout) t

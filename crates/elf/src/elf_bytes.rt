@@ -1,10 +1,9 @@
 //! A file as a slice of its bytes.
-ghost use Rattle.std.specs.Prelude.{◌≡◌};
+ghost use Rattle.std.specs.Prelude.{◌≡◌, ◌≤◌, IfOk, length};
 ghost use Rattle.std.specs.Option.{option_map};
 ghost use Rattle.elf_parts.specs.Number.{bytes_at, ok_map};
-ghost use Rattle.elf_parts.specs.Tables.{table_records};
+ghost use Rattle.elf_parts.specs.Table.{table_view};
 ghost use Rattle.elf.specs.Opening.{first_section, header_at_front, opened, section_count, section_table, segment_count, segment_table, table_bytes};
-ghost use Rattle.elf.specs.Names.{name_index, named_sections, section_range, seen_tables};
 ghost use Rattle.elf.specs.View.{view};
 
 use elf_abi::abi;
@@ -13,7 +12,13 @@ use elf_parts::file::{Class, ELF32_EHDR_TAILSIZE, ELF64_EHDR_TAILSIZE, FileHeade
 use elf_parts::parse::{ParseAt, ParseError};
 use elf_parts::section::{SectionHeader, SectionHeaderTable};
 use elf_parts::segment::{ProgramHeader, SegmentTable};
-use elf_parts::string_table::StringTable;
+
+mod common;
+mod sections;
+mod symbols;
+mod versions;
+
+pub use common::CommonElfData;
 
 /// A file whose header and whose two tables were found in its bytes. It lends parts of the caller's
 /// slice, copies none of them and takes no memory.
@@ -31,18 +36,12 @@ pub struct ElfBytes<'data, E: EndianParse> {
 // So many bytes of the data from start on.
 #[tactic(auto, unfolding(elf_parts::specs::Number::bytes_at))]
 fn get_bytes<'data>(data: &'data [u8], start: usize, size: usize) -> Result<&'data [u8], ParseError>
-    ensures { ok_map (λ bytes. bytes.now) result ≡ bytes_at size «data».now start }
+    ensures value { ok_map (λ bytes. bytes.now) result ≡ bytes_at size «data».now start }
+    ensures within { IfOk result (λ bytes. length bytes.now ≤ length «data».now) }
 {
     let end = start.checked_add(size).ok_or(ParseError::IntegerOverflow)?;
     data.get(start..end)
         .ok_or(ParseError::SliceReadError((start, end)))
-}
-
-// The bytes that a section header gives a range of.
-fn section_range<'data>(shdr: &SectionHeader, data: &'data [u8]) -> Result<&'data [u8], ParseError>
-    ensures { ok_map (λ bytes. bytes.now) result ≡ section_range «data».now shdr.now }
-{
-    get_bytes(data, shdr.sh_offset as usize, shdr.sh_size as usize)
 }
 
 // The file header at the front of the data.
@@ -113,7 +112,7 @@ fn find_shdrs<'data, E: EndianParse>(
     ehdr: &FileHeader<E>,
     data: &'data [u8],
 ) -> Result<Option<SectionHeaderTable<'data, E>>, ParseError>
-    ensures { ok_map (option_map table_records) result ≡ section_table E.little ehdr.now «data».now }
+    ensures { ok_map (option_map table_view) result ≡ section_table E.little ehdr.now «data».now }
 {
     if ehdr.e_shoff == 0 {
         return Ok(None);
@@ -134,7 +133,7 @@ fn find_phdrs<'data, E: EndianParse>(
     ehdr: &FileHeader<E>,
     data: &'data [u8],
 ) -> Result<Option<SegmentTable<'data, E>>, ParseError>
-    ensures { ok_map (option_map table_records) result ≡ segment_table E.little ehdr.now «data».now }
+    ensures { ok_map (option_map table_view) result ≡ segment_table E.little ehdr.now «data».now }
 {
     if ehdr.e_phoff == 0 {
         return Ok(None);
@@ -170,55 +169,15 @@ impl<'data, E: EndianParse> ElfBytes<'data, E> {
 
     /// The program headers, where the file declares any.
     pub fn segments(&self) -> Option<SegmentTable<'data, E>>
-        ensures { option_map table_records result ≡ (view self.now).segments }
+        ensures { option_map table_view result ≡ (view self.now).segments }
     {
         self.phdrs
     }
 
     /// The section headers, where the file declares any.
     pub fn section_headers(&self) -> Option<SectionHeaderTable<'data, E>>
-        ensures { option_map table_records result ≡ (view self.now).sections }
+        ensures { option_map table_view result ≡ (view self.now).sections }
     {
         self.shdrs
-    }
-
-    /// The section headers and the table of their names, where the file declares them. Refuses where
-    /// the section that holds the names cannot be read or its range does not lie in the file.
-    pub fn section_headers_with_strtab(
-        &self,
-    ) -> Result<
-        (
-            Option<SectionHeaderTable<'data, E>>,
-            Option<StringTable<'data>>,
-        ),
-        ParseError,
-    >
-        ensures { ok_map seen_tables result ≡ named_sections (view self.now) }
-    {
-        let Some(shdrs) = self.section_headers() else {
-            return Ok((None, None));
-        };
-        if self.ehdr.e_shstrndx == abi::SHN_UNDEF {
-            return Ok((Some(shdrs), None));
-        }
-        let index = name_index(&self.ehdr, &shdrs)?;
-        let names = shdrs.get(index)?;
-        let bytes = section_range(&names, self.data)?;
-        Ok((Some(shdrs), Some(StringTable::new(bytes))))
-    }
-}
-
-// Which section holds the names of the sections.
-fn name_index<E: EndianParse>(
-    ehdr: &FileHeader<E>,
-    shdrs: &SectionHeaderTable<'_, E>,
-) -> Result<usize, ParseError>
-    ensures { result ≡ name_index ehdr.now (table_records shdrs.now) }
-{
-    if ehdr.e_shstrndx == abi::SHN_XINDEX {
-        let first = shdrs.get(0)?;
-        Ok(first.sh_link as usize)
-    } else {
-        Ok(ehdr.e_shstrndx as usize)
     }
 }

@@ -3,8 +3,11 @@
 
 pub use elf_abi::{abi, to_str};
 pub use elf_parts::parse::ParseError;
-pub use elf_parts::{endian, file, laws, parse, section, segment, string_table};
+pub use elf_parts::{
+    compression, dynamic, endian, file, gnu_symver, hash, laws, note, parse, relocation, section,
+    segment, string_table, symbol,
+};
 
 mod elf_bytes;
 
-pub use elf_bytes::ElfBytes;
+pub use elf_bytes::{CommonElfData, ElfBytes};

@@ -3,7 +3,7 @@ use Rattle.std.proofs.Common.{◌≡◌, ℕ, Bool, zero, suc, ◌+◌, ◌-◌,
 use Rattle.elf_parts.specs.declared.parse.ParseError.{ParseError}
 use Rattle.elf_parts.specs.declared.file.Class.{Class}
 use Rattle.elf_parts.specs.Record.{ReadsWithin}
-use Rattle.elf_parts.specs.Tables.{items_from, unless_refused}
+use Rattle.elf_parts.specs.Table.{items_from, unless_refused}
 
 -- a read that succeeds lies in the bytes
 pub record LiesWithin {A : Type 0} (gives : List ℕ → ℕ → Result A ParseError) (size : ℕ) : Type 0 where

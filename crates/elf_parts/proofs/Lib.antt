@@ -1,4 +1,15 @@
 pub mod Numbers
 pub mod Items
-pub mod Tail
+pub mod Parts
 pub mod Places
+pub mod Packed
+pub mod LinkedRecords
+pub mod Versions
+pub mod NoteLists
+pub mod NoteNames
+pub mod Multiples
+pub mod Hashing
+pub mod HashWords
+pub mod Walks
+pub mod Runs
+pub mod Named

@@ -1,12 +1,13 @@
 -- Where the records of a table lie: record i of the list is the record at the place i * size.
-use Rattle.std.proofs.Common.{◌≡◌, ◌↔◌, ℕ, zero, suc, ◌+◌, ◌*◌, ◌/◌, ◌^◌, ◌<◌, ◌≤◌, List, [], ◌∷◌, length, None, Result, Ok, Err, refl, ap, sym, ◌∙◌, inl, inr, arith}
+use Rattle.std.proofs.Common.{◌≡◌, ◌↔◌, ℕ, zero, suc, ◌+◌, ◌*◌, ◌/◌, ◌^◌, ◌<◌, ◌≤◌, List, [], ◌∷◌, length, None, Some, Result, Ok, Err, refl, ap, sym, ◌∙◌, inl, inr, arith}
 use Rattle.std.specs.Result.{IsOk, result_ok}
 use Rattle.std.specs.List.{slice_get}
 use Rattle.std.proofs.Math.Nat.{suc-mul, div-lt_iff_lt-mul, mul-le-mul_right}
 use Rattle.std.proofs.lemmas.Bool.{cases_lt}
+use Rattle.std.proofs.lemmas.Option.{slice_get_past}
 use Rattle.std.proofs.lemmas.Grind.{common_steps}
 use Rattle.elf_parts.specs.declared.parse.ParseError.{ParseError}
-use Rattle.elf_parts.specs.Tables.{item_at, items, items_from, unless_refused}
+use Rattle.elf_parts.specs.Table.{item_at, items, items_from, unless_refused}
 use Rattle.elf_parts.proofs.Items.{LiesWithin}
 
 -- where a record cannot lie, none is read
@@ -98,3 +99,52 @@ item_at-below gives size bytes i law wherever small =
     λ h. let w = below_back i size (length bytes) some h in
     item_read gives size bytes i law.some small w (wherever (i * size) (omega arith) w) in
     (forth, back)
+
+-- ---- both together: of such records the list has at each place what `get` gives
+
+none_unless_ok : {A : Type 0} (r : Result A ParseError) → (IsOk r → ⊥) → result_ok r ≡ None
+none_unless_ok (Ok x) h = absurd (h refl)
+none_unless_ok (Err e) h = refl
+
+not_ok : {A : Type 0} (r : Result A ParseError) → result_ok r ≡ None → IsOk r → ⊥
+not_ok (Ok x) none h = cc
+not_ok (Err e) none h = cc
+
+ok_of_some : {A : Type 0} (r : Result A ParseError) (x : A) → result_ok r ≡ Some x → IsOk r
+ok_of_some (Ok y) x h = refl
+ok_of_some (Err e) x h = cc
+
+slice_get_inside : {A : Type 0} (xs : List A) (i : ℕ) → i < length xs → (x : A) × (slice_get xs i ≡ Some x)
+slice_get_inside [] i h = absurd (omega arith)
+slice_get_inside (x ∷ xs) zero h = (x, refl)
+slice_get_inside (x ∷ xs) (suc i) h = slice_get_inside xs i (omega arith)
+
+pub slice_get-plain : {A : Type 0} (gives : List ℕ → ℕ → Result A ParseError) (size : ℕ) (bytes : List ℕ) (i : ℕ) → LiesWithin gives size → ((o : ℕ) → o + size < 2 ^ 64 → o + size ≤ length bytes → IsOk (gives bytes o)) → length bytes < 2 ^ 64 → slice_get (items gives size bytes) i ≡ result_ok (item_at gives size bytes i)
+slice_get-plain gives size bytes i law wherever small =
+    let n = length (items gives size bytes) in
+    let end : result_ok (item_at gives size bytes n) ≡ None = sym (slice_get-items gives size bytes n law small (omega arith)) ∙ slice_get_past (items gives size bytes) n (omega arith) in
+    elim (cases_lt n i) [
+      | inl past ↦
+          let refused : IsOk (item_at gives size bytes i) → ⊥ =
+          λ h. let below = (item_at-below gives size bytes i law wherever small).0 h in
+          not_ok (item_at gives size bytes n) end ((item_at-below gives size bytes n law wherever small).1 (omega arith)) in
+          slice_get_past (items gives size bytes) i (omega arith) ∙ sym (none_unless_ok (item_at gives size bytes i) refused)
+      | inr within ↦ slice_get-items gives size bytes i law small within
+    ]
+
+-- as many are in the list as fit
+pub length-plain : {A : Type 0} (gives : List ℕ → ℕ → Result A ParseError) (size : ℕ) (bytes : List ℕ) → LiesWithin gives size → ((o : ℕ) → o + size < 2 ^ 64 → o + size ≤ length bytes → IsOk (gives bytes o)) → length bytes < 2 ^ 64 → length (items gives size bytes) ≡ length bytes / size
+length-plain gives size bytes law wherever small =
+    let n = length (items gives size bytes) in
+    let m = length bytes / size in
+    let refused_at : (i : ℕ) → slice_get (items gives size bytes) i ≡ None → i < m → ⊥ =
+    λ i none below. not_ok (item_at gives size bytes i) (sym (slice_get-plain gives size bytes i law wherever small) ∙ none) ((item_at-below gives size bytes i law wherever small).1 below) in
+    let given_at : (i : ℕ) (x : _) → slice_get (items gives size bytes) i ≡ Some x → i < m =
+    λ i x some. (item_at-below gives size bytes i law wherever small).0 (ok_of_some (item_at gives size bytes i) x (sym (slice_get-plain gives size bytes i law wherever small) ∙ some)) in
+    elim (cases_lt n m) [
+      | inl fewer ↦ absurd (refused_at n (slice_get_past (items gives size bytes) n (omega arith)) fewer)
+      | inr enough ↦ elim (cases_lt m n) [
+        | inl more ↦ let there = slice_get_inside (items gives size bytes) m more in let least = given_at m there.0 there.1 in absurd (omega (arith, least))
+        | inr most ↦ omega (arith, enough, most)
+      ]
+    ]

@@ -1,5 +1,7 @@
--- A record: numbers at places of their own, read in the order of a field table. The tables are those of the gABI, one file a subject.
-use Rattle.std.specs.Prelude.{◌≡◌, ℕ, ◌+◌, ◌^◌, ◌<◌, ◌≤◌, Bool, max, if◌then◌else◌, ◌==◌, Option, Some, None, List, [], ◌∷◌, length, take, drop, Result, Ok, Err, is_ok, IsOk}
+-- A record: numbers at places of their own, read in the order of a field table. The tables are those of the gABI, one
+-- file a subject.
+use Rattle.std.specs.Prelude.{◌≡◌, ℕ, ◌+◌, ◌^◌, ◌<◌, ◌≤◌, max, Bool, if◌then◌else◌, ◌==◌, Option, Some, None}
+use Rattle.std.specs.Prelude.{List, [], ◌∷◌, length, take, drop, Result, Ok, Err, is_ok, IsOk}
 use Rattle.elf_parts.specs.declared.file.Class.{Class}
 use Rattle.elf_parts.specs.declared.parse.ParseError.{ParseError}
 use Rattle.elf_parts.specs.declared.parse.ParseError.TheVariants.{UnsupportedVersion}
@@ -39,16 +41,17 @@ numbers_at little (f ∷ fs) bytes o =
     number_at little f.width bytes (o + f.place) >>= λ x. accepted f.version x >>= λ n.
     numbers_at little fs bytes o >>= λ ns. Ok (n ∷ ns)
 
--- where the read of a field leaves an offset, `next` being where the fields behind it leave it: at a field that cannot be read, behind a version that is not accepted
+-- where the read of a field leaves an offset, `next` being where the fields behind it leave it: at a field that
+-- cannot be read, behind a version that is not accepted
 abbrev pub after_field : ℕ → Field → Result ℕ ParseError → ℕ → ℕ
 after_field o f (Err e) next = o + f.place
 after_field o f (Ok x) next = if is_ok (accepted f.version x) then next else o + f.place + f.width
 
 -- where the read of a record leaves an offset o: behind the record, or where the first field that is refused leaves it
-unfoldable pub offset_after : Bool → ℕ → List Field → List ℕ → ℕ → ℕ
-offset_after little size [] bytes o = o + size
-offset_after little size (f ∷ fs) bytes o =
-    after_field o f (number_at little f.width bytes (o + f.place)) (offset_after little size fs bytes o)
+unfoldable pub numbers_end : Bool → ℕ → List Field → List ℕ → ℕ → ℕ
+numbers_end little size [] bytes o = o + size
+numbers_end little size (f ∷ fs) bytes o =
+    after_field o f (number_at little f.width bytes (o + f.place)) (numbers_end little size fs bytes o)
 
 -- ---- what a type of records says of itself
 
@@ -64,12 +67,14 @@ abbrev pub record_by : {A : Type 0} → Layout A → Bool → Class → List ℕ
 record_by layout little class bytes o = ok_map (layout.make class) (numbers_at little (layout.fields class) bytes o)
 
 abbrev pub offset_by : {A : Type 0} → Layout A → Bool → Class → List ℕ → ℕ → ℕ
-offset_by layout little class bytes o = offset_after little (size_by layout class) (layout.fields class) bytes o
+offset_by layout little class bytes o = numbers_end little (size_by layout class) (layout.fields class) bytes o
 
 -- ---- the laws of every type of records
 
 -- a record that is read lies in the bytes, and the offset moves behind it
-abbrev pub ReadsWithin : {A : Type 0} → (Class → ℕ) → (Bool → Class → List ℕ → ℕ → Result A ParseError) → (Bool → Class → List ℕ → ℕ → ℕ) → Type 0
+abbrev pub ReadsWithin :
+    {A : Type 0} → (Class → ℕ) → (Bool → Class → List ℕ → ℕ → Result A ParseError) →
+    (Bool → Class → List ℕ → ℕ → ℕ) → Type 0
 ReadsWithin {A = A} size gives leaves =
     (little : Bool) (class : Class) (bytes : List ℕ) (o : ℕ) (x : A) → gives little class bytes o ≡ Ok x →
     (o + size class ≤ length bytes) × (leaves little class bytes o ≡ o + size class)

@@ -1,12 +1,14 @@
 //! The file header (gABI, chapter "ELF Header").
-ghost use Rattle.std.specs.Prelude.{◌≡◌, ◌+◌, OnOk};
+ghost use Rattle.std.specs.Prelude.{◌≡◌, ◌+◌, OnOk, ⊤};
 ghost use Rattle.elf_parts.specs.Number.{ok_map};
-ghost use Rattle.elf_parts.specs.Tail.{count_fields, kind_fields, part_at, place_fields, places_size, seven, three};
-ghost use Rattle.elf_parts.specs.Header.{byte_in, class_of, header_with_tail, ident_of, magic_in, version_in};
+ghost use Rattle.elf_parts.specs.inner.Part.{count_fields, kind_fields, part_at, place_fields, seven, three};
+ghost use Rattle.elf_parts.specs.inner.Running.{width_of};
+ghost use Rattle.elf_parts.specs.File.{byte_in, class_of, header_with_tail, ident_of, magic_in, version_in};
 
 use crate::endian::EndianParse;
 use crate::parse::ParseError;
 use elf_abi::abi;
+use std::alloc::AllocError;
 
 /// Whether the file's addresses and offsets have 32 or 64 bits.
 #[derive(Debug, Copy, Clone, PartialEq, Eq)]
@@ -56,7 +58,7 @@ pub struct Elf64_Ehdr {
 }
 
 /// The file header of either class. Offsets and sizes are in bytes, counts in entries.
-#[derive(Copy, Clone, Debug, PartialEq, Eq)]
+#[derive(Copy, Debug, PartialEq, Eq)]
 pub struct FileHeader<E: EndianParse> {
     pub class: Class,
     /// The order of the bytes of the file's numbers.
@@ -132,7 +134,7 @@ fn parse_class(class_byte: u8) -> Result<Class, ParseError>
 /// ABI and the version of that ABI. Nine bytes are enough. Refuses, in this order, a wrong magic number,
 /// a version other than 1, an unknown class, and an order that `E` does not have; data that end before
 /// a byte that is looked at give `SliceReadError((0, 16))`.
-#[tactic(auto, unfolding(crate::specs::Header::ident_of))]
+#[tactic(auto, unfolding(crate::specs::File::ident_of))]
 pub fn parse_ident<E: EndianParse>(data: &[u8]) -> Result<(E, Class, u8, u8), ParseError>
     ensures { result ≡ ident_of E.of_byte «data».now }
 {
@@ -145,10 +147,21 @@ pub fn parse_ident<E: EndianParse>(data: &[u8]) -> Result<(E, Class, u8, u8), Pa
     Ok((endianness, class, osabi, abiversion))
 }
 
+// A derived `Clone` would clone the order by its own, and be slower to prove.
+impl<E: EndianParse> Clone for FileHeader<E> {
+    ghost is_clone = { λ x y. y ≡ x };
+
+    ghost is_infallible = { λ _. ⊤ };
+
+    fn clone(&self) -> Result<Self, AllocError> {
+        Ok(*self)
+    }
+}
+
 impl<E: EndianParse> FileHeader<E> {
     /// Reads the tail of the header, the bytes behind the identification. Data that end within the tail
     /// are refused at the first field that does not fit; bytes behind it do no harm.
-    #[tactic(auto, using(crate::proofs::Tail::tail_in_parts))]
+    #[tactic(auto, using(crate::proofs::Parts::tail_parts))]
     pub fn parse_tail(ident: (E, Class, u8, u8), data: &[u8]) -> Result<FileHeader<E>, ParseError>
         ensures { result ≡ header_with_tail E.little ident «data».now }
     {
@@ -180,14 +193,14 @@ impl<E: EndianParse> FileHeader<E> {
 }
 
 // The first part of the tail: e_type, e_machine and the version.
-#[tactic(auto, unfolding(crate::specs::Tail::part_at))]
+#[tactic(auto, unfolding(crate::specs::inner::Part::part_at))]
 fn parse_kind<E: EndianParse>(
     endian: E,
     offset: &mut usize,
     data: &[u8],
 ) -> Result<(u16, u16, u32), ParseError>
     ensures value { ok_map three result ≡ part_at (E.little endian) kind_fields «data».now offset.old }
-    ensures moved { OnOk result (offset.new ≡ offset.old + 8) }
+    ensures moved { OnOk result (offset.new ≡ offset.old + width_of kind_fields) }
 {
     let e_type = endian.parse_u16_at(offset, data)?;
     let e_machine = endian.parse_u16_at(offset, data)?;
@@ -196,7 +209,7 @@ fn parse_kind<E: EndianParse>(
 }
 
 // The second part: e_entry, e_phoff and e_shoff.
-#[tactic(auto, unfolding(crate::specs::Tail::part_at))]
+#[tactic(auto, unfolding(crate::specs::inner::Part::part_at))]
 fn parse_places<E: EndianParse>(
     endian: E,
     class: Class,
@@ -204,7 +217,7 @@ fn parse_places<E: EndianParse>(
     data: &[u8],
 ) -> Result<(u64, u64, u64), ParseError>
     ensures value { ok_map three result ≡ part_at (E.little endian) (place_fields class) «data».now offset.old }
-    ensures moved { OnOk result (offset.new ≡ offset.old + places_size class) }
+    ensures moved { OnOk result (offset.new ≡ offset.old + width_of (place_fields class)) }
 {
     match class {
         Class::ELF32 => {
@@ -223,7 +236,7 @@ fn parse_places<E: EndianParse>(
 }
 
 // The last part: e_flags, e_ehsize, e_phentsize, e_phnum, e_shentsize, e_shnum and e_shstrndx.
-#[tactic(auto, unfolding(crate::specs::Tail::part_at))]
+#[tactic(auto, unfolding(crate::specs::inner::Part::part_at))]
 fn parse_counts<E: EndianParse>(
     endian: E,
     class: Class,

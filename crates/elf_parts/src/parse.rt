@@ -3,14 +3,18 @@ ghost use Rattle.std.specs.Prelude.{◌≡◌, ◌≤◌, ℕ, Bool, List, Resul
 ghost use Rattle.elf_parts.specs.Record.{ReadsOnly, ReadsWithin};
 ghost use Rattle.elf_parts.specs.declared.file.Class.{Class};
 ghost use Rattle.elf_parts.specs.declared.parse.ParseError.{ParseError};
-ghost use Rattle.elf_parts.specs.declared.parse.ParseError.TheVariants.{Utf8Error as IsUtf8Error, TryFromSliceError as IsTryFromSliceError, TryFromIntError as IsTryFromIntError, IOError as IsIOError};
+ghost use Rattle.elf_parts.specs.declared.parse.ParseError.TheVariants.{IOError as IsIOError, Utf8Error as IsUtf8Error};
+ghost use Rattle.elf_parts.specs.declared.parse.ParseError.TheVariants.{TryFromIntError as IsTryFromIntError};
+ghost use Rattle.elf_parts.specs.declared.parse.ParseError.TheVariants.{TryFromSliceError as IsTryFromSliceError};
 
 use crate::endian::EndianParse;
 use crate::file::Class;
 use thiserror::Error;
 
 mod table;
+mod words;
 
+pub(crate) use table::read_record;
 pub use table::{ParsingIterator, ParsingTable};
 
 /// Why bytes are refused. A pair is what was found and what was expected, or a start and an end.
@@ -132,7 +136,8 @@ pub trait ParseAt: Sized {
 
     /// The entry size that a file gives, in bytes, where it is that of the record; else `BadEntsize`.
     fn validate_entsize(class: Class, entsize: usize) -> Result<usize, ParseError>
-        ensures { result ≡ (if entsize == size class then Ok entsize else Err (ParseError.BadEntsize (entsize, size class))) }
+        ensures { result ≡ (if entsize == size class then Ok entsize
+            else Err (ParseError.BadEntsize (entsize, size class))) }
     {
         let expected = Self::size_for(class);
         if entsize == expected {

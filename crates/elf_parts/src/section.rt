@@ -1,4 +1,9 @@
 //! Section headers (gABI, chapter "Sections").
+ghost use Rattle.std.specs.Prelude.{◌≡◌, ◌+◌, OnOk};
+ghost use Rattle.elf_parts.specs.Number.{ok_map};
+ghost use Rattle.elf_parts.specs.inner.Part.{back_fields, five, front_fields, part_at, part_end};
+ghost use Rattle.elf_parts.specs.inner.Running.{width_of};
+
 use crate::endian::EndianParse;
 use crate::file::Class;
 use crate::parse::{ParseAt, ParseError, ParsingTable};
@@ -55,8 +60,8 @@ pub struct SectionHeader {
 
 impl ParseAt for SectionHeader {
     ghost use Rattle.elf_parts.specs.Record.{offset_by, record_by, size_by};
-    ghost use Rattle.elf_parts.specs.RecordLaws.{only_by, within_by};
-    ghost use Rattle.elf_parts.specs.Sections.{section_header_layout, section_header_size};
+    ghost use Rattle.elf_parts.specs.inner.RecordLaws.{only_by, within_by};
+    ghost use Rattle.elf_parts.specs.Section.{section_header_layout, section_header_size};
 
     ghost size = { size_by section_header_layout };
 
@@ -70,45 +75,96 @@ impl ParseAt for SectionHeader {
 
     ghost only = { only_by section_header_layout };
 
-    #[tactic(auto, using(crate::specs::Packed::packed))]
+    #[tactic(auto, using(crate::proofs::Parts::section))]
     fn parse_at<E: EndianParse>(
         endian: E,
         class: Class,
         offset: &mut usize,
         data: &[u8],
     ) -> Result<Self, ParseError> {
-        match class {
-            Class::ELF32 => Ok(SectionHeader {
-                sh_name: endian.parse_u32_at(offset, data)?,
-                sh_type: endian.parse_u32_at(offset, data)?,
-                sh_flags: endian.parse_u32_at(offset, data)? as u64,
-                sh_addr: endian.parse_u32_at(offset, data)? as u64,
-                sh_offset: endian.parse_u32_at(offset, data)? as u64,
-                sh_size: endian.parse_u32_at(offset, data)? as u64,
-                sh_link: endian.parse_u32_at(offset, data)?,
-                sh_info: endian.parse_u32_at(offset, data)?,
-                sh_addralign: endian.parse_u32_at(offset, data)? as u64,
-                sh_entsize: endian.parse_u32_at(offset, data)? as u64,
-            }),
-            Class::ELF64 => Ok(SectionHeader {
-                sh_name: endian.parse_u32_at(offset, data)?,
-                sh_type: endian.parse_u32_at(offset, data)?,
-                sh_flags: endian.parse_u64_at(offset, data)?,
-                sh_addr: endian.parse_u64_at(offset, data)?,
-                sh_offset: endian.parse_u64_at(offset, data)?,
-                sh_size: endian.parse_u64_at(offset, data)?,
-                sh_link: endian.parse_u32_at(offset, data)?,
-                sh_info: endian.parse_u32_at(offset, data)?,
-                sh_addralign: endian.parse_u64_at(offset, data)?,
-                sh_entsize: endian.parse_u64_at(offset, data)?,
-            }),
-        }
+        let front = parse_front(endian, class, offset, data)?;
+        let back = parse_back(endian, class, offset, data)?;
+        Ok(SectionHeader {
+            sh_name: front.0,
+            sh_type: front.1,
+            sh_flags: front.2,
+            sh_addr: front.3,
+            sh_offset: front.4,
+            sh_size: back.0,
+            sh_link: back.1,
+            sh_info: back.2,
+            sh_addralign: back.3,
+            sh_entsize: back.4,
+        })
     }
 
     fn size_for(class: Class) -> usize {
         match class {
             Class::ELF32 => 40,
             Class::ELF64 => 64,
+        }
+    }
+}
+
+// sh_name, sh_type, sh_flags, sh_addr and sh_offset.
+#[tactic(auto, unfolding(crate::specs::inner::Part::part_at, crate::specs::inner::Part::part_end))]
+fn parse_front<E: EndianParse>(
+    endian: E,
+    class: Class,
+    offset: &mut usize,
+    data: &[u8],
+) -> Result<(u32, u32, u64, u64, u64), ParseError>
+    ensures value { ok_map five result ≡ part_at (E.little endian) (front_fields class) «data».now offset.old }
+    ensures moved { offset.new ≡ part_end (E.little endian) (front_fields class) «data».now offset.old }
+    ensures behind { OnOk result (offset.new ≡ offset.old + width_of (front_fields class)) }
+{
+    match class {
+        Class::ELF32 => {
+            let sh_name = endian.parse_u32_at(offset, data)?;
+            let sh_type = endian.parse_u32_at(offset, data)?;
+            let sh_flags = endian.parse_u32_at(offset, data)? as u64;
+            let sh_addr = endian.parse_u32_at(offset, data)? as u64;
+            let sh_offset = endian.parse_u32_at(offset, data)? as u64;
+            Ok((sh_name, sh_type, sh_flags, sh_addr, sh_offset))
+        }
+        Class::ELF64 => {
+            let sh_name = endian.parse_u32_at(offset, data)?;
+            let sh_type = endian.parse_u32_at(offset, data)?;
+            let sh_flags = endian.parse_u64_at(offset, data)?;
+            let sh_addr = endian.parse_u64_at(offset, data)?;
+            let sh_offset = endian.parse_u64_at(offset, data)?;
+            Ok((sh_name, sh_type, sh_flags, sh_addr, sh_offset))
+        }
+    }
+}
+
+// sh_size, sh_link, sh_info, sh_addralign and sh_entsize.
+#[tactic(auto, unfolding(crate::specs::inner::Part::part_at, crate::specs::inner::Part::part_end))]
+fn parse_back<E: EndianParse>(
+    endian: E,
+    class: Class,
+    offset: &mut usize,
+    data: &[u8],
+) -> Result<(u64, u32, u32, u64, u64), ParseError>
+    ensures value { ok_map five result ≡ part_at (E.little endian) (back_fields class) «data».now offset.old }
+    ensures moved { offset.new ≡ part_end (E.little endian) (back_fields class) «data».now offset.old }
+{
+    match class {
+        Class::ELF32 => {
+            let sh_size = endian.parse_u32_at(offset, data)? as u64;
+            let sh_link = endian.parse_u32_at(offset, data)?;
+            let sh_info = endian.parse_u32_at(offset, data)?;
+            let sh_addralign = endian.parse_u32_at(offset, data)? as u64;
+            let sh_entsize = endian.parse_u32_at(offset, data)? as u64;
+            Ok((sh_size, sh_link, sh_info, sh_addralign, sh_entsize))
+        }
+        Class::ELF64 => {
+            let sh_size = endian.parse_u64_at(offset, data)?;
+            let sh_link = endian.parse_u32_at(offset, data)?;
+            let sh_info = endian.parse_u32_at(offset, data)?;
+            let sh_addralign = endian.parse_u64_at(offset, data)?;
+            let sh_entsize = endian.parse_u64_at(offset, data)?;
+            Ok((sh_size, sh_link, sh_info, sh_addralign, sh_entsize))
         }
     }
 }

@@ -1,4 +1,9 @@
 //! Program headers (gABI, chapter "Program Header").
+ghost use Rattle.std.specs.Prelude.{◌≡◌, ◌+◌, OnOk};
+ghost use Rattle.elf_parts.specs.Number.{ok_map};
+ghost use Rattle.elf_parts.specs.inner.Part.{extent_fields, five, part_at, part_end};
+ghost use Rattle.elf_parts.specs.inner.Running.{width_of};
+
 use crate::endian::EndianParse;
 use crate::file::Class;
 use crate::parse::{ParseAt, ParseError, ParsingTable};
@@ -49,8 +54,8 @@ pub struct ProgramHeader {
 
 impl ParseAt for ProgramHeader {
     ghost use Rattle.elf_parts.specs.Record.{offset_by, record_by, size_by};
-    ghost use Rattle.elf_parts.specs.RecordLaws.{only_by, within_by};
-    ghost use Rattle.elf_parts.specs.Segments.{program_header_layout, program_header_size};
+    ghost use Rattle.elf_parts.specs.inner.RecordLaws.{only_by, within_by};
+    ghost use Rattle.elf_parts.specs.Segment.{program_header_layout, program_header_size};
 
     ghost size = { size_by program_header_layout };
 
@@ -64,7 +69,7 @@ impl ParseAt for ProgramHeader {
 
     ghost only = { only_by program_header_layout };
 
-    #[tactic(auto, using(crate::specs::Packed::packed))]
+    #[tactic(auto, using(crate::proofs::Parts::segment))]
     fn parse_at<E: EndianParse>(
         endian: E,
         class: Class,
@@ -72,26 +77,38 @@ impl ParseAt for ProgramHeader {
         data: &[u8],
     ) -> Result<Self, ParseError> {
         match class {
-            Class::ELF32 => Ok(ProgramHeader {
-                p_type: endian.parse_u32_at(offset, data)?,
-                p_offset: endian.parse_u32_at(offset, data)? as u64,
-                p_vaddr: endian.parse_u32_at(offset, data)? as u64,
-                p_paddr: endian.parse_u32_at(offset, data)? as u64,
-                p_filesz: endian.parse_u32_at(offset, data)? as u64,
-                p_memsz: endian.parse_u32_at(offset, data)? as u64,
-                p_flags: endian.parse_u32_at(offset, data)?,
-                p_align: endian.parse_u32_at(offset, data)? as u64,
-            }),
-            Class::ELF64 => Ok(ProgramHeader {
-                p_type: endian.parse_u32_at(offset, data)?,
-                p_flags: endian.parse_u32_at(offset, data)?,
-                p_offset: endian.parse_u64_at(offset, data)?,
-                p_vaddr: endian.parse_u64_at(offset, data)?,
-                p_paddr: endian.parse_u64_at(offset, data)?,
-                p_filesz: endian.parse_u64_at(offset, data)?,
-                p_memsz: endian.parse_u64_at(offset, data)?,
-                p_align: endian.parse_u64_at(offset, data)?,
-            }),
+            Class::ELF32 => {
+                let p_type = endian.parse_u32_at(offset, data)?;
+                let extent = parse_extent(endian, Class::ELF32, offset, data)?;
+                let p_flags = endian.parse_u32_at(offset, data)?;
+                let p_align = endian.parse_u32_at(offset, data)? as u64;
+                Ok(ProgramHeader {
+                    p_type,
+                    p_offset: extent.0,
+                    p_vaddr: extent.1,
+                    p_paddr: extent.2,
+                    p_filesz: extent.3,
+                    p_memsz: extent.4,
+                    p_flags,
+                    p_align,
+                })
+            }
+            Class::ELF64 => {
+                let p_type = endian.parse_u32_at(offset, data)?;
+                let p_flags = endian.parse_u32_at(offset, data)?;
+                let extent = parse_extent(endian, Class::ELF64, offset, data)?;
+                let p_align = endian.parse_u64_at(offset, data)?;
+                Ok(ProgramHeader {
+                    p_type,
+                    p_offset: extent.0,
+                    p_vaddr: extent.1,
+                    p_paddr: extent.2,
+                    p_filesz: extent.3,
+                    p_memsz: extent.4,
+                    p_flags,
+                    p_align,
+                })
+            }
         }
     }
 
@@ -99,6 +116,38 @@ impl ParseAt for ProgramHeader {
         match class {
             Class::ELF32 => 32,
             Class::ELF64 => 56,
+        }
+    }
+}
+
+// p_offset, p_vaddr, p_paddr, p_filesz and p_memsz.
+#[tactic(auto, unfolding(crate::specs::inner::Part::part_at, crate::specs::inner::Part::part_end))]
+fn parse_extent<E: EndianParse>(
+    endian: E,
+    class: Class,
+    offset: &mut usize,
+    data: &[u8],
+) -> Result<(u64, u64, u64, u64, u64), ParseError>
+    ensures value { ok_map five result ≡ part_at (E.little endian) (extent_fields class) «data».now offset.old }
+    ensures moved { offset.new ≡ part_end (E.little endian) (extent_fields class) «data».now offset.old }
+    ensures behind { OnOk result (offset.new ≡ offset.old + width_of (extent_fields class)) }
+{
+    match class {
+        Class::ELF32 => {
+            let p_offset = endian.parse_u32_at(offset, data)? as u64;
+            let p_vaddr = endian.parse_u32_at(offset, data)? as u64;
+            let p_paddr = endian.parse_u32_at(offset, data)? as u64;
+            let p_filesz = endian.parse_u32_at(offset, data)? as u64;
+            let p_memsz = endian.parse_u32_at(offset, data)? as u64;
+            Ok((p_offset, p_vaddr, p_paddr, p_filesz, p_memsz))
+        }
+        Class::ELF64 => {
+            let p_offset = endian.parse_u64_at(offset, data)?;
+            let p_vaddr = endian.parse_u64_at(offset, data)?;
+            let p_paddr = endian.parse_u64_at(offset, data)?;
+            let p_filesz = endian.parse_u64_at(offset, data)?;
+            let p_memsz = endian.parse_u64_at(offset, data)?;
+            Ok((p_offset, p_vaddr, p_paddr, p_filesz, p_memsz))
         }
     }
 }

@@ -1,7 +1,7 @@
 //! Tables of strings (gABI, chapter "String Table").
 ghost use Rattle.std.specs.Prelude.{◌≡◌, ◌==◌, position};
 ghost use Rattle.elf_parts.specs.Number.{ok_map};
-ghost use Rattle.elf_parts.specs.Strings.{string_at, strings_in, GivesText};
+ghost use Rattle.elf_parts.specs.StringTable.{string_at, strings_view, GivesText};
 
 use crate::parse::ParseError;
 use std::str::from_utf8;
@@ -22,7 +22,7 @@ pub struct StringTable<'data> {
 impl<'data> StringTable<'data> {
     /// The strings that the data hold.
     pub fn new(data: &'data [u8]) -> Self
-        ensures { strings_in result ≡ «data».now }
+        ensures { strings_view result ≡ «data».now }
     {
         StringTable { data }
     }
@@ -30,9 +30,9 @@ impl<'data> StringTable<'data> {
     /// The bytes of the string at an offset in bytes, without the 0 byte that ends it. Refuses with
     /// `BadOffset(offset)` where the table is empty or the offset lies behind it, and with
     /// `StringTableMissingNul(offset)` where no 0 byte follows.
-    #[tactic(auto, unfolding(crate::specs::Strings::string_at))]
+    #[tactic(auto, unfolding(crate::specs::StringTable::string_at))]
     pub fn get_raw(&self, offset: usize) -> Result<&'data [u8], ParseError>
-        ensures { ok_map (λ bytes. bytes.now) result ≡ string_at (strings_in self.now) offset }
+        ensures { ok_map (λ bytes. bytes.now) result ≡ string_at (strings_view self.now) offset }
     {
         if self.data.is_empty() {
             return Err(ParseError::BadOffset(offset as u64));
@@ -48,7 +48,7 @@ impl<'data> StringTable<'data> {
     /// The string at an offset in bytes, as text. Refuses as `get_raw` does, and with `Utf8Error` where the
     /// bytes are not UTF-8.
     pub fn get(&self, offset: usize) -> Result<&'data str, ParseError>
-        ensures { GivesText (string_at (strings_in self.now) offset) result }
+        ensures { GivesText (string_at (strings_view self.now) offset) result }
     {
         let raw = self.get_raw(offset)?;
         Ok(from_utf8(raw)?)

@@ -1,8 +1,7 @@
 //! Numbers in each order.
-use crate::order::FileOrder;
-use crate::refusals::refusal;
 use elf::ParseError;
 use elf::endian::{AnyEndian, BigEndian, EndianParse, LittleEndian, NativeEndian};
+use elf_worked::order::FileOrder;
 use std::test::Fail;
 
 /// Bytes whose numbers are negative in both orders.
@@ -57,94 +56,40 @@ fn read_numbers<E: EndianParse>(order: E) -> Result<Numbers, ParseError> {
 }
 
 #[test]
-fn each_order_reads_each_number(rt: HostRuntime) -> Result<(), Fail> {
-    assert_eq!(rt; read_numbers(LittleEndian)?, LITTLE);
-    assert_eq!(rt; read_numbers(BigEndian)?, BIG);
-    assert_eq!(rt; read_numbers(AnyEndian::Little)?, LITTLE);
-    assert_eq!(rt; read_numbers(AnyEndian::Big)?, BIG);
-    assert_eq!(rt; read_numbers(NativeEndian::default())?, LITTLE);
+fn a_users_order_reads_each_number(rt: HostRuntime) -> Result<(), Fail> {
     assert_eq!(rt; read_numbers(FileOrder::LowFirst)?, LITTLE);
     assert_eq!(rt; read_numbers(FileOrder::HighFirst)?, BIG);
     Ok(())
 }
 
-#[test]
-fn small_bytes_read_in_both_orders(rt: HostRuntime) -> Result<(), Fail> {
-    let bytes = [1, 2, 3, 4, 5, 6, 7, 8];
-    let mut offset = 0;
-    assert_eq!(rt; LittleEndian.parse_u16_at(&mut offset, &bytes)?, 0x0201);
-    assert_eq!(rt; offset, 2);
-    offset = 0;
-    assert_eq!(rt; BigEndian.parse_u16_at(&mut offset, &bytes)?, 0x0102);
-    assert_eq!(rt; offset, 2);
-    offset = 0;
-    assert_eq!(rt;
-        LittleEndian.parse_i64_at(&mut offset, &bytes)?,
-        0x0807060504030201
-    );
-    offset = 0;
-    assert_eq!(rt;
-        BigEndian.parse_i64_at(&mut offset, &bytes)?,
-        0x0102030405060708
-    );
-    assert_eq!(rt; offset, 8);
-    Ok(())
-}
-
-#[test]
-fn a_refused_number_leaves_the_offset(rt: HostRuntime) -> Result<(), Fail> {
-    for (start, want) in [
-        (23, "accepted"),
-        (24, "SliceReadError((24, 28))"),
-        (27, "SliceReadError((27, 31))"),
-        (30, "SliceReadError((30, 34))"),
-        (usize::MAX - 3, "IntegerOverflow"),
-        (usize::MAX, "IntegerOverflow"),
-    ] {
-        let mut offset = start;
-        let result = BigEndian.parse_u32_at(&mut offset, &BYTES);
-        if result.is_err() {
-            assert_eq!(rt; offset, start, "at {start}");
-        }
-        assert_eq!(rt; refusal(rt.alloc(), result)?.as_str(), want, "at {start}");
-    }
-    Ok(())
-}
-
-/// Whether the order stands for this byte; where it does not, the refusal names the byte.
-fn accepts<E: EndianParse>(byte: u8) -> bool {
+/// Whether the order stands for this byte, or else refuses it by its own number.
+fn answers<E: EndianParse>(byte: u8, stands: bool) -> bool {
     match E::from_ei_data(byte) {
-        Ok(_) => true,
-        Err(ParseError::UnsupportedElfEndianness(told)) => told != byte,
-        Err(_) => true,
+        Ok(_) => stands,
+        Err(ParseError::UnsupportedElfEndianness(told)) => !stands && told == byte,
+        Err(_) => false,
     }
 }
 
 #[test]
 fn an_order_accepts_its_own_bytes_alone(rt: HostRuntime) {
     for byte in 0..=u8::MAX {
-        assert_eq!(rt;
-            accepts::<AnyEndian>(byte),
-            byte == 1 || byte == 2,
+        assert!(rt;
+            answers::<AnyEndian>(byte, byte == 1 || byte == 2),
             "at {byte}"
         );
-        assert_eq!(rt; accepts::<LittleEndian>(byte), byte == 1, "at {byte}");
-        assert_eq!(rt; accepts::<BigEndian>(byte), byte == 2, "at {byte}");
-        assert_eq!(rt; accepts::<FileOrder>(byte), byte == 2, "at {byte}");
+        assert!(rt; answers::<LittleEndian>(byte, byte == 1), "at {byte}");
+        assert!(rt; answers::<BigEndian>(byte, byte == 2), "at {byte}");
+        assert!(rt; answers::<FileOrder>(byte, byte == 2), "at {byte}");
     }
 }
 
 #[test]
 fn an_order_tells_what_it_is(rt: HostRuntime) -> Result<(), Fail> {
-    assert_eq!(rt; AnyEndian::from_ei_data(1)?, AnyEndian::Little);
-    assert_eq!(rt; AnyEndian::from_ei_data(2)?, AnyEndian::Big);
     assert_eq!(rt; FileOrder::from_ei_data(2)?, FileOrder::HighFirst);
-    assert_eq!(rt; AnyEndian::default(), AnyEndian::Little);
     assert_eq!(rt; FileOrder::default(), FileOrder::HighFirst);
-    assert!(rt; AnyEndian::Little.is_little() && !AnyEndian::Little.is_big());
-    assert!(rt; AnyEndian::Big.is_big() && !AnyEndian::Big.is_little());
-    assert!(rt; LittleEndian.is_little() && !LittleEndian.is_big());
-    assert!(rt; BigEndian::default().is_big() && !BigEndian.is_little());
-    assert!(rt; FileOrder::LowFirst.is_little() && FileOrder::HighFirst.is_big());
+    assert_eq!(rt; NativeEndian::default(), LittleEndian);
+    assert!(rt; FileOrder::LowFirst.is_little() && !FileOrder::LowFirst.is_big());
+    assert!(rt; FileOrder::HighFirst.is_big() && !FileOrder::HighFirst.is_little());
     Ok(())
 }

@@ -1,7 +1,8 @@
 //! What the program does with the words of its command line.
-use crate::files::{HEADER_ALONE, TWO_SECTIONS};
+use crate::files::HEADER_ALONE;
+use crate::memory::all_memory;
 use crate::texts::{HEADER_LINE, USAGE_LINE};
-use crate::writers::Narrow;
+use crate::writers::{Counting, Line, Narrow};
 use elfshow::calls::Call;
 use elfshow::show::{
     RequestError, answer, parse_words, show, tell_request_error, tell_stopped, tell_usage,
@@ -35,62 +36,14 @@ fn assert_shows(
 }
 
 #[test]
-fn words_that_ask_for_nothing_are_told_first(rt: HostRuntime) -> Result<(), Fail> {
-    let usage = (2, "", USAGE_LINE);
-    for words in [
-        &[][..],
-        &["bytes"],
+fn a_message_that_is_not_taken_changes_nothing(rt: HostRuntime) -> Result<(), Fail> {
+    assert_shows(
+        &rt,
         &["bytes", "F"],
-        &["bytes", "F", ""],
-        &["bytes", "F", "Header"],
-        &["bytes", "F", "header", "bogus"],
-        &["bytes", "F", "header="],
-        &["", "F", "header"],
-        &["BYTES", "F", "header"],
-        &["lines", "F", "header"],
-        &["header", "bytes", "F"],
-    ] {
-        assert_shows(&rt, words, &HEADER_ALONE, 4096, usage)?;
-        assert_shows(&rt, words, &[0xff; 15], 4096, usage)?;
-    }
-    Ok(())
-}
-
-#[test]
-fn words_without_a_meaning_yet_are_told_as_well(rt: HostRuntime) -> Result<(), Fail> {
-    let usage = (2, "", USAGE_LINE);
-    for words in [
-        &["stream", "F", "header"][..],
-        &["both", "F", "header"],
-        &["bytes", "F", "segments"],
-        &["bytes", "F", "header", "symbols"],
-        &["bytes", "F", "name=x"],
-        &["bytes", "F", "data=1"],
-        &["bytes", "F", "data=x"],
-    ] {
-        assert_shows(&rt, words, &HEADER_ALONE, 4096, usage)?;
-        assert_shows(&rt, words, &[0xff; 15], 4096, usage)?;
-    }
-    Ok(())
-}
-
-#[test]
-fn a_listing_is_written(rt: HostRuntime) -> Result<(), Fail> {
-    let text = format!(in rt.alloc(); "{HEADER_LINE}end 0\n")?;
-    for file in ["F", "", "bytes", "/no/such file"] {
-        assert_shows(
-            &rt,
-            &["bytes", file, "header", "sections"],
-            &HEADER_ALONE,
-            4096,
-            (0, text.as_str(), ""),
-        )?;
-    }
-    Ok(())
-}
-
-#[test]
-fn a_file_that_is_refused_is_told(rt: HostRuntime) -> Result<(), Fail> {
+        &HEADER_ALONE,
+        4096,
+        (2, "", USAGE_LINE),
+    )?;
     assert_shows(
         &rt,
         &["bytes", "F", "header"],
@@ -100,17 +53,6 @@ fn a_file_that_is_refused_is_told(rt: HostRuntime) -> Result<(), Fail> {
             1,
             "",
             "elfshow: open: Could not read bytes in range [0x0, 0x10)\n",
-        ),
-    )?;
-    assert_shows(
-        &rt,
-        &["bytes", "F", "sections"],
-        &TWO_SECTIONS[..135],
-        4096,
-        (
-            1,
-            "",
-            "elfshow: open: Could not read bytes in range [0x38, 0x88)\n",
         ),
     )
 }
@@ -144,6 +86,28 @@ fn refused_memory_is_told(rt: HostRuntime) -> Result<(), Fail> {
     assert_eq!(rt; err.as_slice(), want.as_slice());
     let mut deaf = Narrow::new(rt.alloc(), 0, 1);
     assert_eq!(rt; tell_request_error(RequestError::OutOfMemory, &mut deaf), 1);
+    Ok(())
+}
+
+// `rt try --test` has an allocator of its own, which does not run out: there this test fails.
+#[test]
+fn nothing_is_written_without_memory(rt: HostRuntime) -> Result<(), Fail> {
+    let alloc = rt.alloc();
+    let mut out = Counting::new();
+    let mut err = Line::new();
+    let blocks = all_memory(alloc)?;
+    let status = show(
+        alloc,
+        &["bytes", "F", "header"],
+        &HEADER_ALONE,
+        &mut out,
+        &mut err,
+    );
+    drop(blocks);
+    assert_eq!(rt; status, 1);
+    assert_eq!(rt; out.writes, 0);
+    let want = "elfshow: stopped after 0 calls: Out of memory\n";
+    assert_eq!(rt; err.text(), want.as_bytes());
     Ok(())
 }
 

@@ -1,16 +1,15 @@
 //! The laws of the parts, called as a user calls them, and what they say of some values.
-use crate::even_byte::EvenByte;
 use crate::files::COUNTING;
-use crate::triple::Triple;
 use elf::endian::{AnyEndian, BigEndian, EndianParse, LittleEndian};
 use elf::file::{Class, FileHeader};
-use elf::laws::{
-    big_is_little_reversed, equal_file_headers, equal_program_headers, equal_section_headers,
-    get_succeeds_below_len, iter_gives_what_get_gives,
-};
+use elf::laws::equality::{equal_file_headers, equal_program_headers, equal_section_headers};
+use elf::laws::numbers::big_is_little_reversed;
+use elf::laws::tables::{get_succeeds_below_len, iter_gives_what_get_gives};
 use elf::parse::ParsingTable;
 use elf::section::{SectionHeader, SectionHeaderTable};
 use elf::segment::ProgramHeader;
+use elf_worked::even_byte::EvenByte;
+use elf_worked::triple::Triple;
 use std::test::Fail;
 
 #[test]

@@ -1,12 +1,12 @@
 //! Values that are shown for a debugger, and values that are copied.
 use crate::files::{HEADER_ALONE, TWO_SECTIONS};
-use crate::order::FileOrder;
-use crate::triple::Triple;
 use elf::endian::{AnyEndian, BigEndian, LittleEndian};
 use elf::file::Class;
 use elf::parse::{ParsingIterator, ParsingTable};
 use elf::string_table::StringTable;
 use elf::{ElfBytes, ParseError};
+use elf_worked::order::FileOrder;
+use elf_worked::triple::Triple;
 use elfshow::calls::{Call, RunError};
 use elfshow::show::RequestError;
 use std::alloc::AllocError;
@@ -73,6 +73,7 @@ fn values_are_copied(rt: HostRuntime) -> Result<(), Fail> {
     assert!(rt; copies(FileOrder::LowFirst) && FileOrder::LowFirst != FileOrder::HighFirst);
     assert!(rt; copies(Call::Header) && Call::Header != Call::Sections);
     assert!(rt; copies(RequestError::Usage) && RequestError::Usage != RequestError::OutOfMemory);
+    assert!(rt; StringTable::default().get_raw(0).is_err());
     let names = StringTable::new(b"\0a\0");
     let again = names;
     assert_eq!(rt; again.get(1)?, names.get(1)?);

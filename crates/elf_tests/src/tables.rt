@@ -1,14 +1,13 @@
 //! Tables of records, and iterators over them.
-use crate::even_byte::EvenByte;
-use crate::loops::{all_items, count_items, item_below};
-use crate::order::FileOrder;
 use crate::refusals::refusal;
-use crate::triple::Triple;
 use elf::endian::{AnyEndian, BigEndian, EndianParse, LittleEndian};
 use elf::file::Class;
 use elf::parse::{ParseAt, ParsingIterator, ParsingTable};
-use elf::section::{SectionHeader, SectionHeaderTable};
-use elf::segment::{ProgramHeader, SegmentTable};
+use elf::section::SectionHeader;
+use elf_worked::even_byte::EvenByte;
+use elf_worked::loops::{all_items, count_items, item_below};
+use elf_worked::order::FileOrder;
+use elf_worked::triple::Triple;
 use std::process::Abort;
 use std::test::Fail;
 
@@ -148,34 +147,6 @@ fn a_table_below_its_length_gives_each_record(rt: HostRuntime) -> Result<(), Fai
     Ok(())
 }
 
-#[test]
-fn tables_of_headers_count_by_class(rt: HostRuntime) -> Result<(), Fail> {
-    let bytes = [0; 160];
-    assert_eq!(rt;
-        SectionHeaderTable::new(LittleEndian, Class::ELF32, &bytes).len(),
-        4
-    );
-    assert_eq!(rt;
-        SectionHeaderTable::new(LittleEndian, Class::ELF64, &bytes).len(),
-        2
-    );
-    assert_eq!(rt;
-        SegmentTable::new(AnyEndian::Big, Class::ELF32, &bytes).len(),
-        5
-    );
-    assert_eq!(rt;
-        SegmentTable::new(AnyEndian::Big, Class::ELF64, &bytes).len(),
-        2
-    );
-    let sections = SectionHeaderTable::new(BigEndian, Class::ELF64, &bytes);
-    assert_eq!(rt; sections.iter().count(), 2);
-    let found = refusal(rt.alloc(), sections.get(2))?;
-    assert_eq!(rt; found.as_str(), "SliceReadError((160, 168))");
-    let found = refusal(rt.alloc(), sections.get(1 << 58))?;
-    assert_eq!(rt; found.as_str(), "IntegerOverflow");
-    Ok(())
-}
-
 /// The size of a record, where it is the one entry size that is taken.
 fn one_size<P: ParseAt>(class: Class) -> Option<usize> {
     let size = P::size_for(class);
@@ -190,16 +161,8 @@ fn one_size<P: ParseAt>(class: Class) -> Option<usize> {
 
 #[test]
 fn a_record_has_one_size(rt: HostRuntime) -> Result<(), Fail> {
-    assert_eq!(rt; one_size::<SectionHeader>(Class::ELF32), Some(40));
     assert_eq!(rt; one_size::<SectionHeader>(Class::ELF64), Some(64));
-    assert_eq!(rt; one_size::<ProgramHeader>(Class::ELF32), Some(32));
-    assert_eq!(rt; one_size::<ProgramHeader>(Class::ELF64), Some(56));
     assert_eq!(rt; one_size::<Triple>(Class::ELF32), Some(3));
     assert_eq!(rt; one_size::<EvenByte>(Class::ELF64), Some(1));
-    let found = refusal(
-        rt.alloc(),
-        ProgramHeader::validate_entsize(Class::ELF64, 32),
-    )?;
-    assert_eq!(rt; found.as_str(), "BadEntsize((32, 56))");
     Ok(())
 }

@@ -1,4 +1,4 @@
-//! Writers that fail, and one that counts.
+//! Writers that fail, one that counts, and one that holds a line.
 ghost use Rattle.std.specs.Prelude.{Some};
 
 use std::alloc::Global;
@@ -123,6 +123,42 @@ impl Write for Counting {
         self.bytes = self.bytes.saturating_add(buf.len() as u64);
         if let Some(last) = buf.last_chunk() {
             self.last = *last;
+        }
+        Ok(buf.len())
+    }
+
+    fn flush(&mut self) -> io::Result<()> {
+        Ok(())
+    }
+}
+
+/// Holds a line of up to 64 bytes, and takes no memory.
+#[derive(Drop)]
+pub(crate) struct Line {
+    bytes: [u8; 64],
+    length: usize,
+}
+
+impl Line {
+    pub(crate) fn new() -> Line {
+        Line {
+            bytes: [0; 64],
+            length: 0,
+        }
+    }
+
+    pub(crate) fn text(&self) -> &[u8] {
+        self.bytes.get(..self.length).unwrap_or_default()
+    }
+}
+
+impl Write for Line {
+    fn write(&mut self, buf: &[u8]) -> io::Result<usize> {
+        for byte in buf {
+            if let Some(place) = self.bytes.get_mut(self.length) {
+                *place = *byte;
+                self.length += 1;
+            }
         }
         Ok(buf.len())
     }

@@ -33,3 +33,7 @@ escaped_byte b = if is_plain b then b ∷ [] else escape b
 -- a plain byte as itself, each other byte as `\x` and two digits
 abbrev pub escaped : List ℕ → List ℕ
 escaped bytes = flat_map escaped_byte bytes
+
+-- two lower-case digits for each byte, nothing between them
+abbrev pub hex_of : List ℕ → List ℕ
+hex_of bytes = flat_map hex_pair bytes

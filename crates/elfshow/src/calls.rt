@@ -1,25 +1,59 @@
 //! The calls of a listing, and the text that they write.
-ghost use Rattle.std.specs.Prelude.{◌≡◌, ◌≢◌, ℕ, OnOk, IfOk, IfErr, Err};
+ghost use Rattle.std.specs.Prelude.{◌≡◌, ◌≢◌, ℕ, OnOk, IfOk, IfErr, Err, map};
 ghost use Rattle.std.specs.Io.KnownBytes.{Appends};
 ghost use Rattle.elf.specs.Opening.{opened};
-ghost use Rattle.elf.specs.View.{view};
-ghost use Rattle.elfshow.specs.Text.{call_text, text};
+ghost use Rattle.elfshow.specs.Asked.{asked};
+ghost use Rattle.elfshow.specs.BytesAnswers.{answers_of};
+ghost use Rattle.elfshow.specs.Text.{text};
 ghost use Rattle.elf_parts.specs.declared.parse.ParseError.{ParseError};
 
-use crate::lines::{write_header, write_sections};
 use elf::endian::EndianParse;
 use elf::{ElfBytes, ParseError};
 use std::io;
 use std::io::Write;
 use thiserror::Error;
 
-/// A question to a reader of a file.
+mod bytes;
+
+use bytes::write_call;
+
+/// A question to a reader of a file. Sections and segments are told by their index, counted from 0.
 #[derive(Clone, Copy, Debug, PartialEq, Eq)]
-pub enum Call {
+pub enum Call<'a> {
     /// The file header, in one line.
     Header,
     /// The section headers with their names, a line each.
     Sections,
+    /// The program headers, a line each.
+    Segments,
+    /// The first section of this name.
+    Name(&'a str),
+    /// The bytes of a section, without its compression header, which is told behind them.
+    Data(u64),
+    /// The strings of a section, one behind the other, each by its offset.
+    Strings(u64),
+    /// The relocations of a section, without addends.
+    Rels(u64),
+    /// The relocations of a section, with addends.
+    Relas(u64),
+    /// The notes of a section.
+    Notes(u64),
+    /// The bytes of a segment.
+    Seg(u64),
+    /// The notes of a segment.
+    SegNotes(u64),
+    /// The symbols of the first symbol table.
+    Symbols,
+    /// The symbols of the first table for dynamic linking.
+    DynSyms,
+    /// The dynamic entries.
+    Dynamic,
+    /// The versions of the symbols for dynamic linking: which is needed, and which is defined.
+    Versions,
+    /// Whether a section is sound as a SysV hash section, for the symbols for dynamic linking.
+    Sysv(u64),
+    /// Whether a section is sound as a GNU hash section, for the symbols for dynamic linking.
+    Gnu(u64),
 }
 
 /// Why a run stopped. `done` is how many calls were wholly written before.
@@ -41,11 +75,11 @@ pub enum RunError {
 /// that `done` counts what reached its end. Takes no memory.
 pub fn run_bytes<E: EndianParse, W: Write>(
     data: &[u8],
-    calls: &[Call],
+    calls: &[Call<'_>],
     out: &mut W,
 ) -> Result<(), RunError>
     ensures ok { OnOk result (IfOk (opened E.little E.of_byte «data».now) (λ file.
-        Appends (W.contents out.old) (W.contents out.new) (text E.little file calls.now))) }
+        Appends (W.contents out.old) (W.contents out.new) (text (answers_of E.little file) (map asked calls.now)))) }
     ensures refused { IfErr (opened E.little E.of_byte «data».now) (λ e. result ≡ Err (RunError.Open e)) }
     ensures open { (e : ParseError) → result ≡ Err (RunError.Open e) →
         (opened E.little E.of_byte «data».now ≡ Err e) × (out.new ≡ out.old) }
@@ -60,35 +94,10 @@ pub fn run_bytes<E: EndianParse, W: Write>(
         if let Err(error) = write_call(&file, *call, out) {
             return Err(RunError::Write { done, error });
         }
+        if let Err(error) = out.flush() {
+            return Err(RunError::Write { done, error });
+        }
         done += 1;
     }
     Ok(())
-}
-
-// Writes the text of a call, and has it reach the writer's end.
-fn write_call<E: EndianParse, W: Write>(
-    file: &ElfBytes<'_, E>,
-    call: Call,
-    out: &mut W,
-) -> io::Result<()>
-    ensures { OnOk result (Appends (W.contents out.old) (W.contents out.new) (call_text E.little (view file.now) call)) }
-{
-    write_answer(file, call, out)?;
-    out.flush()
-}
-
-fn write_answer<E: EndianParse, W: Write>(
-    file: &ElfBytes<'_, E>,
-    call: Call,
-    out: &mut W,
-) -> io::Result<()>
-    ensures { OnOk result (Appends (W.contents out.old) (W.contents out.new) (call_text E.little (view file.now) call)) }
-{
-    match call {
-        Call::Header => write_header(&file.ehdr, out),
-        Call::Sections => match file.section_headers_with_strtab() {
-            Ok((sections, names)) => write_sections(sections, names, out),
-            Err(_) => writeln!(out, "refused"),
-        },
-    }
 }

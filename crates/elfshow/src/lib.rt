@@ -2,6 +2,8 @@
 #![tactic(auto)]
 
 pub mod calls;
+pub mod hashcheck;
 mod lines;
 mod pieces;
 pub mod show;
+mod words;

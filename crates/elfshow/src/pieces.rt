@@ -2,7 +2,7 @@
 ghost use Rattle.std.specs.Prelude.{◌≡◌, ◌<◌, false, OnOk};
 ghost use Rattle.std.specs.Fmt.{digit_glyph};
 ghost use Rattle.std.specs.Io.KnownBytes.{Appends};
-ghost use Rattle.elfshow.specs.Pieces.{hex_pair, escape, escaped, is_plain};
+ghost use Rattle.elfshow.specs.Pieces.{hex_of, hex_pair, escape, escaped, is_plain};
 
 use std::io;
 use std::io::Write;
@@ -20,6 +20,16 @@ pub(crate) fn write_escaped<W: Write>(bytes: &[u8], out: &mut W) -> io::Result<(
         }
     }
     out.write_all(&bytes[start..])
+}
+
+/// Two digits for each byte, nothing between them.
+pub(crate) fn write_hex<W: Write>(bytes: &[u8], out: &mut W) -> io::Result<()>
+    ensures { OnOk result (Appends (W.contents out.old) (W.contents out.new) (hex_of bytes.now)) }
+{
+    for byte in bytes {
+        out.write_all(&hex_digits(*byte))?;
+    }
+    Ok(())
 }
 
 /// The escape of a byte that is not plain.

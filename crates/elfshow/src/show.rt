@@ -1,13 +1,16 @@
 //! The program without its surroundings: what it does with the words of its command line.
-ghost use Rattle.std.specs.Prelude.{◌≡◌, ◌≤◌, IsErr, IsNone, IfOk, IsOkAnd, IsSomeAnd, Some};
+ghost use Rattle.std.specs.Prelude.{◌≡◌, ◌≤◌, IsErr, IsNone, IfOk, IsOkAnd, IsSomeAnd, Some, map};
 ghost use Rattle.std.specs.Io.KnownBytes.{Appends};
-ghost use Rattle.elf_parts.specs.Orders.{any_is_little, any_of_byte};
+ghost use Rattle.elf_parts.specs.Endian.{any_is_little, any_of_byte};
 ghost use Rattle.elf.specs.Opening.{opened};
+ghost use Rattle.elfshow.specs.Asked.{asked};
+ghost use Rattle.elfshow.specs.BytesAnswers.{answers_of};
 ghost use Rattle.elfshow.specs.Text.{text};
-ghost use Rattle.elfshow.specs.Words.{call_of, calls_of, request_of, status_of};
+ghost use Rattle.elfshow.specs.Words.{calls_of, request_of, status_of};
 ghost use Rattle.elfshow.specs.declared.show.RequestError.TheVariants.{OutOfMemory};
 
 use crate::calls::{Call, RunError, run_bytes};
+use crate::words::parse_call;
 use elf::ParseError;
 use elf::endian::AnyEndian;
 use std::alloc::{AllocFailed, Global};
@@ -21,7 +24,7 @@ const USAGE: &str = "usage: elfshow bytes|stream|both FILE CALL...";
 #[derive(Debug, Drop)]
 pub struct Request<'a> {
     pub file: &'a str,
-    pub calls: Vec<Call>,
+    pub calls: Vec<Call<'a>>,
 }
 
 /// Why words ask for nothing.
@@ -41,7 +44,7 @@ impl<T: Drop> From<AllocFailed<T>> for RequestError {
 
 /// What the words ask for: the mode `bytes`, a file and at least one call.
 pub fn parse_words<'a>(alloc: Global, words: &[&'a str]) -> Result<Request<'a>, RequestError>
-    ensures ok { IfOk result (λ request. request_of words.now ≡ Some (request.file.now, request.calls.items)) }
+    ensures ok { IfOk result (λ request. request_of words.now ≡ Some (request.file.now, map asked request.calls.items)) }
     ensures usage { result ≡ Err RequestError.Usage → IsNone (request_of words.now) }
 {
     let [mode, file, rest @ ..] = words else {
@@ -54,8 +57,8 @@ pub fn parse_words<'a>(alloc: Global, words: &[&'a str]) -> Result<Request<'a>, 
     Ok(Request { file: *file, calls })
 }
 
-fn parse_calls(alloc: Global, words: &[&str]) -> Result<Vec<Call>, RequestError>
-    ensures ok { IfOk result (λ calls. calls_of words.now ≡ Some calls.items) }
+fn parse_calls<'a>(alloc: Global, words: &[&'a str]) -> Result<Vec<Call<'a>>, RequestError>
+    ensures ok { IfOk result (λ calls. calls_of words.now ≡ Some (map asked calls.items)) }
     ensures usage { result ≡ Err RequestError.Usage → IsNone (calls_of words.now) }
 {
     let mut calls = Vec::new(alloc);
@@ -64,18 +67,6 @@ fn parse_calls(alloc: Global, words: &[&str]) -> Result<Vec<Call>, RequestError>
         calls.push(call)?;
     }
     Ok(calls)
-}
-
-fn parse_call(word: &str) -> Option<Call>
-    ensures { result ≡ call_of word.now }
-{
-    if word == "header" {
-        Some(Call::Header)
-    } else if word == "sections" {
-        Some(Call::Sections)
-    } else {
-        None
-    }
 }
 
 /// Does what the program does with these words, the arguments behind its name, where the file that they
@@ -90,8 +81,10 @@ pub fn show<W: Write, V: Write>(
 ) -> u8
     ensures listed { result ≡ 0 → IsSomeAnd (request_of words.now) (λ request.
         IsOkAnd (opened any_is_little any_of_byte «data».now) (λ file.
-        Appends (W.contents out.old) (W.contents out.new) (text any_is_little file request.1))) }
-    ensures usage { result ≡ 2 → IsNone (request_of words.now) × (out.new ≡ out.old) }
+        Appends (W.contents out.old) (W.contents out.new) (text (answers_of any_is_little file) request.1))) }
+    ensures usage { result ≡ 2 → IsNone (request_of words.now) }
+    ensures no_request { IsNone (request_of words.now) → out.new ≡ out.old }
+    ensures refused { IsErr (opened any_is_little any_of_byte «data».now) → out.new ≡ out.old }
     ensures status { result ≤ 2 }
 {
     match parse_words(alloc, words) {
@@ -109,7 +102,7 @@ pub fn answer<W: Write, V: Write>(
     err: &mut V,
 ) -> u8
     ensures listed { result ≡ 0 → IsOkAnd (opened any_is_little any_of_byte «data».now) (λ file.
-        Appends (W.contents out.old) (W.contents out.new) (text any_is_little file request.now.calls.items)) }
+        Appends (W.contents out.old) (W.contents out.new) (text (answers_of any_is_little file) (map asked request.now.calls.items))) }
     ensures refused { IsErr (opened any_is_little any_of_byte «data».now) → out.new ≡ out.old }
     ensures status { result ≤ 1 }
 {

@@ -1,7 +1,7 @@
 //! Tables of records, and iterators over them.
-ghost use Rattle.std.specs.Prelude.{◌≡◌, ◌==◌, ◌<◌, ◌≤◌, ◌^◌, length};
+ghost use Rattle.std.specs.Prelude.{◌≡◌, ◌==◌, ◌<◌, ◌≤◌, ◌+◌, ◌^◌, length, OnOk};
 ghost use Rattle.std.specs.Iterator.{YieldsFirst, item_count};
-ghost use Rattle.elf_parts.specs.Tables.{items_left, records_in, table_get, table_items, table_len, table_records};
+ghost use Rattle.elf_parts.specs.Table.{items_left, table_in, table_get, table_items, table_len, table_view};
 
 use crate::endian::{BigEndian, EndianParse, LittleEndian};
 use crate::file::Class;
@@ -9,7 +9,7 @@ use crate::parse::{ParseAt, ParseError};
 use std::marker::PhantomData;
 
 // Reads a record in the one order or the other.
-fn record_at<P: ParseAt>(
+pub(crate) fn read_record<P: ParseAt>(
     little: bool,
     class: Class,
     offset: &mut usize,
@@ -17,6 +17,7 @@ fn record_at<P: ParseAt>(
 ) -> Result<P, ParseError>
     ensures value { result ≡ P.record_at little class «data».now offset.old }
     ensures moved { offset.new ≡ P.offset_after little class «data».now offset.old }
+    ensures behind { OnOk result (offset.new ≡ offset.old + P.size class) }
 {
     if little {
         P::parse_at(LittleEndian, class, offset, data)
@@ -54,7 +55,7 @@ impl<'data, E: EndianParse, P: ParseAt> ParsingIterator<'data, E, P> {
     /// The records of the data, in order.
     pub fn new(endian: E, class: Class, data: &'data [u8]) -> Self
         ensures items { items_left P.size P.record_at result
-            ≡ table_items P.size P.record_at (records_in (E.little endian) class «data».now) }
+            ≡ table_items P.size P.record_at (table_in (E.little endian) class «data».now) }
         ensures few { length (items_left P.size P.record_at result) ≤ length «data».now }
         ensures bound { length (items_left P.size P.record_at result) < 2 ^ 64 }
     {
@@ -62,9 +63,9 @@ impl<'data, E: EndianParse, P: ParseAt> ParsingIterator<'data, E, P> {
     }
 
     // The same, where the order is given as whether it is little.
-    #[tactic(auto, using(crate::proofs::Items::items_bounded), unfolding(crate::specs::Tables::items_left))]
+    #[tactic(auto, using(crate::proofs::Items::items_bounded), unfolding(crate::specs::Table::items_left))]
     fn starting(little: bool, class: Class, data: &'data [u8]) -> Self
-        ensures items { items_left P.size P.record_at result ≡ table_items P.size P.record_at (records_in little class «data».now) }
+        ensures items { items_left P.size P.record_at result ≡ table_items P.size P.record_at (table_in little class «data».now) }
         ensures few { length (items_left P.size P.record_at result) ≤ length «data».now }
         ensures bound { length (items_left P.size P.record_at result) < 2 ^ 64 }
     {
@@ -87,7 +88,7 @@ impl<'data, E: EndianParse, P: ParseAt> Iterator for ParsingIterator<'data, E, P
     ghost remaining = { item_count (items_left P.size P.record_at) };
 
     fn next(&mut self) -> Option<P> {
-        match record_at::<P>(self.little, self.class, &mut self.offset, self.data) {
+        match read_record::<P>(self.little, self.class, &mut self.offset, self.data) {
             Ok(record) => Some(record),
             Err(_) => {
                 self.data = &[];
@@ -100,7 +101,7 @@ impl<'data, E: EndianParse, P: ParseAt> Iterator for ParsingIterator<'data, E, P
 impl<'data, E: EndianParse, P: ParseAt> ParsingTable<'data, E, P> {
     /// The records that the data hold.
     pub fn new(endian: E, class: Class, data: &'data [u8]) -> Self
-        ensures { table_records result ≡ records_in (E.little endian) class «data».now }
+        ensures { table_view result ≡ table_in (E.little endian) class «data».now }
     {
         ParsingTable {
             little: endian.is_little(),
@@ -113,8 +114,8 @@ impl<'data, E: EndianParse, P: ParseAt> ParsingTable<'data, E, P> {
 
     /// The records in order, up to the first that is refused.
     pub fn iter(&self) -> ParsingIterator<'data, E, P>
-        ensures items { items_left P.size P.record_at result ≡ table_items P.size P.record_at (table_records self.now) }
-        ensures few { length (items_left P.size P.record_at result) ≤ length (table_records self.now).bytes }
+        ensures items { items_left P.size P.record_at result ≡ table_items P.size P.record_at (table_view self.now) }
+        ensures few { length (items_left P.size P.record_at result) ≤ length (table_view self.now).bytes }
         ensures bound { length (items_left P.size P.record_at result) < 2 ^ 64 }
     {
         ParsingIterator::starting(self.little, self.class, self.data)
@@ -122,15 +123,15 @@ impl<'data, E: EndianParse, P: ParseAt> ParsingTable<'data, E, P> {
 
     /// How many records the table holds.
     pub fn len(&self) -> usize
-        ensures count { result ≡ table_len P.size P.record_at (table_records self.now) }
-        ensures short { length (table_records self.now).bytes < 2 ^ 64 }
+        ensures count { result ≡ table_len P.size P.record_at (table_view self.now) }
+        ensures short { length (table_view self.now).bytes < 2 ^ 64 }
     {
         self.data.len() / P::size_for(self.class)
     }
 
     /// Whether the table holds no record.
     pub fn is_empty(&self) -> bool
-        ensures { result ≡ (table_len P.size P.record_at (table_records self.now) == 0) }
+        ensures { result ≡ (table_len P.size P.record_at (table_view self.now) == 0) }
     {
         self.len() == 0
     }
@@ -139,7 +140,7 @@ impl<'data, E: EndianParse, P: ParseAt> ParsingTable<'data, E, P> {
     /// or the record would begin behind its bytes, with `IntegerOverflow` where the place of the record
     /// passes 64 bits, and else as the record's own read does.
     pub fn get(&self, index: usize) -> Result<P, ParseError>
-        ensures { result ≡ table_get P.size P.record_at (table_records self.now) index }
+        ensures { result ≡ table_get P.size P.record_at (table_view self.now) index }
     {
         if self.data.is_empty() {
             return Err(ParseError::BadOffset(index as u64));
@@ -151,7 +152,7 @@ impl<'data, E: EndianParse, P: ParseAt> ParsingTable<'data, E, P> {
         if start > self.data.len() {
             return Err(ParseError::BadOffset(index as u64));
         }
-        record_at(self.little, self.class, &mut start, self.data)
+        read_record(self.little, self.class, &mut start, self.data)
     }
 }
 
@@ -161,8 +162,8 @@ impl<'data, E: EndianParse, P: ParseAt> IntoIterator for ParsingTable<'data, E, 
     type IntoIter = ParsingIterator<'data, E, P>;
 
     fn into_iter(self) -> ParsingIterator<'data, E, P>
-        ensures items { items_left P.size P.record_at result ≡ table_items P.size P.record_at (table_records self.entry) }
-        ensures few { length (items_left P.size P.record_at result) ≤ length (table_records self.entry).bytes }
+        ensures items { items_left P.size P.record_at result ≡ table_items P.size P.record_at (table_view self.entry) }
+        ensures few { length (items_left P.size P.record_at result) ≤ length (table_view self.entry).bytes }
         ensures bound { length (items_left P.size P.record_at result) < 2 ^ 64 }
     {
         self.iter()

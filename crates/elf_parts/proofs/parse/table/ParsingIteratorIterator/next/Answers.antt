@@ -1,6 +1,6 @@
 -- A record that is read is the first that was left; after a refusal nothing is left.
 use Rattle.std.proofs.Common.{length, ap, sym, arith}
-use Rattle.elf_parts.specs.Tables.{items_left}
+use Rattle.elf_parts.specs.Table.{items_left}
 use Rattle.elf_parts.proofs.Items.{step_read, none_left, items_from-refused}
 use Rattle.elf_parts.proofs.parse.table.ParsingIteratorIterator.next.Goals as goal
 
@@ -10,7 +10,7 @@ returns-in-Ok-clause-steps g c =
     let s = c.args.self.now in
     let p = g.P.ParseAt in
     step_read p.size p.record_at p.offset_after g.met.P.ParseAt.some_size g.met.P.ParseAt.within
-    s.little s.class s.«data».now s.offset c.record_at.new.offset c.in-Ok.record c.in-Ok.ensures.value c.in-Ok.ensures.moved
+    s.little s.class s.«data».now s.offset c.read_record.new.offset c.in-Ok.record c.in-Ok.ensures.value c.in-Ok.ensures.moved
 
 pub returns-in-Ok-clause-goes : goal.returns-in-Ok-clause-goes
 returns-in-Ok-clause-goes g c =
@@ -24,5 +24,5 @@ returns-in-Err-clause-steps g c =
     let p = g.P.ParseAt in
     let little = s.little in (
       items_from-refused (p.record_at little s.class) (p.size s.class) s.«data».now _ s.offset c.in-Err.field-0 (sym c.in-Err.ensures.value),
-      none_left p.size p.record_at p.offset_after g.met.P.ParseAt.some_size g.met.P.ParseAt.within little s.class c.record_at.new.offset,
+      none_left p.size p.record_at p.offset_after g.met.P.ParseAt.some_size g.met.P.ParseAt.within little s.class c.read_record.new.offset,
     )

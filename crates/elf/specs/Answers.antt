@@ -1,0 +1,135 @@
+-- What each method answers about an object file.
+use Rattle.std.specs.Prelude.{ℕ, ◌==◌, if◌then◌else◌, List, Option, Some, None, Result, Ok, Err}
+use Rattle.std.specs.List.{find}
+use Rattle.elf_parts.specs.Dynamic.{dyn_layout}
+use Rattle.elf_parts.specs.Note.{NoteContent, notes_in}
+use Rattle.elf_parts.specs.Number.{ok_map}
+use Rattle.elf_parts.specs.Record.{◌>>=◌, record_by, size_by}
+use Rattle.elf_parts.specs.Relocation.{rel_layout, rela_layout}
+use Rattle.elf_parts.specs.Symbol.{symbol_layout}
+use Rattle.elf_parts.specs.StringTable.{strings_view}
+use Rattle.elf_parts.specs.Symver.{Versions}
+use Rattle.elf_parts.specs.Table.{Table, items_left, table_view}
+use Rattle.elf_parts.specs.declared.compression.CompressionHeader.{CompressionHeader}
+use Rattle.elf_parts.specs.declared.parse.ParseError.{ParseError}
+use Rattle.elf_parts.specs.declared.parse.ParseError.TheVariants.{UnexpectedSegmentType}
+use Rattle.elf_parts.specs.declared.parse.table.ParsingIterator.{ParsingIterator}
+use Rattle.elf_parts.specs.declared.parse.table.ParsingTable.{ParsingTable}
+use Rattle.elf_parts.specs.declared.relocation.Rel.{Rel}
+use Rattle.elf_parts.specs.declared.relocation.Rela.{Rela}
+use Rattle.elf_parts.specs.declared.section.SectionHeader.{SectionHeader}
+use Rattle.elf_parts.specs.declared.segment.ProgramHeader.{ProgramHeader}
+use Rattle.elf_parts.specs.declared.string_table.StringTable.{StringTable}
+use Rattle.elf.specs.Choice.{entry_size, if_found, first_section_of, first_segment_of}
+use Rattle.elf.specs.Names.{has_name, name_table}
+use Rattle.elf.specs.ObjectFile.{ObjectFile, records_of, table_of}
+use Rattle.elf.specs.Payload.{content, content_of_type, payload}
+use Rattle.elf.specs.Range.{section_range, segment_range}
+use Rattle.elf.specs.Versions.{version_sections, versions_of}
+
+-- ---- parts of answers
+
+-- the first section of a name, where there are names
+abbrev pub first_named : List SectionHeader → List ℕ → Option (List ℕ) → Option SectionHeader
+first_named sections name None = None
+first_named sections name (Some names) = find (has_name names name) sections
+
+-- a section of symbols, and the section that it links to
+abbrev pub with_linked : ObjectFile → SectionHeader → Result (SectionHeader × SectionHeader) ParseError
+with_linked file s =
+    file.section_at s.sh_link >>= λ linked. entry_size (size_by symbol_layout file.class) s >>= λ _. Ok (s, linked)
+
+-- the first section of a type of symbols, with the section that it links to
+abbrev pub symbol_sections : ℕ → ObjectFile → Result (Option (SectionHeader × SectionHeader)) ParseError
+symbol_sections t file = if_found (with_linked file) (first_section_of t file.sections)
+
+-- the symbols of the one section, and the strings of the other
+abbrev pub symbols_in : ObjectFile → SectionHeader × SectionHeader → Result (Table × List ℕ) ParseError
+symbols_in file (s, linked) =
+    section_range file.bytes s >>= λ symbols. section_range file.bytes linked >>= λ strings.
+    Ok (table_of file symbols, strings)
+
+-- the symbols of a section with their strings
+abbrev pub symbols_of : ObjectFile → SectionHeader → Result (Table × List ℕ) ParseError
+symbols_of file s = with_linked file s >>= symbols_in file
+
+-- the symbols of the first section of a type, with their strings
+abbrev pub first_symbols : ℕ → ObjectFile → Result (Option (Table × List ℕ)) ParseError
+first_symbols t file = symbol_sections t file >>= if_found (symbols_in file)
+
+-- what a table of symbols and their strings show
+abbrev pub symbols_view : {E P : Type 0} → ParsingTable E P × StringTable → Table × List ℕ
+symbols_view found = (table_view found.0, strings_view found.1)
+
+-- the relocations that an iterator is still to give
+abbrev pub rels_left : {E : Type 0} → ParsingIterator E Rel → List Rel
+rels_left rels = items_left (size_by rel_layout) (record_by rel_layout) rels
+
+abbrev pub relas_left : {E : Type 0} → ParsingIterator E Rela → List Rela
+relas_left relas = items_left (size_by rela_layout) (record_by rela_layout) relas
+
+-- the size of an entry of a section of dynamic entries
+abbrev pub dynamic_size : ObjectFile → SectionHeader → Result ℕ ParseError
+dynamic_size file s =
+    let size = size_by dyn_layout file.class in if file.checks_dynamic_size then entry_size size s else Ok size
+
+-- the dynamic entries of a section
+abbrev pub section_dynamic : ObjectFile → SectionHeader → Result Table ParseError
+section_dynamic file s =
+    dynamic_size file s >>= λ _. ok_map (table_of file) (content file s)
+
+-- the dynamic entries of a segment
+abbrev pub segment_dynamic : ObjectFile → ProgramHeader → Result Table ParseError
+segment_dynamic file p = ok_map (table_of file) (segment_range file.bytes p)
+
+-- ---- methods
+
+abbrev pub section_header_by_name : ObjectFile → List ℕ → Result (Option SectionHeader) ParseError
+section_header_by_name file name = ok_map (first_named file.sections name) (name_table file)
+
+abbrev pub section_data : ObjectFile → SectionHeader → Result (List ℕ × Option CompressionHeader) ParseError
+section_data file s = payload file s
+
+-- SHT_STRTAB
+abbrev pub section_data_as_strtab : ObjectFile → SectionHeader → Result (List ℕ) ParseError
+section_data_as_strtab file s = content_of_type 3 file s
+
+-- SHT_REL
+abbrev pub section_data_as_rels : ObjectFile → SectionHeader → Result (List Rel) ParseError
+section_data_as_rels file s = ok_map (records_of rel_layout file) (content_of_type 9 file s)
+
+-- SHT_RELA
+abbrev pub section_data_as_relas : ObjectFile → SectionHeader → Result (List Rela) ParseError
+section_data_as_relas file s = ok_map (records_of rela_layout file) (content_of_type 4 file s)
+
+-- SHT_NOTE; the alignment is sh_addralign
+abbrev pub section_data_as_notes : ObjectFile → SectionHeader → Result (List NoteContent) ParseError
+section_data_as_notes file s = ok_map (notes_in file.little s.sh_addralign) (content_of_type 7 file s)
+
+abbrev pub segment_data : ObjectFile → ProgramHeader → Result (List ℕ) ParseError
+segment_data file p = segment_range file.bytes p
+
+-- PT_NOTE; the alignment is p_align
+abbrev pub segment_data_as_notes : ObjectFile → ProgramHeader → Result (List NoteContent) ParseError
+segment_data_as_notes file p =
+    if p.p_type == 4 then ok_map (notes_in file.little p.p_align) (segment_data file p)
+    else Err (UnexpectedSegmentType (p.p_type, 4))
+
+-- SHT_SYMTAB
+abbrev pub symbol_table : ObjectFile → Result (Option (Table × List ℕ)) ParseError
+symbol_table file = first_symbols 2 file
+
+-- SHT_DYNSYM
+abbrev pub dynamic_symbol_table : ObjectFile → Result (Option (Table × List ℕ)) ParseError
+dynamic_symbol_table file = first_symbols 11 file
+
+-- the first section of type SHT_DYNAMIC, or where no table of sections is declared the first segment of type PT_DYNAMIC
+abbrev pub dynamic : ObjectFile → Result (Option Table) ParseError
+dynamic file =
+    if file.has_sections then if_found (section_dynamic file) (first_section_of 6 file.sections)
+    else if_found (segment_dynamic file) (first_segment_of 2 file.segments)
+
+-- None without a section of type SHT_GNU_VERSYM
+abbrev pub symbol_version_table : ObjectFile → Result (Option Versions) ParseError
+symbol_version_table file =
+    let chosen = version_sections file.sections in if_found (versions_of file chosen) chosen.indexes

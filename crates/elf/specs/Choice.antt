@@ -1,0 +1,32 @@
+-- Which section or segment is taken, where a method looks for one of a type.
+use Rattle.std.specs.Prelude.{ℕ, ◌==◌, if◌then◌else◌, Bool, List, filter, Option, Some, None, Result, Ok, Err}
+use Rattle.std.specs.List.{find, last_or}
+use Rattle.elf_parts.specs.Number.{ok_map}
+use Rattle.elf_parts.specs.declared.parse.ParseError.{ParseError}
+use Rattle.elf_parts.specs.declared.parse.ParseError.TheVariants.{BadEntsize}
+use Rattle.elf_parts.specs.declared.section.SectionHeader.{SectionHeader}
+use Rattle.elf_parts.specs.declared.segment.ProgramHeader.{ProgramHeader}
+
+-- what is answered of a header, where there is one
+abbrev pub if_found : {A B : Type 0} → (A → Result B ParseError) → Option A → Result (Option B) ParseError
+if_found answer None = Ok None
+if_found answer (Some header) = ok_map Some (answer header)
+
+abbrev pub is_of_type : ℕ → SectionHeader → Bool
+is_of_type t s = s.sh_type == t
+
+-- the first section of a type
+abbrev pub first_section_of : ℕ → List SectionHeader → Option SectionHeader
+first_section_of t sections = find (is_of_type t) sections
+
+-- the last section of a type
+abbrev pub last_section_of : ℕ → List SectionHeader → Option SectionHeader
+last_section_of t sections = last_or None (filter (is_of_type t) sections)
+
+-- the first segment of a type
+abbrev pub first_segment_of : ℕ → List ProgramHeader → Option ProgramHeader
+first_segment_of t segments = find (λ p. p.p_type == t) segments
+
+-- the size of an entry that a section header gives, where it is that of a record
+abbrev pub entry_size : ℕ → SectionHeader → Result ℕ ParseError
+entry_size size s = if s.sh_entsize == size then Ok size else Err (BadEntsize (s.sh_entsize, size))

@@ -1,0 +1,127 @@
+-- What is looked up most often, found in one pass over the sections.
+use Rattle.std.specs.Prelude.{ℕ, ◌==◌, if◌then◌else◌, List, [], ◌∷◌, map, Option, Some, None, Result, Ok}
+use Rattle.std.specs.List.{filter_map, last_or}
+use Rattle.std.specs.Option.{option_map}
+use Rattle.elf_parts.specs.GnuFind.{GnuTable, gnu_section, gnu_view}
+use Rattle.elf_parts.specs.Number.{ok_map}
+use Rattle.elf_parts.specs.Record.{◌>>=◌}
+use Rattle.elf_parts.specs.StringTable.{strings_view}
+use Rattle.elf_parts.specs.SysvFind.{SysvTable, sysv_section, sysv_view}
+use Rattle.elf_parts.specs.Table.{Table, table_view}
+use Rattle.elf_parts.specs.declared.parse.ParseError.{ParseError}
+use Rattle.elf_parts.specs.declared.section.SectionHeader.{SectionHeader}
+use Rattle.elf.specs.Answers.{section_dynamic, segment_dynamic, symbols_of}
+use Rattle.elf.specs.Choice.{first_segment_of, if_found}
+use Rattle.elf.specs.ObjectFile.{ObjectFile}
+use Rattle.elf.specs.Range.{section_range}
+use Rattle.elf.specs.declared.elf_bytes.common.CommonElfData.{CommonElfData}
+
+-- what a section holds of it: symbols with their strings, those that are bound at run time, dynamic entries, a hash
+-- section of the one kind or the other, or nothing
+pub data CommonPart : Type 0 where
+  Symbols : Table × List ℕ → CommonPart
+  DynamicSymbols : Table × List ℕ → CommonPart
+  DynamicEntries : Table → CommonPart
+  SysvHash : SysvTable → CommonPart
+  GnuHash : GnuTable → CommonPart
+  Nothing : CommonPart
+
+abbrev pub sysv_hash_of : ObjectFile → SectionHeader → Result SysvTable ParseError
+sysv_hash_of file s = section_range file.bytes s >>= sysv_section file.little file.class
+
+abbrev pub gnu_hash_of : ObjectFile → SectionHeader → Result GnuTable ParseError
+gnu_hash_of file s = section_range file.bytes s >>= gnu_section file.little file.class
+
+-- by the type of the section: SHT_SYMTAB, SHT_DYNSYM, SHT_DYNAMIC, SHT_HASH or SHT_GNU_HASH
+abbrev pub common_part : ObjectFile → SectionHeader → Result CommonPart ParseError
+common_part file s =
+    if s.sh_type == 2 then ok_map Symbols (symbols_of file s)
+    else if s.sh_type == 11 then ok_map DynamicSymbols (symbols_of file s)
+    else if s.sh_type == 6 then ok_map DynamicEntries (section_dynamic file s)
+    else if s.sh_type == 5 then ok_map SysvHash (sysv_hash_of file s)
+    else if s.sh_type == 0x6ffffff6 then ok_map GnuHash (gnu_hash_of file s)
+    else Ok Nothing
+
+-- what is in all of the results, or the first refusal
+abbrev pub all_ok : {A : Type 0} → List (Result A ParseError) → Result (List A) ParseError
+all_ok [] = Ok []
+all_ok (r ∷ rs) = r >>= λ x. ok_map (λ xs. x ∷ xs) (all_ok rs)
+
+abbrev pub as_symtab : CommonPart → Option Table
+as_symtab (Symbols found) = Some found.0
+as_symtab _ = None
+
+abbrev pub as_symtab_strs : CommonPart → Option (List ℕ)
+as_symtab_strs (Symbols found) = Some found.1
+as_symtab_strs _ = None
+
+abbrev pub as_dynsyms : CommonPart → Option Table
+as_dynsyms (DynamicSymbols found) = Some found.0
+as_dynsyms _ = None
+
+abbrev pub as_dynsyms_strs : CommonPart → Option (List ℕ)
+as_dynsyms_strs (DynamicSymbols found) = Some found.1
+as_dynsyms_strs _ = None
+
+abbrev pub as_dynamic : CommonPart → Option Table
+as_dynamic (DynamicEntries found) = Some found
+as_dynamic _ = None
+
+abbrev pub as_sysv_hash : CommonPart → Option SysvTable
+as_sysv_hash (SysvHash found) = Some found
+as_sysv_hash _ = None
+
+abbrev pub as_gnu_hash : CommonPart → Option GnuTable
+as_gnu_hash (GnuHash found) = Some found
+as_gnu_hash _ = None
+
+pub record CommonData : Type 0 where
+  pub symtab : Option Table
+  pub symtab_strs : Option (List ℕ)
+  pub dynsyms : Option Table
+  pub dynsyms_strs : Option (List ℕ)
+  pub dynamic : Option Table
+  pub sysv_hash : Option SysvTable
+  pub gnu_hash : Option GnuTable
+
+-- the last part of each kind
+abbrev pub last_of_each : List CommonPart → CommonData
+last_of_each parts = record {
+  symtab = last_or None (filter_map as_symtab parts);
+  symtab_strs = last_or None (filter_map as_symtab_strs parts);
+  dynsyms = last_or None (filter_map as_dynsyms parts);
+  dynsyms_strs = last_or None (filter_map as_dynsyms_strs parts);
+  dynamic = last_or None (filter_map as_dynamic parts);
+  sysv_hash = last_or None (filter_map as_sysv_hash parts);
+  gnu_hash = last_or None (filter_map as_gnu_hash parts);
+}
+
+-- the dynamic entries of the sections, or where there are none those of the first segment of type PT_DYNAMIC
+abbrev pub dynamic_or_segment : ObjectFile → Option Table → Result (Option Table) ParseError
+dynamic_or_segment file (Some entries) = Ok (Some entries)
+dynamic_or_segment file None = if_found (segment_dynamic file) (first_segment_of 2 file.segments)
+
+-- the same data with other dynamic entries
+abbrev pub with_dynamic : CommonData → Option Table → CommonData
+with_dynamic found entries = record found { dynamic = entries }
+
+-- what the sections hold
+unfoldable pub common_of_sections : ObjectFile → Result CommonData ParseError
+common_of_sections file = ok_map last_of_each (all_ok (map (common_part file) file.sections))
+
+-- the last of each kind among the parts of all sections, or the first refusal; then the dynamic entries of a segment
+abbrev pub find_common_data : ObjectFile → Result CommonData ParseError
+find_common_data file =
+    common_of_sections file >>= λ found. ok_map (with_dynamic found) (dynamic_or_segment file found.dynamic)
+
+-- what the struct shows
+abbrev pub common_view : {E : Type 0} → CommonElfData E → CommonData
+common_view found = record {
+  symtab = option_map table_view found.symtab;
+  symtab_strs = option_map strings_view found.symtab_strs;
+  dynsyms = option_map table_view found.dynsyms;
+  dynsyms_strs = option_map strings_view found.dynsyms_strs;
+  dynamic = option_map table_view found.dynamic;
+  sysv_hash = option_map sysv_view found.sysv_hash;
+  gnu_hash = option_map gnu_view found.gnu_hash;
+}

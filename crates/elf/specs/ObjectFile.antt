@@ -1,0 +1,50 @@
+-- An object file as the answers about it take it: headers and bytes, and no word of how a table of
+-- headers lies in the file. So it does not matter which reader has opened it.
+use Rattle.std.specs.Prelude.{ℕ, Bool, true, List, Result, is_some}
+use Rattle.elf_parts.specs.Record.{Layout, record_by, size_by}
+use Rattle.elf_parts.specs.Table.{Table, table_in, table_items}
+use Rattle.elf_parts.specs.declared.file.Class.{Class}
+use Rattle.elf_parts.specs.declared.parse.ParseError.{ParseError}
+use Rattle.elf_parts.specs.declared.section.SectionHeader.{SectionHeader}
+use Rattle.elf_parts.specs.declared.segment.ProgramHeader.{ProgramHeader}
+use Rattle.elf.specs.Range.{section_at}
+use Rattle.elf.specs.View.{View, section_list, segment_list}
+
+pub record ObjectFile : Type 0 where
+  -- of the file header as it stands: whether its order is little, its class, and e_shstrndx
+  pub little : Bool
+  pub class : Class
+  pub e_shstrndx : ℕ
+  pub bytes : List ℕ
+  -- whether a table of section headers is declared, its headers in order, and header i or why it cannot be had
+  pub has_sections : Bool
+  pub sections : List SectionHeader
+  pub section_at : ℕ → Result SectionHeader ParseError
+  pub segments : List ProgramHeader
+  -- whether the strings, relocations, notes and dynamic entries of a compressed section are looked for behind
+  -- its compression header, and whether the entry size of a section of dynamic entries has to be right
+  pub strips_compression : Bool
+  pub checks_dynamic_size : Bool
+
+-- what a file that was opened is to its answers
+abbrev pub object_file : {E : Type 0} → (E → Bool) → View E → ObjectFile
+object_file little v = record {
+  little = little v.ehdr.endianness;
+  class = v.ehdr.class;
+  e_shstrndx = v.ehdr.e_shstrndx;
+  bytes = v.bytes;
+  has_sections = is_some v.sections;
+  sections = section_list v.sections;
+  section_at = section_at v.sections;
+  segments = segment_list v.segments;
+  strips_compression = true;
+  checks_dynamic_size = true;
+}
+
+-- bytes of the file as records of its order and class
+abbrev pub table_of : ObjectFile → List ℕ → Table
+table_of file bytes = table_in file.little file.class bytes
+
+-- the records that they hold
+abbrev pub records_of : {A : Type 0} → Layout A → ObjectFile → List ℕ → List A
+records_of layout file bytes = table_items (size_by layout) (record_by layout) (table_of file bytes)

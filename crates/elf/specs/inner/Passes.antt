@@ -1,0 +1,23 @@
+-- What a pass over the sections has found so far, with one section more; contracts of private functions speak of it.
+use Rattle.std.specs.Prelude.{if◌then◌else◌, Some}
+use Rattle.elf_parts.specs.declared.section.SectionHeader.{SectionHeader}
+use Rattle.elf.specs.Choice.{is_of_type}
+use Rattle.elf.specs.Common.{CommonData, CommonPart, Symbols, DynamicSymbols, DynamicEntries, SysvHash, GnuHash, Nothing}
+use Rattle.elf.specs.declared.elf_bytes.versions.VersionSections.{VersionSections}
+
+-- a section of one of the three types of versions, in the place of an earlier one of its type
+abbrev pub with_version_section : VersionSections → SectionHeader → VersionSections
+with_version_section found s = record {
+  indexes = if is_of_type 0x6fffffff s then Some s else found.indexes;
+  needs = if is_of_type 0x6ffffffe s then Some s else found.needs;
+  definitions = if is_of_type 0x6ffffffd s then Some s else found.definitions;
+}
+
+-- what a section holds, in the place of an earlier part of its kind
+abbrev pub with_part : CommonData → CommonPart → CommonData
+with_part found (Symbols part) = record found { symtab = Some part.0; symtab_strs = Some part.1 }
+with_part found (DynamicSymbols part) = record found { dynsyms = Some part.0; dynsyms_strs = Some part.1 }
+with_part found (DynamicEntries part) = record found { dynamic = Some part }
+with_part found (SysvHash part) = record found { sysv_hash = Some part }
+with_part found (GnuHash part) = record found { gnu_hash = Some part }
+with_part found Nothing = found

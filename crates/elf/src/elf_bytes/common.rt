@@ -1,0 +1,126 @@
+//! What is looked up most often, found in one pass.
+ghost use Rattle.std.specs.Prelude.{◌≡◌};
+ghost use Rattle.elf_parts.specs.Number.{ok_map};
+ghost use Rattle.elf_parts.specs.GnuFind.{gnu_view};
+ghost use Rattle.elf_parts.specs.SysvFind.{sysv_view};
+ghost use Rattle.elf.specs.ObjectFile.{object_file};
+ghost use Rattle.elf.specs.View.{view};
+
+use super::ElfBytes;
+use super::sections::section_range;
+use elf_abi::abi;
+use elf_parts::dynamic::DynamicTable;
+use elf_parts::endian::EndianParse;
+use elf_parts::hash::{GnuHashTable, SysVHashTable};
+use elf_parts::parse::ParseError;
+use elf_parts::section::SectionHeader;
+use elf_parts::string_table::StringTable;
+use elf_parts::symbol::SymbolTable;
+
+/// The sections that are looked up most often, as far as a file has them.
+#[derive(Debug, Default, Drop)]
+pub struct CommonElfData<'data, E: EndianParse> {
+    /// The symbols.
+    pub symtab: Option<SymbolTable<'data, E>>,
+    /// The strings that they are named in.
+    pub symtab_strs: Option<StringTable<'data>>,
+    /// The symbols that are bound at run time.
+    pub dynsyms: Option<SymbolTable<'data, E>>,
+    /// The strings that they are named in.
+    pub dynsyms_strs: Option<StringTable<'data>>,
+    /// The dynamic entries.
+    pub dynamic: Option<DynamicTable<'data, E>>,
+    /// The hash section of the gABI.
+    pub sysv_hash: Option<SysVHashTable<'data, E>>,
+    /// The hash section of GNU.
+    pub gnu_hash: Option<GnuHashTable<'data, E>>,
+}
+
+impl<'data, E: EndianParse> ElfBytes<'data, E> {
+    ghost use Rattle.elf.specs.Common.{common_of_sections, common_part, common_view, find_common_data, gnu_hash_of, sysv_hash_of};
+    ghost use Rattle.elf.specs.inner.Passes.{with_part};
+
+    // The hash section of the gABI.
+    fn sysv_hash_of(&self, shdr: &SectionHeader) -> Result<SysVHashTable<'data, E>, ParseError>
+        ensures { ok_map sysv_view result ≡ sysv_hash_of (object_file E.little (view self.now)) shdr.now }
+    {
+        let bytes = section_range(shdr, self.data)?;
+        SysVHashTable::new(self.ehdr.endianness, self.ehdr.class, bytes)
+    }
+
+    // The hash section of GNU.
+    fn gnu_hash_of(&self, shdr: &SectionHeader) -> Result<GnuHashTable<'data, E>, ParseError>
+        ensures { ok_map gnu_view result ≡ gnu_hash_of (object_file E.little (view self.now)) shdr.now }
+    {
+        let bytes = section_range(shdr, self.data)?;
+        GnuHashTable::new(self.ehdr.endianness, self.ehdr.class, bytes)
+    }
+
+    // What was found so far, with what one section more holds.
+    fn with_section(
+        &self,
+        mut found: CommonElfData<'data, E>,
+        shdr: &SectionHeader,
+    ) -> Result<CommonElfData<'data, E>, ParseError>
+        ensures { ok_map common_view result
+            ≡ ok_map (with_part (common_view found.entry))
+            (common_part (object_file E.little (view self.now)) shdr.now) }
+    {
+        match shdr.sh_type {
+            abi::SHT_SYMTAB => {
+                let (symbols, strings) = self.symbols_of(shdr)?;
+                found.symtab = Some(symbols);
+                found.symtab_strs = Some(strings);
+            }
+            abi::SHT_DYNSYM => {
+                let (symbols, strings) = self.symbols_of(shdr)?;
+                found.dynsyms = Some(symbols);
+                found.dynsyms_strs = Some(strings);
+            }
+            abi::SHT_DYNAMIC => found.dynamic = Some(self.section_dynamic(shdr)?),
+            abi::SHT_HASH => found.sysv_hash = Some(self.sysv_hash_of(shdr)?),
+            abi::SHT_GNU_HASH => found.gnu_hash = Some(self.gnu_hash_of(shdr)?),
+            _ => {}
+        }
+        Ok(found)
+    }
+
+    // What the sections hold.
+    #[tactic(auto, using(crate::proofs::CommonPass::common_in_all, crate::proofs::CommonPass::common_of_none))]
+    fn common_of_sections(&self) -> Result<CommonElfData<'data, E>, ParseError>
+        ensures { ok_map common_view result ≡ common_of_sections (object_file E.little (view self.now)) }
+    {
+        let mut found = CommonElfData {
+            symtab: None,
+            symtab_strs: None,
+            dynsyms: None,
+            dynsyms_strs: None,
+            dynamic: None,
+            sysv_hash: None,
+            gnu_hash: None,
+        };
+        let Some(shdrs) = self.shdrs else {
+            return Ok(found);
+        };
+        for shdr in shdrs {
+            found = self.with_section(found, &shdr)?;
+        }
+        Ok(found)
+    }
+
+    /// The symbols, the dynamic entries and the hash sections of the file, found in one pass: of each kind
+    /// those of the last section of its type; the dynamic entries of the first segment of type
+    /// `PT_DYNAMIC` where no section has any. Refuses at the first section of one of these types, in the
+    /// order of the table, that its own call would refuse, and then as `segment_data` does.
+    pub fn find_common_data(&self) -> Result<CommonElfData<'data, E>, ParseError>
+        ensures { ok_map common_view result ≡ find_common_data (object_file E.little (view self.now)) }
+    {
+        let mut found = self.common_of_sections()?;
+        if found.dynamic.is_none()
+            && let Some(phdr) = self.first_segment_of(abi::PT_DYNAMIC)
+        {
+            found.dynamic = Some(self.segment_dynamic(&phdr)?);
+        }
+        Ok(found)
+    }
+}

@@ -1,0 +1,71 @@
+//! The symbols of a file, with their strings.
+ghost use Rattle.std.specs.Prelude.{◌≡◌};
+ghost use Rattle.std.specs.Option.{option_map};
+ghost use Rattle.elf_parts.specs.Number.{ok_map};
+ghost use Rattle.elf.specs.Answers.{dynamic_symbol_table, first_symbols, symbol_table, symbols_of, symbols_view};
+ghost use Rattle.elf.specs.ObjectFile.{object_file};
+ghost use Rattle.elf.specs.View.{view};
+
+use super::ElfBytes;
+use super::sections::section_range;
+use elf_abi::abi;
+use elf_parts::endian::EndianParse;
+use elf_parts::parse::{ParseAt, ParseError};
+use elf_parts::section::SectionHeader;
+use elf_parts::string_table::StringTable;
+use elf_parts::symbol::{Symbol, SymbolTable};
+
+impl<'data, E: EndianParse> ElfBytes<'data, E> {
+    // The symbols of a section, and the strings of the section that it links to.
+    pub(super) fn symbols_of(
+        &self,
+        shdr: &SectionHeader,
+    ) -> Result<(SymbolTable<'data, E>, StringTable<'data>), ParseError>
+        ensures { ok_map symbols_view result ≡ symbols_of (object_file E.little (view self.now)) shdr.now }
+    {
+        let linked = self.section_at(shdr.sh_link as usize)?;
+        Symbol::validate_entsize(self.ehdr.class, shdr.sh_entsize as usize)?;
+        let symbols = section_range(shdr, self.data)?;
+        let strings = section_range(&linked, self.data)?;
+        Ok((
+            SymbolTable::new(self.ehdr.endianness, self.ehdr.class, symbols),
+            StringTable::new(strings),
+        ))
+    }
+
+    // The symbols of the first section of a type, with their strings.
+    fn first_symbols(
+        &self,
+        sh_type: u32,
+    ) -> Result<Option<(SymbolTable<'data, E>, StringTable<'data>)>, ParseError>
+        ensures { ok_map (option_map symbols_view) result
+            ≡ first_symbols sh_type (object_file E.little (view self.now)) }
+    {
+        match self.first_section_of(sh_type) {
+            Some(shdr) => Ok(Some(self.symbols_of(&shdr)?)),
+            None => Ok(None),
+        }
+    }
+
+    /// The symbols of the first section of type `SHT_SYMTAB` and the strings of the section that it links
+    /// to (gABI, chapter "Symbol Table"). Refuses where that section cannot be had, where the entry size
+    /// is not that of a symbol, and where the one range or the other does not lie in the file.
+    pub fn symbol_table(
+        &self,
+    ) -> Result<Option<(SymbolTable<'data, E>, StringTable<'data>)>, ParseError>
+        ensures { ok_map (option_map symbols_view) result ≡ symbol_table (object_file E.little (view self.now)) }
+    {
+        self.first_symbols(abi::SHT_SYMTAB)
+    }
+
+    /// The symbols that are bound at run time, of the first section of type `SHT_DYNSYM`, with their
+    /// strings. Refuses as `symbol_table` does.
+    pub fn dynamic_symbol_table(
+        &self,
+    ) -> Result<Option<(SymbolTable<'data, E>, StringTable<'data>)>, ParseError>
+        ensures { ok_map (option_map symbols_view) result
+            ≡ dynamic_symbol_table (object_file E.little (view self.now)) }
+    {
+        self.first_symbols(abi::SHT_DYNSYM)
+    }
+}

@@ -1,0 +1,196 @@
+//! The versions of symbols.
+ghost use Rattle.std.specs.Prelude.{◌≡◌, ◌&&◌, is_some, Some};
+ghost use Rattle.std.specs.Option.{option_map};
+ghost use Rattle.elf_parts.specs.Number.{ok_map};
+ghost use Rattle.elf_parts.specs.Symver.{definitions_view, needs_view, versions_view};
+ghost use Rattle.elf_parts.specs.Table.{table_view};
+ghost use Rattle.elf.specs.Answers.{symbol_version_table};
+ghost use Rattle.elf.specs.Choice.{if_found};
+ghost use Rattle.elf.specs.ObjectFile.{object_file};
+ghost use Rattle.elf.specs.Versions.{linked_strings, version_definitions, version_indexes, version_needs, version_sections, versions_of};
+ghost use Rattle.elf.specs.View.{section_list, view};
+
+use super::ElfBytes;
+use super::sections::section_range;
+use elf_abi::abi;
+use elf_parts::endian::EndianParse;
+use elf_parts::gnu_symver::{
+    SymbolVersionTable, VerDefIterator, VerNeedIterator, VersionIndex, VersionIndexTable,
+};
+use elf_parts::parse::{ParseAt, ParseError};
+use elf_parts::section::{SectionHeader, SectionHeaderTable};
+use elf_parts::string_table::StringTable;
+
+// The sections that the versions of symbols stand in.
+#[derive(Copy, Clone)]
+pub(crate) struct VersionSections {
+    pub(crate) indexes: Option<SectionHeader>,
+    pub(crate) needs: Option<SectionHeader>,
+    pub(crate) definitions: Option<SectionHeader>,
+}
+
+impl VersionSections {
+    ghost use Rattle.elf.specs.inner.Passes.{with_version_section};
+
+    // The same with one more section, in the place of an earlier one of its type.
+    pub(crate) fn with(mut self, shdr: SectionHeader) -> Self
+        ensures { result ≡ with_version_section self shdr }
+    {
+        match shdr.sh_type {
+            abi::SHT_GNU_VERSYM => self.indexes = Some(shdr),
+            abi::SHT_GNU_VERNEED => self.needs = Some(shdr),
+            abi::SHT_GNU_VERDEF => self.definitions = Some(shdr),
+            _ => {}
+        }
+        self
+    }
+
+    // Whether there are sections of all three types.
+    pub(crate) fn are_all(&self) -> bool
+        ensures { result ≡ (is_some self.now.indexes && is_some self.now.needs && is_some self.now.definitions) }
+    {
+        self.indexes.is_some() && self.needs.is_some() && self.definitions.is_some()
+    }
+}
+
+// The last sections of the three types, up to the first one by which all of them were seen.
+#[tactic(auto, using(crate::proofs::VersionChoice::found_in_all))]
+fn version_sections<E: EndianParse>(shdrs: SectionHeaderTable<'_, E>) -> VersionSections
+    ensures { result ≡ version_sections (section_list (Some (table_view shdrs.entry))) }
+{
+    let mut found = VersionSections {
+        indexes: None,
+        needs: None,
+        definitions: None,
+    };
+    for shdr in shdrs {
+        found = found.with(shdr);
+        if found.are_all() {
+            return found;
+        }
+    }
+    found
+}
+
+impl<'data, E: EndianParse> ElfBytes<'data, E> {
+    // The version indexes of a section.
+    fn version_indexes(
+        &self,
+        shdr: &SectionHeader,
+    ) -> Result<VersionIndexTable<'data, E>, ParseError>
+        ensures { ok_map table_view result ≡ version_indexes (object_file E.little (view self.now)) shdr.now }
+    {
+        VersionIndex::validate_entsize(self.ehdr.class, shdr.sh_entsize as usize)?;
+        let bytes = section_range(shdr, self.data)?;
+        Ok(VersionIndexTable::new(self.ehdr.endianness, self.ehdr.class, bytes))
+    }
+
+    // The strings of the section that a section links to.
+    fn linked_strings(&self, shdr: &SectionHeader) -> Result<&'data [u8], ParseError>
+        ensures { ok_map (λ bytes. bytes.now) result
+            ≡ linked_strings (object_file E.little (view self.now)) shdr.now }
+    {
+        let linked = self.section_at(shdr.sh_link as usize)?;
+        section_range(&linked, self.data)
+    }
+
+    // The needs of a section, with their strings.
+    fn version_needs(
+        &self,
+        shdr: &SectionHeader,
+    ) -> Result<(VerNeedIterator<'data, E>, StringTable<'data>), ParseError>
+        ensures { ok_map needs_view result ≡ version_needs (object_file E.little (view self.now)) shdr.now }
+    {
+        let bytes = section_range(shdr, self.data)?;
+        let strings = self.linked_strings(shdr)?;
+        let needs = VerNeedIterator::new(
+            self.ehdr.endianness,
+            self.ehdr.class,
+            shdr.sh_info as u64,
+            0,
+            bytes,
+        );
+        Ok((needs, StringTable::new(strings)))
+    }
+
+    // The definitions of a section, with their strings.
+    fn version_definitions(
+        &self,
+        shdr: &SectionHeader,
+    ) -> Result<(VerDefIterator<'data, E>, StringTable<'data>), ParseError>
+        ensures { ok_map definitions_view result
+            ≡ version_definitions (object_file E.little (view self.now)) shdr.now }
+    {
+        let bytes = section_range(shdr, self.data)?;
+        let strings = self.linked_strings(shdr)?;
+        let definitions = VerDefIterator::new(
+            self.ehdr.endianness,
+            self.ehdr.class,
+            shdr.sh_info as u64,
+            0,
+            bytes,
+        );
+        Ok((definitions, StringTable::new(strings)))
+    }
+
+    // The same, where there is a section.
+    fn version_needs_if(
+        &self,
+        shdr: Option<SectionHeader>,
+    ) -> Result<Option<(VerNeedIterator<'data, E>, StringTable<'data>)>, ParseError>
+        ensures { ok_map (option_map needs_view) result
+            ≡ if_found (version_needs (object_file E.little (view self.now))) shdr }
+    {
+        match shdr {
+            Some(shdr) => Ok(Some(self.version_needs(&shdr)?)),
+            None => Ok(None),
+        }
+    }
+
+    fn version_definitions_if(
+        &self,
+        shdr: Option<SectionHeader>,
+    ) -> Result<Option<(VerDefIterator<'data, E>, StringTable<'data>)>, ParseError>
+        ensures { ok_map (option_map definitions_view) result
+            ≡ if_found (version_definitions (object_file E.little (view self.now))) shdr }
+    {
+        match shdr {
+            Some(shdr) => Ok(Some(self.version_definitions(&shdr)?)),
+            None => Ok(None),
+        }
+    }
+
+    // The versions by the indexes of a section, with the needs and the definitions, where there are any.
+    fn versions_of(
+        &self,
+        chosen: VersionSections,
+        shdr: &SectionHeader,
+    ) -> Result<SymbolVersionTable<'data, E>, ParseError>
+        ensures { ok_map versions_view result
+            ≡ versions_of (object_file E.little (view self.now)) chosen shdr.now }
+    {
+        let indexes = self.version_indexes(shdr)?;
+        let needs = self.version_needs_if(chosen.needs)?;
+        let definitions = self.version_definitions_if(chosen.definitions)?;
+        Ok(SymbolVersionTable::new(indexes, needs, definitions))
+    }
+
+    /// The versions of the symbols (GNU symbol versioning), where the file has version indexes: by the last
+    /// sections of the types `SHT_GNU_VERSYM`, `SHT_GNU_VERNEED` and `SHT_GNU_VERDEF` up to the first
+    /// section by which all three were seen. Refuses where the entry size of the indexes is not 2, where
+    /// one of the ranges does not lie in the file, and where a section that is linked to cannot be had.
+    #[tactic(auto, using(crate::proofs::VersionChoice::versions_of_none))]
+    pub fn symbol_version_table(&self) -> Result<Option<SymbolVersionTable<'data, E>>, ParseError>
+        ensures { ok_map (option_map versions_view) result
+            ≡ symbol_version_table (object_file E.little (view self.now)) }
+    {
+        let Some(shdrs) = self.shdrs else {
+            return Ok(None);
+        };
+        let chosen = version_sections(shdrs);
+        match chosen.indexes {
+            Some(shdr) => Ok(Some(self.versions_of(chosen, &shdr)?)),
+            None => Ok(None),
+        }
+    }
+}

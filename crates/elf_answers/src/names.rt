@@ -1,0 +1,92 @@
+//! The names of values.
+use elf::to_str;
+use elf_rows::{RowError, number};
+use std::alloc::{AllocError, Global};
+
+/// `values KIND FROM TO`: each value from FROM to TO that has a name, and the name.
+pub(crate) fn names_text(alloc: Global, words: &[&str]) -> Result<String, RowError> {
+    let [kind, from, to] = words else {
+        return Err(RowError::Form("no values"));
+    };
+    let mut text = String::new(alloc);
+    for value in number(*from)?..=number(*to)? {
+        if let Some(name) = name_of(*kind, value) {
+            let line = format!(in alloc; "\n  {value} {name}")?;
+            text.push_str(line.as_str())?;
+        }
+    }
+    Ok(text)
+}
+
+fn name_of(kind: &str, value: i64) -> Option<&'static str> {
+    match kind {
+        "e_osabi" | "st_symtype" | "st_bind" | "st_vis" => {
+            byte_name(kind, u8::try_from(value).ok()?)
+        }
+        "e_type" | "e_type_human" | "e_machine" | "e_machine_human" => {
+            half_name(kind, u16::try_from(value).ok()?)
+        }
+        "d_tag" => to_str::d_tag_to_str(value),
+        _ => word_name(kind, u32::try_from(value).ok()?),
+    }
+}
+
+fn byte_name(kind: &str, value: u8) -> Option<&'static str> {
+    match kind {
+        "e_osabi" => to_str::e_osabi_to_str(value),
+        "st_symtype" => to_str::st_symtype_to_str(value),
+        "st_bind" => to_str::st_bind_to_str(value),
+        _ => to_str::st_vis_to_str(value),
+    }
+}
+
+fn half_name(kind: &str, value: u16) -> Option<&'static str> {
+    match kind {
+        "e_type" => to_str::e_type_to_str(value),
+        "e_type_human" => to_str::e_type_to_human_str(value),
+        "e_machine" => to_str::e_machine_to_str(value),
+        _ => to_str::e_machine_to_human_str(value),
+    }
+}
+
+fn word_name(kind: &str, value: u32) -> Option<&'static str> {
+    match kind {
+        "sh_type" => to_str::sh_type_to_str(value),
+        "p_type" => to_str::p_type_to_str(value),
+        "ch_type" => to_str::ch_type_to_str(value),
+        "note_abi_tag_os" => to_str::note_abi_tag_os_to_str(value),
+        _ => None,
+    }
+}
+
+/// `text KIND VALUE`: the value's name, or else its number.
+pub(crate) fn value_text(alloc: Global, words: &[&str]) -> Result<String, RowError> {
+    let [kind, value] = words else {
+        return Err(RowError::Form("no value"));
+    };
+    let text = match *kind {
+        "e_osabi" | "st_symtype" | "st_bind" | "st_vis" => byte_text(alloc, *kind, number(*value)?),
+        "e_type" => to_str::e_type_to_string(alloc, number(*value)?),
+        "e_machine" => to_str::e_machine_to_string(alloc, number(*value)?),
+        _ => word_text(alloc, *kind, number(*value)?),
+    };
+    let text = text?;
+    Ok(format!(in alloc; "{text:?}")?)
+}
+
+fn byte_text(alloc: Global, kind: &str, value: u8) -> Result<String, AllocError> {
+    match kind {
+        "e_osabi" => to_str::e_osabi_to_string(alloc, value),
+        "st_symtype" => to_str::st_symtype_to_string(alloc, value),
+        "st_bind" => to_str::st_bind_to_string(alloc, value),
+        _ => to_str::st_vis_to_string(alloc, value),
+    }
+}
+
+fn word_text(alloc: Global, kind: &str, value: u32) -> Result<String, AllocError> {
+    match kind {
+        "sh_type" => to_str::sh_type_to_string(alloc, value),
+        "p_type" => to_str::p_type_to_string(alloc, value),
+        _ => to_str::p_flags_to_string(alloc, value),
+    }
+}

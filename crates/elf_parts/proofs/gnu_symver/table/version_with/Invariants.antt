@@ -1,0 +1,11 @@
+use Rattle.std.proofs.Common.{◌≡◌}
+use Rattle.elf_parts.specs.Symver.{ver_need_aux_left, version_with}
+use Rattle.elf_parts.proofs.gnu_symver.table.version_with.Given as goal
+
+-- none of the versions so far has the index
+abbrev pub invariant-loop-version : goal.invariant-loop-version
+invariant-loop-version g l =
+    (goal.iterator-loop-version g).can_next l.version-iterator ×
+    (goal.iterator-loop-version g).is_finite l.version-iterator ×
+    (version_with l.index (ver_need_aux_left l.version-iterator)
+    ≡ version_with l.index (ver_need_aux_left l.fn.versions))

@@ -1,0 +1,21 @@
+-- By induction on the count; and no record is behind the data.
+use Rattle.std.proofs.Common.{arith}
+use Rattle.elf_parts.specs.Table.{table_in}
+use Rattle.elf_parts.specs.Link.{links_in, next_start}
+use Rattle.elf_parts.proofs.LinkedRecords.{links_few, longest}
+use Rattle.elf_parts.proofs.laws.versions.linked_records_are_the_longest_list.Goals as goal
+
+pub returns-clause-longest : goal.returns-clause-longest
+unfolding links_in
+returns-clause-longest g c =
+    longest (g.R.ParseAt.record_at (g.E.EndianParse.little c.args.endian) c.args.class c.args.«data».now)
+    (λ o x. next_start o (g.R.Linked.next_distance x)) c.args.count c.args.start
+
+pub returns-clause-few : goal.returns-clause-few
+returns-clause-few g c =
+    let p = g.R.ParseAt in
+    let t = table_in (g.E.EndianParse.little c.args.endian) c.args.class c.args.«data».now in
+    let few =
+    links_few p.record_at g.R.Linked.next_distance p.size p.offset_after g.met.R.ParseAt.some_size
+    g.met.R.ParseAt.within t c.args.count c.args.start in
+    omega (arith, few)

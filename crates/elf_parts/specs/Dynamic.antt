@@ -1,0 +1,46 @@
+-- The field table of a dynamic entry (gABI, chapter "Dynamic Section").
+use Rattle.std.specs.Prelude.{◌≡◌, ℕ, ◌≤◌, true, List, [], ◌∷◌, slice_index, refl}
+use Rattle.std.proofs.Common.{lit≤}
+use Rattle.elf_parts.specs.Number.{signed_number}
+use Rattle.elf_parts.specs.Record.{Field, field, Layout, size_by}
+use Rattle.elf_parts.specs.inner.RecordLaws.{is_free}
+use Rattle.elf_parts.specs.declared.file.Class.{Class}
+use Rattle.elf_parts.specs.declared.file.Class.TheVariants.{ELF32, ELF64}
+use Rattle.elf_parts.specs.declared.dynamic.Dyn.{Dyn}
+
+abbrev pub dyn_fields : Class → List Field
+dyn_fields ELF32 =
+    field 0 4 ∷  -- d_tag
+    field 4 4 ∷  -- d_un
+    []
+dyn_fields ELF64 =
+    field 0 8 ∷  -- d_tag
+    field 8 8 ∷  -- d_un
+    []
+
+-- how many bytes a tag has
+abbrev pub tag_width : Class → ℕ
+tag_width ELF32 = 4
+tag_width ELF64 = 8
+
+-- the entry that the numbers of its fields make; a tag is signed
+abbrev pub dyn_entry : Class → List ℕ → Dyn
+dyn_entry class n = record {
+  d_tag = signed_number (tag_width class) (slice_index n 0);
+  d_un = slice_index n 1;
+}
+
+abbrev pub dyn_layout : Layout Dyn
+dyn_layout = record { fields = dyn_fields; make = dyn_entry }
+
+pub dyn_size : (class : Class) → 1 ≤ size_by dyn_layout class
+dyn_size ELF32 = lit≤ tt
+dyn_size ELF64 = lit≤ tt
+
+pub dyn_free : (class : Class) → is_free (dyn_layout.fields class) ≡ true
+dyn_free ELF32 = refl
+dyn_free ELF64 = refl
+
+-- the one number behind the tag, a value or an address
+abbrev pub d_un_view : Dyn → ℕ
+d_un_view entry = entry.d_un

@@ -1,0 +1,121 @@
+-- GNU hash sections, and what is found by them.
+use Rattle.std.specs.Prelude.{ℕ, ◌+◌, ◌-◌, ◌*◌, ◌/◌, ◌%◌, ◌^◌, ◌<◌, zero, suc, Bool, false, ◌||◌, if◌then◌else◌, ◌==◌, nat_lt, nat_le, List, [], ◌∷◌, drop, map, Option, Some, None, Result, Ok, Err, IsOk}
+use Rattle.std.specs.Int.{bit_at}
+use Rattle.std.specs.Str.{bytes_eq}
+use Rattle.elf_parts.specs.Hash.{gnu_hash_of, gnu_header_layout, long_word_at, named_symbol, word_at, word_count}
+use Rattle.elf_parts.specs.Number.{bytes_at, ok_map}
+use Rattle.elf_parts.specs.Record.{◌>>=◌, record_by}
+use Rattle.elf_parts.specs.SysvFind.{first_decided}
+use Rattle.elf_parts.specs.Table.{Table, table_in, table_view}
+use Rattle.elf_parts.specs.declared.file.Class.{Class}
+use Rattle.elf_parts.specs.declared.file.Class.TheVariants.{ELF32, ELF64}
+use Rattle.elf_parts.specs.declared.hash.gnu.GnuHashHeader.{GnuHashHeader}
+use Rattle.elf_parts.specs.declared.hash.gnu.GnuHashTable.{GnuHashTable}
+use Rattle.elf_parts.specs.declared.parse.ParseError.{ParseError}
+use Rattle.elf_parts.specs.declared.parse.ParseError.TheVariants.{IntegerOverflow}
+use Rattle.elf_parts.specs.declared.symbol.Symbol.{Symbol}
+
+-- the header as it stands, the bloom words, the words of the buckets, and the chain words
+pub record GnuTable : Type 0 where
+  pub hdr : GnuHashHeader
+  pub bloom : Table
+  pub buckets : Table
+  pub chains : Table
+
+abbrev pub gnu_view : {E : Type 0} → GnuHashTable E → GnuTable
+gnu_view t = record {
+  hdr = t.hdr;
+  bloom = table_in t.little t.class t.bloom.now;
+  buckets = table_view t.buckets;
+  chains = table_view t.chains;
+}
+
+-- how many bytes a bloom word has
+abbrev pub bloom_size : Class → ℕ
+bloom_size ELF32 = 4
+bloom_size ELF64 = 8
+
+-- how many bits
+abbrev pub bloom_bits : Class → ℕ
+bloom_bits ELF32 = 32
+bloom_bits ELF64 = 64
+
+-- bloom word i, or why it cannot be had
+abbrev pub bloom_word_by : Class → Table → ℕ → Result ℕ ParseError
+bloom_word_by ELF32 bloom i = word_at bloom i
+bloom_word_by ELF64 bloom i = long_word_at bloom i
+
+unfoldable pub bloom_word : Table → ℕ → Result ℕ ParseError
+bloom_word bloom i = bloom_word_by bloom.class bloom i
+
+-- the table that the bytes of a section hold: the header, nbloom bloom words and nbucket words, or the first
+-- refusal; the rest of the bytes are the chain words
+unfoldable pub gnu_section : Bool → Class → List ℕ → Result GnuTable ParseError
+gnu_section little class bytes =
+    record_by gnu_header_layout little class bytes 0 >>= λ header.
+    bytes_at (bloom_size class * header.nbloom) bytes 16 >>= λ bloom.
+    bytes_at (4 * header.nbucket) bytes (16 + bloom_size class * header.nbloom) >>= λ buckets.
+    Ok (record {
+      hdr = header;
+      bloom = table_in little class bloom;
+      buckets = table_in little class buckets;
+      chains = table_in little class (drop (16 + bloom_size class * header.nbloom + 4 * header.nbucket) bytes);
+    })
+
+-- the rest of a run, behind a word that does not end it
+abbrev pub run_on : Result ℕ ParseError → List ℕ → List ℕ
+run_on (Ok word) rest = if word % 2 == 1 then [] else rest
+run_on (Err e) rest = []
+
+-- the places from this one up to and with that of the first chain word whose bit 0 is set, at most so many
+abbrev pub run : Table → ℕ → ℕ → List ℕ
+run chains zero place = []
+run chains (suc limit) place = place ∷ run_on (word_at chains place) (run chains limit (place + 1))
+
+module _ (t : GnuTable) where
+  -- the bloom word of a hash
+  abbrev pub bloom_of : ℕ → Result ℕ ParseError
+  bloom_of hash = bloom_word t.bloom (hash / bloom_bits t.bloom.class % t.hdr.nbloom)
+
+  -- whether both bits of a hash are set in its bloom word; the second one is looked at only where the first is
+  unfoldable pub passes : ℕ → Result Bool ParseError
+  passes hash =
+      bloom_of hash >>= λ word.
+      if bit_at word (hash % bloom_bits t.bloom.class) == 0 then Ok false
+      else if nat_le 32 t.hdr.nshift then Err IntegerOverflow
+      else Ok (bit_at word (hash / 2 ^ t.hdr.nshift % bloom_bits t.bloom.class) == 1)
+
+  -- the bloom words that the header counts can be read
+  abbrev pub ReadsBloom : Type 0
+  ReadsBloom = (i : ℕ) → i < t.hdr.nbloom → IsOk (bloom_word t.bloom i)
+
+module _ (t : GnuTable) (symbols : Table) (strings name : List ℕ) where
+  -- the symbol of an index, where it has the name
+  abbrev pub if_named : ℕ → Symbol × List ℕ → Option (ℕ × Symbol)
+  if_named index found = if bytes_eq found.1 name then Some (index, found.0) else None
+
+  -- what a chain word decides, at the index of its symbol: where it is the hash apart from bit 0, the refusal of
+  -- the symbol or its name, or the symbol where it has the name
+  abbrev pub word_decides : ℕ → ℕ → Result (Option (ℕ × Symbol)) ParseError
+  word_decides index word =
+      if word / 2 == gnu_hash_of name / 2 then ok_map (if_named index) (named_symbol symbols strings index) else Ok None
+
+  abbrev pub place_decides : ℕ → Result (Option (ℕ × Symbol)) ParseError
+  place_decides place = word_at t.chains place >>= word_decides (t.hdr.table_start_idx + place)
+
+  -- the index and the symbol of this name, by the first place of the run that decides
+  unfoldable pub find_in_run : ℕ → ℕ → Result (Option (ℕ × Symbol)) ParseError
+  find_in_run limit place = first_decided (map place_decides (run t.chains limit place))
+
+  -- the same by the word of a bucket, which is the index of the first symbol of its run
+  abbrev pub find_in_bucket : ℕ → Result (Option (ℕ × Symbol)) ParseError
+  find_in_bucket index =
+      if nat_lt index t.hdr.table_start_idx then Ok None
+      else find_in_run (word_count t.chains - (index - t.hdr.table_start_idx)) (index - t.hdr.table_start_idx)
+
+  -- the same in the bucket of the name's hash, where the bloom words let the hash pass
+  unfoldable pub gnu_find : Result (Option (ℕ × Symbol)) ParseError
+  gnu_find =
+      if word_count t.buckets == 0 || t.hdr.nbloom == 0 then Ok None
+      else passes t (gnu_hash_of name) >>= λ passed.
+      if passed then (word_at t.buckets (gnu_hash_of name % word_count t.buckets) >>= find_in_bucket) else Ok None

@@ -1,0 +1,115 @@
+-- The two hashes of a name (gABI, chapter "Hash Table", and GNU's), and what a hash section is read by: its header,
+-- words, and symbols with their names.
+use Rattle.std.specs.Prelude.{◌≡◌, ◌↔◌, ℕ, ◌+◌, ◌*◌, ◌/◌, ◌%◌, ◌^◌, ◌<◌, ◌≤◌, List, [], ◌∷◌, slice_index, length, true, refl, bit_and, bit_xor, Result, Ok, IsOk}
+use Rattle.std.proofs.Common.{lit≤}
+use Rattle.elf_parts.specs.Record.{◌>>=◌, Field, field, Layout, record_by, size_by}
+use Rattle.elf_parts.specs.StringTable.{string_at}
+use Rattle.elf_parts.specs.Symbol.{symbol_layout}
+use Rattle.elf_parts.specs.Table.{Table, table_get}
+use Rattle.elf_parts.specs.Word.{u32_layout, u64_layout}
+use Rattle.elf_parts.specs.inner.RecordLaws.{is_free}
+use Rattle.elf_parts.specs.declared.file.Class.{Class}
+use Rattle.elf_parts.specs.declared.hash.sysv.SysVHashHeader.{SysVHashHeader}
+use Rattle.elf_parts.specs.declared.hash.gnu.GnuHashHeader.{GnuHashHeader}
+use Rattle.elf_parts.specs.declared.parse.ParseError.{ParseError}
+use Rattle.elf_parts.specs.declared.symbol.Symbol.{Symbol}
+
+-- ---- the hashes, on 32-bit words that wrap
+
+-- the top four bits are taken off, and XORed in at bit 4
+abbrev pub folded : ℕ → ℕ
+folded h = bit_and (bit_xor h (bit_and h 0xf0000000 / 2 ^ 24)) 0x0fffffff
+
+-- gABI's function, from a hash on
+abbrev pub sysv_hash_from : ℕ → List ℕ → ℕ
+sysv_hash_from h [] = h
+sysv_hash_from h (byte ∷ bytes) = sysv_hash_from (folded ((16 * h + byte) % 2 ^ 32)) bytes
+
+unfoldable pub sysv_hash_of : List ℕ → ℕ
+sysv_hash_of name = sysv_hash_from 0 name
+
+-- GNU's function, from a hash on
+abbrev pub gnu_hash_from : ℕ → List ℕ → ℕ
+gnu_hash_from h [] = h
+gnu_hash_from h (byte ∷ bytes) = gnu_hash_from ((33 * h + byte) % 2 ^ 32) bytes
+
+unfoldable pub gnu_hash_of : List ℕ → ℕ
+gnu_hash_of name = gnu_hash_from 5381 name
+
+-- ---- the headers, the same in both classes
+
+abbrev pub sysv_header_fields : List Field
+sysv_header_fields =
+    field 0 4 ∷  -- nbucket
+    field 4 4 ∷  -- nchain
+    []
+
+abbrev pub sysv_header_layout : Layout SysVHashHeader
+sysv_header_layout = record {
+  fields = λ _. sysv_header_fields;
+  make = λ _ n. record { nbucket = slice_index n 0; nchain = slice_index n 1 };
+}
+
+pub sysv_header_size : (class : Class) → 1 ≤ size_by sysv_header_layout class
+sysv_header_size class = lit≤ tt
+
+pub sysv_header_free : (class : Class) → is_free (sysv_header_layout.fields class) ≡ true
+sysv_header_free class = refl
+
+abbrev pub gnu_header_fields : List Field
+gnu_header_fields =
+    field 0 4 ∷  -- nbucket
+    field 4 4 ∷  -- table_start_idx
+    field 8 4 ∷  -- nbloom
+    field 12 4 ∷  -- nshift
+    []
+
+abbrev pub gnu_header_layout : Layout GnuHashHeader
+gnu_header_layout = record {
+  fields = λ _. gnu_header_fields;
+  make = λ _ n. record {
+    nbucket = slice_index n 0;
+    table_start_idx = slice_index n 1;
+    nbloom = slice_index n 2;
+    nshift = slice_index n 3;
+  };
+}
+
+pub gnu_header_size : (class : Class) → 1 ≤ size_by gnu_header_layout class
+gnu_header_size class = lit≤ tt
+
+pub gnu_header_free : (class : Class) → is_free (gnu_header_layout.fields class) ≡ true
+gnu_header_free class = refl
+
+-- ---- words, and symbols with their names
+
+-- how many words of four bytes there are
+abbrev pub word_count : Table → ℕ
+word_count words = length words.bytes / 4
+
+-- word i of four bytes, or why it cannot be had
+unfoldable pub word_at : Table → ℕ → Result ℕ ParseError
+word_at words i = table_get (size_by u32_layout) (record_by u32_layout) words i
+
+-- word i of eight bytes, or why it cannot be had
+unfoldable pub long_word_at : Table → ℕ → Result ℕ ParseError
+long_word_at words i = table_get (size_by u64_layout) (record_by u64_layout) words i
+
+-- symbol i, or why it cannot be had
+abbrev pub symbol_at : Table → ℕ → Result Symbol ParseError
+symbol_at symbols i = table_get (size_by symbol_layout) (record_by symbol_layout) symbols i
+
+-- symbol i and its name, or the refusal of either
+unfoldable pub named_symbol : Table → List ℕ → ℕ → Result (Symbol × List ℕ) ParseError
+named_symbol symbols strings i =
+    symbol_at symbols i >>= λ symbol.
+    string_at strings symbol.st_name >>= λ name. Ok (symbol, name)
+
+-- an index and a symbol are those of a symbol of this name
+abbrev pub IsNamed : Table → List ℕ → List ℕ → ℕ × Symbol → Type 0
+IsNamed symbols strings name found =
+    (symbol_at symbols found.0 ≡ Ok found.1) × (string_at strings found.1.st_name ≡ Ok name)
+
+-- exactly the words below their count can be read
+abbrev pub ReadsBelowCount : Table → Type 0
+ReadsBelowCount words = (i : ℕ) → IsOk (word_at words i) ↔ (i < word_count words)

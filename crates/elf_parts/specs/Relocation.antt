@@ -1,0 +1,87 @@
+-- The field tables of relocations, without and with an addend (gABI, chapter "Relocation").
+use Rattle.std.specs.Prelude.{◌≡◌, ℕ, ◌≤◌, ◌/◌, ◌%◌, ◌^◌, true, List, [], ◌∷◌, slice_index, refl}
+use Rattle.std.proofs.Common.{lit≤}
+use Rattle.elf_parts.specs.Number.{signed_number}
+use Rattle.elf_parts.specs.Record.{Field, field, Layout, size_by}
+use Rattle.elf_parts.specs.inner.RecordLaws.{is_free}
+use Rattle.elf_parts.specs.declared.file.Class.{Class}
+use Rattle.elf_parts.specs.declared.file.Class.TheVariants.{ELF32, ELF64}
+use Rattle.elf_parts.specs.declared.relocation.Rel.{Rel}
+use Rattle.elf_parts.specs.declared.relocation.Rela.{Rela}
+
+-- the index of the symbol and the type of the relocation stand in one number, r_info
+abbrev pub sym_of_info : Class → ℕ → ℕ
+sym_of_info ELF32 info = info / 256
+sym_of_info ELF64 info = info / 2 ^ 32
+
+abbrev pub type_of_info : Class → ℕ → ℕ
+type_of_info ELF32 info = info % 256
+type_of_info ELF64 info = info % 2 ^ 32
+
+-- ---- without an addend
+
+abbrev pub rel_fields : Class → List Field
+rel_fields ELF32 =
+    field 0 4 ∷  -- r_offset
+    field 4 4 ∷  -- r_info
+    []
+rel_fields ELF64 =
+    field 0 8 ∷  -- r_offset
+    field 8 8 ∷  -- r_info
+    []
+
+abbrev pub rel : Class → List ℕ → Rel
+rel class n = record {
+  r_offset = slice_index n 0;
+  r_sym = sym_of_info class (slice_index n 1);
+  r_type = type_of_info class (slice_index n 1);
+}
+
+abbrev pub rel_layout : Layout Rel
+rel_layout = record { fields = rel_fields; make = rel }
+
+pub rel_size : (class : Class) → 1 ≤ size_by rel_layout class
+rel_size ELF32 = lit≤ tt
+rel_size ELF64 = lit≤ tt
+
+pub rel_free : (class : Class) → is_free (rel_layout.fields class) ≡ true
+rel_free ELF32 = refl
+rel_free ELF64 = refl
+
+-- ---- with an addend, which is signed
+
+abbrev pub rela_fields : Class → List Field
+rela_fields ELF32 =
+    field 0 4 ∷  -- r_offset
+    field 4 4 ∷  -- r_info
+    field 8 4 ∷  -- r_addend
+    []
+rela_fields ELF64 =
+    field 0 8 ∷  -- r_offset
+    field 8 8 ∷  -- r_info
+    field 16 8 ∷  -- r_addend
+    []
+
+-- how many bytes an addend has
+abbrev pub addend_width : Class → ℕ
+addend_width ELF32 = 4
+addend_width ELF64 = 8
+
+abbrev pub rela : Class → List ℕ → Rela
+rela class n = record {
+  r_offset = slice_index n 0;
+  r_sym = sym_of_info class (slice_index n 1);
+  r_type = type_of_info class (slice_index n 1);
+  r_addend = signed_number (addend_width class) (slice_index n 2);
+}
+
+abbrev pub rela_layout : Layout Rela
+rela_layout = record { fields = rela_fields; make = rela }
+
+pub rela_size : (class : Class) → 1 ≤ size_by rela_layout class
+rela_size ELF32 = lit≤ tt
+rela_size ELF64 = lit≤ tt
+
+pub rela_free : (class : Class) → is_free (rela_layout.fields class) ≡ true
+rela_free ELF32 = refl
+rela_free ELF64 = refl

@@ -1,0 +1,67 @@
+-- The field table of a symbol (gABI, chapter "Symbol Table").
+use Rattle.std.specs.Prelude.{◌≡◌, ℕ, ◌/◌, ◌%◌, ◌≤◌, true, List, [], ◌∷◌, slice_index, refl}
+use Rattle.std.proofs.Common.{lit≤}
+use Rattle.elf_parts.specs.Record.{Field, field, Layout, size_by}
+use Rattle.elf_parts.specs.inner.RecordLaws.{is_free}
+use Rattle.elf_parts.specs.declared.file.Class.{Class}
+use Rattle.elf_parts.specs.declared.file.Class.TheVariants.{ELF32, ELF64}
+use Rattle.elf_parts.specs.declared.symbol.Symbol.{Symbol}
+
+abbrev pub symbol_fields : Class → List Field
+symbol_fields ELF32 =
+    field 0 4 ∷  -- st_name
+    field 4 4 ∷  -- st_value
+    field 8 4 ∷  -- st_size
+    field 12 1 ∷  -- st_info
+    field 13 1 ∷  -- st_other
+    field 14 2 ∷  -- st_shndx
+    []
+symbol_fields ELF64 =
+    field 0 4 ∷  -- st_name
+    field 4 1 ∷  -- st_info
+    field 5 1 ∷  -- st_other
+    field 6 2 ∷  -- st_shndx
+    field 8 8 ∷  -- st_value
+    field 16 8 ∷  -- st_size
+    []
+
+-- the symbol that the numbers of its fields make
+abbrev pub symbol : Class → List ℕ → Symbol
+symbol ELF32 n = record {
+  st_name = slice_index n 0;
+  st_value = slice_index n 1;
+  st_size = slice_index n 2;
+  st_info = slice_index n 3;
+  st_other = slice_index n 4;
+  st_shndx = slice_index n 5;
+}
+symbol ELF64 n = record {
+  st_name = slice_index n 0;
+  st_info = slice_index n 1;
+  st_other = slice_index n 2;
+  st_shndx = slice_index n 3;
+  st_value = slice_index n 4;
+  st_size = slice_index n 5;
+}
+
+abbrev pub symbol_layout : Layout Symbol
+symbol_layout = record { fields = symbol_fields; make = symbol }
+
+pub symbol_size : (class : Class) → 1 ≤ size_by symbol_layout class
+symbol_size ELF32 = lit≤ tt
+symbol_size ELF64 = lit≤ tt
+
+pub symbol_free : (class : Class) → is_free (symbol_layout.fields class) ≡ true
+symbol_free ELF32 = refl
+symbol_free ELF64 = refl
+
+-- what a symbol names and how far it binds stand in one number, st_info
+abbrev pub symbol_type : Symbol → ℕ
+symbol_type s = s.st_info % 16
+
+abbrev pub symbol_binding : Symbol → ℕ
+symbol_binding s = s.st_info / 16
+
+-- who sees it: the lowest two bits of st_other
+abbrev pub symbol_visibility : Symbol → ℕ
+symbol_visibility s = s.st_other % 4

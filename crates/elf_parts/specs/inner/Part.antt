@@ -1,0 +1,51 @@
+-- Part of a record's field table, read by a function of its own: so long records are read. Only contracts of such
+-- private functions speak of it.
+use Rattle.std.specs.Prelude.{ℕ, Bool, List, [], ◌∷◌, take, drop, Result}
+use Rattle.elf_parts.specs.declared.file.Class.{Class}
+use Rattle.elf_parts.specs.declared.file.Class.TheVariants.{ELF32, ELF64}
+use Rattle.elf_parts.specs.declared.parse.ParseError.{ParseError}
+use Rattle.elf_parts.specs.File.{tail_fields}
+use Rattle.elf_parts.specs.Record.{Field}
+use Rattle.elf_parts.specs.Section.{section_header_fields}
+use Rattle.elf_parts.specs.Segment.{program_header_fields}
+use Rattle.elf_parts.specs.inner.Running.{numbers_from, offset_from}
+
+-- the numbers of these fields, the first of which lies at o
+unfoldable pub part_at : Bool → List Field → List ℕ → ℕ → Result (List ℕ) ParseError
+part_at little fs bytes o = numbers_from little fs bytes o
+
+-- where their read leaves an offset
+unfoldable pub part_end : Bool → List Field → List ℕ → ℕ → ℕ
+part_end little fs bytes o = offset_from little fs bytes o
+
+-- the tail of the file header: e_type to version, the same in both classes, then e_entry to e_shoff, then all others
+abbrev pub kind_fields : List Field
+kind_fields = take 3 (tail_fields ELF32)
+
+abbrev pub place_fields : Class → List Field
+place_fields class = take 3 (drop 3 (tail_fields class))
+
+abbrev pub count_fields : Class → List Field
+count_fields class = drop 6 (tail_fields class)
+
+-- a section header: sh_name to sh_offset, then sh_size to sh_entsize
+abbrev pub front_fields : Class → List Field
+front_fields class = take 5 (section_header_fields class)
+
+abbrev pub back_fields : Class → List Field
+back_fields class = drop 5 (section_header_fields class)
+
+-- a program header: p_offset to p_memsz, which stand in one order in both classes
+abbrev pub extent_fields : Class → List Field
+extent_fields ELF32 = take 5 (drop 1 (program_header_fields ELF32))
+extent_fields ELF64 = take 5 (drop 2 (program_header_fields ELF64))
+
+-- numbers as a list
+abbrev pub three : ℕ × ℕ × ℕ → List ℕ
+three n = n.0 ∷ n.1 ∷ n.2 ∷ []
+
+abbrev pub five : ℕ × ℕ × ℕ × ℕ × ℕ → List ℕ
+five n = n.0 ∷ n.1 ∷ n.2 ∷ n.3 ∷ n.4 ∷ []
+
+abbrev pub seven : ℕ × ℕ × ℕ × ℕ × ℕ × ℕ × ℕ → List ℕ
+seven n = n.0 ∷ n.1 ∷ n.2 ∷ n.3 ∷ n.4 ∷ n.5 ∷ n.6 ∷ []

@@ -1,0 +1,90 @@
+//! Headers of compressed sections (gABI, chapter "Sections", "Section Compression").
+use crate::endian::EndianParse;
+use crate::file::Class;
+use crate::parse::{ParseAt, ParseError};
+
+/// The header of a compressed section as a 32-bit file holds it.
+#[derive(Debug, Drop)]
+#[repr(C)]
+pub struct Elf32_Chdr {
+    pub ch_type: u32,
+    pub ch_size: u32,
+    pub ch_addralign: u32,
+}
+
+/// The header of a compressed section as a 64-bit file holds it.
+#[derive(Debug, Drop)]
+#[repr(C)]
+pub struct Elf64_Chdr {
+    pub ch_type: u32,
+    pub ch_reserved: u32,
+    pub ch_size: u64,
+    pub ch_addralign: u64,
+}
+
+/// The header in front of the bytes of a compressed section, of either class: how they are compressed (one
+/// of `ELFCOMPRESS_*`), and the size in bytes and the alignment of what they hold.
+#[derive(Clone, Debug, Drop, PartialEq, Eq)]
+pub struct CompressionHeader {
+    pub ch_type: u32,
+    pub ch_size: u64,
+    pub ch_addralign: u64,
+}
+
+impl ParseAt for CompressionHeader {
+    ghost use Rattle.elf_parts.specs.Compression.{compression_header_layout, compression_header_size};
+    ghost use Rattle.elf_parts.specs.Record.{offset_by, record_by, size_by};
+    ghost use Rattle.elf_parts.specs.inner.RecordLaws.{only_by, within_by};
+
+    ghost size = { size_by compression_header_layout };
+
+    ghost record_at = { record_by compression_header_layout };
+
+    ghost offset_after = { offset_by compression_header_layout };
+
+    ghost some_size = { compression_header_size };
+
+    ghost within = { within_by compression_header_layout compression_header_size };
+
+    ghost only = { only_by compression_header_layout };
+
+    #[tactic(auto, using(crate::proofs::Packed::packed))]
+    fn parse_at<E: EndianParse>(
+        endian: E,
+        class: Class,
+        offset: &mut usize,
+        data: &[u8],
+    ) -> Result<Self, ParseError> {
+        match class {
+            Class::ELF32 => {
+                let ch_type = endian.parse_u32_at(offset, data)?;
+                let ch_size = endian.parse_u32_at(offset, data)? as u64;
+                let ch_addralign = endian.parse_u32_at(offset, data)? as u64;
+                Ok(CompressionHeader {
+                    ch_type,
+                    ch_size,
+                    ch_addralign,
+                })
+            }
+            Class::ELF64 => {
+                let ch_type = endian.parse_u32_at(offset, data)?;
+                // The reserved word.
+                let _ = endian.parse_u32_at(offset, data)?;
+                let ch_size = endian.parse_u64_at(offset, data)?;
+                let ch_addralign = endian.parse_u64_at(offset, data)?;
+                Ok(CompressionHeader {
+                    ch_type,
+                    ch_size,
+                    ch_addralign,
+                })
+            }
+        }
+    }
+
+    fn size_for(class: Class) -> usize {
+        match class {
+            Class::ELF32 => 12,
+            Class::ELF64 => 24,
+        }
+    }
+}

@@ -1,0 +1,116 @@
+//! Dynamic entries, which tell the linker at run time what it needs (gABI, chapter "Dynamic Section").
+ghost use Rattle.std.specs.Prelude.{◌≡◌, [], ◌∷◌};
+ghost use Rattle.elf_parts.specs.Dynamic.{d_un_view, dyn_entry};
+
+use crate::endian::EndianParse;
+use crate::file::Class;
+use crate::parse::{ParseAt, ParseError, ParsingTable};
+
+/// A table of dynamic entries.
+pub type DynamicTable<'data, E> = ParsingTable<'data, E, Dyn>;
+
+/// A dynamic entry as a 32-bit file holds it.
+#[derive(Debug, Drop)]
+#[repr(C)]
+pub struct Elf32_Dyn {
+    pub d_tag: i32,
+    pub d_un: u32,
+}
+
+/// A dynamic entry as a 64-bit file holds it.
+#[derive(Debug, Drop)]
+#[repr(C)]
+pub struct Elf64_Dyn {
+    pub d_tag: i64,
+    pub d_un: u64,
+}
+
+/// A dynamic entry of either class. Its tag, one of `DT_*`, tells whether the number behind it is a value
+/// or an address.
+#[derive(Clone, Debug, Drop, PartialEq, Eq)]
+pub struct Dyn {
+    pub d_tag: i64,
+    d_un: u64,
+}
+
+impl Dyn {
+    /// The number behind the tag, where it is a value.
+    pub fn d_val(&self) -> u64
+        ensures { result ≡ d_un_view self.now }
+    {
+        self.d_un
+    }
+
+    /// The number behind the tag, where it is an address.
+    pub fn d_ptr(&self) -> u64
+        ensures { result ≡ d_un_view self.now }
+    {
+        self.d_val()
+    }
+}
+
+// The entry that the numbers of an ELF32 record make.
+fn dyn_32(d_tag: u32, d_un: u32) -> Dyn
+    ensures { result ≡ dyn_entry Class.ELF32 (d_tag ∷ d_un ∷ []) }
+{
+    Dyn {
+        d_tag: d_tag.cast_signed() as i64,
+        d_un: d_un as u64,
+    }
+}
+
+// The entry that the numbers of an ELF64 record make.
+fn dyn_64(d_tag: u64, d_un: u64) -> Dyn
+    ensures { result ≡ dyn_entry Class.ELF64 (d_tag ∷ d_un ∷ []) }
+{
+    Dyn {
+        d_tag: d_tag.cast_signed(),
+        d_un,
+    }
+}
+
+impl ParseAt for Dyn {
+    ghost use Rattle.elf_parts.specs.Dynamic.{dyn_layout, dyn_size};
+    ghost use Rattle.elf_parts.specs.Record.{offset_by, record_by, size_by};
+    ghost use Rattle.elf_parts.specs.inner.RecordLaws.{only_by, within_by};
+
+    ghost size = { size_by dyn_layout };
+
+    ghost record_at = { record_by dyn_layout };
+
+    ghost offset_after = { offset_by dyn_layout };
+
+    ghost some_size = { dyn_size };
+
+    ghost within = { within_by dyn_layout dyn_size };
+
+    ghost only = { only_by dyn_layout };
+
+    #[tactic(auto, using(crate::proofs::Packed::packed))]
+    fn parse_at<E: EndianParse>(
+        endian: E,
+        class: Class,
+        offset: &mut usize,
+        data: &[u8],
+    ) -> Result<Self, ParseError> {
+        match class {
+            Class::ELF32 => {
+                let d_tag = endian.parse_u32_at(offset, data)?;
+                let d_un = endian.parse_u32_at(offset, data)?;
+                Ok(dyn_32(d_tag, d_un))
+            }
+            Class::ELF64 => {
+                let d_tag = endian.parse_u64_at(offset, data)?;
+                let d_un = endian.parse_u64_at(offset, data)?;
+                Ok(dyn_64(d_tag, d_un))
+            }
+        }
+    }
+
+    fn size_for(class: Class) -> usize {
+        match class {
+            Class::ELF32 => 8,
+            Class::ELF64 => 16,
+        }
+    }
+}

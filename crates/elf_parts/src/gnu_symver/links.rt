@@ -1,0 +1,118 @@
+//! Linked records, and the one iterator over them that all version iterators stand on.
+ghost use Rattle.std.specs.Prelude.{◌≡◌, ◌≤◌, ◌+◌, ◌-◌, ℕ, length};
+ghost use Rattle.std.specs.Iterator.{YieldsFirst, item_count};
+ghost use Rattle.elf_parts.specs.Link.{from_next, links_in, links_left, links_view, next_start};
+ghost use Rattle.elf_parts.specs.Table.{table_in};
+
+use crate::endian::EndianParse;
+use crate::file::Class;
+use crate::parse::{ParseAt, read_record};
+use std::marker::PhantomData;
+
+/// A record that tells how far behind its own start the next one begins.
+pub trait Linked: ParseAt {
+    // How many bytes behind its start the next record begins; 0 where there is none.
+    ghost next_distance: { Self → ℕ };
+
+    /// How many bytes behind its start the next record begins; 0 where there is none.
+    fn distance(&self) -> u32
+        ensures { result ≡ next_distance self.now };
+}
+
+// Where the record `distance` bytes behind `start` begins, if there is one.
+fn next_start(start: usize, distance: u32) -> Option<usize>
+    ensures { result ≡ next_start start distance }
+{
+    if distance == 0 {
+        return None;
+    }
+    start.checked_add(distance as usize)
+}
+
+/// Linked records, one after the other, each with the offset where it begins.
+#[derive(Debug)]
+#[derive_where(Clone, Copy)]
+pub struct Links<'data, E: EndianParse, R: Linked> {
+    little: bool,
+    class: Class,
+    count: u64,
+    data: &'data [u8],
+    offset: usize,
+    order: PhantomData<E>,
+    records: PhantomData<R>,
+}
+
+impl<'data, E: EndianParse, R: Linked> Links<'data, E, R> {
+    /// The records that are linked from the one at `offset` on, at most `count`.
+    #[tactic(auto, using(crate::proofs::LinkedRecords::count_bounds))]
+    pub fn new(little: bool, class: Class, count: u64, offset: usize, data: &'data [u8]) -> Self
+        ensures items { links_left R.record_at R.next_distance result
+            ≡ links_in R.record_at R.next_distance (table_in little class «data».now) count offset }
+        ensures view { links_view result ≡ table_in little class «data».now }
+        ensures few { length (links_left R.record_at R.next_distance result) ≤ length «data».now }
+        ensures most { length (links_left R.record_at R.next_distance result) ≤ count }
+    {
+        Links {
+            little,
+            class,
+            count,
+            data,
+            offset,
+            order: PhantomData,
+            records: PhantomData,
+        }
+    }
+
+    /// The records of another type that are linked from the one `distance` bytes behind `start` on.
+    pub fn aux<A: Linked>(&self, start: usize, count: u16, distance: u32) -> Links<'data, E, A>
+        ensures { links_left A.record_at A.next_distance result
+            ≡ links_in A.record_at A.next_distance (links_view self.now) count (start + distance) }
+    {
+        // No record begins at the end of the data or behind it.
+        let offset = start.saturating_add(distance as usize).min(self.data.len());
+        Links::new(self.little, self.class, count as u64, offset, self.data)
+    }
+
+    // Goes on to the record `distance` bytes behind this one, or to the end.
+    #[tactic(auto, using(crate::proofs::LinkedRecords::links_none))]
+    fn follow(&mut self, distance: u32)
+        ensures items { links_left R.record_at R.next_distance self.new
+            ≡ from_next (next_start self.old.offset distance)
+            (links_in R.record_at R.next_distance (links_view self.old) (self.old.count - 1)) }
+        ensures view { links_view self.new ≡ links_view self.old }
+    {
+        match next_start(self.offset, distance) {
+            Some(offset) => {
+                self.count = self.count.saturating_sub(1);
+                self.offset = offset;
+            }
+            None => self.count = 0,
+        }
+    }
+}
+
+impl<'data, E: EndianParse, R: Linked> Iterator for Links<'data, E, R> {
+    type Item = (usize, R);
+
+    ghost next_gives = { λ s r t. YieldsFirst (links_left R.record_at R.next_distance) s r t × (links_view t ≡ links_view s) };
+
+    ghost remaining = { item_count (links_left R.record_at R.next_distance) };
+
+    fn next(&mut self) -> Option<(usize, R)> {
+        if self.count == 0 {
+            return None;
+        }
+        let start = self.offset;
+        let mut end = start;
+        match read_record::<R>(self.little, self.class, &mut end, self.data) {
+            Ok(record) => {
+                self.follow(record.distance());
+                Some((start, record))
+            }
+            Err(_) => {
+                self.count = 0;
+                None
+            }
+        }
+    }
+}

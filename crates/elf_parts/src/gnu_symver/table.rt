@@ -1,0 +1,223 @@
+//! The versions of the symbols of a file.
+ghost use Rattle.std.specs.Prelude.{◌≡◌, ◌==◌, ◌<◌, ◌^◌, length, map};
+ghost use Rattle.std.specs.Iterator.{item_count};
+ghost use Rattle.std.specs.Option.{option_map};
+ghost use Rattle.elf_parts.specs.Number.{ok_map};
+ghost use Rattle.elf_parts.specs.StringTable.{strings_view};
+ghost use Rattle.elf_parts.specs.Symver.{defined_version, definition, definition_by, definition_view, definitions_view};
+ghost use Rattle.elf_parts.specs.Symver.{names_left, needed_version, needs_view, raw_names, requirement, requirement_by};
+ghost use Rattle.elf_parts.specs.Symver.{ver_def_aux_left, ver_def_view, ver_defs_left, ver_need_aux_left};
+ghost use Rattle.elf_parts.specs.Symver.{ver_needs_left, version_with, versions_view};
+ghost use Rattle.elf_parts.specs.Symver.{GivesRequirement, GivesTexts, HasFewNames, YieldsName};
+ghost use Rattle.elf_parts.specs.Table.{table_view};
+
+use super::{
+    VerDef, VerDefAuxIterator, VerDefIterator, VerNeed, VerNeedAux, VerNeedAuxIterator,
+    VerNeedIterator, VersionIndexTable,
+};
+use crate::endian::EndianParse;
+use crate::parse::ParseError;
+use crate::string_table::StringTable;
+
+/// The version of a symbol that another file has to have.
+#[derive(Debug, Drop, PartialEq, Eq)]
+pub struct SymbolRequirement<'data> {
+    pub file: &'data str,
+    pub name: &'data str,
+    pub hash: u32,
+    pub flags: u16,
+    pub hidden: bool,
+}
+
+/// The version that a symbol is defined with.
+#[derive(Debug, Drop)]
+pub struct SymbolDefinition<'data, E: EndianParse> {
+    pub hash: u32,
+    pub flags: u16,
+    pub names: SymbolNamesIterator<'data, E>,
+    pub hidden: bool,
+}
+
+/// The names of a version, read one by one; a name that is refused does not end it.
+#[derive(Debug, Drop)]
+pub struct SymbolNamesIterator<'data, E: EndianParse> {
+    records: VerDefAuxIterator<'data, E>,
+    strings: &'data StringTable<'data>,
+}
+
+impl<'data, E: EndianParse> SymbolNamesIterator<'data, E> {
+    /// The names that these records name in these strings.
+    pub fn new(records: VerDefAuxIterator<'data, E>, strings: &'data StringTable<'data>) -> Self
+        ensures { names_left result ≡ raw_names (strings_view strings.now) (ver_def_aux_left records.entry) }
+    {
+        SymbolNamesIterator { records, strings }
+    }
+}
+
+impl<'data, E: EndianParse> Iterator for SymbolNamesIterator<'data, E> {
+    type Item = Result<&'data str, ParseError>;
+
+    ghost next_gives = { YieldsName };
+
+    ghost remaining = { item_count names_left };
+
+    fn next(&mut self) -> Option<Result<&'data str, ParseError>> {
+        let record = self.records.next()?;
+        Some(self.strings.get(record.vda_name as usize))
+    }
+}
+
+/// The versions of the symbols of a file.
+#[derive(Debug, Drop)]
+pub struct SymbolVersionTable<'data, E: EndianParse> {
+    indexes: VersionIndexTable<'data, E>,
+    needs: Option<(VerNeedIterator<'data, E>, StringTable<'data>)>,
+    definitions: Option<(VerDefIterator<'data, E>, StringTable<'data>)>,
+}
+
+// The first of the versions of one file with this index.
+fn version_with<E: EndianParse>(
+    versions: VerNeedAuxIterator<'_, E>,
+    index: u16,
+) -> Option<VerNeedAux>
+    ensures { result ≡ version_with index (ver_need_aux_left versions.entry) }
+{
+    for version in versions {
+        if version.vna_other == index {
+            return Some(version);
+        }
+    }
+    None
+}
+
+// The first needed version with this index, and the need that it belongs to.
+#[tactic(auto, using(crate::proofs::Versions::needed))]
+fn first_needed<E: EndianParse>(
+    needs: VerNeedIterator<'_, E>,
+    index: u16,
+) -> Option<(VerNeed, VerNeedAux)>
+    ensures { result ≡ needed_version index (ver_needs_left needs.entry) }
+{
+    for (need, versions) in needs {
+        if let Some(version) = version_with(versions, index) {
+            return Some((need, version));
+        }
+    }
+    None
+}
+
+// The first definition with this index, and its names.
+#[tactic(auto, unfolding(crate::specs::Symver::defined_version))]
+fn first_defined<'data, E: EndianParse>(
+    definitions: VerDefIterator<'data, E>,
+    index: u16,
+) -> Option<(VerDef, VerDefAuxIterator<'data, E>)>
+    ensures { option_map ver_def_view result ≡ defined_version index (ver_defs_left definitions.entry) }
+{
+    for (definition, names) in definitions {
+        if definition.vd_ndx == index {
+            return Some((definition, names));
+        }
+    }
+    None
+}
+
+// The file's name and the version's name, with what stands beside them.
+fn read_requirement<'data>(
+    strings: StringTable<'data>,
+    need: VerNeed,
+    version: VerNeedAux,
+    hidden: bool,
+) -> Result<SymbolRequirement<'data>, ParseError>
+    ensures { GivesTexts (requirement_by (strings_view strings.entry) hidden (need, version)) result }
+{
+    let file = strings.get(need.vn_file as usize)?;
+    let name = strings.get(version.vna_name as usize)?;
+    Ok(SymbolRequirement {
+        file,
+        name,
+        hash: version.vna_hash,
+        flags: version.vna_flags,
+        hidden,
+    })
+}
+
+// The definition with its names, which are read when they are asked for.
+fn read_definition<'data, E: EndianParse>(
+    strings: &'data StringTable<'data>,
+    definition: VerDef,
+    names: VerDefAuxIterator<'data, E>,
+    hidden: bool,
+) -> SymbolDefinition<'data, E>
+    ensures value { definition_view result
+        ≡ definition_by (strings_view strings.now) hidden (ver_def_view (definition, names.entry)) }
+    ensures count { definition.vd_cnt < 2 ^ 16 }
+{
+    SymbolDefinition {
+        hash: definition.vd_hash,
+        flags: definition.vd_flags,
+        names: SymbolNamesIterator::new(names, strings),
+        hidden,
+    }
+}
+
+impl<'data, E: EndianParse> SymbolVersionTable<'data, E> {
+    /// The versions by the indexes of the symbols, the needs with their strings and the definitions with
+    /// theirs.
+    pub fn new(
+        version_ids: VersionIndexTable<'data, E>,
+        verneeds: Option<(VerNeedIterator<'data, E>, StringTable<'data>)>,
+        verdefs: Option<(VerDefIterator<'data, E>, StringTable<'data>)>,
+    ) -> Self
+        ensures { versions_view result ≡ record {
+          indexes = table_view version_ids.entry;
+          needs = option_map needs_view verneeds.entry;
+          definitions = option_map definitions_view verdefs.entry;
+        } }
+    {
+        SymbolVersionTable {
+            indexes: version_ids,
+            needs: verneeds,
+            definitions: verdefs,
+        }
+    }
+
+    /// The version that a symbol, counted from 0, needs of another file: `None` where there are no needs,
+    /// whatever its version index, and where none has this index. Refuses as the table of version indexes
+    /// does, and then as `StringTable::get` does for the file's name and for the version's name.
+    pub fn get_requirement(
+        &self,
+        symbol: usize,
+    ) -> Result<Option<SymbolRequirement<'_>>, ParseError>
+        ensures { GivesRequirement (requirement (versions_view self.now) symbol) result }
+    {
+        let Some((needs, strings)) = self.needs else {
+            return Ok(None);
+        };
+        let index = self.indexes.get(symbol)?;
+        let Some((need, version)) = first_needed(needs, index.index()) else {
+            return Ok(None);
+        };
+        Ok(Some(read_requirement(strings, need, version, index.is_hidden())?))
+    }
+
+    /// The version that a symbol, counted from 0, is defined with: `None` where there are no definitions,
+    /// whatever its version index, and where none has this index. Refuses as the table of version indexes
+    /// does. The names are read when they are asked for.
+    pub fn get_definition(
+        &self,
+        symbol: usize,
+    ) -> Result<Option<SymbolDefinition<'_, E>>, ParseError>
+        ensures value { ok_map (option_map definition_view) result ≡ definition (versions_view self.now) symbol }
+        ensures few { HasFewNames result }
+    {
+        let Some((definitions, strings)) = &self.definitions else {
+            return Ok(None);
+        };
+        let index = self.indexes.get(symbol)?;
+        let Some((definition, names)) = first_defined(*definitions, index.index()) else {
+            return Ok(None);
+        };
+        Ok(Some(read_definition(strings, definition, names, index.is_hidden())))
+    }
+}

@@ -1,0 +1,62 @@
+//! Hash sections, by which symbols are found by their names: SysV's (gABI, chapter "Hash Table") and GNU's.
+ghost use Rattle.std.specs.Prelude.{◌≡◌, ◌+◌, ◌<◌, ◌^◌, ◌≤◌, OnOk, length};
+ghost use Rattle.elf_parts.specs.Hash.{named_symbol, word_at, word_count};
+ghost use Rattle.elf_parts.specs.Number.{bytes_at, ok_map};
+ghost use Rattle.elf_parts.specs.StringTable.{strings_view};
+ghost use Rattle.elf_parts.specs.Table.{table_view};
+
+use crate::endian::EndianParse;
+use crate::parse::{ParseError, ParsingTable};
+use crate::string_table::StringTable;
+use crate::symbol::{Symbol, SymbolTable};
+
+mod gnu;
+mod sysv;
+
+pub use gnu::{GnuHashHeader, GnuHashTable, gnu_hash};
+pub use sysv::{SysVHashHeader, SysVHashTable, sysv_hash};
+
+/// A table of words of four bytes.
+type U32Table<'data, E> = ParsingTable<'data, E, u32>;
+
+// So many bytes of the data from start on.
+#[tactic(auto, unfolding(crate::specs::Number::bytes_at))]
+fn get_bytes<'data>(data: &'data [u8], start: usize, size: usize) -> Result<&'data [u8], ParseError>
+    ensures value { ok_map (λ bytes. bytes.now) result ≡ bytes_at size «data».now start }
+    ensures within { OnOk result (start + size ≤ length «data».now) }
+{
+    let end = start.checked_add(size).ok_or(ParseError::IntegerOverflow)?;
+    data.get(start..end)
+        .ok_or(ParseError::SliceReadError((start, end)))
+}
+
+// A word of a table.
+#[tactic(auto, unfolding(crate::specs::Hash::word_at))]
+fn word<E: EndianParse>(words: &U32Table<'_, E>, index: usize) -> Result<usize, ParseError>
+    ensures { result ≡ word_at (table_view words.now) index }
+{
+    Ok(words.get(index)? as usize)
+}
+
+// How many words a table holds.
+fn word_count<E: EndianParse>(words: &U32Table<'_, E>) -> usize
+    ensures count { result ≡ word_count (table_view words.now) }
+    ensures bound { result < 2 ^ 62 }
+{
+    words.len()
+}
+
+// A symbol and its name.
+#[tactic(auto, unfolding(crate::specs::Hash::named_symbol))]
+fn named_symbol<'data, E: EndianParse>(
+    symtab: &SymbolTable<'data, E>,
+    strtab: &StringTable<'data>,
+    index: usize,
+) -> Result<(Symbol, &'data [u8]), ParseError>
+    ensures { ok_map (λ found. (found.0, found.1.now)) result
+        ≡ named_symbol (table_view symtab.now) (strings_view strtab.now) index }
+{
+    let symbol = symtab.get(index)?;
+    let name = strtab.get_raw(symbol.st_name as usize)?;
+    Ok((symbol, name))
+}

@@ -1,0 +1,268 @@
+//! GNU hash sections.
+ghost use Rattle.std.specs.Prelude.{◌≡◌, ◌-◌, ◌<◌};
+ghost use Rattle.elf_parts.specs.GnuFind.{bloom_word, find_in_run, gnu_find, gnu_section, gnu_view, passes, word_decides};
+ghost use Rattle.elf_parts.specs.Hash.{gnu_hash_of, word_count};
+ghost use Rattle.elf_parts.specs.Number.{ok_map};
+ghost use Rattle.elf_parts.specs.StringTable.{strings_view};
+ghost use Rattle.elf_parts.specs.Table.{table_in, table_view};
+
+use crate::endian::{BigEndian, EndianParse, LittleEndian};
+use crate::file::Class;
+use crate::hash::{U32Table, get_bytes, named_symbol, word, word_count};
+use crate::parse::{ParseAt, ParseError, ParsingTable};
+use crate::string_table::StringTable;
+use crate::symbol::{Symbol, SymbolTable};
+
+type U64Table<'data, E> = ParsingTable<'data, E, u64>;
+
+/// The header of a GNU hash section.
+#[derive(Clone, Debug, Drop, PartialEq, Eq)]
+pub struct GnuHashHeader {
+    /// How many buckets there are.
+    pub nbucket: u32,
+    /// The index of the first symbol that the section can find.
+    pub table_start_idx: u32,
+    /// How many bloom words there are.
+    pub nbloom: u32,
+    /// By how many bits a hash is shifted right for its second bloom bit.
+    pub nshift: u32,
+}
+
+impl ParseAt for GnuHashHeader {
+    ghost use Rattle.elf_parts.specs.Hash.{gnu_header_layout, gnu_header_size};
+    ghost use Rattle.elf_parts.specs.Record.{offset_by, record_by, size_by};
+    ghost use Rattle.elf_parts.specs.inner.RecordLaws.{only_by, within_by};
+
+    ghost size = { size_by gnu_header_layout };
+
+    ghost record_at = { record_by gnu_header_layout };
+
+    ghost offset_after = { offset_by gnu_header_layout };
+
+    ghost some_size = { gnu_header_size };
+
+    ghost within = { within_by gnu_header_layout gnu_header_size };
+
+    ghost only = { only_by gnu_header_layout };
+
+    #[tactic(auto, using(crate::proofs::Packed::packed))]
+    fn parse_at<E: EndianParse>(
+        endian: E,
+        class: Class,
+        offset: &mut usize,
+        data: &[u8],
+    ) -> Result<Self, ParseError> {
+        Ok(GnuHashHeader {
+            nbucket: endian.parse_u32_at(offset, data)?,
+            table_start_idx: endian.parse_u32_at(offset, data)?,
+            nbloom: endian.parse_u32_at(offset, data)?,
+            nshift: endian.parse_u32_at(offset, data)?,
+        })
+    }
+
+    fn size_for(class: Class) -> usize {
+        16
+    }
+}
+
+/// The hash of a name in a GNU hash section.
+#[tactic(auto, unfolding(crate::specs::Hash::gnu_hash_of))]
+pub fn gnu_hash(name: &[u8]) -> u32
+    ensures { result ≡ gnu_hash_of name.now }
+{
+    let mut hash = 5381u32;
+    for byte in name {
+        hash = hash.wrapping_mul(33).wrapping_add(u32::from(*byte));
+    }
+    hash
+}
+
+/// A GNU hash section: bloom words, by which most names that are not there are passed over, and for each
+/// bucket a run of chain words, which are the hashes of symbols in order.
+///
+/// `hdr` may be changed: `find` goes by its number of bloom words, its first index and its shift as they
+/// stand, and by the buckets and chain words that `new` cut.
+#[derive(Debug, Drop)]
+pub struct GnuHashTable<'data, E: EndianParse> {
+    pub hdr: GnuHashHeader,
+    little: bool,
+    class: Class,
+    bloom: &'data [u8],
+    buckets: U32Table<'data, E>,
+    chains: U32Table<'data, E>,
+}
+
+// A bloom word: of four bytes or of eight, by the class.
+#[tactic(auto, unfolding(crate::specs::GnuFind::bloom_word, crate::specs::Hash::word_at, crate::specs::Hash::long_word_at))]
+fn bloom_word<E: EndianParse>(
+    endian: E,
+    class: Class,
+    bloom: &[u8],
+    index: usize,
+) -> Result<u64, ParseError>
+    ensures { result ≡ bloom_word (table_in (E.little endian) class bloom.now) index }
+{
+    match class {
+        Class::ELF32 => Ok(U32Table::new(endian, class, bloom).get(index)? as u64),
+        Class::ELF64 => U64Table::new(endian, class, bloom).get(index),
+    }
+}
+
+impl<'data, E: EndianParse> GnuHashTable<'data, E> {
+    /// The table that a section holds. Refuses as the header at the front does, and then the bloom words
+    /// and the buckets where they do not lie in the data. The rest of the data are the chain words.
+    #[tactic(auto, unfolding(crate::specs::GnuFind::gnu_section))]
+    pub fn new(endian: E, class: Class, data: &'data [u8]) -> Result<Self, ParseError>
+        ensures { ok_map gnu_view result ≡ gnu_section (E.little endian) class «data».now }
+    {
+        let mut offset = 0;
+        let hdr = GnuHashHeader::parse_at(endian, class, &mut offset, data)?;
+        let bloom_word_size = match class {
+            Class::ELF32 => 4,
+            Class::ELF64 => 8,
+        };
+        let bloom_size = bloom_word_size * hdr.nbloom as usize;
+        let bloom = get_bytes(data, 16, bloom_size)?;
+        let buckets_size = 4 * hdr.nbucket as usize;
+        let buckets = get_bytes(data, 16 + bloom_size, buckets_size)?;
+        let (_, chains) = data.split_at(16 + bloom_size + buckets_size);
+        Ok(GnuHashTable {
+            hdr,
+            little: endian.is_little(),
+            class,
+            bloom,
+            buckets: U32Table::new(endian, class, buckets),
+            chains: U32Table::new(endian, class, chains),
+        })
+    }
+
+    /// The class of the section, by which a bloom word has 32 or 64 bits.
+    pub fn class(&self) -> Class
+        ensures { result ≡ (gnu_view self.now).bloom.class }
+    {
+        self.class
+    }
+
+    /// A bloom word. Refuses as a table of these words does, whatever `hdr` says.
+    pub fn bloom_word(&self, index: usize) -> Result<u64, ParseError>
+        ensures { result ≡ bloom_word (gnu_view self.now).bloom index }
+    {
+        if self.little {
+            bloom_word(LittleEndian, self.class, self.bloom, index)
+        } else {
+            bloom_word(BigEndian, self.class, self.bloom, index)
+        }
+    }
+
+    /// The words of the buckets: each is the index of the first symbol of the bucket's run.
+    pub fn buckets(&self) -> ParsingTable<'data, E, u32>
+        ensures { table_view result ≡ (gnu_view self.now).buckets }
+    {
+        self.buckets
+    }
+
+    /// The chain words: the hashes of the symbols from the first index on, but that bit 0 is set where a
+    /// run ends.
+    pub fn chains(&self) -> ParsingTable<'data, E, u32>
+        ensures { table_view result ≡ (gnu_view self.now).chains }
+    {
+        self.chains
+    }
+
+    // Whether the bloom words let a hash through.
+    #[tactic(auto, using(std::proofs::lemmas::Nat::Bits::shr_and_one), unfolding(crate::specs::GnuFind::passes))]
+    fn passes(&self, hash: u32) -> Result<bool, ParseError>
+        requires { 0 < self.now.hdr.nbloom }
+        ensures { result ≡ passes (gnu_view self.now) hash }
+    {
+        let bits = match self.class {
+            Class::ELF32 => 32,
+            Class::ELF64 => 64,
+        };
+        let word = self.bloom_word((hash / bits % self.hdr.nbloom) as usize)?;
+        if (word >> (hash % bits)) & 1 == 0 {
+            return Ok(false);
+        }
+        let second = hash
+            .checked_shr(self.hdr.nshift)
+            .ok_or(ParseError::IntegerOverflow)?;
+        Ok((word >> (second % bits)) & 1 == 1)
+    }
+
+    // What a chain word decides for a name with this hash, at the index of its symbol.
+    fn decide(
+        &self,
+        hash: usize,
+        name: &[u8],
+        index: usize,
+        word: usize,
+        symtab: &SymbolTable<'data, E>,
+        strtab: &StringTable<'data>,
+    ) -> Result<Option<(usize, Symbol)>, ParseError>
+        requires { hash ≡ gnu_hash_of name.now }
+        ensures { let t = gnu_view self.now in
+            result ≡ word_decides t (table_view symtab.now) (strings_view strtab.now) name.now index word }
+    {
+        if word / 2 == hash / 2 {
+            let (symbol, raw) = named_symbol(symtab, strtab, index)?;
+            if raw == name {
+                return Ok(Some((index, symbol)));
+            }
+        }
+        Ok(None)
+    }
+
+    // The index and the symbol of a name with this hash, in the run from a place on.
+    fn find_in_run(
+        &self,
+        hash: usize,
+        name: &[u8],
+        start: usize,
+        symtab: &SymbolTable<'data, E>,
+        strtab: &StringTable<'data>,
+    ) -> Result<Option<(usize, Symbol)>, ParseError>
+        requires { hash ≡ gnu_hash_of name.now }
+        ensures { let t = gnu_view self.now in let limit = word_count t.chains - start in
+            result ≡ find_in_run t (table_view symtab.now) (strings_view strtab.now) name.now limit start }
+    {
+        let first = self.hdr.table_start_idx as usize;
+        for place in start..word_count(&self.chains) {
+            let word = word(&self.chains, place)?;
+            if let Some(found) = self.decide(hash, name, first + place, word, symtab, strtab)? {
+                return Ok(Some(found));
+            }
+            if word % 2 == 1 {
+                return Ok(None);
+            }
+        }
+        Ok(None)
+    }
+
+    /// The index and the symbol of a name, the first in the run of its bucket; none where the bloom words
+    /// or the run have no such name. Refuses as the first read on the way does that is refused, and with
+    /// `IntegerOverflow` where the second bit of the bloom word is asked for with a shift of 32 or more.
+    #[tactic(auto, unfolding(crate::specs::GnuFind::gnu_find))]
+    pub fn find(
+        &self,
+        name: &[u8],
+        symtab: &SymbolTable<'data, E>,
+        strtab: &StringTable<'data>,
+    ) -> Result<Option<(usize, Symbol)>, ParseError>
+        ensures { result ≡ gnu_find (gnu_view self.now) (table_view symtab.now) (strings_view strtab.now) name.now }
+    {
+        let nbucket = word_count(&self.buckets);
+        if nbucket == 0 || self.hdr.nbloom == 0 {
+            return Ok(None);
+        }
+        let hash = gnu_hash(name);
+        if !self.passes(hash)? {
+            return Ok(None);
+        }
+        let first = self.hdr.table_start_idx as usize;
+        let start = word(&self.buckets, hash as usize % nbucket)?;
+        if start < first {
+            return Ok(None);
+        }
+        self.find_in_run(hash as usize, name, start - first, symtab, strtab)
+    }
+}

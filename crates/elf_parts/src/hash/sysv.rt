@@ -1,0 +1,145 @@
+//! SysV hash sections (gABI, chapter "Hash Table").
+ghost use Rattle.std.specs.Prelude.{◌≡◌};
+ghost use Rattle.elf_parts.specs.Hash.{folded, sysv_hash_of};
+ghost use Rattle.elf_parts.specs.Number.{ok_map};
+ghost use Rattle.elf_parts.specs.StringTable.{strings_view};
+ghost use Rattle.elf_parts.specs.SysvFind.{sysv_find, sysv_section, sysv_view};
+ghost use Rattle.elf_parts.specs.Table.{table_view};
+
+use crate::endian::EndianParse;
+use crate::file::Class;
+use crate::hash::{U32Table, get_bytes, named_symbol, word, word_count};
+use crate::parse::{ParseAt, ParseError, ParsingTable};
+use crate::string_table::StringTable;
+use crate::symbol::{Symbol, SymbolTable};
+
+/// The header of a SysV hash section: how many buckets and how many chain words follow it.
+#[derive(Clone, Debug, Drop, PartialEq, Eq)]
+pub struct SysVHashHeader {
+    pub nbucket: u32,
+    pub nchain: u32,
+}
+
+impl ParseAt for SysVHashHeader {
+    ghost use Rattle.elf_parts.specs.Hash.{sysv_header_layout, sysv_header_size};
+    ghost use Rattle.elf_parts.specs.Record.{offset_by, record_by, size_by};
+    ghost use Rattle.elf_parts.specs.inner.RecordLaws.{only_by, within_by};
+
+    ghost size = { size_by sysv_header_layout };
+
+    ghost record_at = { record_by sysv_header_layout };
+
+    ghost offset_after = { offset_by sysv_header_layout };
+
+    ghost some_size = { sysv_header_size };
+
+    ghost within = { within_by sysv_header_layout sysv_header_size };
+
+    ghost only = { only_by sysv_header_layout };
+
+    #[tactic(auto, using(crate::proofs::Packed::packed))]
+    fn parse_at<E: EndianParse>(
+        endian: E,
+        class: Class,
+        offset: &mut usize,
+        data: &[u8],
+    ) -> Result<Self, ParseError> {
+        Ok(SysVHashHeader {
+            nbucket: endian.parse_u32_at(offset, data)?,
+            nchain: endian.parse_u32_at(offset, data)?,
+        })
+    }
+
+    fn size_for(class: Class) -> usize {
+        8
+    }
+}
+
+// Takes the top four bits off, and XORs them in at bit 4.
+fn fold_top(hash: u32) -> u32
+    ensures { result ≡ folded hash }
+{
+    let top = hash & 0xf000_0000;
+    (hash ^ (top >> 24)) & 0x0fff_ffff
+}
+
+/// The hash of a name in a SysV hash section.
+#[tactic(auto, using(crate::proofs::Hashing::hash_steps), unfolding(crate::specs::Hash::sysv_hash_of))]
+pub fn sysv_hash(name: &[u8]) -> u32
+    ensures { result ≡ sysv_hash_of name.now }
+{
+    let mut hash = 0u32;
+    for byte in name {
+        hash = fold_top(hash.wrapping_mul(16).wrapping_add(u32::from(*byte)));
+    }
+    hash
+}
+
+/// A SysV hash section: for each bucket the indices of symbols, one after the other.
+#[derive(Debug, Drop)]
+pub struct SysVHashTable<'data, E: EndianParse> {
+    buckets: U32Table<'data, E>,
+    chains: U32Table<'data, E>,
+}
+
+impl<'data, E: EndianParse> SysVHashTable<'data, E> {
+    /// The table that a section holds. Refuses as the header at the front does, and then the buckets and
+    /// the chain words where they do not lie in the data.
+    #[tactic(auto, unfolding(crate::specs::SysvFind::sysv_section))]
+    pub fn new(endian: E, class: Class, data: &'data [u8]) -> Result<Self, ParseError>
+        ensures { ok_map sysv_view result ≡ sysv_section (E.little endian) class «data».now }
+    {
+        let mut offset = 0;
+        let hdr = SysVHashHeader::parse_at(endian, class, &mut offset, data)?;
+        let buckets_size = 4 * hdr.nbucket as usize;
+        let buckets = get_bytes(data, 8, buckets_size)?;
+        let chains = get_bytes(data, 8 + buckets_size, 4 * hdr.nchain as usize)?;
+        Ok(SysVHashTable {
+            buckets: U32Table::new(endian, class, buckets),
+            chains: U32Table::new(endian, class, chains),
+        })
+    }
+
+    /// The words of the buckets: each is the first index of the bucket's chain, or 0.
+    pub fn buckets(&self) -> ParsingTable<'data, E, u32>
+        ensures { table_view result ≡ (sysv_view self.now).buckets }
+    {
+        self.buckets
+    }
+
+    /// The chain words: that of an index is the next index of its chain, or 0.
+    pub fn chains(&self) -> ParsingTable<'data, E, u32>
+        ensures { table_view result ≡ (sysv_view self.now).chains }
+    {
+        self.chains
+    }
+
+    /// The index and the symbol of a name, the first along the chain of its bucket; none where no chain
+    /// word leads to one. Refuses as the first read on the way does that is refused.
+    #[tactic(auto, unfolding(crate::specs::SysvFind::sysv_find))]
+    pub fn find(
+        &self,
+        name: &[u8],
+        symtab: &SymbolTable<'data, E>,
+        strtab: &StringTable<'data>,
+    ) -> Result<Option<(usize, Symbol)>, ParseError>
+        ensures { result ≡ sysv_find (sysv_view self.now) (table_view symtab.now) (strings_view strtab.now) name.now }
+    {
+        let nbucket = word_count(&self.buckets);
+        if nbucket == 0 {
+            return Ok(None);
+        }
+        let mut index = word(&self.buckets, sysv_hash(name) as usize % nbucket)?;
+        for _ in 0..word_count(&self.chains) {
+            if index == 0 {
+                return Ok(None);
+            }
+            let (symbol, found) = named_symbol(symtab, strtab, index)?;
+            if found == name {
+                return Ok(Some((index, symbol)));
+            }
+            index = word(&self.chains, index)?;
+        }
+        Ok(None)
+    }
+}

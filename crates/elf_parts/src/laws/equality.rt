@@ -1,0 +1,53 @@
+//! Laws of equality: records are equal exactly where their fields are.
+ghost use Rattle.std.specs.Prelude.{◌≡◌, ◌↔◌, IsTrue};
+
+use crate::compression::CompressionHeader;
+use crate::dynamic::Dyn;
+use crate::endian::EndianParse;
+use crate::file::FileHeader;
+use crate::relocation::{Rel, Rela};
+use crate::section::SectionHeader;
+use crate::segment::ProgramHeader;
+use crate::symbol::Symbol;
+
+/// Two section headers are equal exactly where all their fields are.
+pub fn equal_section_headers(a: &SectionHeader, b: &SectionHeader)
+    ensures { IsTrue (⟦<SectionHeader as PartialEq>⟧.eq a.now b.now) ↔ (a.now ≡ b.now) }
+{}
+
+/// Two program headers are equal exactly where all their fields are.
+pub fn equal_program_headers(a: &ProgramHeader, b: &ProgramHeader)
+    ensures { IsTrue (⟦<ProgramHeader as PartialEq>⟧.eq a.now b.now) ↔ (a.now ≡ b.now) }
+{}
+
+/// Two file headers are equal exactly where their orders are, as the type of orders compares them, and all
+/// their other fields.
+pub fn equal_file_headers<E: EndianParse>(a: &FileHeader<E>, b: &FileHeader<E>)
+    ensures { IsTrue (⟦<FileHeader<E> as PartialEq>⟧.eq a.now b.now)
+        ↔ (IsTrue (E.eq a.now.endianness b.now.endianness) × (record a.now { endianness = b.now.endianness } ≡ b.now)) }
+{}
+
+/// Two symbols are equal exactly where all their fields are.
+pub fn equal_symbols(a: &Symbol, b: &Symbol)
+    ensures { IsTrue (⟦<Symbol as PartialEq>⟧.eq a.now b.now) ↔ (a.now ≡ b.now) }
+{}
+
+/// Two relocations without an addend are equal exactly where all their fields are.
+pub fn equal_rels(a: &Rel, b: &Rel)
+    ensures { IsTrue (⟦<Rel as PartialEq>⟧.eq a.now b.now) ↔ (a.now ≡ b.now) }
+{}
+
+/// Two relocations with an addend are equal exactly where all their fields are.
+pub fn equal_relas(a: &Rela, b: &Rela)
+    ensures { IsTrue (⟦<Rela as PartialEq>⟧.eq a.now b.now) ↔ (a.now ≡ b.now) }
+{}
+
+/// Two dynamic entries are equal exactly where all their fields are.
+pub fn equal_dynamic_entries(a: &Dyn, b: &Dyn)
+    ensures { IsTrue (⟦<Dyn as PartialEq>⟧.eq a.now b.now) ↔ (a.now ≡ b.now) }
+{}
+
+/// Two compression headers are equal exactly where all their fields are.
+pub fn equal_compression_headers(a: &CompressionHeader, b: &CompressionHeader)
+    ensures { IsTrue (⟦<CompressionHeader as PartialEq>⟧.eq a.now b.now) ↔ (a.now ≡ b.now) }
+{}

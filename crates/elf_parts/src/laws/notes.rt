@@ -1,0 +1,30 @@
+//! Laws of notes.
+ghost use Rattle.std.specs.Prelude.{◌≡◌, ◌↔◌, ◌<◌, IsTrue};
+ghost use Rattle.std.specs.Int.{next_multiple_of};
+ghost use Rattle.elf_parts.specs.Note.{note_links, AreAllNotes, IsLeastMultiple};
+
+use crate::endian::EndianParse;
+use crate::laws::tables::PlainRecord;
+use crate::note::NoteGnuAbiTag;
+
+/// The notes of some bytes are the longest list of notes each of which begins where the one before it says.
+pub fn notes_are_the_longest_list<E: EndianParse>(endian: E, align: usize, data: &[u8])
+    ensures { AreAllNotes (E.little endian) align «data».now (note_links (E.little endian) align «data».now 0) }
+{}
+
+/// Where a part of a note begins is the least multiple of the alignment.
+pub fn parts_begin_at_the_least_multiple(align: usize, offset: usize)
+    ensures { 0 < align → IsLeastMultiple align offset (next_multiple_of offset align) }
+{}
+
+impl PlainRecord for NoteGnuAbiTag {
+    ghost use Rattle.elf_parts.specs.inner.RecordLaws.{wherever_by};
+    ghost use Rattle.elf_parts.specs.Note.{abi_tag_layout, abi_tag_free};
+
+    ghost wherever = { wherever_by abi_tag_layout abi_tag_free };
+}
+
+/// Two ABI tags are equal exactly where all their fields are.
+pub fn equal_abi_tags(a: &NoteGnuAbiTag, b: &NoteGnuAbiTag)
+    ensures { IsTrue (⟦<NoteGnuAbiTag as PartialEq>⟧.eq a.now b.now) ↔ (a.now ≡ b.now) }
+{}

@@ -1,0 +1,9 @@
+//! Laws of numbers.
+ghost use Rattle.std.specs.Prelude.{◌≡◌, true, false, reverse};
+ghost use Rattle.elf_parts.specs.Number.{number};
+
+/// A number in big order is the number of the reversed bytes in little order.
+#[tactic(auto, using(crate::proofs::Numbers::big_number_reversed))]
+pub fn big_is_little_reversed(bytes: &[u8])
+    ensures { number false bytes.now ≡ number true (reverse bytes.now) }
+{}

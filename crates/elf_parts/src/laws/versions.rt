@@ -1,0 +1,93 @@
+//! Laws of linked records and of the versions of symbols.
+ghost use Rattle.std.specs.Prelude.{◌≡◌, ◌↔◌, ◌≤◌, ◌+◌, if◌then◌else◌, length, IsTrue};
+ghost use Rattle.elf_parts.specs.Link.{AreLongest, links_in, next_start};
+ghost use Rattle.elf_parts.specs.Symver.{ver_def_aux_records, ver_need_aux_records, version_index, version_is_hidden};
+ghost use Rattle.elf_parts.specs.Table.{table_in};
+
+use crate::endian::EndianParse;
+use crate::file::Class;
+use crate::gnu_symver::links::Linked;
+use crate::gnu_symver::{VerDef, VerDefAux, VerNeed, VerNeedAux, VersionIndex};
+use crate::laws::tables::PlainRecord;
+
+/// The records that a version iterator goes over are the longest list of records that are linked, and no
+/// more than the data has bytes.
+pub fn linked_records_are_the_longest_list<E: EndianParse, R: Linked>(
+    endian: E,
+    class: Class,
+    count: u64,
+    start: usize,
+    data: &[u8],
+)
+    ensures longest { AreLongest (R.record_at (E.little endian) class «data».now)
+        (λ o x. next_start o (R.next_distance x)) count start
+        (links_in R.record_at R.next_distance (table_in (E.little endian) class «data».now) count start) }
+    ensures few { let t = table_in (E.little endian) class «data».now in
+        length (links_in R.record_at R.next_distance t count start) ≤ length «data».now }
+{}
+
+/// A need has no more versions than its `vn_cnt` says, and a definition no more names than its `vd_cnt`.
+#[tactic(auto, using(crate::proofs::LinkedRecords::map_bounds, crate::proofs::LinkedRecords::count_bounds))]
+pub fn aux_records_are_few<E: EndianParse>(
+    endian: E,
+    class: Class,
+    count: u16,
+    start: usize,
+    data: &[u8],
+)
+    ensures needs { let t = table_in (E.little endian) class «data».now in
+        length (ver_need_aux_records t count start) ≤ count }
+    ensures definitions { let t = table_in (E.little endian) class «data».now in
+        length (ver_def_aux_records t count start) ≤ count }
+{}
+
+/// The number of a version index is its index, plus 0x8000 where the version is hidden.
+pub fn index_and_hidden_bit(version: VersionIndex)
+    ensures { version.0 ≡ version_index version + (if version_is_hidden version then 0x8000 else 0) }
+{}
+
+impl PlainRecord for VerNeedAux {
+    ghost use Rattle.elf_parts.specs.inner.RecordLaws.{wherever_by};
+    ghost use Rattle.elf_parts.specs.Symver.{ver_need_aux_layout, ver_need_aux_free};
+
+    ghost wherever = { wherever_by ver_need_aux_layout ver_need_aux_free };
+}
+
+impl PlainRecord for VerDefAux {
+    ghost use Rattle.elf_parts.specs.inner.RecordLaws.{wherever_by};
+    ghost use Rattle.elf_parts.specs.Symver.{ver_def_aux_layout, ver_def_aux_free};
+
+    ghost wherever = { wherever_by ver_def_aux_layout ver_def_aux_free };
+}
+
+impl PlainRecord for VersionIndex {
+    ghost use Rattle.elf_parts.specs.inner.RecordLaws.{wherever_by};
+    ghost use Rattle.elf_parts.specs.Symver.{version_index_layout, version_index_free};
+
+    ghost wherever = { wherever_by version_index_layout version_index_free };
+}
+
+/// Two needs are equal exactly where all their fields are.
+pub fn equal_ver_needs(a: &VerNeed, b: &VerNeed)
+    ensures { IsTrue (⟦<VerNeed as PartialEq>⟧.eq a.now b.now) ↔ (a.now ≡ b.now) }
+{}
+
+/// Two needed versions are equal exactly where all their fields are.
+pub fn equal_ver_need_auxs(a: &VerNeedAux, b: &VerNeedAux)
+    ensures { IsTrue (⟦<VerNeedAux as PartialEq>⟧.eq a.now b.now) ↔ (a.now ≡ b.now) }
+{}
+
+/// Two definitions are equal exactly where all their fields are.
+pub fn equal_ver_defs(a: &VerDef, b: &VerDef)
+    ensures { IsTrue (⟦<VerDef as PartialEq>⟧.eq a.now b.now) ↔ (a.now ≡ b.now) }
+{}
+
+/// Two names of definitions are equal exactly where all their fields are.
+pub fn equal_ver_def_auxs(a: &VerDefAux, b: &VerDefAux)
+    ensures { IsTrue (⟦<VerDefAux as PartialEq>⟧.eq a.now b.now) ↔ (a.now ≡ b.now) }
+{}
+
+/// Two version indexes are equal exactly where their numbers are.
+pub fn equal_version_indexes(a: &VersionIndex, b: &VersionIndex)
+    ensures { IsTrue (⟦<VersionIndex as PartialEq>⟧.eq a.now b.now) ↔ (a.now ≡ b.now) }
+{}

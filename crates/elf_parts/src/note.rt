@@ -1,0 +1,241 @@
+//! Notes (gABI, chapter "Program Header", "Note Section").
+ghost use Rattle.std.specs.Prelude.{◌≡◌, ◌≤◌, ◌<◌, ◌^◌, ◌+◌, Bool, length, OnOk};
+ghost use Rattle.std.specs.Iterator.{YieldsFirstBy, item_count};
+ghost use Rattle.elf_parts.specs.Note.{aligned, content_of, note_and_next_view, note_at, note_view, notes_in};
+ghost use Rattle.elf_parts.specs.Note.{notes_left, GivesNameText};
+ghost use Rattle.elf_parts.specs.Number.{ok_map};
+
+use crate::endian::{EndianParse, next_bytes};
+use crate::file::Class;
+use crate::parse::{ParseAt, ParseError, read_record};
+use elf_abi::abi;
+use std::marker::PhantomData;
+use std::str::from_utf8;
+
+/// A note.
+#[derive(Debug, Drop, PartialEq, Eq)]
+pub enum Note<'data> {
+    /// The oldest system that a program runs on.
+    GnuAbiTag(NoteGnuAbiTag),
+    /// What tells a build from all others.
+    GnuBuildId(NoteGnuBuildId<'data>),
+    /// Any other note.
+    Unknown(NoteAny<'data>),
+}
+
+/// The oldest system that a program runs on.
+#[derive(Debug, Clone, Copy, PartialEq, Eq)]
+pub struct NoteGnuAbiTag {
+    pub os: u32,
+    pub major: u32,
+    pub minor: u32,
+    pub subminor: u32,
+}
+
+/// The bytes that tell a build from all others.
+#[derive(Debug, Clone, Copy, PartialEq, Eq)]
+pub struct NoteGnuBuildId<'data>(pub &'data [u8]);
+
+/// A note as it lies in the data.
+#[derive(Debug, Drop, PartialEq, Eq)]
+pub struct NoteAny<'data> {
+    pub n_type: u64,
+    pub name: &'data [u8],
+    pub desc: &'data [u8],
+}
+
+impl NoteAny<'_> {
+    /// The name as text, without the 0 bytes at its end. Refuses a name that is not UTF-8 with `Utf8Error`.
+    pub fn name_str(&self) -> Result<&str, ParseError>
+        ensures { GivesNameText self.now.name.now result }
+    {
+        let name = from_utf8(self.name)?;
+        Ok(name.trim_end_matches('\0'))
+    }
+}
+
+// The sizes of a note's name and descriptor in bytes, and its type.
+#[derive(Debug, Drop)]
+struct NoteHeader {
+    n_namesz: u32,
+    n_descsz: u32,
+    n_type: u32,
+}
+
+impl ParseAt for NoteHeader {
+    ghost use Rattle.elf_parts.specs.Record.{offset_by, record_by, size_by};
+    ghost use Rattle.elf_parts.specs.inner.RecordLaws.{only_by, within_by};
+    ghost use Rattle.elf_parts.specs.Note.{note_header_layout, note_header_size};
+
+    ghost size = { size_by note_header_layout };
+
+    ghost record_at = { record_by note_header_layout };
+
+    ghost offset_after = { offset_by note_header_layout };
+
+    ghost some_size = { note_header_size };
+
+    ghost within = { within_by note_header_layout note_header_size };
+
+    ghost only = { only_by note_header_layout };
+
+    #[tactic(auto, using(crate::proofs::Packed::packed))]
+    fn parse_at<E: EndianParse>(
+        endian: E,
+        _class: Class,
+        offset: &mut usize,
+        data: &[u8],
+    ) -> Result<Self, ParseError> {
+        Ok(NoteHeader {
+            n_namesz: endian.parse_u32_at(offset, data)?,
+            n_descsz: endian.parse_u32_at(offset, data)?,
+            n_type: endian.parse_u32_at(offset, data)?,
+        })
+    }
+
+    fn size_for(_class: Class) -> usize {
+        12
+    }
+}
+
+impl ParseAt for NoteGnuAbiTag {
+    ghost use Rattle.elf_parts.specs.Record.{offset_by, record_by, size_by};
+    ghost use Rattle.elf_parts.specs.inner.RecordLaws.{only_by, within_by};
+    ghost use Rattle.elf_parts.specs.Note.{abi_tag_layout, abi_tag_size};
+
+    ghost size = { size_by abi_tag_layout };
+
+    ghost record_at = { record_by abi_tag_layout };
+
+    ghost offset_after = { offset_by abi_tag_layout };
+
+    ghost some_size = { abi_tag_size };
+
+    ghost within = { within_by abi_tag_layout abi_tag_size };
+
+    ghost only = { only_by abi_tag_layout };
+
+    #[tactic(auto, using(crate::proofs::Packed::packed))]
+    fn parse_at<E: EndianParse>(
+        endian: E,
+        _class: Class,
+        offset: &mut usize,
+        data: &[u8],
+    ) -> Result<Self, ParseError> {
+        Ok(NoteGnuAbiTag {
+            os: endian.parse_u32_at(offset, data)?,
+            major: endian.parse_u32_at(offset, data)?,
+            minor: endian.parse_u32_at(offset, data)?,
+            subminor: endian.parse_u32_at(offset, data)?,
+        })
+    }
+
+    fn size_for(_class: Class) -> usize {
+        16
+    }
+}
+
+// The next multiple of the alignment.
+#[tactic(auto, unfolding(crate::specs::Note::aligned))]
+fn aligned(align: usize, offset: usize) -> Result<usize, ParseError>
+    ensures { result ≡ aligned align offset }
+{
+    offset
+        .checked_next_multiple_of(align)
+        .ok_or(ParseError::IntegerOverflow)
+}
+
+// What a note of this type, name and descriptor is.
+#[tactic(auto, unfolding(crate::specs::Note::content_of))]
+fn interpret<'data>(
+    little: bool,
+    n_type: u64,
+    name: &'data [u8],
+    descriptor: &'data [u8],
+) -> Result<Note<'data>, ParseError>
+    ensures { ok_map note_view result ≡ content_of little n_type name.now descriptor.now }
+{
+    if name == abi::ELF_NOTE_GNU && n_type == abi::NT_GNU_ABI_TAG {
+        let tag = read_record(little, Class::ELF32, &mut 0, descriptor)?;
+        return Ok(Note::GnuAbiTag(tag));
+    }
+    if name == abi::ELF_NOTE_GNU && n_type == abi::NT_GNU_BUILD_ID {
+        return Ok(Note::GnuBuildId(NoteGnuBuildId(descriptor)));
+    }
+    Ok(Note::Unknown(NoteAny {
+        n_type,
+        name,
+        desc: descriptor,
+    }))
+}
+
+// The note at an offset, and where the next one begins. Notes are the same in both classes.
+#[tactic(auto, unfolding(crate::specs::Note::note_at))]
+fn note_at<'data>(
+    little: bool,
+    align: usize,
+    start: usize,
+    data: &'data [u8],
+) -> Result<(Note<'data>, usize), ParseError>
+    ensures { ok_map note_and_next_view result ≡ note_at little align «data».now start }
+{
+    let mut offset = start;
+    let header = read_record::<NoteHeader>(little, Class::ELF32, &mut offset, data)?;
+    let name = next_bytes(&mut offset, header.n_namesz as usize, data)?;
+    offset = aligned(align, offset)?;
+    let descriptor = next_bytes(&mut offset, header.n_descsz as usize, data)?;
+    let next = aligned(align, offset)?;
+    let note = interpret(little, header.n_type as u64, name, descriptor)?;
+    Ok((note, next))
+}
+
+/// The notes of the data, one after the other, up to the first that does not fit. After its first `None`
+/// it gives `None`.
+#[derive(Debug, Drop)]
+pub struct NoteIterator<'data, E: EndianParse> {
+    little: bool,
+    align: usize,
+    data: &'data [u8],
+    offset: usize,
+    order: PhantomData<E>,
+}
+
+impl<'data, E: EndianParse> NoteIterator<'data, E> {
+    /// The notes of the data, each of whose parts begins at a multiple of the alignment, in bytes from the
+    /// start of the data. With an alignment of 0 there are none.
+    #[tactic(auto, using(crate::proofs::NoteLists::notes_few))]
+    pub fn new(endian: E, _class: Class, align: usize, data: &'data [u8]) -> Self
+        ensures items { notes_left result ≡ notes_in (E.little endian) align «data».now }
+        ensures few { length (notes_left result) ≤ length «data».now }
+        ensures bound { length (notes_left result) < 2 ^ 64 }
+    {
+        NoteIterator {
+            little: endian.is_little(),
+            align,
+            data,
+            offset: 0,
+            order: PhantomData,
+        }
+    }
+}
+
+impl<'data, E: EndianParse> Iterator for NoteIterator<'data, E> {
+    type Item = Note<'data>;
+
+    ghost next_gives = { YieldsFirstBy note_view notes_left };
+
+    ghost remaining = { item_count notes_left };
+
+    fn next(&mut self) -> Option<Note<'data>> {
+        match note_at(self.little, self.align, self.offset, self.data) {
+            Ok((note, next)) => {
+                self.offset = next;
+                Some(note)
+            }
+            Err(_) => {
+                self.data = &[];
+                None
+            }
+        }
+    }
+}

@@ -1,0 +1,221 @@
+//! Relocations, without and with an addend (gABI, chapter "Relocation").
+ghost use Rattle.std.specs.Prelude.{◌≡◌, [], ◌∷◌};
+ghost use Rattle.elf_parts.specs.Relocation.{rel, rela, sym_of_info, type_of_info};
+
+use crate::endian::EndianParse;
+use crate::file::Class;
+use crate::parse::{ParseAt, ParseError, ParsingIterator};
+
+/// The relocations of a section without addends.
+pub type RelIterator<'data, E> = ParsingIterator<'data, E, Rel>;
+
+/// The relocations of a section with addends.
+pub type RelaIterator<'data, E> = ParsingIterator<'data, E, Rela>;
+
+/// A relocation without an addend as a 32-bit file holds it.
+#[derive(Debug, Drop)]
+#[repr(C)]
+pub struct Elf32_Rel {
+    pub r_offset: u32,
+    pub r_info: u32,
+}
+
+/// A relocation without an addend as a 64-bit file holds it.
+#[derive(Debug, Drop)]
+#[repr(C)]
+pub struct Elf64_Rel {
+    pub r_offset: u64,
+    pub r_info: u64,
+}
+
+/// A relocation with an addend as a 32-bit file holds it.
+#[derive(Debug, Drop)]
+#[repr(C)]
+pub struct Elf32_Rela {
+    pub r_offset: u32,
+    pub r_info: u32,
+    pub r_addend: i32,
+}
+
+/// A relocation with an addend as a 64-bit file holds it.
+#[derive(Debug, Drop)]
+#[repr(C)]
+pub struct Elf64_Rela {
+    pub r_offset: u64,
+    pub r_info: u64,
+    pub r_addend: i64,
+}
+
+/// A relocation without an addend, of either class: where, the index of the symbol, and how.
+#[derive(Clone, Debug, Drop, PartialEq, Eq)]
+pub struct Rel {
+    pub r_offset: u64,
+    pub r_sym: u32,
+    pub r_type: u32,
+}
+
+/// A relocation with an addend, of either class: where, the index of the symbol, how, and what is added.
+#[derive(Clone, Debug, Drop, PartialEq, Eq)]
+pub struct Rela {
+    pub r_offset: u64,
+    pub r_sym: u32,
+    pub r_type: u32,
+    pub r_addend: i64,
+}
+
+// The index of the symbol and the type, which stand in one number of an ELF32 record.
+fn split_32(r_info: u32) -> (u32, u32)
+    ensures { result ≡ (sym_of_info Class.ELF32 r_info, type_of_info Class.ELF32 r_info) }
+{
+    (r_info >> 8, r_info & 0xff)
+}
+
+// The same in an ELF64 record.
+fn split_64(r_info: u64) -> (u32, u32)
+    ensures { result ≡ (sym_of_info Class.ELF64 r_info, type_of_info Class.ELF64 r_info) }
+{
+    ((r_info >> 32) as u32, (r_info & 0xffff_ffff) as u32)
+}
+
+// The relocation that the numbers of an ELF32 record make.
+fn rel_32(r_offset: u32, r_info: u32) -> Rel
+    ensures { result ≡ rel Class.ELF32 (r_offset ∷ r_info ∷ []) }
+{
+    let (r_sym, r_type) = split_32(r_info);
+    Rel {
+        r_offset: r_offset as u64,
+        r_sym,
+        r_type,
+    }
+}
+
+// The relocation that the numbers of an ELF64 record make.
+fn rel_64(r_offset: u64, r_info: u64) -> Rel
+    ensures { result ≡ rel Class.ELF64 (r_offset ∷ r_info ∷ []) }
+{
+    let (r_sym, r_type) = split_64(r_info);
+    Rel {
+        r_offset,
+        r_sym,
+        r_type,
+    }
+}
+
+// The same with an addend.
+fn rela_32(r_offset: u32, r_info: u32, r_addend: u32) -> Rela
+    ensures { result ≡ rela Class.ELF32 (r_offset ∷ r_info ∷ r_addend ∷ []) }
+{
+    let (r_sym, r_type) = split_32(r_info);
+    Rela {
+        r_offset: r_offset as u64,
+        r_sym,
+        r_type,
+        r_addend: r_addend.cast_signed() as i64,
+    }
+}
+
+fn rela_64(r_offset: u64, r_info: u64, r_addend: u64) -> Rela
+    ensures { result ≡ rela Class.ELF64 (r_offset ∷ r_info ∷ r_addend ∷ []) }
+{
+    let (r_sym, r_type) = split_64(r_info);
+    Rela {
+        r_offset,
+        r_sym,
+        r_type,
+        r_addend: r_addend.cast_signed(),
+    }
+}
+
+impl ParseAt for Rel {
+    ghost use Rattle.elf_parts.specs.Record.{offset_by, record_by, size_by};
+    ghost use Rattle.elf_parts.specs.Relocation.{rel_layout, rel_size};
+    ghost use Rattle.elf_parts.specs.inner.RecordLaws.{only_by, within_by};
+
+    ghost size = { size_by rel_layout };
+
+    ghost record_at = { record_by rel_layout };
+
+    ghost offset_after = { offset_by rel_layout };
+
+    ghost some_size = { rel_size };
+
+    ghost within = { within_by rel_layout rel_size };
+
+    ghost only = { only_by rel_layout };
+
+    #[tactic(auto, using(crate::proofs::Packed::packed))]
+    fn parse_at<E: EndianParse>(
+        endian: E,
+        class: Class,
+        offset: &mut usize,
+        data: &[u8],
+    ) -> Result<Self, ParseError> {
+        match class {
+            Class::ELF32 => {
+                let r_offset = endian.parse_u32_at(offset, data)?;
+                let r_info = endian.parse_u32_at(offset, data)?;
+                Ok(rel_32(r_offset, r_info))
+            }
+            Class::ELF64 => {
+                let r_offset = endian.parse_u64_at(offset, data)?;
+                let r_info = endian.parse_u64_at(offset, data)?;
+                Ok(rel_64(r_offset, r_info))
+            }
+        }
+    }
+
+    fn size_for(class: Class) -> usize {
+        match class {
+            Class::ELF32 => 8,
+            Class::ELF64 => 16,
+        }
+    }
+}
+
+impl ParseAt for Rela {
+    ghost use Rattle.elf_parts.specs.Record.{offset_by, record_by, size_by};
+    ghost use Rattle.elf_parts.specs.Relocation.{rela_layout, rela_size};
+    ghost use Rattle.elf_parts.specs.inner.RecordLaws.{only_by, within_by};
+
+    ghost size = { size_by rela_layout };
+
+    ghost record_at = { record_by rela_layout };
+
+    ghost offset_after = { offset_by rela_layout };
+
+    ghost some_size = { rela_size };
+
+    ghost within = { within_by rela_layout rela_size };
+
+    ghost only = { only_by rela_layout };
+
+    #[tactic(auto, using(crate::proofs::Packed::packed))]
+    fn parse_at<E: EndianParse>(
+        endian: E,
+        class: Class,
+        offset: &mut usize,
+        data: &[u8],
+    ) -> Result<Self, ParseError> {
+        match class {
+            Class::ELF32 => {
+                let r_offset = endian.parse_u32_at(offset, data)?;
+                let r_info = endian.parse_u32_at(offset, data)?;
+                let r_addend = endian.parse_u32_at(offset, data)?;
+                Ok(rela_32(r_offset, r_info, r_addend))
+            }
+            Class::ELF64 => {
+                let r_offset = endian.parse_u64_at(offset, data)?;
+                let r_info = endian.parse_u64_at(offset, data)?;
+                let r_addend = endian.parse_u64_at(offset, data)?;
+                Ok(rela_64(r_offset, r_info, r_addend))
+            }
+        }
+    }
+
+    fn size_for(class: Class) -> usize {
+        match class {
+            Class::ELF32 => 12,
+            Class::ELF64 => 24,
+        }
+    }
+}

@@ -1,0 +1,146 @@
+//! Symbols (gABI, chapter "Symbol Table").
+ghost use Rattle.std.specs.Prelude.{◌≡◌, ◌==◌};
+ghost use Rattle.elf_parts.specs.Symbol.{symbol_binding, symbol_type, symbol_visibility};
+
+use crate::endian::EndianParse;
+use crate::file::Class;
+use crate::parse::{ParseAt, ParseError, ParsingTable};
+use elf_abi::abi;
+
+/// A table of symbols.
+pub type SymbolTable<'data, E> = ParsingTable<'data, E, Symbol>;
+
+/// A symbol as a 32-bit file holds it.
+#[derive(Debug, Drop)]
+#[repr(C)]
+pub struct Elf32_Sym {
+    pub st_name: u32,
+    pub st_value: u32,
+    pub st_size: u32,
+    pub st_info: u8,
+    pub st_other: u8,
+    pub st_shndx: u16,
+}
+
+/// A symbol as a 64-bit file holds it.
+#[derive(Debug, Drop)]
+#[repr(C)]
+pub struct Elf64_Sym {
+    pub st_name: u32,
+    pub st_info: u8,
+    pub st_other: u8,
+    pub st_shndx: u16,
+    pub st_value: u64,
+    pub st_size: u64,
+}
+
+/// A symbol of either class. Its name is an offset into a string table, its size is in bytes.
+#[derive(Clone, Debug, Drop, PartialEq, Eq)]
+pub struct Symbol {
+    pub st_name: u32,
+    pub st_shndx: u16,
+    /// The binding in the upper four bits, the type in the lower four.
+    pub st_info: u8,
+    /// The visibility in the lowest two bits.
+    pub st_other: u8,
+    pub st_value: u64,
+    pub st_size: u64,
+}
+
+impl Symbol {
+    /// Whether no section defines the symbol.
+    pub fn is_undefined(&self) -> bool
+        ensures { result ≡ (self.now.st_shndx == 0) }
+    {
+        self.st_shndx == abi::SHN_UNDEF
+    }
+
+    /// What the symbol names: one of `STT_*`.
+    pub fn st_symtype(&self) -> u8
+        ensures { result ≡ symbol_type self.now }
+    {
+        self.st_info & 0xf
+    }
+
+    /// How far the symbol binds: one of `STB_*`.
+    pub fn st_bind(&self) -> u8
+        ensures { result ≡ symbol_binding self.now }
+    {
+        self.st_info >> 4
+    }
+
+    /// Who sees the symbol: one of `STV_*`.
+    pub fn st_vis(&self) -> u8
+        ensures { result ≡ symbol_visibility self.now }
+    {
+        self.st_other & 0x3
+    }
+}
+
+impl ParseAt for Symbol {
+    ghost use Rattle.elf_parts.specs.Record.{offset_by, record_by, size_by};
+    ghost use Rattle.elf_parts.specs.Symbol.{symbol_layout, symbol_size};
+    ghost use Rattle.elf_parts.specs.inner.RecordLaws.{only_by, within_by};
+
+    ghost size = { size_by symbol_layout };
+
+    ghost record_at = { record_by symbol_layout };
+
+    ghost offset_after = { offset_by symbol_layout };
+
+    ghost some_size = { symbol_size };
+
+    ghost within = { within_by symbol_layout symbol_size };
+
+    ghost only = { only_by symbol_layout };
+
+    #[tactic(auto, using(crate::proofs::Packed::packed))]
+    fn parse_at<E: EndianParse>(
+        endian: E,
+        class: Class,
+        offset: &mut usize,
+        data: &[u8],
+    ) -> Result<Self, ParseError> {
+        match class {
+            Class::ELF32 => {
+                let st_name = endian.parse_u32_at(offset, data)?;
+                let st_value = endian.parse_u32_at(offset, data)? as u64;
+                let st_size = endian.parse_u32_at(offset, data)? as u64;
+                let st_info = endian.parse_u8_at(offset, data)?;
+                let st_other = endian.parse_u8_at(offset, data)?;
+                let st_shndx = endian.parse_u16_at(offset, data)?;
+                Ok(Symbol {
+                    st_name,
+                    st_shndx,
+                    st_info,
+                    st_other,
+                    st_value,
+                    st_size,
+                })
+            }
+            Class::ELF64 => {
+                let st_name = endian.parse_u32_at(offset, data)?;
+                let st_info = endian.parse_u8_at(offset, data)?;
+                let st_other = endian.parse_u8_at(offset, data)?;
+                let st_shndx = endian.parse_u16_at(offset, data)?;
+                let st_value = endian.parse_u64_at(offset, data)?;
+                let st_size = endian.parse_u64_at(offset, data)?;
+                Ok(Symbol {
+                    st_name,
+                    st_shndx,
+                    st_info,
+                    st_other,
+                    st_value,
+                    st_size,
+                })
+            }
+        }
+    }
+
+    fn size_for(class: Class) -> usize {
+        match class {
+            Class::ELF32 => 16,
+            Class::ELF64 => 24,
+        }
+    }
+}

@@ -1,0 +1,14 @@
+use Rattle.std.proofs.Common.{refl}
+use Rattle.elf_parts.specs.Number.{bytes_at, number_at}
+use Rattle.elf_parts.specs.Record.{numbers_at}
+use Rattle.elf_parts.specs.File.{ident_of}
+use Rattle.elf.specs.Opening.{header_at_front, section_table}
+use Rattle.elf_worked.proofs.worked.text.no_file_listed.Goals as goal
+
+pub returns-clause-fifteen : goal.returns-clause-fifteen
+unfolding bytes_at header_at_front
+returns-clause-fifteen c = refl
+
+pub returns-clause-cut : goal.returns-clause-cut
+unfolding bytes_at ident_of numbers_at number_at header_at_front section_table
+returns-clause-cut c = refl

@@ -1,0 +1,119 @@
+-- What is known of those files: their headers, what they show when they are opened, and their listings.
+use Rattle.std.specs.Prelude.{ℕ, true, List, Option, Some, None, Result, ◌++◌}
+use Rattle.elf_parts.specs.Number.{ok_map}
+use Rattle.elf_parts.specs.Endian.{any_is_little, any_of_byte}
+use Rattle.elf_parts.specs.Table.{Table, table_in}
+use Rattle.elf_parts.specs.declared.endian.AnyEndian.{AnyEndian}
+use Rattle.elf_parts.specs.declared.endian.AnyEndian.TheVariants.{Little}
+use Rattle.elf_parts.specs.declared.file.Class.TheVariants.{ELF32, ELF64}
+use Rattle.elf_parts.specs.declared.file.FileHeader.{FileHeader}
+use Rattle.elf_parts.specs.declared.parse.ParseError.{ParseError}
+use Rattle.elf_parts.specs.declared.section.SectionHeader.{SectionHeader}
+use Rattle.elf.specs.Names.{name_table}
+use Rattle.elf.specs.ObjectFile.{object_file}
+use Rattle.elf.specs.Opening.{opened}
+use Rattle.elf.specs.View.{View}
+use Rattle.elfshow.specs.Asked.{Asked}
+use Rattle.elfshow.specs.BytesAnswers.{answers_of}
+use Rattle.elfshow.specs.Text.{text}
+use Rattle.elf_worked.specs.Files.{in_four, names_section, null_section, small_file, two_sections, zeros}
+
+-- the header of the small file
+abbrev pub small_header : FileHeader AnyEndian
+small_header = record {
+  class = ELF64;
+  endianness = Little;
+  version = 1;
+  osabi = 0;
+  abiversion = 0;
+  e_type = 2;
+  e_machine = 62;
+  e_entry = 0x401000;
+  e_phoff = 0;
+  e_shoff = 0;
+  e_flags = 0;
+  e_ehsize = 64;
+  e_phentsize = 0;
+  e_phnum = 0;
+  e_shentsize = 0;
+  e_shnum = 0;
+  e_shstrndx = 0;
+}
+
+-- it declares no table
+abbrev pub small_view : View AnyEndian
+small_view = record { ehdr = small_header; bytes = small_file; sections = None; segments = None }
+
+-- the header of the file with two sections, and with another e_shstrndx
+abbrev pub two_header_with : ℕ → FileHeader AnyEndian
+two_header_with shstrndx = record {
+  class = ELF32;
+  endianness = Little;
+  version = 0;
+  osabi = 0;
+  abiversion = 0;
+  e_type = 0;
+  e_machine = 0;
+  e_entry = 0;
+  e_phoff = 0;
+  e_shoff = 56;
+  e_flags = 0;
+  e_ehsize = 0;
+  e_phentsize = 0;
+  e_phnum = 0;
+  e_shentsize = 40;
+  e_shnum = 2;
+  e_shstrndx = shstrndx;
+}
+
+-- its table, which is its last eighty bytes
+abbrev pub two_table : Table
+two_table = table_in true ELF32 (null_section (zeros 4) ++ names_section (in_four 1))
+
+-- what it shows, and with another e_shstrndx in the standing header
+abbrev pub two_view_with : ℕ → View AnyEndian
+two_view_with shstrndx = record { ehdr = two_header_with shstrndx; bytes = two_sections; sections = Some two_table; segments = None }
+
+abbrev pub two_view : View AnyEndian
+two_view = two_view_with 1
+
+-- the first of its section headers, all of whose fields are 0, and the second
+abbrev pub null_header : SectionHeader
+null_header = record {
+  sh_name = 0;
+  sh_type = 0;
+  sh_flags = 0;
+  sh_addr = 0;
+  sh_offset = 0;
+  sh_size = 0;
+  sh_link = 0;
+  sh_info = 0;
+  sh_addralign = 0;
+  sh_entsize = 0;
+}
+
+abbrev pub names_header : SectionHeader
+names_header = record {
+  sh_name = 1;
+  sh_type = 3;
+  sh_flags = 0;
+  sh_addr = 0;
+  sh_offset = 52;
+  sh_size = 4;
+  sh_link = 0;
+  sh_info = 0;
+  sh_addralign = 1;
+  sh_entsize = 0;
+}
+
+-- the file that the bytes hold, in the order that they tell
+abbrev pub opening : List ℕ → Result (View AnyEndian) ParseError
+opening bytes = opened any_is_little any_of_byte bytes
+
+-- the bytes of the names of the sections of a file that was opened
+abbrev pub names_in : View AnyEndian → Result (Option (List ℕ)) ParseError
+names_in file = name_table (object_file any_is_little file)
+
+-- the text of the calls over that file
+abbrev pub listing : List ℕ → List Asked → Result (List ℕ) ParseError
+listing bytes calls = ok_map (λ file. text (answers_of any_is_little file) calls) (opening bytes)

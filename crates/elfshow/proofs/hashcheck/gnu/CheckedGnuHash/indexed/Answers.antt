@@ -1,0 +1,12 @@
+use Rattle.std.proofs.Common.{ℕ, subst, sym}
+use Rattle.elf_parts.specs.GnuFind.{gnu_view}
+use Rattle.elfshow.specs.SoundCount.{IsNumberOf}
+use Rattle.elfshow.specs.Scan.{IndexedGnu}
+use Rattle.elfshow.proofs.Intervals.{number_of_interval}
+use Rattle.elfshow.proofs.hashcheck.gnu.CheckedGnuHash.indexed.Goals as goal
+
+pub returns-clause-members : goal.returns-clause-members
+returns-clause-members g c =
+    let t = gnu_view c.args.self.now.table in
+    let P : ℕ → Type 0 = λ n. IsNumberOf n (IndexedGnu t) in
+    subst P (sym c.args.self.now.counted) (number_of_interval t.hdr.table_start_idx _)

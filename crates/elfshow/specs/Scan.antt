@@ -1,0 +1,57 @@
+-- The symbols that a hash section indexes, and those of them that have a name. Nothing is hashed here and no chain
+-- is looked through: the names of all indexed symbols are compared.
+use Rattle.std.specs.Prelude.{◌≡◌, ℕ, ◌+◌, ◌<◌, ◌≤◌, List, Option, Some, None}
+use Rattle.std.specs.Option.{IsSomeAnd}
+use Rattle.elf_parts.specs.GnuFind.{GnuTable}
+use Rattle.elf_parts.specs.Hash.{word_count}
+use Rattle.elf_parts.specs.SysvFind.{SysvTable}
+use Rattle.elf_parts.specs.declared.symbol.Symbol.{Symbol}
+use Rattle.elfshow.specs.Sound.{Given, named}
+use Rattle.elfshow.specs.SoundSysv.{Visits, value}
+
+-- the symbol of an index has the name
+abbrev pub HasName : {T : Type 0} → Given T → List ℕ → ℕ → Type 0
+HasName s name index = IsSomeAnd (named s.symbols s.strings index) (λ found. found.1 ≡ name)
+
+-- ---- GNU: one symbol for each chain word
+
+abbrev pub IndexedGnu : GnuTable → ℕ → Type 0
+IndexedGnu t i = (t.hdr.table_start_idx ≤ i) × (i < t.hdr.table_start_idx + word_count t.chains)
+
+module _ (s : Given GnuTable) where
+  abbrev pub ScanGnu : List ℕ → ℕ → Type 0
+  ScanGnu name i = IndexedGnu s.table i × HasName s name i
+
+  -- the least index of that name with its symbol, or that there is none
+  abbrev pub IsLeastNamed : List ℕ → Option (ℕ × Symbol) → Type 0
+  IsLeastNamed name None = (i : ℕ) → ScanGnu name i → ⊥
+  IsLeastNamed name (Some found) =
+      IndexedGnu s.table found.0 × (named s.symbols s.strings found.0 ≡ Some (found.1, name))
+      × ((i : ℕ) → ScanGnu name i → found.0 ≤ i)
+
+-- ---- SysV: the values of the chains before their 0
+
+module _ (t : SysvTable) where
+  -- those of the buckets below this one
+  abbrev pub IndexedBelow : ℕ → ℕ → Type 0
+  IndexedBelow limit index = (bucket : ℕ) × (j : ℕ) × (bucket < limit) × Visits t bucket j index
+
+  abbrev pub IndexedSysv : ℕ → Type 0
+  IndexedSysv index = IndexedBelow (word_count t.buckets) index
+
+module _ (s : Given SysvTable) where
+  abbrev pub ScanSysv : List ℕ → ℕ → Type 0
+  ScanSysv name i = IndexedSysv s.table i × HasName s name i
+
+  -- value j of a bucket's chain is the first one of that name
+  abbrev pub IsFirst : List ℕ → ℕ → ℕ → ℕ → Type 0
+  IsFirst name bucket j index =
+      (bucket < word_count s.table.buckets) × Visits s.table bucket j index
+      × ((i : ℕ) → i < j → IsSomeAnd (value s.table bucket i) (HasName s name) → ⊥)
+
+  -- the first index of that name in its chain with its symbol, or that no indexed symbol has the name
+  abbrev pub IsFirstNamed : List ℕ → Option (ℕ × Symbol) → Type 0
+  IsFirstNamed name None = (i : ℕ) → ScanSysv name i → ⊥
+  IsFirstNamed name (Some found) =
+      (named s.symbols s.strings found.0 ≡ Some (found.1, name))
+      × ((bucket : ℕ) × (j : ℕ) × IsFirst name bucket j found.0)

@@ -1,0 +1,3 @@
+pub mod HashSteps
+pub mod SoundProps
+pub mod Decisions

@@ -1,0 +1,14 @@
+pub mod Header
+pub mod Listed
+pub mod Stand
+pub mod Name
+pub mod Sections
+pub mod Segments
+pub mod Data
+pub mod Strings
+pub mod Relocations
+pub mod Symbols
+pub mod Dynamic
+pub mod Notes
+pub mod Versions
+pub mod Hashes

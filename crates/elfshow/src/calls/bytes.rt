@@ -1,0 +1,419 @@
+//! The text of a call, as an `ElfBytes` answers it.
+ghost use Rattle.std.specs.Prelude.{◌≡◌, OnOk, slice_get};
+ghost use Rattle.std.specs.Option.{option_map};
+ghost use Rattle.std.specs.Io.KnownBytes.{Appends};
+ghost use Rattle.elf_parts.specs.Number.{ok_map};
+ghost use Rattle.elf_parts.specs.GnuFind.{gnu_section};
+ghost use Rattle.elf_parts.specs.StringTable.{strings_view};
+ghost use Rattle.elf_parts.specs.SysvFind.{sysv_section};
+ghost use Rattle.elf_parts.specs.Table.{table_view};
+ghost use Rattle.elf.specs.Answers.{symbols_view};
+ghost use Rattle.elf.specs.View.{section_list, segment_list, view};
+ghost use Rattle.elfshow.specs.Asked.{Asked, asked};
+ghost use Rattle.elfshow.specs.BytesAnswers.{answers_of, symbols_with_names};
+ghost use Rattle.elfshow.specs.SoundVerdict.{section_given};
+ghost use Rattle.elfshow.specs.Verdicts.{gnu_verdict, sysv_verdict};
+ghost use Rattle.elfshow.specs.Text.{call_text, symbol_count, symbols_text, unless_none, unless_refused};
+
+use crate::calls::Call;
+use crate::hashcheck::{Checked, check_gnu, check_sysv};
+use crate::lines::data::{write_section_data, write_segment_data};
+use crate::lines::dynamic::DynLine;
+use crate::lines::hashes::{Verdict, write_verdict};
+use crate::lines::header::write_header;
+use crate::lines::listed::{write_end, write_records};
+use crate::lines::notes::write_notes;
+use crate::lines::relocations::{RelLine, RelaLine};
+use crate::lines::sections::{SectionLine, write_found};
+use crate::lines::segments::SegmentLine;
+use crate::lines::stand::{write_absent, write_none, write_refused};
+use crate::lines::strings::write_strings;
+use crate::lines::symbols::SymbolLine;
+use crate::lines::versions::write_versions;
+use elf::endian::EndianParse;
+use elf::file::Class;
+use elf::laws::tables::{iter_gives_len_records, iter_gives_whatever_get_gives};
+use elf::section::SectionHeader;
+use elf::segment::ProgramHeader;
+use elf::string_table::StringTable;
+use elf::symbol::SymbolTable;
+use elf::{ElfBytes, ParseError};
+use std::io;
+use std::io::Write;
+
+/// Writes the text of a call.
+pub(super) fn write_call<E: EndianParse, W: Write>(
+    file: &ElfBytes<'_, E>,
+    call: Call<'_>,
+    out: &mut W,
+) -> io::Result<()>
+    ensures { OnOk result (Appends (W.contents out.old) (W.contents out.new)
+        (call_text (answers_of E.little (view file.now)) (asked call.entry))) }
+{
+    match call {
+        Call::Header => write_header(&file.ehdr, out),
+        Call::Sections => write_sections(file, out),
+        Call::Segments => write_segments(file, out),
+        Call::Name(name) => write_named(file, name, out),
+        Call::Data(index) => write_data(file, index, out),
+        Call::Strings(index) => write_section_strings(file, index, out),
+        Call::Rels(index) => write_rels(file, index, out),
+        Call::Relas(index) => write_relas(file, index, out),
+        Call::Notes(index) => write_section_notes(file, index, out),
+        Call::Seg(index) => write_seg(file, index, out),
+        Call::SegNotes(index) => write_segment_notes(file, index, out),
+        Call::Symbols => write_symbols(file.symbol_table(), out),
+        Call::DynSyms => write_symbols(file.dynamic_symbol_table(), out),
+        Call::Dynamic => write_dynamic(file, out),
+        Call::Versions => write_symbol_versions(file, out),
+        Call::Sysv(index) => write_sysv(file, index, out),
+        Call::Gnu(index) => write_gnu(file, index, out),
+    }
+}
+
+// Section header i, if there is one.
+fn section_header<E: EndianParse>(file: &ElfBytes<'_, E>, index: u64) -> Option<SectionHeader>
+    ensures { result ≡ slice_get (section_list (view file.now).sections) index }
+{
+    let sections = file.section_headers()?;
+    iter_gives_whatever_get_gives(&sections, index as usize);
+    sections.get(index as usize).ok()
+}
+
+// Program header i, if there is one.
+fn program_header<E: EndianParse>(file: &ElfBytes<'_, E>, index: u64) -> Option<ProgramHeader>
+    ensures { result ≡ slice_get (segment_list (view file.now).segments) index }
+{
+    let segments = file.segments()?;
+    iter_gives_whatever_get_gives(&segments, index as usize);
+    segments.get(index as usize).ok()
+}
+
+fn write_sections<E: EndianParse, W: Write>(file: &ElfBytes<'_, E>, out: &mut W) -> io::Result<()>
+    ensures { OnOk result (Appends (W.contents out.old) (W.contents out.new)
+        (call_text (answers_of E.little (view file.now)) Asked.Sections)) }
+{
+    match file.section_headers_with_strtab() {
+        Ok((Some(sections), names)) => {
+            write_records(sections.iter(), &SectionLine { names }, out)
+        }
+        Ok((None, _)) => write_end(0, out),
+        Err(_) => write_refused(out),
+    }
+}
+
+fn write_segments<E: EndianParse, W: Write>(file: &ElfBytes<'_, E>, out: &mut W) -> io::Result<()>
+    ensures { OnOk result (Appends (W.contents out.old) (W.contents out.new)
+        (call_text (answers_of E.little (view file.now)) Asked.Segments)) }
+{
+    match file.segments() {
+        Some(segments) => write_records(segments.iter(), &SegmentLine, out),
+        None => write_end(0, out),
+    }
+}
+
+fn write_named<E: EndianParse, W: Write>(
+    file: &ElfBytes<'_, E>,
+    name: &str,
+    out: &mut W,
+) -> io::Result<()>
+    ensures { OnOk result (Appends (W.contents out.old) (W.contents out.new)
+        (call_text (answers_of E.little (view file.now)) (Asked.Name name.now))) }
+{
+    match file.section_header_by_name(name) {
+        Ok(Some(section)) => write_found(&section, out),
+        Ok(None) => write_none(out),
+        Err(_) => write_refused(out),
+    }
+}
+
+fn write_data<E: EndianParse, W: Write>(
+    file: &ElfBytes<'_, E>,
+    index: u64,
+    out: &mut W,
+) -> io::Result<()>
+    ensures { OnOk result (Appends (W.contents out.old) (W.contents out.new)
+        (call_text (answers_of E.little (view file.now)) (Asked.Data index))) }
+{
+    let Some(section) = section_header(file, index) else {
+        return write_absent(out);
+    };
+    match file.section_data(&section) {
+        Ok((bytes, header)) => write_section_data(bytes, header.as_ref(), out),
+        Err(_) => write_refused(out),
+    }
+}
+
+fn write_section_strings<E: EndianParse, W: Write>(
+    file: &ElfBytes<'_, E>,
+    index: u64,
+    out: &mut W,
+) -> io::Result<()>
+    ensures { OnOk result (Appends (W.contents out.old) (W.contents out.new)
+        (call_text (answers_of E.little (view file.now)) (Asked.Strings index))) }
+{
+    let Some(section) = section_header(file, index) else {
+        return write_absent(out);
+    };
+    match file.section_data_as_strtab(&section) {
+        Ok(strings) => write_strings(strings, out),
+        Err(_) => write_refused(out),
+    }
+}
+
+fn write_rels<E: EndianParse, W: Write>(
+    file: &ElfBytes<'_, E>,
+    index: u64,
+    out: &mut W,
+) -> io::Result<()>
+    ensures { OnOk result (Appends (W.contents out.old) (W.contents out.new)
+        (call_text (answers_of E.little (view file.now)) (Asked.Rels index))) }
+{
+    let Some(section) = section_header(file, index) else {
+        return write_absent(out);
+    };
+    match file.section_data_as_rels(&section) {
+        Ok(rels) => write_records(rels, &RelLine, out),
+        Err(_) => write_refused(out),
+    }
+}
+
+fn write_relas<E: EndianParse, W: Write>(
+    file: &ElfBytes<'_, E>,
+    index: u64,
+    out: &mut W,
+) -> io::Result<()>
+    ensures { OnOk result (Appends (W.contents out.old) (W.contents out.new)
+        (call_text (answers_of E.little (view file.now)) (Asked.Relas index))) }
+{
+    let Some(section) = section_header(file, index) else {
+        return write_absent(out);
+    };
+    match file.section_data_as_relas(&section) {
+        Ok(relas) => write_records(relas, &RelaLine, out),
+        Err(_) => write_refused(out),
+    }
+}
+
+fn write_seg<E: EndianParse, W: Write>(
+    file: &ElfBytes<'_, E>,
+    index: u64,
+    out: &mut W,
+) -> io::Result<()>
+    ensures { OnOk result (Appends (W.contents out.old) (W.contents out.new)
+        (call_text (answers_of E.little (view file.now)) (Asked.Seg index))) }
+{
+    let Some(segment) = program_header(file, index) else {
+        return write_absent(out);
+    };
+    match file.segment_data(&segment) {
+        Ok(bytes) => write_segment_data(bytes, out),
+        Err(_) => write_refused(out),
+    }
+}
+
+// The symbols that a reader answered.
+fn write_symbols<E: EndianParse, W: Write>(
+    found: Result<Option<(SymbolTable<'_, E>, StringTable<'_>)>, ParseError>,
+    out: &mut W,
+) -> io::Result<()>
+    ensures { OnOk result (Appends (W.contents out.old) (W.contents out.new) (unless_refused (unless_none symbols_text)
+        (ok_map (option_map symbols_with_names) (ok_map (option_map symbols_view) found.entry)))) }
+{
+    match found {
+        Ok(Some((symbols, strings))) => {
+            write_records(symbols.iter(), &SymbolLine { strings }, out)
+        }
+        Ok(None) => write_none(out),
+        Err(_) => write_refused(out),
+    }
+}
+
+fn write_dynamic<E: EndianParse, W: Write>(file: &ElfBytes<'_, E>, out: &mut W) -> io::Result<()>
+    ensures { OnOk result (Appends (W.contents out.old) (W.contents out.new)
+        (call_text (answers_of E.little (view file.now)) Asked.Dynamic)) }
+{
+    match file.dynamic() {
+        Ok(Some(entries)) => write_records(entries.iter(), &DynLine, out),
+        Ok(None) => write_none(out),
+        Err(_) => write_refused(out),
+    }
+}
+
+fn write_section_notes<E: EndianParse, W: Write>(
+    file: &ElfBytes<'_, E>,
+    index: u64,
+    out: &mut W,
+) -> io::Result<()>
+    ensures { OnOk result (Appends (W.contents out.old) (W.contents out.new)
+        (call_text (answers_of E.little (view file.now)) (Asked.Notes index))) }
+{
+    let Some(section) = section_header(file, index) else {
+        return write_absent(out);
+    };
+    match file.section_data_as_notes(&section) {
+        Ok(notes) => write_notes(notes, out),
+        Err(_) => write_refused(out),
+    }
+}
+
+fn write_segment_notes<E: EndianParse, W: Write>(
+    file: &ElfBytes<'_, E>,
+    index: u64,
+    out: &mut W,
+) -> io::Result<()>
+    ensures { OnOk result (Appends (W.contents out.old) (W.contents out.new)
+        (call_text (answers_of E.little (view file.now)) (Asked.SegNotes index))) }
+{
+    let Some(phdr) = program_header(file, index) else {
+        return write_absent(out);
+    };
+    match file.segment_data_as_notes(&phdr) {
+        Ok(notes) => write_notes(notes, out),
+        Err(_) => write_refused(out),
+    }
+}
+
+// How many symbols for dynamic linking there are; where no table of them is there are none.
+fn dynamic_symbol_count<E: EndianParse>(file: &ElfBytes<'_, E>) -> Result<usize, ParseError>
+    ensures { result ≡ ok_map symbol_count (answers_of E.little (view file.now)).dynamic_symbols }
+{
+    match file.dynamic_symbol_table()? {
+        Some((symbols, _)) => {
+            iter_gives_len_records(&symbols);
+            Ok(symbols.len())
+        }
+        None => Ok(0),
+    }
+}
+
+fn write_symbol_versions<E: EndianParse, W: Write>(
+    file: &ElfBytes<'_, E>,
+    out: &mut W,
+) -> io::Result<()>
+    ensures { OnOk result (Appends (W.contents out.old) (W.contents out.new)
+        (call_text (answers_of E.little (view file.now)) Asked.Versions)) }
+{
+    let Ok(symbols) = dynamic_symbol_count(file) else {
+        return write_refused(out);
+    };
+    match file.symbol_version_table() {
+        Ok(Some(versions)) => write_versions(symbols, &versions, out),
+        Ok(None) => write_none(out),
+        Err(_) => write_refused(out),
+    }
+}
+
+// What the checker says of bytes as a SysV hash section.
+fn sysv_verdict<E: EndianParse>(
+    endian: E,
+    class: Class,
+    bytes: &[u8],
+    symbols: SymbolTable<'_, E>,
+    strings: StringTable<'_>,
+) -> Result<Verdict, ParseError>
+    ensures { result ≡ ok_map sysv_verdict (section_given (table_view symbols.entry) (strings_view strings.entry)
+        (sysv_section (E.little endian) class bytes.now)) }
+{
+    match check_sysv(endian, class, bytes, symbols, strings) {
+        Ok(Checked::Sound(checked)) => Ok(Verdict::Sound(checked.indexed())),
+        Ok(Checked::Faulty(_)) => Ok(Verdict::Faulty),
+        Err(error) => Err(error),
+    }
+}
+
+// The same of a section of the file, for its symbols for dynamic linking, if there are any.
+fn section_sysv_verdict<E: EndianParse>(
+    file: &ElfBytes<'_, E>,
+    section: &SectionHeader,
+) -> Result<Option<Verdict>, ParseError>
+    ensures { result ≡ (answers_of E.little (view file.now)).sysv section.now }
+{
+    let (bytes, _) = file.section_data(section)?;
+    let Some((symbols, strings)) = file.dynamic_symbol_table()? else {
+        return Ok(None);
+    };
+    let verdict = sysv_verdict(
+        file.ehdr.endianness,
+        file.ehdr.class,
+        bytes,
+        symbols,
+        strings,
+    )?;
+    Ok(Some(verdict))
+}
+
+fn write_sysv<E: EndianParse, W: Write>(
+    file: &ElfBytes<'_, E>,
+    index: u64,
+    out: &mut W,
+) -> io::Result<()>
+    ensures { OnOk result (Appends (W.contents out.old) (W.contents out.new)
+        (call_text (answers_of E.little (view file.now)) (Asked.Sysv index))) }
+{
+    let Some(section) = section_header(file, index) else {
+        return write_absent(out);
+    };
+    match section_sysv_verdict(file, &section) {
+        Ok(Some(verdict)) => write_verdict(verdict, out),
+        Ok(None) => write_none(out),
+        Err(_) => write_refused(out),
+    }
+}
+
+// What the checker says of bytes as a GNU hash section.
+fn gnu_verdict<E: EndianParse>(
+    endian: E,
+    class: Class,
+    bytes: &[u8],
+    symbols: SymbolTable<'_, E>,
+    strings: StringTable<'_>,
+) -> Result<Verdict, ParseError>
+    ensures { result ≡ ok_map gnu_verdict (section_given (table_view symbols.entry) (strings_view strings.entry)
+        (gnu_section (E.little endian) class bytes.now)) }
+{
+    match check_gnu(endian, class, bytes, symbols, strings) {
+        Ok(Checked::Sound(checked)) => Ok(Verdict::Sound(checked.indexed())),
+        Ok(Checked::Faulty(_)) => Ok(Verdict::Faulty),
+        Err(error) => Err(error),
+    }
+}
+
+// The same of a section of the file, for its symbols for dynamic linking, if there are any.
+fn section_gnu_verdict<E: EndianParse>(
+    file: &ElfBytes<'_, E>,
+    section: &SectionHeader,
+) -> Result<Option<Verdict>, ParseError>
+    ensures { result ≡ (answers_of E.little (view file.now)).gnu section.now }
+{
+    let (bytes, _) = file.section_data(section)?;
+    let Some((symbols, strings)) = file.dynamic_symbol_table()? else {
+        return Ok(None);
+    };
+    let verdict = gnu_verdict(
+        file.ehdr.endianness,
+        file.ehdr.class,
+        bytes,
+        symbols,
+        strings,
+    )?;
+    Ok(Some(verdict))
+}
+
+fn write_gnu<E: EndianParse, W: Write>(
+    file: &ElfBytes<'_, E>,
+    index: u64,
+    out: &mut W,
+) -> io::Result<()>
+    ensures { OnOk result (Appends (W.contents out.old) (W.contents out.new)
+        (call_text (answers_of E.little (view file.now)) (Asked.Gnu index))) }
+{
+    let Some(section) = section_header(file, index) else {
+        return write_absent(out);
+    };
+    match section_gnu_verdict(file, &section) {
+        Ok(Some(verdict)) => write_verdict(verdict, out),
+        Ok(None) => write_none(out),
+        Err(_) => write_refused(out),
+    }
+}

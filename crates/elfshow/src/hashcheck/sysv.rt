@@ -1,0 +1,55 @@
+//! SysV sections that are sound.
+ghost use Rattle.std.specs.Prelude.{◌≡◌};
+ghost use Rattle.elf_parts.specs.Hash.{word_count};
+ghost use Rattle.elf_parts.specs.SysvFind.{sysv_view};
+ghost use Rattle.elfshow.specs.Scan.{IndexedSysv, IsFirstNamed};
+ghost use Rattle.elfshow.specs.Sound.{sysv_given};
+ghost use Rattle.elfshow.specs.SoundCount.{IsNumberOf};
+ghost use Rattle.elfshow.specs.SoundSysv.{SoundSysv};
+ghost use Rattle.elfshow.specs.ChainLengths.{chain_lengths};
+ghost use Rattle.elfshow.specs.inner.SoundProps.{SoundSysv-prop, SysvReads, SysvReads-prop};
+
+mod check;
+
+pub use check::{check_sysv, check_sysv_counted};
+use elf_parts::endian::EndianParse;
+use elf_parts::hash::SysVHashTable;
+use elf_parts::string_table::StringTable;
+use elf_parts::symbol::{Symbol, SymbolTable};
+
+/// A SysV hash section that is sound for its symbols.
+#[derive(Debug, Drop)]
+pub struct CheckedSysvHash<'data, E: EndianParse> {
+    table: SysVHashTable<'data, E>,
+    symtab: SymbolTable<'data, E>,
+    strtab: StringTable<'data>,
+    indexed: usize,
+    ghost sound: { SoundSysv (sysv_given table symtab strtab) } by { SoundSysv-prop (sysv_given table symtab strtab) },
+    ghost readable: { SysvReads (sysv_view table) } by { SysvReads-prop (sysv_view table) },
+    ghost counted: { indexed ≡ chain_lengths (sysv_view table) (word_count (sysv_view table).buckets) },
+}
+
+impl<'data, E: EndianParse> CheckedSysvHash<'data, E> {
+    ghost use Rattle.elfshow.specs.CheckedView.{checked_sysv_view, sysv_indexed};
+
+    /// The index and the symbol of a name, the first in its chain; none where no indexed symbol has the
+    /// name.
+    pub fn find(&self, name: &[u8]) -> Option<(usize, Symbol)>
+        ensures { IsFirstNamed (checked_sysv_view self.now) name.now result }
+    {
+        match self.table.find(name, &self.symtab, &self.strtab) {
+            Ok(found) => found,
+            Err(_) => None,
+        }
+    }
+
+    /// How many symbols the section indexes.
+    pub fn indexed(&self) -> usize
+        ensures count { result ≡ sysv_indexed self.now }
+        ensures lengths { let table = (checked_sysv_view self.now).table in
+            result ≡ chain_lengths table (word_count table.buckets) }
+        ensures members { IsNumberOf result (IndexedSysv (checked_sysv_view self.now).table) }
+    {
+        self.indexed
+    }
+}

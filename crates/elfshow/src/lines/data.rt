@@ -1,0 +1,61 @@
+//! The line of the bytes of a section or a segment.
+ghost use Rattle.std.specs.Prelude.{OnOk};
+ghost use Rattle.std.specs.Option.{option_map};
+ghost use Rattle.std.specs.Io.KnownBytes.{Appends};
+ghost use Rattle.elfshow.specs.lines.Data.{compression_fields, data_fields, section_data_line, segment_data_line};
+
+use crate::pieces::write_hex;
+use elf::compression::CompressionHeader;
+use std::io;
+use std::io::Write;
+
+/// The line of a section's bytes, and of the compression header that stood before them.
+pub(crate) fn write_section_data<W: Write>(
+    bytes: &[u8],
+    header: Option<&CompressionHeader>,
+    out: &mut W,
+) -> io::Result<()>
+    ensures { OnOk result (Appends (W.contents out.old) (W.contents out.new)
+        (section_data_line bytes.now (option_map (λ header. header.now) header.entry))) }
+{
+    write_data_fields(bytes, out)?;
+    write_compression_fields(header, out)?;
+    writeln!(out)
+}
+
+/// The line of a segment's bytes.
+pub(crate) fn write_segment_data<W: Write>(bytes: &[u8], out: &mut W) -> io::Result<()>
+    ensures { OnOk result (Appends (W.contents out.old) (W.contents out.new) (segment_data_line bytes.now)) }
+{
+    write_data_fields(bytes, out)?;
+    writeln!(out)
+}
+
+fn write_data_fields<W: Write>(bytes: &[u8], out: &mut W) -> io::Result<()>
+    ensures { OnOk result (Appends (W.contents out.old) (W.contents out.new) (data_fields bytes.now)) }
+{
+    let size = bytes.len();
+    write!(out, "data size={size} hex=")?;
+    write_hex(bytes, out)
+}
+
+fn write_compression_fields<W: Write>(
+    header: Option<&CompressionHeader>,
+    out: &mut W,
+) -> io::Result<()>
+    ensures { OnOk result (Appends (W.contents out.old) (W.contents out.new)
+        (compression_fields (option_map (λ header. header.now) header.entry))) }
+{
+    let Some(header) = header else {
+        return Ok(());
+    };
+    let CompressionHeader {
+        ch_type,
+        ch_size,
+        ch_addralign,
+    } = *header;
+    write!(
+        out,
+        " chtype={ch_type} chsize={ch_size} chalign={ch_addralign}"
+    )
+}

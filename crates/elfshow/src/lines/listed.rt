@@ -1,0 +1,64 @@
+//! Lists: a line for each item, and a last line with their number.
+ghost use Rattle.std.specs.Prelude.{◌≡◌, ◌-◌, ◌^◌, ℕ, List, OnOk, length, ◌<◌};
+ghost use Rattle.std.specs.Iterator.{Drains, UpTo};
+ghost use Rattle.std.specs.Io.KnownBytes.{Appends};
+ghost use Rattle.elf_parts.specs.Table.{items_left};
+ghost use Rattle.elfshow.specs.lines.Listed.{end_line, listed};
+
+use elf::endian::EndianParse;
+use elf::parse::{ParseAt, ParsingIterator};
+use std::io;
+use std::io::Write;
+
+/// How the items of a list are shown: each by a line that tells its number.
+pub(crate) trait Line {
+    type Item;
+
+    ghost line: { Self → ℕ → Self.Item → List ℕ };
+
+    fn write_line<W: Write>(&self, k: u64, item: &Self::Item, out: &mut W) -> io::Result<()>
+        ensures { OnOk result (Appends (W.contents out.old) (W.contents out.new) (line self.now k item.now)) };
+}
+
+/// The lines of what an iterator gives, and how many they are. Keeps none of the items.
+pub(crate) fn write_list<L: Line, I: Iterator<Item = L::Item> + Drop, W: Write>(
+    items: I,
+    line: &L,
+    out: &mut W,
+) -> io::Result<()>
+where
+    L::Item: Drop,
+    requires can { I.can_next items }
+    requires few { UpTo (I.remaining items) (2 ^ 64 - 1) }
+    ensures { OnOk result ((shown : List L.Item) × Drains I.next_gives items shown
+        × Appends (W.contents out.old) (W.contents out.new) (listed (L.line line.now) shown)) }
+{
+    let mut count = 0;
+    for item in items {
+        line.write_line(count, &item, out)?;
+        count += 1;
+    }
+    write_end(count, out)
+}
+
+/// The last line of a list of so many items.
+pub(crate) fn write_end<W: Write>(count: u64, out: &mut W) -> io::Result<()>
+    ensures { OnOk result (Appends (W.contents out.old) (W.contents out.new) (end_line count)) }
+{
+    writeln!(out, "end {count}")
+}
+
+/// The lines of the records of a table.
+pub(crate) fn write_records<E: EndianParse, L: Line, W: Write>(
+    records: ParsingIterator<'_, E, L::Item>,
+    line: &L,
+    out: &mut W,
+) -> io::Result<()>
+where
+    L::Item: ParseAt + Drop,
+    requires { length (items_left L.Item.size L.Item.record_at records) < 2 ^ 64 }
+    ensures { OnOk result (Appends (W.contents out.old) (W.contents out.new)
+        (listed (L.line line.now) (items_left L.Item.size L.Item.record_at records.entry))) }
+{
+    write_list(records, line, out)
+}

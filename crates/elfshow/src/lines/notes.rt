@@ -1,0 +1,80 @@
+//! The lines of notes.
+ghost use Rattle.std.specs.Prelude.{OnOk, length, ◌<◌, ◌^◌};
+ghost use Rattle.std.specs.Io.KnownBytes.{Appends};
+ghost use Rattle.elf_parts.specs.Note.{AbiTag, BuildId, Other, note_view, notes_left};
+ghost use Rattle.elfshow.specs.lines.Listed.{listed};
+ghost use Rattle.elfshow.specs.lines.Notes.{content_line, note_line};
+
+use crate::lines::listed::{Line, write_list};
+use crate::pieces::{write_escaped, write_hex};
+use elf::endian::EndianParse;
+use elf::note::{Note, NoteAny, NoteGnuAbiTag, NoteIterator};
+use std::io;
+use std::io::Write;
+use std::marker::PhantomData;
+
+/// The line of a note, whose parts are lent.
+#[derive(Clone, Copy)]
+struct NoteLine<'a> {
+    lent: PhantomData<&'a [u8]>,
+}
+
+impl<'a> Line for NoteLine<'a> {
+    type Item = Note<'a>;
+
+    ghost line = { λ by k note. note_line k (note_view note) };
+
+    fn write_line<W: Write>(&self, _k: u64, note: &Note<'a>, out: &mut W) -> io::Result<()> {
+        match note {
+            Note::GnuAbiTag(tag) => write_abi_tag(tag, out),
+            Note::GnuBuildId(id) => write_build_id(id.0, out),
+            Note::Unknown(note) => write_other(note, out),
+        }
+    }
+}
+
+fn write_abi_tag<W: Write>(tag: &NoteGnuAbiTag, out: &mut W) -> io::Result<()>
+    ensures { OnOk result (Appends (W.contents out.old) (W.contents out.new) (content_line (AbiTag tag.now))) }
+{
+    let NoteGnuAbiTag {
+        os,
+        major,
+        minor,
+        subminor,
+    } = *tag;
+    writeln!(
+        out,
+        "abitag os={os} major={major} minor={minor} subminor={subminor}"
+    )
+}
+
+fn write_build_id<W: Write>(id: &[u8], out: &mut W) -> io::Result<()>
+    ensures { OnOk result (Appends (W.contents out.old) (W.contents out.new) (content_line (BuildId id.now))) }
+{
+    write!(out, "buildid hex=")?;
+    write_hex(id, out)?;
+    writeln!(out)
+}
+
+fn write_other<W: Write>(note: &NoteAny<'_>, out: &mut W) -> io::Result<()>
+    ensures { OnOk result (Appends (W.contents out.old) (W.contents out.new)
+        (content_line (Other note.now.n_type note.now.name.now note.now.desc.now))) }
+{
+    let n_type = note.n_type;
+    write!(out, "note type={n_type} name=")?;
+    write_escaped(note.name, out)?;
+    write!(out, " desc=")?;
+    write_hex(note.desc, out)?;
+    writeln!(out)
+}
+
+/// The lines of notes.
+pub(crate) fn write_notes<E: EndianParse, W: Write>(
+    notes: NoteIterator<'_, E>,
+    out: &mut W,
+) -> io::Result<()>
+    requires { length (notes_left notes) < 2 ^ 64 }
+    ensures { OnOk result (Appends (W.contents out.old) (W.contents out.new) (listed note_line (notes_left notes.entry))) }
+{
+    write_list(notes, &NoteLine { lent: PhantomData }, out)
+}

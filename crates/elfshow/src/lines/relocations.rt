@@ -1,0 +1,54 @@
+//! The lines of relocations.
+ghost use Rattle.std.specs.Prelude.{OnOk};
+ghost use Rattle.std.specs.Io.KnownBytes.{Appends};
+ghost use Rattle.elfshow.specs.lines.Relocations.{rel_line, rela_line};
+
+use crate::lines::listed::Line;
+use elf::relocation::{Rel, Rela};
+use std::io;
+use std::io::Write;
+
+/// The line of a relocation without an addend.
+#[derive(Clone, Copy)]
+pub(crate) struct RelLine;
+
+impl Line for RelLine {
+    type Item = Rel;
+
+    ghost line = { λ by. rel_line };
+
+    fn write_line<W: Write>(&self, k: u64, rel: &Rel, out: &mut W) -> io::Result<()> {
+        let Rel {
+            r_offset,
+            r_sym,
+            r_type,
+        } = *rel;
+        writeln!(
+            out,
+            "rel {k} offset=0x{r_offset:x} sym={r_sym} type={r_type}"
+        )
+    }
+}
+
+/// The line of a relocation with an addend.
+#[derive(Clone, Copy)]
+pub(crate) struct RelaLine;
+
+impl Line for RelaLine {
+    type Item = Rela;
+
+    ghost line = { λ by. rela_line };
+
+    fn write_line<W: Write>(&self, k: u64, rela: &Rela, out: &mut W) -> io::Result<()> {
+        let Rela {
+            r_offset,
+            r_sym,
+            r_type,
+            r_addend,
+        } = *rela;
+        writeln!(
+            out,
+            "rela {k} offset=0x{r_offset:x} sym={r_sym} type={r_type} addend={r_addend}"
+        )
+    }
+}

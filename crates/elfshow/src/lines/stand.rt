@@ -1,0 +1,28 @@
+//! The lines that stand in the place of an answer.
+ghost use Rattle.std.specs.Prelude.{OnOk};
+ghost use Rattle.std.specs.Io.KnownBytes.{Appends};
+ghost use Rattle.elfshow.specs.lines.Stand.{absent_line, none_line, refused_line};
+
+use std::io;
+use std::io::Write;
+
+/// The line of a call that the reader refuses.
+pub(crate) fn write_refused<W: Write>(out: &mut W) -> io::Result<()>
+    ensures { OnOk result (Appends (W.contents out.old) (W.contents out.new) refused_line) }
+{
+    writeln!(out, "refused")
+}
+
+/// The line of a section, or a segment, that the file does not have.
+pub(crate) fn write_absent<W: Write>(out: &mut W) -> io::Result<()>
+    ensures { OnOk result (Appends (W.contents out.old) (W.contents out.new) absent_line) }
+{
+    writeln!(out, "absent")
+}
+
+/// The line of what the file has nothing of.
+pub(crate) fn write_none<W: Write>(out: &mut W) -> io::Result<()>
+    ensures { OnOk result (Appends (W.contents out.old) (W.contents out.new) none_line) }
+{
+    writeln!(out, "none")
+}

@@ -1,0 +1,117 @@
+//! What the words of a command line spell.
+ghost use Rattle.std.specs.Prelude.{◌≡◌, ◌==◌};
+ghost use Rattle.std.specs.Option.{option_map};
+ghost use Rattle.elfshow.specs.Asked.{asked};
+ghost use Rattle.elfshow.specs.Words.{call_of, index_of, indexed_call, is_digit, keyed_call, number_of, plain_call, with_digit};
+
+use crate::calls::Call;
+
+// The most digits that a number may have.
+const MOST_DIGITS: usize = 20;
+
+/// The call that a word spells.
+pub(crate) fn parse_call(word: &str) -> Option<Call<'_>>
+    ensures { option_map asked result ≡ call_of word.now }
+{
+    match word.split_once('=') {
+        Some((key, value)) => parse_keyed_call(key, value),
+        None => parse_plain_call(word),
+    }
+}
+
+fn parse_plain_call(word: &str) -> Option<Call<'static>>
+    ensures { option_map asked result ≡ plain_call word.now }
+{
+    if word == "header" {
+        Some(Call::Header)
+    } else if word == "sections" {
+        Some(Call::Sections)
+    } else if word == "segments" {
+        Some(Call::Segments)
+    } else if word == "symbols" {
+        Some(Call::Symbols)
+    } else if word == "dynsyms" {
+        Some(Call::DynSyms)
+    } else if word == "dynamic" {
+        Some(Call::Dynamic)
+    } else if word == "versions" {
+        Some(Call::Versions)
+    } else {
+        None
+    }
+}
+
+fn parse_keyed_call<'a>(key: &str, value: &'a str) -> Option<Call<'a>>
+    ensures { option_map asked result ≡ keyed_call key.now value.now }
+{
+    if key == "name" {
+        Some(Call::Name(value))
+    } else {
+        parse_indexed_call(key, parse_index(value)?)
+    }
+}
+
+fn parse_indexed_call(key: &str, index: u64) -> Option<Call<'static>>
+    ensures { option_map asked result ≡ indexed_call key.now index }
+{
+    if key == "data" {
+        Some(Call::Data(index))
+    } else if key == "strings" {
+        Some(Call::Strings(index))
+    } else if key == "rels" {
+        Some(Call::Rels(index))
+    } else if key == "relas" {
+        Some(Call::Relas(index))
+    } else if key == "notes" {
+        Some(Call::Notes(index))
+    } else if key == "seg" {
+        Some(Call::Seg(index))
+    } else if key == "segnotes" {
+        Some(Call::SegNotes(index))
+    } else if key == "sysv" {
+        Some(Call::Sysv(index))
+    } else if key == "gnu" {
+        Some(Call::Gnu(index))
+    } else {
+        None
+    }
+}
+
+// The number that one to twenty decimal digits spell, where it is below 2^64.
+fn parse_index(text: &str) -> Option<u64>
+    ensures { result ≡ index_of text.now }
+{
+    let digits = text.as_bytes();
+    if digits.is_empty() || digits.len() > MOST_DIGITS {
+        return None;
+    }
+    parse_number(digits)
+}
+
+fn parse_number(digits: &[u8]) -> Option<u64>
+    ensures { result ≡ number_of digits.now }
+{
+    let mut number = Some(0);
+    for digit in digits {
+        number = with_digit(number, *digit);
+    }
+    number
+}
+
+// A number with one more digit behind it.
+fn with_digit(number: Option<u64>, digit: u8) -> Option<u64>
+    ensures { result ≡ with_digit number digit }
+{
+    let number = number?;
+    if !is_digit(digit) {
+        return None;
+    }
+    let place = number.checked_mul(10)?;
+    place.checked_add((digit - b'0') as u64)
+}
+
+fn is_digit(byte: u8) -> bool
+    ensures { result ≡ is_digit byte }
+{
+    (b'0'..=b'9').contains(&byte)
+}
