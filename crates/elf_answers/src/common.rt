@@ -43,12 +43,12 @@ fn both_text<E: EndianParse>(
 ) -> Result<String, AllocError> {
     let mut text = String::new(alloc);
     if let Some(table) = &common.sysv_hash {
-        let found = shown(alloc, table.find(name, symbols, strings))?;
+        let found = shown(alloc, table.find(name, &*symbols, &*strings))?;
         text.push_str("; sysv ")?;
         text.push_str(found.as_str())?;
     }
     if let Some(table) = &common.gnu_hash {
-        let found = shown(alloc, table.find(name, symbols, strings))?;
+        let found = shown(alloc, table.find(name, &*symbols, &*strings))?;
         text.push_str("; gnu ")?;
         text.push_str(found.as_str())?;
     }
