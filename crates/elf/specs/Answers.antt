@@ -68,15 +68,10 @@ rels_left rels = items_left (size_by rel_layout) (record_by rel_layout) rels
 abbrev pub relas_left : {E : Type 0} → ParsingIterator E Rela → List Rela
 relas_left relas = items_left (size_by rela_layout) (record_by rela_layout) relas
 
--- the size of an entry of a section of dynamic entries
-abbrev pub dynamic_size : ObjectFile → SectionHeader → Result ℕ ParseError
-dynamic_size file s =
-    let size = size_by dyn_layout file.class in if file.checks_dynamic_size then entry_size size s else Ok size
-
 -- the dynamic entries of a section
 abbrev pub section_dynamic : ObjectFile → SectionHeader → Result Table ParseError
 section_dynamic file s =
-    dynamic_size file s >>= λ _. ok_map (table_of file) (content file s)
+    entry_size (size_by dyn_layout file.class) s >>= λ _. ok_map (table_of file) (content file s)
 
 -- the dynamic entries of a segment
 abbrev pub segment_dynamic : ObjectFile → ProgramHeader → Result Table ParseError

@@ -2,10 +2,17 @@ pub mod View
 pub mod Opening
 pub mod Range
 pub mod ObjectFile
+pub mod Stream
+pub mod Listed
 pub mod Choice
 pub mod Names
 pub mod Payload
 pub mod Answers
 pub mod Versions
 pub mod Common
+pub mod Same
+pub mod Source
+pub mod Memory
+pub mod StreamView
+pub mod Asked
 pub mod inner

@@ -31,6 +31,10 @@ name_section file =
 unfoldable pub name_table : ObjectFile → Result (Option (List ℕ)) ParseError
 name_table file = name_section file >>= if_found (section_range file.bytes)
 
+-- the section headers, and the table of their names
+abbrev pub headers_with_names : ObjectFile → Result (List SectionHeader × Option (List ℕ)) ParseError
+headers_with_names file = ok_map (λ names. (file.sections, names)) (name_table file)
+
 -- whether the bytes of a string are these; a string that cannot be read has none
 abbrev pub is_string : List ℕ → Result (List ℕ) ParseError → Bool
 is_string name (Ok string) = bytes_eq string name

@@ -1,6 +1,6 @@
 -- An object file as the answers about it take it: headers and bytes, and no word of how a table of
 -- headers lies in the file. So it does not matter which reader has opened it.
-use Rattle.std.specs.Prelude.{ℕ, Bool, true, List, Result, is_some}
+use Rattle.std.specs.Prelude.{ℕ, Bool, List, Result, is_some}
 use Rattle.elf_parts.specs.Record.{Layout, record_by, size_by}
 use Rattle.elf_parts.specs.Table.{Table, table_in, table_items}
 use Rattle.elf_parts.specs.declared.file.Class.{Class}
@@ -21,10 +21,6 @@ pub record ObjectFile : Type 0 where
   pub sections : List SectionHeader
   pub section_at : ℕ → Result SectionHeader ParseError
   pub segments : List ProgramHeader
-  -- whether the strings, relocations, notes and dynamic entries of a compressed section are looked for behind
-  -- its compression header, and whether the entry size of a section of dynamic entries has to be right
-  pub strips_compression : Bool
-  pub checks_dynamic_size : Bool
 
 -- what a file that was opened is to its answers
 abbrev pub object_file : {E : Type 0} → (E → Bool) → View E → ObjectFile
@@ -37,8 +33,6 @@ object_file little v = record {
   sections = section_list v.sections;
   section_at = section_at v.sections;
   segments = segment_list v.segments;
-  strips_compression = true;
-  checks_dynamic_size = true;
 }
 
 -- bytes of the file as records of its order and class

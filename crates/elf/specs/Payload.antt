@@ -33,8 +33,7 @@ payload file s =
 
 -- the bytes in which strings or records of a section are looked for
 abbrev pub content : ObjectFile → SectionHeader → Result (List ℕ) ParseError
-content file s =
-    if file.strips_compression then ok_map (λ found. found.0) (payload file s) else section_range file.bytes s
+content file s = ok_map (λ found. found.0) (payload file s)
 
 -- the same of a section that has to be of a type
 abbrev pub content_of_type : ℕ → ObjectFile → SectionHeader → Result (List ℕ) ParseError

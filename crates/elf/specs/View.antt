@@ -25,6 +25,10 @@ view file = record {
   segments = option_map table_view file.phdrs;
 }
 
+-- the same with another header: `ehdr` may be changed
+abbrev pub with_header : {E : Type 0} → View E → FileHeader E → View E
+with_header v header = record v { ehdr = header }
+
 -- the section headers of a table; where none is declared there are none
 abbrev pub section_list : Option Table → List SectionHeader
 section_list None = []

@@ -1,1 +1,5 @@
 pub mod Passes
+pub mod Plans
+pub mod Piece
+pub mod Loads
+pub mod HeaderSteps

@@ -14,9 +14,9 @@ use elf_parts::section::{SectionHeader, SectionHeaderTable};
 use elf_parts::segment::{ProgramHeader, SegmentTable};
 
 mod common;
-mod sections;
+pub(crate) mod sections;
 mod symbols;
-mod versions;
+pub(crate) mod versions;
 
 pub use common::CommonElfData;
 

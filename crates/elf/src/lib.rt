@@ -1,4 +1,5 @@
-//! A reader of ELF files over a slice of their bytes, which copies nothing and takes no memory.
+//! Readers of ELF files: one over a slice of their bytes, which copies nothing and takes no memory, and one over
+//! a source that is read lazily.
 #![tactic(auto)]
 
 pub use elf_abi::{abi, to_str};
@@ -9,5 +10,11 @@ pub use elf_parts::{
 };
 
 mod elf_bytes;
+mod elf_stream;
+mod front;
+pub mod readers;
+mod source;
 
 pub use elf_bytes::{CommonElfData, ElfBytes};
+pub use elf_stream::ElfStream;
+pub use source::{FileSource, MemSource, StreamSource};

@@ -2,6 +2,7 @@
 //! does nothing, or that asks a table for its length and so learns that its bytes are fewer than 2^64.
 pub mod equality;
 pub mod find;
+pub mod lists;
 pub mod notes;
 pub mod numbers;
 pub mod symbols;

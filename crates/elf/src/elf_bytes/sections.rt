@@ -11,16 +11,16 @@ ghost use Rattle.elf.specs.Answers.{segment_data, segment_data_as_notes, segment
 ghost use Rattle.elf.specs.Choice.{first_section_of, first_segment_of};
 ghost use Rattle.elf.specs.Names.{beside, has_name, name_index, name_section, name_table, named_view};
 ghost use Rattle.elf.specs.ObjectFile.{object_file, table_of};
-ghost use Rattle.elf.specs.Payload.{at_front, front_view, content_of_type, payload_view};
+ghost use Rattle.elf.specs.Payload.{content_of_type, payload_view};
 ghost use Rattle.elf.specs.Range.{section_at, section_range, segment_range};
 ghost use Rattle.elf.specs.View.{section_list, segment_list, view};
 
 use super::{ElfBytes, get_bytes};
+use crate::front::front;
 use elf_abi::abi;
 use elf_parts::compression::CompressionHeader;
 use elf_parts::dynamic::{Dyn, DynamicTable};
 use elf_parts::endian::EndianParse;
-use elf_parts::file::Class;
 use elf_parts::note::NoteIterator;
 use elf_parts::parse::{ParseAt, ParseError};
 use elf_parts::relocation::{RelIterator, RelaIterator};
@@ -45,21 +45,6 @@ fn segment_range<'data>(phdr: &ProgramHeader, data: &'data [u8]) -> Result<&'dat
     ensures within { IfOk result (λ bytes. length bytes.now ≤ length «data».now) }
 {
     get_bytes(data, phdr.p_offset as usize, phdr.p_filesz as usize)
-}
-
-// The record at the front of the data, and what follows it.
-fn front<'data, E: EndianParse, P: ParseAt + Drop>(
-    endian: E,
-    class: Class,
-    data: &'data [u8],
-) -> Result<(&'data [u8], P), ParseError>
-    ensures value { ok_map front_view result
-        ≡ at_front (P.size class) (P.record_at (E.little endian) class) «data».now }
-    ensures within { IfOk result (λ found. length found.0.now ≤ length «data».now) }
-{
-    let mut offset = 0;
-    let record = P::parse_at(endian, class, &mut offset, data)?;
-    Ok((&data[offset..], record))
 }
 
 // The first section header of a type.
@@ -93,7 +78,7 @@ fn first_segment_in<E: EndianParse>(
 }
 
 // Whether a section has this name.
-fn has_name(names: &StringTable<'_>, name: &str, shdr: &SectionHeader) -> bool
+pub(crate) fn has_name(names: &StringTable<'_>, name: &str, shdr: &SectionHeader) -> bool
     ensures { result ≡ has_name (strings_view names.now) name.now shdr.now }
 {
     match names.get_raw(shdr.sh_name as usize) {

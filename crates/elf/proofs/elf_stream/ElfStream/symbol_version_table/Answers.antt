@@ -1,0 +1,21 @@
+use Rattle.std.proofs.Common.{refl, sym}
+use Rattle.std.specs.Option.{option_map}
+use Rattle.elf_parts.specs.Symver.{versions_view}
+use Rattle.elf.specs.Answers.{symbol_version_table}
+use Rattle.elf.specs.Asked.{headers_alone, versions_asked}
+use Rattle.elf.specs.Listed.{stream_file}
+use Rattle.elf.specs.inner.Plans.{planned_versions}
+use Rattle.elf.proofs.stream.Planned.{leaves_alike, versions_planned}
+use Rattle.elf.proofs.elf_stream.ElfStream.symbol_version_table.Goals as goal
+
+pub returns : goal.returns
+returns g c =
+    let file = stream_file g.E.EndianParse.little c.args.self.now in (
+      (
+        refl,
+        (λ _. tt),
+        leaves_alike c.args.self.now c.planned_versions.follows.lender-at-none (versions_asked (headers_alone g.E.EndianParse.little c.args.self.now)) (option_map versions_view) (λ bytes. planned_versions (file bytes)) (λ bytes. symbol_version_table (file bytes)) c.planned_versions.result
+            (λ bytes. sym (versions_planned (file bytes))) c.planned_versions.follows.holds-at-none,
+      ),
+      record { leaves = tt },
+    )

@@ -1,0 +1,10 @@
+pub mod Filling
+pub mod Pieces
+pub mod Loads
+pub mod Steps
+pub mod Chains
+pub mod Plain
+pub mod Parts
+pub mod Lent
+pub mod Needs
+pub mod Planned

@@ -1,0 +1,58 @@
+-- Which ranges an accepted answer needs.
+use Rattle.std.proofs.Common.{ℕ, List, [], ◌∷◌, ◌++◌, Option, Some, None, Result, Ok, Err, refl}
+use Rattle.std.specs.Prelude.{IsOk}
+use Rattle.elf_parts.specs.Dynamic.{dyn_layout}
+use Rattle.elf_parts.specs.Number.{ok_map}
+use Rattle.elf_parts.specs.Record.{◌>>=◌, size_by}
+use Rattle.elf_parts.specs.declared.compression.CompressionHeader.{CompressionHeader}
+use Rattle.elf_parts.specs.declared.parse.ParseError.{ParseError}
+use Rattle.elf_parts.specs.declared.section.SectionHeader.{SectionHeader}
+use Rattle.elf.specs.Answers.{section_dynamic}
+use Rattle.elf.specs.Asked.{Linked, VersionPlan, both_sections, if_there, plan_asked, section_asked}
+use Rattle.elf.specs.Choice.{entry_size, if_found}
+use Rattle.elf.specs.ObjectFile.{ObjectFile, table_of}
+use Rattle.elf.specs.Payload.{content, payload}
+use Rattle.elf.specs.Range.{section_range}
+use Rattle.elf.specs.inner.Loads.{AreThere}
+use Rattle.elf.specs.inner.Plans.{definitions_by, needs_by, versions_by}
+use Rattle.elf.proofs.stream.Lent.{payload_needs}
+
+ok_first : {A B E : Type 0} (x : Result A E) (f : A → Result B E) → IsOk (x >>= f) → IsOk x
+ok_first (Ok a) f h = refl
+ok_first (Err e) f h = cc
+
+ok_later : {A B E : Type 0} (x : Result A E) (f : A → Result B E) → IsOk (x >>= f) → (a : A) × IsOk (f a)
+ok_later (Ok a) f h = (a, h)
+ok_later (Err e) f h = cc
+
+pub ok_inside : {A B E : Type 0} (f : A → B) (x : Result A E) → IsOk (ok_map f x) → IsOk x
+ok_inside f (Ok a) h = refl
+ok_inside f (Err e) h = cc
+
+pub dynamic_needs : (file : ObjectFile) (s : SectionHeader) → IsOk (section_dynamic file s) → AreThere file.bytes (section_asked s)
+dynamic_needs file s h =
+    let behind = ok_later (entry_size (size_by dyn_layout file.class) s) (λ _. ok_map (table_of file) (content file s)) h in
+    payload_needs file s (ok_inside (λ (found : List ℕ × Option CompressionHeader). found.0) (payload file s) (ok_inside (table_of file) (content file s) behind.1))
+
+there_append : (bytes : List ℕ) (rs qs : List (ℕ × ℕ)) → AreThere bytes rs → AreThere bytes qs → AreThere bytes (rs ++ qs)
+there_append bytes [] qs a b = b
+there_append bytes (r ∷ rs) qs a b = (a.0, there_append bytes rs qs a.1 b)
+
+-- of a section, and of the one that it links to
+both_need : {A : Type 0} (bytes : List ℕ) (pair : Linked) (made : List ℕ → List ℕ → Result A ParseError) → IsOk (section_range bytes pair.0 >>= λ part. section_range bytes pair.1 >>= λ strings. made part strings)
+    → AreThere bytes (both_sections pair)
+both_need bytes pair made h =
+    let behind = ok_later (section_range bytes pair.0) (λ part. section_range bytes pair.1 >>= λ strings. made part strings) h in
+    (ok_first (section_range bytes pair.0) _ h, (ok_first (section_range bytes pair.1) _ behind.1, tt))
+
+if_needs : {A : Type 0} (bytes : List ℕ) (answer : Linked → Result A ParseError) (o : Option Linked) → ((pair : Linked) → IsOk (answer pair) → AreThere bytes (both_sections pair)) → IsOk (if_found answer o) → AreThere bytes (if_there both_sections o)
+if_needs bytes answer None each h = tt
+if_needs bytes answer (Some pair) each h = each pair (ok_inside Some (answer pair) h)
+
+pub plan_needs : (file : ObjectFile) (plan : VersionPlan) → IsOk (versions_by file plan) → AreThere file.bytes (plan_asked plan)
+plan_needs file plan h =
+    let second = ok_later (section_range file.bytes plan.0) _ h in
+    let third = ok_later (if_found (needs_by file) plan.1) _ second.1 in
+    let needs = if_needs file.bytes (needs_by file) plan.1 (λ pair ok. both_need file.bytes pair _ ok) (ok_first (if_found (needs_by file) plan.1) _ second.1) in
+    let definitions = if_needs file.bytes (definitions_by file) plan.2 (λ pair ok. both_need file.bytes pair _ ok) (ok_first (if_found (definitions_by file) plan.2) _ third.1) in
+    (ok_first (section_range file.bytes plan.0) _ h, there_append file.bytes (if_there both_sections plan.1) (if_there both_sections plan.2) needs definitions)

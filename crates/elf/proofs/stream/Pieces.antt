@@ -1,0 +1,167 @@
+-- Finding the part that has a range, and what its bytes are.
+use Rattle.std.proofs.Common.{◌≡◌, ℕ, ◌+◌, ◌-◌, ◌<◌, ◌≤◌, Bool, true, false, ◌&&◌, ◌||◌, List, [], ◌∷◌, length, take, drop, map, get_or, refl, sym, ap, ◌∙◌, arith, Option, Some, None, IfSome, leb-true, le-leb, length-drop, subst}
+use Rattle.std.specs.Prelude.{IsTrue, nat_le, ◌^◌, Ok, IsErr, IsOk, IsPermutation}
+use Rattle.std.specs.List.{list_any, HoldsAt}
+use Rattle.std.proofs.lemmas.Bool.{and_parts}
+use Rattle.std.proofs.lemmas.List.{take-take, drop-take, drop-drop, length-take-le, get_or-drop, get_or-take, take-append-drop}
+use Rattle.elf.specs.inner.Piece.{Piece, IsPartOf, covers, range_of, IsOf, IsSound}
+use Rattle.elf.specs.Stream.{is_held}
+use Rattle.elf_parts.specs.Number.{bytes_at}
+use Rattle.std.proofs.lemmas.Bool.Decides.{nat_tests}
+use Rattle.std.proofs.lemmas.List.Sorted.{All-permutation, list_any-IsPermutation}
+use Rattle.std.proofs.lemmas.List.Folds.{Any-from_list_any, list_any-append, list_any_none}
+use Rattle.std.proofs.lemmas.List.Elements.{All-cons, All-contains}
+
+list_any-map : {X Y : Type 0} (f : X → Y) (t : Y → Bool) (xs : List X) → list_any t (map f xs) ≡ list_any (λ x. t (f x)) xs
+list_any-map f t [] = refl
+list_any-map f t (x ∷ xs) = ap (λ b. t (f x) || b) (list_any-map f t xs)
+
+-- ---- a range of a content
+
+pub read_within : (bytes : List ℕ) (start size : ℕ) → start + size < 2 ^ 64 → start + size ≤ length bytes → bytes_at size bytes start ≡ Ok (take size (drop start bytes))
+unfolding bytes_at
+read_within bytes start size low within = grind (arith, nat_tests)
+
+pub read_past : (bytes : List ℕ) (start size : ℕ) → length bytes < start + size → IsErr (bytes_at size bytes start)
+unfolding bytes_at
+read_past bytes start size past = grind (arith, nat_tests)
+
+pub read_past_64 : (bytes : List ℕ) (start size : ℕ) → 2 ^ 64 ≤ start + size → IsErr (bytes_at size bytes start)
+unfolding bytes_at
+read_past_64 bytes start size past = grind (arith, nat_tests)
+
+pub read_is_within : (bytes : List ℕ) (start size : ℕ) → IsOk (bytes_at size bytes start) → (start + size < 2 ^ 64) × (start + size ≤ length bytes)
+unfolding bytes_at
+read_is_within bytes start size ok = grind (arith, nat_tests)
+
+-- ---- a part that has a range
+
+pub record Reaches (p : Piece) (start end : ℕ) : Type 0 where
+  pub low : p.start ≤ start
+  pub high : end ≤ p.start + length p.bytes
+
+pub reaches : (p : Piece) (start end : ℕ) → IsTrue (covers start end p) → Reaches p start end
+reaches p start end covered =
+    let parts = and_parts (nat_le p.start start) (nat_le end (p.start + length p.bytes)) covered in record {
+      low = leb-true p.start start parts.0;
+      high = leb-true end (p.start + length p.bytes) parts.1;
+    }
+
+-- the bytes of a range within a part are the content's
+pub piece_bytes : (bytes : List ℕ) (p : Piece) (start size : ℕ) → IsOf bytes p → Reaches p start (start + size) → take size (drop (start - p.start) p.bytes) ≡ take size (drop start bytes)
+piece_bytes bytes p start size of at =
+    let low = at.low in let high = at.high in
+    let from : ℕ = start - p.start in
+    let left : ℕ = length p.bytes - from in
+    let whole : length p.bytes ≡ from + left = omega arith in
+    let moved : p.start + from ≡ start = omega arith in
+    let fits : size ≤ left = omega arith in
+    let same : drop from p.bytes ≡ take left (drop start bytes) =
+    ap (drop from) (of.same ∙ ap (λ n. take n (drop p.start bytes)) whole) ∙ drop-take from left (drop p.start bytes) ∙ ap (take left) (drop-drop from p.start bytes ∙ ap (λ n. drop n bytes) moved) in
+    ap (take size) same ∙ take-take size left (drop start bytes) fits
+
+-- a range within a part is in the content
+pub piece_within : (bytes : List ℕ) (p : Piece) (start end : ℕ) → IsOf bytes p → Reaches p start end → end ≤ length bytes
+piece_within bytes p start end of at = let within = of.within in let high = at.high in omega arith
+
+-- a held range is in the content
+pub sound_held : (told : Option (List ℕ)) (len : ℕ) (ps : List Piece) (start size count : ℕ) → IsSound told len ps → start + size < 2 ^ 64 → IsTrue (is_held (map range_of ps) start (start + size))
+    → IfSome told (λ bytes. (count ≡ count) × (bytes_at size bytes start ≡ Ok (take size (drop start bytes))))
+sound_held None len ps start size count sound low held = tt
+sound_held (Some bytes) len ps start size count sound low held =
+    let a = Any-from_list_any (covers start (start + size)) ps (sym (list_any-map range_of _ ps) ∙ held) in
+    (refl, read_within bytes start size low (piece_within bytes a.1 start (start + size) (subst (IsOf bytes) a.3 (sound.parts a.0 a.1 a.2)) (reaches a.1 start (start + size) a.4)))
+
+-- ---- one more part, which has the content's bytes
+
+pub sound_more : (told : Option (List ℕ)) (len : ℕ) (ps qs : List Piece) (start end : ℕ) (p : Piece) → IsSound told len ps → IsPermutation (p ∷ ps) qs → start ≤ end → end ≤ len
+    → p.start ≡ start → length p.bytes ≡ end - start → IfSome told (λ bytes. p.bytes ≡ take (end - start) (drop start bytes)) → IsSound told len qs
+sound_more None len ps qs start end p sound put ordered within from long same = record { len = tt; parts = tt }
+sound_more (Some bytes) len ps qs start end p sound put ordered within from long same =
+    let all = sound.len in record {
+      len = all;
+      parts = All-permutation (IsOf bytes) (p ∷ ps) qs put (All-cons (IsOf bytes) p ps (record {
+        within = omega arith;
+        same = same ∙ ap (λ n. take n (drop start bytes)) (sym long) ∙ ap (λ n. take (length p.bytes) (drop n bytes)) (sym from);
+      }) sound.parts);
+    }
+
+or_true : (b : Bool) → (b || true) ≡ true
+or_true true = refl
+or_true false = refl
+
+covers_itself : (p : Piece) → covers p.start (p.start + length p.bytes) p ≡ true
+covers_itself p = rw (le-leb p.start p.start (omega arith), le-leb (p.start + length p.bytes) (p.start + length p.bytes) (omega arith)) refl
+
+-- which ranges are held is that of the parts
+held_by : (ps : List Piece) (start end : ℕ) → is_held (map range_of ps) start end ≡ list_any (covers start end) ps
+held_by ps start end = list_any-map range_of _ ps
+
+-- ---- the part that has a range is one of those at the front, which start at its start or before it
+
+not_covers : (p : Piece) (start end : ℕ) → start < p.start → covers start end p ≡ false
+not_covers p start end past = grind (arith, nat_tests)
+
+none_behind : (ps : List Piece) (n start end : ℕ) → ((k : ℕ) (d : Piece) → n ≤ k → k < length ps → start < (get_or ps k d).start) → list_any (covers start end) (drop n ps) ≡ false
+none_behind ps n start end behind =
+    list_any_none (covers start end) (drop n ps) (λ k d lt.
+    let at : n + k < length ps = omega (arith, simp (length-drop) at lt) in
+    ap (covers start end) (get_or-drop n ps k d) ∙ not_covers (get_or ps (n + k) d) start end (behind (n + k) d (omega arith) at))
+
+or_false : (b : Bool) → (b || false) ≡ b
+or_false true = refl
+or_false false = refl
+
+pub front_holds : (ps : List Piece) (n start end : ℕ) (found : Bool) → ((k : ℕ) (d : Piece) → n ≤ k → k < length ps → start < (get_or ps k d).start) → found ≡ list_any (covers start end) (take n ps) → found ≡ is_held (map range_of ps) start end
+front_holds ps n start end found behind h =
+    h ∙ sym (or_false (list_any (covers start end) (take n ps)))
+    ∙ ap (λ b. list_any (covers start end) (take n ps) || b) (sym (none_behind ps n start end behind))
+    ∙ sym (list_any-append (covers start end) (take n ps) (drop n ps))
+    ∙ ap (list_any (covers start end)) (take-append-drop n ps) ∙ sym (held_by ps start end)
+
+pub front_covers : (ps : List Piece) (n start end : ℕ) (r : Option ℕ) → n ≤ length ps → IfSome r (λ i. (i < length (take n ps)) × HoldsAt (λ p. IsTrue (covers start end p)) (take n ps) i)
+    → IfSome r (λ i. (i < length ps) × HoldsAt (λ p. IsTrue (covers start end p)) ps i)
+front_covers ps n start end None within h = tt
+front_covers ps n start end (Some i) within h =
+    let at : i < n = subst (λ m. i < m) (length-take-le n ps within) h.0 in
+    (omega arith, λ d. subst (λ p. IsTrue (covers start end p)) (get_or-take n ps i d at) (h.1 d))
+
+pub held_more : (ps qs : List Piece) (p : Piece) → IsPermutation (p ∷ ps) qs → (start end : ℕ) → IsTrue (is_held (map range_of ps) start end) → IsTrue (is_held (map range_of qs) start end)
+held_more ps qs p put start end held =
+    held_by qs start end ∙ sym (list_any-IsPermutation (covers start end) (p ∷ ps) qs put) ∙ ap (λ b. covers start end p || b) (sym (held_by ps start end) ∙ held) ∙ or_true (covers start end p)
+
+pub held_new : (ps qs : List Piece) (p : Piece) → IsPermutation (p ∷ ps) qs → IsTrue (is_held (map range_of qs) p.start (p.start + length p.bytes))
+held_new ps qs p put =
+    held_by qs p.start (p.start + length p.bytes) ∙ sym (list_any-IsPermutation (covers p.start (p.start + length p.bytes)) (p ∷ ps) qs put)
+    ∙ ap (λ b. b || list_any (covers p.start (p.start + length p.bytes)) ps) (covers_itself p)
+
+-- the bytes of a range within one of the parts are the content's
+pub part_bytes : (told : Option (List ℕ)) (len : ℕ) (ps : List Piece) (start size : ℕ) (part : List ℕ) → IsSound told len ps → start + size < 2 ^ 64 → IsPartOf ps start (start + size) part
+    → IfSome told (λ bytes. bytes_at size bytes start ≡ Ok part)
+part_bytes None len ps start size part sound low at = tt
+part_bytes (Some bytes) len ps start size part sound low at =
+    let p : Piece = at.0 in
+    let of : IsOf bytes p = All-contains (IsOf bytes) ps p sound.parts at.1 in
+    let reach : Reaches p start (start + size) = reaches p start (start + size) at.2 in
+    let long : start + size - start ≡ size = omega arith in
+    read_within bytes start size low (piece_within bytes p start (start + size) of reach)
+    ∙ ap Ok (sym (piece_bytes bytes p start size of reach) ∙ ap (λ n. take n (drop (start - p.start) p.bytes)) (sym long) ∙ sym at.3)
+
+-- ---- a range within a held one is held
+
+covers_within : (p : ℕ × ℕ) (start end low high : ℕ) → low ≤ start → end ≤ high → (nat_le p.0 low && nat_le high p.1) ≡ true → (nat_le p.0 start && nat_le end p.1) ≡ true
+covers_within p start end low high from to h =
+    let parts = and_parts (nat_le p.0 low) (nat_le high p.1) h in
+    let a : p.0 ≤ low = leb-true p.0 low parts.0 in
+    let b : high ≤ p.1 = leb-true high p.1 parts.1 in
+    rw (le-leb p.0 start (omega arith), le-leb end p.1 (omega arith)) refl
+
+any_weaker : {X : Type 0} (t u : X → Bool) → ((x : X) → t x ≡ true → u x ≡ true) → (xs : List X) → list_any t xs ≡ true → list_any u xs ≡ true
+any_weaker t u so [] h = h
+any_weaker t u so (x ∷ xs) h = (elim (t x) as (λ b. t x ≡ b → (b || list_any t xs) ≡ true → (u x || list_any u xs) ≡ true) [
+  | true ↦ λ e k. ap (λ b. b || list_any u xs) (so x e)
+  | false ↦ λ e k. ap (λ b. u x || b) (any_weaker t u so xs k) ∙ or_true (u x)
+]) refl h
+
+pub held_within : (ranges : List (ℕ × ℕ)) (start end low high : ℕ) → low ≤ start → end ≤ high → IsTrue (is_held ranges low high) → IsTrue (is_held ranges start end)
+held_within ranges start end low high from to h = any_weaker (λ r. nat_le r.0 low && nat_le high r.1) (λ r. nat_le r.0 start && nat_le end r.1) (λ r k. covers_within r start end low high from to k) ranges h

@@ -1,0 +1,160 @@
+-- One load after another, and what a call leaves whose loads were refused.
+use Rattle.std.proofs.Common.{◌≡◌, ℕ, ◌+◌, ◌<◌, Bool, List, [], ◌∷◌, ◌++◌, refl, ◌∙◌, subst, arith, Option, Some, None, IfSome}
+use Rattle.std.specs.Prelude.{◌^◌, Result, Ok, Err, IsErr, IsOk, OnOk, take, drop}
+use Rattle.elf_parts.specs.Number.{bytes_at}
+use Rattle.elf_parts.specs.declared.parse.ParseError.{ParseError}
+use Rattle.elf.specs.inner.Loads.{HasReason, AreLow, AreThere, Loads}
+use Rattle.elf.specs.Stream.{IsAnswer, IsRefused, Kind, kind, Seen, AreHeld, IsHeld, Keeps, Leaves}
+use Rattle.elf.proofs.stream.Pieces.{read_is_within}
+
+pub refused_so : (k : Kind) (P Q : Type 0) (before middle now : ℕ) (can_fail : Bool) → (P → Q) → middle ≡ before → IsRefused middle now can_fail P k → IsRefused before now can_fail Q k
+refused_so Kind.Failure P Q before middle now can_fail so same h = let up = h.0 in (omega arith, h.1)
+refused_so Kind.Want P Q before middle now can_fail so same h = h ∙ same
+refused_so Kind.Refusal P Q before middle now can_fail so same h = (h.0 ∙ same, so h.1)
+
+pub keeps_then : {E : Type 0} (old middle new : Seen E) → Keeps old middle → Keeps middle new → Keeps old new
+keeps_then old middle new a b = record {
+  content = b.content ∙ a.content;
+  can_fail = b.can_fail ∙ a.can_fail;
+  ehdr = b.ehdr ∙ a.ehdr;
+  declares_sections = b.declares_sections ∙ a.declares_sections;
+  sections = b.sections ∙ a.sections;
+  segments = b.segments ∙ a.segments;
+  held = λ start end h. b.held start end (a.held start end h);
+}
+
+still_held : {E : Type 0} (old new : Seen E) (rs : List (ℕ × ℕ)) → Keeps old new → AreHeld old rs → AreHeld new rs
+still_held old new [] keeps h = tt
+still_held old new (r ∷ rs) keeps h = (keeps.held r.0 (r.0 + r.1) h.0, still_held old new rs keeps h.1)
+
+held_append : {E : Type 0} (s : Seen E) (rs qs : List (ℕ × ℕ)) → AreHeld s rs → AreHeld s qs → AreHeld s (rs ++ qs)
+held_append s [] qs a b = b
+held_append s (r ∷ rs) qs a b = (a.0, held_append s rs qs a.1 b)
+
+held_front : {E : Type 0} (s : Seen E) (rs qs : List (ℕ × ℕ)) → AreHeld s (rs ++ qs) → AreHeld s rs
+held_front s [] qs h = tt
+held_front s (r ∷ rs) qs h = (h.0, held_front s rs qs h.1)
+
+held_back : {E : Type 0} (s : Seen E) (rs qs : List (ℕ × ℕ)) → AreHeld s (rs ++ qs) → AreHeld s qs
+held_back s [] qs h = h
+held_back s (r ∷ rs) qs h = held_back s rs qs h.1
+
+low_append : (rs qs : List (ℕ × ℕ)) → AreLow rs → AreLow qs → AreLow (rs ++ qs)
+low_append [] qs a b = b
+low_append (r ∷ rs) qs a b = (a.0, low_append rs qs a.1 b)
+
+there_front : (bytes : List ℕ) (rs qs : List (ℕ × ℕ)) → AreThere bytes (rs ++ qs) → AreThere bytes rs
+there_front bytes [] qs h = tt
+there_front bytes (r ∷ rs) qs h = (h.0, there_front bytes rs qs h.1)
+
+there_back : (bytes : List ℕ) (rs qs : List (ℕ × ℕ)) → AreThere bytes (rs ++ qs) → AreThere bytes qs
+there_back bytes [] qs h = h
+there_back bytes (r ∷ rs) qs h = there_back bytes rs qs h.1
+
+-- ---- a load of one range
+
+pub refused_not : {A E : Type 0} (x : Result A E) → IsErr x → IsOk x → ⊥
+refused_not (Ok a) missing there = cc
+refused_not (Err e) missing there = cc
+
+loaded_one : {E : Type 0} (new : Seen E) (start size : ℕ) (r : Result (Unit {0}) ParseError) → OnOk r ((start + size < 2 ^ 64) × IsHeld new start (start + size)) → OnOk r (AreLow ((start, size) ∷ []) × AreHeld new ((start, size) ∷ []))
+loaded_one new start size (Ok x) h = ((h.0, tt), (h.1, tt))
+loaded_one new start size (Err e) h = tt
+
+reason_one : (told : Option (List ℕ)) (start size before now : ℕ) (can_fail : Bool) (r : Result (Unit {0}) ParseError)
+    → IfSome told (λ bytes. IsAnswer (λ _. take size (drop start bytes)) (bytes_at size bytes start) can_fail before now r)
+    → IfSome told (λ bytes. HasReason before now can_fail (AreThere bytes ((start, size) ∷ []) → ⊥) r)
+reason_one None start size before now can_fail r h = tt
+reason_one (Some bytes) start size before now can_fail (Ok x) h = h.0
+reason_one (Some bytes) start size before now can_fail (Err e) h = refused_so (kind e) _ _ before before now can_fail (λ missing there. refused_not (bytes_at size bytes start) missing there.0) refl h
+
+accepted_one : {E : Type 0} (told : Option (List ℕ)) (old : Seen E) (start size : ℕ) (r : Result (Unit {0}) ParseError) → (start + size < 2 ^ 64 → IsHeld old start (start + size) → IsOk r)
+    → IfSome told (λ bytes. AreThere bytes ((start, size) ∷ []) → AreHeld old ((start, size) ∷ []) → IsOk r)
+accepted_one None old start size r h = tt
+accepted_one (Some bytes) old start size r h = λ there held. h (read_is_within bytes start size there.0).0 held.0
+
+pub loads_one : {E : Type 0} (old new : Seen E) (start size : ℕ) (r : Result (Unit {0}) ParseError) → Keeps old new → OnOk r ((start + size < 2 ^ 64) × IsHeld new start (start + size))
+    → (start + size < 2 ^ 64 → IsHeld old start (start + size) → IsOk r)
+    → IfSome old.content (λ bytes. IsAnswer (λ _. take size (drop start bytes)) (bytes_at size bytes start) old.can_fail old.faults new.faults r)
+    → Loads ((start, size) ∷ []) old new r
+loads_one old new start size r keeps loaded held answer = record {
+  keeps = keeps;
+  loaded = loaded_one new start size r loaded;
+  reason = reason_one old.content start size old.faults new.faults old.can_fail r answer;
+  accepted = accepted_one old.content old start size r held;
+}
+
+-- ---- one load after another
+
+stopped_reason : (told : Option (List ℕ)) (rs qs : List (ℕ × ℕ)) (before now : ℕ) (can_fail : Bool) (e : ParseError)
+    → IfSome told (λ bytes. IsRefused before now can_fail (AreThere bytes rs → ⊥) (kind e)) → IfSome told (λ bytes. IsRefused before now can_fail (AreThere bytes (rs ++ qs) → ⊥) (kind e))
+stopped_reason None rs qs before now can_fail e h = tt
+stopped_reason (Some bytes) rs qs before now can_fail e h = refused_so (kind e) _ _ before before now can_fail (λ missing there. missing (there_front bytes rs qs there)) refl h
+
+stopped_accepted : {E : Type 0} (told : Option (List ℕ)) (old : Seen E) (rs qs : List (ℕ × ℕ)) (e : ParseError)
+    → IfSome told (λ bytes. AreThere bytes rs → AreHeld old rs → IsOk {T = Unit {0}} (Err e)) → IfSome told (λ bytes. AreThere bytes (rs ++ qs) → AreHeld old (rs ++ qs) → IsOk {T = Unit {0}} (Err e))
+stopped_accepted None old rs qs e h = tt
+stopped_accepted (Some bytes) old rs qs e h = λ there held. h (there_front bytes rs qs there) (held_front old rs qs held)
+
+-- the first load was refused
+pub loads_stop : {E : Type 0} (old new : Seen E) (rs qs : List (ℕ × ℕ)) (e : ParseError) → Loads rs old new (Err e) → Loads (rs ++ qs) old new (Err e)
+loads_stop old new rs qs e h = record {
+  keeps = h.keeps;
+  loaded = tt;
+  reason = stopped_reason old.content rs qs old.faults new.faults old.can_fail e h.reason;
+  accepted = stopped_accepted old.content old rs qs e h.accepted;
+}
+
+then_loaded : {E : Type 0} (middle new : Seen E) (rs qs : List (ℕ × ℕ)) (r : Result (Unit {0}) ParseError) → Keeps middle new → AreLow rs × AreHeld middle rs → OnOk r (AreLow qs × AreHeld new qs) → OnOk r (AreLow (rs ++ qs) × AreHeld new (rs ++ qs))
+then_loaded middle new rs qs (Ok x) keeps a b = (low_append rs qs a.0 b.0, held_append new rs qs (still_held middle new rs keeps a.1) b.1)
+then_loaded middle new rs qs (Err e) keeps a b = tt
+
+then_reason : (told : Option (List ℕ)) (rs qs : List (ℕ × ℕ)) (before middle now : ℕ) (can_fail : Bool) (r : Result (Unit {0}) ParseError) → IfSome told (λ _. middle ≡ before)
+    → IfSome told (λ bytes. HasReason middle now can_fail (AreThere bytes qs → ⊥) r) → IfSome told (λ bytes. HasReason before now can_fail (AreThere bytes (rs ++ qs) → ⊥) r)
+then_reason None rs qs before middle now can_fail r same h = tt
+then_reason (Some bytes) rs qs before middle now can_fail (Ok x) same h = h ∙ same
+then_reason (Some bytes) rs qs before middle now can_fail (Err e) same h = refused_so (kind e) _ _ before middle now can_fail (λ missing there. missing (there_back bytes rs qs there)) same h
+
+then_accepted : {E : Type 0} (told : Option (List ℕ)) (old middle : Seen E) (rs qs : List (ℕ × ℕ)) (r : Result (Unit {0}) ParseError) → Keeps old middle
+    → IfSome told (λ bytes. AreThere bytes qs → AreHeld middle qs → IsOk r) → IfSome told (λ bytes. AreThere bytes (rs ++ qs) → AreHeld old (rs ++ qs) → IsOk r)
+then_accepted None old middle rs qs r keeps h = tt
+then_accepted (Some bytes) old middle rs qs r keeps h = λ there held. h (there_back bytes rs qs there) (still_held old middle qs keeps (held_back old rs qs held))
+
+-- the second load is made after the first
+pub loads_then : {E : Type 0} (old middle new : Seen E) (rs qs : List (ℕ × ℕ)) (x : Unit {0}) (r : Result (Unit {0}) ParseError) → Loads rs old middle (Ok x) → Loads qs middle new r → Loads (rs ++ qs) old new r
+loads_then {E} old middle new rs qs x r a b =
+    let same : middle.content ≡ old.content = a.keeps.content in
+    let nature : middle.can_fail ≡ old.can_fail = a.keeps.can_fail in record {
+      keeps = keeps_then old middle new a.keeps b.keeps;
+      loaded = then_loaded middle new rs qs r b.keeps a.loaded b.loaded;
+      reason = then_reason old.content rs qs old.faults middle.faults new.faults old.can_fail r a.reason
+          (subst (λ can_fail. IfSome old.content (λ bytes. HasReason middle.faults new.faults can_fail (AreThere bytes qs → ⊥) r)) nature
+          (subst (λ told. IfSome told (λ bytes. HasReason middle.faults new.faults middle.can_fail (AreThere bytes qs → ⊥) r)) same b.reason));
+      accepted = then_accepted old.content old middle rs qs r a.keeps (subst (λ told. IfSome told (λ bytes. AreThere bytes qs → AreHeld middle qs → IsOk r)) same b.accepted);
+    }
+
+-- ---- a call whose loads were refused
+
+pub not_ok : {A E : Type 0} (x : Result A E) → (IsOk x → ⊥) → IsErr x
+not_ok (Ok a) h = absurd (h refl)
+not_ok (Err e) h = refl
+
+refused_answer : {T Y : Type 0} (told : Option (List ℕ)) (rs : List (ℕ × ℕ)) (shown : T → Y) (answer : List ℕ → Result Y ParseError) (before now : ℕ) (can_fail : Bool) (e : ParseError) → ((bytes : List ℕ) → IsOk (answer bytes) → AreThere bytes rs)
+    → IfSome told (λ bytes. IsRefused before now can_fail (AreThere bytes rs → ⊥) (kind e)) → IfSome told (λ bytes. IsAnswer shown (answer bytes) can_fail before now (Err e))
+refused_answer None rs shown answer before now can_fail e needs h = tt
+refused_answer (Some bytes) rs shown answer before now can_fail e needs h = refused_so (kind e) _ _ before before now can_fail (λ missing. not_ok (answer bytes) (λ ok. missing (needs bytes ok))) refl h
+
+refused_accepted : {E Y : Type 0} (T : Type 0) (told : Option (List ℕ)) (old : Seen E) (rs : List (ℕ × ℕ)) (answer : List ℕ → Result Y ParseError) (e : ParseError) → ((bytes : List ℕ) → IsOk (answer bytes) → AreThere bytes rs)
+    → IfSome told (λ bytes. AreThere bytes rs → AreHeld old rs → IsOk {T = Unit {0}} (Err e)) → IfSome told (λ bytes. IsOk (answer bytes) → AreHeld old rs → IsOk {T = T} (Err e))
+refused_accepted T None old rs answer e needs h = tt
+refused_accepted T (Some bytes) old rs answer e needs h = λ ok held. h (needs bytes ok) held
+
+-- the loads were refused of ranges that an accepted answer needs
+pub leaves_refused : {E T Y : Type 0} (old new : Seen E) (rs : List (ℕ × ℕ)) (shown : T → Y) (answer : List ℕ → Result Y ParseError) (e : ParseError) (r : Result T ParseError) → r ≡ Err e
+    → ((bytes : List ℕ) → IsOk (answer bytes) → AreThere bytes rs) → Loads rs old new (Err e) → Leaves rs shown answer old new r
+leaves_refused {E} {T} {Y} old new rs shown answer e r is needs h = rw is (record {
+  keeps = h.keeps;
+  loaded = tt;
+  answers = refused_answer old.content rs shown answer old.faults new.faults old.can_fail e needs h.reason;
+  accepted = refused_accepted T old.content old rs answer e needs h.accepted;
+})

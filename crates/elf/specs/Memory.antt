@@ -1,0 +1,7 @@
+-- What a source in memory holds.
+use Rattle.std.specs.Prelude.{ℕ, List}
+use Rattle.elf.specs.declared.source.MemSource.{MemSource}
+
+-- its bytes
+abbrev pub mem_bytes : MemSource → List ℕ
+mem_bytes s = s.bytes.now

@@ -1,0 +1,32 @@
+-- What a stream cuts from the ranges of the sections of versions, once they are chosen; contracts of private functions
+-- speak of it.
+use Rattle.std.specs.Prelude.{Option, Result, Ok}
+use Rattle.elf_parts.specs.Record.{◌>>=◌}
+use Rattle.elf_parts.specs.Symver.{Definitions, Needs, Versions, ver_defs, ver_needs}
+use Rattle.elf_parts.specs.declared.parse.ParseError.{ParseError}
+use Rattle.elf.specs.Asked.{Linked, VersionPlan, version_plan}
+use Rattle.elf.specs.Choice.{if_found}
+use Rattle.elf.specs.ObjectFile.{ObjectFile, table_of}
+use Rattle.elf.specs.Range.{section_range}
+
+-- the needs, or the definitions, of the one section with the strings of the other
+abbrev pub needs_by : ObjectFile → Linked → Result Needs ParseError
+needs_by file linked =
+    section_range file.bytes linked.0 >>= λ needs. section_range file.bytes linked.1 >>= λ strings.
+    Ok (record { list = ver_needs (table_of file needs) linked.0.sh_info 0; strings = strings })
+
+abbrev pub definitions_by : ObjectFile → Linked → Result Definitions ParseError
+definitions_by file linked =
+    section_range file.bytes linked.0 >>= λ definitions. section_range file.bytes linked.1 >>= λ strings.
+    Ok (record { list = ver_defs (table_of file definitions) linked.0.sh_info 0; strings = strings })
+
+abbrev pub versions_by : ObjectFile → VersionPlan → Result Versions ParseError
+versions_by file plan =
+    section_range file.bytes plan.0 >>= λ part.
+    if_found (needs_by file) plan.1 >>= λ needs.
+    if_found (definitions_by file) plan.2 >>= λ definitions.
+    Ok (record { indexes = table_of file part; needs = needs; definitions = definitions })
+
+-- the versions of the sections that are chosen, if any are
+abbrev pub planned_versions : ObjectFile → Result (Option Versions) ParseError
+planned_versions file = version_plan file >>= if_found (versions_by file)

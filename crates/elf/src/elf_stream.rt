@@ -1,0 +1,170 @@
+//! A file as a source that is read lazily.
+ghost use Rattle.std.specs.Prelude.{◌≡◌, ℕ, ◌≤◌, ◌+◌, ◌^◌, ◌<◌, OnOk, OnErr, IfOk, IfSome, Ok, IsOk, take, drop, [], ◌∷◌};
+ghost use Rattle.elf_parts.specs.Number.{bytes_at, ok_map};
+ghost use Rattle.elf.specs.Asked.{range_of_section, range_of_segment};
+ghost use Rattle.elf.specs.Opening.{opened};
+ghost use Rattle.elf.specs.Stream.{IsAnswer, headers_of, Keeps, IsHeld, IsOpening, shown_headers};
+ghost use Rattle.elf.specs.inner.Loads.{Loads};
+
+use crate::source::StreamSource;
+use elf_parts::endian::EndianParse;
+use elf_parts::file::FileHeader;
+use elf_parts::parse::ParseError;
+use elf_parts::section::SectionHeader;
+use elf_parts::segment::ProgramHeader;
+use std::alloc::Allocator;
+use std::marker::Model;
+
+mod buffer;
+mod cache;
+mod dynamic;
+mod names;
+mod opening;
+mod reads;
+mod sections;
+mod symbols;
+mod versions;
+
+use buffer::Buffer;
+use cache::Cache;
+use opening::{read_ehdr, read_phdrs, read_shdrs};
+use reads::fetch;
+
+/// A file whose bytes are read from a source as calls ask for them, and are kept. Its header and its two
+/// tables were read when it was opened.
+///
+/// `ehdr` may be changed: methods go by its class, order and `e_shstrndx` as they stand. The section and
+/// program headers stay those that were read when the file was opened.
+///
+/// A call loads the ranges that it needs, those of them that do not lie within a range which is kept, and
+/// lends from what is kept then. A range that was loaded is kept as long as the stream is. A call may
+/// refuse with `IOError` where the source failed in it, and with `OutOfMemory`; it may then be made again.
+#[derive(Drop)]
+pub struct ElfStream<E: EndianParse, S: StreamSource, A: Allocator + Copy> {
+    pub ehdr: FileHeader<E>,
+    declares_sections: bool,
+    shdrs: Vec<SectionHeader, A>,
+    phdrs: Vec<ProgramHeader, A>,
+    alloc: A,
+    source: S,
+    len: u64,
+    cache: Cache<A>,
+}
+
+impl<E: EndianParse, S: StreamSource, A: Allocator + Copy> Model for ElfStream<E, S, A> {
+    ghost use Rattle.std.specs.Prelude.{map};
+    ghost use Rattle.elf.specs.Stream.{Seen};
+    ghost use Rattle.elf.specs.inner.Piece.{range_of, IsSound};
+
+    ghost Value = { Seen E };
+
+    ghost view = { λ s. record {
+      content = S.content s.source;
+      can_fail = S.can_fail s.source;
+      faults = S.faults s.source;
+      ehdr = s.ehdr;
+      declares_sections = s.declares_sections;
+      sections = s.shdrs.items;
+      segments = s.phdrs.items;
+      kept = map range_of s.cache;
+    } };
+
+    ghost invariant = { λ s. IsSound (S.content s.source) s.len s.cache };
+}
+
+impl<E: EndianParse, S: StreamSource, A: Allocator + Copy> ElfStream<E, S, A> {
+    /// Opens a file: reads its header and the two tables that it declares (gABI, chapters "ELF Header",
+    /// "Sections" and "Program Header"), and keeps no other bytes. Refuses where `ElfBytes::minimal_parse`
+    /// does, and with `IOError` or `OutOfMemory`; the source is given up then.
+    pub fn open_stream(alloc: A, mut reader: S) -> Result<Self, ParseError>
+        ensures content { IfOk result (λ s. (s.content ≡ S.content reader) × (s.can_fail ≡ S.can_fail reader)) }
+        ensures kept { IfOk result (λ s. s.kept ≡ []) }
+        ensures opening { IfSome (S.content reader) (λ bytes. IsOpening shown_headers
+            (ok_map headers_of (opened E.little E.of_byte bytes)) (S.can_fail reader) (S.faults reader) result) }
+    {
+        let len = match reader.seek_end() {
+            Ok(len) => len,
+            Err(e) => return Err(ParseError::IOError(e)),
+        };
+        let ehdr = read_ehdr(alloc, &mut reader, len)?;
+        let (declares_sections, shdrs) = read_shdrs(alloc, &mut reader, len, &ehdr)?;
+        let phdrs = read_phdrs(alloc, &mut reader, len, &ehdr)?;
+        Ok(ElfStream {
+            ehdr,
+            declares_sections,
+            shdrs,
+            phdrs,
+            alloc,
+            source: reader,
+            len,
+            cache: Cache::new(alloc),
+        })
+    }
+
+    /// Every range that lies within a held one is held.
+    pub fn held_covers(&self)
+        ensures { (start end low high : ℕ) → low ≤ start → end ≤ high
+            → IsHeld self.now low high → IsHeld self.now start end }
+    {}
+
+    /// The program headers; none where the file declares none.
+    pub fn segments(&self) -> &Vec<ProgramHeader, A>
+        ensures { result.now.items ≡ self.now.segments }
+    {
+        &self.phdrs
+    }
+
+    /// The section headers; none where the file declares none.
+    pub fn section_headers(&self) -> &Vec<SectionHeader, A>
+        ensures { result.now.items ≡ self.now.sections }
+    {
+        &self.shdrs
+    }
+
+    // Reads so many bytes from `start` on, unless they are held.
+    fn load(&mut self, start: u64, size: u64) -> Result<(), ParseError>
+        ensures keeps { Keeps self.old self.new }
+        ensures loaded { OnOk result ((start + size < 2 ^ 64) × IsHeld self.new start (start + size)) }
+        ensures refused { OnErr result (self.new.kept ≡ self.old.kept) }
+        ensures held { start + size < 2 ^ 64 → IsHeld self.old start (start + size)
+            → IsOk result × (self.new ≡ self.old) }
+        ensures answer { IfSome self.old.content (λ bytes.
+            IsAnswer (λ _. take size (drop start bytes)) (bytes_at size bytes start)
+            self.old.can_fail self.old.faults self.new.faults result) }
+    {
+        let Some(end) = start.checked_add(size) else {
+            return Err(ParseError::IntegerOverflow);
+        };
+        if self.cache.holds(start, end) {
+            return Ok(());
+        }
+        if end > self.len {
+            return Err(ParseError::BadOffset(end));
+        }
+        let bytes = fetch(self.alloc, &mut self.source, start, end)?;
+        self.cache.put(Buffer::new(start, bytes))
+    }
+
+    // The bytes of a range that is held.
+    fn held_bytes(&self, start: u64, size: u64) -> &[u8]
+        requires low { start + size < 2 ^ 64 }
+        requires held { IsHeld self.now start (start + size) }
+        ensures { IfSome self.now.content (λ bytes. bytes_at size bytes start ≡ Ok result.now) }
+    {
+        self.cache.bytes(start, start + size)
+    }
+
+    // Loads the range of a section.
+    fn load_section(&mut self, shdr: &SectionHeader) -> Result<(), ParseError>
+        ensures { Loads (range_of_section shdr.now ∷ []) self.old self.new result }
+    {
+        self.load(shdr.sh_offset, shdr.sh_size)
+    }
+
+    // Loads the range of a segment.
+    fn load_segment(&mut self, phdr: &ProgramHeader) -> Result<(), ParseError>
+        ensures { Loads (range_of_segment phdr.now ∷ []) self.old self.new result }
+    {
+        self.load(phdr.p_offset, phdr.p_filesz)
+    }
+}

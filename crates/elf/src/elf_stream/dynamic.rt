@@ -1,0 +1,117 @@
+//! The dynamic entries of a stream.
+ghost use Rattle.std.specs.Prelude.{◌≡◌, ℕ, Ok, Some, IfErr, IfSome, OnOk};
+ghost use Rattle.elf_parts.specs.Dynamic.{dyn_layout};
+ghost use Rattle.elf_parts.specs.Record.{size_by};
+ghost use Rattle.std.specs.Option.{option_map};
+ghost use Rattle.elf_parts.specs.Number.{ok_map};
+ghost use Rattle.elf_parts.specs.Table.{table_view};
+ghost use Rattle.elf.specs.Answers.{dynamic, section_dynamic, segment_dynamic};
+ghost use Rattle.elf.specs.Asked.{dynamic_asked, headers_alone, if_there, section_asked, segment_asked};
+ghost use Rattle.elf.specs.Choice.{first_section_of, first_segment_of, if_found};
+ghost use Rattle.elf.specs.Listed.{stream_file};
+ghost use Rattle.elf.specs.Stream.{AreHeld, Kind, Leaves, kind};
+ghost use Rattle.elf.specs.inner.Loads.{AreLow, LoadsFor};
+
+use super::ElfStream;
+use crate::source::StreamSource;
+use elf_abi::abi;
+use elf_parts::dynamic::{Dyn, DynamicTable};
+use elf_parts::endian::EndianParse;
+use elf_parts::parse::{ParseAt, ParseError};
+use elf_parts::section::SectionHeader;
+use elf_parts::segment::ProgramHeader;
+use std::alloc::Allocator;
+
+impl<E: EndianParse, S: StreamSource, A: Allocator + Copy> ElfStream<E, S, A> {
+    ghost use Rattle.std.specs.Borrow.{sem};
+    ghost use Rattle.std.specs.Io.BufRead.{Rests};
+    ghost use Rattle.elf.specs.contracts.elf_stream.ElfStream.{the_row};
+
+    // Loads the range of a section of dynamic entries.
+    fn load_dynamic(&mut self, shdr: &SectionHeader) -> Result<(), ParseError>
+        ensures loads { LoadsFor (section_asked shdr.now)
+            (λ bytes. section_dynamic (stream_file E.little self.old bytes) shdr.now) self.old self.new result }
+        ensures sized { OnOk result (shdr.now.sh_entsize ≡ size_by dyn_layout self.old.ehdr.class) }
+    {
+        Dyn::validate_entsize(self.ehdr.class, shdr.sh_entsize as usize)?;
+        self.load_payload(shdr)
+    }
+
+    // The dynamic entries of a section, whose bytes are held.
+    fn lend_dynamic(&self, shdr: &SectionHeader) -> Result<Option<DynamicTable<'_, E>>, ParseError>
+        requires sized { shdr.now.sh_entsize ≡ size_by dyn_layout self.now.ehdr.class }
+        requires low { AreLow (section_asked shdr.now) }
+        requires held { AreHeld self.now (section_asked shdr.now) }
+        ensures value { IfSome self.now.content (λ bytes. ok_map (option_map table_view) result
+            ≡ ok_map Some (section_dynamic (stream_file E.little self.now bytes) shdr.now)) }
+        ensures plain { IfErr result (λ e. kind e ≡ Kind.Refusal) }
+    {
+        let (bytes, _) = self.lend_payload(shdr)?;
+        Ok(Some(DynamicTable::new(self.ehdr.endianness, self.ehdr.class, bytes)))
+    }
+
+    // The dynamic entries of a section.
+    fn section_dynamic(
+        &mut self,
+        shdr: &SectionHeader,
+    ) -> Result<Option<DynamicTable<'_, E>>, ParseError>
+        ensures* leaves { sem 𝓛 (Rests (the_row E.row S.row A.row (record { little = E.little; of_byte = E.of_byte }) (record { is_default = E.is_default }) (record { eq = E.eq }) S.StreamSource A.Allocator) self.entry
+            (λ new. Leaves (section_asked shdr.now) (option_map table_view)
+            (λ bytes. ok_map Some (section_dynamic (stream_file E.little self.old bytes) shdr.now)) self.old new result)) }
+    {
+        self.load_dynamic(shdr)?;
+        self.lend_dynamic(shdr)
+    }
+
+    // The dynamic entries of a segment, whose bytes are held.
+    fn lend_segment_dynamic(&self, phdr: &ProgramHeader) -> DynamicTable<'_, E>
+        requires low { AreLow (segment_asked phdr.now) }
+        requires held { AreHeld self.now (segment_asked phdr.now) }
+        ensures { IfSome self.now.content (λ bytes.
+            segment_dynamic (stream_file E.little self.now bytes) phdr.now ≡ Ok (table_view result)) }
+    {
+        let bytes = self.lend_segment(phdr);
+        DynamicTable::new(self.ehdr.endianness, self.ehdr.class, bytes)
+    }
+
+    // The dynamic entries of the first section of type `SHT_DYNAMIC`.
+    fn first_section_dynamic(&mut self) -> Result<Option<DynamicTable<'_, E>>, ParseError>
+        ensures* leaves { sem 𝓛 (Rests (the_row E.row S.row A.row (record { little = E.little; of_byte = E.of_byte }) (record { is_default = E.is_default }) (record { eq = E.eq }) S.StreamSource A.Allocator) self.entry
+            (λ new. Leaves (if_there section_asked (first_section_of 6 self.old.sections)) (option_map table_view)
+            (λ bytes. if_found (section_dynamic (stream_file E.little self.old bytes)) (first_section_of 6 self.old.sections)) self.old new result)) }
+    {
+        let Some(shdr) = self.first_section_of(abi::SHT_DYNAMIC) else {
+            return Ok(None);
+        };
+        self.section_dynamic(&shdr)
+    }
+
+    // The dynamic entries of the first segment of type `PT_DYNAMIC`.
+    fn first_segment_dynamic(&mut self) -> Result<Option<DynamicTable<'_, E>>, ParseError>
+        ensures* leaves { sem 𝓛 (Rests (the_row E.row S.row A.row (record { little = E.little; of_byte = E.of_byte }) (record { is_default = E.is_default }) (record { eq = E.eq }) S.StreamSource A.Allocator) self.entry
+            (λ new. Leaves (if_there segment_asked (first_segment_of 2 self.old.segments)) (option_map table_view)
+            (λ bytes. if_found (segment_dynamic (stream_file E.little self.old bytes)) (first_segment_of 2 self.old.segments)) self.old new result)) }
+    {
+        let Some(phdr) = self.first_segment_of(abi::PT_DYNAMIC) else {
+            return Ok(None);
+        };
+        self.load_segment(&phdr)?;
+        Ok(Some(self.lend_segment_dynamic(&phdr)))
+    }
+
+    /// The dynamic entries (gABI, chapter "Dynamic Section"): of the first section of type `SHT_DYNAMIC`,
+    /// or where the file declares no section headers of the first segment of type `PT_DYNAMIC`. Refuses
+    /// where the entry size that the section header gives is not that of an entry, and where the bytes
+    /// are refused.
+    pub fn dynamic(&mut self) -> Result<Option<DynamicTable<'_, E>>, ParseError>
+        ensures* leaves { sem 𝓛 (Rests (the_row E.row S.row A.row (record { little = E.little; of_byte = E.of_byte }) (record { is_default = E.is_default }) (record { eq = E.eq }) S.StreamSource A.Allocator) self.entry
+            (λ new. Leaves (dynamic_asked (headers_alone E.little self.old)) (option_map table_view)
+            (λ bytes. dynamic (stream_file E.little self.old bytes)) self.old new result)) }
+    {
+        if self.declares_sections {
+            self.first_section_dynamic()
+        } else {
+            self.first_segment_dynamic()
+        }
+    }
+}

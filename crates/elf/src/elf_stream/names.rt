@@ -1,0 +1,174 @@
+//! The names of sections, and headers that are chosen.
+ghost use Rattle.std.specs.Prelude.{◌≡◌, ℕ, Ok, None, Some, IfErr, IfSome, [], ◌∷◌, option_copied};
+ghost use Rattle.elf_parts.specs.Number.{ok_map};
+ghost use Rattle.elf_parts.specs.StringTable.{strings_view};
+ghost use Rattle.elf.specs.Answers.{first_named, section_header_by_name};
+ghost use Rattle.elf.specs.Asked.{headers_alone, names_asked, whole_section};
+ghost use Rattle.elf.specs.Choice.{first_section_of, first_segment_of};
+ghost use Rattle.elf.specs.Listed.{listed_at, stream_file};
+ghost use Rattle.elf.specs.Names.{headers_with_names, name_index, name_section};
+ghost use Rattle.elf.specs.Range.{section_range};
+ghost use Rattle.elf.specs.Stream.{AreHeld, Kind, Leaves, kind};
+ghost use Rattle.elf.specs.inner.Loads.{AreLow};
+
+use super::ElfStream;
+use crate::elf_bytes::sections::has_name;
+use crate::source::StreamSource;
+use elf_abi::abi;
+use elf_parts::endian::EndianParse;
+use elf_parts::parse::ParseError;
+use elf_parts::section::SectionHeader;
+use elf_parts::segment::ProgramHeader;
+use elf_parts::string_table::StringTable;
+use std::alloc::Allocator;
+
+// The first section header of a type.
+fn first_section_in(shdrs: &[SectionHeader], sh_type: u32) -> Option<&SectionHeader>
+    ensures { option_copied result ≡ first_section_of sh_type shdrs.now }
+{
+    shdrs.iter().find(|shdr| shdr.sh_type == sh_type)
+}
+
+// The first program header of a type.
+fn first_segment_in(phdrs: &[ProgramHeader], p_type: u32) -> Option<&ProgramHeader>
+    ensures { option_copied result ≡ first_segment_of p_type phdrs.now }
+{
+    phdrs.iter().find(|phdr| phdr.p_type == p_type)
+}
+
+// The first section header of a name.
+fn first_named_in<'a>(
+    shdrs: &'a [SectionHeader],
+    names: &StringTable<'_>,
+    name: &str,
+) -> Option<&'a SectionHeader>
+    ensures { option_copied result ≡ first_named shdrs.now name.now (Some (strings_view names.now)) }
+{
+    shdrs.iter().find(|shdr| has_name(names, name, *shdr))
+}
+
+impl<E: EndianParse, S: StreamSource, A: Allocator + Copy> ElfStream<E, S, A> {
+    ghost use Rattle.std.specs.Borrow.{sem};
+    ghost use Rattle.std.specs.Io.BufRead.{Rests};
+    ghost use Rattle.elf.specs.contracts.elf_stream.ElfStream.{the_row};
+    ghost use Rattle.elf.specs.StreamView.{listed_view};
+
+    // A section header by its index.
+    pub(super) fn section_at(&self, index: usize) -> Result<SectionHeader, ParseError>
+        ensures value { result ≡ listed_at self.now.sections index }
+        ensures plain { IfErr result (λ e. kind e ≡ Kind.Refusal) }
+    {
+        self.shdrs
+            .get(index)
+            .copied()
+            .ok_or(ParseError::BadOffset(index as u64))
+    }
+
+    // The first section of a type.
+    pub(super) fn first_section_of(&self, sh_type: u32) -> Option<SectionHeader>
+        ensures { result ≡ first_section_of sh_type self.now.sections }
+    {
+        first_section_in(&self.shdrs, sh_type).copied()
+    }
+
+    // The first segment of a type.
+    pub(super) fn first_segment_of(&self, p_type: u32) -> Option<ProgramHeader>
+        ensures { result ≡ first_segment_of p_type self.now.segments }
+    {
+        first_segment_in(&self.phdrs, p_type).copied()
+    }
+
+    // Which section holds the names of the sections.
+    fn name_index(&self) -> Result<usize, ParseError>
+        ensures value { result ≡ name_index (headers_alone E.little self.now) }
+        ensures plain { IfErr result (λ e. kind e ≡ Kind.Refusal) }
+    {
+        if self.ehdr.e_shstrndx == abi::SHN_XINDEX {
+            let first = self.section_at(0)?;
+            Ok(first.sh_link as usize)
+        } else {
+            Ok(self.ehdr.e_shstrndx as usize)
+        }
+    }
+
+    // The section that holds them.
+    #[tactic(auto, unfolding(crate::specs::Names::name_section))]
+    fn name_section(&self) -> Result<Option<SectionHeader>, ParseError>
+        ensures value { result ≡ name_section (headers_alone E.little self.now) }
+        ensures plain { IfErr result (λ e. kind e ≡ Kind.Refusal) }
+    {
+        if !self.declares_sections || self.ehdr.e_shstrndx == abi::SHN_UNDEF {
+            return Ok(None);
+        }
+        let index = self.name_index()?;
+        Ok(Some(self.section_at(index)?))
+    }
+
+    // The headers, where there are no names.
+    fn lend_unnamed(&self) -> (&Vec<SectionHeader, A>, Option<StringTable<'_>>)
+        ensures { listed_view result ≡ (self.now.sections, None) }
+    {
+        (&self.shdrs, None)
+    }
+
+    // The headers with the names in a section whose range is held.
+    fn lend_names(&self, names: &SectionHeader) -> (&Vec<SectionHeader, A>, Option<StringTable<'_>>)
+        requires low { AreLow (whole_section names.now) }
+        requires held { AreHeld self.now (whole_section names.now) }
+        ensures { IfSome self.now.content (λ bytes.
+            ok_map (λ strings. (self.now.sections, Some strings)) (section_range bytes names.now)
+            ≡ Ok (listed_view result)) }
+    {
+        let bytes = self.held_bytes(names.sh_offset, names.sh_size);
+        (&self.shdrs, Some(StringTable::new(bytes)))
+    }
+
+    /// The section headers and the table of their names, where the file declares them. Refuses where
+    /// the section that holds the names cannot be had or its range does not lie in the file.
+    #[tactic(auto, unfolding(crate::specs::Names::name_section, crate::specs::Names::name_table))]
+    pub fn section_headers_with_strtab(
+        &mut self,
+    ) -> Result<(&Vec<SectionHeader, A>, Option<StringTable<'_>>), ParseError>
+        ensures* leaves { sem 𝓛 (Rests (the_row E.row S.row A.row (record { little = E.little; of_byte = E.of_byte }) (record { is_default = E.is_default }) (record { eq = E.eq }) S.StreamSource A.Allocator) self.entry
+            (λ new. Leaves (names_asked (headers_alone E.little self.old)) listed_view
+            (λ bytes. headers_with_names (stream_file E.little self.old bytes)) self.old new result)) }
+    {
+        let Some(names) = self.name_section()? else {
+            return Ok(self.lend_unnamed());
+        };
+        self.load_section(&names)?;
+        Ok(self.lend_names(&names))
+    }
+
+    // The first section of a name, by the names in a section whose range is held.
+    fn lend_named(&self, names: &SectionHeader, name: &str) -> Option<&SectionHeader>
+        requires low { AreLow (whole_section names.now) }
+        requires held { AreHeld self.now (whole_section names.now) }
+        ensures { IfSome self.now.content (λ bytes.
+            ok_map (λ strings. first_named self.now.sections name.now (Some strings)) (section_range bytes names.now)
+            ≡ Ok (option_copied result)) }
+    {
+        let bytes = self.held_bytes(names.sh_offset, names.sh_size);
+        let strings = StringTable::new(bytes);
+        first_named_in(&self.shdrs, &strings, name)
+    }
+
+    /// The first section whose name has the bytes of `name`, where the file declares section headers and
+    /// a table of their names. Refuses as `section_headers_with_strtab` does; a section whose name cannot
+    /// be read is passed over.
+    #[tactic(auto, unfolding(crate::specs::Names::name_section, crate::specs::Names::name_table))]
+    pub fn section_header_by_name(
+        &mut self,
+        name: &str,
+    ) -> Result<Option<&SectionHeader>, ParseError>
+        ensures* leaves { sem 𝓛 (Rests (the_row E.row S.row A.row (record { little = E.little; of_byte = E.of_byte }) (record { is_default = E.is_default }) (record { eq = E.eq }) S.StreamSource A.Allocator) self.entry
+            (λ new. Leaves (names_asked (headers_alone E.little self.old)) option_copied
+            (λ bytes. section_header_by_name (stream_file E.little self.old bytes) name.now) self.old new result)) }
+    {
+        let Some(names) = self.name_section()? else {
+            return Ok(None);
+        };
+        self.load_section(&names)?;
+        Ok(self.lend_named(&names, name))
+    }
+}

@@ -1,0 +1,284 @@
+//! Sections and segments: their bytes.
+ghost use Rattle.std.specs.Prelude.{◌≡◌, ◌<◌, ◌^◌, IfErr, IfOk, IfSome, Ok, OnOk, length};
+ghost use Rattle.elf_parts.specs.Note.{notes_left};
+ghost use Rattle.elf_parts.specs.Number.{ok_map};
+ghost use Rattle.elf_parts.specs.StringTable.{strings_view};
+ghost use Rattle.elf.specs.Answers.{relas_left, rels_left, section_data, section_data_as_notes, section_data_as_relas, section_data_as_rels};
+ghost use Rattle.elf.specs.Answers.{section_data_as_strtab, segment_data, segment_data_as_notes};
+ghost use Rattle.elf.specs.Asked.{section_asked, segment_asked};
+ghost use Rattle.elf.specs.Listed.{stream_file};
+ghost use Rattle.elf.specs.Payload.{content_of_type, payload, payload_view};
+ghost use Rattle.elf.specs.Stream.{AreHeld, Kind, Leaves, kind};
+ghost use Rattle.elf.specs.inner.Loads.{AreLow, Loads, LoadsFor};
+
+use super::ElfStream;
+use crate::front::front;
+use crate::source::StreamSource;
+use elf_abi::abi;
+use elf_parts::compression::CompressionHeader;
+use elf_parts::endian::EndianParse;
+use elf_parts::note::NoteIterator;
+use elf_parts::parse::ParseError;
+use elf_parts::relocation::{RelIterator, RelaIterator};
+use elf_parts::section::SectionHeader;
+use elf_parts::segment::ProgramHeader;
+use elf_parts::string_table::StringTable;
+use std::alloc::Allocator;
+
+impl<E: EndianParse, S: StreamSource, A: Allocator + Copy> ElfStream<E, S, A> {
+    ghost use Rattle.std.specs.Borrow.{sem};
+    ghost use Rattle.std.specs.Io.BufRead.{Rests};
+    ghost use Rattle.elf.specs.contracts.elf_stream.ElfStream.{the_row};
+
+    // Loads the range of a section that has bytes.
+    pub(super) fn load_payload(&mut self, shdr: &SectionHeader) -> Result<(), ParseError>
+        ensures { Loads (section_asked shdr.now) self.old self.new result }
+    {
+        if shdr.sh_type == abi::SHT_NOBITS {
+            return Ok(());
+        }
+        self.load_section(shdr)
+    }
+
+    // The bytes of a section, which are held where it has any.
+    #[tactic(auto, unfolding(crate::specs::Payload::payload))]
+    pub(super) fn lend_payload(
+        &self,
+        shdr: &SectionHeader,
+    ) -> Result<(&[u8], Option<CompressionHeader>), ParseError>
+        requires low { AreLow (section_asked shdr.now) }
+        requires held { AreHeld self.now (section_asked shdr.now) }
+        ensures value { IfSome self.now.content (λ bytes.
+            ok_map payload_view result ≡ payload (stream_file E.little self.now bytes) shdr.now) }
+        ensures plain { IfErr result (λ e. kind e ≡ Kind.Refusal) }
+    {
+        if shdr.sh_type == abi::SHT_NOBITS {
+            return Ok((&[], None));
+        }
+        let part = self.held_bytes(shdr.sh_offset, shdr.sh_size);
+        if shdr.sh_flags & abi::SHF_COMPRESSED as u64 == 0 {
+            return Ok((part, None));
+        }
+        let (rest, header) = front::<E, CompressionHeader>(
+            self.ehdr.endianness,
+            self.ehdr.class,
+            part,
+        )?;
+        Ok((rest, Some(header)))
+    }
+
+    /// The bytes of a section; of a compressed one its header and what follows that (gABI, chapter
+    /// "Sections"). A section of type `SHT_NOBITS` has none, whatever its range. Refuses where the range
+    /// does not lie in the file or the compression header cannot be read.
+    pub fn section_data(
+        &mut self,
+        shdr: &SectionHeader,
+    ) -> Result<(&[u8], Option<CompressionHeader>), ParseError>
+        ensures* leaves { sem 𝓛 (Rests (the_row E.row S.row A.row (record { little = E.little; of_byte = E.of_byte }) (record { is_default = E.is_default }) (record { eq = E.eq }) S.StreamSource A.Allocator) self.entry
+            (λ new. Leaves (section_asked shdr.now) payload_view
+            (λ bytes. section_data (stream_file E.little self.old bytes) shdr.now) self.old new result)) }
+    {
+        self.load_payload(shdr)?;
+        self.lend_payload(shdr)
+    }
+
+    // Loads the range of a section that has to be of a type.
+    fn load_content(&mut self, shdr: &SectionHeader, sh_type: u32) -> Result<(), ParseError>
+        ensures loads { LoadsFor (section_asked shdr.now)
+            (λ bytes. content_of_type sh_type (stream_file E.little self.old bytes) shdr.now) self.old self.new result }
+        ensures of_type { OnOk result (shdr.now.sh_type ≡ sh_type) }
+    {
+        if shdr.sh_type != sh_type {
+            return Err(ParseError::UnexpectedSectionType((shdr.sh_type, sh_type)));
+        }
+        self.load_payload(shdr)
+    }
+
+    // The bytes of a section of a type, which are held.
+    fn lend_content(&self, shdr: &SectionHeader, sh_type: u32) -> Result<&[u8], ParseError>
+        requires of_type { shdr.now.sh_type ≡ sh_type }
+        requires low { AreLow (section_asked shdr.now) }
+        requires held { AreHeld self.now (section_asked shdr.now) }
+        ensures value { IfSome self.now.content (λ bytes. ok_map (λ part. part.now) result
+            ≡ content_of_type sh_type (stream_file E.little self.now bytes) shdr.now) }
+        ensures plain { IfErr result (λ e. kind e ≡ Kind.Refusal) }
+    {
+        let (bytes, _) = self.lend_payload(shdr)?;
+        Ok(bytes)
+    }
+
+    // The strings of a section, whose bytes are held.
+    fn lend_strtab(&self, shdr: &SectionHeader) -> Result<StringTable<'_>, ParseError>
+        requires of_type { shdr.now.sh_type ≡ 3 }
+        requires low { AreLow (section_asked shdr.now) }
+        requires held { AreHeld self.now (section_asked shdr.now) }
+        ensures value { IfSome self.now.content (λ bytes.
+            ok_map strings_view result ≡ section_data_as_strtab (stream_file E.little self.now bytes) shdr.now) }
+        ensures plain { IfErr result (λ e. kind e ≡ Kind.Refusal) }
+    {
+        let bytes = self.lend_content(shdr, abi::SHT_STRTAB)?;
+        Ok(StringTable::new(bytes))
+    }
+
+    /// The strings of a section of type `SHT_STRTAB`. Refuses another type with `UnexpectedSectionType`,
+    /// and else as `section_data` does.
+    pub fn section_data_as_strtab(
+        &mut self,
+        shdr: &SectionHeader,
+    ) -> Result<StringTable<'_>, ParseError>
+        ensures* leaves { sem 𝓛 (Rests (the_row E.row S.row A.row (record { little = E.little; of_byte = E.of_byte }) (record { is_default = E.is_default }) (record { eq = E.eq }) S.StreamSource A.Allocator) self.entry
+            (λ new. Leaves (section_asked shdr.now) strings_view
+            (λ bytes. section_data_as_strtab (stream_file E.little self.old bytes) shdr.now) self.old new result)) }
+    {
+        self.load_content(shdr, abi::SHT_STRTAB)?;
+        self.lend_strtab(shdr)
+    }
+
+    // The relocations of a section, whose bytes are held.
+    fn lend_rels(&self, shdr: &SectionHeader) -> Result<RelIterator<'_, E>, ParseError>
+        requires of_type { shdr.now.sh_type ≡ 9 }
+        requires low { AreLow (section_asked shdr.now) }
+        requires held { AreHeld self.now (section_asked shdr.now) }
+        ensures value { IfSome self.now.content (λ bytes.
+            ok_map rels_left result ≡ section_data_as_rels (stream_file E.little self.now bytes) shdr.now) }
+        ensures plain { IfErr result (λ e. kind e ≡ Kind.Refusal) }
+        ensures bound { IfOk result (λ rels. length (rels_left rels) < 2 ^ 64) }
+    {
+        let bytes = self.lend_content(shdr, abi::SHT_REL)?;
+        Ok(RelIterator::new(self.ehdr.endianness, self.ehdr.class, bytes))
+    }
+
+    /// The relocations of a section of type `SHT_REL`, in order, up to the first that is refused. Refuses
+    /// another type with `UnexpectedSectionType`, and else as `section_data` does.
+    pub fn section_data_as_rels(
+        &mut self,
+        shdr: &SectionHeader,
+    ) -> Result<RelIterator<'_, E>, ParseError>
+        ensures* leaves { sem 𝓛 (Rests (the_row E.row S.row A.row (record { little = E.little; of_byte = E.of_byte }) (record { is_default = E.is_default }) (record { eq = E.eq }) S.StreamSource A.Allocator) self.entry
+            (λ new. Leaves (section_asked shdr.now) rels_left
+            (λ bytes. section_data_as_rels (stream_file E.little self.old bytes) shdr.now) self.old new result)) }
+        ensures bound { IfOk result (λ rels. length (rels_left rels) < 2 ^ 64) }
+    {
+        self.load_content(shdr, abi::SHT_REL)?;
+        self.lend_rels(shdr)
+    }
+
+    // The relocations of a section, whose bytes are held.
+    fn lend_relas(&self, shdr: &SectionHeader) -> Result<RelaIterator<'_, E>, ParseError>
+        requires of_type { shdr.now.sh_type ≡ 4 }
+        requires low { AreLow (section_asked shdr.now) }
+        requires held { AreHeld self.now (section_asked shdr.now) }
+        ensures value { IfSome self.now.content (λ bytes.
+            ok_map relas_left result ≡ section_data_as_relas (stream_file E.little self.now bytes) shdr.now) }
+        ensures plain { IfErr result (λ e. kind e ≡ Kind.Refusal) }
+        ensures bound { IfOk result (λ relas. length (relas_left relas) < 2 ^ 64) }
+    {
+        let bytes = self.lend_content(shdr, abi::SHT_RELA)?;
+        Ok(RelaIterator::new(self.ehdr.endianness, self.ehdr.class, bytes))
+    }
+
+    /// The relocations of a section of type `SHT_RELA`, in order, up to the first that is refused. Refuses
+    /// another type with `UnexpectedSectionType`, and else as `section_data` does.
+    pub fn section_data_as_relas(
+        &mut self,
+        shdr: &SectionHeader,
+    ) -> Result<RelaIterator<'_, E>, ParseError>
+        ensures* leaves { sem 𝓛 (Rests (the_row E.row S.row A.row (record { little = E.little; of_byte = E.of_byte }) (record { is_default = E.is_default }) (record { eq = E.eq }) S.StreamSource A.Allocator) self.entry
+            (λ new. Leaves (section_asked shdr.now) relas_left
+            (λ bytes. section_data_as_relas (stream_file E.little self.old bytes) shdr.now) self.old new result)) }
+        ensures bound { IfOk result (λ relas. length (relas_left relas) < 2 ^ 64) }
+    {
+        self.load_content(shdr, abi::SHT_RELA)?;
+        self.lend_relas(shdr)
+    }
+
+    // The notes of a section, whose bytes are held.
+    fn lend_notes(&self, shdr: &SectionHeader) -> Result<NoteIterator<'_, E>, ParseError>
+        requires of_type { shdr.now.sh_type ≡ 7 }
+        requires low { AreLow (section_asked shdr.now) }
+        requires held { AreHeld self.now (section_asked shdr.now) }
+        ensures value { IfSome self.now.content (λ bytes.
+            ok_map notes_left result ≡ section_data_as_notes (stream_file E.little self.now bytes) shdr.now) }
+        ensures plain { IfErr result (λ e. kind e ≡ Kind.Refusal) }
+        ensures bound { IfOk result (λ notes. length (notes_left notes) < 2 ^ 64) }
+    {
+        let bytes = self.lend_content(shdr, abi::SHT_NOTE)?;
+        Ok(NoteIterator::new(
+            self.ehdr.endianness,
+            self.ehdr.class,
+            shdr.sh_addralign as usize,
+            bytes,
+        ))
+    }
+
+    /// The notes of a section of type `SHT_NOTE`, whose alignment is `sh_addralign`, up to the first that
+    /// does not fit. Refuses another type with `UnexpectedSectionType`, and else as `section_data` does.
+    pub fn section_data_as_notes(
+        &mut self,
+        shdr: &SectionHeader,
+    ) -> Result<NoteIterator<'_, E>, ParseError>
+        ensures* leaves { sem 𝓛 (Rests (the_row E.row S.row A.row (record { little = E.little; of_byte = E.of_byte }) (record { is_default = E.is_default }) (record { eq = E.eq }) S.StreamSource A.Allocator) self.entry
+            (λ new. Leaves (section_asked shdr.now) notes_left
+            (λ bytes. section_data_as_notes (stream_file E.little self.old bytes) shdr.now) self.old new result)) }
+        ensures bound { IfOk result (λ notes. length (notes_left notes) < 2 ^ 64) }
+    {
+        self.load_content(shdr, abi::SHT_NOTE)?;
+        self.lend_notes(shdr)
+    }
+
+    // The bytes of a segment, which are held.
+    pub(super) fn lend_segment(&self, phdr: &ProgramHeader) -> &[u8]
+        requires low { AreLow (segment_asked phdr.now) }
+        requires held { AreHeld self.now (segment_asked phdr.now) }
+        ensures { IfSome self.now.content (λ bytes.
+            segment_data (stream_file E.little self.now bytes) phdr.now ≡ Ok result.now) }
+    {
+        self.held_bytes(phdr.p_offset, phdr.p_filesz)
+    }
+
+    /// The bytes of a segment in the file. Refuses where its range does not lie in the file.
+    pub fn segment_data(&mut self, phdr: &ProgramHeader) -> Result<&[u8], ParseError>
+        ensures* leaves { sem 𝓛 (Rests (the_row E.row S.row A.row (record { little = E.little; of_byte = E.of_byte }) (record { is_default = E.is_default }) (record { eq = E.eq }) S.StreamSource A.Allocator) self.entry
+            (λ new. Leaves (segment_asked phdr.now) (λ part. part.now)
+            (λ bytes. segment_data (stream_file E.little self.old bytes) phdr.now) self.old new result)) }
+    {
+        self.load_segment(phdr)?;
+        Ok(self.lend_segment(phdr))
+    }
+
+    // The notes of a segment, whose bytes are held.
+    fn lend_segment_notes(&self, phdr: &ProgramHeader) -> NoteIterator<'_, E>
+        requires of_type { phdr.now.p_type ≡ 4 }
+        requires low { AreLow (segment_asked phdr.now) }
+        requires held { AreHeld self.now (segment_asked phdr.now) }
+        ensures value { IfSome self.now.content (λ bytes.
+            segment_data_as_notes (stream_file E.little self.now bytes) phdr.now ≡ Ok (notes_left result)) }
+        ensures bound { length (notes_left result) < 2 ^ 64 }
+    {
+        let bytes = self.lend_segment(phdr);
+        NoteIterator::new(
+            self.ehdr.endianness,
+            self.ehdr.class,
+            phdr.p_align as usize,
+            bytes,
+        )
+    }
+
+    /// The notes of a segment of type `PT_NOTE`, whose alignment is `p_align`, up to the first that does
+    /// not fit. Refuses another type with `UnexpectedSegmentType`, and else as `segment_data` does.
+    pub fn segment_data_as_notes(
+        &mut self,
+        phdr: &ProgramHeader,
+    ) -> Result<NoteIterator<'_, E>, ParseError>
+        ensures* leaves { sem 𝓛 (Rests (the_row E.row S.row A.row (record { little = E.little; of_byte = E.of_byte }) (record { is_default = E.is_default }) (record { eq = E.eq }) S.StreamSource A.Allocator) self.entry
+            (λ new. Leaves (segment_asked phdr.now) notes_left
+            (λ bytes. segment_data_as_notes (stream_file E.little self.old bytes) phdr.now) self.old new result)) }
+        ensures bound { IfOk result (λ notes. length (notes_left notes) < 2 ^ 64) }
+    {
+        if phdr.p_type != abi::PT_NOTE {
+            return Err(ParseError::UnexpectedSegmentType((phdr.p_type, abi::PT_NOTE)));
+        }
+        self.load_segment(phdr)?;
+        Ok(self.lend_segment_notes(phdr))
+    }
+}

@@ -1,0 +1,113 @@
+//! The symbols of a stream, with their strings.
+ghost use Rattle.std.specs.Prelude.{◌≡◌, ℕ, Ok, IfErr, IfSome};
+ghost use Rattle.std.specs.Option.{option_map};
+ghost use Rattle.elf_parts.specs.Number.{ok_map};
+ghost use Rattle.elf.specs.Answers.{dynamic_symbol_table, first_symbols, symbol_sections, symbol_table, symbols_in, symbols_view};
+ghost use Rattle.elf.specs.Asked.{both_sections, headers_alone, symbols_asked};
+ghost use Rattle.elf.specs.Listed.{stream_file};
+ghost use Rattle.elf.specs.Stream.{AreHeld, Kind, Leaves, kind};
+ghost use Rattle.elf.specs.inner.Loads.{AreLow, Loads};
+
+use super::ElfStream;
+use crate::source::StreamSource;
+use elf_abi::abi;
+use elf_parts::endian::EndianParse;
+use elf_parts::parse::{ParseAt, ParseError};
+use elf_parts::section::SectionHeader;
+use elf_parts::string_table::StringTable;
+use elf_parts::symbol::{Symbol, SymbolTable};
+use std::alloc::Allocator;
+
+impl<E: EndianParse, S: StreamSource, A: Allocator + Copy> ElfStream<E, S, A> {
+    ghost use Rattle.std.specs.Borrow.{sem};
+    ghost use Rattle.std.specs.Io.BufRead.{Rests};
+    ghost use Rattle.elf.specs.contracts.elf_stream.ElfStream.{the_row};
+
+    // The first section of a type of symbols, with the section that it links to.
+    fn symbol_sections(
+        &self,
+        sh_type: u32,
+    ) -> Result<Option<(SectionHeader, SectionHeader)>, ParseError>
+        ensures value { result ≡ symbol_sections sh_type (headers_alone E.little self.now) }
+        ensures plain { IfErr result (λ e. kind e ≡ Kind.Refusal) }
+    {
+        let Some(shdr) = self.first_section_of(sh_type) else {
+            return Ok(None);
+        };
+        let linked = self.section_at(shdr.sh_link as usize)?;
+        Symbol::validate_entsize(self.ehdr.class, shdr.sh_entsize as usize)?;
+        Ok(Some((shdr, linked)))
+    }
+
+    // Loads the ranges of two sections.
+    pub(super) fn load_both(
+        &mut self,
+        shdr: &SectionHeader,
+        linked: &SectionHeader,
+    ) -> Result<(), ParseError>
+        ensures { Loads (both_sections (shdr.now, linked.now)) self.old self.new result }
+    {
+        self.load_section(shdr)?;
+        self.load_section(linked)
+    }
+
+    // The symbols of the one section and the strings of the other, whose ranges are held.
+    fn lend_symbols(
+        &self,
+        shdr: &SectionHeader,
+        linked: &SectionHeader,
+    ) -> (SymbolTable<'_, E>, StringTable<'_>)
+        requires low { AreLow (both_sections (shdr.now, linked.now)) }
+        requires held { AreHeld self.now (both_sections (shdr.now, linked.now)) }
+        ensures { IfSome self.now.content (λ bytes.
+            symbols_in (stream_file E.little self.now bytes) (shdr.now, linked.now) ≡ Ok (symbols_view result)) }
+    {
+        let symbols = self.held_bytes(shdr.sh_offset, shdr.sh_size);
+        let strings = self.held_bytes(linked.sh_offset, linked.sh_size);
+        (
+            SymbolTable::new(self.ehdr.endianness, self.ehdr.class, symbols),
+            StringTable::new(strings),
+        )
+    }
+
+    // The symbols of the first section of a type, with their strings.
+    fn first_symbols(
+        &mut self,
+        sh_type: u32,
+    ) -> Result<Option<(SymbolTable<'_, E>, StringTable<'_>)>, ParseError>
+        ensures* leaves { sem 𝓛 (Rests (the_row E.row S.row A.row (record { little = E.little; of_byte = E.of_byte }) (record { is_default = E.is_default }) (record { eq = E.eq }) S.StreamSource A.Allocator) self.entry
+            (λ new. Leaves (symbols_asked sh_type (headers_alone E.little self.old)) (option_map symbols_view)
+            (λ bytes. first_symbols sh_type (stream_file E.little self.old bytes)) self.old new result)) }
+    {
+        let Some((shdr, linked)) = self.symbol_sections(sh_type)? else {
+            return Ok(None);
+        };
+        self.load_both(&shdr, &linked)?;
+        Ok(Some(self.lend_symbols(&shdr, &linked)))
+    }
+
+    /// The symbols of the first section of type `SHT_SYMTAB` and the strings of the section that it links
+    /// to (gABI, chapter "Symbol Table"). Refuses where that section cannot be had, where the entry size
+    /// is not that of a symbol, and where the one range or the other does not lie in the file.
+    pub fn symbol_table(
+        &mut self,
+    ) -> Result<Option<(SymbolTable<'_, E>, StringTable<'_>)>, ParseError>
+        ensures* leaves { sem 𝓛 (Rests (the_row E.row S.row A.row (record { little = E.little; of_byte = E.of_byte }) (record { is_default = E.is_default }) (record { eq = E.eq }) S.StreamSource A.Allocator) self.entry
+            (λ new. Leaves (symbols_asked 2 (headers_alone E.little self.old)) (option_map symbols_view)
+            (λ bytes. symbol_table (stream_file E.little self.old bytes)) self.old new result)) }
+    {
+        self.first_symbols(abi::SHT_SYMTAB)
+    }
+
+    /// The symbols that are bound at run time, of the first section of type `SHT_DYNSYM`, with their
+    /// strings. Refuses as `symbol_table` does.
+    pub fn dynamic_symbol_table(
+        &mut self,
+    ) -> Result<Option<(SymbolTable<'_, E>, StringTable<'_>)>, ParseError>
+        ensures* leaves { sem 𝓛 (Rests (the_row E.row S.row A.row (record { little = E.little; of_byte = E.of_byte }) (record { is_default = E.is_default }) (record { eq = E.eq }) S.StreamSource A.Allocator) self.entry
+            (λ new. Leaves (symbols_asked 11 (headers_alone E.little self.old)) (option_map symbols_view)
+            (λ bytes. dynamic_symbol_table (stream_file E.little self.old bytes)) self.old new result)) }
+    {
+        self.first_symbols(abi::SHT_DYNSYM)
+    }
+}

@@ -1,0 +1,192 @@
+//! The versions of symbols of a stream.
+ghost use Rattle.std.specs.Prelude.{◌≡◌, ℕ, Ok, IfErr, IfSome, [], ◌∷◌};
+ghost use Rattle.std.specs.Option.{option_map};
+ghost use Rattle.elf_parts.specs.Number.{ok_map};
+ghost use Rattle.elf_parts.specs.Symver.{definitions_view, needs_view, versions_view};
+ghost use Rattle.elf.specs.Answers.{symbol_version_table};
+ghost use Rattle.elf.specs.Asked.{both_sections, headers_alone, if_there, plan_asked, version_plan, versions_asked, whole_section, with_link};
+ghost use Rattle.elf.specs.Choice.{if_found};
+ghost use Rattle.elf.specs.Listed.{stream_file};
+ghost use Rattle.elf.specs.Stream.{AreHeld, Kind, Leaves, kind};
+ghost use Rattle.elf.specs.Versions.{version_sections};
+ghost use Rattle.elf.specs.inner.Loads.{AreLow, Loads};
+ghost use Rattle.elf.specs.inner.Plans.{definitions_by, needs_by, planned_versions, versions_by};
+
+use super::ElfStream;
+use crate::elf_bytes::versions::VersionSections;
+use crate::source::StreamSource;
+use elf_parts::endian::EndianParse;
+use elf_parts::gnu_symver::{
+    SymbolVersionTable, VerDefIterator, VerNeedIterator, VersionIndex, VersionIndexTable,
+};
+use elf_parts::parse::{ParseAt, ParseError};
+use elf_parts::section::SectionHeader;
+use elf_parts::string_table::StringTable;
+use std::alloc::Allocator;
+
+// A section, and the one that it links to.
+type Linked = (SectionHeader, SectionHeader);
+
+// The section of version indexes, and those of the needs and of the definitions with the ones that they
+// link to.
+type VersionPlan = (SectionHeader, Option<Linked>, Option<Linked>);
+
+// The last sections of the three types, up to the first one by which all of them were seen.
+#[tactic(auto, using(crate::proofs::VersionChoice::found_in_all))]
+fn version_sections_in(shdrs: &[SectionHeader]) -> VersionSections
+    ensures { result ≡ version_sections shdrs.now }
+{
+    let mut found = VersionSections {
+        indexes: None,
+        needs: None,
+        definitions: None,
+    };
+    for shdr in shdrs {
+        found = found.with(*shdr);
+        if found.are_all() {
+            return found;
+        }
+    }
+    found
+}
+
+impl<E: EndianParse, S: StreamSource, A: Allocator + Copy> ElfStream<E, S, A> {
+    ghost use Rattle.std.specs.Borrow.{sem};
+    ghost use Rattle.std.specs.Io.BufRead.{Rests};
+    ghost use Rattle.elf.specs.contracts.elf_stream.ElfStream.{the_row};
+
+    // A section with the one that it links to, where there is one.
+    fn link_if(&self, shdr: Option<SectionHeader>) -> Result<Option<Linked>, ParseError>
+        ensures value { result ≡ if_found (with_link (headers_alone E.little self.now)) shdr }
+        ensures plain { IfErr result (λ e. kind e ≡ Kind.Refusal) }
+    {
+        let Some(shdr) = shdr else {
+            return Ok(None);
+        };
+        let linked = self.section_at(shdr.sh_link as usize)?;
+        Ok(Some((shdr, linked)))
+    }
+
+    // Which sections the versions stand in.
+    fn version_plan(&self) -> Result<Option<VersionPlan>, ParseError>
+        ensures value { result ≡ version_plan (headers_alone E.little self.now) }
+        ensures plain { IfErr result (λ e. kind e ≡ Kind.Refusal) }
+    {
+        let chosen = version_sections_in(&self.shdrs);
+        let Some(shdr) = chosen.indexes else {
+            return Ok(None);
+        };
+        VersionIndex::validate_entsize(self.ehdr.class, shdr.sh_entsize as usize)?;
+        let needs = self.link_if(chosen.needs)?;
+        let definitions = self.link_if(chosen.definitions)?;
+        Ok(Some((shdr, needs, definitions)))
+    }
+
+    // Loads the ranges of two sections, where there are any.
+    fn load_both_if(&mut self, linked: Option<Linked>) -> Result<(), ParseError>
+        ensures { Loads (if_there both_sections linked) self.old self.new result }
+    {
+        match linked {
+            Some((shdr, linked)) => self.load_both(&shdr, &linked),
+            None => Ok(()),
+        }
+    }
+
+    // Loads the ranges of up to five sections.
+    fn load_plan(&mut self, plan: VersionPlan) -> Result<(), ParseError>
+        ensures { Loads (plan_asked plan) self.old self.new result }
+    {
+        self.load_section(&plan.0)?;
+        self.load_both_if(plan.1)?;
+        self.load_both_if(plan.2)
+    }
+
+    // The needs of a section with their strings, where there is one; the ranges are held.
+    fn lend_needs(
+        &self,
+        linked: Option<Linked>,
+    ) -> Option<(VerNeedIterator<'_, E>, StringTable<'_>)>
+        requires low { AreLow (if_there both_sections linked) }
+        requires held { AreHeld self.now (if_there both_sections linked) }
+        ensures { IfSome self.now.content (λ bytes.
+            if_found (needs_by (stream_file E.little self.now bytes)) linked ≡ Ok (option_map needs_view result)) }
+    {
+        let (shdr, linked) = linked?;
+        let bytes = self.held_bytes(shdr.sh_offset, shdr.sh_size);
+        let strings = self.held_bytes(linked.sh_offset, linked.sh_size);
+        let needs = VerNeedIterator::new(
+            self.ehdr.endianness,
+            self.ehdr.class,
+            shdr.sh_info as u64,
+            0,
+            bytes,
+        );
+        Some((needs, StringTable::new(strings)))
+    }
+
+    // The definitions of a section with their strings, where there is one; the ranges are held.
+    fn lend_definitions(
+        &self,
+        linked: Option<Linked>,
+    ) -> Option<(VerDefIterator<'_, E>, StringTable<'_>)>
+        requires low { AreLow (if_there both_sections linked) }
+        requires held { AreHeld self.now (if_there both_sections linked) }
+        ensures { IfSome self.now.content (λ bytes.
+            if_found (definitions_by (stream_file E.little self.now bytes)) linked ≡ Ok (option_map definitions_view result)) }
+    {
+        let (shdr, linked) = linked?;
+        let bytes = self.held_bytes(shdr.sh_offset, shdr.sh_size);
+        let strings = self.held_bytes(linked.sh_offset, linked.sh_size);
+        let definitions = VerDefIterator::new(
+            self.ehdr.endianness,
+            self.ehdr.class,
+            shdr.sh_info as u64,
+            0,
+            bytes,
+        );
+        Some((definitions, StringTable::new(strings)))
+    }
+
+    // The versions of the sections of a plan, whose ranges are held.
+    fn lend_versions(&self, plan: VersionPlan) -> SymbolVersionTable<'_, E>
+        requires low { AreLow (whole_section plan.0) }
+        requires held { AreHeld self.now (whole_section plan.0) }
+        requires low_needs { AreLow (if_there both_sections plan.1) }
+        requires held_needs { AreHeld self.now (if_there both_sections plan.1) }
+        requires low_definitions { AreLow (if_there both_sections plan.2) }
+        requires held_definitions { AreHeld self.now (if_there both_sections plan.2) }
+        ensures { IfSome self.now.content (λ bytes.
+            versions_by (stream_file E.little self.now bytes) plan ≡ Ok (versions_view result)) }
+    {
+        let bytes = self.held_bytes(plan.0.sh_offset, plan.0.sh_size);
+        let indexes = VersionIndexTable::new(self.ehdr.endianness, self.ehdr.class, bytes);
+        let needs = self.lend_needs(plan.1);
+        let definitions = self.lend_definitions(plan.2);
+        SymbolVersionTable::new(indexes, needs, definitions)
+    }
+
+    // The versions of the sections that are chosen, if any are.
+    fn planned_versions(&mut self) -> Result<Option<SymbolVersionTable<'_, E>>, ParseError>
+        ensures* leaves { sem 𝓛 (Rests (the_row E.row S.row A.row (record { little = E.little; of_byte = E.of_byte }) (record { is_default = E.is_default }) (record { eq = E.eq }) S.StreamSource A.Allocator) self.entry
+            (λ new. Leaves (versions_asked (headers_alone E.little self.old)) (option_map versions_view)
+            (λ bytes. planned_versions (stream_file E.little self.old bytes)) self.old new result)) }
+    {
+        let Some(plan) = self.version_plan()? else {
+            return Ok(None);
+        };
+        self.load_plan(plan)?;
+        Ok(Some(self.lend_versions(plan)))
+    }
+
+    /// The versions of the symbols (GNU symbol versioning), where the file has version indexes: by the last
+    /// sections of the types `SHT_GNU_VERSYM`, `SHT_GNU_VERNEED` and `SHT_GNU_VERDEF` up to the first
+    /// section by which all three were seen. Refuses where the entry size of the indexes is not 2, where
+    /// one of the ranges does not lie in the file, and where a section that is linked to cannot be had.
+    pub fn symbol_version_table(&mut self) -> Result<Option<SymbolVersionTable<'_, E>>, ParseError>
+        ensures* leaves { sem 𝓛 (Rests (the_row E.row S.row A.row (record { little = E.little; of_byte = E.of_byte }) (record { is_default = E.is_default }) (record { eq = E.eq }) S.StreamSource A.Allocator) self.entry
+            (λ new. Leaves (versions_asked (headers_alone E.little self.old)) (option_map versions_view)
+            (λ bytes. symbol_version_table (stream_file E.little self.old bytes)) self.old new result)) }
+    {
+        self.planned_versions()
+    }
+}

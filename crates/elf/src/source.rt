@@ -1,0 +1,136 @@
+//! The sources that a stream reads.
+ghost use Rattle.std.specs.Prelude.{◌≡◌, ℕ, Bool, true, false, ◌≤◌, List, length, take, None, Some, IfOk, IfSome, OnOk};
+ghost use Rattle.std.specs.declared.option.Option.{Option};
+ghost use Rattle.elf.specs.Source.{Gives, HasCause};
+
+use std::fs::File;
+use std::io;
+use std::io::{Read, Seek, SeekFrom};
+
+/// A source of bytes. It is told where its content is known, and untold else.
+pub trait StreamSource: Drop {
+    /// The bytes, where they are known.
+    ghost content: { Self → Option (List ℕ) };
+
+    /// Where the next read begins.
+    ghost position: { Self → ℕ };
+
+    /// How often the source failed.
+    ghost faults: { Self → ℕ };
+
+    /// Whether it can fail at all.
+    ghost can_fail: { Self → Bool };
+
+    /// Moves to the end, and returns the length.
+    fn seek_end(&mut self) -> Result<u64, io::Error>
+        ensures content { content self.new ≡ content self.old }
+        ensures nature { can_fail self.new ≡ can_fail self.old }
+        ensures length { IfOk result (λ n. IfSome (content self.old) (λ bytes. n ≡ length bytes)) }
+        ensures cause { IfSome (content self.old)
+            (λ _. HasCause (faults self.old) (faults self.new) (can_fail self.old) result) };
+
+    /// Moves to a position.
+    fn seek_start(&mut self, pos: u64) -> Result<(), io::Error>
+        ensures content { content self.new ≡ content self.old }
+        ensures nature { can_fail self.new ≡ can_fail self.old }
+        ensures moves { OnOk result (IfSome (content self.old) (λ _. position self.new ≡ pos)) }
+        ensures cause { IfSome (content self.old)
+            (λ _. HasCause (faults self.old) (faults self.new) (can_fail self.old) result) };
+
+    /// Reads some bytes into the front of the buffer: none only at the end, or where there is no room.
+    fn read(&mut self, buf: &mut [u8]) -> Result<usize, io::Error>
+        ensures count { IfOk result (λ n. n ≤ length buf.old) }
+        ensures content { content self.new ≡ content self.old }
+        ensures nature { can_fail self.new ≡ can_fail self.old }
+        ensures bytes { IfOk result (λ n. IfSome (content self.old)
+            (λ bytes. Gives bytes (position self.old) (position self.new) n buf.new)) }
+        ensures cause { IfSome (content self.old)
+            (λ _. HasCause (faults self.old) (faults self.new) (can_fail self.old) result) };
+}
+
+/// A source over bytes in memory. It cannot fail.
+#[derive(Drop)]
+pub struct MemSource<'a> {
+    bytes: &'a [u8],
+    at: u64,
+}
+
+impl<'a> MemSource<'a> {
+    ghost use Rattle.elf.specs.Memory.{mem_bytes};
+
+    /// The source of these bytes.
+    pub fn new(bytes: &'a [u8]) -> Self
+        ensures { mem_bytes result ≡ bytes.now }
+    {
+        MemSource { bytes, at: 0 }
+    }
+}
+
+impl<'a> StreamSource for MemSource<'a> {
+    ghost content = { λ s. Some s.bytes.now };
+
+    ghost position = { λ s. s.at };
+
+    ghost faults = { λ _. 0 };
+
+    ghost can_fail = { λ _. false };
+
+    fn seek_end(&mut self) -> Result<u64, io::Error> {
+        let end = self.bytes.len() as u64;
+        self.at = end;
+        Ok(end)
+    }
+
+    fn seek_start(&mut self, pos: u64) -> Result<(), io::Error> {
+        self.at = pos;
+        Ok(())
+    }
+
+    fn read(&mut self, buf: &mut [u8]) -> Result<usize, io::Error> {
+        let at = self.at as usize;
+        if at >= self.bytes.len() {
+            return Ok(0);
+        }
+        let rest = &self.bytes[at..];
+        let n = rest.len().min(buf.len());
+        buf[..n].copy_from_slice(&rest[..n]);
+        self.at += n as u64;
+        Ok(n)
+    }
+}
+
+/// A source over a file. Nothing is known of what it holds.
+#[derive(Drop)]
+pub struct FileSource {
+    file: File,
+}
+
+impl FileSource {
+    /// The source of this file.
+    pub fn new(file: File) -> Self {
+        FileSource { file }
+    }
+}
+
+impl StreamSource for FileSource {
+    ghost content = { λ _. None };
+
+    ghost position = { λ _. 0 };
+
+    ghost faults = { λ _. 0 };
+
+    ghost can_fail = { λ _. true };
+
+    fn seek_end(&mut self) -> Result<u64, io::Error> {
+        self.file.seek(SeekFrom::End(0))
+    }
+
+    fn seek_start(&mut self, pos: u64) -> Result<(), io::Error> {
+        self.file.seek(SeekFrom::Start(pos))?;
+        Ok(())
+    }
+
+    fn read(&mut self, buf: &mut [u8]) -> Result<usize, io::Error> {
+        self.file.read(buf)
+    }
+}
