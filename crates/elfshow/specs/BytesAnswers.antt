@@ -1,4 +1,4 @@
--- What an `ElfBytes` answers.
+-- What a reader answers about an object file, and an `ElfBytes` about the file that it opened.
 use Rattle.std.specs.Prelude.{ℕ, Bool, List, Option, Some, None, Result, Ok}
 use Rattle.std.specs.Option.{option_map}
 use Rattle.elf_parts.specs.Dynamic.{dyn_layout}
@@ -9,6 +9,7 @@ use Rattle.elf_parts.specs.Symbol.{symbol_layout}
 use Rattle.elf_parts.specs.SysvFind.{sysv_section}
 use Rattle.elf_parts.specs.Table.{Table, table_items}
 use Rattle.elf_parts.specs.declared.dynamic.Dyn.{Dyn}
+use Rattle.elf_parts.specs.declared.file.FileHeader.{FileHeader}
 use Rattle.elf_parts.specs.declared.parse.ParseError.{ParseError}
 use Rattle.elf_parts.specs.declared.section.SectionHeader.{SectionHeader}
 use Rattle.elf_parts.specs.declared.symbol.Symbol.{Symbol}
@@ -42,10 +43,10 @@ abbrev pub checked_section : {T : Type 0} → (Given T → Verdict) → (List �
 checked_section says cut file s =
     section_data file s >>= λ found. dynamic_symbol_table file >>= λ symbols. checked_for says (cut found.0) symbols
 
--- the answers about a file that was opened, by a type of orders of which some are little
-abbrev pub answers_of : {E : Type 0} → (E → Bool) → View E → Answers E
-answers_of little v = let file = object_file little v in record {
-  header = v.ehdr;
+-- the answers about an object file, whose header stands so
+abbrev pub answers_from : {E : Type 0} → FileHeader E → ObjectFile → Answers E
+answers_from header file = record {
+  header = header;
   little = file.little;
   sections = file.sections;
   segments = file.segments;
@@ -65,3 +66,7 @@ answers_of little v = let file = object_file little v in record {
   sysv = checked_section sysv_verdict (sysv_section file.little file.class) file;
   gnu = checked_section gnu_verdict (gnu_section file.little file.class) file;
 }
+
+-- those of an `ElfBytes` that shows this file, by a type of orders of which some are little
+abbrev pub answers_of : {E : Type 0} → (E → Bool) → View E → Answers E
+answers_of little v = answers_from v.ehdr (object_file little v)

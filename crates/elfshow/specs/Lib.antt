@@ -4,6 +4,8 @@ pub mod Answers
 pub mod Asked
 pub mod Text
 pub mod BytesAnswers
+pub mod StreamAnswers
+pub mod Run
 pub mod Words
 pub mod Sound
 pub mod SoundGnu
@@ -14,5 +16,7 @@ pub mod SoundCount
 pub mod SoundVerdict
 pub mod CheckedView
 pub mod ChainLengths
+pub mod Resolve
+pub mod ObjectView
 pub mod Verdicts
 pub mod inner

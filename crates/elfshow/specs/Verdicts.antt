@@ -1,5 +1,5 @@
 -- What a checker says of a hash section: that it is not sound, or that it is, and how many symbols it indexes.
-use Rattle.std.specs.Prelude.{ℕ, Option, Some, None, Result, Ok}
+use Rattle.std.specs.Prelude.{ℕ}
 use Rattle.std.proofs.Common.{inl, inr}
 use Rattle.elf_parts.specs.GnuFind.{GnuTable}
 use Rattle.elf_parts.specs.Hash.{word_count}

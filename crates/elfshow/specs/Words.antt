@@ -5,6 +5,9 @@ use Rattle.std.specs.Option.{option_and_then, option_map}
 use Rattle.std.specs.Str.{bytes_eq}
 use denote.Ref.{Bor}
 use Rattle.elfshow.specs.Asked.{Asked, Header, Sections, Segments, Name, Data, Strings, Rels, Relas, Notes, Seg, SegNotes, Symbols, DynSyms, Dynamic, Versions, Sysv, Gnu}
+use Rattle.elfshow.specs.Pieces.{◌⧺◌, newline}
+use Rattle.elfshow.specs.declared.show.Mode.{Mode}
+use Rattle.elfshow.specs.declared.show.Mode.TheVariants.{Both, Bytes, Stream}
 use Rattle.elfshow.specs.declared.show.RequestError.{RequestError}
 use Rattle.elfshow.specs.declared.show.RequestError.TheVariants.{Usage, OutOfMemory}
 
@@ -85,11 +88,30 @@ abbrev pub calls_of : List (Bor (List ℕ)) → Option (List Asked)
 calls_of [] = Some []
 calls_of (word ∷ words) = option_and_then (before_calls (calls_of words)) (call_of word.now)
 
--- the file and the calls: the words are the mode `bytes`, a file and at least one call
-abbrev pub request_of : List (Bor (List ℕ)) → Option (List ℕ × List Asked)
+-- the reader that a word asks for: one over the bytes of the file, one over the file as a source, or both
+abbrev pub mode_of : List ℕ → Option Mode
+mode_of word =
+    if bytes_eq word (codes "bytes") then Some Bytes
+    else if bytes_eq word (codes "stream") then Some Stream
+    else if bytes_eq word (codes "both") then Some Both
+    else None
+
+-- the mode, the file and the calls: the words are these, and of calls there is one at least
+abbrev pub request_of : List (Bor (List ℕ)) → Option (Mode × List ℕ × List Asked)
 request_of (mode ∷ file ∷ call ∷ calls) =
-    if bytes_eq mode.now (codes "bytes") then option_map (λ all. (file.now, all)) (calls_of (call ∷ calls)) else None
+    option_and_then (λ m. option_map (λ all. (m, file.now, all)) (calls_of (call ∷ calls))) (mode_of mode.now)
 request_of _ = None
+
+-- what stands behind the text where two texts were made
+abbrev pub agreement : List ℕ → List ℕ → List ℕ
+agreement one other =
+    if bytes_eq one other then codes "readers agree" ⧺ newline else codes "readers differ" ⧺ newline
+
+-- what is written of the text of the calls: of both readers that of the one, and that they agree
+abbrev pub shown_by : Mode → List ℕ → List ℕ
+shown_by Bytes listing = listing
+shown_by Stream listing = listing
+shown_by Both listing = listing ⧺ codes "readers agree" ⧺ newline
 
 -- the exit status of words that ask for nothing
 abbrev pub status_of : RequestError → ℕ

@@ -1,3 +1,4 @@
 pub mod HashSteps
 pub mod SoundProps
 pub mod Decisions
+pub mod RunSteps

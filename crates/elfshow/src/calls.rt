@@ -1,19 +1,24 @@
 //! The calls of a listing, and the text that they write.
-ghost use Rattle.std.specs.Prelude.{◌≡◌, ◌≢◌, ℕ, OnOk, IfOk, IfErr, Err, map};
+ghost use Rattle.std.specs.Prelude.{◌≡◌, ◌≢◌, ℕ, All, OnOk, IfOk, IfErr, IfSome, Err, map};
 ghost use Rattle.std.specs.Io.KnownBytes.{Appends};
 ghost use Rattle.elf.specs.Opening.{opened};
+ghost use Rattle.elf.specs.Stream.{Keeps};
 ghost use Rattle.elfshow.specs.Asked.{asked};
 ghost use Rattle.elfshow.specs.BytesAnswers.{answers_of};
+ghost use Rattle.elfshow.specs.Run.{IsAtHand, IsFaultless, Ran};
+ghost use Rattle.elfshow.specs.StreamAnswers.{stream_answers};
 ghost use Rattle.elfshow.specs.Text.{text};
 ghost use Rattle.elf_parts.specs.declared.parse.ParseError.{ParseError};
 
 use elf::endian::EndianParse;
-use elf::{ElfBytes, ParseError};
+use elf::{ElfBytes, ElfStream, ParseError, StreamSource};
+use std::alloc::Allocator;
 use std::io;
 use std::io::Write;
 use thiserror::Error;
 
 mod bytes;
+mod stream;
 
 use bytes::write_call;
 
@@ -98,6 +103,38 @@ pub fn run_bytes<E: EndianParse, W: Write>(
             return Err(RunError::Write { done, error });
         }
         done += 1;
+    }
+    Ok(())
+}
+
+/// Writes the text of the calls over a stream, in order. A call that the stream refuses writes the line
+/// `refused`, and the run goes on; at a failure of the source and where memory is refused it stops, and just
+/// the text of the calls before is written. The writer is flushed behind each call, so that `done` counts
+/// what reached its end. The calls `sysv` and `gnu` copy a section's bytes into memory of the stream's
+/// allocator.
+pub fn run_stream<E: EndianParse, S: StreamSource, A: Allocator + Copy, W: Write>(
+    stream: &mut ElfStream<E, S, A>,
+    calls: &[Call<'_>],
+    out: &mut W,
+) -> Result<(), RunError>
+    ensures keeps { Keeps stream.old stream.new }
+    ensures ran { IfSome stream.old.content (λ bytes.
+        Ran (λ calls. text (stream_answers E.little stream.old bytes) (map asked calls)) calls.now
+        (W.contents out.old) (W.contents out.new) stream.old.faults stream.new.faults result) }
+    ensures no_fault { IfSome stream.old.content (λ bytes.
+        All (λ call. IsAtHand E.little stream.old bytes (asked call)) calls.now → IsFaultless result) }
+{
+    for (done, call) in calls.iter().enumerate() {
+        match stream::write_call(stream, *call, out) {
+            Ok(()) => {}
+            Err(RunError::Open(error)) => return Err(RunError::Open(error)),
+            Err(RunError::Fault { error, .. }) => return Err(RunError::Fault { done, error }),
+            Err(RunError::Write { error, .. }) => return Err(RunError::Write { done, error }),
+        }
+        let flushed = out.flush();
+        if let Err(error) = flushed {
+            return Err(RunError::Write { done, error });
+        }
     }
     Ok(())
 }

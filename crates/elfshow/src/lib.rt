@@ -5,5 +5,7 @@ pub mod calls;
 pub mod hashcheck;
 mod lines;
 mod pieces;
+pub mod readers;
+pub mod resolve;
 pub mod show;
 mod words;

@@ -1,28 +1,44 @@
 //! The program without its surroundings: what it does with the words of its command line.
-ghost use Rattle.std.specs.Prelude.{◌≡◌, ◌≤◌, IsErr, IsNone, IfOk, IsOkAnd, IsSomeAnd, Some, map};
+ghost use Rattle.std.specs.Prelude.{◌≡◌, ◌≤◌, IsErr, IsNone, IfOk, IfSome, IsOkAnd, IsSomeAnd, OnOk, Some, map};
 ghost use Rattle.std.specs.Io.KnownBytes.{Appends};
 ghost use Rattle.elf_parts.specs.Endian.{any_is_little, any_of_byte};
 ghost use Rattle.elf.specs.Opening.{opened};
 ghost use Rattle.elfshow.specs.Asked.{asked};
 ghost use Rattle.elfshow.specs.BytesAnswers.{answers_of};
 ghost use Rattle.elfshow.specs.Text.{text};
-ghost use Rattle.elfshow.specs.Words.{calls_of, request_of, status_of};
+ghost use Rattle.elfshow.specs.Pieces.{◌⧺◌};
+ghost use Rattle.elfshow.specs.Words.{agreement, calls_of, mode_of, request_of, shown_by, status_of};
+ghost use Rattle.elfshow.specs.declared.show.Mode.TheVariants.{Both};
 ghost use Rattle.elfshow.specs.declared.show.RequestError.TheVariants.{OutOfMemory};
 
-use crate::calls::{Call, RunError, run_bytes};
+use crate::calls::{Call, RunError, run_bytes, run_stream};
+use crate::readers::texts_are_the_same;
 use crate::words::parse_call;
-use elf::ParseError;
 use elf::endian::AnyEndian;
+use elf::{ElfStream, MemSource, ParseError, StreamSource};
 use std::alloc::{AllocFailed, Global};
 use std::fmt::Display;
+use std::io;
 use std::io::Write;
 
 /// The line that tells how the program is called.
 const USAGE: &str = "usage: elfshow bytes|stream|both FILE CALL...";
 
+/// Which reader a listing is made by.
+#[derive(Clone, Copy, Debug, PartialEq, Eq)]
+pub enum Mode {
+    /// The reader over the bytes of the file.
+    Bytes,
+    /// The reader over the file as a source.
+    Stream,
+    /// Both readers, whose texts are compared.
+    Both,
+}
+
 /// What the words of a command line ask for.
 #[derive(Debug, Drop)]
 pub struct Request<'a> {
+    pub mode: Mode,
     pub file: &'a str,
     pub calls: Vec<Call<'a>>,
 }
@@ -42,19 +58,41 @@ impl<T: Drop> From<AllocFailed<T>> for RequestError {
     }
 }
 
-/// What the words ask for: the mode `bytes`, a file and at least one call.
+/// What the words ask for: a mode, a file and at least one call.
 pub fn parse_words<'a>(alloc: Global, words: &[&'a str]) -> Result<Request<'a>, RequestError>
-    ensures ok { IfOk result (λ request. request_of words.now ≡ Some (request.file.now, map asked request.calls.items)) }
+    ensures ok { IfOk result (λ request. request_of words.now
+        ≡ Some (request.mode, request.file.now, map asked request.calls.items)) }
     ensures usage { result ≡ Err RequestError.Usage → IsNone (request_of words.now) }
 {
     let [mode, file, rest @ ..] = words else {
         return Err(RequestError::Usage);
     };
-    if *mode != "bytes" || rest.is_empty() {
+    let Some(mode) = parse_mode(*mode) else {
+        return Err(RequestError::Usage);
+    };
+    if rest.is_empty() {
         return Err(RequestError::Usage);
     }
     let calls = parse_calls(alloc, rest)?;
-    Ok(Request { file: *file, calls })
+    Ok(Request {
+        mode,
+        file: *file,
+        calls,
+    })
+}
+
+fn parse_mode(word: &str) -> Option<Mode>
+    ensures { result ≡ mode_of word.now }
+{
+    if word == "bytes" {
+        Some(Mode::Bytes)
+    } else if word == "stream" {
+        Some(Mode::Stream)
+    } else if word == "both" {
+        Some(Mode::Both)
+    } else {
+        None
+    }
 }
 
 fn parse_calls<'a>(alloc: Global, words: &[&'a str]) -> Result<Vec<Call<'a>>, RequestError>
@@ -81,15 +119,38 @@ pub fn show<W: Write, V: Write>(
 ) -> u8
     ensures listed { result ≡ 0 → IsSomeAnd (request_of words.now) (λ request.
         IsOkAnd (opened any_is_little any_of_byte «data».now) (λ file.
-        Appends (W.contents out.old) (W.contents out.new) (text (answers_of any_is_little file) request.1))) }
+        Appends (W.contents out.old) (W.contents out.new)
+        (shown_by request.0 (text (answers_of any_is_little file) request.2)))) }
     ensures usage { result ≡ 2 → IsNone (request_of words.now) }
     ensures no_request { IsNone (request_of words.now) → out.new ≡ out.old }
     ensures refused { IsErr (opened any_is_little any_of_byte «data».now) → out.new ≡ out.old }
     ensures status { result ≤ 2 }
 {
     match parse_words(alloc, words) {
-        Ok(request) => answer(&request, data, out, err),
+        Ok(request) => answer_in_memory(alloc, &request, data, out, err),
         Err(error) => tell_request_error(error, err),
+    }
+}
+
+/// Answers a request whose file holds the data, by the reader or the readers that it asks for, and answers
+/// the exit status.
+pub fn answer_in_memory<W: Write, V: Write>(
+    alloc: Global,
+    request: &Request<'_>,
+    data: &[u8],
+    out: &mut W,
+    err: &mut V,
+) -> u8
+    ensures listed { result ≡ 0 → IsOkAnd (opened any_is_little any_of_byte «data».now) (λ file.
+        Appends (W.contents out.old) (W.contents out.new)
+        (shown_by request.now.mode (text (answers_of any_is_little file) (map asked request.now.calls.items)))) }
+    ensures refused { IsErr (opened any_is_little any_of_byte «data».now) → out.new ≡ out.old }
+    ensures status { result ≤ 1 }
+{
+    match request.mode {
+        Mode::Bytes => answer(request, data, out, err),
+        Mode::Stream => answer_stream(alloc, request, MemSource::new(data), out, err),
+        Mode::Both => answer_both(alloc, request, data, out, err),
     }
 }
 
@@ -108,13 +169,123 @@ pub fn answer<W: Write, V: Write>(
 {
     match run_bytes::<AnyEndian, W>(data, request.calls.as_slice(), out) {
         Ok(()) => 0,
-        Err(RunError::Open(error)) => {
-            let _ = writeln!(err, "elfshow: open: {error}");
-            1
-        }
-        Err(RunError::Fault { done, error }) => tell_stopped(done, error, err),
-        Err(RunError::Write { done, error }) => tell_stopped(done, error, err),
+        Err(error) => tell_run(error, err),
     }
+}
+
+/// Runs the calls of a request over a source, tells how the run stopped if it did, and answers the exit
+/// status.
+pub fn answer_stream<S: StreamSource, W: Write, V: Write>(
+    alloc: Global,
+    request: &Request<'_>,
+    source: S,
+    out: &mut W,
+    err: &mut V,
+) -> u8
+    ensures listed { result ≡ 0 → IfSome (S.content source) (λ bytes.
+        IsOkAnd (opened any_is_little any_of_byte bytes) (λ file.
+        Appends (W.contents out.old) (W.contents out.new) (text (answers_of any_is_little file) (map asked request.now.calls.items)))) }
+    ensures refused { IfSome (S.content source) (λ bytes.
+        IsErr (opened any_is_little any_of_byte bytes) → out.new ≡ out.old) }
+    ensures status { result ≤ 1 }
+{
+    match run_source(alloc, source, request.calls.as_slice(), out) {
+        Ok(()) => 0,
+        Err(error) => tell_run(error, err),
+    }
+}
+
+// Opens the file that a source holds, and writes the text of the calls.
+fn run_source<S: StreamSource, W: Write>(
+    alloc: Global,
+    source: S,
+    calls: &[Call<'_>],
+    out: &mut W,
+) -> Result<(), RunError>
+    ensures listed { OnOk result (IfSome (S.content source) (λ bytes.
+        IsOkAnd (opened any_is_little any_of_byte bytes) (λ file.
+        Appends (W.contents out.old) (W.contents out.new) (text (answers_of any_is_little file) (map asked calls.now))))) }
+    ensures refused { IfSome (S.content source) (λ bytes.
+        IsErr (opened any_is_little any_of_byte bytes) → out.new ≡ out.old) }
+{
+    texts_are_the_same::<AnyEndian>();
+    match ElfStream::<AnyEndian, S, Global>::open_stream(alloc, source) {
+        Ok(mut stream) => run_stream(&mut stream, calls, out),
+        Err(error) => Err(RunError::Open(error)),
+    }
+}
+
+/// Runs the calls of a request by both readers, in memory, and writes the text of the one and whether that
+/// of the other is the same. Tells how a run stopped if one did, and writes nothing then; answers the exit
+/// status.
+pub fn answer_both<W: Write, V: Write>(
+    alloc: Global,
+    request: &Request<'_>,
+    data: &[u8],
+    out: &mut W,
+    err: &mut V,
+) -> u8
+    ensures listed { result ≡ 0 → IsOkAnd (opened any_is_little any_of_byte «data».now) (λ file.
+        Appends (W.contents out.old) (W.contents out.new)
+        (shown_by Both (text (answers_of any_is_little file) (map asked request.now.calls.items)))) }
+    ensures refused { IsErr (opened any_is_little any_of_byte «data».now) → out.new ≡ out.old }
+    ensures status { result ≤ 1 }
+{
+    let calls = request.calls.as_slice();
+    let mut one = Vec::new(alloc);
+    if let Err(error) = run_bytes::<AnyEndian, Vec<u8>>(data, calls, &mut one) {
+        return tell_run_in_memory(error, err);
+    }
+    let mut other = Vec::new(alloc);
+    if let Err(error) = run_source(alloc, MemSource::new(data), calls, &mut other) {
+        return tell_run_in_memory(error, err);
+    }
+    match write_both(one.as_slice(), other.as_slice(), out) {
+        Ok(()) => 0,
+        Err(error) => tell_stopped(0, error, err),
+    }
+}
+
+// The text of the one reader, and whether that of the other is the same.
+fn write_both<W: Write>(one: &[u8], other: &[u8], out: &mut W) -> io::Result<()>
+    ensures { OnOk result (Appends (W.contents out.old) (W.contents out.new) (one.now ⧺ agreement one.now other.now)) }
+{
+    out.write_all(one)?;
+    if one == other {
+        writeln!(out, "readers agree")
+    } else {
+        writeln!(out, "readers differ")
+    }
+}
+
+// Tells why a run stopped, and answers the exit status.
+fn tell_run<V: Write>(error: RunError, err: &mut V) -> u8
+    ensures { result ≡ 1 }
+{
+    match error {
+        RunError::Open(error) => tell_open(error, err),
+        RunError::Fault { done, error } => tell_stopped(done, error, err),
+        RunError::Write { done, error } => tell_stopped(done, error, err),
+    }
+}
+
+// The same of a run whose text goes to memory, so that a failed write is want of memory.
+fn tell_run_in_memory<V: Write>(error: RunError, err: &mut V) -> u8
+    ensures { result ≡ 1 }
+{
+    match error {
+        RunError::Open(error) => tell_open(error, err),
+        RunError::Fault { done, error } => tell_stopped(done, error, err),
+        RunError::Write { .. } => tell_no_memory(err),
+    }
+}
+
+// Tells that the file was refused, and answers the exit status.
+fn tell_open<V: Write>(error: ParseError, err: &mut V) -> u8
+    ensures { result ≡ 1 }
+{
+    let _ = writeln!(err, "elfshow: open: {error}");
+    1
 }
 
 /// Tells why the words ask for nothing, and answers the exit status.

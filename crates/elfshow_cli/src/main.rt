@@ -1,11 +1,16 @@
 //! Lists what an ELF file holds: the program around `elfshow::show`.
 #![tactic(auto)]
 
-use elfshow::show::{Request, answer, parse_words, tell_no_memory, tell_request_error, tell_usage};
+use elf::FileSource;
+use elfshow::show::{
+    Mode, Request, answer_in_memory, answer_stream, parse_words, tell_no_memory,
+    tell_request_error, tell_usage,
+};
 use std::alloc::{AllocError, Global};
+use std::fs::File;
 use std::io::{BufWriter, Read, Stderr, Write};
 use std::process::ExitCode;
-use std::{env, fs, io};
+use std::{env, io};
 
 // How many bytes of text go to standard output at once.
 const OUTPUT_BUFFER: usize = 65536;
@@ -37,26 +42,61 @@ fn run_words(rt: &HostRuntime, words: &Vec<String>, err: &mut Stderr) -> u8 {
 }
 
 fn run_request(rt: &HostRuntime, request: &Request<'_>, err: &mut Stderr) -> u8 {
-    let data = match read_whole(rt, request.file) {
-        Ok(data) => data,
-        Err(error) => {
-            let _ = writeln!(err, "elfshow: file: {error}");
-            return 1;
-        }
+    match request.mode {
+        Mode::Stream => run_over_file(rt, request, err),
+        Mode::Bytes | Mode::Both => run_in_memory(rt, request, err),
+    }
+}
+
+// Reads the file as the calls ask for it.
+fn run_over_file(rt: &HostRuntime, request: &Request<'_>, err: &mut Stderr) -> u8 {
+    let file = match File::open(rt, request.file) {
+        Ok(file) => file,
+        Err(error) => return tell_file(error, err),
     };
+    let source = FileSource::new(file);
     match BufWriter::with_capacity(rt.alloc(), OUTPUT_BUFFER, rt.stdout()) {
-        Ok(mut out) => answer(request, data.as_slice(), &mut out, err),
+        Ok(mut out) => answer_stream(rt.alloc(), request, source, &mut out, err),
         Err(_) => tell_no_memory(err),
     }
+}
+
+// Reads the file whole.
+fn run_in_memory(rt: &HostRuntime, request: &Request<'_>, err: &mut Stderr) -> u8 {
+    let data = match read_whole(rt, request.file) {
+        Ok(data) => data,
+        Err(error) => return tell_file(error, err),
+    };
+    match BufWriter::with_capacity(rt.alloc(), OUTPUT_BUFFER, rt.stdout()) {
+        Ok(mut out) => answer_in_memory(rt.alloc(), request, data.as_slice(), &mut out, err),
+        Err(_) => tell_no_memory(err),
+    }
+}
+
+// Tells that the file cannot be opened or read whole.
+fn tell_file(error: io::Error, err: &mut Stderr) -> u8 {
+    let _ = writeln!(err, "elfshow: file: {error}");
+    1
 }
 
 // Standard input is read through its own handle, since the system may refuse to open it anew.
 fn read_whole(rt: &HostRuntime, file: &str) -> io::Result<Vec<u8>> {
     if file != "/dev/stdin" {
-        return fs::read(rt, file);
+        return read_file(rt, file);
     }
     let mut data = Vec::new(rt.alloc());
     rt.stdin().read_to_end(&mut data)?;
+    Ok(data)
+}
+
+// A file is read in one piece, by the length that the system tells; what it has beyond that is read behind it.
+fn read_file(rt: &HostRuntime, path: &str) -> io::Result<Vec<u8>> {
+    let mut file = File::open(rt, path)?;
+    let mut data = Vec::new(rt.alloc());
+    data.resize(file.metadata()?.len() as usize, 0)?;
+    let read = file.read(data.as_mut_slice())?;
+    data.truncate(read);
+    file.read_to_end(&mut data)?;
     Ok(data)
 }
 

@@ -1,9 +1,8 @@
 -- Whether a statement holds, found out. A decision is right by its type: it holds a proof of the statement, or one
 -- that it does not hold. So a hash section is told sound or not, and how that is found out need not be read.
-use Rattle.std.specs.Prelude.{◌≡◌, ℕ, zero, suc, ◌+◌, ◌%◌, ◌/◌, ◌^◌, ◌<◌, ◌≤◌, ◌⊎◌, List, [], ◌∷◌, length, Option, Some, None, Result, Ok, Err, refl}
+use Rattle.std.specs.Prelude.{◌≡◌, ℕ, zero, suc, ◌+◌, ◌%◌, ◌/◌, ◌^◌, ◌<◌, ◌≤◌, ◌⊎◌, length, Option, Some, None, refl}
 use Rattle.std.specs.Option.{IsSomeAnd}
-use Rattle.std.specs.Result.{result_ok}
-use Rattle.std.proofs.Common.{ap, subst, sym, inl, inr, arith, ◌∙◌}
+use Rattle.std.proofs.Common.{ap, subst, inl, inr, arith}
 use Rattle.std.proofs.lemmas.Bool.{cases_lt}
 use Rattle.std.proofs.lemmas.Grind.{common_steps}
 use Rattle.elf_parts.specs.GnuFind.{GnuTable, bloom_bits}

@@ -1,11 +1,8 @@
 -- What private contracts of the checker say of a section that is checked in part.
-use Rattle.std.specs.Prelude.{◌≡◌, ℕ, zero, suc, ◌+◌, ◌-◌, ◌%◌, ◌<◌, ◌≤◌, ◌==◌, Bool, false, if◌then◌else◌, Option, Some, None}
+use Rattle.std.specs.Prelude.{◌≡◌, ℕ, ◌-◌, ◌%◌, ◌<◌, ◌≤◌, Some}
 use Rattle.std.specs.Option.{IsSomeAnd}
 use Rattle.elf_parts.specs.GnuFind.{GnuTable}
-use Rattle.elf_parts.specs.Hash.{word_count}
-use Rattle.elf_parts.specs.SysvFind.{SysvTable}
 use Rattle.elfshow.specs.Sound.{word}
-use Rattle.elfshow.specs.SoundSysv.{value}
 
 -- the run that place k is in begins at a place: no chain word from there up to k ends a run, and the one before it
 -- does

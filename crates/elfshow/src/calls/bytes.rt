@@ -305,7 +305,7 @@ fn write_symbol_versions<E: EndianParse, W: Write>(
 }
 
 // What the checker says of bytes as a SysV hash section.
-fn sysv_verdict<E: EndianParse>(
+pub(super) fn sysv_verdict<E: EndianParse>(
     endian: E,
     class: Class,
     bytes: &[u8],
@@ -362,7 +362,7 @@ fn write_sysv<E: EndianParse, W: Write>(
 }
 
 // What the checker says of bytes as a GNU hash section.
-fn gnu_verdict<E: EndianParse>(
+pub(super) fn gnu_verdict<E: EndianParse>(
     endian: E,
     class: Class,
     bytes: &[u8],

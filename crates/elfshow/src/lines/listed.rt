@@ -41,6 +41,22 @@ where
     write_end(count, out)
 }
 
+/// The lines of a slice.
+pub(crate) fn write_slice<L: Line, W: Write>(
+    items: &[L::Item],
+    line: &L,
+    out: &mut W,
+) -> io::Result<()>
+    ensures { OnOk result (Appends (W.contents out.old) (W.contents out.new) (listed (L.line line.now) items.now)) }
+{
+    let mut number = 0;
+    for item in items {
+        line.write_line(number, item, out)?;
+        number += 1;
+    }
+    write_end(number, out)
+}
+
 /// The last line of a list of so many items.
 pub(crate) fn write_end<W: Write>(count: u64, out: &mut W) -> io::Result<()>
     ensures { OnOk result (Appends (W.contents out.old) (W.contents out.new) (end_line count)) }

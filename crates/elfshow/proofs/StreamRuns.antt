@@ -1,0 +1,348 @@
+-- What a call of a run leaves, by what the stream answered.
+use Rattle.std.proofs.Common.{◌≡◌, ℕ, ◌+◌, ◌<◌, ◌≤◌, Bool, List, [], ◌∷◌, ◌++◌, Option, Some, None, Result, Ok, Err, refl, sym, ap, ◌∙◌, subst, arith, All, IfSome, get_or, length}
+use Rattle.std.proofs.lemmas.List.Elements.{All-get_or}
+use Rattle.std.specs.Prelude.{IsErr, IsOk, OnOk, is_ok, slice_get}
+use Rattle.std.specs.Io.KnownBytes.{Appends}
+use Rattle.elf.specs.Asked.{headers_alone, if_there, section_asked, segment_asked}
+use Rattle.elf.specs.Listed.{stream_file}
+use Rattle.elf.specs.ObjectFile.{ObjectFile}
+use Rattle.elf.specs.Stream.{AreHeld, IsAnswer, IsRefused, Keeps, Kind, Leaves, Seen, kind}
+use Rattle.elf_parts.specs.Number.{ok_map}
+use Rattle.elf_parts.specs.Record.{◌>>=◌}
+use Rattle.elf_parts.specs.declared.parse.ParseError.{ParseError}
+use Rattle.elf_parts.specs.declared.section.SectionHeader.{SectionHeader}
+use Rattle.elf_parts.specs.declared.segment.ProgramHeader.{ProgramHeader}
+use Rattle.elfshow.specs.Asked.{Asked, asked}
+use Rattle.elfshow.specs.Run.{IsAtHand, IsCause, IsFaultless}
+use Rattle.elfshow.specs.StreamAnswers.{IsAnswered, OfThere, ranges_of, stream_answers}
+use Rattle.elfshow.specs.Text.{call_text, unless_absent, unless_refused}
+use Rattle.elfshow.specs.declared.calls.Call.{Call}
+use Rattle.elfshow.specs.declared.calls.RunError.{RunError}
+use Rattle.elfshow.specs.declared.calls.RunError.TheVariants.{Fault, Open, Write}
+use Rattle.elfshow.specs.inner.RunSteps.{Gives, IsWritten, LeadsTo, RanCall, RanOne}
+use Rattle.elfshow.specs.lines.Stand.{refused_line}
+
+-- ---- a refusal
+
+ran_by : (k : Kind) (none : Type 0) (line : List ℕ) (old new : Option (List ℕ)) (before now : ℕ) (can_fail : Bool) (r : Result (Unit {0}) RunError)
+    → IsRefused before now can_fail none k → (none → line ≡ refused_line) → LeadsTo k old new r → RanOne line old new before now r
+ran_by Kind.Failure none line old new before now can_fail (Ok x) h text leads = absurd leads.1
+ran_by Kind.Failure none line old new before now can_fail (Err (Open e)) h text leads = absurd leads.1
+ran_by Kind.Failure none line old new before now can_fail (Err (Fault done e)) h text leads = (leads.0, subst (λ k. IsCause before now k) (sym leads.1) h.0)
+ran_by Kind.Failure none line old new before now can_fail (Err (Write done e)) h text leads = absurd leads.1
+ran_by Kind.Want none line old new before now can_fail (Ok x) h text leads = absurd leads.1
+ran_by Kind.Want none line old new before now can_fail (Err (Open e)) h text leads = absurd leads.1
+ran_by Kind.Want none line old new before now can_fail (Err (Fault done e)) h text leads = (leads.0, subst (λ k. IsCause before now k) (sym leads.1) tt)
+ran_by Kind.Want none line old new before now can_fail (Err (Write done e)) h text leads = absurd leads.1
+ran_by Kind.Refusal none line old new before now can_fail (Ok x) h text leads = subst (λ bytes. Appends old new bytes) (sym (text h.1)) leads
+ran_by Kind.Refusal none line old new before now can_fail (Err (Open e)) h text leads = absurd leads
+ran_by Kind.Refusal none line old new before now can_fail (Err (Fault done e)) h text leads = absurd leads
+ran_by Kind.Refusal none line old new before now can_fail (Err (Write done e)) h text leads = tt
+
+counted_by : (k : Kind) (none : Type 0) (before now : ℕ) (can_fail : Bool) → IsRefused before now can_fail none k → before ≤ now
+counted_by Kind.Failure none before now can_fail h = let up = h.0 in omega arith
+counted_by Kind.Want none before now can_fail h = omega (arith, h)
+counted_by Kind.Refusal none before now can_fail h = omega (arith, h.0)
+
+not_refused : (T : Type 0) (e : ParseError) → IsOk {T = T} (Err e) → ⊥
+not_refused T e h = cc
+
+told_ran : {T Y : Type 0} (told : Option (List ℕ)) (shown : T → Y) (answer : List ℕ → Result Y ParseError) (line : List ℕ → List ℕ) (old new : Option (List ℕ)) (before now : ℕ) (can_fail : Bool) (e : ParseError) (r : Result (Unit {0}) RunError)
+    → IfSome told (λ bytes. IsAnswer shown (answer bytes) can_fail before now (Err e)) → ((bytes : List ℕ) → IsErr (answer bytes) → line bytes ≡ refused_line) → LeadsTo (kind e) old new r
+    → IfSome told (λ bytes. RanOne (line bytes) old new before now r)
+told_ran None shown answer line old new before now can_fail e r h text leads = tt
+told_ran (Some bytes) shown answer line old new before now can_fail e r h text leads = ran_by (kind e) (IsErr (answer bytes)) (line bytes) old new before now can_fail r h (text bytes) leads
+
+told_counted : {T Y : Type 0} (told : Option (List ℕ)) (shown : T → Y) (answer : List ℕ → Result Y ParseError) (before now : ℕ) (can_fail : Bool) (e : ParseError)
+    → IfSome told (λ bytes. IsAnswer shown (answer bytes) can_fail before now (Err e)) → IfSome told (λ _. before ≤ now)
+told_counted None shown answer before now can_fail e h = tt
+told_counted (Some bytes) shown answer before now can_fail e h = counted_by (kind e) (IsErr (answer bytes)) before now can_fail h
+
+told_no_fault : {E Y : Type 0} (T : Type 0) (told : Option (List ℕ)) (old : Seen E) (asked : List (ℕ × ℕ)) (hand : List ℕ → Type 0) (answer : List ℕ → Result Y ParseError) (e : ParseError) (r : Result (Unit {0}) RunError)
+    → IfSome told (λ bytes. IsOk (answer bytes) → AreHeld old asked → IsOk {T = T} (Err e)) → ((bytes : List ℕ) → hand bytes → AreHeld old asked × IsOk (answer bytes)) → IfSome told (λ bytes. hand bytes → IsFaultless r)
+told_no_fault T None old asked hand answer e r h at_hand = tt
+told_no_fault T (Some bytes) old asked hand answer e r h at_hand = λ ready. let p = at_hand bytes ready in absurd (not_refused T e (h p.1 p.0))
+
+module _ {E : Type 0} (little : E → Bool) (call : Asked) (old new : Seen E) where
+  pub call_refused : {T Y : Type 0} (asked : List (ℕ × ℕ)) (shown : T → Y) (answer : List ℕ → Result Y ParseError) (whole : Result T ParseError) (e : ParseError) (before after : Option (List ℕ)) (r : Result (Unit {0}) RunError)
+      → ((bytes : List ℕ) → IsErr (answer bytes) → call_text (stream_answers little old bytes) call ≡ refused_line) → ((bytes : List ℕ) → IsAtHand little old bytes call → AreHeld old asked × IsOk (answer bytes))
+      → Leaves asked shown answer old new whole → whole ≡ Err e → LeadsTo (kind e) before after r → RanCall little call old new before after r
+  call_refused {T} {Y} asked shown answer whole e before after r text hand leaves is leads =
+      let refused : Leaves asked shown answer old new (Err e) = subst (λ w. Leaves asked shown answer old new w) is leaves in
+      record {
+        keeps = refused.keeps;
+        ran = told_ran old.content shown answer (λ bytes. call_text (stream_answers little old bytes) call) before after old.faults new.faults old.can_fail e r refused.answers text leads;
+        counted = told_counted old.content shown answer old.faults new.faults old.can_fail e refused.answers;
+        no_fault = told_no_fault T old.content old asked (λ bytes. IsAtHand little old bytes call) answer e r refused.accepted hand;
+      }
+
+pub refused_text : {A : Type 0} (line : A → List ℕ) (r : Result A ParseError) → IsErr r → unless_refused line r ≡ refused_line
+refused_text line (Ok x) h = cc
+refused_text line (Err e) h = refl
+
+pub inner_refused : {A B : Type 0} (f : A → B) (r : Result A ParseError) → IsErr (ok_map f r) → IsErr r
+inner_refused f (Ok x) h = cc
+inner_refused f (Err e) h = refl
+
+pub outer_ok : {A B : Type 0} (f : A → B) (r : Result A ParseError) → IsOk r → IsOk (ok_map f r)
+outer_ok f (Ok x) h = refl
+outer_ok f (Err e) h = cc
+
+pub inner_ok : {A B : Type 0} (f : A → B) (r : Result A ParseError) → IsOk (ok_map f r) → IsOk r
+inner_ok f (Ok x) h = refl
+inner_ok f (Err e) h = cc
+
+pub outer_refused : {A B : Type 0} (f : A → B) (r : Result A ParseError) → IsErr r → IsErr (ok_map f r)
+outer_refused f (Ok x) h = cc
+outer_refused f (Err e) h = refl
+
+-- ---- an answer that was written
+
+faultless : {A X : Type 0} (w : Result A X) (r : Result (Unit {0}) RunError) → IsWritten w r → IsFaultless r
+faultless (Ok x) (Ok y) h = tt
+faultless (Ok x) (Err (Open e)) h = absurd h
+faultless (Ok x) (Err (Fault done e)) h = absurd h
+faultless (Ok x) (Err (Write done e)) h = absurd h
+faultless (Err x) (Ok y) h = absurd h
+faultless (Err x) (Err (Open e)) h = absurd h
+faultless (Err x) (Err (Fault done e)) h = absurd h
+faultless (Err x) (Err (Write done e)) h = tt
+
+ran_written : {A X : Type 0} (line written : List ℕ) (old new : Option (List ℕ)) (before now : ℕ) (w : Result A X) (r : Result (Unit {0}) RunError) → line ≡ written → OnOk w (Appends old new written) → IsWritten w r → RanOne line old new before now r
+ran_written line written old new before now (Ok x) (Ok y) text h is = subst (λ bytes. Appends old new bytes) (sym text) h
+ran_written line written old new before now (Ok x) (Err (Open e)) text h is = absurd is
+ran_written line written old new before now (Ok x) (Err (Fault done e)) text h is = absurd is
+ran_written line written old new before now (Ok x) (Err (Write done e)) text h is = absurd is
+ran_written line written old new before now (Err x) (Ok y) text h is = absurd is
+ran_written line written old new before now (Err x) (Err (Open e)) text h is = absurd is
+ran_written line written old new before now (Err x) (Err (Fault done e)) text h is = absurd is
+ran_written line written old new before now (Err x) (Err (Write done e)) text h is = tt
+
+told_written : {T Y A X : Type 0} (told : Option (List ℕ)) (shown : T → Y) (answer : List ℕ → Result Y ParseError) (x : T) (line : List ℕ → List ℕ) (written : List ℕ) (old new : Option (List ℕ)) (before now : ℕ) (can_fail : Bool) (w : Result A X) (r : Result (Unit {0}) RunError)
+    → IfSome told (λ bytes. answer bytes ≡ Ok (shown x) → line bytes ≡ written) → IfSome told (λ bytes. IsAnswer shown (answer bytes) can_fail before now (Ok x)) → OnOk w (Appends old new written) → IsWritten w r → IfSome told (λ bytes. RanOne (line bytes) old new before now r)
+told_written None shown answer x line written old new before now can_fail w r text h wrote is = tt
+told_written (Some bytes) shown answer x line written old new before now can_fail w r text h wrote is = ran_written (line bytes) written old new before now w r (text h.1) wrote is
+
+told_same : {T Y : Type 0} (told : Option (List ℕ)) (shown : T → Y) (answer : List ℕ → Result Y ParseError) (x : T) (before now : ℕ) (can_fail : Bool) → IfSome told (λ bytes. IsAnswer shown (answer bytes) can_fail before now (Ok x)) → IfSome told (λ _. now ≡ before)
+told_same None shown answer x before now can_fail h = tt
+told_same (Some bytes) shown answer x before now can_fail h = h.0
+
+told_answer : {T Y : Type 0} (told : Option (List ℕ)) (shown : T → Y) (answer : List ℕ → Result Y ParseError) (x : T) (before now : ℕ) (can_fail : Bool) → IfSome told (λ bytes. IsAnswer shown (answer bytes) can_fail before now (Ok x)) → IfSome told (λ bytes. answer bytes ≡ Ok (shown x))
+told_answer None shown answer x before now can_fail h = tt
+told_answer (Some bytes) shown answer x before now can_fail h = h.1
+
+no_more : (told : Option (List ℕ)) (before now : ℕ) → IfSome told (λ _. now ≡ before) → IfSome told (λ _. before ≤ now)
+no_more None before now h = tt
+no_more (Some bytes) before now h = omega (arith, h)
+
+told_faultless : (told : Option (List ℕ)) (hand : List ℕ → Type 0) (r : Result (Unit {0}) RunError) → IsFaultless r → IfSome told (λ bytes. hand bytes → IsFaultless r)
+told_faultless None hand r h = tt
+told_faultless (Some bytes) hand r h = λ _. h
+
+pub gives_of : {E T Y : Type 0} (old new : Seen E) (asked : List (ℕ × ℕ)) (shown : T → Y) (answer : List ℕ → Result Y ParseError) (r : Result T ParseError) → Leaves asked shown answer old new r → Gives shown answer old new r
+gives_of old new asked shown answer r h = record { keeps = h.keeps; answers = h.answers }
+
+pub gives_same : {E T Y : Type 0} (old new : Seen E) (shown : T → Y) (answer : List ℕ → Result Y ParseError) (whole : Result T ParseError) (x : T) → whole ≡ Ok x → Gives shown answer old new whole → IfSome old.content (λ _. new.faults ≡ old.faults)
+gives_same old new shown answer whole x is h = told_same old.content shown answer x old.faults new.faults old.can_fail (subst (λ w. IfSome old.content (λ bytes. IsAnswer shown (answer bytes) old.can_fail old.faults new.faults w)) is h.answers)
+
+pub gives_answer : {E T Y : Type 0} (old new : Seen E) (shown : T → Y) (answer : List ℕ → Result Y ParseError) (whole : Result T ParseError) (x : T) → whole ≡ Ok x → Gives shown answer old new whole → IfSome old.content (λ bytes. answer bytes ≡ Ok (shown x))
+gives_answer old new shown answer whole x is h = told_answer old.content shown answer x old.faults new.faults old.can_fail (subst (λ w. IfSome old.content (λ bytes. IsAnswer shown (answer bytes) old.can_fail old.faults new.faults w)) is h.answers)
+
+module _ {E : Type 0} (little : E → Bool) (call : Asked) (old new : Seen E) where
+  pub call_written : {T Y A X : Type 0} (shown : T → Y) (answer : List ℕ → Result Y ParseError) (whole : Result T ParseError) (x : T) (written : List ℕ) (before after : Option (List ℕ)) (w : Result A X) (r : Result (Unit {0}) RunError)
+      → IfSome old.content (λ bytes. answer bytes ≡ Ok (shown x) → call_text (stream_answers little old bytes) call ≡ written)
+      → Gives shown answer old new whole → whole ≡ Ok x → OnOk w (Appends before after written) → IsWritten w r → RanCall little call old new before after r
+  call_written {T} shown answer whole x written before after w r text gives is wrote told_so =
+      let answers = subst (λ w. IfSome old.content (λ bytes. IsAnswer shown (answer bytes) old.can_fail old.faults new.faults w)) is gives.answers in
+      record {
+        keeps = gives.keeps;
+        ran = told_written old.content shown answer x (λ bytes. call_text (stream_answers little old bytes) call) written before after old.faults new.faults old.can_fail w r text answers wrote told_so;
+        counted = no_more old.content old.faults new.faults (told_same old.content shown answer x old.faults new.faults old.can_fail answers);
+        no_fault = told_faultless old.content (λ bytes. IsAtHand little old bytes call) r (faultless w r told_so);
+      }
+
+  never_at_hand : (told : Option (List ℕ)) (hand : List ℕ → Type 0) (r : Result (Unit {0}) RunError) → ((bytes : List ℕ) → hand bytes → ⊥) → IfSome told (λ bytes. hand bytes → IsFaultless r)
+  never_at_hand None hand r h = tt
+  never_at_hand (Some bytes) hand r h = λ ready. absurd (h bytes ready)
+
+  -- of a call that takes memory
+  pub call_refused_given : {T Y : Type 0} (shown : T → Y) (answer : List ℕ → Result Y ParseError) (whole : Result T ParseError) (e : ParseError) (before after : Option (List ℕ)) (r : Result (Unit {0}) RunError)
+      → ((bytes : List ℕ) → IsErr (answer bytes) → call_text (stream_answers little old bytes) call ≡ refused_line) → ((bytes : List ℕ) → IsAtHand little old bytes call → ⊥)
+      → Gives shown answer old new whole → whole ≡ Err e → LeadsTo (kind e) before after r → RanCall little call old new before after r
+  call_refused_given {T} shown answer whole e before after r text hand gives is leads =
+      let answers = subst (λ w. IfSome old.content (λ bytes. IsAnswer shown (answer bytes) old.can_fail old.faults new.faults w)) is gives.answers in
+      record {
+        keeps = gives.keeps;
+        ran = told_ran old.content shown answer (λ bytes. call_text (stream_answers little old bytes) call) before after old.faults new.faults old.can_fail e r answers text leads;
+        counted = told_counted old.content shown answer old.faults new.faults old.can_fail e answers;
+        no_fault = never_at_hand old.content (λ bytes. IsAtHand little old bytes call) r hand;
+      }
+
+-- ---- one call of a stream behind another
+
+same_file : {E : Type 0} (little : E → Bool) (old new : Seen E) (bytes : List ℕ) → Keeps old new → stream_file little new bytes ≡ stream_file little old bytes
+same_file little old new bytes keeps = rw (keeps.ehdr, keeps.declares_sections, keeps.sections, keeps.segments) refl
+
+keeps_then : {E : Type 0} (old middle new : Seen E) → Keeps old middle → Keeps middle new → Keeps old new
+keeps_then old middle new a b = record {
+  content = b.content ∙ a.content;
+  can_fail = b.can_fail ∙ a.can_fail;
+  ehdr = b.ehdr ∙ a.ehdr;
+  declares_sections = b.declares_sections ∙ a.declares_sections;
+  sections = b.sections ∙ a.sections;
+  segments = b.segments ∙ a.segments;
+  held = λ start end h. b.held start end (a.held start end h);
+}
+
+pub still_held : {E : Type 0} (old new : Seen E) (rs : List (ℕ × ℕ)) → Keeps old new → AreHeld old rs → AreHeld new rs
+still_held old new [] keeps h = tt
+still_held old new (r ∷ rs) keeps h = (keeps.held r.0 (r.0 + r.1) h.0, still_held old new rs keeps h.1)
+
+pub held_front : {E : Type 0} (s : Seen E) (rs qs : List (ℕ × ℕ)) → AreHeld s (rs ++ qs) → AreHeld s rs
+held_front s [] qs h = tt
+held_front s (r ∷ rs) qs h = (h.0, held_front s rs qs h.1)
+
+pub held_back : {E : Type 0} (s : Seen E) (rs qs : List (ℕ × ℕ)) → AreHeld s (rs ++ qs) → AreHeld s qs
+held_back s [] qs h = h
+held_back s (r ∷ rs) qs h = held_back s rs qs h.1
+
+later_answers : {E T Y : Type 0} (little : E → Bool) (old middle new : Seen E) (shown : T → Y) (answer : ObjectFile → Result Y ParseError) (r : Result T ParseError) (told : Option (List ℕ)) → Keeps old middle → IfSome told (λ _. middle.faults ≡ old.faults)
+    → IfSome told (λ bytes. IsAnswer shown (answer (stream_file little middle bytes)) middle.can_fail middle.faults new.faults r) → IfSome told (λ bytes. IsAnswer shown (answer (stream_file little old bytes)) old.can_fail old.faults new.faults r)
+later_answers little old middle new shown answer r None keeps same h = tt
+later_answers little old middle new shown answer r (Some bytes) keeps same h =
+    subst (λ file. IsAnswer shown (answer file) old.can_fail old.faults new.faults r) (same_file little old middle bytes keeps)
+    (subst (λ count. IsAnswer shown (answer (stream_file little middle bytes)) old.can_fail count new.faults r) same
+    (subst (λ can_fail. IsAnswer shown (answer (stream_file little middle bytes)) can_fail middle.faults new.faults r) keeps.can_fail h))
+
+pub gives_later : {E T Y : Type 0} (little : E → Bool) (old middle new : Seen E) (shown : T → Y) (answer : ObjectFile → Result Y ParseError) (r : Result T ParseError) → Keeps old middle → IfSome old.content (λ _. middle.faults ≡ old.faults)
+    → Gives shown (λ bytes. answer (stream_file little middle bytes)) middle new r → Gives shown (λ bytes. answer (stream_file little old bytes)) old new r
+gives_later little old middle new shown answer r keeps same h = record {
+  keeps = keeps_then old middle new keeps h.keeps;
+  answers = later_answers little old middle new shown answer r old.content keeps same
+      (subst (λ told. IfSome told (λ bytes. IsAnswer shown (answer (stream_file little middle bytes)) middle.can_fail middle.faults new.faults r)) keeps.content h.answers);
+}
+
+later_accepted : {E T Y : Type 0} (little : E → Bool) (old middle : Seen E) (asked : ObjectFile → List (ℕ × ℕ)) (answer : ObjectFile → Result Y ParseError) (r : Result T ParseError) (told : Option (List ℕ)) → Keeps old middle
+    → IfSome told (λ bytes. IsOk (answer (stream_file little middle bytes)) → AreHeld middle (asked (headers_alone little middle)) → IsOk r) → IfSome told (λ bytes. IsOk (answer (stream_file little old bytes)) → AreHeld old (asked (headers_alone little old)) → IsOk r)
+later_accepted little old middle asked answer r None keeps h = tt
+later_accepted little old middle asked answer r (Some bytes) keeps h = λ ok held.
+    h (subst (λ file. IsOk (answer file)) (sym (same_file little old middle bytes keeps)) ok)
+    (subst (λ file. AreHeld middle (asked file)) (sym (same_file little old middle [] keeps)) (still_held old middle (asked (headers_alone little old)) keeps held))
+
+later_loaded : {E T : Type 0} (new : Seen E) (rs qs : List (ℕ × ℕ)) (r : Result T ParseError) → rs ≡ qs → OnOk r (AreHeld new rs) → OnOk r (AreHeld new qs)
+later_loaded new rs qs r same h = subst (λ ranges. OnOk r (AreHeld new ranges)) same h
+
+pub leaves_later : {E T Y : Type 0} (little : E → Bool) (old middle new : Seen E) (asked : ObjectFile → List (ℕ × ℕ)) (shown : T → Y) (answer : ObjectFile → Result Y ParseError) (r : Result T ParseError) → Keeps old middle → IfSome old.content (λ _. middle.faults ≡ old.faults)
+    → Leaves (asked (headers_alone little middle)) shown (λ bytes. answer (stream_file little middle bytes)) middle new r → Leaves (asked (headers_alone little old)) shown (λ bytes. answer (stream_file little old bytes)) old new r
+leaves_later {E} {T} {Y} little old middle new asked shown answer r keeps same h =
+    let given = gives_later little old middle new shown answer r keeps same (gives_of middle new (asked (headers_alone little middle)) shown (λ bytes. answer (stream_file little middle bytes)) r h) in
+    record {
+      keeps = given.keeps;
+      loaded = later_loaded new (asked (headers_alone little middle)) (asked (headers_alone little old)) r (ap asked (same_file little old middle [] keeps)) h.loaded;
+      answers = given.answers;
+      accepted = later_accepted little old middle asked answer r old.content keeps
+          (subst (λ told. IfSome told (λ bytes. IsOk (answer (stream_file little middle bytes)) → AreHeld middle (asked (headers_alone little middle)) → IsOk r)) keeps.content h.accepted);
+    }
+
+-- a refusal is one of what is made of the answer, too
+err_same : {A B : Type 0} (a : Result A ParseError) (b : Result B ParseError) → is_ok a ≡ is_ok b → IsErr b → IsErr a
+err_same (Ok x) (Ok y) same h = cc
+err_same (Ok x) (Err e) same h = cc
+err_same (Err d) (Ok y) same h = cc
+err_same (Err d) (Err e) same h = refl
+
+refused_by : (k : Kind) (P Q : Type 0) (before now : ℕ) (can_fail : Bool) → (P → Q) → IsRefused before now can_fail P k → IsRefused before now can_fail Q k
+refused_by Kind.Failure P Q before now can_fail so h = h
+refused_by Kind.Want P Q before now can_fail so h = h
+refused_by Kind.Refusal P Q before now can_fail so h = (h.0, so h.1)
+
+made_answers : {T Y U Z : Type 0} (told : Option (List ℕ)) (shown : T → Y) (answer : List ℕ → Result Y ParseError) (shows : U → Z) (made : List ℕ → Result Z ParseError) (before now : ℕ) (can_fail : Bool) (e : ParseError) → ((bytes : List ℕ) → is_ok (made bytes) ≡ is_ok (answer bytes))
+    → IfSome told (λ bytes. IsAnswer shown (answer bytes) can_fail before now (Err e)) → IfSome told (λ bytes. IsAnswer shows (made bytes) can_fail before now (Err e))
+made_answers None shown answer shows made before now can_fail e same h = tt
+made_answers (Some bytes) shown answer shows made before now can_fail e same h = refused_by (kind e) (IsErr (answer bytes)) (IsErr (made bytes)) before now can_fail (err_same (made bytes) (answer bytes) (same bytes)) h
+
+made_accepted : {E Y Z : Type 0} (T U : Type 0) (told : Option (List ℕ)) (old : Seen E) (asked : List (ℕ × ℕ)) (answer : List ℕ → Result Y ParseError) (made : List ℕ → Result Z ParseError) (e : ParseError) → ((bytes : List ℕ) → is_ok (made bytes) ≡ is_ok (answer bytes))
+    → IfSome told (λ bytes. IsOk (answer bytes) → AreHeld old asked → IsOk {T = T} (Err e)) → IfSome told (λ bytes. IsOk (made bytes) → AreHeld old asked → IsOk {T = U} (Err e))
+made_accepted T U None old asked answer made e same h = tt
+made_accepted T U (Some bytes) old asked answer made e same h = λ ok held. h (sym (same bytes) ∙ ok) held
+
+pub leaves_made : {E T Y U Z : Type 0} (old new : Seen E) (asked : List (ℕ × ℕ)) (shown : T → Y) (answer : List ℕ → Result Y ParseError) (shows : U → Z) (made : List ℕ → Result Z ParseError) (whole : Result T ParseError) (e : ParseError) → ((bytes : List ℕ) → is_ok (made bytes) ≡ is_ok (answer bytes))
+    → whole ≡ Err e → Leaves asked shown answer old new whole → Leaves asked shows made old new (Err e)
+leaves_made {E} {T} {Y} {U} {Z} old new asked shown answer shows made whole e same is leaves =
+    let refused : Leaves asked shown answer old new (Err e) = subst (λ w. Leaves asked shown answer old new w) is leaves in
+    record {
+      keeps = refused.keeps;
+      loaded = tt;
+      answers = made_answers old.content shown answer shows made old.faults new.faults old.can_fail e same refused.answers;
+      accepted = made_accepted T U old.content old asked answer made e same refused.accepted;
+    }
+
+pub gives_made : {E T Y U Z : Type 0} (old new : Seen E) (shown : T → Y) (answer : List ℕ → Result Y ParseError) (shows : U → Z) (made : List ℕ → Result Z ParseError) (whole : Result T ParseError) (e : ParseError) → ((bytes : List ℕ) → is_ok (made bytes) ≡ is_ok (answer bytes))
+    → whole ≡ Err e → Gives shown answer old new whole → Gives shows made old new (Err e)
+gives_made old new shown answer shows made whole e same is gives =
+    let answers = subst (λ w. IfSome old.content (λ bytes. IsAnswer shown (answer bytes) old.can_fail old.faults new.faults w)) is gives.answers in
+    record { keeps = gives.keeps; answers = made_answers old.content shown answer shows made old.faults new.faults old.can_fail e same answers }
+
+pub ok_of_map : {A B : Type 0} (f : A → B) (x : Result A ParseError) → is_ok (ok_map f x) ≡ is_ok x
+ok_of_map f (Ok a) = refl
+ok_of_map f (Err e) = refl
+
+-- a text of two answers, one of them refused
+pub both_refused : {A B : Type 0} (line : A → B → List ℕ) (a : Result A ParseError) (b : Result B ParseError) → IsErr b → unless_refused (λ x. unless_refused (line x) b) a ≡ refused_line
+both_refused line (Ok x) b h = refused_text (line x) b h
+both_refused line (Err e) b h = refl
+
+-- a text of two answers
+pub both_told : {A B : Type 0} (count : A → ℕ) (line : ℕ → B → List ℕ) (a : Result A ParseError) (b : Result B ParseError) (n : ℕ) (y : B) → ok_map count a ≡ Ok n → b ≡ Ok y → unless_refused (λ x. unless_refused (line (count x)) b) a ≡ line n y
+both_told count line (Ok x) b n y counted is = let same : count x ≡ n = cc counted in rw is (ap (λ m. line m y) same)
+both_told count line (Err e) b n y counted is = cc counted
+
+-- ---- of a section, and of a segment, that is there
+
+module _ {E T Y : Type 0} (little : E → Bool) (call : Asked) (old new : Seen E) (shown : T → Y) (line : Y → List ℕ) where
+  pub section_refused : (i : ℕ) (s : SectionHeader) (answer : ObjectFile → SectionHeader → Result Y ParseError) (whole : Result T ParseError) (e : ParseError) (before after : Option (List ℕ)) (r : Result (Unit {0}) RunError)
+      → ((bytes : List ℕ) → call_text (stream_answers little old bytes) call ≡ unless_absent (λ s. unless_refused line (answer (stream_file little old bytes) s)) (slice_get old.sections i))
+      → ((bytes : List ℕ) → IsAtHand little old bytes call → AreHeld old (if_there section_asked (slice_get old.sections i)) × OfThere (λ s. IsOk (answer (stream_file little old bytes) s)) (slice_get old.sections i))
+      → slice_get old.sections i ≡ Some s → Leaves (section_asked s) shown (λ bytes. answer (stream_file little old bytes) s) old new whole → whole ≡ Err e → LeadsTo (kind e) before after r → RanCall little call old new before after r
+  section_refused i s answer whole e before after r texts hand there leaves is leads =
+      call_refused little call old new (section_asked s) shown (λ bytes. answer (stream_file little old bytes) s) whole e before after r
+      (λ bytes refused. texts bytes ∙ ap (unless_absent (λ s. unless_refused line (answer (stream_file little old bytes) s))) there ∙ refused_text line (answer (stream_file little old bytes) s) refused)
+      (λ bytes ready. subst (λ o. AreHeld old (if_there section_asked o) × OfThere (λ s. IsOk (answer (stream_file little old bytes) s)) o) there (hand bytes ready))
+      leaves is leads
+
+  pub segment_refused : (i : ℕ) (p : ProgramHeader) (answer : ObjectFile → ProgramHeader → Result Y ParseError) (whole : Result T ParseError) (e : ParseError) (before after : Option (List ℕ)) (r : Result (Unit {0}) RunError)
+      → ((bytes : List ℕ) → call_text (stream_answers little old bytes) call ≡ unless_absent (λ p. unless_refused line (answer (stream_file little old bytes) p)) (slice_get old.segments i))
+      → ((bytes : List ℕ) → IsAtHand little old bytes call → AreHeld old (if_there segment_asked (slice_get old.segments i)) × OfThere (λ p. IsOk (answer (stream_file little old bytes) p)) (slice_get old.segments i))
+      → slice_get old.segments i ≡ Some p → Leaves (segment_asked p) shown (λ bytes. answer (stream_file little old bytes) p) old new whole → whole ≡ Err e → LeadsTo (kind e) before after r → RanCall little call old new before after r
+  segment_refused i p answer whole e before after r texts hand there leaves is leads =
+      call_refused little call old new (segment_asked p) shown (λ bytes. answer (stream_file little old bytes) p) whole e before after r
+      (λ bytes refused. texts bytes ∙ ap (unless_absent (λ p. unless_refused line (answer (stream_file little old bytes) p))) there ∙ refused_text line (answer (stream_file little old bytes) p) refused)
+      (λ bytes ready. subst (λ o. AreHeld old (if_there segment_asked o) × OfThere (λ p. IsOk (answer (stream_file little old bytes) p)) o) there (hand bytes ready))
+      leaves is leads
+
+-- ---- a section that is checked
+
+pub apart_refused : {A B C D P : Type 0} (a : Result A ParseError) (p : A → P) (b : Result B ParseError) (k : P → B → C) (m : P → B → Result D ParseError)
+    → IsErr (ok_map p a >>= λ x. b >>= λ y. Ok (k x y)) → IsErr (a >>= λ z. b >>= λ y. m (p z) y)
+apart_refused (Ok z) p (Ok y) k m h = cc
+apart_refused (Ok z) p (Err e) k m h = refl
+apart_refused (Err e) p b k m h = refl
+
+-- ---- a run of calls
+
+hand_later : {E : Type 0} (little : E → Bool) (old middle : Seen E) (bytes : List ℕ) (call : Asked) → Keeps old middle → IsAtHand little old bytes call → IsAtHand little middle bytes call
+hand_later little old middle bytes call keeps h =
+    let held = subst (λ file. AreHeld middle (ranges_of file call)) (sym (same_file little old middle [] keeps)) (still_held old middle (ranges_of (headers_alone little old) call) keeps h.1) in
+    let same : stream_answers little middle bytes ≡ stream_answers little old bytes = rw (keeps.ehdr, keeps.declares_sections, keeps.sections, keeps.segments) refl in
+    (h.0, held, subst (λ answers. IsAnswered answers call) (sym same) h.2)
+
+fault_is_none : (r : Result (Unit {0}) RunError) (done : ℕ) (e : ParseError) → r ≡ Err (Fault done e) → IsFaultless r → ⊥
+fault_is_none r done e is h = subst IsFaultless is h
+
+-- a call of the list that is at hand makes no fault
+pub faulted : {E : Type 0} (little : E → Bool) (old middle : Seen E) (told : Option (List ℕ)) (calls : List Call) (i : ℕ) (d : Call) (r : Result (Unit {0}) RunError) (done : ℕ) (e : ParseError) → Keeps old middle → i < length calls → r ≡ Err (Fault done e)
+    → IfSome told (λ bytes. IsAtHand little middle bytes (asked (get_or calls i d)) → IsFaultless r) → IfSome told (λ bytes. All (λ call. IsAtHand little old bytes (asked call)) calls → ⊥)
+faulted little old middle None calls i d r done e keeps within is h = tt
+faulted little old middle (Some bytes) calls i d r done e keeps within is h = λ all.
+    let here : IsAtHand little old bytes (asked (get_or calls i d)) = All-get_or (λ call. IsAtHand little old bytes (asked call)) calls i d within all in
+    fault_is_none r done e is (h (hand_later little old middle bytes (asked (get_or calls i d)) keeps here))

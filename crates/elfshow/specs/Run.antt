@@ -1,0 +1,35 @@
+-- What a run of calls over a stream writes, and why it stops.
+use Rattle.std.specs.Prelude.{ℕ, ◌<◌, ◌≤◌, Bool, List, length, take, Option, Result, Ok, Err}
+use Rattle.std.specs.Io.KnownBytes.{Appends}
+use Rattle.elf.specs.Stream.{AreHeld, Kind, Seen, kind}
+use Rattle.elfshow.specs.Asked.{Asked}
+use Rattle.elfshow.specs.StreamAnswers.{IsAnswered, TakesNoMemory, call_ranges, stream_answers}
+use Rattle.elfshow.specs.declared.calls.RunError.{RunError}
+use Rattle.elfshow.specs.declared.calls.RunError.TheVariants.{Fault, Open, Write}
+
+-- why there was a fault: the source failed, which its count shows, or memory was refused
+abbrev pub IsCause : ℕ → ℕ → Kind → Type 0
+IsCause before now Kind.Failure = before < now
+IsCause before now Kind.Want = Unit {0}
+IsCause before now Kind.Refusal = ⊥
+
+-- At Ok the whole text was written, at a fault that of the calls that were done; of what a writer holds that failed
+-- nothing is said. A run over a stream opens no file.
+abbrev pub Ran : {C : Type 0} → (List C → List ℕ) → List C → Option (List ℕ) → Option (List ℕ) → ℕ → ℕ → Result (Unit {0}) RunError → Type 0
+Ran texts calls old new before now (Ok _) = Appends old new (texts calls)
+Ran texts calls old new before now (Err (Open e)) = ⊥
+Ran texts calls old new before now (Err (Fault done e)) =
+    (done ≤ length calls) × Appends old new (texts (take done calls)) × IsCause before now (kind e)
+Ran texts calls old new before now (Err (Write done e)) = done ≤ length calls
+
+-- there was no fault
+abbrev pub IsFaultless : Result (Unit {0}) RunError → Type 0
+IsFaultless (Ok _) = Unit {0}
+IsFaultless (Err (Open e)) = Unit {0}
+IsFaultless (Err (Fault done e)) = ⊥
+IsFaultless (Err (Write done e)) = Unit {0}
+
+-- the call is answered, by what is held and without memory
+abbrev pub IsAtHand : {E : Type 0} → (E → Bool) → Seen E → List ℕ → Asked → Type 0
+IsAtHand little s bytes call =
+    TakesNoMemory call × AreHeld s (call_ranges little s call) × IsAnswered (stream_answers little s bytes) call

@@ -1,0 +1,77 @@
+-- What one call of a run leaves; contracts of private functions speak of it.
+use Rattle.std.specs.Prelude.{◌≡◌, ℕ, ◌≤◌, Bool, List, Option, Result, Ok, Err, IfSome}
+use Rattle.std.specs.Io.KnownBytes.{Appends}
+use Rattle.elf.specs.Answers.{dynamic_symbol_table, section_data}
+use Rattle.elf.specs.ObjectFile.{ObjectFile}
+use Rattle.elf.specs.Stream.{IsAnswer, Keeps, Kind, Seen, kind}
+use Rattle.elf_parts.specs.Number.{ok_map}
+use Rattle.elf_parts.specs.Record.{◌>>=◌}
+use Rattle.elf_parts.specs.declared.section.SectionHeader.{SectionHeader}
+use Rattle.elfshow.specs.Sound.{Given}
+use Rattle.elfshow.specs.SoundVerdict.{section_given}
+use Rattle.elfshow.specs.declared.lines.hashes.Verdict.{Verdict}
+use Rattle.std.specs.Option.{option_map}
+use Rattle.elf_parts.specs.declared.parse.ParseError.{ParseError}
+use Rattle.elfshow.specs.Asked.{Asked}
+use Rattle.elfshow.specs.Run.{IsAtHand, IsCause, IsFaultless}
+use Rattle.elfshow.specs.StreamAnswers.{stream_answers}
+use Rattle.elfshow.specs.Text.{call_text}
+use Rattle.elfshow.specs.declared.calls.RunError.{RunError}
+use Rattle.elfshow.specs.declared.calls.RunError.TheVariants.{Fault, Open, Write}
+use Rattle.elfshow.specs.lines.Stand.{refused_line}
+use Rattle.std.specs.Io.KnownBytes.{Keeps as KeepsBytes}
+
+-- as Ran, of one call; at a fault nothing was written
+abbrev pub RanOne : List ℕ → Option (List ℕ) → Option (List ℕ) → ℕ → ℕ → Result (Unit {0}) RunError → Type 0
+RanOne line old new before now (Ok _) = Appends old new line
+RanOne line old new before now (Err (Open e)) = ⊥
+RanOne line old new before now (Err (Fault done e)) = KeepsBytes old new × IsCause before now (kind e)
+RanOne line old new before now (Err (Write done e)) = Unit {0}
+
+-- the same file, the text of the call, and no fault where it is answered at hand
+pub record RanCall {E : Type 0} (little : E → Bool) (call : Asked) (old new : Seen E) (before after : Option (List ℕ)) (r : Result (Unit {0}) RunError) : Type 0 where
+  pub keeps : Keeps old new
+  pub ran : IfSome old.content (λ bytes. RanOne (call_text (stream_answers little old bytes) call) before after old.faults new.faults r)
+  pub counted : IfSome old.content (λ _. old.faults ≤ new.faults)
+  pub no_fault : IfSome old.content (λ bytes. IsAtHand little old bytes call → IsFaultless r)
+
+-- what was written, as a run tells it
+abbrev pub IsWritten : {A E : Type 0} → Result A E → Result (Unit {0}) RunError → Type 0
+IsWritten (Ok _) (Ok _) = Unit {0}
+IsWritten (Err _) (Err (Write done e)) = done ≡ 0
+IsWritten _ _ = ⊥
+
+-- a refusal of this kind is a fault
+abbrev pub IsFaultOf : Kind → Result (Unit {0}) RunError → Type 0
+IsFaultOf k (Err (Fault done e)) = kind e ≡ k
+IsFaultOf k _ = ⊥
+
+-- the line `refused` was written
+abbrev pub IsToldRefused : Option (List ℕ) → Option (List ℕ) → Result (Unit {0}) RunError → Type 0
+IsToldRefused old new (Ok _) = Appends old new refused_line
+IsToldRefused old new (Err (Write done e)) = Unit {0}
+IsToldRefused old new _ = ⊥
+
+-- what a refusal leads to: a fault, and nothing is written; or the line `refused`
+abbrev pub LeadsTo : Kind → Option (List ℕ) → Option (List ℕ) → Result (Unit {0}) RunError → Type 0
+LeadsTo Kind.Failure old new r = KeepsBytes old new × IsFaultOf Kind.Failure r
+LeadsTo Kind.Want old new r = KeepsBytes old new × IsFaultOf Kind.Want r
+LeadsTo Kind.Refusal old new r = IsToldRefused old new r
+
+-- ---- calls that ask a stream more than once
+
+-- the same file, and the answer that the content gives, or a refusal
+pub record Gives {E T Y : Type 0} (shown : T → Y) (answer : List ℕ → Result Y ParseError) (old new : Seen E) (r : Result T ParseError) : Type 0 where
+  pub keeps : Keeps old new
+  pub answers : IfSome old.content (λ bytes. IsAnswer shown (answer bytes) old.can_fail old.faults new.faults r)
+
+-- the bytes of a section
+abbrev pub section_bytes : ObjectFile → SectionHeader → Result (List ℕ) ParseError
+section_bytes file s = ok_map (λ found. found.0) (section_data file s)
+
+-- what a checker says of a section, if there are symbols to check it for; its refusal stands apart from a stream's
+abbrev pub checked_apart : {T : Type 0} → (Given T → Verdict) → (List ℕ → Result T ParseError) → ObjectFile → SectionHeader →
+    Result (Option (Result Verdict ParseError)) ParseError
+checked_apart says cut file s =
+    section_bytes file s >>= λ part. dynamic_symbol_table file >>= λ symbols.
+    Ok (option_map (λ found. ok_map says (section_given found.0 found.1 (cut part))) symbols)

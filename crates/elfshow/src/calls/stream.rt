@@ -1,0 +1,444 @@
+//! The text of a call, as an `ElfStream` answers it.
+ghost use Rattle.std.specs.Prelude.{◌≡◌, ℕ, OnOk, IfSome, slice_get};
+ghost use Rattle.std.specs.Io.KnownBytes.{Appends};
+ghost use Rattle.elf.specs.Asked.{headers_alone, symbols_asked};
+ghost use Rattle.elf.specs.Listed.{stream_file};
+ghost use Rattle.elf.specs.Stream.{Leaves, kind};
+ghost use Rattle.elf_parts.specs.GnuFind.{gnu_section};
+ghost use Rattle.elf_parts.specs.SysvFind.{sysv_section};
+ghost use Rattle.elf_parts.specs.Number.{ok_map};
+ghost use Rattle.elfshow.specs.Asked.{Asked, asked};
+ghost use Rattle.elfshow.specs.StreamAnswers.{stream_answers};
+ghost use Rattle.elfshow.specs.Text.{symbol_count};
+ghost use Rattle.elfshow.specs.Verdicts.{gnu_verdict, sysv_verdict};
+ghost use Rattle.elfshow.specs.inner.RunSteps.{Gives, IsWritten, LeadsTo, RanCall, checked_apart, section_bytes};
+
+use crate::calls::bytes::{gnu_verdict, sysv_verdict};
+use crate::calls::{Call, RunError};
+use crate::lines::data::{write_section_data, write_segment_data};
+use crate::lines::dynamic::DynLine;
+use crate::lines::hashes::{Verdict, write_verdict};
+use crate::lines::header::write_header;
+use crate::lines::listed::{write_records, write_slice};
+use crate::lines::notes::write_notes;
+use crate::lines::relocations::{RelLine, RelaLine};
+use crate::lines::sections::{SectionLine, write_found};
+use crate::lines::segments::SegmentLine;
+use crate::lines::stand::{write_absent, write_none, write_refused};
+use crate::lines::strings::write_strings;
+use crate::lines::symbols::SymbolLine;
+use crate::lines::versions::write_versions;
+use elf::endian::EndianParse;
+use elf::laws::tables::iter_gives_len_records;
+use elf::section::SectionHeader;
+use elf::segment::ProgramHeader;
+use elf::{ElfStream, ParseError, StreamSource};
+use std::alloc::Allocator;
+use std::io;
+use std::io::Write;
+
+/// Writes the text of a call.
+pub(super) fn write_call<E: EndianParse, S: StreamSource, A: Allocator + Copy, W: Write>(
+    stream: &mut ElfStream<E, S, A>,
+    call: Call<'_>,
+    out: &mut W,
+) -> Result<(), RunError>
+    ensures { RanCall E.little (asked call.entry) stream.old stream.new (W.contents out.old) (W.contents out.new) result }
+{
+    match call {
+        Call::Header => told(write_header(&stream.ehdr, out)),
+        Call::Sections => write_sections(stream, out),
+        Call::Segments => write_segments(stream, out),
+        Call::Name(name) => write_named(stream, name, out),
+        Call::Data(index) => write_data(stream, index, out),
+        Call::Strings(index) => write_section_strings(stream, index, out),
+        Call::Rels(index) => write_rels(stream, index, out),
+        Call::Relas(index) => write_relas(stream, index, out),
+        Call::Notes(index) => write_section_notes(stream, index, out),
+        Call::Seg(index) => write_seg(stream, index, out),
+        Call::SegNotes(index) => write_segment_notes(stream, index, out),
+        Call::Symbols => write_symbols(stream, out),
+        Call::DynSyms => write_dynsyms(stream, out),
+        Call::Dynamic => write_dynamic(stream, out),
+        Call::Versions => write_symbol_versions(stream, out),
+        Call::Sysv(index) => write_sysv(stream, index, out),
+        Call::Gnu(index) => write_gnu(stream, index, out),
+    }
+}
+
+// What was written, as a run tells it.
+fn told(written: io::Result<()>) -> Result<(), RunError>
+    ensures { IsWritten written result }
+{
+    match written {
+        Ok(()) => Ok(()),
+        Err(error) => Err(RunError::Write { done: 0, error }),
+    }
+}
+
+// Stops at a failure of the source and where memory was refused; writes the line `refused` at another refusal.
+fn refuse<W: Write>(error: ParseError, out: &mut W) -> Result<(), RunError>
+    ensures { LeadsTo (kind error) (W.contents out.old) (W.contents out.new) result }
+{
+    match error {
+        ParseError::IOError(error) => {
+            let error = ParseError::IOError(error);
+            Err(RunError::Fault { done: 0, error })
+        }
+        ParseError::OutOfMemory => {
+            let error = ParseError::OutOfMemory;
+            Err(RunError::Fault { done: 0, error })
+        }
+        _ => told(write_refused(out)),
+    }
+}
+
+// Section header i, if there is one.
+fn section_header<E: EndianParse, S: StreamSource, A: Allocator + Copy>(
+    stream: &ElfStream<E, S, A>,
+    index: u64,
+) -> Option<SectionHeader>
+    ensures { result ≡ slice_get stream.now.sections index }
+{
+    stream.section_headers().get(index as usize).copied()
+}
+
+// Program header i, if there is one.
+fn program_header<E: EndianParse, S: StreamSource, A: Allocator + Copy>(
+    stream: &ElfStream<E, S, A>,
+    index: u64,
+) -> Option<ProgramHeader>
+    ensures { result ≡ slice_get stream.now.segments index }
+{
+    stream.segments().get(index as usize).copied()
+}
+
+fn write_sections<E: EndianParse, S: StreamSource, A: Allocator + Copy, W: Write>(
+    stream: &mut ElfStream<E, S, A>,
+    out: &mut W,
+) -> Result<(), RunError>
+    ensures { RanCall E.little Asked.Sections stream.old stream.new (W.contents out.old) (W.contents out.new) result }
+{
+    match stream.section_headers_with_strtab() {
+        Ok((sections, names)) => {
+            told(write_slice(sections.as_slice(), &SectionLine { names }, out))
+        }
+        Err(error) => refuse(error, out),
+    }
+}
+
+fn write_segments<E: EndianParse, S: StreamSource, A: Allocator + Copy, W: Write>(
+    stream: &mut ElfStream<E, S, A>,
+    out: &mut W,
+) -> Result<(), RunError>
+    ensures { RanCall E.little Asked.Segments stream.old stream.new (W.contents out.old) (W.contents out.new) result }
+{
+    told(write_slice(stream.segments().as_slice(), &SegmentLine, out))
+}
+
+fn write_named<E: EndianParse, S: StreamSource, A: Allocator + Copy, W: Write>(
+    stream: &mut ElfStream<E, S, A>,
+    name: &str,
+    out: &mut W,
+) -> Result<(), RunError>
+    ensures { RanCall E.little (Asked.Name name.now) stream.old stream.new (W.contents out.old) (W.contents out.new) result }
+{
+    match stream.section_header_by_name(name) {
+        Ok(Some(section)) => told(write_found(section, out)),
+        Ok(None) => told(write_none(out)),
+        Err(error) => refuse(error, out),
+    }
+}
+
+fn write_data<E: EndianParse, S: StreamSource, A: Allocator + Copy, W: Write>(
+    stream: &mut ElfStream<E, S, A>,
+    index: u64,
+    out: &mut W,
+) -> Result<(), RunError>
+    ensures { RanCall E.little (Asked.Data index) stream.old stream.new (W.contents out.old) (W.contents out.new) result }
+{
+    let Some(section) = section_header(stream, index) else {
+        return told(write_absent(out));
+    };
+    match stream.section_data(&section) {
+        Ok((bytes, header)) => told(write_section_data(bytes, header.as_ref(), out)),
+        Err(error) => refuse(error, out),
+    }
+}
+
+fn write_section_strings<E: EndianParse, S: StreamSource, A: Allocator + Copy, W: Write>(
+    stream: &mut ElfStream<E, S, A>,
+    index: u64,
+    out: &mut W,
+) -> Result<(), RunError>
+    ensures { RanCall E.little (Asked.Strings index) stream.old stream.new (W.contents out.old) (W.contents out.new) result }
+{
+    let Some(section) = section_header(stream, index) else {
+        return told(write_absent(out));
+    };
+    match stream.section_data_as_strtab(&section) {
+        Ok(strings) => told(write_strings(strings, out)),
+        Err(error) => refuse(error, out),
+    }
+}
+
+fn write_rels<E: EndianParse, S: StreamSource, A: Allocator + Copy, W: Write>(
+    stream: &mut ElfStream<E, S, A>,
+    index: u64,
+    out: &mut W,
+) -> Result<(), RunError>
+    ensures { RanCall E.little (Asked.Rels index) stream.old stream.new (W.contents out.old) (W.contents out.new) result }
+{
+    let Some(section) = section_header(stream, index) else {
+        return told(write_absent(out));
+    };
+    match stream.section_data_as_rels(&section) {
+        Ok(rels) => told(write_records(rels, &RelLine, out)),
+        Err(error) => refuse(error, out),
+    }
+}
+
+fn write_relas<E: EndianParse, S: StreamSource, A: Allocator + Copy, W: Write>(
+    stream: &mut ElfStream<E, S, A>,
+    index: u64,
+    out: &mut W,
+) -> Result<(), RunError>
+    ensures { RanCall E.little (Asked.Relas index) stream.old stream.new (W.contents out.old) (W.contents out.new) result }
+{
+    let Some(section) = section_header(stream, index) else {
+        return told(write_absent(out));
+    };
+    match stream.section_data_as_relas(&section) {
+        Ok(relas) => told(write_records(relas, &RelaLine, out)),
+        Err(error) => refuse(error, out),
+    }
+}
+
+fn write_section_notes<E: EndianParse, S: StreamSource, A: Allocator + Copy, W: Write>(
+    stream: &mut ElfStream<E, S, A>,
+    index: u64,
+    out: &mut W,
+) -> Result<(), RunError>
+    ensures { RanCall E.little (Asked.Notes index) stream.old stream.new (W.contents out.old) (W.contents out.new) result }
+{
+    let Some(section) = section_header(stream, index) else {
+        return told(write_absent(out));
+    };
+    match stream.section_data_as_notes(&section) {
+        Ok(notes) => told(write_notes(notes, out)),
+        Err(error) => refuse(error, out),
+    }
+}
+
+fn write_seg<E: EndianParse, S: StreamSource, A: Allocator + Copy, W: Write>(
+    stream: &mut ElfStream<E, S, A>,
+    index: u64,
+    out: &mut W,
+) -> Result<(), RunError>
+    ensures { RanCall E.little (Asked.Seg index) stream.old stream.new (W.contents out.old) (W.contents out.new) result }
+{
+    let Some(segment) = program_header(stream, index) else {
+        return told(write_absent(out));
+    };
+    match stream.segment_data(&segment) {
+        Ok(bytes) => told(write_segment_data(bytes, out)),
+        Err(error) => refuse(error, out),
+    }
+}
+
+fn write_segment_notes<E: EndianParse, S: StreamSource, A: Allocator + Copy, W: Write>(
+    stream: &mut ElfStream<E, S, A>,
+    index: u64,
+    out: &mut W,
+) -> Result<(), RunError>
+    ensures { RanCall E.little (Asked.SegNotes index) stream.old stream.new (W.contents out.old) (W.contents out.new) result }
+{
+    let Some(segment) = program_header(stream, index) else {
+        return told(write_absent(out));
+    };
+    match stream.segment_data_as_notes(&segment) {
+        Ok(notes) => told(write_notes(notes, out)),
+        Err(error) => refuse(error, out),
+    }
+}
+
+fn write_symbols<E: EndianParse, S: StreamSource, A: Allocator + Copy, W: Write>(
+    stream: &mut ElfStream<E, S, A>,
+    out: &mut W,
+) -> Result<(), RunError>
+    ensures { RanCall E.little Asked.Symbols stream.old stream.new (W.contents out.old) (W.contents out.new) result }
+{
+    match stream.symbol_table() {
+        Ok(Some((symbols, strings))) => told(write_records(
+            symbols.iter(),
+            &SymbolLine { strings },
+            out,
+        )),
+        Ok(None) => told(write_none(out)),
+        Err(error) => refuse(error, out),
+    }
+}
+
+fn write_dynsyms<E: EndianParse, S: StreamSource, A: Allocator + Copy, W: Write>(
+    stream: &mut ElfStream<E, S, A>,
+    out: &mut W,
+) -> Result<(), RunError>
+    ensures { RanCall E.little Asked.DynSyms stream.old stream.new (W.contents out.old) (W.contents out.new) result }
+{
+    match stream.dynamic_symbol_table() {
+        Ok(Some((symbols, strings))) => told(write_records(
+            symbols.iter(),
+            &SymbolLine { strings },
+            out,
+        )),
+        Ok(None) => told(write_none(out)),
+        Err(error) => refuse(error, out),
+    }
+}
+
+fn write_dynamic<E: EndianParse, S: StreamSource, A: Allocator + Copy, W: Write>(
+    stream: &mut ElfStream<E, S, A>,
+    out: &mut W,
+) -> Result<(), RunError>
+    ensures { RanCall E.little Asked.Dynamic stream.old stream.new (W.contents out.old) (W.contents out.new) result }
+{
+    match stream.dynamic() {
+        Ok(Some(entries)) => told(write_records(entries.iter(), &DynLine, out)),
+        Ok(None) => told(write_none(out)),
+        Err(error) => refuse(error, out),
+    }
+}
+
+// How many symbols for dynamic linking there are; where no table of them is there are none.
+fn dynamic_symbol_count<E: EndianParse, S: StreamSource, A: Allocator + Copy>(
+    stream: &mut ElfStream<E, S, A>,
+) -> Result<usize, ParseError>
+    ensures { Leaves (symbols_asked 11 (headers_alone E.little stream.old)) (λ count. count)
+        (λ bytes. ok_map symbol_count (stream_answers E.little stream.old bytes).dynamic_symbols) stream.old stream.new result }
+{
+    match stream.dynamic_symbol_table() {
+        Ok(Some((symbols, _))) => {
+            iter_gives_len_records(&symbols);
+            Ok(symbols.len())
+        }
+        Ok(None) => Ok(0),
+        Err(error) => Err(error),
+    }
+}
+
+fn write_symbol_versions<E: EndianParse, S: StreamSource, A: Allocator + Copy, W: Write>(
+    stream: &mut ElfStream<E, S, A>,
+    out: &mut W,
+) -> Result<(), RunError>
+    ensures { RanCall E.little Asked.Versions stream.old stream.new (W.contents out.old) (W.contents out.new) result }
+{
+    let symbols = match dynamic_symbol_count(stream) {
+        Ok(symbols) => symbols,
+        Err(error) => return refuse(error, out),
+    };
+    match stream.symbol_version_table() {
+        Ok(Some(versions)) => told(write_versions(symbols, &versions, out)),
+        Ok(None) => told(write_none(out)),
+        Err(error) => refuse(error, out),
+    }
+}
+
+// A copy of the bytes of a section, in the allocator of the stream.
+fn section_copy<E: EndianParse, S: StreamSource, A: Allocator + Copy>(
+    stream: &mut ElfStream<E, S, A>,
+    section: &SectionHeader,
+) -> Result<Vec<u8, A>, ParseError>
+    ensures { Gives (λ copy. copy.items) (λ bytes. section_bytes (stream_file E.little stream.old bytes) section.now)
+        stream.old stream.new result }
+{
+    let alloc = *stream.section_headers().allocator();
+    match stream.section_data(section) {
+        Ok((bytes, _)) => match Vec::from_slice(alloc, bytes) {
+            Ok(copy) => Ok(copy),
+            Err(_) => Err(ParseError::OutOfMemory),
+        },
+        Err(error) => Err(error),
+    }
+}
+
+// What the checker says of a section as a SysV hash section, for the symbols for dynamic linking, if there are
+// any. Its refusal stands apart from one of the stream.
+fn section_sysv_verdict<E: EndianParse, S: StreamSource, A: Allocator + Copy>(
+    stream: &mut ElfStream<E, S, A>,
+    section: &SectionHeader,
+) -> Result<Option<Result<Verdict, ParseError>>, ParseError>
+    ensures { Gives (λ verdict. verdict) (λ bytes. checked_apart sysv_verdict
+        (sysv_section (E.little stream.old.ehdr.endianness) stream.old.ehdr.class) (stream_file E.little stream.old bytes) section.now)
+        stream.old stream.new result }
+{
+    let endian = stream.ehdr.endianness;
+    let class = stream.ehdr.class;
+    let bytes = section_copy(stream, section)?;
+    match stream.dynamic_symbol_table() {
+        Ok(Some((symbols, strings))) => {
+            let verdict = sysv_verdict(endian, class, bytes.as_slice(), symbols, strings);
+            Ok(Some(verdict))
+        }
+        Ok(None) => Ok(None),
+        Err(error) => Err(error),
+    }
+}
+
+fn write_sysv<E: EndianParse, S: StreamSource, A: Allocator + Copy, W: Write>(
+    stream: &mut ElfStream<E, S, A>,
+    index: u64,
+    out: &mut W,
+) -> Result<(), RunError>
+    ensures { RanCall E.little (Asked.Sysv index) stream.old stream.new (W.contents out.old) (W.contents out.new) result }
+{
+    let Some(section) = section_header(stream, index) else {
+        return told(write_absent(out));
+    };
+    match section_sysv_verdict(stream, &section) {
+        Ok(Some(Ok(verdict))) => told(write_verdict(verdict, out)),
+        Ok(Some(Err(_))) => told(write_refused(out)),
+        Ok(None) => told(write_none(out)),
+        Err(error) => refuse(error, out),
+    }
+}
+
+// What the checker says of a section as a GNU hash section, for the symbols for dynamic linking, if there are
+// any. Its refusal stands apart from one of the stream.
+fn section_gnu_verdict<E: EndianParse, S: StreamSource, A: Allocator + Copy>(
+    stream: &mut ElfStream<E, S, A>,
+    section: &SectionHeader,
+) -> Result<Option<Result<Verdict, ParseError>>, ParseError>
+    ensures { Gives (λ verdict. verdict) (λ bytes. checked_apart gnu_verdict
+        (gnu_section (E.little stream.old.ehdr.endianness) stream.old.ehdr.class) (stream_file E.little stream.old bytes) section.now)
+        stream.old stream.new result }
+{
+    let endian = stream.ehdr.endianness;
+    let class = stream.ehdr.class;
+    let bytes = section_copy(stream, section)?;
+    match stream.dynamic_symbol_table() {
+        Ok(Some((symbols, strings))) => {
+            let verdict = gnu_verdict(endian, class, bytes.as_slice(), symbols, strings);
+            Ok(Some(verdict))
+        }
+        Ok(None) => Ok(None),
+        Err(error) => Err(error),
+    }
+}
+
+fn write_gnu<E: EndianParse, S: StreamSource, A: Allocator + Copy, W: Write>(
+    stream: &mut ElfStream<E, S, A>,
+    index: u64,
+    out: &mut W,
+) -> Result<(), RunError>
+    ensures { RanCall E.little (Asked.Gnu index) stream.old stream.new (W.contents out.old) (W.contents out.new) result }
+{
+    let Some(section) = section_header(stream, index) else {
+        return told(write_absent(out));
+    };
+    match section_gnu_verdict(stream, &section) {
+        Ok(Some(Ok(verdict))) => told(write_verdict(verdict, out)),
+        Ok(Some(Err(_))) => told(write_refused(out)),
+        Ok(None) => told(write_none(out)),
+        Err(error) => refuse(error, out),
+    }
+}
