@@ -1,0 +1,64 @@
+-- Two lists that go together, one pair more.
+use Rattle.std.proofs.Common.{◌≡◌, ℕ, ◌+◌, ◌<◌, zero, suc, length, List, [], ◌∷◌, ◌++◌, Bool, Option, Some, None, Result, Ok, Err, ap, subst, sym, inl, inr, arith, ◌∙◌}
+use Rattle.std.proofs.lemmas.Bool.{cases_lt}
+use Rattle.std.proofs.lemmas.List.{length_push}
+use Rattle.std.specs.Option.{IfSome, IsSomeAnd}
+use Rattle.std.specs.List.{slice_get}
+use Rattle.std.specs.Result.{IsOkAnd}
+use Rattle.std.specs.declared.cmp.PartialEq.{Ghosts as PartialEqGhosts}
+use Rattle.std.specs.declared.default.Default.{Ghosts as DefaultGhosts}
+use Rattle.elf_parts.specs.declared.endian.EndianParse.{Ghosts as EndianGhosts}
+use Rattle.elf.specs.declared.elf_bytes.ElfBytes.{ElfBytes}
+use Rattle.elfshow.specs.ObjectView.{object_view}
+use Rattle.elfshow.specs.Resolve.{IsSound, IsTableOf, Object}
+use Rattle.elfshow.specs.declared.hashcheck.gnu.CheckedGnuHash.{CheckedGnuHash}
+use Rattle.elfshow.specs.declared.hashcheck.sysv.CheckedSysvHash.{CheckedSysvHash}
+use Rattle.elfshow.specs.declared.resolve.HashKind.{HashKind}
+use Rattle.elfshow.specs.declared.resolve.ObjectFault.{ObjectFault}
+use Rattle.elf_uses.specs.Resolver.{HasTable, IsTable, library}
+
+module _ {F T : Type 0} (P : F → T → Type 0) where
+  -- the first of the files have tables, so many
+  abbrev pub Paired : List F → List T → ℕ → Type 0
+  Paired files tables n = (k : ℕ) → k < n → IfSome (slice_get files k) (λ file. IsSomeAnd (slice_get tables k) (P file))
+
+  pub one_more : (files : List F) (tables : List T) (file : F) (table : T) → Paired files tables (length tables) →
+      slice_get files (length tables) ≡ Some file → P file table → Paired files (tables ++ table ∷ []) (length tables + 1)
+  one_more [] tables file table before at here k less = tt
+  one_more (f ∷ files) [] file table before at here zero less = subst (λ x. P x table) (cc) here
+  one_more (f ∷ files) [] file table before at here (suc k) less = absurd (omega (arith, less))
+  one_more (f ∷ files) (t ∷ tables) file table before at here zero less = before 0 (omega arith)
+  one_more (f ∷ files) (t ∷ tables) file table before at here (suc k) less =
+      one_more files tables file table (λ j l. before (suc j) (omega (arith, l))) at here k (omega (arith, less))
+
+  pub paired_push : (files : List F) (tables more : List T) (n : ℕ) (file : F) (table : T) → length tables ≡ n → more ≡ tables ++ table ∷ [] →
+      Paired files tables n → slice_get files n ≡ Some file → P file table → (length more ≡ n + 1) × Paired files more (n + 1)
+  paired_push files tables more n file table long is before at here =
+      let front = subst (λ (m : ℕ). Paired files tables m) (sym long) before in
+      let place = subst (λ (m : ℕ). slice_get files m ≡ Some file) (sym long) at in
+      let all = subst (λ (m : ℕ). Paired files (tables ++ table ∷ []) (m + 1)) long (one_more files tables file table front place here) in
+      let count : length (tables ++ table ∷ []) ≡ n + 1 = omega (arith, length_push tables table, long) in
+      subst (λ (m : List T). (length m ≡ n + 1) × Paired files m (n + 1)) (sym is) (count, all)
+
+module _ {F : Type 0} (Q : F → Type 0) where
+  -- what holds of the files before a place, and of the one there
+  pub below_next : (files : List F) (n : ℕ) (file : F) → ((k : ℕ) → k < n → IfSome (slice_get files k) Q) →
+      slice_get files n ≡ Some file → Q file → (k : ℕ) → k < n + 1 → IfSome (slice_get files k) Q
+  below_next files n file before at here k less = elim (cases_lt k n) [
+    | inl old ↦ before k old
+    | inr new ↦ let same : n ≡ k = omega (arith, less, new) in
+        subst (λ (o : Option F). IfSome o Q) (sym at ∙ ap (λ (m : ℕ). slice_get files m) same) here
+  ]
+
+module _ {C : Type 0} (view : C → Object) (table : C) where
+  -- what gives a checked table is sound
+  pub object_sound : (object : Option (Result Object ObjectFault)) → IsSomeAnd object (λ o. IsTableOf view o table) →
+      IsSomeAnd object (λ o. IsOkAnd o IsSound)
+  object_sound (Some (Ok o)) h = h.0
+  object_sound (Some (Err fault)) h = absurd h
+  object_sound None h = absurd h
+
+module _ {E : Type 0} {order : EndianGhosts E} {default : DefaultGhosts E} {equal : PartialEqGhosts E} (little : E → Bool) where
+  pub table_sound : (file : ElfBytes E) (table : HashKind (CheckedSysvHash E order default equal) (CheckedGnuHash E order default equal)) →
+      IsTable little file table → HasTable little file
+  table_sound file table h = object_sound object_view table (library little file) h

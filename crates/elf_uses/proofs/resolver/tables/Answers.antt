@@ -1,0 +1,18 @@
+use Rattle.std.proofs.Common.{◌<◌, Some, length, ap, sym, arith, ◌∙◌}
+use Rattle.std.proofs.lemmas.Option.{slice_get-get_or}
+use Rattle.elf_uses.specs.Resolver.{HasTable, IsTable}
+use Rattle.elf_uses.proofs.Tables.{below_next, paired_push, table_sound}
+use Rattle.elf_uses.proofs.resolver.tables.Goals as goal
+
+pub loop-library-preserved : goal.loop-library-preserved
+loop-library-preserved g c =
+    let files = c.args.files.now in
+    let place = c.loop-library.library in
+    let file = c.index-files-library.result in
+    let inside : place < length files = omega arith in
+    let at = slice_get-get_or files place file inside ∙ ap Some (sym c.index-files-library.is) in
+    let table = rw c.in-Ok-Some.field-0-is at c.in-Ok-Some.ensures in
+    let pairs = paired_push (IsTable g.E.EndianParse.little) files c.loop-library.tables.items c.push.new.self.items place file c.in-Ok-Some.table
+    c.loop-library.invariant.0 c.in_ok-push-in-Ok-Some.ensures.items c.loop-library.invariant.1 at table in
+    let sound = table_sound g.E.EndianParse.little file c.in-Ok-Some.table table in
+    (pairs.0, pairs.1, below_next (HasTable g.E.EndianParse.little) files place file c.loop-library.invariant.2 at sound)

@@ -1,0 +1,32 @@
+-- Which symbols are functions that a file defines for others, and the versions that it defines them with.
+use Rattle.std.specs.Prelude.{◌≡◌, ℕ, ◌==◌, ◌&&◌, ◌||◌, not, Bool, MatchBool, bit_and, List, [], ◌∷◌, Option, Some, None, Result, Ok, Err, MatchResult}
+use Rattle.std.specs.Option.{IsSomeAnd}
+use Rattle.elf_parts.specs.StringTable.{GivesText}
+use Rattle.elf_parts.specs.Symbol.{symbol_binding, symbol_type}
+use Rattle.elf_parts.specs.Symver.{Definition}
+use Rattle.elf_parts.specs.declared.parse.ParseError.{ParseError}
+use Rattle.elf_parts.specs.declared.symbol.Symbol.{Symbol}
+use Rattle.elf_uses.specs.declared.functions.Version.{Version}
+
+-- a section defines it, it is not local (STB_LOCAL, 0), and it is a function (STT_FUNC, 2) or one that is chosen when
+-- the file is loaded (STT_GNU_IFUNC, 10)
+abbrev pub is_defined_function : Symbol → Bool
+is_defined_function s =
+    not (s.st_shndx == 0) && not (symbol_binding s == 0) && (symbol_type s == 2 || symbol_type s == 10)
+
+-- the first name as text, or why it is none; a version without names is none
+abbrev pub GivesFirst : Bool → List (Result (List ℕ) ParseError) → Result (Option Version) ParseError → Type 0
+GivesFirst hidden [] result = result ≡ Ok None
+GivesFirst hidden (name ∷ others) result =
+    MatchResult result
+    (λ found. IsSomeAnd found (λ version. GivesText name (Ok version.name) × (version.hidden ≡ hidden)))
+    (λ e. GivesText name (Err e))
+
+-- a definition that stands for the file itself (VER_FLG_BASE, 1) is no version
+abbrev pub GivesVersionOf : Definition → Result (Option Version) ParseError → Type 0
+GivesVersionOf d result = MatchBool (bit_and d.flags 1 == 0) (GivesFirst d.hidden d.names result) (result ≡ Ok None)
+
+abbrev pub GivesVersion : Result (Option Definition) ParseError → Result (Option Version) ParseError → Type 0
+GivesVersion (Err e) result = result ≡ Err e
+GivesVersion (Ok None) result = result ≡ Ok None
+GivesVersion (Ok (Some d)) result = GivesVersionOf d result

@@ -1,0 +1,30 @@
+-- What is said of a hash section.
+use Rattle.std.specs.Prelude.{◌≡◌, ℕ, ◌==◌, if◌then◌else◌, Option, Some, None, Result, MatchResult}
+use Rattle.std.specs.Option.{IsSomeAnd}
+use Rattle.std.specs.Result.{IsOkAnd}
+use Rattle.elf_parts.specs.GnuFind.{gnu_section}
+use Rattle.elf_parts.specs.Number.{ok_map}
+use Rattle.elf_parts.specs.SysvFind.{sysv_section}
+use Rattle.elf_parts.specs.declared.section.SectionHeader.{SectionHeader}
+use Rattle.elf.specs.ObjectFile.{ObjectFile}
+use Rattle.elfshow.specs.Resolve.{ByGnu, BySysv, IsFaultOf, IsSound, Object, given_by, indexed_count}
+use Rattle.elfshow.specs.declared.resolve.ObjectFault.{ObjectFault}
+
+-- the table of a section of type SHT_GNU_HASH (0x6ffffff6) or SHT_HASH (5), over the dynamic symbols
+abbrev pub hash_object : ObjectFile → SectionHeader → Option (Result Object ObjectFault)
+hash_object file s =
+    if s.sh_type == 0x6ffffff6 then Some (ok_map ByGnu (given_by gnu_section file s))
+    else if s.sh_type == 5 then Some (ok_map BySysv (given_by sysv_section file s))
+    else None
+
+-- the count of the symbols of a table that is sound
+abbrev pub IsCountOf : Result Object ObjectFault → ℕ → Type 0
+IsCountOf object count = IsOkAnd object (λ o. IsSound o × (count ≡ indexed_count o))
+
+-- that count, or a fault that is true, or why there is no table
+abbrev pub IsLint : Result Object ObjectFault → Result ℕ ObjectFault → Type 0
+IsLint object result = MatchResult result (IsCountOf object) (IsFaultOf object)
+
+abbrev pub GivesLint : Option (Result Object ObjectFault) → Option (Result ℕ ObjectFault) → Type 0
+GivesLint None result = result ≡ None
+GivesLint (Some object) result = IsSomeAnd result (IsLint object)

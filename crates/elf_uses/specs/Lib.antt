@@ -1,0 +1,5 @@
+pub mod BuildId
+pub mod Functions
+pub mod LoadPlan
+pub mod HashLint
+pub mod Resolver

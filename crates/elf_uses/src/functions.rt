@@ -1,0 +1,81 @@
+//! The functions that a file defines for others, with their versions.
+ghost use Rattle.std.specs.Prelude.{◌≡◌, IfOk, filter};
+ghost use Rattle.std.specs.List.{enumerate_from};
+ghost use Rattle.elf_parts.specs.Record.{record_by, size_by};
+ghost use Rattle.elf_parts.specs.Symbol.{symbol_layout};
+ghost use Rattle.elf_parts.specs.Symver.{definition, definition_view, versions_view};
+ghost use Rattle.elf_parts.specs.Table.{table_items, table_view};
+ghost use Rattle.elf_uses.specs.Functions.{GivesVersion, GivesVersionOf, is_defined_function};
+
+use elf::endian::EndianParse;
+use elf::gnu_symver::{SymbolDefinition, SymbolVersionTable};
+use elf::symbol::{Symbol, SymbolTable};
+use elf::{ParseError, abi};
+use std::alloc::{AllocError, Global};
+
+/// The version that a symbol is defined with. A reference that asks for no version binds to a symbol whose version is
+/// not hidden.
+#[derive(Debug, Clone, Copy)]
+pub struct Version<'a> {
+    pub name: &'a str,
+    pub hidden: bool,
+}
+
+/// Whether the symbol is a function that this file defines and other files can call.
+pub fn is_defined_function(symbol: &Symbol) -> bool
+    ensures { result ≡ is_defined_function symbol.now }
+{
+    let symtype = symbol.st_symtype();
+    !symbol.is_undefined()
+        && symbol.st_bind() != abi::STB_LOCAL
+        && (symtype == abi::STT_FUNC || symtype == abi::STT_GNU_IFUNC)
+}
+
+/// All such symbols of a table, in order, each with its index.
+pub fn functions<E: EndianParse>(
+    alloc: Global,
+    symbols: &SymbolTable<'_, E>,
+) -> Result<Vec<(usize, Symbol)>, AllocError>
+    ensures { IfOk result (λ found. found.items ≡ filter (λ one. is_defined_function one.1)
+        (enumerate_from 0 (table_items (size_by symbol_layout) (record_by symbol_layout) (table_view symbols.now)))) }
+{
+    symbols
+        .iter()
+        .enumerate()
+        .filter(|one| is_defined_function(&one.1))
+        .collect(alloc)
+}
+
+// The version by its definition: the first of its names. What is defined for the file itself is no version.
+fn version_in<'a, E: EndianParse>(
+    definition: SymbolDefinition<'a, E>,
+) -> Result<Option<Version<'a>>, ParseError>
+    ensures { GivesVersionOf (definition_view definition.entry) result }
+{
+    if definition.flags & abi::VER_FLG_BASE != 0 {
+        return Ok(None);
+    }
+    let mut names = definition.names;
+    match names.next() {
+        Some(Ok(name)) => Ok(Some(Version {
+            name,
+            hidden: definition.hidden,
+        })),
+        Some(Err(error)) => Err(error),
+        None => Ok(None),
+    }
+}
+
+/// The version that a symbol, by its index, is defined with: none where the file gives it none but its own name.
+pub fn version_of<'a, E: EndianParse>(
+    versions: &'a SymbolVersionTable<'_, E>,
+    symbol: usize,
+) -> Result<Option<Version<'a>>, ParseError>
+    ensures { GivesVersion (definition (versions_view versions.now) symbol) result }
+{
+    match versions.get_definition(symbol) {
+        Ok(Some(definition)) => version_in(definition),
+        Ok(None) => Ok(None),
+        Err(error) => Err(error),
+    }
+}

@@ -1,0 +1,145 @@
+//! What a loader maps where.
+ghost use Rattle.std.specs.Prelude.{◌≡◌, IfErr, IfOk, MatchOption, length};
+ghost use Rattle.std.specs.List.{list_any};
+ghost use Rattle.elf.specs.View.{segment_list, view};
+ghost use Rattle.elf_uses.specs.LoadPlan.{ApartBefore, FitBefore, IsFirstOverlap, IsFirstUnfit, IsPlan, IsTrueOf};
+ghost use Rattle.elf_uses.specs.LoadPlan.{fits, mapping_of, mappings, overlap};
+ghost use Rattle.elf_uses.specs.declared.load_plan.PlanError.TheVariants.{Memory as IsMemory};
+
+use elf::endian::EndianParse;
+use elf::segment::ProgramHeader;
+use elf::{ElfBytes, abi};
+use std::alloc::{AllocError, Global};
+use thiserror::Error;
+
+/// Bytes of the file that stand in memory from an address on; the rest of the memory is 0. Sizes are in bytes.
+#[derive(Debug, Clone, Copy, PartialEq, Eq)]
+pub struct Mapping {
+    pub address: u64,
+    pub memory_size: u64,
+    pub offset: u64,
+    pub file_size: u64,
+    pub flags: u32,
+}
+
+/// Why there is no plan. A mapping is counted from 0.
+#[derive(Debug, Drop, Error)]
+pub enum PlanError {
+    /// More bytes of the file than there is memory for them.
+    #[error("mapping {mapping} has more bytes in the file than in memory")]
+    FileSize { mapping: usize },
+    /// An address of the mapping belongs to an earlier one as well.
+    #[error("mapping {mapping} overlaps an earlier one")]
+    Overlap { mapping: usize },
+    /// Memory was refused.
+    #[error("out of memory")]
+    Memory,
+}
+
+impl From<AllocError> for PlanError {
+    ghost from_gives = { λ _ error. error ≡ IsMemory };
+
+    fn from(_error: AllocError) -> PlanError {
+        PlanError::Memory
+    }
+}
+
+impl Mapping {
+    fn new(segment: &ProgramHeader) -> Self
+        ensures { result ≡ mapping_of segment.now }
+    {
+        Mapping {
+            address: segment.p_vaddr,
+            memory_size: segment.p_memsz,
+            offset: segment.p_offset,
+            file_size: segment.p_filesz,
+            flags: segment.p_flags,
+        }
+    }
+
+    // Whether there is memory for the bytes of the file.
+    fn fits(&self) -> bool
+        ensures { result ≡ fits self.now }
+    {
+        self.file_size <= self.memory_size
+    }
+
+    // Whether some address belongs to both.
+    fn overlaps(&self, other: &Mapping) -> bool
+        ensures { result ≡ overlap self.now other.now }
+    {
+        if self.address <= other.address {
+            other.memory_size > 0 && other.address - self.address < self.memory_size
+        } else {
+            self.memory_size > 0 && self.address - other.address < other.memory_size
+        }
+    }
+
+    // Whether some address belongs to one of the others as well.
+    fn overlaps_any(&self, others: &[Mapping]) -> bool
+        ensures { result ≡ list_any (overlap self.now) others.now }
+    {
+        others.iter().any(|other| self.overlaps(other))
+    }
+}
+
+// What the segments of type PT_LOAD map.
+fn mappings<E: EndianParse>(
+    alloc: Global,
+    file: &ElfBytes<'_, E>,
+) -> Result<Vec<Mapping>, AllocError>
+    ensures { IfOk result (λ all. all.items ≡ mappings (segment_list (view file.now).segments)) }
+{
+    match file.segments() {
+        Some(segments) => segments
+            .iter()
+            .filter(|segment| segment.p_type == abi::PT_LOAD)
+            .map(|segment| Mapping::new(&segment))
+            .collect(alloc),
+        None => Ok(Vec::new(alloc)),
+    }
+}
+
+// The first mapping that has more bytes in the file than in memory.
+fn first_unfit(all: &[Mapping]) -> Option<usize>
+    ensures { MatchOption result (FitBefore all.now (length all.now)) (IsFirstUnfit all.now) }
+{
+    for (place, mapping) in all.iter().enumerate() {
+        if !mapping.fits() {
+            return Some(place);
+        }
+    }
+    None
+}
+
+// The first mapping that shares an address with an earlier one.
+fn first_overlap(all: &[Mapping]) -> Option<usize>
+    ensures { MatchOption result (ApartBefore all.now (length all.now)) (IsFirstOverlap all.now) }
+{
+    for (place, mapping) in all.iter().enumerate() {
+        if mapping.overlaps_any(&all[..place]) {
+            return Some(place);
+        }
+    }
+    None
+}
+
+/// The mappings of the segments of type `PT_LOAD`, in order. Refuses the first of them that has more bytes in the file
+/// than in memory, and where all fit the first that shares an address with an earlier one.
+pub fn load_plan<E: EndianParse>(
+    alloc: Global,
+    file: &ElfBytes<'_, E>,
+) -> Result<Vec<Mapping>, PlanError>
+    ensures plan { let all = mappings (segment_list (view file.now).segments) in
+        IfOk result (λ plan. (plan.items ≡ all) × IsPlan all) }
+    ensures refused { IfErr result (IsTrueOf (mappings (segment_list (view file.now).segments))) }
+{
+    let plan = mappings(alloc, file)?;
+    if let Some(mapping) = first_unfit(plan.as_slice()) {
+        return Err(PlanError::FileSize { mapping });
+    }
+    if let Some(mapping) = first_overlap(plan.as_slice()) {
+        return Err(PlanError::Overlap { mapping });
+    }
+    Ok(plan)
+}

@@ -1,0 +1,71 @@
+//! Names that are resolved over an ordered list of libraries.
+ghost use Rattle.std.specs.Prelude.{◌≡◌, IfErr, IfOk};
+ghost use Rattle.elfshow.specs.ObjectView.{object_view};
+ghost use Rattle.elf_uses.specs.Resolver.{AreTables, IsDefinition, IsTrueOf};
+ghost use Rattle.elf_uses.specs.declared.resolver.TablesError.TheVariants.{Memory as IsMemory};
+
+use elf::ElfBytes;
+use elf::endian::EndianParse;
+use elf::symbol::Symbol;
+use elfshow::resolve::{AnyChecked, ObjectFault, object_table};
+use std::alloc::{AllocFailed, Global};
+use thiserror::Error;
+
+/// Why libraries give no tables. A library is counted from 0.
+#[derive(Debug, Drop, Error)]
+pub enum TablesError {
+    /// It has no hash section.
+    #[error("library {library} has no hash section")]
+    NoHash { library: usize },
+    /// Its hash section gives no checked table.
+    #[error("library {library}: {fault}")]
+    Fault { library: usize, fault: ObjectFault },
+    /// Memory was refused.
+    #[error("out of memory")]
+    Memory,
+}
+
+impl<T: Drop> From<AllocFailed<T>> for TablesError {
+    ghost from_gives = { λ _ error. error ≡ IsMemory };
+
+    fn from(_error: AllocFailed<T>) -> TablesError {
+        TablesError::Memory
+    }
+}
+
+/// The checked tables of the libraries, in their order. Refuses the first library that has none.
+pub fn tables<'data, E: EndianParse>(
+    alloc: Global,
+    files: &[ElfBytes<'data, E>],
+) -> Result<Vec<AnyChecked<'data, E>>, TablesError>
+    ensures tables { IfOk result (λ tables. AreTables E.little files.now tables.items) }
+    ensures refused { IfErr result (IsTrueOf E.little files.now) }
+{
+    let mut tables = Vec::new(alloc);
+    for (library, file) in files.iter().enumerate() {
+        match object_table(file) {
+            Ok(Some(table)) => tables.push(table)?,
+            Ok(None) => return Err(TablesError::NoHash { library }),
+            Err(fault) => return Err(TablesError::Fault { library, fault }),
+        }
+    }
+    Ok(tables)
+}
+
+/// The first library that defines the name, with the index of its symbol and the symbol. A library that has the name as an
+/// undefined symbol is passed over, as those are that do not have it.
+pub fn definition<E: EndianParse>(
+    tables: &[AnyChecked<'_, E>],
+    name: &[u8],
+) -> Option<(usize, usize, Symbol)>
+    ensures { IsDefinition object_view tables.now name.now result }
+{
+    for (library, table) in tables.iter().enumerate() {
+        if let Some((index, symbol)) = table.find(name)
+            && !symbol.is_undefined()
+        {
+            return Some((library, index, symbol));
+        }
+    }
+    None
+}
