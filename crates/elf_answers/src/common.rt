@@ -1,56 +1,46 @@
 //! The common data of a file, and what its hash sections find in it.
-use crate::shown::shown;
+use crate::shown::{show, show_refusal};
 use elf::endian::EndianParse;
-use elf::string_table::StringTable;
-use elf::symbol::SymbolTable;
 use elf::{CommonElfData, ElfBytes};
-use std::alloc::{AllocError, Global};
+use std::io;
 
 /// Which of the data there are, and what both hash sections find for the name.
-pub(crate) fn common_text<E: EndianParse>(
-    alloc: Global,
+pub(crate) fn show_common<E: EndianParse>(
+    rt: &HostRuntime,
     file: &ElfBytes<'_, E>,
     name: &[u8],
-) -> Result<String, AllocError> {
-    let common = match file.find_common_data() {
-        Ok(common) => common,
-        Err(error) => return format!(in alloc; "{error:?}, {error}"),
-    };
+) -> io::Result<()> {
+    match file.find_common_data() {
+        Ok(common) => {
+            show_there(rt, &common)?;
+            show_found(rt, &common, name)
+        }
+        Err(error) => show_refusal(rt, error),
+    }
+}
+
+fn show_there<E: EndianParse>(rt: &HostRuntime, common: &CommonElfData<'_, E>) -> io::Result<()> {
     let symtab = common.symtab.is_some();
     let dynsyms = common.dynsyms.is_some();
     let dynamic = common.dynamic.map(|table| table.len());
-    let found = found_text(alloc, &common, name)?;
-    format!(in alloc; "symtab {symtab} dynsyms {dynsyms} dynamic {dynamic:?}{found}")
+    print!(rt; "symtab {symtab} dynsyms {dynsyms} dynamic {dynamic:?}")
 }
 
-fn found_text<E: EndianParse>(
-    alloc: Global,
+fn show_found<E: EndianParse>(
+    rt: &HostRuntime,
     common: &CommonElfData<'_, E>,
     name: &[u8],
-) -> Result<String, AllocError> {
-    match (&common.dynsyms, &common.dynsyms_strs) {
-        (Some(symbols), Some(strings)) => both_text(alloc, common, symbols, strings, name),
-        _ => String::from_str(alloc, ""),
-    }
-}
-
-fn both_text<E: EndianParse>(
-    alloc: Global,
-    common: &CommonElfData<'_, E>,
-    symbols: &SymbolTable<'_, E>,
-    strings: &StringTable<'_>,
-    name: &[u8],
-) -> Result<String, AllocError> {
-    let mut text = String::new(alloc);
+) -> io::Result<()> {
+    let (Some(symbols), Some(strings)) = (&common.dynsyms, &common.dynsyms_strs) else {
+        return Ok(());
+    };
     if let Some(table) = &common.sysv_hash {
-        let found = shown(alloc, table.find(name, &*symbols, &*strings))?;
-        text.push_str("; sysv ")?;
-        text.push_str(found.as_str())?;
+        print!(rt; "; sysv ")?;
+        show(rt, table.find(name, &*symbols, &*strings))?;
     }
     if let Some(table) = &common.gnu_hash {
-        let found = shown(alloc, table.find(name, &*symbols, &*strings))?;
-        text.push_str("; gnu ")?;
-        text.push_str(found.as_str())?;
+        print!(rt; "; gnu ")?;
+        show(rt, table.find(name, &*symbols, &*strings))?;
     }
-    Ok(text)
+    Ok(())
 }

@@ -1,52 +1,61 @@
 //! File headers, and files that are opened.
-use crate::methods::{Given, method_text};
-use crate::records::items_text;
-use crate::shown::{class_of, shown};
+use crate::methods::{Given, show_method};
+use crate::records::show_items;
+use crate::shown::{show, show_refusal};
+use crate::words::{class_of, field_of};
+use elf::ElfBytes;
 use elf::endian::{AnyEndian, BigEndian, EndianParse, LittleEndian};
-use elf::file::{FileHeader, parse_ident};
+use elf::file::{Class, FileHeader, parse_ident};
 use elf::parse::{ParseAt, ParsingTable};
-use elf::{ElfBytes, ParseError};
+use elf::section::{SectionHeader, SectionHeaderTable};
+use elf::string_table::StringTable;
 use elf_rows::{RowError, bytes_of, change, file_bytes, number};
-use std::alloc::{AllocError, Global};
 use std::fmt::Debug;
+use std::io;
+use std::slice::Iter;
 
 /// `ident ORDER BYTES`: the identification. `tail ORDER CLASS BYTES`: the header of these bytes behind an
 /// identification with osabi 7 and abiversion 9.
-pub(crate) fn header_text(
-    rt: &HostRuntime,
-    kind: &str,
-    words: &[&str],
-) -> Result<String, RowError> {
-    let (order, rest) = words.split_first().ok_or(RowError::Form("no order"))?;
-    match *order {
-        "LittleEndian" => header_by::<LittleEndian>(rt, kind, rest, 1),
-        "BigEndian" => header_by::<BigEndian>(rt, kind, rest, 2),
-        "little" => header_by::<AnyEndian>(rt, kind, rest, 1),
-        _ => header_by::<AnyEndian>(rt, kind, rest, 2),
+pub(crate) fn show_header(rt: &HostRuntime, kind: &str, words: &[&str]) -> Result<(), RowError> {
+    let [order, between @ .., bytes] = words else {
+        return Err(RowError::Form("no header"));
+    };
+    let data = bytes_of(rt, *bytes)?;
+    let data = data.as_slice();
+    if kind == "ident" {
+        Ok(show_ident(rt, *order, data)?)
+    } else {
+        let [class] = between else {
+            return Err(RowError::Form("no class"));
+        };
+        Ok(show_tail(rt, *order, class_of(*class)?, data)?)
     }
 }
 
-fn header_by<E: EndianParse + Debug>(
-    rt: &HostRuntime,
-    kind: &str,
-    words: &[&str],
-    order: u8,
-) -> Result<String, RowError> {
-    let (bytes, before) = words.split_last().ok_or(RowError::Form("no bytes"))?;
-    let data = bytes_of(rt, *bytes)?;
-    match before.first() {
-        Some(class) if kind == "tail" => {
-            let class = class_of(*class)?;
-            match E::from_ei_data(order) {
-                Ok(order) => {
-                    let header = FileHeader::<E>::parse_tail((order, class, 7, 9), data.as_slice());
-                    Ok(shown(rt.alloc(), header)?)
-                }
-                Err(_) => Err(RowError::Form("no order")),
-            }
-        }
-        _ => Ok(shown(rt.alloc(), parse_ident::<E>(data.as_slice()))?),
+fn show_ident(rt: &HostRuntime, order: &str, data: &[u8]) -> io::Result<()> {
+    match order {
+        "LittleEndian" => show(rt, parse_ident::<LittleEndian>(data)),
+        "BigEndian" => show(rt, parse_ident::<BigEndian>(data)),
+        _ => show(rt, parse_ident::<AnyEndian>(data)),
     }
+}
+
+fn show_tail(rt: &HostRuntime, order: &str, class: Class, data: &[u8]) -> io::Result<()> {
+    match order {
+        "LittleEndian" => show_tail_by(rt, LittleEndian, class, data),
+        "BigEndian" => show_tail_by(rt, BigEndian, class, data),
+        "little" => show_tail_by(rt, AnyEndian::Little, class, data),
+        _ => show_tail_by(rt, AnyEndian::Big, class, data),
+    }
+}
+
+fn show_tail_by<E: EndianParse + Debug>(
+    rt: &HostRuntime,
+    order: E,
+    class: Class,
+    data: &[u8],
+) -> io::Result<()> {
+    show(rt, FileHeader::<E>::parse_tail((order, class, 7, 9), data))
 }
 
 /// `KIND ORDER FILE CHANGE.. : SET..`, where KIND is
@@ -56,55 +65,64 @@ fn header_by<E: EndianParse + Debug>(
 /// any other: what a method of the opened file answers.
 /// A SET, as `shstrndx=2`, changes a field of the header of the opened file, or, as `offset=52`, of the header made by
 /// hand that the method is asked with; `name=N` is the name that it is asked with.
-pub(crate) fn file_text(rt: &HostRuntime, kind: &str, words: &[&str]) -> Result<String, RowError> {
+pub(crate) fn show_file(rt: &HostRuntime, kind: &str, words: &[&str]) -> Result<(), RowError> {
     let [order, name, rest @ ..] = words else {
         return Err(RowError::Form("no file"));
     };
-    let data = file_bytes(rt, *name)?;
+    let mut rest = rest.iter();
+    let data = changed_bytes(rt, *name, &mut rest)?;
+    let data = data.as_slice();
     match *order {
-        "LittleEndian" => file_by::<LittleEndian>(rt.alloc(), kind, data, rest),
-        "BigEndian" => file_by::<BigEndian>(rt.alloc(), kind, data, rest),
-        _ => file_by::<AnyEndian>(rt.alloc(), kind, data, rest),
+        "LittleEndian" => show_file_by::<LittleEndian>(rt, kind, data, rest),
+        "BigEndian" => show_file_by::<BigEndian>(rt, kind, data, rest),
+        _ => show_file_by::<AnyEndian>(rt, kind, data, rest),
     }
 }
 
-fn file_by<E: EndianParse + Debug>(
-    alloc: Global,
-    kind: &str,
-    data: Vec<u8>,
-    words: &[&str],
-) -> Result<String, RowError> {
-    let mut data = data;
-    let mut changes = words.iter();
-    for word in &mut changes {
+/// The bytes of the small file with the changes up to the word `:`.
+fn changed_bytes(
+    rt: &HostRuntime,
+    name: &str,
+    changes: &mut Iter<'_, &str>,
+) -> Result<Vec<u8>, RowError> {
+    let mut data = file_bytes(rt, name)?;
+    for word in changes {
         if *word == ":" {
             break;
         }
-        change(&mut data, alloc, *word)?;
+        change(&mut data, rt.alloc(), *word)?;
     }
-    let mut file = match ElfBytes::<E>::minimal_parse(data.as_slice()) {
-        Ok(file) => file,
-        Err(error) => return Ok(format!(in alloc; "{error:?}, {error}")?),
-    };
-    let mut given = Given::default();
-    for word in changes {
-        let (field, value) = word
-            .split_once('=')
-            .ok_or(RowError::Form("a field without `=`"))?;
-        let is_done = set_field(&mut file.ehdr, field, value)? || field == "name";
-        given = given.with(is_done, field, value)?;
-    }
-    opened_text(alloc, kind, &file, given, name_given(words))
+    Ok(data)
 }
 
-/// The name that a method is asked with.
-fn name_given<'a>(words: &[&'a str]) -> &'a str {
-    for word in words {
-        if let Some(name) = word.strip_prefix("name=") {
-            return name;
+fn show_file_by<E: EndianParse + Debug>(
+    rt: &HostRuntime,
+    kind: &str,
+    data: &[u8],
+    sets: Iter<'_, &str>,
+) -> Result<(), RowError> {
+    match ElfBytes::<E>::minimal_parse(data) {
+        Ok(mut file) => {
+            let given = given_by(&mut file.ehdr, sets)?;
+            Ok(show_opened(rt, kind, &file, given)?)
+        }
+        Err(error) => Ok(show_refusal(rt, error)?),
+    }
+}
+
+/// What a method is asked with, after the fields of the file's header are set.
+fn given_by<'a, E: EndianParse>(
+    ehdr: &mut FileHeader<E>,
+    sets: Iter<'_, &'a str>,
+) -> Result<Given<'a>, RowError> {
+    let mut given = Given::none();
+    for set in sets {
+        let (field, value) = field_of(*set)?;
+        if !set_field(ehdr, field, value)? {
+            given.set(field, value)?;
         }
     }
-    ""
+    Ok(given)
 }
 
 /// Sets a field of the header, where there is one of this name.
@@ -114,19 +132,9 @@ fn set_field<E: EndianParse>(
     value: &str,
 ) -> Result<bool, RowError> {
     match field {
-        "class" => {
-            *ehdr = FileHeader {
-                class: class_of(value)?,
-                ..*ehdr
-            }
-        }
+        "class" => ehdr.class = class_of(value)?,
         "order" => match E::from_ei_data(number(value)?) {
-            Ok(endianness) => {
-                *ehdr = FileHeader {
-                    endianness,
-                    ..*ehdr
-                }
-            }
+            Ok(endianness) => ehdr.endianness = endianness,
             Err(_) => return Err(RowError::Form("no order")),
         },
         "shnum" => ehdr.e_shnum = number(value)?,
@@ -136,68 +144,69 @@ fn set_field<E: EndianParse>(
     Ok(true)
 }
 
-fn opened_text<E: EndianParse + Debug>(
-    alloc: Global,
+fn show_opened<E: EndianParse + Debug>(
+    rt: &HostRuntime,
     kind: &str,
     file: &ElfBytes<'_, E>,
-    given: Given,
-    name: &str,
-) -> Result<String, RowError> {
-    Ok(match kind {
-        "open" => counts_text(alloc, file)?,
-        "names" => names_text(alloc, file)?,
-        "file" => parts_text(alloc, file)?,
-        _ => return method_text(alloc, kind, file, given, name),
-    })
+    given: Given<'_>,
+) -> io::Result<()> {
+    match kind {
+        "open" => show_counts(rt, file),
+        "names" => show_names(rt, file),
+        "file" => show_parts(rt, file),
+        _ => show_method(rt, kind, file, given),
+    }
 }
 
-fn counts_text<E: EndianParse>(
-    alloc: Global,
-    file: &ElfBytes<'_, E>,
-) -> Result<String, AllocError> {
+fn show_counts<E: EndianParse>(rt: &HostRuntime, file: &ElfBytes<'_, E>) -> io::Result<()> {
     let sections = file.section_headers().map(|table| table.len());
     let segments = file.segments().map(|table| table.len());
-    format!(in alloc; "sections {sections:?} segments {segments:?}")
+    print!(rt; "sections {sections:?} segments {segments:?}")
 }
 
-fn parts_text<E: EndianParse + Debug>(
-    alloc: Global,
-    file: &ElfBytes<'_, E>,
-) -> Result<String, AllocError> {
-    let sections = table_text(alloc, file.section_headers())?;
-    let segments = table_text(alloc, file.segments())?;
-    format!(in alloc;
-        "\n  {:?}\n  sections {sections}\n  segments {segments}",
-        file.ehdr
-    )
+fn show_parts<E: EndianParse + Debug>(rt: &HostRuntime, file: &ElfBytes<'_, E>) -> io::Result<()> {
+    print!(rt; "\n  {:?}\n  sections ", file.ehdr)?;
+    show_table(rt, file.section_headers())?;
+    print!(rt; "\n  segments ")?;
+    show_table(rt, file.segments())
 }
 
-fn table_text<E: EndianParse, P: ParseAt + Debug + Drop>(
-    alloc: Global,
+fn show_table<E: EndianParse, P: ParseAt + Debug + Drop>(
+    rt: &HostRuntime,
     table: Option<ParsingTable<'_, E, P>>,
-) -> Result<String, AllocError> {
+) -> io::Result<()> {
     match table {
-        Some(table) => items_text(alloc, &table, table.len()),
-        None => String::from_str(alloc, "none"),
+        Some(table) => show_items(rt, &table, table.len()),
+        None => print!(rt; "none"),
     }
 }
 
 /// The names of the sections.
-fn names_text<E: EndianParse>(alloc: Global, file: &ElfBytes<'_, E>) -> Result<String, AllocError> {
-    let (sections, names) = match file.section_headers_with_strtab() {
-        Ok((Some(sections), Some(names))) => (sections, names),
+fn show_names<E: EndianParse>(rt: &HostRuntime, file: &ElfBytes<'_, E>) -> io::Result<()> {
+    match file.section_headers_with_strtab() {
+        Ok((Some(sections), Some(names))) => show_named(rt, &sections, &names),
         Ok((sections, names)) => {
             let (sections, names) = (sections.is_some(), names.is_some());
-            return format!(in alloc; "sections {sections} names {names}");
+            print!(rt; "sections {sections} names {names}")
         }
-        Err(error) => return format!(in alloc; "{error:?}, {error}"),
-    };
-    let length = sections.len();
-    let mut text = format!(in alloc; "of {length}")?;
-    for section in sections.iter() {
-        let name = shown(alloc, names.get(section.sh_name as usize))?;
-        text.push_str("; ")?;
-        text.push_str(name.as_str())?;
+        Err(error) => show_refusal(rt, error),
     }
-    Ok(text)
+}
+
+fn show_named<E: EndianParse>(
+    rt: &HostRuntime,
+    sections: &SectionHeaderTable<'_, E>,
+    names: &StringTable<'_>,
+) -> io::Result<()> {
+    let length = sections.len();
+    print!(rt; "of {length}")?;
+    for section in sections.iter() {
+        show_name(rt, &section, names)?;
+    }
+    Ok(())
+}
+
+fn show_name(rt: &HostRuntime, section: &SectionHeader, names: &StringTable<'_>) -> io::Result<()> {
+    print!(rt; "; ")?;
+    show(rt, names.get(section.sh_name as usize))
 }

@@ -1,8 +1,8 @@
 //! The answers of an opened file.
-use crate::common::common_text;
-use crate::notes::each_text;
-use crate::records::items_text;
-use crate::shown::shown;
+use crate::common::show_common;
+use crate::notes::show_each;
+use crate::records::show_items;
+use crate::shown::{show, show_lines, show_refusal};
 use elf::endian::EndianParse;
 use elf::note::NoteIterator;
 use elf::parse::{ParseAt, ParsingIterator, ParsingTable};
@@ -12,12 +12,13 @@ use elf::string_table::StringTable;
 use elf::symbol::{Symbol, SymbolTable};
 use elf::{ElfBytes, ParseError};
 use elf_rows::{RowError, number};
-use std::alloc::{AllocError, Global};
 use std::fmt::Debug;
+use std::io;
 
-/// The fields of a header made by hand, which a call is asked with.
-#[derive(Clone, Copy, Default)]
-pub(crate) struct Given {
+/// What a call is asked with: a name, and the fields of a header made by hand.
+#[derive(Clone, Copy)]
+pub(crate) struct Given<'a> {
+    name: &'a str,
     kind: u32,
     flags: u64,
     offset: u64,
@@ -25,35 +26,31 @@ pub(crate) struct Given {
     align: u64,
 }
 
-impl Given {
-    /// The same with another field, unless the word was for the file.
-    pub(crate) fn with(self, is_done: bool, field: &str, value: &str) -> Result<Given, RowError> {
-        if is_done {
-            return Ok(self);
+impl<'a> Given<'a> {
+    /// The empty name, and a header whose fields are all 0.
+    pub(crate) fn none() -> Given<'a> {
+        Given {
+            name: "",
+            kind: 0,
+            flags: 0,
+            offset: 0,
+            size: 0,
+            align: 0,
         }
-        Ok(match field {
-            "type" => Given {
-                kind: number(value)?,
-                ..self
-            },
-            "flags" => Given {
-                flags: number(value)?,
-                ..self
-            },
-            "offset" => Given {
-                offset: number(value)?,
-                ..self
-            },
-            "size" => Given {
-                size: number(value)?,
-                ..self
-            },
-            "align" => Given {
-                align: number(value)?,
-                ..self
-            },
+    }
+
+    /// Puts a value in the place of a field.
+    pub(crate) fn set(&mut self, field: &str, value: &'a str) -> Result<(), RowError> {
+        match field {
+            "name" => self.name = value,
+            "type" => self.kind = number(value)?,
+            "flags" => self.flags = number(value)?,
+            "offset" => self.offset = number(value)?,
+            "size" => self.size = number(value)?,
+            "align" => self.align = number(value)?,
             _ => return Err(RowError::Form("no such field")),
-        })
+        }
+        Ok(())
     }
 
     fn section(self) -> SectionHeader {
@@ -86,105 +83,107 @@ impl Given {
 }
 
 /// What a method of the file answers.
-pub(crate) fn method_text<E: EndianParse + Debug>(
-    alloc: Global,
+pub(crate) fn show_method<E: EndianParse>(
+    rt: &HostRuntime,
     kind: &str,
     file: &ElfBytes<'_, E>,
-    given: Given,
-    name: &str,
-) -> Result<String, RowError> {
-    let shdr = given.section();
-    Ok(match kind {
-        "by_name" => shown(alloc, file.section_header_by_name(name))?,
-        "data" => shown(alloc, file.section_data(&shdr))?,
-        "strings" => strings_text(alloc, file.section_data_as_strtab(&shdr))?,
-        "rels" => list_text(alloc, file.section_data_as_rels(&shdr))?,
-        "relas" => list_text(alloc, file.section_data_as_relas(&shdr))?,
-        "segment" => shown(alloc, file.segment_data(&given.segment()))?,
-        "symbols" => symbols_text(alloc, file.symbol_table())?,
-        "dynsyms" => symbols_text(alloc, file.dynamic_symbol_table())?,
-        "dynamic" => table_text(alloc, file.dynamic())?,
-        "section_notes" => notes_of(alloc, file.section_data_as_notes(&shdr))?,
-        "segment_notes" => notes_of(alloc, file.segment_data_as_notes(&given.segment()))?,
-        "common" => common_text(alloc, file, name.as_bytes())?,
-        _ => return Err(RowError::Form("no such call")),
-    })
+    given: Given<'_>,
+) -> io::Result<()> {
+    match kind {
+        "by_name" => show(rt, file.section_header_by_name(given.name)),
+        "symbols" => show_symbols(rt, file.symbol_table()),
+        "dynsyms" => show_symbols(rt, file.dynamic_symbol_table()),
+        "dynamic" => show_table(rt, file.dynamic()),
+        "common" => show_common(rt, file, given.name.as_bytes()),
+        "segment" => show(rt, file.segment_data(&given.segment())),
+        "segment_notes" => show_notes(rt, file.segment_data_as_notes(&given.segment())),
+        _ => show_section(rt, kind, file, given.section()),
+    }
 }
 
-fn strings_text(
-    alloc: Global,
-    answer: Result<StringTable<'_>, ParseError>,
-) -> Result<String, AllocError> {
+fn show_section<E: EndianParse>(
+    rt: &HostRuntime,
+    kind: &str,
+    file: &ElfBytes<'_, E>,
+    shdr: SectionHeader,
+) -> io::Result<()> {
+    match kind {
+        "data" => show(rt, file.section_data(&shdr)),
+        "strings" => show_strings(rt, file.section_data_as_strtab(&shdr)),
+        "rels" => show_list(rt, file.section_data_as_rels(&shdr)),
+        "relas" => show_list(rt, file.section_data_as_relas(&shdr)),
+        "section_notes" => show_notes(rt, file.section_data_as_notes(&shdr)),
+        _ => print!(rt; "no such call"),
+    }
+}
+
+fn show_strings(rt: &HostRuntime, answer: Result<StringTable<'_>, ParseError>) -> io::Result<()> {
     match answer {
         Ok(strings) => {
-            let first = shown(alloc, strings.get_raw(0))?;
-            let second = shown(alloc, strings.get_raw(1))?;
-            format!(in alloc; "{first}; {second}")
+            show(rt, strings.get_raw(0))?;
+            print!(rt; "; ")?;
+            show(rt, strings.get_raw(1))
         }
-        Err(error) => format!(in alloc; "{error:?}, {error}"),
+        Err(error) => show_refusal(rt, error),
     }
 }
 
-fn notes_of<E: EndianParse>(
-    alloc: Global,
+fn show_notes<E: EndianParse>(
+    rt: &HostRuntime,
     answer: Result<NoteIterator<'_, E>, ParseError>,
-) -> Result<String, AllocError> {
+) -> io::Result<()> {
     match answer {
-        Ok(notes) => each_text(alloc, notes),
-        Err(error) => format!(in alloc; "{error:?}, {error}"),
+        Ok(notes) => show_each(rt, notes),
+        Err(error) => show_refusal(rt, error),
     }
 }
 
-fn list_text<E: EndianParse, P: ParseAt + Debug + Drop>(
-    alloc: Global,
+fn show_list<E: EndianParse, P: ParseAt + Debug + Drop>(
+    rt: &HostRuntime,
     answer: Result<ParsingIterator<'_, E, P>, ParseError>,
-) -> Result<String, AllocError> {
-    let items = match answer {
-        Ok(items) => items,
-        Err(error) => return format!(in alloc; "{error:?}, {error}"),
-    };
-    let mut text = String::new(alloc);
-    for item in items {
-        let line = format!(in alloc; "\n    {item:?}")?;
-        text.push_str(line.as_str())?;
-    }
-    Ok(text)
-}
-
-fn symbols_text<E: EndianParse>(
-    alloc: Global,
-    answer: Result<Option<(SymbolTable<'_, E>, StringTable<'_>)>, ParseError>,
-) -> Result<String, AllocError> {
-    let (symbols, strings) = match answer {
-        Ok(Some(both)) => both,
-        Ok(None) => return String::from_str(alloc, "none"),
-        Err(error) => return format!(in alloc; "{error:?}, {error}"),
-    };
-    let length = symbols.len();
-    let mut text = format!(in alloc; "{length}")?;
-    for symbol in symbols.iter() {
-        let line = symbol_text(alloc, &symbol, &strings)?;
-        text.push_str(line.as_str())?;
-    }
-    Ok(text)
-}
-
-fn symbol_text(
-    alloc: Global,
-    symbol: &Symbol,
-    strings: &StringTable<'_>,
-) -> Result<String, AllocError> {
-    let name = shown(alloc, strings.get_raw(symbol.st_name as usize))?;
-    format!(in alloc; "\n    {symbol:?} {name}")
-}
-
-fn table_text<E: EndianParse, P: ParseAt + Debug + Drop>(
-    alloc: Global,
-    answer: Result<Option<ParsingTable<'_, E, P>>, ParseError>,
-) -> Result<String, AllocError> {
+) -> io::Result<()> {
     match answer {
-        Ok(Some(table)) => items_text(alloc, &table, table.len()),
-        Ok(None) => String::from_str(alloc, "none"),
-        Err(error) => format!(in alloc; "{error:?}, {error}"),
+        Ok(items) => show_lines(rt, items),
+        Err(error) => show_refusal(rt, error),
+    }
+}
+
+fn show_symbols<E: EndianParse>(
+    rt: &HostRuntime,
+    answer: Result<Option<(SymbolTable<'_, E>, StringTable<'_>)>, ParseError>,
+) -> io::Result<()> {
+    match answer {
+        Ok(Some((symbols, strings))) => show_named(rt, &symbols, &strings),
+        Ok(None) => print!(rt; "none"),
+        Err(error) => show_refusal(rt, error),
+    }
+}
+
+fn show_named<E: EndianParse>(
+    rt: &HostRuntime,
+    symbols: &SymbolTable<'_, E>,
+    strings: &StringTable<'_>,
+) -> io::Result<()> {
+    let length = symbols.len();
+    print!(rt; "{length}")?;
+    for symbol in symbols.iter() {
+        show_symbol(rt, &symbol, strings)?;
+    }
+    Ok(())
+}
+
+fn show_symbol(rt: &HostRuntime, symbol: &Symbol, strings: &StringTable<'_>) -> io::Result<()> {
+    print!(rt; "\n    {symbol:?} ")?;
+    show(rt, strings.get_raw(symbol.st_name as usize))
+}
+
+fn show_table<E: EndianParse, P: ParseAt + Debug + Drop>(
+    rt: &HostRuntime,
+    answer: Result<Option<ParsingTable<'_, E, P>>, ParseError>,
+) -> io::Result<()> {
+    match answer {
+        Ok(Some(table)) => show_items(rt, &table, table.len()),
+        Ok(None) => print!(rt; "none"),
+        Err(error) => show_refusal(rt, error),
     }
 }

@@ -2,20 +2,23 @@
 use elf::to_str;
 use elf_rows::{RowError, number};
 use std::alloc::{AllocError, Global};
+use std::io;
 
 /// `values KIND FROM TO`: each value from FROM to TO that has a name, and the name.
-pub(crate) fn names_text(alloc: Global, words: &[&str]) -> Result<String, RowError> {
+pub(crate) fn show_names(rt: &HostRuntime, words: &[&str]) -> Result<(), RowError> {
     let [kind, from, to] = words else {
         return Err(RowError::Form("no values"));
     };
-    let mut text = String::new(alloc);
-    for value in number(*from)?..=number(*to)? {
-        if let Some(name) = name_of(*kind, value) {
-            let line = format!(in alloc; "\n  {value} {name}")?;
-            text.push_str(line.as_str())?;
+    Ok(show_names_between(rt, *kind, number(*from)?, number(*to)?)?)
+}
+
+fn show_names_between(rt: &HostRuntime, kind: &str, from: i64, to: i64) -> io::Result<()> {
+    for value in from..=to {
+        if let Some(name) = name_of(kind, value) {
+            print!(rt; "\n  {value} {name}")?;
         }
     }
-    Ok(text)
+    Ok(())
 }
 
 fn name_of(kind: &str, value: i64) -> Option<&'static str> {
@@ -60,18 +63,22 @@ fn word_name(kind: &str, value: u32) -> Option<&'static str> {
 }
 
 /// `text KIND VALUE`: the value's name, or else its number.
-pub(crate) fn value_text(alloc: Global, words: &[&str]) -> Result<String, RowError> {
+pub(crate) fn show_value(rt: &HostRuntime, words: &[&str]) -> Result<(), RowError> {
     let [kind, value] = words else {
         return Err(RowError::Form("no value"));
     };
-    let text = match *kind {
-        "e_osabi" | "st_symtype" | "st_bind" | "st_vis" => byte_text(alloc, *kind, number(*value)?),
-        "e_type" => to_str::e_type_to_string(alloc, number(*value)?),
-        "e_machine" => to_str::e_machine_to_string(alloc, number(*value)?),
-        _ => word_text(alloc, *kind, number(*value)?),
+    let text = value_text(rt.alloc(), *kind, *value)?;
+    Ok(print!(rt; "{text:?}")?)
+}
+
+fn value_text(alloc: Global, kind: &str, value: &str) -> Result<String, RowError> {
+    let text = match kind {
+        "e_osabi" | "st_symtype" | "st_bind" | "st_vis" => byte_text(alloc, kind, number(value)?),
+        "e_type" => to_str::e_type_to_string(alloc, number(value)?),
+        "e_machine" => to_str::e_machine_to_string(alloc, number(value)?),
+        _ => word_text(alloc, kind, number(value)?),
     };
-    let text = text?;
-    Ok(format!(in alloc; "{text:?}")?)
+    Ok(text?)
 }
 
 fn byte_text(alloc: Global, kind: &str, value: u8) -> Result<String, AllocError> {

@@ -1,39 +1,38 @@
 //! Notes.
-use crate::shown::{class_of, order_of, shown};
+use crate::shown::show;
+use crate::words::{class_of, order_of};
 use elf::endian::EndianParse;
 use elf_parts::note::{Note, NoteIterator};
 use elf_rows::{RowError, bytes_of, number};
-use std::alloc::{AllocError, Global};
+use std::io;
 
 /// `notes ORDER CLASS ALIGNMENT BYTES`: the notes, those of no known kind with their names as text.
-pub(crate) fn notes_text(rt: &HostRuntime, words: &[&str]) -> Result<String, RowError> {
+pub(crate) fn show_notes(rt: &HostRuntime, words: &[&str]) -> Result<(), RowError> {
     let [order, class, align, bytes] = words else {
         return Err(RowError::Form("no notes"));
     };
-    let data = bytes_of(rt, *bytes)?;
     let order = order_of(*order)?;
-    let notes = NoteIterator::new(order, class_of(*class)?, number(*align)?, data.as_slice());
-    Ok(each_text(rt.alloc(), notes)?)
+    let class = class_of(*class)?;
+    let align = number(*align)?;
+    let data = bytes_of(rt, *bytes)?;
+    Ok(show_each(rt, NoteIterator::new(order, class, align, data.as_slice()))?)
 }
 
-pub(crate) fn each_text<E: EndianParse>(
-    alloc: Global,
+pub(crate) fn show_each<E: EndianParse>(
+    rt: &HostRuntime,
     notes: NoteIterator<'_, E>,
-) -> Result<String, AllocError> {
-    let mut text = String::new(alloc);
+) -> io::Result<()> {
     for note in notes {
-        let line = note_text(alloc, &note)?;
-        text.push_str(line.as_str())?;
+        show_note(rt, &note)?;
     }
-    Ok(text)
+    Ok(())
 }
 
-fn note_text(alloc: Global, note: &Note<'_>) -> Result<String, AllocError> {
-    match note {
-        Note::Unknown(any) => {
-            let name = shown(alloc, any.name_str())?;
-            format!(in alloc; "\n    {note:?} {name}")
-        }
-        _ => format!(in alloc; "\n    {note:?}"),
+fn show_note(rt: &HostRuntime, note: &Note<'_>) -> io::Result<()> {
+    print!(rt; "\n    {note:?}")?;
+    if let Note::Unknown(any) = note {
+        print!(rt; " ")?;
+        show(rt, any.name_str())?;
     }
+    Ok(())
 }

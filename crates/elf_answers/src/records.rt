@@ -1,5 +1,7 @@
 //! Records, and tables of them.
-use crate::shown::{class_of, order_of, shown};
+use crate::shown::{show, show_lines, show_refusal};
+use crate::words::{class_of, order_of};
+use elf::ParseError;
 use elf::compression::CompressionHeader;
 use elf::dynamic::Dyn;
 use elf::endian::{AnyEndian, EndianParse};
@@ -13,15 +15,15 @@ use elf_parts::gnu_symver::{VerDef, VerDefAux, VerNeed, VerNeedAux, VersionIndex
 use elf_parts::hash::{GnuHashHeader, SysVHashHeader};
 use elf_parts::note::NoteGnuAbiTag;
 use elf_rows::{RowError, bytes_of, number};
-use std::alloc::{AllocError, Global};
 use std::fmt::Debug;
+use std::io;
 
 /// `record KIND ORDER CLASS ASKED NUMBER BYTES`, where ASKED is
 /// `at`: the record at this offset, and the offset afterwards;
 /// `get`: the length of the table of the bytes, and its item with this index;
 /// `items`: the length of the table, and so many of its items at most;
 /// `size`: the size of a record, and whether the number is taken for it.
-pub(crate) fn record_text(rt: &HostRuntime, words: &[&str]) -> Result<String, RowError> {
+pub(crate) fn show_record(rt: &HostRuntime, words: &[&str]) -> Result<(), RowError> {
     let [kind, order, class, asked, n, bytes] = words else {
         return Err(RowError::Form("no record"));
     };
@@ -36,7 +38,7 @@ pub(crate) fn record_text(rt: &HostRuntime, words: &[&str]) -> Result<String, Ro
         n,
         data: data.as_slice(),
     };
-    kind_text(rt.alloc(), *kind, asked)
+    Ok(show_kind(rt, *kind, asked)?)
 }
 
 /// What a row asks of a kind of records.
@@ -49,97 +51,89 @@ struct Asked<'a> {
     data: &'a [u8],
 }
 
-fn kind_text(alloc: Global, kind: &str, asked: Asked<'_>) -> Result<String, RowError> {
-    Ok(match kind {
-        "SectionHeader" => text_of::<SectionHeader>(alloc, asked)?,
-        "ProgramHeader" => text_of::<ProgramHeader>(alloc, asked)?,
-        "Symbol" => text_of::<Symbol>(alloc, asked)?,
-        "Rel" => text_of::<Rel>(alloc, asked)?,
-        "Rela" => text_of::<Rela>(alloc, asked)?,
-        "Dyn" => text_of::<Dyn>(alloc, asked)?,
-        "CompressionHeader" => text_of::<CompressionHeader>(alloc, asked)?,
-        _ => return small_kind_text(alloc, kind, asked),
-    })
+fn show_kind(rt: &HostRuntime, kind: &str, asked: Asked<'_>) -> io::Result<()> {
+    match kind {
+        "SectionHeader" => show_of::<SectionHeader>(rt, asked),
+        "ProgramHeader" => show_of::<ProgramHeader>(rt, asked),
+        "Symbol" => show_of::<Symbol>(rt, asked),
+        "Rel" => show_of::<Rel>(rt, asked),
+        "Rela" => show_of::<Rela>(rt, asked),
+        "Dyn" => show_of::<Dyn>(rt, asked),
+        "CompressionHeader" => show_of::<CompressionHeader>(rt, asked),
+        _ => show_small_kind(rt, kind, asked),
+    }
 }
 
-fn small_kind_text(alloc: Global, kind: &str, asked: Asked<'_>) -> Result<String, RowError> {
-    Ok(match kind {
-        "u32" => text_of::<u32>(alloc, asked)?,
-        "u64" => text_of::<u64>(alloc, asked)?,
-        "VersionIndex" => text_of::<VersionIndex>(alloc, asked)?,
-        "VerDef" => text_of::<VerDef>(alloc, asked)?,
-        "VerDefAux" => text_of::<VerDefAux>(alloc, asked)?,
-        "VerNeed" => text_of::<VerNeed>(alloc, asked)?,
-        "VerNeedAux" => text_of::<VerNeedAux>(alloc, asked)?,
-        "SysVHashHeader" => text_of::<SysVHashHeader>(alloc, asked)?,
-        "GnuHashHeader" => text_of::<GnuHashHeader>(alloc, asked)?,
-        "NoteGnuAbiTag" => text_of::<NoteGnuAbiTag>(alloc, asked)?,
-        _ => return Err(RowError::Form("no such record")),
-    })
+fn show_small_kind(rt: &HostRuntime, kind: &str, asked: Asked<'_>) -> io::Result<()> {
+    match kind {
+        "u32" => show_of::<u32>(rt, asked),
+        "u64" => show_of::<u64>(rt, asked),
+        "VersionIndex" => show_of::<VersionIndex>(rt, asked),
+        "VerDef" => show_of::<VerDef>(rt, asked),
+        "VerDefAux" => show_of::<VerDefAux>(rt, asked),
+        "VerNeed" => show_of::<VerNeed>(rt, asked),
+        "VerNeedAux" => show_of::<VerNeedAux>(rt, asked),
+        "SysVHashHeader" => show_of::<SysVHashHeader>(rt, asked),
+        "GnuHashHeader" => show_of::<GnuHashHeader>(rt, asked),
+        "NoteGnuAbiTag" => show_of::<NoteGnuAbiTag>(rt, asked),
+        _ => print!(rt; "no such record"),
+    }
 }
 
-fn text_of<P: ParseAt + Debug + Drop>(
-    alloc: Global,
-    asked: Asked<'_>,
-) -> Result<String, AllocError> {
+fn show_of<P: ParseAt + Debug + Drop>(rt: &HostRuntime, asked: Asked<'_>) -> io::Result<()> {
     match asked.asked {
-        "at" => at_text::<P>(alloc, asked),
-        "size" => size_text::<P>(alloc, asked),
+        "at" => show_at::<P>(rt, asked),
+        "size" => show_size::<P>(rt, asked),
         word => {
             let table = ParsingTable::<'_, AnyEndian, P>::new(asked.order, asked.class, asked.data);
             if word == "get" {
-                get_text(alloc, &table, asked.n)
+                show_item(rt, &table, asked.n)
             } else {
-                items_text(alloc, &table, asked.n)
+                show_items(rt, &table, asked.n)
             }
         }
     }
 }
 
-fn at_text<P: ParseAt + Debug + Drop>(
-    alloc: Global,
-    asked: Asked<'_>,
-) -> Result<String, AllocError> {
+fn show_at<P: ParseAt + Debug + Drop>(rt: &HostRuntime, asked: Asked<'_>) -> io::Result<()> {
     let mut offset = asked.n;
-    let record = P::parse_at(asked.order, asked.class, &mut offset, asked.data);
-    let text = shown(alloc, record)?;
-    format!(in alloc; "{text} offset {offset}")
+    show(
+        rt,
+        P::parse_at(asked.order, asked.class, &mut offset, asked.data),
+    )?;
+    print!(rt; " offset {offset}")
 }
 
-fn size_text<P: ParseAt>(alloc: Global, asked: Asked<'_>) -> Result<String, AllocError> {
+fn show_size<P: ParseAt>(rt: &HostRuntime, asked: Asked<'_>) -> io::Result<()> {
     let size = P::size_for(asked.class);
-    let text = shown(alloc, P::validate_entsize(asked.class, asked.n))?;
-    format!(in alloc; "{size}; {text}")
+    print!(rt; "{size}; ")?;
+    show(rt, P::validate_entsize(asked.class, asked.n))
 }
 
-fn get_text<P: ParseAt + Debug + Drop>(
-    alloc: Global,
+fn show_item<P: ParseAt + Debug + Drop>(
+    rt: &HostRuntime,
     table: &ParsingTable<'_, AnyEndian, P>,
     index: usize,
-) -> Result<String, AllocError> {
+) -> io::Result<()> {
     let length = table.len();
-    let text = shown(alloc, table.get(index))?;
-    format!(in alloc; "of {length} {text}")
+    print!(rt; "of {length} ")?;
+    show(rt, table.get(index))
 }
 
 /// How many records a table says that it has, and those that it gives.
-pub(crate) fn items_text<E: EndianParse, P: ParseAt + Debug + Drop>(
-    alloc: Global,
+pub(crate) fn show_items<E: EndianParse, P: ParseAt + Debug + Drop>(
+    rt: &HostRuntime,
     table: &ParsingTable<'_, E, P>,
     most: usize,
-) -> Result<String, AllocError> {
+) -> io::Result<()> {
     let length = table.len();
     let is_empty = table.is_empty();
-    let mut text = format!(in alloc; "{length} empty {is_empty}")?;
-    for item in table.iter().take(most) {
-        let line = format!(in alloc; "\n    {item:?}")?;
-        text.push_str(line.as_str())?;
-    }
-    Ok(text)
+    print!(rt; "{length} empty {is_empty}")?;
+    show_lines(rt, table.iter().take(most))
 }
 
 /// `parts KIND ORDER CLASS BYTES`: what the record at the front of the bytes tells of itself.
-pub(crate) fn parts_text(rt: &HostRuntime, words: &[&str]) -> Result<String, RowError> {
+pub(crate) fn show_parts(rt: &HostRuntime, words: &[&str]) -> Result<(), RowError> {
     let [kind, order, class, bytes] = words else {
         return Err(RowError::Form("no parts"));
     };
@@ -147,52 +141,37 @@ pub(crate) fn parts_text(rt: &HostRuntime, words: &[&str]) -> Result<String, Row
     let class = class_of(*class)?;
     let data = bytes_of(rt, *bytes)?;
     let data = data.as_slice();
-    let text = match *kind {
-        "Symbol" => symbol_text(rt.alloc(), order, class, data)?,
-        "Dyn" => dyn_text(rt.alloc(), order, class, data)?,
-        _ => index_text(rt.alloc(), order, class, data)?,
+    let shown = match *kind {
+        "Symbol" => show_symbol(rt, Symbol::parse_at(order, class, &mut 0, data)),
+        "Dyn" => show_entry(rt, Dyn::parse_at(order, class, &mut 0, data)),
+        _ => show_index(rt, VersionIndex::parse_at(order, class, &mut 0, data)),
     };
-    Ok(text)
+    Ok(shown?)
 }
 
-fn symbol_text(
-    alloc: Global,
-    order: AnyEndian,
-    class: Class,
-    data: &[u8],
-) -> Result<String, AllocError> {
-    match Symbol::parse_at(order, class, &mut 0, data) {
+fn show_symbol(rt: &HostRuntime, answer: Result<Symbol, ParseError>) -> io::Result<()> {
+    match answer {
         Ok(symbol) => {
             let undefined = symbol.is_undefined();
             let (kind, bind, vis) = (symbol.st_symtype(), symbol.st_bind(), symbol.st_vis());
-            format!(in alloc; "undefined {undefined} type {kind} bind {bind} vis {vis}")
+            print!(rt; "undefined {undefined} type {kind} bind {bind} vis {vis}")
         }
-        Err(error) => format!(in alloc; "{error:?}, {error}"),
+        Err(error) => show_refusal(rt, error),
     }
 }
 
-fn dyn_text(
-    alloc: Global,
-    order: AnyEndian,
-    class: Class,
-    data: &[u8],
-) -> Result<String, AllocError> {
-    match Dyn::parse_at(order, class, &mut 0, data) {
+fn show_entry(rt: &HostRuntime, answer: Result<Dyn, ParseError>) -> io::Result<()> {
+    match answer {
         Ok(entry) => {
             let (tag, value, address) = (entry.d_tag, entry.d_val(), entry.d_ptr());
-            format!(in alloc; "tag {tag} val {value} ptr {address}")
+            print!(rt; "tag {tag} val {value} ptr {address}")
         }
-        Err(error) => format!(in alloc; "{error:?}, {error}"),
+        Err(error) => show_refusal(rt, error),
     }
 }
 
-fn index_text(
-    alloc: Global,
-    order: AnyEndian,
-    class: Class,
-    data: &[u8],
-) -> Result<String, AllocError> {
-    match VersionIndex::parse_at(order, class, &mut 0, data) {
+fn show_index(rt: &HostRuntime, answer: Result<VersionIndex, ParseError>) -> io::Result<()> {
+    match answer {
         Ok(version) => {
             let index = version.index();
             let (local, global, hidden) = (
@@ -200,8 +179,8 @@ fn index_text(
                 version.is_global(),
                 version.is_hidden(),
             );
-            format!(in alloc; "index {index} local {local} global {global} hidden {hidden}")
+            print!(rt; "index {index} local {local} global {global} hidden {hidden}")
         }
-        Err(error) => format!(in alloc; "{error:?}, {error}"),
+        Err(error) => show_refusal(rt, error),
     }
 }

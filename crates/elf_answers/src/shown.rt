@@ -1,34 +1,35 @@
-//! Answers as text, and the words for orders and classes.
+//! Answers as they are shown.
+ghost use Rattle.std.specs.Iterator.{IsFinite};
+
 use elf::ParseError;
-use elf::endian::AnyEndian;
-use elf::file::Class;
-use elf_rows::RowError;
-use std::alloc::{AllocError, Global};
 use std::fmt::Debug;
+use std::io;
 
 /// An answer, or a refusal and its text.
-pub(crate) fn shown<T: Debug + Drop>(
-    alloc: Global,
+pub(crate) fn show<T: Debug + Drop>(
+    rt: &HostRuntime,
     answer: Result<T, ParseError>,
-) -> Result<String, AllocError> {
+) -> io::Result<()> {
     match answer {
-        Ok(value) => format!(in alloc; "{value:?}"),
-        Err(error) => format!(in alloc; "{error:?}, {error}"),
+        Ok(value) => print!(rt; "{value:?}"),
+        Err(error) => show_refusal(rt, error),
     }
 }
 
-pub(crate) fn class_of(word: &str) -> Result<Class, RowError> {
-    match word {
-        "32" => Ok(Class::ELF32),
-        "64" => Ok(Class::ELF64),
-        _ => Err(RowError::Form("no class")),
-    }
+/// A refusal and its text.
+pub(crate) fn show_refusal(rt: &HostRuntime, error: ParseError) -> io::Result<()> {
+    print!(rt; "{error:?}, {error}")
 }
 
-pub(crate) fn order_of(word: &str) -> Result<AnyEndian, RowError> {
-    match word {
-        "little" => Ok(AnyEndian::Little),
-        "big" => Ok(AnyEndian::Big),
-        _ => Err(RowError::Form("no order")),
+/// Each item on a line of its own.
+pub(crate) fn show_lines<I: Iterator + Drop>(rt: &HostRuntime, items: I) -> io::Result<()>
+where
+    I::Item: Debug + Drop,
+    requires can { I.can_next items }
+    requires finite { IsFinite (I.remaining items) }
+{
+    for item in items {
+        print!(rt; "\n    {item:?}")?;
     }
+    Ok(())
 }

@@ -1,17 +1,21 @@
 //! Tables of strings.
-use crate::shown::shown;
+use crate::shown::show;
 use elf::string_table::StringTable;
 use elf_rows::{RowError, bytes_of, number};
+use std::io;
 
 /// `string OFFSET BYTES`: the bytes of the string, and its text.
-pub(crate) fn string_text(rt: &HostRuntime, words: &[&str]) -> Result<String, RowError> {
+pub(crate) fn show_string(rt: &HostRuntime, words: &[&str]) -> Result<(), RowError> {
     let [offset, bytes] = words else {
         return Err(RowError::Form("no string"));
     };
     let offset = number(*offset)?;
     let data = bytes_of(rt, *bytes)?;
-    let strings = StringTable::new(data.as_slice());
-    let raw = shown(rt.alloc(), strings.get_raw(offset))?;
-    let text = shown(rt.alloc(), strings.get(offset))?;
-    Ok(format!(in rt.alloc(); "{raw}; {text}")?)
+    Ok(show_both(rt, StringTable::new(data.as_slice()), offset)?)
+}
+
+fn show_both(rt: &HostRuntime, strings: StringTable<'_>, offset: usize) -> io::Result<()> {
+    show(rt, strings.get_raw(offset))?;
+    print!(rt; "; ")?;
+    show(rt, strings.get(offset))
 }

@@ -1,16 +1,21 @@
 //! Records of symbol versions, and the versions of symbols.
-use crate::shown::{class_of, order_of, shown};
+ghost use Rattle.std.specs.Iterator.{IsFinite};
+
+use crate::shown::{show, show_refusal};
+use crate::words::{bytes_of_each, class_of, order_of};
 use elf::ParseError;
 use elf::endian::{AnyEndian, EndianParse};
+use elf::file::Class;
 use elf::string_table::StringTable;
 use elf_parts::gnu_symver::{
     SymbolDefinition, SymbolVersionTable, VerDefIterator, VerNeedIterator, VersionIndexTable,
 };
 use elf_rows::{RowError, bytes_of, number};
-use std::alloc::{AllocError, Global};
+use std::fmt::Debug;
+use std::io;
 
 /// `linked KIND ORDER CLASS COUNT START BYTES`: the linked records, each with its auxiliary ones.
-pub(crate) fn linked_text(rt: &HostRuntime, words: &[&str]) -> Result<String, RowError> {
+pub(crate) fn show_linked(rt: &HostRuntime, words: &[&str]) -> Result<(), RowError> {
     let [kind, order, class, count, start, bytes] = words else {
         return Err(RowError::Form("no records"));
     };
@@ -20,86 +25,83 @@ pub(crate) fn linked_text(rt: &HostRuntime, words: &[&str]) -> Result<String, Ro
     let start = number(*start)?;
     let data = bytes_of(rt, *bytes)?;
     let data = data.as_slice();
-    Ok(match *kind {
-        "VerDef" => definitions_text(
-            rt.alloc(),
-            VerDefIterator::new(order, class, count, start, data),
-        )?,
-        _ => needs_text(
-            rt.alloc(),
-            VerNeedIterator::new(order, class, count, start, data),
-        )?,
-    })
+    let shown = if *kind == "VerDef" {
+        show_definitions(rt, VerDefIterator::new(order, class, count, start, data))
+    } else {
+        show_needs(rt, VerNeedIterator::new(order, class, count, start, data))
+    };
+    Ok(shown?)
 }
 
-fn definitions_text(
-    alloc: Global,
-    records: VerDefIterator<'_, AnyEndian>,
-) -> Result<String, AllocError> {
-    let mut text = String::new(alloc);
+fn show_definitions(rt: &HostRuntime, records: VerDefIterator<'_, AnyEndian>) -> io::Result<()> {
     for (record, names) in records {
-        let line = format!(in alloc; "\n    {record:?}")?;
-        text.push_str(line.as_str())?;
-        for name in names {
-            let line = format!(in alloc; " {name:?}")?;
-            text.push_str(line.as_str())?;
-        }
+        print!(rt; "\n    {record:?}")?;
+        show_each(rt, names)?;
     }
-    Ok(text)
+    Ok(())
 }
 
-fn needs_text(
-    alloc: Global,
-    records: VerNeedIterator<'_, AnyEndian>,
-) -> Result<String, AllocError> {
-    let mut text = String::new(alloc);
+fn show_needs(rt: &HostRuntime, records: VerNeedIterator<'_, AnyEndian>) -> io::Result<()> {
     for (record, versions) in records {
-        let line = format!(in alloc; "\n    {record:?}")?;
-        text.push_str(line.as_str())?;
-        for version in versions {
-            let line = format!(in alloc; " {version:?}")?;
-            text.push_str(line.as_str())?;
-        }
+        print!(rt; "\n    {record:?}")?;
+        show_each(rt, versions)?;
     }
-    Ok(text)
+    Ok(())
+}
+
+/// Each item behind a space.
+fn show_each<I: Iterator + Drop>(rt: &HostRuntime, items: I) -> io::Result<()>
+where
+    I::Item: Debug + Drop,
+    requires can { I.can_next items }
+    requires finite { IsFinite (I.remaining items) }
+{
+    for item in items {
+        print!(rt; " {item:?}")?;
+    }
+    Ok(())
 }
 
 /// `version ORDER CLASS SYMBOL INDEXES COUNT NEEDS STRINGS COUNT DEFINITIONS STRINGS`: the version that a symbol
 /// needs, and the one that it is defined with. The count `-` stands for no records at all.
-pub(crate) fn version_text(rt: &HostRuntime, words: &[&str]) -> Result<String, RowError> {
-    let [order, class, symbol, indexes, needs @ ..] = words else {
+pub(crate) fn show_version(rt: &HostRuntime, words: &[&str]) -> Result<(), RowError> {
+    let [order, class, symbol, rest @ ..] = words else {
         return Err(RowError::Form("no version"));
     };
-    let [count, needs, strings, definitions @ ..] = needs else {
-        return Err(RowError::Form("no needs"));
+    let [
+        indexes,
+        count,
+        needs,
+        strings,
+        def_count,
+        definitions,
+        def_strings,
+    ] = rest
+    else {
+        return Err(RowError::Form("no records of versions"));
     };
-    let [def_count, definitions, def_strings] = definitions else {
-        return Err(RowError::Form("no definitions"));
+    let asked = Asked {
+        order: order_of(*order)?,
+        class: class_of(*class)?,
+        symbol: number(*symbol)?,
+        needs: count_of(*count)?,
+        definitions: count_of(*def_count)?,
     };
-    let order = order_of(*order)?;
-    let class = class_of(*class)?;
-    let indexes = bytes_of(rt, *indexes)?;
-    let needs = bytes_of(rt, *needs)?;
-    let strings = bytes_of(rt, *strings)?;
-    let definitions = bytes_of(rt, *definitions)?;
-    let def_strings = bytes_of(rt, *def_strings)?;
-    let needs = match count_of(*count)? {
-        Some(count) => Some((
-            VerNeedIterator::new(order, class, count, 0, needs.as_slice()),
-            StringTable::new(strings.as_slice()),
-        )),
-        None => None,
-    };
-    let definitions = match count_of(*def_count)? {
-        Some(count) => Some((
-            VerDefIterator::new(order, class, count, 0, definitions.as_slice()),
-            StringTable::new(def_strings.as_slice()),
-        )),
-        None => None,
-    };
-    let indexes = VersionIndexTable::new(order, class, indexes.as_slice());
-    let table = SymbolVersionTable::new(indexes, needs, definitions);
-    Ok(both_text(rt.alloc(), &table, number(*symbol)?)?)
+    let bytes = bytes_of_each(
+        rt,
+        &[*indexes, *needs, *strings, *definitions, *def_strings],
+    )?;
+    show_asked(rt, asked, bytes.as_slice())
+}
+
+/// What a row asks of records of versions, and how many needs and definitions there are.
+#[derive(Clone, Copy)]
+struct Asked {
+    order: AnyEndian,
+    class: Class,
+    symbol: usize,
+    needs: Option<u64>,
+    definitions: Option<u64>,
 }
 
 fn count_of(word: &str) -> Result<Option<u64>, RowError> {
@@ -109,36 +111,69 @@ fn count_of(word: &str) -> Result<Option<u64>, RowError> {
     Ok(Some(number(word)?))
 }
 
-pub(crate) fn both_text<E: EndianParse>(
-    alloc: Global,
-    table: &SymbolVersionTable<'_, E>,
-    symbol: usize,
-) -> Result<String, AllocError> {
-    let need = shown(alloc, table.get_requirement(symbol))?;
-    let definition = definition_text(alloc, table.get_definition(symbol))?;
-    format!(in alloc; "{need}; {definition}")
+fn show_asked(rt: &HostRuntime, asked: Asked, bytes: &[Vec<u8>]) -> Result<(), RowError> {
+    let [indexes, needs, strings, definitions, def_strings] = bytes else {
+        return Err(RowError::Form("no bytes"));
+    };
+    let Asked { order, class, .. } = asked;
+    let needs = match asked.needs {
+        Some(count) => Some((
+            VerNeedIterator::new(order, class, count, 0, needs.as_slice()),
+            StringTable::new(strings.as_slice()),
+        )),
+        None => None,
+    };
+    let definitions = match asked.definitions {
+        Some(count) => Some((
+            VerDefIterator::new(order, class, count, 0, definitions.as_slice()),
+            StringTable::new(def_strings.as_slice()),
+        )),
+        None => None,
+    };
+    let indexes = VersionIndexTable::new(order, class, indexes.as_slice());
+    let table = SymbolVersionTable::new(indexes, needs, definitions);
+    Ok(show_both(rt, &table, asked.symbol)?)
 }
 
-fn definition_text<E: EndianParse>(
-    alloc: Global,
+fn show_both<E: EndianParse>(
+    rt: &HostRuntime,
+    table: &SymbolVersionTable<'_, E>,
+    symbol: usize,
+) -> io::Result<()> {
+    show(rt, table.get_requirement(symbol))?;
+    print!(rt; "; ")?;
+    show_definition(rt, table.get_definition(symbol))
+}
+
+fn show_definition<E: EndianParse>(
+    rt: &HostRuntime,
     answer: Result<Option<SymbolDefinition<'_, E>>, ParseError>,
-) -> Result<String, AllocError> {
-    let definition = match answer {
-        Ok(Some(definition)) => definition,
-        Ok(None) => return String::from_str(alloc, "None"),
-        Err(error) => return format!(in alloc; "{error:?}, {error}"),
-    };
+) -> io::Result<()> {
+    match answer {
+        Ok(Some(definition)) => show_named(rt, definition),
+        Ok(None) => print!(rt; "None"),
+        Err(error) => show_refusal(rt, error),
+    }
+}
+
+fn show_named<E: EndianParse>(
+    rt: &HostRuntime,
+    definition: SymbolDefinition<'_, E>,
+) -> io::Result<()> {
     let SymbolDefinition {
         hash,
         flags,
         names,
         hidden,
     } = definition;
-    let mut text = format!(in alloc; "hash {hash} flags {flags} hidden {hidden}")?;
+    print!(rt; "hash {hash} flags {flags} hidden {hidden}")?;
     for name in names {
-        let name = shown(alloc, name)?;
-        text.push_str(" ")?;
-        text.push_str(name.as_str())?;
+        show_name(rt, name)?;
     }
-    Ok(text)
+    Ok(())
+}
+
+fn show_name(rt: &HostRuntime, name: Result<&str, ParseError>) -> io::Result<()> {
+    print!(rt; " ")?;
+    show(rt, name)
 }

@@ -24,9 +24,17 @@ mod records;
 #[cfg(test)]
 mod refusals;
 #[cfg(test)]
+mod resolving;
+#[cfg(test)]
 mod shown;
 #[cfg(test)]
+mod sources;
+#[cfg(test)]
 mod stops;
+#[cfg(test)]
+mod stream_runs;
+#[cfg(test)]
+mod streams;
 #[cfg(test)]
 mod tables;
 #[cfg(test)]

@@ -1,0 +1,85 @@
+//! Runs over streams whose source fails, and to writers that fail.
+use crate::files::{HASHED, TWO_SECTIONS};
+use crate::sources::Halting;
+use crate::writers::Narrow;
+use elf::endian::AnyEndian;
+use elf::{ElfStream, MemSource, ParseError};
+use elfshow::calls::{Call, RunError, run_bytes, run_stream};
+use std::alloc::Global;
+use std::process::Abort;
+use std::test::Fail;
+
+type Halted<'a> = ElfStream<AnyEndian, Halting<'a>, Global>;
+
+/// The text of the first so many calls, by the reader over bytes.
+fn text_of(alloc: Global, data: &[u8], calls: &[Call<'_>], done: usize) -> Result<Vec<u8>, Fail> {
+    let mut text = Vec::new(alloc);
+    match run_bytes::<AnyEndian, Vec<u8>>(data, calls.get(..done).unwrap_or_default(), &mut text) {
+        Ok(()) => Ok(text),
+        Err(_) => Err(Fail::from(std::alloc::AllocError)),
+    }
+}
+
+/// Runs calls over a source that fails at each of its calls in turn: the whole text is written, or a fault
+/// tells how many calls were done and just their text is written. Answers how often there was a fault.
+fn faults_in_turn(
+    rt: &(impl Abort + AllocGlobal),
+    data: &[u8],
+    calls: &[Call<'_>],
+) -> Result<usize, Fail> {
+    let alloc = rt.alloc();
+    let mut faults = 0usize;
+    for calls_before in 0..200 {
+        let source = Halting::new(data, 64, calls_before);
+        let Ok(mut stream) = Halted::open_stream(alloc, source) else {
+            continue;
+        };
+        let mut out = Vec::new(alloc);
+        let done = match run_stream(&mut stream, calls, &mut out) {
+            Ok(()) => calls.len(),
+            Err(RunError::Fault { done, error }) => {
+                assert!(rt; matches!(error, ParseError::IOError(_)), "{error:?}");
+                faults = faults.saturating_add(1);
+                done
+            }
+            Err(error) => {
+                assert!(rt; false, "{error:?}");
+                0
+            }
+        };
+        let text = text_of(alloc, data, calls, done)?;
+        assert_eq!(rt; out.as_slice(), text.as_slice(), "{calls_before}");
+    }
+    Ok(faults)
+}
+
+#[test]
+fn a_failing_source_stops_the_run(rt: HostRuntime) -> Result<(), Fail> {
+    let names = faults_in_turn(&rt, &TWO_SECTIONS, &[Call::Header, Call::Sections])?;
+    assert!(rt; names > 0);
+    let symbols = [Call::Header, Call::Sysv(4), Call::Gnu(3), Call::DynSyms];
+    let checked = faults_in_turn(&rt, &HASHED, &symbols)?;
+    assert!(rt; checked > 1);
+    Ok(())
+}
+
+#[test]
+fn a_full_writer_stops_the_run(rt: HostRuntime) -> Result<(), Fail> {
+    let alloc = rt.alloc();
+    let calls = [Call::Header, Call::Sections];
+    let first = text_of(alloc, &TWO_SECTIONS, &calls, 1)?;
+    let source = MemSource::new(&TWO_SECTIONS);
+    let opened = ElfStream::<AnyEndian, MemSource<'_>, Global>::open_stream(alloc, source);
+    let Ok(mut stream) = opened else {
+        assert!(rt; false, "refused");
+        return Ok(());
+    };
+    let mut out = Narrow::new(alloc, first.len(), 4096);
+    let stopped = run_stream(&mut stream, &calls, &mut out);
+    assert!(rt;
+        matches!(stopped, Err(RunError::Write { done: 1, .. })),
+        "{stopped:?}"
+    );
+    assert_eq!(rt; out.held.as_slice(), first.as_slice());
+    Ok(())
+}
