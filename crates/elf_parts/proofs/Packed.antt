@@ -46,5 +46,3 @@ packed_offset little size (f ∷ fs) bytes o place at e all p =
 
 pub numbers_end-packed : (little : Bool) (fs : List Field) (bytes : List ℕ) (o : ℕ) → is_packed 0 fs ≡ true → numbers_end little (size_of fs) fs bytes o ≡ offset_from little fs bytes o
 numbers_end-packed little fs bytes o p = packed_offset little (size_of fs) fs bytes o 0 o (omega arith) (omega arith) p
-
-pub ruleset packed = (numbers_at-packed, numbers_end-packed)

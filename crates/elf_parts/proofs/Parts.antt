@@ -180,18 +180,24 @@ pub section_parts :
     numbers_at little (section_header_fields class) bytes o
     ≡ joined (part_at little (front_fields class) bytes o)
     (part_at little (back_fields class) bytes (o + width_of (front_fields class)))
-section_parts little class bytes o =
-    packed_part little (section_header_fields class) bytes o (section_packed class)
-    ∙ two_parts 5 little (section_header_fields class) bytes o (o + width_of (front_fields class)) refl
+section_parts little ELF32 bytes o =
+    packed_part little (section_header_fields ELF32) bytes o (section_packed ELF32)
+    ∙ two_parts 5 little (section_header_fields ELF32) bytes o (o + width_of (front_fields ELF32)) refl
+section_parts little ELF64 bytes o =
+    packed_part little (section_header_fields ELF64) bytes o (section_packed ELF64)
+    ∙ two_parts 5 little (section_header_fields ELF64) bytes o (o + width_of (front_fields ELF64)) refl
 
 pub section_end :
     (little : Bool) (class : Class) (bytes : List ℕ) (o : ℕ) →
     numbers_end little (size_of (section_header_fields class)) (section_header_fields class) bytes o
     ≡ end_of_two (part_at little (front_fields class) bytes o) (part_end little (front_fields class) bytes o)
     (part_end little (back_fields class) bytes (o + width_of (front_fields class)))
-section_end little class bytes o =
-    packed_end little (section_header_fields class) bytes o (section_packed class)
-    ∙ end_of_parts 5 little (section_header_fields class) bytes o (o + width_of (front_fields class)) refl
+section_end little ELF32 bytes o =
+    packed_end little (section_header_fields ELF32) bytes o (section_packed ELF32)
+    ∙ end_of_parts 5 little (section_header_fields ELF32) bytes o (o + width_of (front_fields ELF32)) refl
+section_end little ELF64 bytes o =
+    packed_end little (section_header_fields ELF64) bytes o (section_packed ELF64)
+    ∙ end_of_parts 5 little (section_header_fields ELF64) bytes o (o + width_of (front_fields ELF64)) refl
 
 pub ruleset section = (section_parts, section_end)
 

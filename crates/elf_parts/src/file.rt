@@ -6,7 +6,7 @@ ghost use Rattle.elf_parts.specs.inner.Running.{width_of};
 ghost use Rattle.elf_parts.specs.File.{byte_in, class_of, header_with_tail, ident_of, magic_in, version_in};
 
 use crate::endian::EndianParse;
-use crate::parse::ParseError;
+use crate::parse::{ParseError, parse_by_class};
 use elf_abi::abi;
 use std::alloc::AllocError;
 
@@ -161,7 +161,6 @@ impl<E: EndianParse> Clone for FileHeader<E> {
 impl<E: EndianParse> FileHeader<E> {
     /// Reads the tail of the header, the bytes behind the identification. Data that end within the tail
     /// are refused at the first field that does not fit; bytes behind it do no harm.
-    #[tactic(auto, using(crate::proofs::Parts::tail_parts))]
     pub fn parse_tail(ident: (E, Class, u8, u8), data: &[u8]) -> Result<FileHeader<E>, ParseError>
         ensures { result ≡ header_with_tail E.little ident «data».now }
     {
@@ -219,20 +218,10 @@ fn parse_places<E: EndianParse>(
     ensures value { ok_map three result ≡ part_at (E.little endian) (place_fields class) «data».now offset.old }
     ensures moved { OnOk result (offset.new ≡ offset.old + width_of (place_fields class)) }
 {
-    match class {
-        Class::ELF32 => {
-            let e_entry = endian.parse_u32_at(offset, data)? as u64;
-            let e_phoff = endian.parse_u32_at(offset, data)? as u64;
-            let e_shoff = endian.parse_u32_at(offset, data)? as u64;
-            Ok((e_entry, e_phoff, e_shoff))
-        }
-        Class::ELF64 => {
-            let e_entry = endian.parse_u64_at(offset, data)?;
-            let e_phoff = endian.parse_u64_at(offset, data)?;
-            let e_shoff = endian.parse_u64_at(offset, data)?;
-            Ok((e_entry, e_phoff, e_shoff))
-        }
-    }
+    let e_entry = parse_by_class(endian, class, offset, data)?;
+    let e_phoff = parse_by_class(endian, class, offset, data)?;
+    let e_shoff = parse_by_class(endian, class, offset, data)?;
+    Ok((e_entry, e_phoff, e_shoff))
 }
 
 // The last part: e_flags, e_ehsize, e_phentsize, e_phnum, e_shentsize, e_shnum and e_shstrndx.

@@ -45,7 +45,7 @@ impl ParseAt for VerNeed {
 
     ghost only = { only_by ver_need_layout };
 
-    #[tactic(auto, using(crate::proofs::Packed::packed))]
+    #[tactic(auto, unfolding(crate::specs::Record::numbers_at, crate::specs::Record::numbers_end))]
     fn parse_at<E: EndianParse>(
         endian: E,
         _class: Class,
@@ -108,7 +108,7 @@ impl ParseAt for VerNeedAux {
 
     ghost only = { only_by ver_need_aux_layout };
 
-    #[tactic(auto, using(crate::proofs::Packed::packed))]
+    #[tactic(auto, unfolding(crate::specs::Record::numbers_at, crate::specs::Record::numbers_end))]
     fn parse_at<E: EndianParse>(
         endian: E,
         _class: Class,
@@ -255,7 +255,7 @@ impl ParseAt for VerDef {
 
     ghost only = { only_by ver_def_layout };
 
-    #[tactic(auto, using(crate::proofs::Packed::packed))]
+    #[tactic(auto, unfolding(crate::specs::Record::numbers_at, crate::specs::Record::numbers_end))]
     fn parse_at<E: EndianParse>(
         endian: E,
         _class: Class,
@@ -317,7 +317,7 @@ impl ParseAt for VerDefAux {
 
     ghost only = { only_by ver_def_aux_layout };
 
-    #[tactic(auto, using(crate::proofs::Packed::packed))]
+    #[tactic(auto, unfolding(crate::specs::Record::numbers_at, crate::specs::Record::numbers_end))]
     fn parse_at<E: EndianParse>(
         endian: E,
         _class: Class,
@@ -457,7 +457,7 @@ impl ParseAt for VersionIndex {
 
     ghost only = { only_by version_index_layout };
 
-    #[tactic(auto, using(crate::proofs::Packed::packed))]
+    #[tactic(auto, unfolding(crate::specs::Record::numbers_at, crate::specs::Record::numbers_end))]
     fn parse_at<E: EndianParse>(
         endian: E,
         _class: Class,

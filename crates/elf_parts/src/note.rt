@@ -79,7 +79,7 @@ impl ParseAt for NoteHeader {
 
     ghost only = { only_by note_header_layout };
 
-    #[tactic(auto, using(crate::proofs::Packed::packed))]
+    #[tactic(auto, unfolding(crate::specs::Record::numbers_at, crate::specs::Record::numbers_end))]
     fn parse_at<E: EndianParse>(
         endian: E,
         _class: Class,
@@ -115,7 +115,7 @@ impl ParseAt for NoteGnuAbiTag {
 
     ghost only = { only_by abi_tag_layout };
 
-    #[tactic(auto, using(crate::proofs::Packed::packed))]
+    #[tactic(auto, unfolding(crate::specs::Record::numbers_at, crate::specs::Record::numbers_end))]
     fn parse_at<E: EndianParse>(
         endian: E,
         _class: Class,

@@ -1,6 +1,8 @@
 //! Why bytes are refused, records that are read from them, and tables of such records.
 ghost use Rattle.std.specs.Prelude.{◌≡◌, ◌≤◌, ℕ, Bool, List, Result, if◌then◌else◌, ◌==◌};
+ghost use Rattle.elf_parts.specs.Number.{moved_by, number_at};
 ghost use Rattle.elf_parts.specs.Record.{ReadsOnly, ReadsWithin};
+ghost use Rattle.elf_parts.specs.inner.Part.{class_width};
 ghost use Rattle.elf_parts.specs.declared.file.Class.{Class};
 ghost use Rattle.elf_parts.specs.declared.parse.ParseError.{ParseError};
 ghost use Rattle.elf_parts.specs.declared.parse.ParseError.TheVariants.{IOError as IsIOError, Utf8Error as IsUtf8Error};
@@ -155,4 +157,20 @@ pub trait ParseAt: Sized {
 
     // What is read depends on the record's own bytes alone.
     ghost only: { ReadsOnly size record_at };
+}
+
+// An address, an offset or a size: four bytes in a 32-bit file, eight in a 64-bit one.
+pub(crate) fn parse_by_class<E: EndianParse>(
+    endian: E,
+    class: Class,
+    offset: &mut usize,
+    data: &[u8],
+) -> Result<u64, ParseError>
+    ensures value { result ≡ number_at (E.little endian) (class_width class) «data».now offset.old }
+    ensures moved { offset.new ≡ moved_by (class_width class) result offset.old }
+{
+    match class {
+        Class::ELF32 => Ok(endian.parse_u32_at(offset, data)? as u64),
+        Class::ELF64 => endian.parse_u64_at(offset, data),
+    }
 }

@@ -143,7 +143,7 @@ impl ParseAt for Rel {
 
     ghost only = { only_by rel_layout };
 
-    #[tactic(auto, using(crate::proofs::Packed::packed))]
+    #[tactic(auto, unfolding(crate::specs::Record::numbers_at, crate::specs::Record::numbers_end))]
     fn parse_at<E: EndianParse>(
         endian: E,
         class: Class,
@@ -189,7 +189,7 @@ impl ParseAt for Rela {
 
     ghost only = { only_by rela_layout };
 
-    #[tactic(auto, using(crate::proofs::Packed::packed))]
+    #[tactic(auto, unfolding(crate::specs::Record::numbers_at, crate::specs::Record::numbers_end))]
     fn parse_at<E: EndianParse>(
         endian: E,
         class: Class,

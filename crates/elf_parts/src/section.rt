@@ -6,7 +6,7 @@ ghost use Rattle.elf_parts.specs.inner.Running.{width_of};
 
 use crate::endian::EndianParse;
 use crate::file::Class;
-use crate::parse::{ParseAt, ParseError, ParsingTable};
+use crate::parse::{ParseAt, ParseError, ParsingTable, parse_by_class};
 
 /// A table of section headers.
 pub type SectionHeaderTable<'data, E> = ParsingTable<'data, E, SectionHeader>;
@@ -75,7 +75,6 @@ impl ParseAt for SectionHeader {
 
     ghost only = { only_by section_header_layout };
 
-    #[tactic(auto, using(crate::proofs::Parts::section))]
     fn parse_at<E: EndianParse>(
         endian: E,
         class: Class,
@@ -118,24 +117,12 @@ fn parse_front<E: EndianParse>(
     ensures moved { offset.new ≡ part_end (E.little endian) (front_fields class) «data».now offset.old }
     ensures behind { OnOk result (offset.new ≡ offset.old + width_of (front_fields class)) }
 {
-    match class {
-        Class::ELF32 => {
-            let sh_name = endian.parse_u32_at(offset, data)?;
-            let sh_type = endian.parse_u32_at(offset, data)?;
-            let sh_flags = endian.parse_u32_at(offset, data)? as u64;
-            let sh_addr = endian.parse_u32_at(offset, data)? as u64;
-            let sh_offset = endian.parse_u32_at(offset, data)? as u64;
-            Ok((sh_name, sh_type, sh_flags, sh_addr, sh_offset))
-        }
-        Class::ELF64 => {
-            let sh_name = endian.parse_u32_at(offset, data)?;
-            let sh_type = endian.parse_u32_at(offset, data)?;
-            let sh_flags = endian.parse_u64_at(offset, data)?;
-            let sh_addr = endian.parse_u64_at(offset, data)?;
-            let sh_offset = endian.parse_u64_at(offset, data)?;
-            Ok((sh_name, sh_type, sh_flags, sh_addr, sh_offset))
-        }
-    }
+    let sh_name = endian.parse_u32_at(offset, data)?;
+    let sh_type = endian.parse_u32_at(offset, data)?;
+    let sh_flags = parse_by_class(endian, class, offset, data)?;
+    let sh_addr = parse_by_class(endian, class, offset, data)?;
+    let sh_offset = parse_by_class(endian, class, offset, data)?;
+    Ok((sh_name, sh_type, sh_flags, sh_addr, sh_offset))
 }
 
 // sh_size, sh_link, sh_info, sh_addralign and sh_entsize.
@@ -149,22 +136,10 @@ fn parse_back<E: EndianParse>(
     ensures value { ok_map five result ≡ part_at (E.little endian) (back_fields class) «data».now offset.old }
     ensures moved { offset.new ≡ part_end (E.little endian) (back_fields class) «data».now offset.old }
 {
-    match class {
-        Class::ELF32 => {
-            let sh_size = endian.parse_u32_at(offset, data)? as u64;
-            let sh_link = endian.parse_u32_at(offset, data)?;
-            let sh_info = endian.parse_u32_at(offset, data)?;
-            let sh_addralign = endian.parse_u32_at(offset, data)? as u64;
-            let sh_entsize = endian.parse_u32_at(offset, data)? as u64;
-            Ok((sh_size, sh_link, sh_info, sh_addralign, sh_entsize))
-        }
-        Class::ELF64 => {
-            let sh_size = endian.parse_u64_at(offset, data)?;
-            let sh_link = endian.parse_u32_at(offset, data)?;
-            let sh_info = endian.parse_u32_at(offset, data)?;
-            let sh_addralign = endian.parse_u64_at(offset, data)?;
-            let sh_entsize = endian.parse_u64_at(offset, data)?;
-            Ok((sh_size, sh_link, sh_info, sh_addralign, sh_entsize))
-        }
-    }
+    let sh_size = parse_by_class(endian, class, offset, data)?;
+    let sh_link = endian.parse_u32_at(offset, data)?;
+    let sh_info = endian.parse_u32_at(offset, data)?;
+    let sh_addralign = parse_by_class(endian, class, offset, data)?;
+    let sh_entsize = parse_by_class(endian, class, offset, data)?;
+    Ok((sh_size, sh_link, sh_info, sh_addralign, sh_entsize))
 }

@@ -6,7 +6,7 @@ ghost use Rattle.elf_parts.specs.inner.Running.{width_of};
 
 use crate::endian::EndianParse;
 use crate::file::Class;
-use crate::parse::{ParseAt, ParseError, ParsingTable};
+use crate::parse::{ParseAt, ParseError, ParsingTable, parse_by_class};
 
 /// A table of program headers.
 pub type SegmentTable<'data, E> = ParsingTable<'data, E, ProgramHeader>;
@@ -69,7 +69,7 @@ impl ParseAt for ProgramHeader {
 
     ghost only = { only_by program_header_layout };
 
-    #[tactic(auto, using(crate::proofs::Parts::segment))]
+    #[tactic(auto, unfolding(crate::specs::Record::numbers_at, crate::specs::Record::numbers_end))]
     fn parse_at<E: EndianParse>(
         endian: E,
         class: Class,
@@ -132,22 +132,10 @@ fn parse_extent<E: EndianParse>(
     ensures moved { offset.new ≡ part_end (E.little endian) (extent_fields class) «data».now offset.old }
     ensures behind { OnOk result (offset.new ≡ offset.old + width_of (extent_fields class)) }
 {
-    match class {
-        Class::ELF32 => {
-            let p_offset = endian.parse_u32_at(offset, data)? as u64;
-            let p_vaddr = endian.parse_u32_at(offset, data)? as u64;
-            let p_paddr = endian.parse_u32_at(offset, data)? as u64;
-            let p_filesz = endian.parse_u32_at(offset, data)? as u64;
-            let p_memsz = endian.parse_u32_at(offset, data)? as u64;
-            Ok((p_offset, p_vaddr, p_paddr, p_filesz, p_memsz))
-        }
-        Class::ELF64 => {
-            let p_offset = endian.parse_u64_at(offset, data)?;
-            let p_vaddr = endian.parse_u64_at(offset, data)?;
-            let p_paddr = endian.parse_u64_at(offset, data)?;
-            let p_filesz = endian.parse_u64_at(offset, data)?;
-            let p_memsz = endian.parse_u64_at(offset, data)?;
-            Ok((p_offset, p_vaddr, p_paddr, p_filesz, p_memsz))
-        }
-    }
+    let p_offset = parse_by_class(endian, class, offset, data)?;
+    let p_vaddr = parse_by_class(endian, class, offset, data)?;
+    let p_paddr = parse_by_class(endian, class, offset, data)?;
+    let p_filesz = parse_by_class(endian, class, offset, data)?;
+    let p_memsz = parse_by_class(endian, class, offset, data)?;
+    Ok((p_offset, p_vaddr, p_paddr, p_filesz, p_memsz))
 }

@@ -94,7 +94,7 @@ impl ParseAt for Symbol {
 
     ghost only = { only_by symbol_layout };
 
-    #[tactic(auto, using(crate::proofs::Packed::packed))]
+    #[tactic(auto, unfolding(crate::specs::Record::numbers_at, crate::specs::Record::numbers_end))]
     fn parse_at<E: EndianParse>(
         endian: E,
         class: Class,

@@ -28,7 +28,7 @@ impl ParseAt for Triple {
 
     ghost only = { only_by triple_layout };
 
-    #[tactic(auto, using(elf_parts::proofs::Packed::packed))]
+    #[tactic(auto, unfolding(elf_parts::specs::Record::numbers_at, elf_parts::specs::Record::numbers_end))]
     fn parse_at<E: EndianParse>(
         endian: E,
         _class: Class,

@@ -1,13 +1,11 @@
 -- Part of a record's field table, read by a function of its own: so long records are read. Only contracts of such
 -- private functions speak of it.
-use Rattle.std.specs.Prelude.{ℕ, Bool, List, [], ◌∷◌, take, drop, Result}
+use Rattle.std.specs.Prelude.{ℕ, zero, suc, ◌+◌, ◌*◌, Bool, List, [], ◌∷◌, take, drop, Result}
 use Rattle.elf_parts.specs.declared.file.Class.{Class}
 use Rattle.elf_parts.specs.declared.file.Class.TheVariants.{ELF32, ELF64}
 use Rattle.elf_parts.specs.declared.parse.ParseError.{ParseError}
 use Rattle.elf_parts.specs.File.{tail_fields}
-use Rattle.elf_parts.specs.Record.{Field}
-use Rattle.elf_parts.specs.Section.{section_header_fields}
-use Rattle.elf_parts.specs.Segment.{program_header_fields}
+use Rattle.elf_parts.specs.Record.{Field, field}
 use Rattle.elf_parts.specs.inner.Running.{numbers_from, offset_from}
 
 -- the numbers of these fields, the first of which lies at o
@@ -18,27 +16,41 @@ part_at little fs bytes o = numbers_from little fs bytes o
 unfoldable pub part_end : Bool → List Field → List ℕ → ℕ → ℕ
 part_end little fs bytes o = offset_from little fs bytes o
 
+-- the bytes of an address, an offset or a size, which are as wide as the class says
+abbrev pub class_width : Class → ℕ
+class_width ELF32 = 4
+class_width ELF64 = 8
+
+-- fields of that width, the first of which has this place
+abbrev pub class_fields : Class → ℕ → ℕ → List Field
+class_fields class place zero = []
+class_fields class place (suc count) =
+    field place (class_width class) ∷ class_fields class (place + class_width class) count
+
 -- the tail of the file header: e_type to version, the same in both classes, then e_entry to e_shoff, then all others
 abbrev pub kind_fields : List Field
 kind_fields = take 3 (tail_fields ELF32)
 
 abbrev pub place_fields : Class → List Field
-place_fields class = take 3 (drop 3 (tail_fields class))
+place_fields class = class_fields class 8 3
 
 abbrev pub count_fields : Class → List Field
 count_fields class = drop 6 (tail_fields class)
 
 -- a section header: sh_name to sh_offset, then sh_size to sh_entsize
 abbrev pub front_fields : Class → List Field
-front_fields class = take 5 (section_header_fields class)
+front_fields class = field 0 4 ∷ field 4 4 ∷ class_fields class 8 3
 
 abbrev pub back_fields : Class → List Field
-back_fields class = drop 5 (section_header_fields class)
+back_fields class =
+    field (8 + 3 * class_width class) (class_width class) ∷
+    field (8 + 4 * class_width class) 4 ∷
+    field (12 + 4 * class_width class) 4 ∷
+    class_fields class (16 + 4 * class_width class) 2
 
 -- a program header: p_offset to p_memsz, which stand in one order in both classes
 abbrev pub extent_fields : Class → List Field
-extent_fields ELF32 = take 5 (drop 1 (program_header_fields ELF32))
-extent_fields ELF64 = take 5 (drop 2 (program_header_fields ELF64))
+extent_fields class = class_fields class (class_width class) 5
 
 -- numbers as a list
 abbrev pub three : ℕ × ℕ × ℕ → List ℕ

@@ -1,5 +1,5 @@
 //! Linked records, and the one iterator over them that all version iterators stand on.
-ghost use Rattle.std.specs.Prelude.{◌≡◌, ◌≤◌, ◌+◌, ◌-◌, ℕ, length};
+ghost use Rattle.std.specs.Prelude.{◌≡◌, ◌≤◌, ◌+◌, ◌-◌, ℕ, length, ⊤};
 ghost use Rattle.std.specs.Iterator.{YieldsFirst, item_count};
 ghost use Rattle.elf_parts.specs.Link.{from_next, links_in, links_left, links_view, next_start};
 ghost use Rattle.elf_parts.specs.Table.{table_in};
@@ -7,6 +7,7 @@ ghost use Rattle.elf_parts.specs.Table.{table_in};
 use crate::endian::EndianParse;
 use crate::file::Class;
 use crate::parse::{ParseAt, read_record};
+use std::alloc::AllocError;
 use std::marker::PhantomData;
 
 /// A record that tells how far behind its own start the next one begins.
@@ -31,7 +32,7 @@ fn next_start(start: usize, distance: u32) -> Option<usize>
 
 /// Linked records, one after the other, each with the offset where it begins.
 #[derive(Debug)]
-#[derive_where(Clone, Copy)]
+#[derive_where(Copy)]
 pub struct Links<'data, E: EndianParse, R: Linked> {
     little: bool,
     class: Class,
@@ -40,6 +41,17 @@ pub struct Links<'data, E: EndianParse, R: Linked> {
     offset: usize,
     order: PhantomData<E>,
     records: PhantomData<R>,
+}
+
+// A derived `Clone` would clone field by field, and be slower to prove.
+impl<'data, E: EndianParse, R: Linked> Clone for Links<'data, E, R> {
+    ghost is_clone = { λ x y. y ≡ x };
+
+    ghost is_infallible = { λ _. ⊤ };
+
+    fn clone(&self) -> Result<Self, AllocError> {
+        Ok(*self)
+    }
 }
 
 impl<'data, E: EndianParse, R: Linked> Links<'data, E, R> {

@@ -1,6 +1,7 @@
 //! GNU hash sections.
-ghost use Rattle.std.specs.Prelude.{◌≡◌, ◌-◌, ◌<◌};
-ghost use Rattle.elf_parts.specs.GnuFind.{bloom_word, find_in_run, gnu_find, gnu_section, gnu_view, passes, word_decides};
+ghost use Rattle.std.specs.Prelude.{◌≡◌, ◌-◌, ◌<◌, ◌≤◌};
+ghost use Rattle.elf_parts.specs.GnuFind.{bloom_bits, bloom_word, find_in_run, gnu_find, gnu_section, gnu_view};
+ghost use Rattle.elf_parts.specs.GnuFind.{passes, word_decides};
 ghost use Rattle.elf_parts.specs.Hash.{gnu_hash_of, word_count};
 ghost use Rattle.elf_parts.specs.Number.{ok_map};
 ghost use Rattle.elf_parts.specs.StringTable.{strings_view};
@@ -45,7 +46,7 @@ impl ParseAt for GnuHashHeader {
 
     ghost only = { only_by gnu_header_layout };
 
-    #[tactic(auto, using(crate::proofs::Packed::packed))]
+    #[tactic(auto, unfolding(crate::specs::Record::numbers_at, crate::specs::Record::numbers_end))]
     fn parse_at<E: EndianParse>(
         endian: E,
         class: Class,
@@ -90,6 +91,18 @@ pub struct GnuHashTable<'data, E: EndianParse> {
     bloom: &'data [u8],
     buckets: U32Table<'data, E>,
     chains: U32Table<'data, E>,
+}
+
+// How many bits a bloom word has.
+fn bloom_bits(class: Class) -> u32
+    ensures bits { result ≡ bloom_bits class }
+    ensures some { 0 < result }
+    ensures most { result ≤ 64 }
+{
+    match class {
+        Class::ELF32 => 32,
+        Class::ELF64 => 64,
+    }
 }
 
 // A bloom word: of four bytes or of eight, by the class.
@@ -175,10 +188,7 @@ impl<'data, E: EndianParse> GnuHashTable<'data, E> {
         requires { 0 < self.now.hdr.nbloom }
         ensures { result ≡ passes (gnu_view self.now) hash }
     {
-        let bits = match self.class {
-            Class::ELF32 => 32,
-            Class::ELF64 => 64,
-        };
+        let bits = bloom_bits(self.class);
         let word = self.bloom_word((hash / bits % self.hdr.nbloom) as usize)?;
         if (word >> (hash % bits)) & 1 == 0 {
             return Ok(false);

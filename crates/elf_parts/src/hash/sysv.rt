@@ -37,7 +37,7 @@ impl ParseAt for SysVHashHeader {
 
     ghost only = { only_by sysv_header_layout };
 
-    #[tactic(auto, using(crate::proofs::Packed::packed))]
+    #[tactic(auto, unfolding(crate::specs::Record::numbers_at, crate::specs::Record::numbers_end))]
     fn parse_at<E: EndianParse>(
         endian: E,
         class: Class,

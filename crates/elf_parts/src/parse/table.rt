@@ -1,11 +1,12 @@
 //! Tables of records, and iterators over them.
-ghost use Rattle.std.specs.Prelude.{◌≡◌, ◌==◌, ◌<◌, ◌≤◌, ◌+◌, ◌^◌, length, OnOk};
+ghost use Rattle.std.specs.Prelude.{◌≡◌, ◌==◌, ◌<◌, ◌≤◌, ◌+◌, ◌^◌, length, OnOk, ⊤};
 ghost use Rattle.std.specs.Iterator.{YieldsFirst, item_count};
 ghost use Rattle.elf_parts.specs.Table.{items_left, table_in, table_get, table_items, table_len, table_view};
 
 use crate::endian::{BigEndian, EndianParse, LittleEndian};
 use crate::file::Class;
 use crate::parse::{ParseAt, ParseError};
+use std::alloc::AllocError;
 use std::marker::PhantomData;
 
 // Reads a record in the one order or the other.
@@ -30,7 +31,7 @@ pub(crate) fn read_record<P: ParseAt>(
 /// asked for.
 // The order is kept as a bool, which is all that the reading of a record depends on.
 #[derive(Debug)]
-#[derive_where(Clone, Copy)]
+#[derive_where(Copy)]
 pub struct ParsingTable<'data, E: EndianParse, P: ParseAt> {
     little: bool,
     class: Class,
@@ -95,6 +96,17 @@ impl<'data, E: EndianParse, P: ParseAt> Iterator for ParsingIterator<'data, E, P
                 None
             }
         }
+    }
+}
+
+// A derived `Clone` would clone field by field, and be slower to prove.
+impl<'data, E: EndianParse, P: ParseAt> Clone for ParsingTable<'data, E, P> {
+    ghost is_clone = { λ x y. y ≡ x };
+
+    ghost is_infallible = { λ _. ⊤ };
+
+    fn clone(&self) -> Result<Self, AllocError> {
+        Ok(*self)
     }
 }
 
