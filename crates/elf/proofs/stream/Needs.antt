@@ -7,12 +7,13 @@ use Rattle.elf_parts.specs.Record.{◌>>=◌, size_by}
 use Rattle.elf_parts.specs.declared.compression.CompressionHeader.{CompressionHeader}
 use Rattle.elf_parts.specs.declared.parse.ParseError.{ParseError}
 use Rattle.elf_parts.specs.declared.section.SectionHeader.{SectionHeader}
-use Rattle.elf.specs.Answers.{section_dynamic}
-use Rattle.elf.specs.Asked.{Linked, VersionPlan, both_sections, if_there, plan_asked, section_asked}
+use Rattle.elf_parts.specs.declared.segment.ProgramHeader.{ProgramHeader}
+use Rattle.elf.specs.Answers.{section_dynamic, segment_dynamic}
+use Rattle.elf.specs.Asked.{Linked, VersionPlan, both_sections, if_there, plan_asked, section_asked, segment_asked, whole_section}
 use Rattle.elf.specs.Choice.{entry_size, if_found}
 use Rattle.elf.specs.ObjectFile.{ObjectFile, table_of}
 use Rattle.elf.specs.Payload.{content, payload}
-use Rattle.elf.specs.Range.{section_range}
+use Rattle.elf.specs.Range.{section_range, segment_range}
 use Rattle.elf.specs.inner.Loads.{AreThere}
 use Rattle.elf.specs.inner.Plans.{definitions_by, needs_by, versions_by}
 use Rattle.elf.proofs.stream.Lent.{payload_needs}
@@ -34,12 +35,20 @@ dynamic_needs file s h =
     let behind = ok_later (entry_size (size_by dyn_layout file.class) s) (λ _. ok_map (table_of file) (content file s)) h in
     payload_needs file s (ok_inside (λ (found : List ℕ × Option CompressionHeader). found.0) (payload file s) (ok_inside (table_of file) (content file s) behind.1))
 
+-- of a segment of dynamic entries
+pub segment_needs : (file : ObjectFile) (p : ProgramHeader) → IsOk (segment_dynamic file p) → AreThere file.bytes (segment_asked p)
+segment_needs file p h = (ok_inside (table_of file) (segment_range file.bytes p) h, tt)
+
 there_append : (bytes : List ℕ) (rs qs : List (ℕ × ℕ)) → AreThere bytes rs → AreThere bytes qs → AreThere bytes (rs ++ qs)
 there_append bytes [] qs a b = b
 there_append bytes (r ∷ rs) qs a b = (a.0, there_append bytes rs qs a.1 b)
 
+-- of the names of sections, where they are chosen
+pub names_need : {A : Type 0} (bytes : List ℕ) (s : SectionHeader) (f : Option (List ℕ) → A) → IsOk (ok_map f (if_found (section_range bytes) (Some s))) → AreThere bytes (whole_section s)
+names_need bytes s f h = (ok_inside Some (section_range bytes s) (ok_inside f (ok_map Some (section_range bytes s)) h), tt)
+
 -- of a section, and of the one that it links to
-both_need : {A : Type 0} (bytes : List ℕ) (pair : Linked) (made : List ℕ → List ℕ → Result A ParseError) → IsOk (section_range bytes pair.0 >>= λ part. section_range bytes pair.1 >>= λ strings. made part strings)
+pub both_need : {A : Type 0} (bytes : List ℕ) (pair : Linked) (made : List ℕ → List ℕ → Result A ParseError) → IsOk (section_range bytes pair.0 >>= λ part. section_range bytes pair.1 >>= λ strings. made part strings)
     → AreThere bytes (both_sections pair)
 both_need bytes pair made h =
     let behind = ok_later (section_range bytes pair.0) (λ part. section_range bytes pair.1 >>= λ strings. made part strings) h in

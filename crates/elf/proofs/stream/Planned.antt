@@ -1,5 +1,5 @@
 -- The versions by a plan are those of the definition, the kind of a refusal aside: a plan looks at all headers first.
-use Rattle.std.proofs.Common.{◌≡◌, ℕ, Bool, List, Option, Some, None, Result, Ok, Err, refl, sym, ap, ◌∙◌, subst}
+use Rattle.std.proofs.Common.{◌≡◌, ℕ, Bool, List, Option, Some, None, Result, Ok, Err, refl, sym, ap, ◌∙◌}
 use Rattle.std.specs.Prelude.{IsOk, IfSome}
 use Rattle.elf_parts.specs.Number.{ok_map}
 use Rattle.elf_parts.specs.Record.{◌>>=◌, size_by}
@@ -8,7 +8,7 @@ use Rattle.elf_parts.specs.Table.{Table}
 use Rattle.elf_parts.specs.declared.parse.ParseError.{ParseError}
 use Rattle.elf_parts.specs.declared.section.SectionHeader.{SectionHeader}
 use Rattle.elf.specs.Answers.{symbol_version_table}
-use Rattle.elf.specs.Asked.{Linked, VersionPlan, headers_alone, if_chosen, plan_asked, version_plan, version_plan_of, versions_asked, with_link}
+use Rattle.elf.specs.Asked.{Linked, VersionPlan, headers_alone, plan_asked, version_plan, version_plan_of, versions_asked, with_link}
 use Rattle.elf.specs.Choice.{entry_size, if_found}
 use Rattle.elf.specs.Listed.{stream_file}
 use Rattle.elf.specs.ObjectFile.{ObjectFile, table_of}
@@ -21,7 +21,7 @@ use Rattle.elf.specs.inner.Loads.{Loads}
 use Rattle.elf.specs.inner.Plans.{definitions_by, needs_by, planned_versions, versions_by}
 use Rattle.elf.proofs.Alike.{alike_first, alike_later, alike_map}
 use Rattle.elf.proofs.stream.Needs.{ok_inside, plan_needs}
-use Rattle.elf.proofs.stream.Steps.{leaves_refused}
+use Rattle.elf.proofs.stream.Steps.{chosen_refused}
 
 refused_later : {A B : Type 0} (x : Result A ParseError) (e : ParseError) → AreAlike {A = B} (x >>= λ _. Err e) (Err e)
 refused_later (Ok a) e = refl
@@ -135,6 +135,5 @@ leaves_alike old new rs shown one other r same h = record {
 pub plan_refused : {E T : Type 0} (little : E → Bool) (old new : Seen E) (shown : T → Option Versions) (plan : VersionPlan) (e : ParseError) (r : Result T ParseError) → r ≡ Err e
     → version_plan (headers_alone little old) ≡ Ok (Some plan) → Loads (plan_asked plan) old new (Err e) → Leaves (versions_asked (headers_alone little old)) shown (λ bytes. planned_versions (stream_file little old bytes)) old new r
 plan_refused little old new shown plan e r is chosen loads =
-    subst (λ x. Leaves (if_chosen plan_asked x) shown (λ bytes. x >>= if_found (versions_by (stream_file little old bytes))) old new r) (sym chosen)
-    (leaves_refused old new (plan_asked plan) shown (λ bytes. ok_map Some (versions_by (stream_file little old bytes) plan)) e r is
-    (λ bytes ok. plan_needs (stream_file little old bytes) plan (ok_inside Some (versions_by (stream_file little old bytes) plan) ok)) loads)
+    chosen_refused old new plan_asked shown (λ choice bytes. choice >>= if_found (versions_by (stream_file little old bytes))) (version_plan (headers_alone little old)) plan e r is chosen
+    (λ bytes ok. plan_needs (stream_file little old bytes) plan (ok_inside Some (versions_by (stream_file little old bytes) plan) ok)) loads

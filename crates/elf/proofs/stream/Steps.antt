@@ -1,8 +1,9 @@
 -- One load after another, and what a call leaves whose loads were refused.
-use Rattle.std.proofs.Common.{◌≡◌, ℕ, ◌+◌, ◌<◌, Bool, List, [], ◌∷◌, ◌++◌, refl, ◌∙◌, subst, arith, Option, Some, None, IfSome}
+use Rattle.std.proofs.Common.{◌≡◌, ℕ, ◌+◌, ◌<◌, Bool, List, [], ◌∷◌, ◌++◌, refl, sym, ◌∙◌, subst, arith, Option, Some, None, IfSome}
 use Rattle.std.specs.Prelude.{◌^◌, Result, Ok, Err, IsErr, IsOk, OnOk, take, drop}
 use Rattle.elf_parts.specs.Number.{bytes_at}
 use Rattle.elf_parts.specs.declared.parse.ParseError.{ParseError}
+use Rattle.elf.specs.Asked.{if_chosen}
 use Rattle.elf.specs.inner.Loads.{HasReason, AreLow, AreThere, Loads}
 use Rattle.elf.specs.Stream.{IsAnswer, IsRefused, Kind, kind, Seen, AreHeld, IsHeld, Keeps, Leaves}
 use Rattle.elf.proofs.stream.Pieces.{read_is_within}
@@ -158,3 +159,9 @@ leaves_refused {E} {T} {Y} old new rs shown answer e r is needs h = rw is (recor
   answers = refused_answer old.content rs shown answer old.faults new.faults old.can_fail e needs h.reason;
   accepted = refused_accepted T old.content old rs answer e needs h.accepted;
 })
+
+-- the same of ranges that were chosen first
+pub chosen_refused : {E P T Y : Type 0} (old new : Seen E) (ranges : P → List (ℕ × ℕ)) (shown : T → Y) (answer : Result (Option P) ParseError → List ℕ → Result Y ParseError) (choice : Result (Option P) ParseError) (chosen : P) (e : ParseError) (r : Result T ParseError) → r ≡ Err e
+    → choice ≡ Ok (Some chosen) → ((bytes : List ℕ) → IsOk (answer (Ok (Some chosen)) bytes) → AreThere bytes (ranges chosen)) → Loads (ranges chosen) old new (Err e) → Leaves (if_chosen ranges choice) shown (answer choice) old new r
+chosen_refused old new ranges shown answer choice chosen e r is same needs h =
+    subst (λ x. Leaves (if_chosen ranges x) shown (answer x) old new r) (sym same) (leaves_refused old new (ranges chosen) shown (answer (Ok (Some chosen))) e r is needs h)

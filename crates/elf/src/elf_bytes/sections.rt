@@ -152,7 +152,7 @@ impl<'data, E: EndianParse> ElfBytes<'data, E> {
             return Ok(None);
         }
         let index = self.name_index()?;
-        Ok(Some(self.section_at(index)?))
+        self.section_at(index).map(Some)
     }
 
     /// The section headers and the table of their names, where the file declares them. Refuses where
@@ -358,12 +358,12 @@ impl<'data, E: EndianParse> ElfBytes<'data, E> {
     {
         if self.shdrs.is_some() {
             match self.first_section_of(abi::SHT_DYNAMIC) {
-                Some(shdr) => Ok(Some(self.section_dynamic(&shdr)?)),
+                Some(shdr) => self.section_dynamic(&shdr).map(Some),
                 None => Ok(None),
             }
         } else {
             match self.first_segment_of(abi::PT_DYNAMIC) {
-                Some(phdr) => Ok(Some(self.segment_dynamic(&phdr)?)),
+                Some(phdr) => self.segment_dynamic(&phdr).map(Some),
                 None => Ok(None),
             }
         }

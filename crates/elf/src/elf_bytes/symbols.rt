@@ -42,7 +42,7 @@ impl<'data, E: EndianParse> ElfBytes<'data, E> {
             ≡ first_symbols sh_type (object_file E.little (view self.now)) }
     {
         match self.first_section_of(sh_type) {
-            Some(shdr) => Ok(Some(self.symbols_of(&shdr)?)),
+            Some(shdr) => self.symbols_of(&shdr).map(Some),
             None => Ok(None),
         }
     }

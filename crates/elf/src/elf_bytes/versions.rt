@@ -142,7 +142,7 @@ impl<'data, E: EndianParse> ElfBytes<'data, E> {
             ≡ if_found (version_needs (object_file E.little (view self.now))) shdr }
     {
         match shdr {
-            Some(shdr) => Ok(Some(self.version_needs(&shdr)?)),
+            Some(shdr) => self.version_needs(&shdr).map(Some),
             None => Ok(None),
         }
     }
@@ -155,7 +155,7 @@ impl<'data, E: EndianParse> ElfBytes<'data, E> {
             ≡ if_found (version_definitions (object_file E.little (view self.now))) shdr }
     {
         match shdr {
-            Some(shdr) => Ok(Some(self.version_definitions(&shdr)?)),
+            Some(shdr) => self.version_definitions(&shdr).map(Some),
             None => Ok(None),
         }
     }
@@ -189,7 +189,7 @@ impl<'data, E: EndianParse> ElfBytes<'data, E> {
         };
         let chosen = version_sections(shdrs);
         match chosen.indexes {
-            Some(shdr) => Ok(Some(self.versions_of(chosen, &shdr)?)),
+            Some(shdr) => self.versions_of(chosen, &shdr).map(Some),
             None => Ok(None),
         }
     }

@@ -101,14 +101,14 @@ impl<E: EndianParse, S: StreamSource, A: Allocator + Copy> ElfStream<E, S, A> {
             return Ok(None);
         }
         let index = self.name_index()?;
-        Ok(Some(self.section_at(index)?))
+        self.section_at(index).map(Some)
     }
 
     // The headers, where there are no names.
     fn lend_unnamed(&self) -> (&Vec<SectionHeader, A>, Option<StringTable<'_>>)
         ensures { listed_view result ≡ (self.now.sections, None) }
     {
-        (&self.shdrs, None)
+        (self.section_headers(), None)
     }
 
     // The headers with the names in a section whose range is held.
@@ -120,7 +120,7 @@ impl<E: EndianParse, S: StreamSource, A: Allocator + Copy> ElfStream<E, S, A> {
             ≡ Ok (listed_view result)) }
     {
         let bytes = self.held_bytes(names.sh_offset, names.sh_size);
-        (&self.shdrs, Some(StringTable::new(bytes)))
+        (self.section_headers(), Some(StringTable::new(bytes)))
     }
 
     /// The section headers and the table of their names, where the file declares them. Refuses where

@@ -3,10 +3,12 @@ ghost use Rattle.std.specs.Prelude.{◌≡◌, ◌<◌, ◌^◌, IfErr, IfOk, If
 ghost use Rattle.elf_parts.specs.Note.{notes_left};
 ghost use Rattle.elf_parts.specs.Number.{ok_map};
 ghost use Rattle.elf_parts.specs.StringTable.{strings_view};
+ghost use Rattle.elf_parts.specs.Table.{items_left, table_items};
 ghost use Rattle.elf.specs.Answers.{relas_left, rels_left, section_data, section_data_as_notes, section_data_as_relas, section_data_as_rels};
 ghost use Rattle.elf.specs.Answers.{section_data_as_strtab, segment_data, segment_data_as_notes};
 ghost use Rattle.elf.specs.Asked.{section_asked, segment_asked};
 ghost use Rattle.elf.specs.Listed.{stream_file};
+ghost use Rattle.elf.specs.ObjectFile.{table_of};
 ghost use Rattle.elf.specs.Payload.{content_of_type, payload, payload_view};
 ghost use Rattle.elf.specs.Stream.{AreHeld, Kind, Leaves, kind};
 ghost use Rattle.elf.specs.inner.Loads.{AreLow, Loads, LoadsFor};
@@ -18,8 +20,8 @@ use elf_abi::abi;
 use elf_parts::compression::CompressionHeader;
 use elf_parts::endian::EndianParse;
 use elf_parts::note::NoteIterator;
-use elf_parts::parse::ParseError;
-use elf_parts::relocation::{RelIterator, RelaIterator};
+use elf_parts::parse::{ParseAt, ParseError, ParsingIterator};
+use elf_parts::relocation::{Rel, RelIterator, Rela, RelaIterator};
 use elf_parts::section::SectionHeader;
 use elf_parts::segment::ProgramHeader;
 use elf_parts::string_table::StringTable;
@@ -134,18 +136,23 @@ impl<E: EndianParse, S: StreamSource, A: Allocator + Copy> ElfStream<E, S, A> {
         self.lend_strtab(shdr)
     }
 
-    // The relocations of a section, whose bytes are held.
-    fn lend_rels(&self, shdr: &SectionHeader) -> Result<RelIterator<'_, E>, ParseError>
-        requires of_type { shdr.now.sh_type ≡ 9 }
+    // The records of a section of a type, whose bytes are held.
+    fn lend_records<P: ParseAt>(
+        &self,
+        shdr: &SectionHeader,
+        sh_type: u32,
+    ) -> Result<ParsingIterator<'_, E, P>, ParseError>
+        requires of_type { shdr.now.sh_type ≡ sh_type }
         requires low { AreLow (section_asked shdr.now) }
         requires held { AreHeld self.now (section_asked shdr.now) }
-        ensures value { IfSome self.now.content (λ bytes.
-            ok_map rels_left result ≡ section_data_as_rels (stream_file E.little self.now bytes) shdr.now) }
+        ensures value { IfSome self.now.content (λ bytes. ok_map (items_left P.size P.record_at) result
+            ≡ ok_map (λ part. table_items P.size P.record_at (table_of (stream_file E.little self.now bytes) part))
+            (content_of_type sh_type (stream_file E.little self.now bytes) shdr.now)) }
         ensures plain { IfErr result (λ e. kind e ≡ Kind.Refusal) }
-        ensures bound { IfOk result (λ rels. length (rels_left rels) < 2 ^ 64) }
+        ensures bound { IfOk result (λ records. length (items_left P.size P.record_at records) < 2 ^ 64) }
     {
-        let bytes = self.lend_content(shdr, abi::SHT_REL)?;
-        Ok(RelIterator::new(self.ehdr.endianness, self.ehdr.class, bytes))
+        let bytes = self.lend_content(shdr, sh_type)?;
+        Ok(ParsingIterator::new(self.ehdr.endianness, self.ehdr.class, bytes))
     }
 
     /// The relocations of a section of type `SHT_REL`, in order, up to the first that is refused. Refuses
@@ -160,21 +167,7 @@ impl<E: EndianParse, S: StreamSource, A: Allocator + Copy> ElfStream<E, S, A> {
         ensures bound { IfOk result (λ rels. length (rels_left rels) < 2 ^ 64) }
     {
         self.load_content(shdr, abi::SHT_REL)?;
-        self.lend_rels(shdr)
-    }
-
-    // The relocations of a section, whose bytes are held.
-    fn lend_relas(&self, shdr: &SectionHeader) -> Result<RelaIterator<'_, E>, ParseError>
-        requires of_type { shdr.now.sh_type ≡ 4 }
-        requires low { AreLow (section_asked shdr.now) }
-        requires held { AreHeld self.now (section_asked shdr.now) }
-        ensures value { IfSome self.now.content (λ bytes.
-            ok_map relas_left result ≡ section_data_as_relas (stream_file E.little self.now bytes) shdr.now) }
-        ensures plain { IfErr result (λ e. kind e ≡ Kind.Refusal) }
-        ensures bound { IfOk result (λ relas. length (relas_left relas) < 2 ^ 64) }
-    {
-        let bytes = self.lend_content(shdr, abi::SHT_RELA)?;
-        Ok(RelaIterator::new(self.ehdr.endianness, self.ehdr.class, bytes))
+        self.lend_records::<Rel>(shdr, abi::SHT_REL)
     }
 
     /// The relocations of a section of type `SHT_RELA`, in order, up to the first that is refused. Refuses
@@ -189,7 +182,7 @@ impl<E: EndianParse, S: StreamSource, A: Allocator + Copy> ElfStream<E, S, A> {
         ensures bound { IfOk result (λ relas. length (relas_left relas) < 2 ^ 64) }
     {
         self.load_content(shdr, abi::SHT_RELA)?;
-        self.lend_relas(shdr)
+        self.lend_records::<Rela>(shdr, abi::SHT_RELA)
     }
 
     // The notes of a section, whose bytes are held.
