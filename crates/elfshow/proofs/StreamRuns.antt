@@ -19,7 +19,7 @@ use Rattle.elfshow.specs.Text.{call_text, unless_absent, unless_refused}
 use Rattle.elfshow.specs.declared.calls.Call.{Call}
 use Rattle.elfshow.specs.declared.calls.RunError.{RunError}
 use Rattle.elfshow.specs.declared.calls.RunError.TheVariants.{Fault, Open, Write}
-use Rattle.elfshow.specs.inner.RunSteps.{Gives, IsWritten, LeadsTo, RanCall, RanOne}
+use Rattle.elfshow.specs.inner.RunSteps.{Gives, IsWritten, LeadsTo, RanCall, RanOne, TriedCall, TriedOne}
 use Rattle.elfshow.specs.lines.Stand.{refused_line}
 
 -- ---- a refusal
@@ -47,33 +47,32 @@ counted_by Kind.Refusal none before now can_fail h = omega (arith, h.0)
 not_refused : (T : Type 0) (e : ParseError) → IsOk {T = T} (Err e) → ⊥
 not_refused T e h = cc
 
-told_ran : {T Y : Type 0} (told : Option (List ℕ)) (shown : T → Y) (answer : List ℕ → Result Y ParseError) (line : List ℕ → List ℕ) (old new : Option (List ℕ)) (before now : ℕ) (can_fail : Bool) (e : ParseError) (r : Result (Unit {0}) RunError)
-    → IfSome told (λ bytes. IsAnswer shown (answer bytes) can_fail before now (Err e)) → ((bytes : List ℕ) → IsErr (answer bytes) → line bytes ≡ refused_line) → LeadsTo (kind e) old new r
-    → IfSome told (λ bytes. RanOne (line bytes) old new before now r)
-told_ran None shown answer line old new before now can_fail e r h text leads = tt
-told_ran (Some bytes) shown answer line old new before now can_fail e r h text leads = ran_by (kind e) (IsErr (answer bytes)) (line bytes) old new before now can_fail r h (text bytes) leads
+refused_by : (k : Kind) (P Q : Type 0) (before now : ℕ) (can_fail : Bool) → (P → Q) → IsRefused before now can_fail P k → IsRefused before now can_fail Q k
+refused_by Kind.Failure P Q before now can_fail so h = h
+refused_by Kind.Want P Q before now can_fail so h = h
+refused_by Kind.Refusal P Q before now can_fail so h = (h.0, so h.1)
 
-told_counted : {T Y : Type 0} (told : Option (List ℕ)) (shown : T → Y) (answer : List ℕ → Result Y ParseError) (before now : ℕ) (can_fail : Bool) (e : ParseError)
-    → IfSome told (λ bytes. IsAnswer shown (answer bytes) can_fail before now (Err e)) → IfSome told (λ _. before ≤ now)
-told_counted None shown answer before now can_fail e h = tt
-told_counted (Some bytes) shown answer before now can_fail e h = counted_by (kind e) (IsErr (answer bytes)) before now can_fail h
+told_tried : {T Y : Type 0} (X : Type 0) (told : Option (List ℕ)) (shown : T → Y) (answer : List ℕ → Result Y ParseError) (line : List ℕ → List ℕ) (old : Option (List ℕ)) (before now : ℕ) (can_fail : Bool) (e : ParseError)
+    → IfSome told (λ bytes. IsAnswer shown (answer bytes) can_fail before now (Err e)) → ((bytes : List ℕ) → IsErr (answer bytes) → line bytes ≡ refused_line)
+    → IfSome told (λ bytes. TriedOne {X = X} (line bytes) old old can_fail before now (Err e))
+told_tried X None shown answer line old before now can_fail e h text = tt
+told_tried X (Some bytes) shown answer line old before now can_fail e h text = (refl, refused_by (kind e) (IsErr (answer bytes)) (line bytes ≡ refused_line) before now can_fail (text bytes) h)
 
-told_no_fault : {E Y : Type 0} (T : Type 0) (told : Option (List ℕ)) (old : Seen E) (asked : List (ℕ × ℕ)) (hand : List ℕ → Type 0) (answer : List ℕ → Result Y ParseError) (e : ParseError) (r : Result (Unit {0}) RunError)
-    → IfSome told (λ bytes. IsOk (answer bytes) → AreHeld old asked → IsOk {T = T} (Err e)) → ((bytes : List ℕ) → hand bytes → AreHeld old asked × IsOk (answer bytes)) → IfSome told (λ bytes. hand bytes → IsFaultless r)
-told_no_fault T None old asked hand answer e r h at_hand = tt
-told_no_fault T (Some bytes) old asked hand answer e r h at_hand = λ ready. let p = at_hand bytes ready in absurd (not_refused T e (h p.1 p.0))
+told_accepted : {E Y : Type 0} (T U : Type 0) (told : Option (List ℕ)) (old : Seen E) (ranges : List (ℕ × ℕ)) (hand : List ℕ → Type 0) (answer : List ℕ → Result Y ParseError) (e : ParseError)
+    → IfSome told (λ bytes. IsOk (answer bytes) → AreHeld old ranges → IsOk {T = T} (Err e)) → ((bytes : List ℕ) → hand bytes → AreHeld old ranges × IsOk (answer bytes)) → IfSome told (λ bytes. hand bytes → IsOk {T = U} (Err e))
+told_accepted T U None old ranges hand answer e h at_hand = tt
+told_accepted T U (Some bytes) old ranges hand answer e h at_hand = λ ready. let p = at_hand bytes ready in h p.1 p.0
 
 module _ {E : Type 0} (little : E → Bool) (call : Asked) (old new : Seen E) where
-  pub call_refused : {T Y : Type 0} (asked : List (ℕ × ℕ)) (shown : T → Y) (answer : List ℕ → Result Y ParseError) (whole : Result T ParseError) (e : ParseError) (before after : Option (List ℕ)) (r : Result (Unit {0}) RunError)
+  pub call_refused : {T Y X : Type 0} (asked : List (ℕ × ℕ)) (shown : T → Y) (answer : List ℕ → Result Y ParseError) (whole : Result T ParseError) (e : ParseError) (before : Option (List ℕ))
       → ((bytes : List ℕ) → IsErr (answer bytes) → call_text (stream_answers little old bytes) call ≡ refused_line) → ((bytes : List ℕ) → IsAtHand little old bytes call → AreHeld old asked × IsOk (answer bytes))
-      → Leaves asked shown answer old new whole → whole ≡ Err e → LeadsTo (kind e) before after r → RanCall little call old new before after r
-  call_refused {T} {Y} asked shown answer whole e before after r text hand leaves is leads =
+      → Leaves asked shown answer old new whole → whole ≡ Err e → TriedCall {X = X} little call old new before before (Err e)
+  call_refused {T} {Y} {X} asked shown answer whole e before text hand leaves is =
       let refused : Leaves asked shown answer old new (Err e) = subst (λ w. Leaves asked shown answer old new w) is leaves in
       record {
         keeps = refused.keeps;
-        ran = told_ran old.content shown answer (λ bytes. call_text (stream_answers little old bytes) call) before after old.faults new.faults old.can_fail e r refused.answers text leads;
-        counted = told_counted old.content shown answer old.faults new.faults old.can_fail e refused.answers;
-        no_fault = told_no_fault T old.content old asked (λ bytes. IsAtHand little old bytes call) answer e r refused.accepted hand;
+        tried = told_tried X old.content shown answer (λ bytes. call_text (stream_answers little old bytes) call) before old.faults new.faults old.can_fail e refused.answers text;
+        accepted = told_accepted T (Result (Unit {0}) X) old.content old asked (λ bytes. IsAtHand little old bytes call) answer e refused.accepted hand;
       }
 
 pub refused_text : {A : Type 0} (line : A → List ℕ) (r : Result A ParseError) → IsErr r → unless_refused line r ≡ refused_line
@@ -118,10 +117,10 @@ ran_written line written old new before now (Err x) (Err (Open e)) text h is = a
 ran_written line written old new before now (Err x) (Err (Fault done e)) text h is = absurd is
 ran_written line written old new before now (Err x) (Err (Write done e)) text h is = tt
 
-told_written : {T Y A X : Type 0} (told : Option (List ℕ)) (shown : T → Y) (answer : List ℕ → Result Y ParseError) (x : T) (line : List ℕ → List ℕ) (written : List ℕ) (old new : Option (List ℕ)) (before now : ℕ) (can_fail : Bool) (w : Result A X) (r : Result (Unit {0}) RunError)
-    → IfSome told (λ bytes. answer bytes ≡ Ok (shown x) → line bytes ≡ written) → IfSome told (λ bytes. IsAnswer shown (answer bytes) can_fail before now (Ok x)) → OnOk w (Appends old new written) → IsWritten w r → IfSome told (λ bytes. RanOne (line bytes) old new before now r)
-told_written None shown answer x line written old new before now can_fail w r text h wrote is = tt
-told_written (Some bytes) shown answer x line written old new before now can_fail w r text h wrote is = ran_written (line bytes) written old new before now w r (text h.1) wrote is
+told_written : {T Y X : Type 0} (told : Option (List ℕ)) (shown : T → Y) (answer : List ℕ → Result Y ParseError) (x : T) (line : List ℕ → List ℕ) (written : List ℕ) (old new : Option (List ℕ)) (before now : ℕ) (can_fail : Bool) (w : Result (Unit {0}) X)
+    → IfSome told (λ bytes. answer bytes ≡ Ok (shown x) → line bytes ≡ written) → IfSome told (λ bytes. IsAnswer shown (answer bytes) can_fail before now (Ok x)) → OnOk w (Appends old new written) → IfSome told (λ bytes. TriedOne (line bytes) old new can_fail before now (Ok w))
+told_written None shown answer x line written old new before now can_fail w text h wrote = tt
+told_written (Some bytes) shown answer x line written old new before now can_fail w text h wrote = (h.0, subst (λ t. OnOk w (Appends old new t)) (sym (text h.1)) wrote)
 
 told_same : {T Y : Type 0} (told : Option (List ℕ)) (shown : T → Y) (answer : List ℕ → Result Y ParseError) (x : T) (before now : ℕ) (can_fail : Bool) → IfSome told (λ bytes. IsAnswer shown (answer bytes) can_fail before now (Ok x)) → IfSome told (λ _. now ≡ before)
 told_same None shown answer x before now can_fail h = tt
@@ -130,14 +129,6 @@ told_same (Some bytes) shown answer x before now can_fail h = h.0
 told_answer : {T Y : Type 0} (told : Option (List ℕ)) (shown : T → Y) (answer : List ℕ → Result Y ParseError) (x : T) (before now : ℕ) (can_fail : Bool) → IfSome told (λ bytes. IsAnswer shown (answer bytes) can_fail before now (Ok x)) → IfSome told (λ bytes. answer bytes ≡ Ok (shown x))
 told_answer None shown answer x before now can_fail h = tt
 told_answer (Some bytes) shown answer x before now can_fail h = h.1
-
-no_more : (told : Option (List ℕ)) (before now : ℕ) → IfSome told (λ _. now ≡ before) → IfSome told (λ _. before ≤ now)
-no_more None before now h = tt
-no_more (Some bytes) before now h = omega (arith, h)
-
-told_faultless : (told : Option (List ℕ)) (hand : List ℕ → Type 0) (r : Result (Unit {0}) RunError) → IsFaultless r → IfSome told (λ bytes. hand bytes → IsFaultless r)
-told_faultless None hand r h = tt
-told_faultless (Some bytes) hand r h = λ _. h
 
 pub gives_of : {E T Y : Type 0} (old new : Seen E) (asked : List (ℕ × ℕ)) (shown : T → Y) (answer : List ℕ → Result Y ParseError) (r : Result T ParseError) → Leaves asked shown answer old new r → Gives shown answer old new r
 gives_of old new asked shown answer r h = record { keeps = h.keeps; answers = h.answers }
@@ -148,34 +139,93 @@ gives_same old new shown answer whole x is h = told_same old.content shown answe
 pub gives_answer : {E T Y : Type 0} (old new : Seen E) (shown : T → Y) (answer : List ℕ → Result Y ParseError) (whole : Result T ParseError) (x : T) → whole ≡ Ok x → Gives shown answer old new whole → IfSome old.content (λ bytes. answer bytes ≡ Ok (shown x))
 gives_answer old new shown answer whole x is h = told_answer old.content shown answer x old.faults new.faults old.can_fail (subst (λ w. IfSome old.content (λ bytes. IsAnswer shown (answer bytes) old.can_fail old.faults new.faults w)) is h.answers)
 
+always_ok : {T : Type 0} (told : Option (List ℕ)) (hand : List ℕ → Type 0) (x : T) → IfSome told (λ bytes. hand bytes → IsOk {E = ParseError} (Ok x))
+always_ok None hand x = tt
+always_ok (Some bytes) hand x = λ _. refl
+
 module _ {E : Type 0} (little : E → Bool) (call : Asked) (old new : Seen E) where
-  pub call_written : {T Y A X : Type 0} (shown : T → Y) (answer : List ℕ → Result Y ParseError) (whole : Result T ParseError) (x : T) (written : List ℕ) (before after : Option (List ℕ)) (w : Result A X) (r : Result (Unit {0}) RunError)
+  pub call_written : {T Y X : Type 0} (shown : T → Y) (answer : List ℕ → Result Y ParseError) (whole : Result T ParseError) (x : T) (written : List ℕ) (before after : Option (List ℕ)) (w : Result (Unit {0}) X)
       → IfSome old.content (λ bytes. answer bytes ≡ Ok (shown x) → call_text (stream_answers little old bytes) call ≡ written)
-      → Gives shown answer old new whole → whole ≡ Ok x → OnOk w (Appends before after written) → IsWritten w r → RanCall little call old new before after r
-  call_written {T} shown answer whole x written before after w r text gives is wrote told_so =
+      → Gives shown answer old new whole → whole ≡ Ok x → OnOk w (Appends before after written) → TriedCall little call old new before after (Ok w)
+  call_written {T} shown answer whole x written before after w text gives is wrote =
       let answers = subst (λ w. IfSome old.content (λ bytes. IsAnswer shown (answer bytes) old.can_fail old.faults new.faults w)) is gives.answers in
       record {
         keeps = gives.keeps;
-        ran = told_written old.content shown answer x (λ bytes. call_text (stream_answers little old bytes) call) written before after old.faults new.faults old.can_fail w r text answers wrote told_so;
-        counted = no_more old.content old.faults new.faults (told_same old.content shown answer x old.faults new.faults old.can_fail answers);
-        no_fault = told_faultless old.content (λ bytes. IsAtHand little old bytes call) r (faultless w r told_so);
+        tried = told_written old.content shown answer x (λ bytes. call_text (stream_answers little old bytes) call) written before after old.faults new.faults old.can_fail w text answers wrote;
+        accepted = always_ok old.content (λ bytes. IsAtHand little old bytes call) w;
       }
 
-  never_at_hand : (told : Option (List ℕ)) (hand : List ℕ → Type 0) (r : Result (Unit {0}) RunError) → ((bytes : List ℕ) → hand bytes → ⊥) → IfSome told (λ bytes. hand bytes → IsFaultless r)
+  never_at_hand : {T : Type 0} (told : Option (List ℕ)) (hand : List ℕ → Type 0) (r : Result T ParseError) → ((bytes : List ℕ) → hand bytes → ⊥) → IfSome told (λ bytes. hand bytes → IsOk r)
   never_at_hand None hand r h = tt
   never_at_hand (Some bytes) hand r h = λ ready. absurd (h bytes ready)
 
   -- of a call that takes memory
-  pub call_refused_given : {T Y : Type 0} (shown : T → Y) (answer : List ℕ → Result Y ParseError) (whole : Result T ParseError) (e : ParseError) (before after : Option (List ℕ)) (r : Result (Unit {0}) RunError)
+  pub call_refused_given : {T Y X : Type 0} (shown : T → Y) (answer : List ℕ → Result Y ParseError) (whole : Result T ParseError) (e : ParseError) (before : Option (List ℕ))
       → ((bytes : List ℕ) → IsErr (answer bytes) → call_text (stream_answers little old bytes) call ≡ refused_line) → ((bytes : List ℕ) → IsAtHand little old bytes call → ⊥)
-      → Gives shown answer old new whole → whole ≡ Err e → LeadsTo (kind e) before after r → RanCall little call old new before after r
-  call_refused_given {T} shown answer whole e before after r text hand gives is leads =
+      → Gives shown answer old new whole → whole ≡ Err e → TriedCall {X = X} little call old new before before (Err e)
+  call_refused_given {T} {Y} {X} shown answer whole e before text hand gives is =
       let answers = subst (λ w. IfSome old.content (λ bytes. IsAnswer shown (answer bytes) old.can_fail old.faults new.faults w)) is gives.answers in
       record {
         keeps = gives.keeps;
-        ran = told_ran old.content shown answer (λ bytes. call_text (stream_answers little old bytes) call) before after old.faults new.faults old.can_fail e r answers text leads;
-        counted = told_counted old.content shown answer old.faults new.faults old.can_fail e answers;
-        no_fault = never_at_hand old.content (λ bytes. IsAtHand little old bytes call) r hand;
+        tried = told_tried X old.content shown answer (λ bytes. call_text (stream_answers little old bytes) call) before old.faults new.faults old.can_fail e answers text;
+        accepted = never_at_hand {T = Result (Unit {0}) X} old.content (λ bytes. IsAtHand little old bytes call) (Err e) hand;
+      }
+
+-- ---- a call that was tried, as a run tells it
+
+ran_tried : {X : Type 0} (told : Option (List ℕ)) (line : List ℕ → List ℕ) (old new : Option (List ℕ)) (before now : ℕ) (can_fail : Bool) (w : Result (Unit {0}) X) (r : Result (Unit {0}) RunError)
+    → IfSome told (λ bytes. TriedOne (line bytes) old new can_fail before now (Ok w)) → IsWritten w r → IfSome told (λ bytes. RanOne (line bytes) old new before now r)
+ran_tried None line old new before now can_fail w r h is = tt
+ran_tried (Some bytes) line old new before now can_fail w r h is = ran_written (line bytes) (line bytes) old new before now w r refl h.1 is
+
+same_count : {X : Type 0} (told : Option (List ℕ)) (line : List ℕ → List ℕ) (old new : Option (List ℕ)) (before now : ℕ) (can_fail : Bool) (w : Result (Unit {0}) X)
+    → IfSome told (λ bytes. TriedOne (line bytes) old new can_fail before now (Ok w)) → IfSome told (λ _. before ≤ now)
+same_count None line old new before now can_fail w h = tt
+same_count (Some bytes) line old new before now can_fail w h = omega (arith, h.0)
+
+told_faultless : (told : Option (List ℕ)) (hand : List ℕ → Type 0) (r : Result (Unit {0}) RunError) → IsFaultless r → IfSome told (λ bytes. hand bytes → IsFaultless r)
+told_faultless None hand r h = tt
+told_faultless (Some bytes) hand r h = λ _. h
+
+refused_ran : (X : Type 0) (told : Option (List ℕ)) (line : List ℕ → List ℕ) (old middle new : Option (List ℕ)) (before now : ℕ) (can_fail : Bool) (e : ParseError) (r : Result (Unit {0}) RunError)
+    → IfSome told (λ bytes. TriedOne {X = X} (line bytes) old middle can_fail before now (Err e)) → LeadsTo (kind e) middle new r → IfSome told (λ bytes. RanOne (line bytes) old new before now r)
+refused_ran X None line old middle new before now can_fail e r h leads = tt
+refused_ran X (Some bytes) line old middle new before now can_fail e r h leads =
+    ran_by (kind e) (line bytes ≡ refused_line) (line bytes) old new before now can_fail r h.1 (λ same. same) (subst (λ o. LeadsTo (kind e) o new r) h.0 leads)
+
+refused_count : (X : Type 0) (told : Option (List ℕ)) (line : List ℕ → List ℕ) (old middle : Option (List ℕ)) (before now : ℕ) (can_fail : Bool) (e : ParseError)
+    → IfSome told (λ bytes. TriedOne {X = X} (line bytes) old middle can_fail before now (Err e)) → IfSome told (λ _. before ≤ now)
+refused_count X None line old middle before now can_fail e h = tt
+refused_count X (Some bytes) line old middle before now can_fail e h = counted_by (kind e) (line bytes ≡ refused_line) before now can_fail h.1
+
+refused_faultless : (T : Type 0) (told : Option (List ℕ)) (hand : List ℕ → Type 0) (e : ParseError) (r : Result (Unit {0}) RunError)
+    → IfSome told (λ bytes. hand bytes → IsOk {T = T} (Err e)) → IfSome told (λ bytes. hand bytes → IsFaultless r)
+refused_faultless T None hand e r h = tt
+refused_faultless T (Some bytes) hand e r h = λ ready. absurd (not_refused T e (h ready))
+
+module _ {E X : Type 0} (little : E → Bool) (call : Asked) (old new : Seen E) where
+  pub tried_written : (before after : Option (List ℕ)) (whole : Result (Result (Unit {0}) X) ParseError) (w : Result (Unit {0}) X) (r : Result (Unit {0}) RunError)
+      → TriedCall little call old new before after whole → whole ≡ Ok w → IsWritten w r → RanCall little call old new before after r
+  tried_written before after whole w r tried is told_so =
+      let here : TriedCall little call old new before after (Ok w) = subst (λ o. TriedCall little call old new before after o) is tried in
+      let line = λ (bytes : List ℕ). call_text (stream_answers little old bytes) call in
+      record {
+        keeps = here.keeps;
+        ran = ran_tried old.content line before after old.faults new.faults old.can_fail w r here.tried told_so;
+        counted = same_count old.content line before after old.faults new.faults old.can_fail w here.tried;
+        no_fault = told_faultless old.content (λ bytes. IsAtHand little old bytes call) r (faultless w r told_so);
+      }
+
+  pub tried_refused : (before middle after : Option (List ℕ)) (whole : Result (Result (Unit {0}) X) ParseError) (e : ParseError) (r : Result (Unit {0}) RunError)
+      → TriedCall little call old new before middle whole → whole ≡ Err e → LeadsTo (kind e) middle after r → RanCall little call old new before after r
+  tried_refused before middle after whole e r tried is leads =
+      let here : TriedCall little call old new before middle (Err e) = subst (λ o. TriedCall little call old new before middle o) is tried in
+      let line = λ (bytes : List ℕ). call_text (stream_answers little old bytes) call in
+      record {
+        keeps = here.keeps;
+        ran = refused_ran X old.content line before middle after old.faults new.faults old.can_fail e r here.tried leads;
+        counted = refused_count X old.content line before middle old.faults new.faults old.can_fail e here.tried;
+        no_fault = refused_faultless (Result (Unit {0}) X) old.content (λ bytes. IsAtHand little old bytes call) e r here.accepted;
       }
 
 -- ---- one call of a stream behind another
@@ -251,11 +301,6 @@ err_same (Ok x) (Err e) same h = cc
 err_same (Err d) (Ok y) same h = cc
 err_same (Err d) (Err e) same h = refl
 
-refused_by : (k : Kind) (P Q : Type 0) (before now : ℕ) (can_fail : Bool) → (P → Q) → IsRefused before now can_fail P k → IsRefused before now can_fail Q k
-refused_by Kind.Failure P Q before now can_fail so h = h
-refused_by Kind.Want P Q before now can_fail so h = h
-refused_by Kind.Refusal P Q before now can_fail so h = (h.0, so h.1)
-
 made_answers : {T Y U Z : Type 0} (told : Option (List ℕ)) (shown : T → Y) (answer : List ℕ → Result Y ParseError) (shows : U → Z) (made : List ℕ → Result Z ParseError) (before now : ℕ) (can_fail : Bool) (e : ParseError) → ((bytes : List ℕ) → is_ok (made bytes) ≡ is_ok (answer bytes))
     → IfSome told (λ bytes. IsAnswer shown (answer bytes) can_fail before now (Err e)) → IfSome told (λ bytes. IsAnswer shows (made bytes) can_fail before now (Err e))
 made_answers None shown answer shows made before now can_fail e same h = tt
@@ -299,26 +344,26 @@ both_told count line (Err e) b n y counted is = cc counted
 
 -- ---- of a section, and of a segment, that is there
 
-module _ {E T Y : Type 0} (little : E → Bool) (call : Asked) (old new : Seen E) (shown : T → Y) (line : Y → List ℕ) where
-  pub section_refused : (i : ℕ) (s : SectionHeader) (answer : ObjectFile → SectionHeader → Result Y ParseError) (whole : Result T ParseError) (e : ParseError) (before after : Option (List ℕ)) (r : Result (Unit {0}) RunError)
+module _ {E T Y X : Type 0} (little : E → Bool) (call : Asked) (old new : Seen E) (shown : T → Y) (line : Y → List ℕ) where
+  pub section_refused : (i : ℕ) (s : SectionHeader) (answer : ObjectFile → SectionHeader → Result Y ParseError) (whole : Result T ParseError) (e : ParseError) (before : Option (List ℕ))
       → ((bytes : List ℕ) → call_text (stream_answers little old bytes) call ≡ unless_absent (λ s. unless_refused line (answer (stream_file little old bytes) s)) (slice_get old.sections i))
       → ((bytes : List ℕ) → IsAtHand little old bytes call → AreHeld old (if_there section_asked (slice_get old.sections i)) × OfThere (λ s. IsOk (answer (stream_file little old bytes) s)) (slice_get old.sections i))
-      → slice_get old.sections i ≡ Some s → Leaves (section_asked s) shown (λ bytes. answer (stream_file little old bytes) s) old new whole → whole ≡ Err e → LeadsTo (kind e) before after r → RanCall little call old new before after r
-  section_refused i s answer whole e before after r texts hand there leaves is leads =
-      call_refused little call old new (section_asked s) shown (λ bytes. answer (stream_file little old bytes) s) whole e before after r
+      → slice_get old.sections i ≡ Some s → Leaves (section_asked s) shown (λ bytes. answer (stream_file little old bytes) s) old new whole → whole ≡ Err e → TriedCall {X = X} little call old new before before (Err e)
+  section_refused i s answer whole e before texts hand there leaves is =
+      call_refused little call old new (section_asked s) shown (λ bytes. answer (stream_file little old bytes) s) whole e before
       (λ bytes refused. texts bytes ∙ ap (unless_absent (λ s. unless_refused line (answer (stream_file little old bytes) s))) there ∙ refused_text line (answer (stream_file little old bytes) s) refused)
       (λ bytes ready. subst (λ o. AreHeld old (if_there section_asked o) × OfThere (λ s. IsOk (answer (stream_file little old bytes) s)) o) there (hand bytes ready))
-      leaves is leads
+      leaves is
 
-  pub segment_refused : (i : ℕ) (p : ProgramHeader) (answer : ObjectFile → ProgramHeader → Result Y ParseError) (whole : Result T ParseError) (e : ParseError) (before after : Option (List ℕ)) (r : Result (Unit {0}) RunError)
+  pub segment_refused : (i : ℕ) (p : ProgramHeader) (answer : ObjectFile → ProgramHeader → Result Y ParseError) (whole : Result T ParseError) (e : ParseError) (before : Option (List ℕ))
       → ((bytes : List ℕ) → call_text (stream_answers little old bytes) call ≡ unless_absent (λ p. unless_refused line (answer (stream_file little old bytes) p)) (slice_get old.segments i))
       → ((bytes : List ℕ) → IsAtHand little old bytes call → AreHeld old (if_there segment_asked (slice_get old.segments i)) × OfThere (λ p. IsOk (answer (stream_file little old bytes) p)) (slice_get old.segments i))
-      → slice_get old.segments i ≡ Some p → Leaves (segment_asked p) shown (λ bytes. answer (stream_file little old bytes) p) old new whole → whole ≡ Err e → LeadsTo (kind e) before after r → RanCall little call old new before after r
-  segment_refused i p answer whole e before after r texts hand there leaves is leads =
-      call_refused little call old new (segment_asked p) shown (λ bytes. answer (stream_file little old bytes) p) whole e before after r
+      → slice_get old.segments i ≡ Some p → Leaves (segment_asked p) shown (λ bytes. answer (stream_file little old bytes) p) old new whole → whole ≡ Err e → TriedCall {X = X} little call old new before before (Err e)
+  segment_refused i p answer whole e before texts hand there leaves is =
+      call_refused little call old new (segment_asked p) shown (λ bytes. answer (stream_file little old bytes) p) whole e before
       (λ bytes refused. texts bytes ∙ ap (unless_absent (λ p. unless_refused line (answer (stream_file little old bytes) p))) there ∙ refused_text line (answer (stream_file little old bytes) p) refused)
       (λ bytes ready. subst (λ o. AreHeld old (if_there segment_asked o) × OfThere (λ p. IsOk (answer (stream_file little old bytes) p)) o) there (hand bytes ready))
-      leaves is leads
+      leaves is
 
 -- ---- a section that is checked
 

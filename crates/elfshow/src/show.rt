@@ -84,14 +84,11 @@ pub fn parse_words<'a>(alloc: Global, words: &[&'a str]) -> Result<Request<'a>, 
 fn parse_mode(word: &str) -> Option<Mode>
     ensures { result ≡ mode_of word.now }
 {
-    if word == "bytes" {
-        Some(Mode::Bytes)
-    } else if word == "stream" {
-        Some(Mode::Stream)
-    } else if word == "both" {
-        Some(Mode::Both)
-    } else {
-        None
+    match word {
+        "bytes" => Some(Mode::Bytes),
+        "stream" => Some(Mode::Stream),
+        "both" => Some(Mode::Both),
+        _ => None,
     }
 }
 

@@ -22,58 +22,41 @@ pub(crate) fn parse_call(word: &str) -> Option<Call<'_>>
 fn parse_plain_call(word: &str) -> Option<Call<'static>>
     ensures { option_map asked result ≡ plain_call word.now }
 {
-    if word == "header" {
-        Some(Call::Header)
-    } else if word == "sections" {
-        Some(Call::Sections)
-    } else if word == "segments" {
-        Some(Call::Segments)
-    } else if word == "symbols" {
-        Some(Call::Symbols)
-    } else if word == "dynsyms" {
-        Some(Call::DynSyms)
-    } else if word == "dynamic" {
-        Some(Call::Dynamic)
-    } else if word == "versions" {
-        Some(Call::Versions)
-    } else {
-        None
+    match word {
+        "header" => Some(Call::Header),
+        "sections" => Some(Call::Sections),
+        "segments" => Some(Call::Segments),
+        "symbols" => Some(Call::Symbols),
+        "dynsyms" => Some(Call::DynSyms),
+        "dynamic" => Some(Call::Dynamic),
+        "versions" => Some(Call::Versions),
+        _ => None,
     }
 }
 
 fn parse_keyed_call<'a>(key: &str, value: &'a str) -> Option<Call<'a>>
     ensures { option_map asked result ≡ keyed_call key.now value.now }
 {
-    if key == "name" {
-        Some(Call::Name(value))
-    } else {
-        parse_indexed_call(key, parse_index(value)?)
+    match key {
+        "name" => Some(Call::Name(value)),
+        _ => parse_indexed_call(key, parse_index(value)?),
     }
 }
 
 fn parse_indexed_call(key: &str, index: u64) -> Option<Call<'static>>
     ensures { option_map asked result ≡ indexed_call key.now index }
 {
-    if key == "data" {
-        Some(Call::Data(index))
-    } else if key == "strings" {
-        Some(Call::Strings(index))
-    } else if key == "rels" {
-        Some(Call::Rels(index))
-    } else if key == "relas" {
-        Some(Call::Relas(index))
-    } else if key == "notes" {
-        Some(Call::Notes(index))
-    } else if key == "seg" {
-        Some(Call::Seg(index))
-    } else if key == "segnotes" {
-        Some(Call::SegNotes(index))
-    } else if key == "sysv" {
-        Some(Call::Sysv(index))
-    } else if key == "gnu" {
-        Some(Call::Gnu(index))
-    } else {
-        None
+    match key {
+        "data" => Some(Call::Data(index)),
+        "strings" => Some(Call::Strings(index)),
+        "rels" => Some(Call::Rels(index)),
+        "relas" => Some(Call::Relas(index)),
+        "notes" => Some(Call::Notes(index)),
+        "seg" => Some(Call::Seg(index)),
+        "segnotes" => Some(Call::SegNotes(index)),
+        "sysv" => Some(Call::Sysv(index)),
+        "gnu" => Some(Call::Gnu(index)),
+        _ => None,
     }
 }
 

@@ -1,9 +1,9 @@
 -- What one call of a run leaves; contracts of private functions speak of it.
-use Rattle.std.specs.Prelude.{◌≡◌, ℕ, ◌≤◌, Bool, List, Option, Result, Ok, Err, IfSome}
+use Rattle.std.specs.Prelude.{◌≡◌, ℕ, ◌≤◌, Bool, List, Option, Result, Ok, Err, IfSome, IsOk, OnOk}
 use Rattle.std.specs.Io.KnownBytes.{Appends}
 use Rattle.elf.specs.Answers.{dynamic_symbol_table, section_data}
 use Rattle.elf.specs.ObjectFile.{ObjectFile}
-use Rattle.elf.specs.Stream.{IsAnswer, Keeps, Kind, Seen, kind}
+use Rattle.elf.specs.Stream.{IsAnswer, IsRefused, Keeps, Kind, Seen, kind}
 use Rattle.elf_parts.specs.Number.{ok_map}
 use Rattle.elf_parts.specs.Record.{◌>>=◌}
 use Rattle.elf_parts.specs.declared.section.SectionHeader.{SectionHeader}
@@ -34,6 +34,18 @@ pub record RanCall {E : Type 0} (little : E → Bool) (call : Asked) (old new : 
   pub ran : IfSome old.content (λ bytes. RanOne (call_text (stream_answers little old bytes) call) before after old.faults new.faults r)
   pub counted : IfSome old.content (λ _. old.faults ≤ new.faults)
   pub no_fault : IfSome old.content (λ bytes. IsAtHand little old bytes call → IsFaultless r)
+
+-- of a call that was tried: its text was written; or the stream refuses it, and then nothing was written, and where
+-- the content has no answer that text is the line `refused`
+abbrev pub TriedOne : {X : Type 0} → List ℕ → Option (List ℕ) → Option (List ℕ) → Bool → ℕ → ℕ → Result (Result (Unit {0}) X) ParseError → Type 0
+TriedOne line old new can_fail before now (Ok written) = (now ≡ before) × OnOk written (Appends old new line)
+TriedOne line old new can_fail before now (Err e) = (new ≡ old) × IsRefused before now can_fail (line ≡ refused_line) (kind e)
+
+-- the same file, the text of the call or a refusal, and no refusal where it is answered at hand
+pub record TriedCall {E X : Type 0} (little : E → Bool) (call : Asked) (old new : Seen E) (before after : Option (List ℕ)) (r : Result (Result (Unit {0}) X) ParseError) : Type 0 where
+  pub keeps : Keeps old new
+  pub tried : IfSome old.content (λ bytes. TriedOne (call_text (stream_answers little old bytes) call) before after old.can_fail old.faults new.faults r)
+  pub accepted : IfSome old.content (λ bytes. IsAtHand little old bytes call → IsOk r)
 
 -- what was written, as a run tells it
 abbrev pub IsWritten : {A E : Type 0} → Result A E → Result (Unit {0}) RunError → Type 0

@@ -11,7 +11,7 @@ ghost use Rattle.elfshow.specs.Asked.{Asked, asked};
 ghost use Rattle.elfshow.specs.StreamAnswers.{stream_answers};
 ghost use Rattle.elfshow.specs.Text.{symbol_count};
 ghost use Rattle.elfshow.specs.Verdicts.{gnu_verdict, sysv_verdict};
-ghost use Rattle.elfshow.specs.inner.RunSteps.{Gives, IsWritten, LeadsTo, RanCall, checked_apart, section_bytes};
+ghost use Rattle.elfshow.specs.inner.RunSteps.{Gives, IsWritten, LeadsTo, RanCall, TriedCall, checked_apart, section_bytes};
 
 use crate::calls::bytes::{gnu_verdict, sysv_verdict};
 use crate::calls::{Call, RunError};
@@ -45,8 +45,22 @@ pub(super) fn write_call<E: EndianParse, S: StreamSource, A: Allocator + Copy, W
 ) -> Result<(), RunError>
     ensures { RanCall E.little (asked call.entry) stream.old stream.new (W.contents out.old) (W.contents out.new) result }
 {
+    match try_call(stream, call, out) {
+        Ok(written) => told(written),
+        Err(error) => refuse(error, out),
+    }
+}
+
+// Writes the text of a call, or hands on why the stream refuses it; then nothing is written.
+fn try_call<E: EndianParse, S: StreamSource, A: Allocator + Copy, W: Write>(
+    stream: &mut ElfStream<E, S, A>,
+    call: Call<'_>,
+    out: &mut W,
+) -> Result<io::Result<()>, ParseError>
+    ensures { TriedCall E.little (asked call.entry) stream.old stream.new (W.contents out.old) (W.contents out.new) result }
+{
     match call {
-        Call::Header => told(write_header(&stream.ehdr, out)),
+        Call::Header => Ok(write_header(&stream.ehdr, out)),
         Call::Sections => write_sections(stream, out),
         Call::Segments => write_segments(stream, out),
         Call::Name(name) => write_named(stream, name, out),
@@ -116,37 +130,37 @@ fn program_header<E: EndianParse, S: StreamSource, A: Allocator + Copy>(
 fn write_sections<E: EndianParse, S: StreamSource, A: Allocator + Copy, W: Write>(
     stream: &mut ElfStream<E, S, A>,
     out: &mut W,
-) -> Result<(), RunError>
-    ensures { RanCall E.little Asked.Sections stream.old stream.new (W.contents out.old) (W.contents out.new) result }
+) -> Result<io::Result<()>, ParseError>
+    ensures { TriedCall E.little Asked.Sections stream.old stream.new (W.contents out.old) (W.contents out.new) result }
 {
     match stream.section_headers_with_strtab() {
         Ok((sections, names)) => {
-            told(write_slice(sections.as_slice(), &SectionLine { names }, out))
+            Ok(write_slice(sections.as_slice(), &SectionLine { names }, out))
         }
-        Err(error) => refuse(error, out),
+        Err(error) => Err(error),
     }
 }
 
 fn write_segments<E: EndianParse, S: StreamSource, A: Allocator + Copy, W: Write>(
     stream: &mut ElfStream<E, S, A>,
     out: &mut W,
-) -> Result<(), RunError>
-    ensures { RanCall E.little Asked.Segments stream.old stream.new (W.contents out.old) (W.contents out.new) result }
+) -> Result<io::Result<()>, ParseError>
+    ensures { TriedCall E.little Asked.Segments stream.old stream.new (W.contents out.old) (W.contents out.new) result }
 {
-    told(write_slice(stream.segments().as_slice(), &SegmentLine, out))
+    Ok(write_slice(stream.segments().as_slice(), &SegmentLine, out))
 }
 
 fn write_named<E: EndianParse, S: StreamSource, A: Allocator + Copy, W: Write>(
     stream: &mut ElfStream<E, S, A>,
     name: &str,
     out: &mut W,
-) -> Result<(), RunError>
-    ensures { RanCall E.little (Asked.Name name.now) stream.old stream.new (W.contents out.old) (W.contents out.new) result }
+) -> Result<io::Result<()>, ParseError>
+    ensures { TriedCall E.little (Asked.Name name.now) stream.old stream.new (W.contents out.old) (W.contents out.new) result }
 {
     match stream.section_header_by_name(name) {
-        Ok(Some(section)) => told(write_found(section, out)),
-        Ok(None) => told(write_none(out)),
-        Err(error) => refuse(error, out),
+        Ok(Some(section)) => Ok(write_found(section, out)),
+        Ok(None) => Ok(write_none(out)),
+        Err(error) => Err(error),
     }
 }
 
@@ -154,15 +168,15 @@ fn write_data<E: EndianParse, S: StreamSource, A: Allocator + Copy, W: Write>(
     stream: &mut ElfStream<E, S, A>,
     index: u64,
     out: &mut W,
-) -> Result<(), RunError>
-    ensures { RanCall E.little (Asked.Data index) stream.old stream.new (W.contents out.old) (W.contents out.new) result }
+) -> Result<io::Result<()>, ParseError>
+    ensures { TriedCall E.little (Asked.Data index) stream.old stream.new (W.contents out.old) (W.contents out.new) result }
 {
     let Some(section) = section_header(stream, index) else {
-        return told(write_absent(out));
+        return Ok(write_absent(out));
     };
     match stream.section_data(&section) {
-        Ok((bytes, header)) => told(write_section_data(bytes, header.as_ref(), out)),
-        Err(error) => refuse(error, out),
+        Ok((bytes, header)) => Ok(write_section_data(bytes, header.as_ref(), out)),
+        Err(error) => Err(error),
     }
 }
 
@@ -170,15 +184,15 @@ fn write_section_strings<E: EndianParse, S: StreamSource, A: Allocator + Copy, W
     stream: &mut ElfStream<E, S, A>,
     index: u64,
     out: &mut W,
-) -> Result<(), RunError>
-    ensures { RanCall E.little (Asked.Strings index) stream.old stream.new (W.contents out.old) (W.contents out.new) result }
+) -> Result<io::Result<()>, ParseError>
+    ensures { TriedCall E.little (Asked.Strings index) stream.old stream.new (W.contents out.old) (W.contents out.new) result }
 {
     let Some(section) = section_header(stream, index) else {
-        return told(write_absent(out));
+        return Ok(write_absent(out));
     };
     match stream.section_data_as_strtab(&section) {
-        Ok(strings) => told(write_strings(strings, out)),
-        Err(error) => refuse(error, out),
+        Ok(strings) => Ok(write_strings(strings, out)),
+        Err(error) => Err(error),
     }
 }
 
@@ -186,15 +200,15 @@ fn write_rels<E: EndianParse, S: StreamSource, A: Allocator + Copy, W: Write>(
     stream: &mut ElfStream<E, S, A>,
     index: u64,
     out: &mut W,
-) -> Result<(), RunError>
-    ensures { RanCall E.little (Asked.Rels index) stream.old stream.new (W.contents out.old) (W.contents out.new) result }
+) -> Result<io::Result<()>, ParseError>
+    ensures { TriedCall E.little (Asked.Rels index) stream.old stream.new (W.contents out.old) (W.contents out.new) result }
 {
     let Some(section) = section_header(stream, index) else {
-        return told(write_absent(out));
+        return Ok(write_absent(out));
     };
     match stream.section_data_as_rels(&section) {
-        Ok(rels) => told(write_records(rels, &RelLine, out)),
-        Err(error) => refuse(error, out),
+        Ok(rels) => Ok(write_records(rels, &RelLine, out)),
+        Err(error) => Err(error),
     }
 }
 
@@ -202,15 +216,15 @@ fn write_relas<E: EndianParse, S: StreamSource, A: Allocator + Copy, W: Write>(
     stream: &mut ElfStream<E, S, A>,
     index: u64,
     out: &mut W,
-) -> Result<(), RunError>
-    ensures { RanCall E.little (Asked.Relas index) stream.old stream.new (W.contents out.old) (W.contents out.new) result }
+) -> Result<io::Result<()>, ParseError>
+    ensures { TriedCall E.little (Asked.Relas index) stream.old stream.new (W.contents out.old) (W.contents out.new) result }
 {
     let Some(section) = section_header(stream, index) else {
-        return told(write_absent(out));
+        return Ok(write_absent(out));
     };
     match stream.section_data_as_relas(&section) {
-        Ok(relas) => told(write_records(relas, &RelaLine, out)),
-        Err(error) => refuse(error, out),
+        Ok(relas) => Ok(write_records(relas, &RelaLine, out)),
+        Err(error) => Err(error),
     }
 }
 
@@ -218,15 +232,15 @@ fn write_section_notes<E: EndianParse, S: StreamSource, A: Allocator + Copy, W: 
     stream: &mut ElfStream<E, S, A>,
     index: u64,
     out: &mut W,
-) -> Result<(), RunError>
-    ensures { RanCall E.little (Asked.Notes index) stream.old stream.new (W.contents out.old) (W.contents out.new) result }
+) -> Result<io::Result<()>, ParseError>
+    ensures { TriedCall E.little (Asked.Notes index) stream.old stream.new (W.contents out.old) (W.contents out.new) result }
 {
     let Some(section) = section_header(stream, index) else {
-        return told(write_absent(out));
+        return Ok(write_absent(out));
     };
     match stream.section_data_as_notes(&section) {
-        Ok(notes) => told(write_notes(notes, out)),
-        Err(error) => refuse(error, out),
+        Ok(notes) => Ok(write_notes(notes, out)),
+        Err(error) => Err(error),
     }
 }
 
@@ -234,15 +248,15 @@ fn write_seg<E: EndianParse, S: StreamSource, A: Allocator + Copy, W: Write>(
     stream: &mut ElfStream<E, S, A>,
     index: u64,
     out: &mut W,
-) -> Result<(), RunError>
-    ensures { RanCall E.little (Asked.Seg index) stream.old stream.new (W.contents out.old) (W.contents out.new) result }
+) -> Result<io::Result<()>, ParseError>
+    ensures { TriedCall E.little (Asked.Seg index) stream.old stream.new (W.contents out.old) (W.contents out.new) result }
 {
     let Some(segment) = program_header(stream, index) else {
-        return told(write_absent(out));
+        return Ok(write_absent(out));
     };
     match stream.segment_data(&segment) {
-        Ok(bytes) => told(write_segment_data(bytes, out)),
-        Err(error) => refuse(error, out),
+        Ok(bytes) => Ok(write_segment_data(bytes, out)),
+        Err(error) => Err(error),
     }
 }
 
@@ -250,62 +264,62 @@ fn write_segment_notes<E: EndianParse, S: StreamSource, A: Allocator + Copy, W: 
     stream: &mut ElfStream<E, S, A>,
     index: u64,
     out: &mut W,
-) -> Result<(), RunError>
-    ensures { RanCall E.little (Asked.SegNotes index) stream.old stream.new (W.contents out.old) (W.contents out.new) result }
+) -> Result<io::Result<()>, ParseError>
+    ensures { TriedCall E.little (Asked.SegNotes index) stream.old stream.new (W.contents out.old) (W.contents out.new) result }
 {
     let Some(segment) = program_header(stream, index) else {
-        return told(write_absent(out));
+        return Ok(write_absent(out));
     };
     match stream.segment_data_as_notes(&segment) {
-        Ok(notes) => told(write_notes(notes, out)),
-        Err(error) => refuse(error, out),
+        Ok(notes) => Ok(write_notes(notes, out)),
+        Err(error) => Err(error),
     }
 }
 
 fn write_symbols<E: EndianParse, S: StreamSource, A: Allocator + Copy, W: Write>(
     stream: &mut ElfStream<E, S, A>,
     out: &mut W,
-) -> Result<(), RunError>
-    ensures { RanCall E.little Asked.Symbols stream.old stream.new (W.contents out.old) (W.contents out.new) result }
+) -> Result<io::Result<()>, ParseError>
+    ensures { TriedCall E.little Asked.Symbols stream.old stream.new (W.contents out.old) (W.contents out.new) result }
 {
     match stream.symbol_table() {
-        Ok(Some((symbols, strings))) => told(write_records(
+        Ok(Some((symbols, strings))) => Ok(write_records(
             symbols.iter(),
             &SymbolLine { strings },
             out,
         )),
-        Ok(None) => told(write_none(out)),
-        Err(error) => refuse(error, out),
+        Ok(None) => Ok(write_none(out)),
+        Err(error) => Err(error),
     }
 }
 
 fn write_dynsyms<E: EndianParse, S: StreamSource, A: Allocator + Copy, W: Write>(
     stream: &mut ElfStream<E, S, A>,
     out: &mut W,
-) -> Result<(), RunError>
-    ensures { RanCall E.little Asked.DynSyms stream.old stream.new (W.contents out.old) (W.contents out.new) result }
+) -> Result<io::Result<()>, ParseError>
+    ensures { TriedCall E.little Asked.DynSyms stream.old stream.new (W.contents out.old) (W.contents out.new) result }
 {
     match stream.dynamic_symbol_table() {
-        Ok(Some((symbols, strings))) => told(write_records(
+        Ok(Some((symbols, strings))) => Ok(write_records(
             symbols.iter(),
             &SymbolLine { strings },
             out,
         )),
-        Ok(None) => told(write_none(out)),
-        Err(error) => refuse(error, out),
+        Ok(None) => Ok(write_none(out)),
+        Err(error) => Err(error),
     }
 }
 
 fn write_dynamic<E: EndianParse, S: StreamSource, A: Allocator + Copy, W: Write>(
     stream: &mut ElfStream<E, S, A>,
     out: &mut W,
-) -> Result<(), RunError>
-    ensures { RanCall E.little Asked.Dynamic stream.old stream.new (W.contents out.old) (W.contents out.new) result }
+) -> Result<io::Result<()>, ParseError>
+    ensures { TriedCall E.little Asked.Dynamic stream.old stream.new (W.contents out.old) (W.contents out.new) result }
 {
     match stream.dynamic() {
-        Ok(Some(entries)) => told(write_records(entries.iter(), &DynLine, out)),
-        Ok(None) => told(write_none(out)),
-        Err(error) => refuse(error, out),
+        Ok(Some(entries)) => Ok(write_records(entries.iter(), &DynLine, out)),
+        Ok(None) => Ok(write_none(out)),
+        Err(error) => Err(error),
     }
 }
 
@@ -329,17 +343,17 @@ fn dynamic_symbol_count<E: EndianParse, S: StreamSource, A: Allocator + Copy>(
 fn write_symbol_versions<E: EndianParse, S: StreamSource, A: Allocator + Copy, W: Write>(
     stream: &mut ElfStream<E, S, A>,
     out: &mut W,
-) -> Result<(), RunError>
-    ensures { RanCall E.little Asked.Versions stream.old stream.new (W.contents out.old) (W.contents out.new) result }
+) -> Result<io::Result<()>, ParseError>
+    ensures { TriedCall E.little Asked.Versions stream.old stream.new (W.contents out.old) (W.contents out.new) result }
 {
     let symbols = match dynamic_symbol_count(stream) {
         Ok(symbols) => symbols,
-        Err(error) => return refuse(error, out),
+        Err(error) => return Err(error),
     };
     match stream.symbol_version_table() {
-        Ok(Some(versions)) => told(write_versions(symbols, &versions, out)),
-        Ok(None) => told(write_none(out)),
-        Err(error) => refuse(error, out),
+        Ok(Some(versions)) => Ok(write_versions(symbols, &versions, out)),
+        Ok(None) => Ok(write_none(out)),
+        Err(error) => Err(error),
     }
 }
 
@@ -388,17 +402,17 @@ fn write_sysv<E: EndianParse, S: StreamSource, A: Allocator + Copy, W: Write>(
     stream: &mut ElfStream<E, S, A>,
     index: u64,
     out: &mut W,
-) -> Result<(), RunError>
-    ensures { RanCall E.little (Asked.Sysv index) stream.old stream.new (W.contents out.old) (W.contents out.new) result }
+) -> Result<io::Result<()>, ParseError>
+    ensures { TriedCall E.little (Asked.Sysv index) stream.old stream.new (W.contents out.old) (W.contents out.new) result }
 {
     let Some(section) = section_header(stream, index) else {
-        return told(write_absent(out));
+        return Ok(write_absent(out));
     };
     match section_sysv_verdict(stream, &section) {
-        Ok(Some(Ok(verdict))) => told(write_verdict(verdict, out)),
-        Ok(Some(Err(_))) => told(write_refused(out)),
-        Ok(None) => told(write_none(out)),
-        Err(error) => refuse(error, out),
+        Ok(Some(Ok(verdict))) => Ok(write_verdict(verdict, out)),
+        Ok(Some(Err(_))) => Ok(write_refused(out)),
+        Ok(None) => Ok(write_none(out)),
+        Err(error) => Err(error),
     }
 }
 
@@ -429,16 +443,16 @@ fn write_gnu<E: EndianParse, S: StreamSource, A: Allocator + Copy, W: Write>(
     stream: &mut ElfStream<E, S, A>,
     index: u64,
     out: &mut W,
-) -> Result<(), RunError>
-    ensures { RanCall E.little (Asked.Gnu index) stream.old stream.new (W.contents out.old) (W.contents out.new) result }
+) -> Result<io::Result<()>, ParseError>
+    ensures { TriedCall E.little (Asked.Gnu index) stream.old stream.new (W.contents out.old) (W.contents out.new) result }
 {
     let Some(section) = section_header(stream, index) else {
-        return told(write_absent(out));
+        return Ok(write_absent(out));
     };
     match section_gnu_verdict(stream, &section) {
-        Ok(Some(Ok(verdict))) => told(write_verdict(verdict, out)),
-        Ok(Some(Err(_))) => told(write_refused(out)),
-        Ok(None) => told(write_none(out)),
-        Err(error) => refuse(error, out),
+        Ok(Some(Ok(verdict))) => Ok(write_verdict(verdict, out)),
+        Ok(Some(Err(_))) => Ok(write_refused(out)),
+        Ok(None) => Ok(write_none(out)),
+        Err(error) => Err(error),
     }
 }

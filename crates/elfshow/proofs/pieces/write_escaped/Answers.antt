@@ -1,4 +1,5 @@
 use Rattle.std.proofs.Common.{◌+◌, ◌++◌, get_or, drop, sym, subst, arith, ◌∙◌}
+use Rattle.std.proofs.lemmas.Grind.{common_steps}
 use Rattle.std.specs.Io.KnownBytes.{Appends}
 use Rattle.elfshow.specs.Pieces.{escaped, escape}
 use Rattle.std.specs.Prelude.{slice_range}
@@ -28,3 +29,6 @@ loop-i-preserved g c =
             subst (λ t. Leaves (contents c.args.out.now) (contents c.loop-i.out) t (escaped bytes)) (plain_waits bytes c.loop-i.start i c.loop-i.invariant.0 c.loop-i-test.true plain) c.loop-i.invariant.1,
           )
     ]
+
+pub returns : goal.returns
+returns g c = grind (arith, common_steps)

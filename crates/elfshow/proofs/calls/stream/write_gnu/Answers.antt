@@ -23,9 +23,9 @@ returns-in-Err g c =
     let section = c.in-Some.section in
     let cut = gnu_section (little old.ehdr.endianness) old.ehdr.class in
     let says = λ (bytes : List ℕ) (s : SectionHeader). checked_section gnu_verdict cut (file bytes) s in
-    call_refused_given little (Gnu c.args.index) old c.section_gnu_verdict.new.stream (λ verdict. verdict) (λ bytes. checked_apart gnu_verdict cut (file bytes) section) c.section_gnu_verdict.result c.in-Err.error _ _ c.refuse.result
+    call_refused_given little (Gnu c.args.index) old c.section_gnu_verdict.new.stream (λ verdict. verdict) (λ bytes. checked_apart gnu_verdict cut (file bytes) section) c.section_gnu_verdict.result c.in-Err.error _
     (λ bytes refused. ap (unless_absent (λ s. unless_refused (unless_none verdict_line) (says bytes s))) (sym c.section_header.ensures ∙ c.in-Some.is)
     ∙ refused_text (unless_none verdict_line) (says bytes section)
     (apart_refused (section_data (file bytes) section) (λ found. found.0) (dynamic_symbol_table (file bytes)) (λ part symbols. option_map (λ found. ok_map gnu_verdict (section_given found.0 found.1 (cut part))) symbols) (λ part symbols. checked_for gnu_verdict (cut part) symbols) refused))
     (λ bytes ready. ready.0)
-    c.section_gnu_verdict.ensures c.in-Err.is c.refuse.ensures
+    c.section_gnu_verdict.ensures c.in-Err.is

@@ -20,10 +20,10 @@ returns-in-Err g c =
     let file = stream_file little old in
     let symbols = λ (bytes : List ℕ). ok_map (option_map symbols_with_names) (dynamic_symbol_table (file bytes)) in
     let versions = λ (bytes : List ℕ). symbol_version_table (file bytes) in
-    call_refused little Versions old c.dynamic_symbol_count.new.stream (symbols_asked 11 (headers_alone little old)) (λ count. count) (λ bytes. ok_map symbol_count (symbols bytes)) c.dynamic_symbol_count.result c.in-Err.error _ _ c.refuse.result
+    call_refused little Versions old c.dynamic_symbol_count.new.stream (symbols_asked 11 (headers_alone little old)) (λ count. count) (λ bytes. ok_map symbol_count (symbols bytes)) c.dynamic_symbol_count.result c.in-Err.error _
     (λ bytes refused. refused_text (λ found. unless_refused (unless_none (versions_listed (symbol_count found))) (versions bytes)) (symbols bytes) (inner_refused symbol_count (symbols bytes) refused))
     (λ bytes ready. (held_front old (symbols_asked 11 (headers_alone little old)) (versions_asked (headers_alone little old)) ready.1, outer_ok symbol_count (symbols bytes) ready.2.0))
-    c.dynamic_symbol_count.ensures c.in-Err.is c.refuse.ensures
+    c.dynamic_symbol_count.ensures c.in-Err.is
 
 pub returns-in-Err-symbol_version_table : goal.returns-in-Err-symbol_version_table
 returns-in-Err-symbol_version_table g c =
@@ -36,10 +36,10 @@ returns-in-Err-symbol_version_table g c =
     let counted = gives_of old middle (symbols_asked 11 (headers_alone little old)) (λ count. count) (λ bytes. ok_map symbol_count (symbols bytes)) c.dynamic_symbol_count.result c.dynamic_symbol_count.ensures in
     let same = gives_same old middle (λ count. count) (λ bytes. ok_map symbol_count (symbols bytes)) c.dynamic_symbol_count.result c.in-Ok.symbols c.in-Ok.is counted in
     let leaves = leaves_later little old middle new versions_asked (option_map versions_view) symbol_version_table c.symbol_version_table.result c.dynamic_symbol_count.ensures.keeps same c.symbol_version_table.follows.holds-at-none in
-    call_refused little Versions old new (versions_asked (headers_alone little old)) (option_map versions_view) (λ bytes. symbol_version_table (file bytes)) c.symbol_version_table.result c.in-Err-symbol_version_table.error _ _ c.refuse-in-Err-symbol_version_table.result
+    call_refused little Versions old new (versions_asked (headers_alone little old)) (option_map versions_view) (λ bytes. symbol_version_table (file bytes)) c.symbol_version_table.result c.in-Err-symbol_version_table.error _
     (λ bytes refused. both_refused (λ found. unless_none (versions_listed (symbol_count found))) (symbols bytes) (symbol_version_table (file bytes)) refused)
     (λ bytes ready. (held_back old (symbols_asked 11 (headers_alone little old)) (versions_asked (headers_alone little old)) ready.1, ready.2.1))
-    leaves c.in-Err-symbol_version_table.is c.refuse-in-Err-symbol_version_table.ensures
+    leaves c.in-Err-symbol_version_table.is
 
 pub returns-in-Ok-Some : goal.returns-in-Ok-Some
 returns-in-Ok-Some g c =
@@ -56,6 +56,6 @@ returns-in-Ok-Some g c =
     let leaves = leaves_later little old middle new versions_asked (option_map versions_view) symbol_version_table c.symbol_version_table.result c.dynamic_symbol_count.ensures.keeps same c.symbol_version_table.follows.holds-at-none in
     let found : c.symbol_version_table.result ≡ Ok (Some c.in-Ok-Some.versions) = cc (c.in-Ok-Some.is, c.in-Ok-Some.field-0-is) in
     let given = gives_of old new (versions_asked (headers_alone little old)) (option_map versions_view) versions c.symbol_version_table.result leaves in
-    call_written little Versions old new (option_map versions_view) versions c.symbol_version_table.result (Some c.in-Ok-Some.versions) (versions_listed c.in-Ok.symbols (versions_view c.in-Ok-Some.versions)) _ _ c.write_versions.result c.told.result
+    call_written little Versions old new (option_map versions_view) versions c.symbol_version_table.result (Some c.in-Ok-Some.versions) (versions_listed c.in-Ok.symbols (versions_view c.in-Ok-Some.versions)) _ _ c.write_versions.result
     (IfSome_then old.content number (λ bytes count answer. both_told symbol_count (λ n. unless_none (versions_listed n)) (symbols bytes) (versions bytes) c.in-Ok.symbols (Some (versions_view c.in-Ok-Some.versions)) count answer))
-    given found c.write_versions.ensures c.told.ensures
+    given found c.write_versions.ensures

@@ -14,7 +14,7 @@ returns-in-Err g c =
     let little = g.E.EndianParse.little in
     let old = c.args.stream.now in
     let file = stream_file little old in
-    call_refused little Symbols old c.symbol_table.follows.lender-at-none (symbols_asked 2 (headers_alone little old)) (option_map symbols_view) (λ bytes. symbol_table (file bytes)) c.symbol_table.result c.in-Err.error _ _ c.refuse.result
+    call_refused little Symbols old c.symbol_table.follows.lender-at-none (symbols_asked 2 (headers_alone little old)) (option_map symbols_view) (λ bytes. symbol_table (file bytes)) c.symbol_table.result c.in-Err.error _
     (λ bytes refused. refused_text (unless_none symbols_text) (ok_map (option_map symbols_with_names) (symbol_table (file bytes))) (outer_refused (option_map symbols_with_names) (symbol_table (file bytes)) refused))
     (λ bytes ready. (ready.1, inner_ok (option_map symbols_with_names) (symbol_table (file bytes)) ready.2))
-    c.symbol_table.follows.holds-at-none c.in-Err.is c.refuse.ensures
+    c.symbol_table.follows.holds-at-none c.in-Err.is

@@ -1,4 +1,5 @@
 use Rattle.std.proofs.Common.{◌≡◌, ◌+◌, length, arith}
+use Rattle.std.proofs.lemmas.Grind.{common_steps}
 use Rattle.std.proofs.lemmas.List.{length_push}
 use Rattle.elfshow.specs.lines.Listed.{numbered}
 use Rattle.elfshow.proofs.Listing.{numbered_more}
@@ -16,3 +17,6 @@ loop-item-preserved g c =
     let place : 0 + length shown ≡ c.loop-item.count = omega (arith, before.0) in
     let text = appends_more _ _ _ (numbered line 0 shown) (line c.loop-item.count item) before.2 c.in_ok-write_line.ensures in
     (omega (arith, more, before.0), omega (arith, before.1, step.2), rw (numbered_more line 0 shown item, place) text, step.0, step.1)
+
+pub returns : goal.returns
+returns g c = grind (arith, common_steps)
