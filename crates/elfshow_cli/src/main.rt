@@ -21,8 +21,9 @@ fn main(rt: HostRuntime) -> ExitCode {
 
 fn run(rt: &HostRuntime) -> u8 {
     let mut err = rt.stderr();
-    let Ok(args) = env::args(rt) else {
-        return tell_usage(&mut err);
+    let args = match env::args(rt) {
+        Ok(args) => args,
+        Err(error) => return tell_args(error, &mut err),
     };
     match args.skip(1).collect(rt.alloc()) {
         Ok(words) => run_words(rt, &words, &mut err),
@@ -70,6 +71,14 @@ fn run_in_memory(rt: &HostRuntime, request: &Request<'_>, err: &mut Stderr) -> u
     match BufWriter::with_capacity(rt.alloc(), OUTPUT_BUFFER, rt.stdout()) {
         Ok(mut out) => answer_in_memory(rt.alloc(), request, data.as_slice(), &mut out, err),
         Err(_) => tell_no_memory(err),
+    }
+}
+
+// Tells that the arguments cannot be taken: there is no memory for them, or one is no text.
+fn tell_args(error: io::Error, err: &mut Stderr) -> u8 {
+    match error.kind() {
+        io::ErrorKind::OutOfMemory => tell_no_memory(err),
+        _ => tell_usage(err),
     }
 }
 
