@@ -58,14 +58,23 @@ fn signed_have_their_values(rt: HostRuntime) {
     }
 }
 
+/// Each text has its type.
+const MAGIC: [u8; 4] = abi::ELFMAGIC;
+
+const NOTE: &[u8] = abi::ELF_NOTE_GNU;
+
+const ARM: &str = abi::SHT_AARCH64_ATTRIBUTES_SECTION_NAME;
+
+const RISCV: &str = abi::SHT_RISCV_ATTRIBUTES_SECTION_NAME;
+
 #[test]
 fn texts_have_their_values(rt: HostRuntime) {
-    let magic: [u8; 4] = abi::ELFMAGIC;
-    assert_eq!(rt; magic, [0x7f, 0x45, 0x4c, 0x46]);
-    let note: &[u8] = abi::ELF_NOTE_GNU;
-    assert_eq!(rt; note, [0x47, 0x4e, 0x55, 0].as_slice());
-    let arm: &str = abi::SHT_AARCH64_ATTRIBUTES_SECTION_NAME;
-    assert_eq!(rt; arm, ".ARM.attributes");
-    let riscv: &str = abi::SHT_RISCV_ATTRIBUTES_SECTION_NAME;
-    assert_eq!(rt; riscv, ".riscv.attributes");
+    for (constant, expected) in [
+        (&MAGIC[..], &[0x7f, 0x45, 0x4c, 0x46][..]),
+        (NOTE, &[0x47, 0x4e, 0x55, 0]),
+        (ARM.as_bytes(), b".ARM.attributes"),
+        (RISCV.as_bytes(), b".riscv.attributes"),
+    ] {
+        assert_eq!(rt; constant, expected);
+    }
 }

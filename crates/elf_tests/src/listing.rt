@@ -6,6 +6,7 @@ use elf::endian::{AnyEndian, LittleEndian};
 use elf_worked::order::FileOrder;
 use elfshow::calls::{Call, RunError, run_bytes};
 use elfshow::show::show;
+use std::alloc::AllocError;
 use std::test::Fail;
 
 #[test]
@@ -48,13 +49,17 @@ fn is_pairs(text: &[u8]) -> bool {
     rest.is_empty()
 }
 
+/// So many pairs of two items behind the first ones.
+fn with_pairs<T: Copy>(mut items: Vec<T>, pair: [T; 2]) -> Result<Vec<T>, AllocError> {
+    for _ in 0..PAIRS {
+        items.extend_from_slice(&pair)?;
+    }
+    Ok(items)
+}
+
 #[test]
 fn many_calls_are_run(rt: HostRuntime) -> Result<(), Fail> {
-    let mut calls = Vec::new(rt.alloc());
-    for _ in 0..PAIRS {
-        calls.push(Call::Header)?;
-        calls.push(Call::Sections)?;
-    }
+    let calls = with_pairs(Vec::new(rt.alloc()), [Call::Header, Call::Sections])?;
     let mut out = Vec::new(rt.alloc());
     run_bytes::<AnyEndian, Vec<u8>>(&HEADER_ALONE, calls.as_slice(), &mut out)?;
     assert!(rt; is_pairs(out.as_slice()));
@@ -63,13 +68,9 @@ fn many_calls_are_run(rt: HostRuntime) -> Result<(), Fail> {
 
 #[test]
 fn many_words_are_shown(rt: HostRuntime) -> Result<(), Fail> {
-    let mut words = vec![in rt.alloc(); "bytes", "F"]?;
-    for _ in 0..PAIRS {
-        words.push("header")?;
-        words.push("sections")?;
-    }
-    let mut out = Vec::new(rt.alloc());
-    let mut err = Vec::new(rt.alloc());
+    let first = vec![in rt.alloc(); "bytes", "F"]?;
+    let words = with_pairs(first, ["header", "sections"])?;
+    let (mut out, mut err) = (Vec::new(rt.alloc()), Vec::new(rt.alloc()));
     let status = show(
         rt.alloc(),
         words.as_slice(),
@@ -77,7 +78,6 @@ fn many_words_are_shown(rt: HostRuntime) -> Result<(), Fail> {
         &mut out,
         &mut err,
     );
-    assert_eq!(rt; status, 0);
-    assert!(rt; is_pairs(out.as_slice()) && err.is_empty());
+    assert!(rt; status == 0 && err.is_empty() && is_pairs(out.as_slice()));
     Ok(())
 }

@@ -86,9 +86,9 @@ fn an_order_accepts_its_own_bytes_alone(rt: HostRuntime) {
 
 #[test]
 fn an_order_tells_what_it_is(rt: HostRuntime) -> Result<(), Fail> {
-    assert_eq!(rt; FileOrder::from_ei_data(2)?, FileOrder::HighFirst);
-    assert_eq!(rt; FileOrder::default(), FileOrder::HighFirst);
-    assert_eq!(rt; NativeEndian::default(), LittleEndian);
+    assert!(rt; FileOrder::from_ei_data(2)? == FileOrder::HighFirst);
+    assert!(rt; FileOrder::default() == FileOrder::HighFirst);
+    assert!(rt; NativeEndian::default() == LittleEndian);
     assert!(rt; FileOrder::LowFirst.is_little() && !FileOrder::LowFirst.is_big());
     assert!(rt; FileOrder::HighFirst.is_big() && !FileOrder::HighFirst.is_little());
     Ok(())

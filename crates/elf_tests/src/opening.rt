@@ -11,13 +11,12 @@ use std::test::Fail;
 fn a_users_order_opens_its_files(rt: HostRuntime) -> Result<(), Fail> {
     let file = ElfBytes::<FileOrder>::minimal_parse(&TWO_SECTIONS_BIG)?;
     let sections = file.section_headers().ok_or("no sections")?;
-    assert_eq!(rt; sections.len(), 2);
-    assert_eq!(rt; sections.get(1)?.sh_offset, 52);
+    assert!(rt; sections.len() == 2 && sections.get(1)?.sh_offset == 52);
     let other = refusal(
         rt.alloc(),
         ElfBytes::<FileOrder>::minimal_parse(&TWO_SECTIONS),
     )?;
-    assert_eq!(rt; other.as_str(), "UnsupportedElfEndianness(1)");
+    assert!(rt; other.as_str() == "UnsupportedElfEndianness(1)", "{other}");
     Ok(())
 }
 

@@ -2,25 +2,20 @@
 use elf::file::{Elf32_Ehdr, Elf64_Ehdr};
 use elf::section::{Elf32_Shdr, Elf64_Shdr};
 use elf::segment::{Elf32_Phdr, Elf64_Phdr};
-use std::alloc::AllocError;
 use std::fmt::Debug;
 use std::process::Abort;
-use std::test::Fail;
 
 /// Asserts the names of a struct's fields with what they hold.
-fn assert_fields<S: Debug + Drop>(
-    rt: &(impl Abort + AllocGlobal),
-    value: S,
-    want: &str,
-) -> Result<(), AllocError> {
-    let text = format!(in rt.alloc(); "{value:?}")?;
-    assert_eq!(rt; text.as_str(), want);
-    Ok(())
+fn assert_fields<S: Debug + Drop>(rt: &(impl Abort + AllocGlobal), value: S, want: &str) {
+    match format!(in rt.alloc(); "{value:?}") {
+        Ok(text) => assert_eq!(rt; text.as_str(), want),
+        Err(_) => assert!(rt; false, "no memory"),
+    }
 }
 
 // Each field has the greatest value of its type.
 #[test]
-fn plain_structs_have_their_fields(rt: HostRuntime) -> Result<(), Fail> {
+fn plain_structs_have_their_fields(rt: HostRuntime) {
     assert_fields(
         &rt,
         Elf32_Ehdr {
@@ -40,7 +35,7 @@ fn plain_structs_have_their_fields(rt: HostRuntime) -> Result<(), Fail> {
             e_shstrndx: u16::MAX,
         },
         "Elf32_Ehdr { e_ident: [255, 255, 255, 255, 255, 255, 255, 255, 255, 255, 255, 255, 255, 255, 255, 255], e_type: 65535, e_machine: 65535, e_version: 4294967295, e_entry: 4294967295, e_phoff: 4294967295, e_shoff: 4294967295, e_flags: 4294967295, e_ehsize: 65535, e_phentsize: 65535, e_phnum: 65535, e_shentsize: 65535, e_shnum: 65535, e_shstrndx: 65535 }",
-    )?;
+    );
     assert_fields(
         &rt,
         Elf64_Ehdr {
@@ -60,7 +55,7 @@ fn plain_structs_have_their_fields(rt: HostRuntime) -> Result<(), Fail> {
             e_shstrndx: u16::MAX,
         },
         "Elf64_Ehdr { e_ident: [255, 255, 255, 255, 255, 255, 255, 255, 255, 255, 255, 255, 255, 255, 255, 255], e_type: 65535, e_machine: 65535, e_version: 4294967295, e_entry: 18446744073709551615, e_phoff: 18446744073709551615, e_shoff: 18446744073709551615, e_flags: 4294967295, e_ehsize: 65535, e_phentsize: 65535, e_phnum: 65535, e_shentsize: 65535, e_shnum: 65535, e_shstrndx: 65535 }",
-    )?;
+    );
     assert_fields(
         &rt,
         Elf32_Shdr {
@@ -76,7 +71,7 @@ fn plain_structs_have_their_fields(rt: HostRuntime) -> Result<(), Fail> {
             sh_entsize: u32::MAX,
         },
         "Elf32_Shdr { sh_name: 4294967295, sh_type: 4294967295, sh_flags: 4294967295, sh_addr: 4294967295, sh_offset: 4294967295, sh_size: 4294967295, sh_link: 4294967295, sh_info: 4294967295, sh_addralign: 4294967295, sh_entsize: 4294967295 }",
-    )?;
+    );
     assert_fields(
         &rt,
         Elf64_Shdr {
@@ -92,7 +87,7 @@ fn plain_structs_have_their_fields(rt: HostRuntime) -> Result<(), Fail> {
             sh_entsize: u64::MAX,
         },
         "Elf64_Shdr { sh_name: 4294967295, sh_type: 4294967295, sh_flags: 18446744073709551615, sh_addr: 18446744073709551615, sh_offset: 18446744073709551615, sh_size: 18446744073709551615, sh_link: 4294967295, sh_info: 4294967295, sh_addralign: 18446744073709551615, sh_entsize: 18446744073709551615 }",
-    )?;
+    );
     assert_fields(
         &rt,
         Elf32_Phdr {
@@ -106,7 +101,7 @@ fn plain_structs_have_their_fields(rt: HostRuntime) -> Result<(), Fail> {
             p_align: u32::MAX,
         },
         "Elf32_Phdr { p_type: 4294967295, p_offset: 4294967295, p_vaddr: 4294967295, p_paddr: 4294967295, p_filesz: 4294967295, p_memsz: 4294967295, p_flags: 4294967295, p_align: 4294967295 }",
-    )?;
+    );
     assert_fields(
         &rt,
         Elf64_Phdr {
@@ -120,6 +115,5 @@ fn plain_structs_have_their_fields(rt: HostRuntime) -> Result<(), Fail> {
             p_align: u64::MAX,
         },
         "Elf64_Phdr { p_type: 4294967295, p_flags: 4294967295, p_offset: 18446744073709551615, p_vaddr: 18446744073709551615, p_paddr: 18446744073709551615, p_filesz: 18446744073709551615, p_memsz: 18446744073709551615, p_align: 18446744073709551615 }",
-    )?;
-    Ok(())
+    );
 }

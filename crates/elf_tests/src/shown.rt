@@ -9,51 +9,46 @@ use elf_worked::order::FileOrder;
 use elf_worked::triple::Triple;
 use elfshow::calls::{Call, RunError};
 use elfshow::show::RequestError;
-use std::alloc::AllocError;
 use std::fmt::Debug;
 use std::process::Abort;
 use std::test::Fail;
 
 /// Asserts that the debug text of a value begins with its type's name, or its variant's.
-fn assert_shown<D: Debug + Drop>(
-    rt: &(impl Abort + AllocGlobal),
-    value: D,
-    name: &str,
-) -> Result<(), AllocError> {
-    let text = format!(in rt.alloc(); "{value:?}")?;
-    assert!(rt; text.starts_with(name), "{text}");
-    Ok(())
+fn assert_shown<D: Debug + Drop>(rt: &(impl Abort + AllocGlobal), value: D, name: &str) {
+    match format!(in rt.alloc(); "{value:?}") {
+        Ok(text) => assert!(rt; text.starts_with(name), "{text}"),
+        Err(_) => assert!(rt; false, "no memory"),
+    }
 }
 
 #[test]
-fn parts_are_shown(rt: HostRuntime) -> Result<(), Fail> {
-    assert_shown(&rt, AnyEndian::Big, "Big")?;
-    assert_shown(&rt, LittleEndian, "LittleEndian")?;
-    assert_shown(&rt, BigEndian, "BigEndian")?;
-    assert_shown(&rt, Class::ELF32, "ELF32")?;
-    assert_shown(&rt, StringTable::new(b"\0"), "StringTable")?;
-    assert_shown(&rt, ParseError::BadOffset(7), "BadOffset(7)")?;
+fn parts_are_shown(rt: HostRuntime) {
+    assert_shown(&rt, AnyEndian::Big, "Big");
+    assert_shown(&rt, LittleEndian, "LittleEndian");
+    assert_shown(&rt, BigEndian, "BigEndian");
+    assert_shown(&rt, Class::ELF32, "ELF32");
+    assert_shown(&rt, StringTable::new(b"\0"), "StringTable");
+    assert_shown(&rt, ParseError::BadOffset(7), "BadOffset(7)");
     let table = ParsingTable::<'_, _, Triple>::new(LittleEndian, Class::ELF32, b"abc");
-    assert_shown(&rt, table, "ParsingTable")?;
+    assert_shown(&rt, table, "ParsingTable");
     let items = ParsingIterator::<'_, _, Triple>::new(FileOrder::HighFirst, Class::ELF32, b"abc");
-    assert_shown(&rt, items, "ParsingIterator")?;
-    Ok(())
+    assert_shown(&rt, items, "ParsingIterator");
 }
 
 #[test]
 fn files_and_runs_are_shown(rt: HostRuntime) -> Result<(), Fail> {
     let file = ElfBytes::<AnyEndian>::minimal_parse(&TWO_SECTIONS)?;
     let sections = file.section_headers().ok_or("no sections")?;
-    assert_shown(&rt, file.ehdr, "FileHeader")?;
-    assert_shown(&rt, sections.get(1)?, "SectionHeader")?;
-    assert_shown(&rt, file, "ElfBytes")?;
-    assert_shown(&rt, Call::Sections, "Sections")?;
+    assert_shown(&rt, file.ehdr, "FileHeader");
+    assert_shown(&rt, sections.get(1)?, "SectionHeader");
+    assert_shown(&rt, file, "ElfBytes");
+    assert_shown(&rt, Call::Sections, "Sections");
     assert_shown(
         &rt,
         RunError::Open(ParseError::IntegerOverflow),
         "Open(IntegerOverflow)",
-    )?;
-    assert_shown(&rt, RequestError::Usage, "Usage")?;
+    );
+    assert_shown(&rt, RequestError::Usage, "Usage");
     Ok(())
 }
 
@@ -66,16 +61,19 @@ fn copies<T: Copy + Eq + Drop>(value: T) -> bool {
 #[test]
 fn values_are_copied(rt: HostRuntime) -> Result<(), Fail> {
     let file = ElfBytes::<LittleEndian>::minimal_parse(&HEADER_ALONE)?;
-    assert!(rt; copies(file.ehdr));
-    assert!(rt; copies(file.ehdr.class) && Class::ELF32 != Class::ELF64);
-    assert!(rt; copies(AnyEndian::Big) && AnyEndian::Big != AnyEndian::Little);
-    assert!(rt; copies(LittleEndian) && copies(BigEndian));
-    assert!(rt; copies(FileOrder::LowFirst) && FileOrder::LowFirst != FileOrder::HighFirst);
-    assert!(rt; copies(Call::Header) && Call::Header != Call::Sections);
-    assert!(rt; copies(RequestError::Usage) && RequestError::Usage != RequestError::OutOfMemory);
-    assert!(rt; StringTable::default().get_raw(0).is_err());
+    assert!(rt; copies(file.ehdr) && copies(file.ehdr.class) && copies(AnyEndian::Big));
+    assert!(rt; copies(LittleEndian) && copies(BigEndian) && copies(FileOrder::LowFirst));
+    assert!(rt; copies(Call::Header) && copies(RequestError::Usage));
     let names = StringTable::new(b"\0a\0");
     let again = names;
-    assert_eq!(rt; again.get(1)?, names.get(1)?);
+    assert!(rt; again.get(1).ok() == Some("a") && names.get(1).ok() == Some("a"));
     Ok(())
+}
+
+#[test]
+fn other_values_are_not_equal(rt: HostRuntime) {
+    assert!(rt; Class::ELF32 != Class::ELF64 && AnyEndian::Big != AnyEndian::Little);
+    assert!(rt; FileOrder::LowFirst != FileOrder::HighFirst && Call::Header != Call::Sections);
+    assert!(rt; RequestError::Usage != RequestError::OutOfMemory);
+    assert!(rt; StringTable::default().get_raw(0).is_err());
 }

@@ -17,18 +17,19 @@ fn give(bytes: &[u8], at: u64, buf: &mut [u8]) -> usize
     n
 }
 
-/// Gives so many bytes a read, or one where that is 0, and fails once, at the call behind so many.
+/// Gives so many bytes a read, or one where that is 0, and fails once, at the call behind so many, which whoever lends
+/// their number may change.
 #[derive(Drop)]
 pub(crate) struct Halting<'a> {
     bytes: &'a [u8],
     at: u64,
     width: usize,
-    calls_before: u64,
+    calls_before: &'a Cell<u64>,
     faults: u64,
 }
 
 impl<'a> Halting<'a> {
-    pub(crate) fn new(bytes: &'a [u8], width: usize, calls_before: u64) -> Halting<'a> {
+    pub(crate) fn new(bytes: &'a [u8], width: usize, calls_before: &'a Cell<u64>) -> Halting<'a> {
         Halting {
             bytes,
             at: 0,
@@ -44,11 +45,12 @@ impl<'a> Halting<'a> {
         ensures at { self.new.at ≡ self.old.at }
         ensures cause { HasCause self.old.faults self.new.faults true result }
     {
-        if self.calls_before == 0 && self.faults == 0 {
+        let calls_before = self.calls_before.get();
+        if calls_before == 0 && self.faults == 0 {
             self.faults = 1;
             return Err(io::Error::from(ErrorKind::Other));
         }
-        self.calls_before = self.calls_before.saturating_sub(1);
+        self.calls_before.set(calls_before.saturating_sub(1));
         Ok(())
     }
 }

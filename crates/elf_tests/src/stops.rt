@@ -6,6 +6,7 @@ use elf::endian::AnyEndian;
 use elfshow::calls::{Call, RunError, run_bytes};
 use std::alloc::{AllocError, Global};
 use std::io::{BufWriter, ErrorKind, Write};
+use std::process::Abort;
 use std::test::Fail;
 
 /// Three calls, the first and the last of them the same.
@@ -26,12 +27,21 @@ fn calls_within(room: usize) -> usize {
     }
 }
 
-/// How many calls a run tells to be done, and whether a full writer stopped it.
-fn run_into<W: Write>(out: &mut W) -> (usize, bool) {
+/// How many calls a run tells to be done, and which failure of the writer stopped it.
+fn run_into<W: Write>(out: &mut W) -> (usize, Option<ErrorKind>) {
     match run_bytes::<AnyEndian, W>(&HEADER_ALONE, &CALLS, out) {
-        Ok(()) => (3, false),
-        Err(RunError::Write { done, error }) => (done, error.kind() == ErrorKind::StorageFull),
-        Err(_) => (0, false),
+        Ok(()) => (3, None),
+        Err(RunError::Write { done, error }) => (done, Some(error.kind())),
+        Err(_) => (0, None),
+    }
+}
+
+/// What a run tells whose text of so many bytes has so much room.
+fn told_in(room: usize, length: usize) -> (usize, Option<ErrorKind>) {
+    if room < length {
+        (calls_within(room), Some(ErrorKind::StorageFull))
+    } else {
+        (3, None)
     }
 }
 
@@ -41,9 +51,11 @@ fn a_run_stops_where_its_writer_is_full(rt: HostRuntime) -> Result<(), Fail> {
     for width in [3, 4096] {
         for room in 0..=whole.len() {
             let mut out = Narrow::new(rt.alloc(), room, width);
-            let want = (calls_within(room), room < whole.len());
-            assert_eq!(rt; run_into(&mut out), want, "at {room}");
-            assert_eq!(rt; out.held.len(), room);
+            let want = told_in(room, whole.len());
+            assert!(rt;
+                run_into(&mut out) == want && out.held.len() == room,
+                "at {room}"
+            );
             assert!(rt;
                 whole.as_bytes().starts_with(out.held.as_slice()),
                 "at {room}"
@@ -61,8 +73,8 @@ fn a_buffer_changes_no_count(rt: HostRuntime) -> Result<(), Fail> {
             let mut inner = Narrow::new(rt.alloc(), room, 3);
             {
                 let mut out = BufWriter::with_capacity(rt.alloc(), capacity, &mut inner)?;
-                let want = (calls_within(room), room < whole.len());
-                assert_eq!(rt; run_into(&mut out), want, "at {room}");
+                let want = told_in(room, whole.len());
+                assert!(rt; run_into(&mut out) == want, "at {room}");
             }
             assert!(rt;
                 whole.as_bytes().starts_with(inner.held.as_slice()),
@@ -73,50 +85,45 @@ fn a_buffer_changes_no_count(rt: HostRuntime) -> Result<(), Fail> {
     Ok(())
 }
 
+/// Whether the write behind so many fails, which is told then; else all is written.
+fn fails_behind(rt: &(impl Abort + AllocGlobal), writes_before: usize, whole: &[u8]) -> bool {
+    let mut out = Faulty::at_write(rt.alloc(), writes_before);
+    let (done, error) = run_into(&mut out);
+    let held = out.held.as_slice();
+    assert!(rt; whole.starts_with(held) && done == calls_within(held.len()));
+    let is_whole = held.len() == whole.len();
+    assert!(rt;
+        error.is_some() == out.has_failed() && (error.is_some() || is_whole),
+        "behind {writes_before} writes"
+    );
+    error.is_some()
+}
+
 #[test]
-fn one_failed_write_is_told(rt: HostRuntime) -> Result<(), Fail> {
+fn one_failed_write_is_told(rt: HostRuntime) -> Result<(), AllocError> {
     let whole = whole_text(rt.alloc())?;
-    let mut stopped = 0;
+    let mut writes = 0;
     for writes_before in 0..1000 {
-        let mut out = Faulty::at_write(rt.alloc(), writes_before);
-        let (done, is_told) = run_into(&mut out);
-        assert_eq!(rt; is_told, out.has_failed(), "behind {writes_before} writes");
-        assert!(rt; whole.as_bytes().starts_with(out.held.as_slice()));
-        if !is_told {
-            assert_eq!(rt; out.held.as_slice(), whole.as_bytes());
+        if !fails_behind(&rt, writes_before, whole.as_bytes()) {
             break;
         }
-        assert_eq!(rt; done, calls_within(out.held.len()));
-        stopped = writes_before;
+        writes = writes_before;
     }
-    assert!(rt; stopped > 3);
+    assert!(rt; writes > 3);
     Ok(())
 }
 
 #[test]
-fn a_failed_flush_is_told(rt: HostRuntime) -> Result<(), Fail> {
+fn a_failed_flush_is_told(rt: HostRuntime) {
     let mut out = Faulty::at_flush(rt.alloc());
-    match run_bytes::<AnyEndian, Faulty>(&HEADER_ALONE, &CALLS, &mut out) {
-        Err(RunError::Write { done, error }) => {
-            assert_eq!(rt; done, 0);
-            assert_eq!(rt; error.kind(), ErrorKind::BrokenPipe);
-        }
-        _ => assert!(rt; false, "no failure"),
-    }
-    assert_eq!(rt; out.held.as_slice(), HEADER_LINE.as_bytes());
-    Ok(())
+    assert!(rt; run_into(&mut out) == (0, Some(ErrorKind::BrokenPipe)));
+    assert!(rt; out.held.as_slice() == HEADER_LINE.as_bytes());
 }
 
 #[test]
 fn a_writer_that_takes_nothing_is_told(rt: HostRuntime) {
     let mut out = Narrow::new(rt.alloc(), 10, 0);
-    match run_bytes::<AnyEndian, Narrow>(&HEADER_ALONE, &CALLS, &mut out) {
-        Err(RunError::Write { done, error }) => {
-            assert_eq!(rt; done, 0);
-            assert_eq!(rt; error.kind(), ErrorKind::WriteZero);
-        }
-        _ => assert!(rt; false, "no failure"),
-    }
+    assert!(rt; run_into(&mut out) == (0, Some(ErrorKind::WriteZero)));
 }
 
 #[test]

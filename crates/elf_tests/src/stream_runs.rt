@@ -6,6 +6,7 @@ use elf::endian::AnyEndian;
 use elf::{ElfStream, MemSource, ParseError};
 use elfshow::calls::{Call, RunError, run_bytes, run_stream};
 use std::alloc::Global;
+use std::cell::Cell;
 use std::process::Abort;
 use std::test::Fail;
 
@@ -20,35 +21,51 @@ fn text_of(alloc: Global, data: &[u8], calls: &[Call<'_>], done: usize) -> Resul
     }
 }
 
-/// Runs calls over a source that fails at each of its calls in turn: the whole text is written, or a fault
-/// tells how many calls were done and just their text is written. Answers how often there was a fault.
+fn is_of_source(error: &ParseError) -> bool {
+    matches!(error, ParseError::IOError(_))
+}
+
+/// How many of the calls were done, where all were or a fault of the source stopped the run.
+fn done_of(stopped: &Result<(), RunError>, all: usize) -> Option<usize> {
+    match stopped {
+        Ok(()) => Some(all),
+        Err(RunError::Fault { done, error }) if is_of_source(error) => Some(*done),
+        Err(_) => None,
+    }
+}
+
+/// Runs calls over a source that fails behind so many of its calls: the whole text is written, or a fault tells how many
+/// calls were done and just their text is written. Tells whether there was a fault, and none where the opening failed.
+fn faults_behind(
+    rt: &(impl Abort + AllocGlobal),
+    data: &[u8],
+    calls: &[Call<'_>],
+    calls_before: u64,
+) -> Result<bool, Fail> {
+    let alloc = rt.alloc();
+    let calls_left = Cell::new(calls_before);
+    let Ok(mut stream) = Halted::open_stream(alloc, Halting::new(data, 64, &calls_left)) else {
+        return Ok(false);
+    };
+    let mut out = Vec::new(alloc);
+    let stopped = run_stream(&mut stream, calls, &mut out);
+    let done = done_of(&stopped, calls.len()).ok_or("another error")?;
+    let text = text_of(alloc, data, calls, done)?;
+    assert!(rt; out.as_slice() == text.as_slice(), "{calls_before}");
+    Ok(stopped.is_err())
+}
+
+/// How often there was a fault, where the source fails at each of its calls in turn.
 fn faults_in_turn(
     rt: &(impl Abort + AllocGlobal),
     data: &[u8],
     calls: &[Call<'_>],
 ) -> Result<usize, Fail> {
-    let alloc = rt.alloc();
     let mut faults = 0usize;
     for calls_before in 0..200 {
-        let source = Halting::new(data, 64, calls_before);
-        let Ok(mut stream) = Halted::open_stream(alloc, source) else {
-            continue;
-        };
-        let mut out = Vec::new(alloc);
-        let done = match run_stream(&mut stream, calls, &mut out) {
-            Ok(()) => calls.len(),
-            Err(RunError::Fault { done, error }) => {
-                assert!(rt; matches!(error, ParseError::IOError(_)), "{error:?}");
-                faults = faults.saturating_add(1);
-                done
-            }
-            Err(error) => {
-                assert!(rt; false, "{error:?}");
-                0
-            }
-        };
-        let text = text_of(alloc, data, calls, done)?;
-        assert_eq!(rt; out.as_slice(), text.as_slice(), "{calls_before}");
+        if faults_behind(rt, data, calls, calls_before)? {
+            faults = faults.saturating_add(1);
+        }
     }
     Ok(faults)
 }
@@ -76,10 +93,7 @@ fn a_full_writer_stops_the_run(rt: HostRuntime) -> Result<(), Fail> {
     };
     let mut out = Narrow::new(alloc, first.len(), 4096);
     let stopped = run_stream(&mut stream, &calls, &mut out);
-    assert!(rt;
-        matches!(stopped, Err(RunError::Write { done: 1, .. })),
-        "{stopped:?}"
-    );
-    assert_eq!(rt; out.held.as_slice(), first.as_slice());
+    assert!(rt; matches!(stopped, Err(RunError::Write { done: 1, .. })));
+    assert!(rt; out.held.as_slice() == first.as_slice());
     Ok(())
 }

@@ -5,16 +5,17 @@ use crate::files::{
 use crate::memory::all_memory;
 use crate::refusals::refusal;
 use crate::sources::{Halting, Meter, Metered, Short};
-use elf::compression::CompressionHeader;
+use elf::dynamic::{Dyn, DynamicTable};
 use elf::endian::AnyEndian;
-use elf::note::Note;
-use elf::relocation::{Rel, Rela};
+use elf::note::{Note, NoteIterator};
+use elf::relocation::{Rel, RelIterator, Rela, RelaIterator};
 use elf::section::SectionHeader;
 use elf::segment::ProgramHeader;
 use elf::string_table::StringTable;
 use elf::symbol::{Symbol, SymbolTable};
 use elf::{ElfBytes, ElfStream, MemSource, ParseError};
 use std::alloc::{AllocError, Global};
+use std::cell::Cell;
 use std::process::Abort;
 use std::test::Fail;
 
@@ -177,6 +178,18 @@ fn second_string<'a>(strings: StringTable<'a>) -> Option<&'a [u8]> {
     strings.get_raw(1).ok()
 }
 
+fn first_rel(mut rels: RelIterator<'_, AnyEndian>) -> Option<Rel> {
+    rels.next()
+}
+
+fn first_rela(mut relas: RelaIterator<'_, AnyEndian>) -> Option<Rela> {
+    relas.next()
+}
+
+fn first_note<'a>(mut notes: NoteIterator<'a, AnyEndian>) -> Option<Note<'a>> {
+    notes.next()
+}
+
 type Halted<'a> = ElfStream<AnyEndian, Halting<'a>, Global>;
 
 type Bytes<'a> = ElfBytes<'a, AnyEndian>;
@@ -194,24 +207,16 @@ fn section_answer(
             file.section_data_as_strtab(shdr).map(second_string),
         ),
         View::Rels => compared(
-            stream
-                .section_data_as_rels(shdr)
-                .map(|mut rels| rels.next()),
-            file.section_data_as_rels(shdr).map(|mut rels| rels.next()),
+            stream.section_data_as_rels(shdr).map(first_rel),
+            file.section_data_as_rels(shdr).map(first_rel),
         ),
         View::Relas => compared(
-            stream
-                .section_data_as_relas(shdr)
-                .map(|mut relas| relas.next()),
-            file.section_data_as_relas(shdr)
-                .map(|mut relas| relas.next()),
+            stream.section_data_as_relas(shdr).map(first_rela),
+            file.section_data_as_relas(shdr).map(first_rela),
         ),
         View::Notes => compared(
-            stream
-                .section_data_as_notes(shdr)
-                .map(|mut notes| notes.next()),
-            file.section_data_as_notes(shdr)
-                .map(|mut notes| notes.next()),
+            stream.section_data_as_notes(shdr).map(first_note),
+            file.section_data_as_notes(shdr).map(first_note),
         ),
     }
 }
@@ -224,86 +229,12 @@ fn segment_answer(
 ) -> Answer {
     if as_notes {
         compared(
-            stream
-                .segment_data_as_notes(phdr)
-                .map(|mut notes| notes.next()),
-            file.segment_data_as_notes(phdr)
-                .map(|mut notes| notes.next()),
+            stream.segment_data_as_notes(phdr).map(first_note),
+            file.segment_data_as_notes(phdr).map(first_note),
         )
     } else {
         compared(stream.segment_data(phdr), file.segment_data(phdr))
     }
-}
-
-/// Whether the source failed in a call. Asked again, the call answers as `ElfBytes` does.
-fn section_call_fails(
-    rt: &(impl Abort + AllocGlobal),
-    stream: &mut Halted<'_>,
-    file: &Bytes<'_>,
-    view: View,
-    shdr: &SectionHeader,
-) -> bool {
-    let first = section_answer(&mut *stream, file, view, shdr);
-    if first != Answer::Failed {
-        assert_eq!(rt; first, Answer::Same);
-        return false;
-    }
-    assert_eq!(rt; section_answer(stream, file, view, shdr), Answer::Same);
-    true
-}
-
-fn segment_call_fails(
-    rt: &(impl Abort + AllocGlobal),
-    stream: &mut Halted<'_>,
-    file: &Bytes<'_>,
-    as_notes: bool,
-    phdr: &ProgramHeader,
-) -> bool {
-    let first = segment_answer(&mut *stream, file, as_notes, phdr);
-    if first != Answer::Failed {
-        assert_eq!(rt; first, Answer::Same);
-        return false;
-    }
-    assert_eq!(rt; segment_answer(stream, file, as_notes, phdr), Answer::Same);
-    true
-}
-
-fn views_fail(
-    rt: &(impl Abort + AllocGlobal),
-    stream: &mut Halted<'_>,
-    file: &Bytes<'_>,
-    shdr: &SectionHeader,
-) -> bool {
-    let mut has_failed = false;
-    for view in VIEWS {
-        has_failed |= section_call_fails(rt, &mut *stream, file, view, shdr);
-    }
-    has_failed
-}
-
-fn sections_fail(
-    rt: &(impl Abort + AllocGlobal),
-    stream: &mut Halted<'_>,
-    file: &Bytes<'_>,
-) -> bool {
-    let mut has_failed = false;
-    for shdr in &SECTIONS {
-        has_failed |= views_fail(rt, &mut *stream, file, shdr);
-    }
-    has_failed
-}
-
-fn segments_fail(
-    rt: &(impl Abort + AllocGlobal),
-    stream: &mut Halted<'_>,
-    file: &Bytes<'_>,
-) -> bool {
-    let mut has_failed = false;
-    for phdr in &SEGMENTS {
-        has_failed |= segment_call_fails(rt, &mut *stream, file, false, phdr);
-        has_failed |= segment_call_fails(rt, &mut *stream, file, true, phdr);
-    }
-    has_failed
 }
 
 /// A call that is made with no header.
@@ -326,82 +257,124 @@ const CHOICES: [Choice; 6] = [
     Choice::Versions,
 ];
 
-/// The second symbol, and the first byte of the second string.
-fn second_symbol(
-    (symbols, strings): (SymbolTable<'_, AnyEndian>, StringTable<'_>),
-) -> (Option<Symbol>, Option<u8>) {
-    let first = match strings.get_raw(1) {
-        Ok(string) => string.first().copied(),
-        Err(_) => None,
-    };
-    (symbols.get(1).ok(), first)
+fn second_name<'a, T: Drop>(found: (T, Option<StringTable<'a>>)) -> Option<Option<&'a [u8]>> {
+    found.1.map(second_string)
+}
+
+/// The second symbol, and the second string.
+fn second_symbol<'a>(
+    found: Option<(SymbolTable<'a, AnyEndian>, StringTable<'a>)>,
+) -> Option<(Option<Symbol>, Option<&'a [u8]>)> {
+    let (symbols, strings) = found?;
+    Some((symbols.get(1).ok(), second_string(strings)))
+}
+
+fn first_entry(found: Option<DynamicTable<'_, AnyEndian>>) -> Option<Option<Dyn>> {
+    Some(found?.get(0).ok())
+}
+
+fn copied(found: Option<&SectionHeader>) -> Option<SectionHeader> {
+    found.copied()
+}
+
+fn is_there<T: Drop>(found: Option<T>) -> bool {
+    found.is_some()
 }
 
 fn choice_answer(stream: &mut Halted<'_>, file: &Bytes<'_>, choice: Choice) -> Answer {
     match choice {
         Choice::Names => compared(
-            stream
-                .section_headers_with_strtab()
-                .map(|found| found.1.map(second_string)),
-            file.section_headers_with_strtab()
-                .map(|found| found.1.map(second_string)),
+            stream.section_headers_with_strtab().map(second_name),
+            file.section_headers_with_strtab().map(second_name),
         ),
         Choice::Named => compared(
-            stream
-                .section_header_by_name(".s")
-                .map(|found| found.copied()),
+            stream.section_header_by_name(".s").map(copied),
             file.section_header_by_name(".s"),
         ),
         Choice::Symbols => compared(
-            stream.symbol_table().map(|found| found.map(second_symbol)),
-            file.symbol_table().map(|found| found.map(second_symbol)),
+            stream.symbol_table().map(second_symbol),
+            file.symbol_table().map(second_symbol),
         ),
         Choice::BoundSymbols => compared(
-            stream
-                .dynamic_symbol_table()
-                .map(|found| found.map(second_symbol)),
-            file.dynamic_symbol_table()
-                .map(|found| found.map(second_symbol)),
+            stream.dynamic_symbol_table().map(second_symbol),
+            file.dynamic_symbol_table().map(second_symbol),
         ),
         Choice::Dynamic => compared(
-            stream
-                .dynamic()
-                .map(|found| found.map(|entries| entries.get(0).ok())),
-            file.dynamic()
-                .map(|found| found.map(|entries| entries.get(0).ok())),
+            stream.dynamic().map(first_entry),
+            file.dynamic().map(first_entry),
         ),
         Choice::Versions => compared(
-            stream.symbol_version_table().map(|found| found.is_some()),
-            file.symbol_version_table().map(|found| found.is_some()),
+            stream.symbol_version_table().map(is_there),
+            file.symbol_version_table().map(is_there),
         ),
     }
 }
 
-fn choice_call_fails(
+/// A call of a reader.
+#[derive(Clone, Copy)]
+enum Asked {
+    Choice(Choice),
+    Section(View, SectionHeader),
+    Segment(bool, ProgramHeader),
+}
+
+const CALLS: usize = CHOICES.len() + SECTIONS.len() * VIEWS.len() + SEGMENTS.len() * 2;
+
+/// The calls by number: those with no header, each view of each section, and each segment as notes and as bytes.
+fn call(number: usize) -> Option<Asked> {
+    if let Some(choice) = CHOICES.get(number) {
+        return Some(Asked::Choice(*choice));
+    }
+    let view = number.saturating_sub(CHOICES.len());
+    if let Some(shdr) = SECTIONS.get(view / VIEWS.len()) {
+        return Some(Asked::Section(VIEWS[view % VIEWS.len()], *shdr));
+    }
+    let half = view.saturating_sub(SECTIONS.len() * VIEWS.len());
+    let phdr = SEGMENTS.get(half / 2)?;
+    Some(Asked::Segment(half % 2 == 0, *phdr))
+}
+
+fn answer_of(stream: &mut Halted<'_>, file: &Bytes<'_>, asked: Asked) -> Answer {
+    match asked {
+        Asked::Choice(choice) => choice_answer(stream, file, choice),
+        Asked::Section(view, shdr) => section_answer(stream, file, view, &shdr),
+        Asked::Segment(as_notes, phdr) => segment_answer(stream, file, as_notes, &phdr),
+    }
+}
+
+/// Whether a call was refused, as it may be. Asked again, the call answers as `ElfBytes` does.
+fn call_is_refused(
     rt: &(impl Abort + AllocGlobal),
     stream: &mut Halted<'_>,
     file: &Bytes<'_>,
-    choice: Choice,
+    asked: Asked,
+    refusal: Answer,
 ) -> bool {
-    let first = choice_answer(&mut *stream, file, choice);
-    if first != Answer::Failed {
+    let first = answer_of(&mut *stream, file, asked);
+    if first != refusal {
         assert_eq!(rt; first, Answer::Same);
         return false;
     }
-    assert_eq!(rt; choice_answer(stream, file, choice), Answer::Same);
+    assert_eq!(rt; answer_of(stream, file, asked), Answer::Same);
     true
 }
 
-fn choices_fail(
+/// How many of all calls were refused.
+fn refused_calls(
     rt: &(impl Abort + AllocGlobal),
     stream: &mut Halted<'_>,
     file: &Bytes<'_>,
-) -> bool {
-    let mut has_failed = false;
-    for choice in CHOICES {
-        has_failed |= choice_call_fails(rt, &mut *stream, file, choice);
+    refusal: Answer,
+) -> usize {
+    let mut refused = 0usize;
+    for number in 0..CALLS {
+        if let Some(asked) = call(number)
+            && call_is_refused(rt, &mut *stream, file, asked, refusal)
+        {
+            refused = refused.saturating_add(1);
+        }
     }
-    has_failed
+    refused
 }
 
 /// Whether the headers are those of `ElfBytes`.
@@ -425,17 +398,16 @@ fn run_fails(
     calls_before: u64,
 ) -> Result<bool, Fail> {
     let file = ElfBytes::minimal_parse(bytes)?;
-    let source = Halting::new(bytes, width, calls_before);
+    let calls_left = Cell::new(calls_before);
+    let source = Halting::new(bytes, width, &calls_left);
     let mut stream = match Halted::open_stream(rt.alloc(), source) {
         Ok(stream) => stream,
         Err(ParseError::IOError(_)) => return Ok(true),
         Err(error) => return Err(Fail::from(error)),
     };
-    let mut has_failed = choices_fail(rt, &mut stream, &file);
-    has_failed |= sections_fail(rt, &mut stream, &file);
-    has_failed |= segments_fail(rt, &mut stream, &file);
+    let failed = refused_calls(rt, &mut stream, &file, Answer::Failed);
     assert!(rt; has_headers(&stream, &file));
-    Ok(has_failed)
+    Ok(failed > 0)
 }
 
 /// How many calls of the source are made.
@@ -463,42 +435,55 @@ fn a_source_may_fail_at_each_call(rt: HostRuntime) -> Result<(), Fail> {
     Ok(())
 }
 
-fn assert_data(
+/// The names of the two sections.
+const NAMES: SectionHeader = SectionHeader {
+    sh_type: 3,
+    sh_offset: 52,
+    sh_size: 4,
+    ..EMPTY
+};
+
+const WITHIN_NAMES: SectionHeader = SectionHeader {
+    sh_offset: 53,
+    sh_size: 2,
+    ..EMPTY
+};
+
+const BEYOND_NAMES: SectionHeader = SectionHeader {
+    sh_offset: 54,
+    sh_size: 4,
+    ..EMPTY
+};
+
+type Counted<'a> = ElfStream<AnyEndian, Metered<'a>, Global>;
+
+/// Asserts the bytes of a section, and tells how many calls of the source there were for them and how many bytes it gave.
+fn taken_for(
     rt: &(impl Abort + AllocGlobal),
-    answer: Result<(&[u8], Option<CompressionHeader>), ParseError>,
+    stream: &mut Counted<'_>,
+    meter: &Meter,
+    shdr: &SectionHeader,
     want: &[u8],
-) {
-    match answer {
-        Ok((bytes, None)) => assert_eq!(rt; bytes, want),
+) -> (u64, u64) {
+    match stream.section_data(shdr) {
+        Ok((bytes, None)) => assert!(rt; bytes == want, "{bytes:?}"),
         _ => assert!(rt; false, "another answer"),
     }
+    meter.taken()
 }
 
 #[test]
 fn what_is_held_is_not_read_again(rt: HostRuntime) -> Result<(), Fail> {
     let meter = Meter::new();
     let source = Metered::new(&TWO_SECTIONS, &meter);
-    let mut stream = ElfStream::<AnyEndian, _, _>::open_stream(rt.alloc(), source)?;
+    let mut stream = Counted::open_stream(rt.alloc(), source)?;
     assert!(rt; meter.taken().1 <= 132);
-    let names = *stream.section_headers().get(1).ok_or("no section")?;
-    assert_data(&rt, stream.section_data(&names), b"\0.s\0");
-    assert_eq!(rt; meter.taken().1, 4);
-    assert_data(&rt, stream.section_data(&names), b"\0.s\0");
-    assert_eq!(rt; meter.taken(), (0, 0));
-    let within = SectionHeader {
-        sh_offset: 53,
-        sh_size: 2,
-        ..EMPTY
-    };
-    assert_data(&rt, stream.section_data(&within), b".s");
-    assert_eq!(rt; meter.taken(), (0, 0));
-    let beyond = SectionHeader {
-        sh_offset: 54,
-        sh_size: 4,
-        ..EMPTY
-    };
-    assert_data(&rt, stream.section_data(&beyond), b"s\0\0\0");
-    assert!(rt; meter.taken().0 > 0);
+    let names = taken_for(&rt, &mut stream, &meter, &NAMES, b"\0.s\0");
+    let again = taken_for(&rt, &mut stream, &meter, &NAMES, b"\0.s\0");
+    let within = taken_for(&rt, &mut stream, &meter, &WITHIN_NAMES, b".s");
+    assert!(rt; names.1 == 4 && again == (0, 0) && within == (0, 0));
+    let beyond = taken_for(&rt, &mut stream, &meter, &BEYOND_NAMES, b"s\0\0\0");
+    assert!(rt; beyond.0 > 0);
     Ok(())
 }
 
@@ -506,32 +491,36 @@ fn what_is_held_is_not_read_again(rt: HostRuntime) -> Result<(), Fail> {
 fn a_source_that_ends_early_is_refused(rt: HostRuntime) -> Result<(), Fail> {
     let source = Short::new(&HASHED[..300], 336);
     let stream = ElfStream::<AnyEndian, _, _>::open_stream(rt.alloc(), source);
-    assert_eq!(rt; refusal(rt.alloc(), stream)?.as_str(), "BadOffset(336)");
+    let found = refusal(rt.alloc(), stream)?;
+    assert!(rt; found.as_str() == "BadOffset(336)", "{found}");
     Ok(())
 }
 
 type InMemory<'a> = ElfStream<AnyEndian, MemSource<'a>, Global>;
 
-fn assert_rel(rt: &(impl Abort + AllocGlobal), rel: Option<Rel>) {
+fn assert_rel(rt: &(impl Abort + AllocGlobal), rel: Result<Option<Rel>, ParseError>) {
     match rel {
-        Some(rel) => assert_eq!(rt; (rel.r_offset, rel.r_sym, rel.r_type), (1, 0, 16)),
-        None => assert!(rt; false, "no relocation"),
+        Ok(Some(rel)) => assert!(rt; rel.r_offset == 1 && rel.r_sym == 0 && rel.r_type == 16),
+        _ => assert!(rt; false, "no relocation"),
     }
 }
 
-fn assert_rela(rt: &(impl Abort + AllocGlobal), rela: Option<Rela>) {
+fn assert_rela(rt: &(impl Abort + AllocGlobal), rela: Result<Option<Rela>, ParseError>) {
     match rela {
-        Some(rela) => {
-            assert_eq!(rt; (rela.r_offset, rela.r_sym, rela.r_type), (1, 0, 16));
-            assert_eq!(rt; rela.r_addend, 4);
+        Ok(Some(rela)) => {
+            assert!(rt; rela.r_offset == 1 && rela.r_sym == 0 && rela.r_type == 16);
+            assert!(rt; rela.r_addend == 4);
         }
-        None => assert!(rt; false, "no relocation"),
+        _ => assert!(rt; false, "no relocation"),
     }
 }
 
-fn assert_empty_note(rt: &(impl Abort + AllocGlobal), note: Option<Note<'_>>) {
-    match note {
-        Some(Note::Unknown(note)) => {
+fn assert_empty_note(
+    rt: &(impl Abort + AllocGlobal),
+    notes: Result<NoteIterator<'_, AnyEndian>, ParseError>,
+) {
+    match notes.map(first_note) {
+        Ok(Some(Note::Unknown(note))) => {
             assert!(rt; note.n_type == 0 && note.name.is_empty() && note.desc.is_empty());
         }
         _ => assert!(rt; false, "no such note"),
@@ -539,20 +528,73 @@ fn assert_empty_note(rt: &(impl Abort + AllocGlobal), note: Option<Note<'_>>) {
 }
 
 #[test]
-fn records_and_notes_are_lent(rt: HostRuntime) -> Result<(), Fail> {
+fn records_are_lent(rt: HostRuntime) -> Result<(), ParseError> {
     let mut stream = InMemory::open_stream(rt.alloc(), MemSource::new(&HASHED))?;
-    assert_rel(&rt, stream.section_data_as_rels(&RELS)?.next());
-    assert_rela(&rt, stream.section_data_as_relas(&RELAS)?.next());
-    assert_empty_note(&rt, stream.section_data_as_notes(&NOTES)?.next());
-    assert_empty_note(&rt, stream.segment_data_as_notes(&NOTE_SEGMENT)?.next());
+    let rel = stream.section_data_as_rels(&RELS).map(first_rel);
+    assert_rel(&rt, rel);
+    let rela = stream.section_data_as_relas(&RELAS).map(first_rela);
+    assert_rela(&rt, rela);
+    Ok(())
+}
+
+#[test]
+fn notes_are_lent(rt: HostRuntime) -> Result<(), ParseError> {
+    let mut stream = InMemory::open_stream(rt.alloc(), MemSource::new(&HASHED))?;
+    assert_empty_note(&rt, stream.section_data_as_notes(&NOTES));
+    assert_empty_note(&rt, stream.segment_data_as_notes(&NOTE_SEGMENT));
     Ok(())
 }
 
 #[test]
 fn strings_stand_behind_a_compression_header(rt: HostRuntime) -> Result<(), Fail> {
     let mut stream = InMemory::open_stream(rt.alloc(), MemSource::new(&COMPRESSED))?;
-    let strings = stream.section_data_as_strtab(&COMPRESSED_STRINGS)?;
-    assert_eq!(rt; strings.get_raw(1)?, b"a".as_slice());
+    let found = stream.section_data_as_strtab(&COMPRESSED_STRINGS);
+    assert!(rt; found.ok().and_then(second_string) == Some(b"a".as_slice()));
+    Ok(())
+}
+
+/// A stream over a source that does not fail.
+fn open<'a>(
+    alloc: Global,
+    bytes: &'a [u8],
+    calls_left: &'a Cell<u64>,
+) -> Result<Halted<'a>, ParseError> {
+    Halted::open_stream(alloc, Halting::new(bytes, 3, calls_left))
+}
+
+/// The stream that was opened, or where memory was refused, that of a second try; and whether there was one.
+fn opened<'a>(
+    alloc: Global,
+    bytes: &'a [u8],
+    calls_left: &'a Cell<u64>,
+    first: Result<Halted<'a>, ParseError>,
+) -> Result<(Halted<'a>, bool), ParseError> {
+    match first {
+        Ok(stream) => Ok((stream, false)),
+        Err(ParseError::OutOfMemory) => Ok((open(alloc, bytes, calls_left)?, true)),
+        Err(error) => Err(error),
+    }
+}
+
+/// All calls over a file, of which one may be refused for want of memory. `tests/refused-memory` runs this with each
+/// allocation refused.
+fn assert_answered(rt: &(impl Abort + AllocGlobal), bytes: &[u8]) -> Result<usize, ParseError> {
+    let file = ElfBytes::minimal_parse(bytes)?;
+    let calls_left = Cell::new(u64::MAX);
+    let first = open(rt.alloc(), bytes, &calls_left);
+    let (mut stream, is_again) = opened(rt.alloc(), bytes, &calls_left, first)?;
+    let refused = refused_calls(rt, &mut stream, &file, Answer::Starved);
+    assert!(rt; has_headers(&stream, &file));
+    Ok(refused.saturating_add(usize::from(is_again)))
+}
+
+#[test]
+fn one_allocation_may_be_refused(rt: HostRuntime) -> Result<(), Fail> {
+    let mut refused = 0usize;
+    for bytes in FILES {
+        refused = refused.saturating_add(assert_answered(&rt, bytes)?);
+    }
+    assert!(rt; refused <= 1, "{refused} calls were refused");
     Ok(())
 }
 
@@ -561,41 +603,68 @@ fn starved_answer(
     alloc: Global,
     stream: &mut Halted<'_>,
     file: &Bytes<'_>,
-    choice: Choice,
+    asked: Asked,
 ) -> Result<Answer, AllocError> {
     let blocks = all_memory(alloc)?;
-    let answer = choice_answer(stream, file, choice);
+    let found = answer_of(stream, file, asked);
     drop(blocks);
-    Ok(answer)
+    Ok(found)
 }
 
-/// Asks while no memory is left, then while there is some, and then while none is left again.
-fn assert_survives(
+/// A stream that is opened while no memory is left, or else while there is some; and whether it was refused first.
+fn starved_opening<'a>(
+    alloc: Global,
+    bytes: &'a [u8],
+    calls_left: &'a Cell<u64>,
+) -> Result<(Halted<'a>, bool), Fail> {
+    let blocks = all_memory(alloc)?;
+    let first = open(alloc, bytes, calls_left);
+    drop(blocks);
+    Ok(opened(alloc, bytes, calls_left, first)?)
+}
+
+/// What a call answers while no memory is left and the source would fail.
+fn held_answer(
+    alloc: Global,
+    stream: &mut Halted<'_>,
+    calls_left: &Cell<u64>,
+    file: &Bytes<'_>,
+    asked: Asked,
+) -> Result<Answer, AllocError> {
+    calls_left.set(0);
+    let held = starved_answer(alloc, stream, file, asked)?;
+    calls_left.set(u64::MAX);
+    Ok(held)
+}
+
+/// Whether a call is refused while no memory is left. Asked again while there is some, it answers, and then also while
+/// none is left again and the source would fail.
+fn is_starved(
     rt: &(impl Abort + AllocGlobal),
     stream: &mut Halted<'_>,
+    calls_left: &Cell<u64>,
     file: &Bytes<'_>,
-    choice: Choice,
+    asked: Asked,
 ) -> Result<bool, AllocError> {
-    let first = starved_answer(rt.alloc(), &mut *stream, file, choice)?;
+    let first = starved_answer(rt.alloc(), &mut *stream, file, asked)?;
     assert!(rt;
         first == Answer::Same || first == Answer::Starved,
         "{first:?}"
     );
-    assert_eq!(rt; choice_answer(&mut *stream, file, choice), Answer::Same);
-    assert_eq!(rt;
-        starved_answer(rt.alloc(), stream, file, choice)?,
-        Answer::Same
-    );
+    assert_eq!(rt; answer_of(&mut *stream, file, asked), Answer::Same);
+    let held = held_answer(rt.alloc(), stream, calls_left, file, asked)?;
+    assert!(rt; held == Answer::Same, "{held:?}");
     Ok(first == Answer::Starved)
 }
 
-/// How many calls were refused for want of memory.
+/// How many of the opening and the calls with no header are refused while no memory is left.
 fn starved_calls(rt: &(impl Abort + AllocGlobal), bytes: &[u8]) -> Result<usize, Fail> {
     let file = ElfBytes::minimal_parse(bytes)?;
-    let mut stream = Halted::open_stream(rt.alloc(), Halting::new(bytes, 3, u64::MAX))?;
-    let mut starved = 0usize;
+    let calls_left = Cell::new(u64::MAX);
+    let (mut stream, is_again) = starved_opening(rt.alloc(), bytes, &calls_left)?;
+    let mut starved = usize::from(is_again);
     for choice in CHOICES {
-        if assert_survives(rt, &mut stream, &file, choice)? {
+        if is_starved(rt, &mut stream, &calls_left, &file, Asked::Choice(choice))? {
             starved = starved.saturating_add(1);
         }
     }
@@ -604,10 +673,14 @@ fn starved_calls(rt: &(impl Abort + AllocGlobal), bytes: &[u8]) -> Result<usize,
 
 #[test]
 fn what_is_held_needs_no_memory(rt: HostRuntime) -> Result<(), Fail> {
-    assert_eq!(rt; starved_calls(&rt, &TWO_SECTIONS)?, 1);
-    assert_eq!(rt; starved_calls(&rt, &HASHED)?, 1);
-    assert_eq!(rt; starved_calls(&rt, &ONE_DYNAMIC_ENTRY)?, 1);
-    assert_eq!(rt; starved_calls(&rt, &VERSIONED)?, 2);
+    for (bytes, starved) in [
+        (&TWO_SECTIONS[..], 2),
+        (&HASHED, 2),
+        (&ONE_DYNAMIC_ENTRY, 2),
+        (&VERSIONED, 3),
+    ] {
+        assert_eq!(rt; starved_calls(&rt, bytes)?, starved);
+    }
     Ok(())
 }
 
@@ -623,11 +696,12 @@ fn a_cut_file_is_refused(rt: HostRuntime) {
 /// What the names of a file are, and those of a stream over it, where another section is said to hold them.
 fn names_in(alloc: Global, index: u16) -> Result<Answer, Fail> {
     let mut file = ElfBytes::minimal_parse(&TWO_SECTIONS)?;
-    let source = Halting::new(&TWO_SECTIONS, 7, u64::MAX);
+    let calls_left = Cell::new(u64::MAX);
+    let source = Halting::new(&TWO_SECTIONS, 7, &calls_left);
     let mut stream = Halted::open_stream(alloc, source)?;
     file.ehdr.e_shstrndx = index;
     stream.ehdr.e_shstrndx = index;
-    Ok(choice_answer(&mut stream, &file, Choice::Names))
+    Ok(answer_of(&mut stream, &file, Asked::Choice(Choice::Names)))
 }
 
 #[test]

@@ -8,8 +8,8 @@ use elf_worked::even_byte::EvenByte;
 use elf_worked::loops::{all_items, count_items, item_below};
 use elf_worked::order::FileOrder;
 use elf_worked::triple::Triple;
+use std::alloc::AllocError;
 use std::process::Abort;
-use std::test::Fail;
 
 /// Two records of three bytes, and two bytes too few for a third.
 const EIGHT: [u8; 8] = [0, 1, 2, 3, 4, 5, 6, 7];
@@ -41,22 +41,36 @@ fn table_of<P: ParseAt>(data: &[u8]) -> ParsingTable<'_, LittleEndian, P> {
 }
 
 #[test]
-fn a_table_gives_a_users_records(rt: HostRuntime) -> Result<(), Fail> {
+fn a_table_gives_a_users_records(rt: HostRuntime) {
     let table = table_of::<Triple>(&EIGHT);
-    assert_eq!(rt; table.len(), 2);
-    assert!(rt; !table.is_empty());
-    assert_eq!(rt; table.get(0)?, LITTLE_TRIPLES[0]);
-    assert_eq!(rt; table.get(1)?, LITTLE_TRIPLES[1]);
+    assert!(rt; table.len() == 2 && !table.is_empty());
+    let [first, second] = LITTLE_TRIPLES.map(Some);
+    assert!(rt; table.get(0).ok() == first && table.get(1).ok() == second);
     let mut triples = table.iter();
-    assert_eq!(rt; triples.next(), Some(LITTLE_TRIPLES[0]));
-    assert_eq!(rt; triples.next(), Some(LITTLE_TRIPLES[1]));
-    assert_eq!(rt; triples.next(), None);
-    assert_eq!(rt; triples.next(), None);
+    let four = [
+        triples.next(),
+        triples.next(),
+        triples.next(),
+        triples.next(),
+    ];
+    assert!(rt; four == [first, second, None, None], "{four:?}");
+}
+
+/// Asserts the answer for a record of a table of the first so many bytes.
+fn assert_got<P: ParseAt + Drop>(
+    rt: &(impl Abort + AllocGlobal),
+    length: usize,
+    index: usize,
+    want: &str,
+) -> Result<(), AllocError> {
+    let table = table_of::<P>(EIGHT.get(..length).unwrap_or_default());
+    let found = refusal(rt.alloc(), table.get(index))?;
+    assert!(rt; found.as_str() == want, "{found} for {index} of {length}");
     Ok(())
 }
 
 #[test]
-fn a_record_that_does_not_fit_is_refused(rt: HostRuntime) -> Result<(), Fail> {
+fn a_record_that_does_not_fit_is_refused(rt: HostRuntime) -> Result<(), AllocError> {
     for (length, index, want) in [
         (8, 1, "accepted"),
         (8, 2, "SliceReadError((7, 9))"),
@@ -69,9 +83,7 @@ fn a_record_that_does_not_fit_is_refused(rt: HostRuntime) -> Result<(), Fail> {
         (8, 1 << 62, "BadOffset(4611686018427387904)"),
         (8, 1 << 63, "IntegerOverflow"),
     ] {
-        let data = EIGHT.get(..length).ok_or("a longer length")?;
-        let found = refusal(rt.alloc(), table_of::<Triple>(data).get(index))?;
-        assert_eq!(rt; found.as_str(), want, "{index} of {length}");
+        assert_got::<Triple>(&rt, length, index, want)?;
     }
     Ok(())
 }
@@ -80,71 +92,73 @@ fn a_record_that_does_not_fit_is_refused(rt: HostRuntime) -> Result<(), Fail> {
 fn a_table_of_few_bytes_is_empty(rt: HostRuntime) {
     for data in [&EIGHT[..0], &EIGHT[..1], &EIGHT[..2]] {
         let table = table_of::<Triple>(data);
-        assert!(rt; table.is_empty());
-        assert_eq!(rt; table.len(), 0);
-        assert!(rt; table.iter().next().is_none());
+        assert!(rt; table.is_empty() && table.len() == 0 && table.iter().next().is_none());
     }
 }
 
-/// The items of the table in an order, asked for in each way that there is.
-fn read_triples<E: EndianParse>(
+/// Asserts the items of a table as a caller over any table lists them.
+fn assert_listed<E: EndianParse>(
     rt: &(impl Abort + AllocGlobal),
-    order: E,
+    table: ParsingTable<'_, E, Triple>,
     want: &[Triple],
-) -> Result<(), Fail> {
-    let table = ParsingTable::<'_, E, Triple>::new(order, Class::ELF64, &EIGHT);
-    let again = table;
-    assert_eq!(rt; count_items(&table), 2);
-    assert_eq!(rt; all_items(rt.alloc(), &again)?.as_slice(), want);
-    for (triple, wanted) in table.into_iter().zip(want) {
-        assert_eq!(rt; triple, *wanted);
-    }
-    let mut records = ParsingIterator::<'_, E, Triple>::new(order, Class::ELF64, &EIGHT);
-    assert_eq!(rt; records.next(), want.first().copied());
+) -> Result<(), AllocError> {
+    let items = all_items(rt.alloc(), &table)?;
+    assert!(rt; count_items(&table) == want.len() && items.as_slice() == want);
     Ok(())
 }
 
-#[test]
-fn a_table_keeps_its_order(rt: HostRuntime) -> Result<(), Fail> {
-    read_triples(&rt, LittleEndian, &LITTLE_TRIPLES)?;
-    read_triples(&rt, BigEndian, &BIG_TRIPLES)?;
-    read_triples(&rt, AnyEndian::Little, &LITTLE_TRIPLES)?;
-    read_triples(&rt, AnyEndian::Big, &BIG_TRIPLES)?;
-    read_triples(&rt, FileOrder::LowFirst, &LITTLE_TRIPLES)?;
-    read_triples(&rt, FileOrder::HighFirst, &BIG_TRIPLES)
+/// Asserts the items of the table in an order, asked for in each way that there is.
+fn assert_triples<E: EndianParse>(
+    rt: &(impl Abort + AllocGlobal),
+    order: E,
+    want: &[Triple],
+) -> Result<(), AllocError> {
+    let table = ParsingTable::<'_, E, Triple>::new(order, Class::ELF64, &EIGHT);
+    assert!(rt; table.into_iter().eq(want.iter().copied()));
+    let mut records = ParsingIterator::<'_, E, Triple>::new(order, Class::ELF64, &EIGHT);
+    assert!(rt; records.next() == want.first().copied());
+    assert_listed(rt, table, want)
 }
 
 #[test]
-fn a_refused_record_ends_the_iterator(rt: HostRuntime) -> Result<(), Fail> {
+fn a_table_keeps_its_order(rt: HostRuntime) -> Result<(), AllocError> {
+    assert_triples(&rt, LittleEndian, &LITTLE_TRIPLES)?;
+    assert_triples(&rt, BigEndian, &BIG_TRIPLES)?;
+    assert_triples(&rt, AnyEndian::Little, &LITTLE_TRIPLES)?;
+    assert_triples(&rt, AnyEndian::Big, &BIG_TRIPLES)?;
+    assert_triples(&rt, FileOrder::LowFirst, &LITTLE_TRIPLES)?;
+    assert_triples(&rt, FileOrder::HighFirst, &BIG_TRIPLES)
+}
+
+#[test]
+fn a_refused_record_ends_the_iterator(rt: HostRuntime) {
     let table = table_of::<EvenByte>(&EIGHT);
-    assert_eq!(rt; table.len(), 8);
-    assert_eq!(rt; count_items(&table), 1);
+    assert!(rt; table.len() == 8 && count_items(&table) == 1);
     let mut bytes = table.iter();
-    assert_eq!(rt; bytes.next(), Some(EvenByte { value: 0 }));
-    assert_eq!(rt; bytes.next(), None);
-    assert_eq!(rt; bytes.next(), None);
-    assert_eq!(rt; table.get(6)?, EvenByte { value: 6 });
+    let three = [bytes.next(), bytes.next(), bytes.next()];
+    assert!(rt; three == [Some(EvenByte { value: 0 }), None, None]);
+    assert!(rt; table.get(6).ok() == Some(EvenByte { value: 6 }));
+}
+
+#[test]
+fn a_users_refusal_is_told(rt: HostRuntime) -> Result<(), AllocError> {
     for (index, want) in [
         (1, "BadOffset(1)"),
         (8, "SliceReadError((8, 9))"),
         (9, "BadOffset(9)"),
     ] {
-        let found = refusal(rt.alloc(), table.get(index))?;
-        assert_eq!(rt; found.as_str(), want, "at {index}");
+        assert_got::<EvenByte>(&rt, 8, index, want)?;
     }
     Ok(())
 }
 
 #[test]
-fn a_table_below_its_length_gives_each_record(rt: HostRuntime) -> Result<(), Fail> {
+fn a_table_below_its_length_gives_each_record(rt: HostRuntime) {
     let table = table_of::<Triple>(&EIGHT);
     for index in 0..table.len() {
-        assert_eq!(rt;
-            Some(item_below(&table, index)?),
-            LITTLE_TRIPLES.get(index).copied()
-        );
+        let record = item_below(&table, index).ok();
+        assert!(rt; record == LITTLE_TRIPLES.get(index).copied(), "at {index}");
     }
-    Ok(())
 }
 
 /// The size of a record, where it is the one entry size that is taken.
@@ -160,9 +174,8 @@ fn one_size<P: ParseAt>(class: Class) -> Option<usize> {
 }
 
 #[test]
-fn a_record_has_one_size(rt: HostRuntime) -> Result<(), Fail> {
-    assert_eq!(rt; one_size::<SectionHeader>(Class::ELF64), Some(64));
-    assert_eq!(rt; one_size::<Triple>(Class::ELF32), Some(3));
-    assert_eq!(rt; one_size::<EvenByte>(Class::ELF64), Some(1));
-    Ok(())
+fn a_record_has_one_size(rt: HostRuntime) {
+    assert!(rt; one_size::<SectionHeader>(Class::ELF64) == Some(64));
+    assert!(rt; one_size::<Triple>(Class::ELF32) == Some(3));
+    assert!(rt; one_size::<EvenByte>(Class::ELF64) == Some(1));
 }
