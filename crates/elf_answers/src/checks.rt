@@ -1,17 +1,17 @@
 //! What the checkers say of hash sections.
 use crate::shown::show_refusal;
-use crate::words::{bytes_of_each, class_of, order_of};
+use crate::words::Words;
 use elf::ParseError;
 use elf::endian::AnyEndian;
 use elf::file::Class;
 use elf::string_table::StringTable;
 use elf::symbol::{Symbol, SymbolTable};
-use elf_rows::{RowError, number};
 use elfshow::hashcheck::{
     Checked, CheckedGnuHash, CheckedSysvHash, HashFault, Reads, check_gnu_counted,
     check_sysv_counted,
 };
 use std::io;
+use std::str::SplitWhitespace;
 
 /// `check KIND ORDER CLASS SECTION SYMBOLS STRINGS LEAST MOST NAME..`: how many symbols the section indexes and what it
 /// finds for each name where it is sound, what it lacks where it is not, or why it is refused; and whether from LEAST to
@@ -20,22 +20,17 @@ use std::io;
 pub(crate) fn show_check(
     rt: &HostRuntime,
     is_fault_told: bool,
-    words: &[&str],
-) -> Result<(), RowError> {
-    let [kind, order, class, rest @ ..] = words else {
-        return Err(RowError::Form("no section"));
-    };
-    let [section, symbols, strings, least, most, names @ ..] = rest else {
-        return Err(RowError::Form("no symbols"));
-    };
-    let order = order_of(*order)?;
-    let class = class_of(*class)?;
-    let least = number(*least)?;
-    let most = number(*most)?;
-    let bytes = bytes_of_each(rt, &[*section, *symbols, *strings])?;
-    let [section, symbols, strings] = bytes.as_slice() else {
-        return Err(RowError::Form("no bytes"));
-    };
+    words: &mut Words<'_>,
+) -> io::Result<()> {
+    let kind = words.word();
+    let order = words.order();
+    let class = words.class();
+    let section = words.bytes(rt);
+    let symbols = words.bytes(rt);
+    let strings = words.bytes(rt);
+    let least = words.number();
+    let most = words.number();
+    let names = words.rest();
     let section = Section {
         order,
         class,
@@ -43,12 +38,12 @@ pub(crate) fn show_check(
         symtab: SymbolTable::new(order, class, symbols.as_slice()),
         strtab: StringTable::new(strings.as_slice()),
     };
-    let shown = if *kind == "sysv" {
+    let reads = if kind == "sysv" {
         show_sysv(rt, section, is_fault_told, names)
     } else {
         show_gnu(rt, section, is_fault_told, names)
     };
-    Ok(show_reads(rt, shown?, least, most)?)
+    show_reads(rt, reads?, least, most)
 }
 
 /// A hash section and what it is checked with.
@@ -65,7 +60,7 @@ fn show_sysv(
     rt: &HostRuntime,
     section: Section<'_>,
     is_fault_told: bool,
-    names: &[&str],
+    names: SplitWhitespace<'_>,
 ) -> io::Result<u64> {
     let mut reads = Reads::new();
     match check_sysv_counted(
@@ -87,7 +82,7 @@ fn show_gnu(
     rt: &HostRuntime,
     section: Section<'_>,
     is_fault_told: bool,
-    names: &[&str],
+    names: SplitWhitespace<'_>,
 ) -> io::Result<u64> {
     let mut reads = Reads::new();
     match check_gnu_counted(
@@ -108,11 +103,11 @@ fn show_gnu(
 fn show_sound_sysv(
     rt: &HostRuntime,
     table: &CheckedSysvHash<'_, AnyEndian>,
-    names: &[&str],
+    names: SplitWhitespace<'_>,
 ) -> io::Result<()> {
     show_indexed(rt, table.indexed())?;
     for name in names {
-        show_found(rt, *name, table.find(name.as_bytes()))?;
+        show_found(rt, name, table.find(name.as_bytes()))?;
     }
     Ok(())
 }
@@ -120,11 +115,11 @@ fn show_sound_sysv(
 fn show_sound_gnu(
     rt: &HostRuntime,
     table: &CheckedGnuHash<'_, AnyEndian>,
-    names: &[&str],
+    names: SplitWhitespace<'_>,
 ) -> io::Result<()> {
     show_indexed(rt, table.indexed())?;
     for name in names {
-        show_found(rt, *name, table.find(name.as_bytes()))?;
+        show_found(rt, name, table.find(name.as_bytes()))?;
     }
     Ok(())
 }

@@ -1,7 +1,7 @@
 //! How many items iterators give, and that they stay ended.
 ghost use Rattle.std.specs.Iterator.{IsFinite};
 
-use crate::words::{class_of, order_of};
+use crate::words::Words;
 use elf::dynamic::Dyn;
 use elf::endian::AnyEndian;
 use elf::file::Class;
@@ -14,24 +14,25 @@ use elf_parts::gnu_symver::{
     SymbolNamesIterator, VerDefAuxIterator, VerDefIterator, VerNeedAuxIterator, VerNeedIterator,
 };
 use elf_parts::note::NoteIterator;
-use elf_rows::{RowError, bytes_of, number};
+use std::io;
 
 /// `ends KIND ORDER CLASS COUNT BYTES`: whether the iterator over the bytes from each place on gives no more items than
 /// bytes, and no more linked records than the count, and then `None` three times. Of notes the count is the alignment, of
 /// records of a table it is not looked at.
-pub(crate) fn show_ends(rt: &HostRuntime, words: &[&str]) -> Result<(), RowError> {
-    let [kind, order, class, count, bytes] = words else {
-        return Err(RowError::Form("no iterator"));
-    };
+pub(crate) fn show_ends(rt: &HostRuntime, words: &mut Words<'_>) -> io::Result<()> {
+    let kind = words.word();
+    let order = words.order();
+    let class = words.class();
+    let count = words.number();
+    let data = words.bytes(rt);
     let asked = Asked {
-        order: order_of(*order)?,
-        class: class_of(*class)?,
-        count: number(*count)?,
+        order,
+        class,
+        count,
     };
-    let data = bytes_of(rt, *bytes)?;
-    match first_that_goes_on(asked, *kind, data.as_slice()) {
-        None => Ok(print!(rt; "few items, then None three times")?),
-        Some(place) => Ok(print!(rt; "goes on from place {place}")?),
+    match first_that_goes_on(asked, kind, data.as_slice()) {
+        None => print!(rt; "few items, then None three times"),
+        Some(place) => print!(rt; "goes on from place {place}"),
     }
 }
 

@@ -2,37 +2,21 @@
 use crate::methods::{Given, show_method};
 use crate::records::show_items;
 use crate::shown::{show, show_refusal};
-use crate::words::{class_of, field_of};
+use crate::words::{Words, field_of};
 use elf::ElfBytes;
 use elf::endian::{AnyEndian, BigEndian, EndianParse, LittleEndian};
 use elf::file::{Class, FileHeader, parse_ident};
 use elf::parse::{ParseAt, ParsingTable};
 use elf::section::{SectionHeader, SectionHeaderTable};
 use elf::string_table::StringTable;
-use elf_rows::{RowError, bytes_of, change, file_bytes, number};
 use std::fmt::Debug;
 use std::io;
-use std::slice::Iter;
 
-/// `ident ORDER BYTES`: the identification. `tail ORDER CLASS BYTES`: the header of these bytes behind an
-/// identification with osabi 7 and abiversion 9.
-pub(crate) fn show_header(rt: &HostRuntime, kind: &str, words: &[&str]) -> Result<(), RowError> {
-    let [order, between @ .., bytes] = words else {
-        return Err(RowError::Form("no header"));
-    };
-    let data = bytes_of(rt, *bytes)?;
+/// `ident ORDER BYTES`: the identification.
+pub(crate) fn show_ident(rt: &HostRuntime, words: &mut Words<'_>) -> io::Result<()> {
+    let order = words.word();
+    let data = words.bytes(rt);
     let data = data.as_slice();
-    if kind == "ident" {
-        Ok(show_ident(rt, *order, data)?)
-    } else {
-        let [class] = between else {
-            return Err(RowError::Form("no class"));
-        };
-        Ok(show_tail(rt, *order, class_of(*class)?, data)?)
-    }
-}
-
-fn show_ident(rt: &HostRuntime, order: &str, data: &[u8]) -> io::Result<()> {
     match order {
         "LittleEndian" => show(rt, parse_ident::<LittleEndian>(data)),
         "BigEndian" => show(rt, parse_ident::<BigEndian>(data)),
@@ -40,7 +24,12 @@ fn show_ident(rt: &HostRuntime, order: &str, data: &[u8]) -> io::Result<()> {
     }
 }
 
-fn show_tail(rt: &HostRuntime, order: &str, class: Class, data: &[u8]) -> io::Result<()> {
+/// `tail ORDER CLASS BYTES`: the header of these bytes behind an identification with osabi 7 and abiversion 9.
+pub(crate) fn show_tail(rt: &HostRuntime, words: &mut Words<'_>) -> io::Result<()> {
+    let order = words.word();
+    let class = words.class();
+    let data = words.bytes(rt);
+    let data = data.as_slice();
     match order {
         "LittleEndian" => show_tail_by(rt, LittleEndian, class, data),
         "BigEndian" => show_tail_by(rt, BigEndian, class, data),
@@ -65,64 +54,42 @@ fn show_tail_by<E: EndianParse + Debug>(
 /// any other: what a method of the opened file answers.
 /// A SET, as `shstrndx=2`, changes a field of the header of the opened file, or, as `offset=52`, of the header made by
 /// hand that the method is asked with; `name=N` is the name that it is asked with.
-pub(crate) fn show_file(rt: &HostRuntime, kind: &str, words: &[&str]) -> Result<(), RowError> {
-    let [order, name, rest @ ..] = words else {
-        return Err(RowError::Form("no file"));
-    };
-    let mut rest = rest.iter();
-    let data = changed_bytes(rt, *name, &mut rest)?;
+pub(crate) fn show_file(rt: &HostRuntime, kind: &str, words: &mut Words<'_>) -> io::Result<()> {
+    let order = words.word();
+    let data = words.file(rt);
     let data = data.as_slice();
-    match *order {
-        "LittleEndian" => show_file_by::<LittleEndian>(rt, kind, data, rest),
-        "BigEndian" => show_file_by::<BigEndian>(rt, kind, data, rest),
-        _ => show_file_by::<AnyEndian>(rt, kind, data, rest),
+    match order {
+        "LittleEndian" => show_file_by::<LittleEndian>(rt, kind, data, words),
+        "BigEndian" => show_file_by::<BigEndian>(rt, kind, data, words),
+        _ => show_file_by::<AnyEndian>(rt, kind, data, words),
     }
-}
-
-/// The bytes of the small file with the changes up to the word `:`.
-fn changed_bytes(
-    rt: &HostRuntime,
-    name: &str,
-    changes: &mut Iter<'_, &str>,
-) -> Result<Vec<u8>, RowError> {
-    let mut data = file_bytes(rt, name)?;
-    for word in changes {
-        if *word == ":" {
-            break;
-        }
-        change(&mut data, rt.alloc(), *word)?;
-    }
-    Ok(data)
 }
 
 fn show_file_by<E: EndianParse + Debug>(
     rt: &HostRuntime,
     kind: &str,
     data: &[u8],
-    sets: Iter<'_, &str>,
-) -> Result<(), RowError> {
+    words: &mut Words<'_>,
+) -> io::Result<()> {
     match ElfBytes::<E>::minimal_parse(data) {
         Ok(mut file) => {
-            let given = given_by(&mut file.ehdr, sets)?;
-            Ok(show_opened(rt, kind, &file, given)?)
+            let given = given_by(&mut file.ehdr, words);
+            show_opened(rt, kind, &file, given)
         }
-        Err(error) => Ok(show_refusal(rt, error)?),
+        Err(error) => show_refusal(rt, error),
     }
 }
 
 /// What a method is asked with, after the fields of the file's header are set.
-fn given_by<'a, E: EndianParse>(
-    ehdr: &mut FileHeader<E>,
-    sets: Iter<'_, &'a str>,
-) -> Result<Given<'a>, RowError> {
+fn given_by<'a, E: EndianParse>(ehdr: &mut FileHeader<E>, words: &mut Words<'a>) -> Given<'a> {
     let mut given = Given::none();
-    for set in sets {
-        let (field, value) = field_of(*set)?;
-        if !set_field(ehdr, field, value)? {
-            given.set(field, value)?;
+    for set in words.rest() {
+        let (field, value) = field_of(set);
+        if !set_field(ehdr, field, value, words) {
+            given.set(field, value, words);
         }
     }
-    Ok(given)
+    given
 }
 
 /// Sets a field of the header, where there is one of this name.
@@ -130,18 +97,19 @@ fn set_field<E: EndianParse>(
     ehdr: &mut FileHeader<E>,
     field: &str,
     value: &str,
-) -> Result<bool, RowError> {
+    words: &mut Words<'_>,
+) -> bool {
     match field {
-        "class" => ehdr.class = class_of(value)?,
-        "order" => match E::from_ei_data(number(value)?) {
+        "class" => ehdr.class = words.class_of(value),
+        "order" => match E::from_ei_data(words.number_of(value)) {
             Ok(endianness) => ehdr.endianness = endianness,
-            Err(_) => return Err(RowError::Form("no order")),
+            Err(_) => words.refuse("no order"),
         },
-        "shnum" => ehdr.e_shnum = number(value)?,
-        "shstrndx" => ehdr.e_shstrndx = number(value)?,
-        _ => return Ok(false),
+        "shnum" => ehdr.e_shnum = words.number_of(value),
+        "shstrndx" => ehdr.e_shstrndx = words.number_of(value),
+        _ => return false,
     }
-    Ok(true)
+    true
 }
 
 fn show_opened<E: EndianParse + Debug>(

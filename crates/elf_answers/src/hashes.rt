@@ -1,88 +1,83 @@
 //! Hashes of names, and hash sections.
 use crate::shown::{show, show_refusal};
-use crate::words::{bytes_of_each, class_of, field_of, order_of};
+use crate::words::{Words, field_of};
 use elf::endian::AnyEndian;
 use elf::file::Class;
 use elf::string_table::StringTable;
 use elf::symbol::SymbolTable;
 use elf_parts::hash::{GnuHashHeader, GnuHashTable, SysVHashTable, gnu_hash, sysv_hash};
-use elf_rows::{RowError, bytes_of, number};
 use std::io;
 
 /// `hash BYTES`: both hashes.
-pub(crate) fn show_hashes(rt: &HostRuntime, words: &[&str]) -> Result<(), RowError> {
-    let [bytes] = words else {
-        return Err(RowError::Form("no name"));
-    };
-    let name = bytes_of(rt, *bytes)?;
+pub(crate) fn show_hashes(rt: &HostRuntime, words: &mut Words<'_>) -> io::Result<()> {
+    let name = words.bytes(rt);
     let sysv = sysv_hash(name.as_slice());
     let gnu = gnu_hash(name.as_slice());
-    Ok(print!(rt; "sysv {sysv} gnu {gnu}")?)
+    print!(rt; "sysv {sysv} gnu {gnu}")
 }
 
 /// `find KIND ORDER CLASS NAME SECTION SYMBOLS STRINGS SET..`: what the section finds for the name, or why it is
 /// refused.
 /// A SET, as `nbloom=2`, changes a field of the header of a GNU hash table.
-pub(crate) fn show_find(rt: &HostRuntime, words: &[&str]) -> Result<(), RowError> {
-    let [kind, order, class, rest @ ..] = words else {
-        return Err(RowError::Form("no section"));
-    };
-    let [name, section, symbols, strings, sets @ ..] = rest else {
-        return Err(RowError::Form("no symbols"));
-    };
-    let order = order_of(*order)?;
-    let class = class_of(*class)?;
-    let bytes = bytes_of_each(rt, &[*name, *section, *symbols, *strings])?;
-    let [name, section, symbols, strings] = bytes.as_slice() else {
-        return Err(RowError::Form("no bytes"));
-    };
+pub(crate) fn show_find(rt: &HostRuntime, words: &mut Words<'_>) -> io::Result<()> {
+    let kind = words.word();
+    let order = words.order();
+    let class = words.class();
+    let name = words.bytes(rt);
+    let section = words.bytes(rt);
+    let symbols = words.bytes(rt);
+    let strings = words.bytes(rt);
     let asked = Asked {
         order,
         class,
         name: name.as_slice(),
         section: section.as_slice(),
-        symtab: SymbolTable::new(order, class, symbols.as_slice()),
-        strtab: StringTable::new(strings.as_slice()),
+        symbols: symbols.as_slice(),
+        strings: strings.as_slice(),
     };
-    if *kind == "sysv" {
-        Ok(show_sysv(rt, &asked)?)
+    if kind == "sysv" {
+        show_sysv(rt, asked)
     } else {
-        show_gnu(rt, &asked, sets)
+        show_gnu(rt, asked, words)
     }
 }
 
 /// What a row asks of a hash section.
-#[derive(Drop)]
+#[derive(Clone, Copy)]
 struct Asked<'a> {
     order: AnyEndian,
     class: Class,
     name: &'a [u8],
     section: &'a [u8],
-    symtab: SymbolTable<'a, AnyEndian>,
-    strtab: StringTable<'a>,
+    symbols: &'a [u8],
+    strings: &'a [u8],
 }
 
-fn show_sysv(rt: &HostRuntime, asked: &Asked<'_>) -> io::Result<()> {
+fn show_sysv(rt: &HostRuntime, asked: Asked<'_>) -> io::Result<()> {
+    let symbols = SymbolTable::new(asked.order, asked.class, asked.symbols);
+    let strings = StringTable::new(asked.strings);
     match SysVHashTable::new(asked.order, asked.class, asked.section) {
-        Ok(table) => show(rt, table.find(asked.name, &asked.symtab, &asked.strtab)),
+        Ok(table) => show(rt, table.find(asked.name, &symbols, &strings)),
         Err(error) => show_refusal(rt, error),
     }
 }
 
-fn show_gnu(rt: &HostRuntime, asked: &Asked<'_>, sets: &[&str]) -> Result<(), RowError> {
+fn show_gnu(rt: &HostRuntime, asked: Asked<'_>, words: &mut Words<'_>) -> io::Result<()> {
+    let symbols = SymbolTable::new(asked.order, asked.class, asked.symbols);
+    let strings = StringTable::new(asked.strings);
     match GnuHashTable::new(asked.order, asked.class, asked.section) {
         Ok(mut table) => {
-            set_fields(&mut table.hdr, sets)?;
-            Ok(show(rt, table.find(asked.name, &asked.symtab, &asked.strtab))?)
+            set_fields(&mut table.hdr, words);
+            show(rt, table.find(asked.name, &symbols, &strings))
         }
-        Err(error) => Ok(show_refusal(rt, error)?),
+        Err(error) => show_refusal(rt, error),
     }
 }
 
-fn set_fields(hdr: &mut GnuHashHeader, sets: &[&str]) -> Result<(), RowError> {
-    for set in sets {
-        let (field, value) = field_of(*set)?;
-        let value = number(value)?;
+fn set_fields(hdr: &mut GnuHashHeader, words: &mut Words<'_>) {
+    for set in words.rest() {
+        let (field, value) = field_of(set);
+        let value = words.number_of(value);
         match field {
             "nbucket" => hdr.nbucket = value,
             "first" => hdr.table_start_idx = value,
@@ -90,5 +85,4 @@ fn set_fields(hdr: &mut GnuHashHeader, sets: &[&str]) -> Result<(), RowError> {
             _ => hdr.nshift = value,
         }
     }
-    Ok(())
 }

@@ -1,10 +1,12 @@
-//! Makes the library's calls that the file `calls` asks for, a line each, and prints what each answers.
+//! Makes the library's calls that the file `calls` asks for, a line each, and prints what each answers; then does the
+//! same with the cases of command lines of the file `cases`.
 //!
 //! Bytes are hexadecimal digits, `-` for none, or `@NAME` for the small file NAME. An answer is shown as `{:?}`
 //! shows it, a refusal with its text behind it. All is written straight to standard output, since a text that is
 //! built first costs much of the time of a check.
 #![tactic(auto)]
 
+mod cases;
 mod checks;
 mod common;
 mod ends;
@@ -21,45 +23,45 @@ mod versions;
 mod words;
 
 use elf_rows::RowError;
-use std::fs;
+use std::{fs, io};
+use words::Words;
 
 fn main(rt: HostRuntime) -> Result<(), RowError> {
     let calls = fs::read_to_string(&rt, "calls")?;
     for call in calls.lines() {
-        print!(rt; "{call}: ")?;
-        show_line(&rt, call)?;
-        println!(rt)?;
+        show_row(&rt, call)?;
     }
-    Ok(())
+    cases::show_cases(&rt)
 }
 
-fn show_line(rt: &HostRuntime, call: &str) -> Result<(), RowError> {
-    let words: Vec<&str> = call.split_whitespace().collect(rt.alloc())?;
-    show_call(rt, words.as_slice())
+fn show_row(rt: &HostRuntime, row: &str) -> Result<(), RowError> {
+    let mut words = Words::new(row);
+    print!(rt; "{row}: ")?;
+    show_call(rt, &mut words)?;
+    println!(rt)?;
+    words.end()
 }
 
 /// What a call answers.
-fn show_call(rt: &HostRuntime, words: &[&str]) -> Result<(), RowError> {
-    let [kind, rest @ ..] = words else {
-        return Err(RowError::Form("no call"));
-    };
-    match *kind {
-        "number" => numbers::show_number(rt, rest),
-        "order" => numbers::show_order(rt, rest),
-        "ident" | "tail" => files::show_header(rt, *kind, rest),
-        "record" => records::show_record(rt, rest),
-        "parts" => records::show_parts(rt, rest),
-        "notes" => notes::show_notes(rt, rest),
-        "hash" => hashes::show_hashes(rt, rest),
-        "find" => hashes::show_find(rt, rest),
-        "check" => checks::show_check(rt, true, rest),
-        "verdict" => checks::show_check(rt, false, rest),
-        "linked" => versions::show_linked(rt, rest),
-        "version" => versions::show_version(rt, rest),
-        "string" => strings::show_string(rt, rest),
-        "ends" => ends::show_ends(rt, rest),
-        "values" => names::show_names(rt, rest),
-        "text" => names::show_value(rt, rest),
-        _ => files::show_file(rt, *kind, rest),
+fn show_call(rt: &HostRuntime, words: &mut Words<'_>) -> io::Result<()> {
+    match words.word() {
+        "number" => numbers::show_number(rt, words),
+        "order" => numbers::show_order(rt, words),
+        "ident" => files::show_ident(rt, words),
+        "tail" => files::show_tail(rt, words),
+        "record" => records::show_record(rt, words),
+        "parts" => records::show_parts(rt, words),
+        "notes" => notes::show_notes(rt, words),
+        "hash" => hashes::show_hashes(rt, words),
+        "find" => hashes::show_find(rt, words),
+        "check" => checks::show_check(rt, true, words),
+        "verdict" => checks::show_check(rt, false, words),
+        "linked" => versions::show_linked(rt, words),
+        "version" => versions::show_version(rt, words),
+        "string" => strings::show_string(rt, words),
+        "ends" => ends::show_ends(rt, words),
+        "values" => names::show_names(rt, words),
+        "text" => names::show_value(rt, words),
+        kind => files::show_file(rt, kind, words),
     }
 }

@@ -3,6 +3,7 @@ use crate::common::show_common;
 use crate::notes::show_each;
 use crate::records::show_items;
 use crate::shown::{show, show_lines, show_refusal};
+use crate::words::Words;
 use elf::endian::EndianParse;
 use elf::note::NoteIterator;
 use elf::parse::{ParseAt, ParsingIterator, ParsingTable};
@@ -11,7 +12,6 @@ use elf::segment::ProgramHeader;
 use elf::string_table::StringTable;
 use elf::symbol::{Symbol, SymbolTable};
 use elf::{ElfBytes, ParseError};
-use elf_rows::{RowError, number};
 use std::fmt::Debug;
 use std::io;
 
@@ -40,17 +40,16 @@ impl<'a> Given<'a> {
     }
 
     /// Puts a value in the place of a field.
-    pub(crate) fn set(&mut self, field: &str, value: &'a str) -> Result<(), RowError> {
+    pub(crate) fn set(&mut self, field: &str, value: &'a str, words: &mut Words<'_>) {
         match field {
             "name" => self.name = value,
-            "type" => self.kind = number(value)?,
-            "flags" => self.flags = number(value)?,
-            "offset" => self.offset = number(value)?,
-            "size" => self.size = number(value)?,
-            "align" => self.align = number(value)?,
-            _ => return Err(RowError::Form("no such field")),
+            "type" => self.kind = words.number_of(value),
+            "flags" => self.flags = words.number_of(value),
+            "offset" => self.offset = words.number_of(value),
+            "size" => self.size = words.number_of(value),
+            "align" => self.align = words.number_of(value),
+            _ => words.refuse("no such field"),
         }
-        Ok(())
     }
 
     fn section(self) -> SectionHeader {

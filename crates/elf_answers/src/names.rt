@@ -1,18 +1,14 @@
 //! The names of values.
+use crate::words::Words;
 use elf::to_str;
-use elf_rows::{RowError, number};
 use std::alloc::{AllocError, Global};
 use std::io;
 
 /// `values KIND FROM TO`: each value from FROM to TO that has a name, and the name.
-pub(crate) fn show_names(rt: &HostRuntime, words: &[&str]) -> Result<(), RowError> {
-    let [kind, from, to] = words else {
-        return Err(RowError::Form("no values"));
-    };
-    Ok(show_names_between(rt, *kind, number(*from)?, number(*to)?)?)
-}
-
-fn show_names_between(rt: &HostRuntime, kind: &str, from: i64, to: i64) -> io::Result<()> {
+pub(crate) fn show_names(rt: &HostRuntime, words: &mut Words<'_>) -> io::Result<()> {
+    let kind = words.word();
+    let from = words.number();
+    let to = words.number();
     for value in from..=to {
         if let Some(name) = name_of(kind, value) {
             print!(rt; "\n  {value} {name}")?;
@@ -63,22 +59,21 @@ fn word_name(kind: &str, value: u32) -> Option<&'static str> {
 }
 
 /// `text KIND VALUE`: the value's name, or else its number.
-pub(crate) fn show_value(rt: &HostRuntime, words: &[&str]) -> Result<(), RowError> {
-    let [kind, value] = words else {
-        return Err(RowError::Form("no value"));
-    };
-    let text = value_text(rt.alloc(), *kind, *value)?;
-    Ok(print!(rt; "{text:?}")?)
+pub(crate) fn show_value(rt: &HostRuntime, words: &mut Words<'_>) -> io::Result<()> {
+    match value_text(rt.alloc(), words) {
+        Ok(text) => print!(rt; "{text:?}"),
+        Err(_) => print!(rt; "out of memory"),
+    }
 }
 
-fn value_text(alloc: Global, kind: &str, value: &str) -> Result<String, RowError> {
-    let text = match kind {
-        "e_osabi" | "st_symtype" | "st_bind" | "st_vis" => byte_text(alloc, kind, number(value)?),
-        "e_type" => to_str::e_type_to_string(alloc, number(value)?),
-        "e_machine" => to_str::e_machine_to_string(alloc, number(value)?),
-        _ => word_text(alloc, kind, number(value)?),
-    };
-    Ok(text?)
+fn value_text(alloc: Global, words: &mut Words<'_>) -> Result<String, AllocError> {
+    let kind = words.word();
+    match kind {
+        "e_osabi" | "st_symtype" | "st_bind" | "st_vis" => byte_text(alloc, kind, words.number()),
+        "e_type" => to_str::e_type_to_string(alloc, words.number()),
+        "e_machine" => to_str::e_machine_to_string(alloc, words.number()),
+        _ => word_text(alloc, kind, words.number()),
+    }
 }
 
 fn byte_text(alloc: Global, kind: &str, value: u8) -> Result<String, AllocError> {

@@ -1,25 +1,23 @@
 //! Numbers, and the orders of their bytes.
 use crate::shown::{show, show_refusal};
-use crate::words::order_of;
+use crate::words::Words;
 use elf::endian::{AnyEndian, BigEndian, EndianParse, LittleEndian};
-use elf_rows::{RowError, bytes_of, number};
 use std::fmt::Debug;
 use std::io;
 
 /// `number KIND ORDER OFFSET BYTES`: the number, and the offset afterwards.
-pub(crate) fn show_number(rt: &HostRuntime, words: &[&str]) -> Result<(), RowError> {
-    let [kind, order, offset, bytes] = words else {
-        return Err(RowError::Form("no number"));
-    };
-    let offset = number(*offset)?;
-    let data = bytes_of(rt, *bytes)?;
+pub(crate) fn show_number(rt: &HostRuntime, words: &mut Words<'_>) -> io::Result<()> {
+    let kind = words.word();
+    let order = words.word();
+    let offset = words.number();
+    let data = words.bytes(rt);
     let data = data.as_slice();
-    let shown = match *order {
-        "LittleEndian" => show_number_by(rt, LittleEndian, *kind, offset, data),
-        "BigEndian" => show_number_by(rt, BigEndian, *kind, offset, data),
-        word => show_number_by(rt, order_of(word)?, *kind, offset, data),
-    };
-    Ok(shown?)
+    match order {
+        "LittleEndian" => show_number_by(rt, LittleEndian, kind, offset, data),
+        "BigEndian" => show_number_by(rt, BigEndian, kind, offset, data),
+        "little" => show_number_by(rt, AnyEndian::Little, kind, offset, data),
+        _ => show_number_by(rt, AnyEndian::Big, kind, offset, data),
+    }
 }
 
 fn show_number_by<E: EndianParse>(
@@ -43,18 +41,17 @@ fn show_number_by<E: EndianParse>(
 }
 
 /// `order TYPE BYTE`: the order that the byte stands for, and what it tells of itself.
-pub(crate) fn show_order(rt: &HostRuntime, words: &[&str]) -> Result<(), RowError> {
-    let [kind, byte] = words else {
-        return Err(RowError::Form("no order"));
+pub(crate) fn show_order(rt: &HostRuntime, words: &mut Words<'_>) -> io::Result<()> {
+    let kind = words.word();
+    let data = words.bytes(rt);
+    let Some(byte) = data.first().copied() else {
+        return Ok(words.refuse("no byte"));
     };
-    let data = bytes_of(rt, *byte)?;
-    let byte = data.first().copied().ok_or(RowError::Form("no byte"))?;
-    let shown = match *kind {
+    match kind {
         "LittleEndian" => show_order_by::<LittleEndian>(rt, byte),
         "BigEndian" => show_order_by::<BigEndian>(rt, byte),
         _ => show_order_by::<AnyEndian>(rt, byte),
-    };
-    Ok(shown?)
+    }
 }
 
 fn show_order_by<E: EndianParse + Debug>(rt: &HostRuntime, byte: u8) -> io::Result<()> {

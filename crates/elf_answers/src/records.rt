@@ -1,6 +1,6 @@
 //! Records, and tables of them.
 use crate::shown::{show, show_lines, show_refusal};
-use crate::words::{class_of, order_of};
+use crate::words::Words;
 use elf::ParseError;
 use elf::compression::CompressionHeader;
 use elf::dynamic::Dyn;
@@ -14,7 +14,6 @@ use elf::symbol::Symbol;
 use elf_parts::gnu_symver::{VerDef, VerDefAux, VerNeed, VerNeedAux, VersionIndex};
 use elf_parts::hash::{GnuHashHeader, SysVHashHeader};
 use elf_parts::note::NoteGnuAbiTag;
-use elf_rows::{RowError, bytes_of, number};
 use std::fmt::Debug;
 use std::io;
 
@@ -23,22 +22,21 @@ use std::io;
 /// `get`: the length of the table of the bytes, and its item with this index;
 /// `items`: the length of the table, and so many of its items at most;
 /// `size`: the size of a record, and whether the number is taken for it.
-pub(crate) fn show_record(rt: &HostRuntime, words: &[&str]) -> Result<(), RowError> {
-    let [kind, order, class, asked, n, bytes] = words else {
-        return Err(RowError::Form("no record"));
-    };
-    let order = order_of(*order)?;
-    let class = class_of(*class)?;
-    let n = number(*n)?;
-    let data = bytes_of(rt, *bytes)?;
+pub(crate) fn show_record(rt: &HostRuntime, words: &mut Words<'_>) -> io::Result<()> {
+    let kind = words.word();
+    let order = words.order();
+    let class = words.class();
+    let asked = words.word();
+    let n = words.number();
+    let data = words.bytes(rt);
     let asked = Asked {
         order,
         class,
-        asked: *asked,
+        asked,
         n,
         data: data.as_slice(),
     };
-    Ok(show_kind(rt, *kind, asked)?)
+    show_kind(rt, kind, asked)
 }
 
 /// What a row asks of a kind of records.
@@ -133,20 +131,17 @@ pub(crate) fn show_items<E: EndianParse, P: ParseAt + Debug + Drop>(
 }
 
 /// `parts KIND ORDER CLASS BYTES`: what the record at the front of the bytes tells of itself.
-pub(crate) fn show_parts(rt: &HostRuntime, words: &[&str]) -> Result<(), RowError> {
-    let [kind, order, class, bytes] = words else {
-        return Err(RowError::Form("no parts"));
-    };
-    let order = order_of(*order)?;
-    let class = class_of(*class)?;
-    let data = bytes_of(rt, *bytes)?;
+pub(crate) fn show_parts(rt: &HostRuntime, words: &mut Words<'_>) -> io::Result<()> {
+    let kind = words.word();
+    let order = words.order();
+    let class = words.class();
+    let data = words.bytes(rt);
     let data = data.as_slice();
-    let shown = match *kind {
+    match kind {
         "Symbol" => show_symbol(rt, Symbol::parse_at(order, class, &mut 0, data)),
         "Dyn" => show_entry(rt, Dyn::parse_at(order, class, &mut 0, data)),
         _ => show_index(rt, VersionIndex::parse_at(order, class, &mut 0, data)),
-    };
-    Ok(shown?)
+    }
 }
 
 fn show_symbol(rt: &HostRuntime, answer: Result<Symbol, ParseError>) -> io::Result<()> {

@@ -2,7 +2,7 @@
 ghost use Rattle.std.specs.Iterator.{IsFinite};
 
 use crate::shown::{show, show_refusal};
-use crate::words::{bytes_of_each, class_of, order_of};
+use crate::words::Words;
 use elf::ParseError;
 use elf::endian::{AnyEndian, EndianParse};
 use elf::file::Class;
@@ -10,27 +10,23 @@ use elf::string_table::StringTable;
 use elf_parts::gnu_symver::{
     SymbolDefinition, SymbolVersionTable, VerDefIterator, VerNeedIterator, VersionIndexTable,
 };
-use elf_rows::{RowError, bytes_of, number};
 use std::fmt::Debug;
 use std::io;
 
 /// `linked KIND ORDER CLASS COUNT START BYTES`: the linked records, each with its auxiliary ones.
-pub(crate) fn show_linked(rt: &HostRuntime, words: &[&str]) -> Result<(), RowError> {
-    let [kind, order, class, count, start, bytes] = words else {
-        return Err(RowError::Form("no records"));
-    };
-    let order = order_of(*order)?;
-    let class = class_of(*class)?;
-    let count = number(*count)?;
-    let start = number(*start)?;
-    let data = bytes_of(rt, *bytes)?;
+pub(crate) fn show_linked(rt: &HostRuntime, words: &mut Words<'_>) -> io::Result<()> {
+    let kind = words.word();
+    let order = words.order();
+    let class = words.class();
+    let count = words.number();
+    let start = words.number();
+    let data = words.bytes(rt);
     let data = data.as_slice();
-    let shown = if *kind == "VerDef" {
+    if kind == "VerDef" {
         show_definitions(rt, VerDefIterator::new(order, class, count, start, data))
     } else {
         show_needs(rt, VerNeedIterator::new(order, class, count, start, data))
-    };
-    Ok(shown?)
+    }
 }
 
 fn show_definitions(rt: &HostRuntime, records: VerDefIterator<'_, AnyEndian>) -> io::Result<()> {
@@ -64,75 +60,64 @@ where
 
 /// `version ORDER CLASS SYMBOL INDEXES COUNT NEEDS STRINGS COUNT DEFINITIONS STRINGS`: the version that a symbol
 /// needs, and the one that it is defined with. The count `-` stands for no records at all.
-pub(crate) fn show_version(rt: &HostRuntime, words: &[&str]) -> Result<(), RowError> {
-    let [order, class, symbol, rest @ ..] = words else {
-        return Err(RowError::Form("no version"));
-    };
-    let [
-        indexes,
-        count,
-        needs,
-        strings,
-        def_count,
-        definitions,
-        def_strings,
-    ] = rest
-    else {
-        return Err(RowError::Form("no records of versions"));
-    };
-    let asked = Asked {
-        order: order_of(*order)?,
-        class: class_of(*class)?,
-        symbol: number(*symbol)?,
-        needs: count_of(*count)?,
-        definitions: count_of(*def_count)?,
-    };
-    let bytes = bytes_of_each(
-        rt,
-        &[*indexes, *needs, *strings, *definitions, *def_strings],
-    )?;
-    show_asked(rt, asked, bytes.as_slice())
+pub(crate) fn show_version(rt: &HostRuntime, words: &mut Words<'_>) -> io::Result<()> {
+    let order = words.order();
+    let class = words.class();
+    let symbol = words.number();
+    let indexes = words.bytes(rt);
+    let need_count = count_of(words);
+    let needs = words.bytes(rt);
+    let need_strings = words.bytes(rt);
+    let count = count_of(words);
+    let definitions = words.bytes(rt);
+    let strings = words.bytes(rt);
+    let table = SymbolVersionTable::new(
+        VersionIndexTable::new(order, class, indexes.as_slice()),
+        needs_of(
+            order,
+            class,
+            need_count,
+            needs.as_slice(),
+            need_strings.as_slice(),
+        ),
+        definitions_of(
+            order,
+            class,
+            count,
+            definitions.as_slice(),
+            strings.as_slice(),
+        ),
+    );
+    show_both(rt, &table, symbol)
 }
 
-/// What a row asks of records of versions, and how many needs and definitions there are.
-#[derive(Clone, Copy)]
-struct Asked {
+fn count_of(words: &mut Words<'_>) -> Option<u64> {
+    match words.word() {
+        "-" => None,
+        count => Some(words.number_of(count)),
+    }
+}
+
+fn needs_of<'a>(
     order: AnyEndian,
     class: Class,
-    symbol: usize,
-    needs: Option<u64>,
-    definitions: Option<u64>,
+    count: Option<u64>,
+    needs: &'a [u8],
+    strings: &'a [u8],
+) -> Option<(VerNeedIterator<'a, AnyEndian>, StringTable<'a>)> {
+    let needs = VerNeedIterator::new(order, class, count?, 0, needs);
+    Some((needs, StringTable::new(strings)))
 }
 
-fn count_of(word: &str) -> Result<Option<u64>, RowError> {
-    if word == "-" {
-        return Ok(None);
-    }
-    Ok(Some(number(word)?))
-}
-
-fn show_asked(rt: &HostRuntime, asked: Asked, bytes: &[Vec<u8>]) -> Result<(), RowError> {
-    let [indexes, needs, strings, definitions, def_strings] = bytes else {
-        return Err(RowError::Form("no bytes"));
-    };
-    let Asked { order, class, .. } = asked;
-    let needs = match asked.needs {
-        Some(count) => Some((
-            VerNeedIterator::new(order, class, count, 0, needs.as_slice()),
-            StringTable::new(strings.as_slice()),
-        )),
-        None => None,
-    };
-    let definitions = match asked.definitions {
-        Some(count) => Some((
-            VerDefIterator::new(order, class, count, 0, definitions.as_slice()),
-            StringTable::new(def_strings.as_slice()),
-        )),
-        None => None,
-    };
-    let indexes = VersionIndexTable::new(order, class, indexes.as_slice());
-    let table = SymbolVersionTable::new(indexes, needs, definitions);
-    Ok(show_both(rt, &table, asked.symbol)?)
+fn definitions_of<'a>(
+    order: AnyEndian,
+    class: Class,
+    count: Option<u64>,
+    definitions: &'a [u8],
+    strings: &'a [u8],
+) -> Option<(VerDefIterator<'a, AnyEndian>, StringTable<'a>)> {
+    let definitions = VerDefIterator::new(order, class, count?, 0, definitions);
+    Some((definitions, StringTable::new(strings)))
 }
 
 fn show_both<E: EndianParse>(

@@ -3,7 +3,6 @@
 
 use std::alloc::{AllocError, AllocFailed, Global};
 use std::str::FromStr;
-use std::string::FromUtf8Error;
 use std::{fs, io};
 use thiserror::Error;
 
@@ -12,8 +11,6 @@ use thiserror::Error;
 pub enum RowError {
     #[error("{0}")]
     File(#[from] io::Error),
-    #[error("an answer is no text")]
-    Text(#[from] FromUtf8Error),
     #[error("out of memory")]
     Memory(#[from] AllocError),
     #[error("a row has {0}")]
@@ -40,7 +37,7 @@ pub fn bytes_of(rt: &HostRuntime, word: &str) -> Result<Vec<u8>, RowError> {
 }
 
 /// The bytes of a small file, which is kept as lines of hexadecimal digits.
-pub fn file_bytes(rt: &HostRuntime, name: &str) -> Result<Vec<u8>, RowError> {
+fn file_bytes(rt: &HostRuntime, name: &str) -> Result<Vec<u8>, RowError> {
     let text = fs::read_to_string(rt, name)?;
     let mut bytes = Vec::new(rt.alloc());
     for line in text.lines() {
@@ -75,9 +72,20 @@ fn digit_value(digit: u8) -> Option<u8> {
     }
 }
 
+/// The bytes of a small file with changes, as the words `FILE CHANGE..` say.
+pub fn changed_file(rt: &HostRuntime, file: &str) -> Result<Vec<u8>, RowError> {
+    let mut words = file.split_whitespace();
+    let name = words.next().ok_or(RowError::Form("no file"))?;
+    let mut data = file_bytes(rt, name)?;
+    for word in words {
+        change(&mut data, rt.alloc(), word)?;
+    }
+    Ok(data)
+}
+
 /// Changes the bytes of a file as the words say: `46=29ff` writes bytes from place 46 on, `cut=100` leaves the first
 /// 100 bytes alone, and `more=00ff` puts bytes behind the file.
-pub fn change(data: &mut Vec<u8>, alloc: Global, edit: &str) -> Result<(), RowError> {
+fn change(data: &mut Vec<u8>, alloc: Global, edit: &str) -> Result<(), RowError> {
     let (place, bytes) = edit
         .split_once('=')
         .ok_or(RowError::Form("a change without `=`"))?;

@@ -4,128 +4,132 @@ use crate::functions::{functions, version_of};
 use crate::hash_lint::lint;
 use crate::load_plan::{Mapping, load_plan};
 use crate::resolver::{definition, tables};
-use elf::ElfBytes;
 use elf::endian::AnyEndian;
 use elf::gnu_symver::SymbolVersionTable;
 use elf::section::SectionHeader;
 use elf::string_table::StringTable;
-use elf::symbol::Symbol;
-use elf_rows::RowError;
-use std::alloc::Global;
+use elf::symbol::{Symbol, SymbolTable};
+use elf::{ElfBytes, ParseError};
 use std::io;
 use std::io::Write;
 
 type File<'data> = ElfBytes<'data, AnyEndian>;
 
 /// The answers of a caller for each file, or of the resolver for all of them.
-pub fn print_answers<W: Write>(
-    alloc: Global,
-    caller: &str,
-    files: &[Vec<u8>],
-    out: &mut W,
-) -> Result<(), RowError> {
+pub fn print_answers(rt: &HostRuntime, caller: &str, files: &[Vec<u8>]) -> io::Result<()> {
     if let Some(name) = caller.strip_prefix("resolver=") {
-        return print_resolved(alloc, name.as_bytes(), files, out);
+        return print_resolved(rt, name.as_bytes(), files);
     }
     for data in files {
-        match ElfBytes::minimal_parse(data.as_slice()) {
-            Ok(file) => print_answer(alloc, caller, &file, out)?,
-            Err(error) => writeln!(out, "refused: {error}")?,
-        }
+        print_answer(rt, caller, data.as_slice())?;
     }
     Ok(())
 }
 
-fn print_answer<W: Write>(
-    alloc: Global,
-    caller: &str,
-    file: &File<'_>,
-    out: &mut W,
-) -> Result<(), RowError> {
+fn print_answer(rt: &HostRuntime, caller: &str, data: &[u8]) -> io::Result<()> {
+    match ElfBytes::minimal_parse(data) {
+        Ok(file) => print_answer_of(rt, caller, &file),
+        Err(error) => print_refusal(rt, error),
+    }
+}
+
+fn print_answer_of(rt: &HostRuntime, caller: &str, file: &File<'_>) -> io::Result<()> {
     match caller {
-        "build_id" => Ok(print_build_id(file, out)?),
-        "functions" => print_functions(alloc, file, out),
-        "load_plan" => print_plan(alloc, file, out),
-        "hash_lint" => Ok(print_lint(file, out)?),
-        _ => Err(RowError::Form("an unknown caller")),
+        "build_id" => print_build_id(rt, build_id(file)),
+        "functions" => print_functions(rt, file),
+        "load_plan" => print_plan(rt, file),
+        "hash_lint" => print_lint(rt, file),
+        _ => Err(io::Error::other("no such caller")),
     }
 }
 
-fn print_build_id<W: Write>(file: &File<'_>, out: &mut W) -> io::Result<()> {
-    match build_id(file) {
-        Ok(Some(id)) => {
-            for byte in id {
-                write!(out, "{byte:02x}")?;
-            }
-            writeln!(out)
-        }
-        Ok(None) => writeln!(out, "none"),
-        Err(error) => writeln!(out, "refused: {error}"),
+fn print_refusal(rt: &HostRuntime, error: ParseError) -> io::Result<()> {
+    println!(rt; "refused: {error}")
+}
+
+fn print_build_id(rt: &HostRuntime, answer: Result<Option<&[u8]>, ParseError>) -> io::Result<()> {
+    match answer {
+        Ok(Some(id)) => print_hex(rt, id),
+        Ok(None) => println!(rt; "none"),
+        Err(error) => print_refusal(rt, error),
     }
 }
 
-fn print_functions<W: Write>(alloc: Global, file: &File<'_>, out: &mut W) -> Result<(), RowError> {
-    match (file.dynamic_symbol_table(), file.symbol_version_table()) {
-        (Ok(Some((symbols, strings))), Ok(versions)) => {
-            let found = functions(alloc, &symbols)?;
-            for (index, symbol) in &found {
-                print_function(*index, symbol, &strings, versions.as_ref(), out)?;
-            }
-        }
-        (Ok(None), _) => writeln!(out, "none")?,
-        (Err(error), _) | (_, Err(error)) => writeln!(out, "refused: {error}")?,
+fn print_hex(rt: &HostRuntime, bytes: &[u8]) -> io::Result<()> {
+    for byte in bytes {
+        print!(rt; "{byte:02x}")?;
     }
-    Ok(())
+    println!(rt)
 }
 
-fn print_function<W: Write>(
-    index: usize,
-    symbol: &Symbol,
+fn print_functions(rt: &HostRuntime, file: &File<'_>) -> io::Result<()> {
+    match file.dynamic_symbol_table() {
+        Ok(Some((symbols, strings))) => match file.symbol_version_table() {
+            Ok(versions) => print_all(rt, &symbols, &strings, versions.as_ref()),
+            Err(error) => print_refusal(rt, error),
+        },
+        Ok(None) => println!(rt; "none"),
+        Err(error) => print_refusal(rt, error),
+    }
+}
+
+fn print_all(
+    rt: &HostRuntime,
+    symbols: &SymbolTable<'_, AnyEndian>,
     strings: &StringTable<'_>,
     versions: Option<&SymbolVersionTable<'_, AnyEndian>>,
-    out: &mut W,
 ) -> io::Result<()> {
-    let value = symbol.st_value;
-    write!(out, "0x{value:x} ")?;
-    match strings.get_raw(symbol.st_name as usize) {
-        Ok(name) => out.write_all(name)?,
-        Err(error) => write!(out, "({error})")?,
+    let found = functions(rt.alloc(), symbols)?;
+    for (index, symbol) in &found {
+        print_function(rt, symbol, strings)?;
+        print_version(rt, *index, versions)?;
     }
-    if let Some(versions) = versions {
-        print_version(index, versions, out)?;
-    }
-    writeln!(out)
+    Ok(())
 }
 
-fn print_version<W: Write>(
+fn print_function(rt: &HostRuntime, symbol: &Symbol, strings: &StringTable<'_>) -> io::Result<()> {
+    let value = symbol.st_value;
+    print!(rt; "0x{value:x} ")?;
+    match strings.get_raw(symbol.st_name as usize) {
+        Ok(name) => rt.stdout().write_all(name),
+        Err(error) => print!(rt; "({error})"),
+    }
+}
+
+fn print_version(
+    rt: &HostRuntime,
     index: usize,
-    versions: &SymbolVersionTable<'_, AnyEndian>,
-    out: &mut W,
+    versions: Option<&SymbolVersionTable<'_, AnyEndian>>,
 ) -> io::Result<()> {
+    let Some(versions) = versions else {
+        return println!(rt);
+    };
     match version_of(versions, index) {
         Ok(Some(version)) => {
             let name = version.name;
             let sign = if version.hidden { "@" } else { "@@" };
-            write!(out, "{sign}{name}")
+            println!(rt; "{sign}{name}")
         }
-        Ok(None) => Ok(()),
-        Err(error) => write!(out, " ({error})"),
+        Ok(None) => println!(rt),
+        Err(error) => println!(rt; " ({error})"),
     }
 }
 
-fn print_plan<W: Write>(alloc: Global, file: &File<'_>, out: &mut W) -> Result<(), RowError> {
-    match load_plan(alloc, file) {
-        Ok(plan) => {
-            for mapping in &plan {
-                print_mapping(mapping, out)?;
-            }
-        }
-        Err(error) => writeln!(out, "refused: {error}")?,
+fn print_plan(rt: &HostRuntime, file: &File<'_>) -> io::Result<()> {
+    match load_plan(rt.alloc(), file) {
+        Ok(plan) => print_mappings(rt, plan.as_slice()),
+        Err(error) => println!(rt; "refused: {error}"),
+    }
+}
+
+fn print_mappings(rt: &HostRuntime, plan: &[Mapping]) -> io::Result<()> {
+    for mapping in plan {
+        print_mapping(rt, mapping)?;
     }
     Ok(())
 }
 
-fn print_mapping<W: Write>(mapping: &Mapping, out: &mut W) -> io::Result<()> {
+fn print_mapping(rt: &HostRuntime, mapping: &Mapping) -> io::Result<()> {
     let Mapping {
         address,
         memory_size,
@@ -133,56 +137,53 @@ fn print_mapping<W: Write>(mapping: &Mapping, out: &mut W) -> io::Result<()> {
         file_size,
         flags,
     } = *mapping;
-    writeln!(
-        out,
+    println!(rt;
         "offset=0x{offset:x} address=0x{address:x} filesize=0x{file_size:x} memsize=0x{memory_size:x} flags={flags}"
     )
 }
 
-fn print_lint<W: Write>(file: &File<'_>, out: &mut W) -> io::Result<()> {
+fn print_lint(rt: &HostRuntime, file: &File<'_>) -> io::Result<()> {
     if let Some(sections) = file.section_headers() {
         for (index, section) in sections.iter().enumerate() {
-            print_section_lint(file, index, &section, out)?;
+            print_section_lint(rt, file, index, &section)?;
         }
     }
     Ok(())
 }
 
-fn print_section_lint<W: Write>(
+fn print_section_lint(
+    rt: &HostRuntime,
     file: &File<'_>,
     index: usize,
     section: &SectionHeader,
-    out: &mut W,
 ) -> io::Result<()> {
     match lint(file, section) {
-        Some(Ok(indexed)) => writeln!(out, "section {index}: sound, indexed={indexed}"),
-        Some(Err(fault)) => writeln!(out, "section {index}: {fault}"),
+        Some(Ok(indexed)) => println!(rt; "section {index}: sound, indexed={indexed}"),
+        Some(Err(fault)) => println!(rt; "section {index}: {fault}"),
         None => Ok(()),
     }
 }
 
-fn print_resolved<W: Write>(
-    alloc: Global,
-    name: &[u8],
-    files: &[Vec<u8>],
-    out: &mut W,
-) -> Result<(), RowError> {
-    let mut libraries: Vec<File<'_>> = Vec::new(alloc);
+fn print_resolved(rt: &HostRuntime, name: &[u8], files: &[Vec<u8>]) -> io::Result<()> {
+    let mut libraries: Vec<File<'_>> = Vec::new(rt.alloc());
     for data in files {
         match ElfBytes::minimal_parse(data.as_slice()) {
             Ok(file) => libraries.push(file)?,
-            Err(error) => return Ok(writeln!(out, "refused: {error}")?),
+            Err(error) => return print_refusal(rt, error),
         }
     }
-    match tables(alloc, libraries.as_slice()) {
-        Ok(tables) => match definition(tables.as_slice(), name) {
-            Some((library, index, symbol)) => {
-                let value = symbol.st_value;
-                writeln!(out, "library {library}: symbol {index}, value 0x{value:x}")?;
-            }
-            None => writeln!(out, "none")?,
-        },
-        Err(error) => writeln!(out, "refused: {error}")?,
+    match tables(rt.alloc(), libraries.as_slice()) {
+        Ok(tables) => print_definition(rt, definition(tables.as_slice(), name)),
+        Err(error) => println!(rt; "refused: {error}"),
     }
-    Ok(())
+}
+
+fn print_definition(rt: &HostRuntime, found: Option<(usize, usize, Symbol)>) -> io::Result<()> {
+    match found {
+        Some((library, index, symbol)) => {
+            let value = symbol.st_value;
+            println!(rt; "library {library}: symbol {index}, value 0x{value:x}")
+        }
+        None => println!(rt; "none"),
+    }
 }

@@ -14,55 +14,52 @@ mod load_plan;
 mod resolver;
 
 use answers::print_answers;
-use elf_rows::{RowError, change, file_bytes};
-use std::io::{BufWriter, Write};
+use elf_rows::{RowError, changed_file};
 use std::{env, fs};
 
 fn main(rt: HostRuntime) -> Result<(), RowError> {
     let words: Vec<String> = env::args(&rt)?.skip(1).collect(rt.alloc())?;
-    let (caller, names) = words
-        .as_slice()
-        .split_first()
-        .ok_or(RowError::Form("no caller"))?;
-    let mut out = BufWriter::with_capacity(rt.alloc(), 65536, rt.stdout())?;
-    if caller.as_str() == "rows" {
-        for name in names {
-            print_rows(&rt, name.as_str(), &mut out)?;
-        }
-    } else {
-        let mut files = Vec::new(rt.alloc());
-        for name in names {
-            files.push(fs::read(&rt, name.as_str())?)?;
-        }
-        print_answers(rt.alloc(), caller.as_str(), files.as_slice(), &mut out)?;
+    match words.as_slice().split_first() {
+        Some((caller, names)) => run(&rt, caller.as_str(), names),
+        None => Err(RowError::Form("no caller")),
     }
-    out.flush()?;
+}
+
+fn run(rt: &HostRuntime, caller: &str, names: &[String]) -> Result<(), RowError> {
+    if caller != "rows" {
+        return print_files(rt, caller, names);
+    }
+    for name in names {
+        print_rows(rt, name.as_str())?;
+    }
     Ok(())
 }
 
-/// Each row of a file of rows, and behind it what its caller answers.
-fn print_rows<W: Write>(rt: &HostRuntime, name: &str, out: &mut W) -> Result<(), RowError> {
+/// What a caller answers of files of the machine.
+fn print_files(rt: &HostRuntime, caller: &str, names: &[String]) -> Result<(), RowError> {
+    let mut files = Vec::new(rt.alloc());
+    for name in names {
+        files.push(fs::read(rt, name.as_str())?)?;
+    }
+    Ok(print_answers(rt, caller, files.as_slice())?)
+}
+
+fn print_rows(rt: &HostRuntime, name: &str) -> Result<(), RowError> {
     let rows = fs::read_to_string(rt, name)?;
     for row in rows.lines() {
-        writeln!(out, "== {row}")?;
-        let mut parts = row.split(" : ");
-        let caller = parts.next().ok_or(RowError::Form("no caller"))?;
-        let mut files = Vec::new(rt.alloc());
-        for part in parts {
-            files.push(changed_file(rt, part)?)?;
-        }
-        print_answers(rt.alloc(), caller, files.as_slice(), out)?;
+        print_row(rt, row)?;
     }
     Ok(())
 }
 
-/// The bytes of a small file, changed.
-fn changed_file(rt: &HostRuntime, part: &str) -> Result<Vec<u8>, RowError> {
-    let mut words = part.split_whitespace();
-    let name = words.next().ok_or(RowError::Form("no file"))?;
-    let mut data = file_bytes(rt, name)?;
-    for word in words {
-        change(&mut data, rt.alloc(), word)?;
+/// A row, and behind it what its caller answers.
+fn print_row(rt: &HostRuntime, row: &str) -> Result<(), RowError> {
+    println!(rt; "== {row}")?;
+    let mut parts = row.split(" : ");
+    let caller = parts.next().unwrap_or("");
+    let mut files = Vec::new(rt.alloc());
+    for part in parts {
+        files.push(changed_file(rt, part)?)?;
     }
-    Ok(data)
+    Ok(print_answers(rt, caller, files.as_slice())?)
 }
