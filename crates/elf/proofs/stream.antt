@@ -1,5 +1,6 @@
 pub mod Filling
 pub mod Pieces
+pub mod Kept
 pub mod Loads
 pub mod Steps
 pub mod Chains

@@ -15,4 +15,5 @@ pub mod Source
 pub mod Memory
 pub mod StreamView
 pub mod Asked
+pub mod Lending
 pub mod inner

@@ -1,9 +1,9 @@
 //! A file as a source that is read lazily.
-ghost use Rattle.std.specs.Prelude.{◌≡◌, ℕ, ◌≤◌, ◌+◌, ◌^◌, ◌<◌, OnOk, OnErr, IfOk, IfSome, Ok, IsOk, take, drop, [], ◌∷◌};
+ghost use Rattle.std.specs.Prelude.{◌≡◌, ℕ, ◌≤◌, ◌+◌, ◌^◌, ◌<◌, OnOk, OnErr, IfOk, IfErr, IfSome, Ok, IsOk, take, drop, [], ◌∷◌};
 ghost use Rattle.elf_parts.specs.Number.{bytes_at, ok_map};
 ghost use Rattle.elf.specs.Asked.{range_of_section, range_of_segment};
 ghost use Rattle.elf.specs.Opening.{opened};
-ghost use Rattle.elf.specs.Stream.{IsAnswer, headers_of, Keeps, IsHeld, IsOpening, shown_headers};
+ghost use Rattle.elf.specs.Stream.{IsAnswer, IsFor, Kind, headers_of, Keeps, IsHeld, IsOpening, kind, shown_headers};
 ghost use Rattle.elf.specs.inner.Loads.{Loads};
 
 use crate::source::StreamSource;
@@ -15,7 +15,6 @@ use elf_parts::segment::ProgramHeader;
 use std::alloc::Allocator;
 use std::marker::Model;
 
-mod buffer;
 mod cache;
 mod dynamic;
 mod names;
@@ -25,7 +24,6 @@ mod sections;
 mod symbols;
 mod versions;
 
-use buffer::Buffer;
 use cache::Cache;
 use opening::{read_ehdr, read_phdrs, read_shdrs};
 use reads::fetch;
@@ -131,6 +129,10 @@ impl<E: EndianParse, S: StreamSource, A: Allocator + Copy> ElfStream<E, S, A> {
         ensures answer { IfSome self.old.content (λ bytes.
             IsAnswer (λ _. take size (drop start bytes)) (bytes_at size bytes start)
             self.old.can_fail self.old.faults self.new.faults result) }
+        ensures untouched { IsHeld self.old start (start + size)
+            → (self.new ≡ self.old) × IfErr result (λ e. kind e ≡ Kind.Refusal) }
+        ensures needed { IfSome self.old.content (λ bytes.
+            IfErr result (λ e. IsFor (IsOk (bytes_at size bytes start)) (kind e))) }
     {
         let Some(end) = start.checked_add(size) else {
             return Err(ParseError::IntegerOverflow);
@@ -142,7 +144,7 @@ impl<E: EndianParse, S: StreamSource, A: Allocator + Copy> ElfStream<E, S, A> {
             return Err(ParseError::BadOffset(end));
         }
         let bytes = fetch(self.alloc, &mut self.source, start, end)?;
-        self.cache.put(Buffer::new(start, bytes))
+        self.cache.put(start, bytes)
     }
 
     // The bytes of a range that is held.

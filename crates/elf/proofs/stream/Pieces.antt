@@ -72,69 +72,6 @@ sound_held (Some bytes) len ps start size count sound low held =
     let a = Any-from_list_any (covers start (start + size)) ps (sym (list_any-map range_of _ ps) ∙ held) in
     (refl, read_within bytes start size low (piece_within bytes a.1 start (start + size) (subst (IsOf bytes) a.3 (sound.parts a.0 a.1 a.2)) (reaches a.1 start (start + size) a.4)))
 
--- ---- one more part, which has the content's bytes
-
-pub sound_more : (told : Option (List ℕ)) (len : ℕ) (ps qs : List Piece) (start end : ℕ) (p : Piece) → IsSound told len ps → IsPermutation (p ∷ ps) qs → start ≤ end → end ≤ len
-    → p.start ≡ start → length p.bytes ≡ end - start → IfSome told (λ bytes. p.bytes ≡ take (end - start) (drop start bytes)) → IsSound told len qs
-sound_more None len ps qs start end p sound put ordered within from long same = record { len = tt; parts = tt }
-sound_more (Some bytes) len ps qs start end p sound put ordered within from long same =
-    let all = sound.len in record {
-      len = all;
-      parts = All-permutation (IsOf bytes) (p ∷ ps) qs put (All-cons (IsOf bytes) p ps (record {
-        within = omega arith;
-        same = same ∙ ap (λ n. take n (drop start bytes)) (sym long) ∙ ap (λ n. take (length p.bytes) (drop n bytes)) (sym from);
-      }) sound.parts);
-    }
-
-or_true : (b : Bool) → (b || true) ≡ true
-or_true true = refl
-or_true false = refl
-
-covers_itself : (p : Piece) → covers p.start (p.start + length p.bytes) p ≡ true
-covers_itself p = rw (le-leb p.start p.start (omega arith), le-leb (p.start + length p.bytes) (p.start + length p.bytes) (omega arith)) refl
-
--- which ranges are held is that of the parts
-held_by : (ps : List Piece) (start end : ℕ) → is_held (map range_of ps) start end ≡ list_any (covers start end) ps
-held_by ps start end = list_any-map range_of _ ps
-
--- ---- the part that has a range is one of those at the front, which start at its start or before it
-
-not_covers : (p : Piece) (start end : ℕ) → start < p.start → covers start end p ≡ false
-not_covers p start end past = grind (arith, nat_tests)
-
-none_behind : (ps : List Piece) (n start end : ℕ) → ((k : ℕ) (d : Piece) → n ≤ k → k < length ps → start < (get_or ps k d).start) → list_any (covers start end) (drop n ps) ≡ false
-none_behind ps n start end behind =
-    list_any_none (covers start end) (drop n ps) (λ k d lt.
-    let at : n + k < length ps = omega (arith, simp (length-drop) at lt) in
-    ap (covers start end) (get_or-drop n ps k d) ∙ not_covers (get_or ps (n + k) d) start end (behind (n + k) d (omega arith) at))
-
-or_false : (b : Bool) → (b || false) ≡ b
-or_false true = refl
-or_false false = refl
-
-pub front_holds : (ps : List Piece) (n start end : ℕ) (found : Bool) → ((k : ℕ) (d : Piece) → n ≤ k → k < length ps → start < (get_or ps k d).start) → found ≡ list_any (covers start end) (take n ps) → found ≡ is_held (map range_of ps) start end
-front_holds ps n start end found behind h =
-    h ∙ sym (or_false (list_any (covers start end) (take n ps)))
-    ∙ ap (λ b. list_any (covers start end) (take n ps) || b) (sym (none_behind ps n start end behind))
-    ∙ sym (list_any-append (covers start end) (take n ps) (drop n ps))
-    ∙ ap (list_any (covers start end)) (take-append-drop n ps) ∙ sym (held_by ps start end)
-
-pub front_covers : (ps : List Piece) (n start end : ℕ) (r : Option ℕ) → n ≤ length ps → IfSome r (λ i. (i < length (take n ps)) × HoldsAt (λ p. IsTrue (covers start end p)) (take n ps) i)
-    → IfSome r (λ i. (i < length ps) × HoldsAt (λ p. IsTrue (covers start end p)) ps i)
-front_covers ps n start end None within h = tt
-front_covers ps n start end (Some i) within h =
-    let at : i < n = subst (λ m. i < m) (length-take-le n ps within) h.0 in
-    (omega arith, λ d. subst (λ p. IsTrue (covers start end p)) (get_or-take n ps i d at) (h.1 d))
-
-pub held_more : (ps qs : List Piece) (p : Piece) → IsPermutation (p ∷ ps) qs → (start end : ℕ) → IsTrue (is_held (map range_of ps) start end) → IsTrue (is_held (map range_of qs) start end)
-held_more ps qs p put start end held =
-    held_by qs start end ∙ sym (list_any-IsPermutation (covers start end) (p ∷ ps) qs put) ∙ ap (λ b. covers start end p || b) (sym (held_by ps start end) ∙ held) ∙ or_true (covers start end p)
-
-pub held_new : (ps qs : List Piece) (p : Piece) → IsPermutation (p ∷ ps) qs → IsTrue (is_held (map range_of qs) p.start (p.start + length p.bytes))
-held_new ps qs p put =
-    held_by qs p.start (p.start + length p.bytes) ∙ sym (list_any-IsPermutation (covers p.start (p.start + length p.bytes)) (p ∷ ps) qs put)
-    ∙ ap (λ b. b || list_any (covers p.start (p.start + length p.bytes)) ps) (covers_itself p)
-
 -- the bytes of a range within one of the parts are the content's
 pub part_bytes : (told : Option (List ℕ)) (len : ℕ) (ps : List Piece) (start size : ℕ) (part : List ℕ) → IsSound told len ps → start + size < 2 ^ 64 → IsPartOf ps start (start + size) part
     → IfSome told (λ bytes. bytes_at size bytes start ≡ Ok part)
@@ -148,6 +85,10 @@ part_bytes (Some bytes) len ps start size part sound low at =
     ∙ ap Ok (sym (piece_bytes bytes p start size of reach) ∙ ap (λ n. take n (drop (start - p.start) p.bytes)) (sym long) ∙ sym at.3)
 
 -- ---- a range within a held one is held
+
+or_true : (b : Bool) → (b || true) ≡ true
+or_true true = refl
+or_true false = refl
 
 covers_within : (p : ℕ × ℕ) (start end low high : ℕ) → low ≤ start → end ≤ high → (nat_le p.0 low && nat_le high p.1) ≡ true → (nat_le p.0 start && nat_le end p.1) ≡ true
 covers_within p start end low high from to h =

@@ -6,11 +6,11 @@ ghost use Rattle.elf_parts.specs.StringTable.{strings_view};
 ghost use Rattle.elf_parts.specs.Table.{items_left, table_items};
 ghost use Rattle.elf.specs.Answers.{relas_left, rels_left, section_data, section_data_as_notes, section_data_as_relas, section_data_as_rels};
 ghost use Rattle.elf.specs.Answers.{section_data_as_strtab, segment_data, segment_data_as_notes};
-ghost use Rattle.elf.specs.Asked.{section_asked, segment_asked};
+ghost use Rattle.elf.specs.Asked.{section_asked, segment_asked, segment_notes_asked, typed_section_asked};
 ghost use Rattle.elf.specs.Listed.{stream_file};
 ghost use Rattle.elf.specs.ObjectFile.{table_of};
 ghost use Rattle.elf.specs.Payload.{content_of_type, payload, payload_view};
-ghost use Rattle.elf.specs.Stream.{AreHeld, Kind, Leaves, kind};
+ghost use Rattle.elf.specs.Stream.{AreHeld, Kind, kind};
 ghost use Rattle.elf.specs.inner.Loads.{AreLow, Loads, LoadsFor};
 
 use super::ElfStream;
@@ -29,8 +29,7 @@ use std::alloc::Allocator;
 
 impl<E: EndianParse, S: StreamSource, A: Allocator + Copy> ElfStream<E, S, A> {
     ghost use Rattle.std.specs.Borrow.{sem};
-    ghost use Rattle.std.specs.Io.BufRead.{Rests};
-    ghost use Rattle.elf.specs.contracts.elf_stream.ElfStream.{the_row};
+    ghost use Rattle.elf.specs.Lending.{Lends};
 
     // Loads the range of a section that has bytes.
     pub(super) fn load_payload(&mut self, shdr: &SectionHeader) -> Result<(), ParseError>
@@ -76,9 +75,8 @@ impl<E: EndianParse, S: StreamSource, A: Allocator + Copy> ElfStream<E, S, A> {
         &mut self,
         shdr: &SectionHeader,
     ) -> Result<(&[u8], Option<CompressionHeader>), ParseError>
-        ensures* leaves { sem 𝓛 (Rests (the_row E.row S.row A.row (record { little = E.little; of_byte = E.of_byte }) (record { is_default = E.is_default }) (record { eq = E.eq }) S.StreamSource A.Allocator) self.entry
-            (λ new. Leaves (section_asked shdr.now) payload_view
-            (λ bytes. section_data (stream_file E.little self.old bytes) shdr.now) self.old new result)) }
+        ensures* leaves { sem 𝓛 (Lends E.row S.row A.row E.EndianParse S.StreamSource A.Allocator self.entry
+            (λ _. section_asked shdr.now) payload_view (λ file. section_data file shdr.now) result) }
     {
         self.load_payload(shdr)?;
         self.lend_payload(shdr)
@@ -86,9 +84,10 @@ impl<E: EndianParse, S: StreamSource, A: Allocator + Copy> ElfStream<E, S, A> {
 
     // Loads the range of a section that has to be of a type.
     fn load_content(&mut self, shdr: &SectionHeader, sh_type: u32) -> Result<(), ParseError>
-        ensures loads { LoadsFor (section_asked shdr.now)
+        ensures loads { LoadsFor (typed_section_asked sh_type shdr.now)
             (λ bytes. content_of_type sh_type (stream_file E.little self.old bytes) shdr.now) self.old self.new result }
         ensures of_type { OnOk result (shdr.now.sh_type ≡ sh_type) }
+        ensures loaded { OnOk result (AreLow (section_asked shdr.now) × AreHeld self.new (section_asked shdr.now)) }
     {
         if shdr.sh_type != sh_type {
             return Err(ParseError::UnexpectedSectionType((shdr.sh_type, sh_type)));
@@ -128,9 +127,9 @@ impl<E: EndianParse, S: StreamSource, A: Allocator + Copy> ElfStream<E, S, A> {
         &mut self,
         shdr: &SectionHeader,
     ) -> Result<StringTable<'_>, ParseError>
-        ensures* leaves { sem 𝓛 (Rests (the_row E.row S.row A.row (record { little = E.little; of_byte = E.of_byte }) (record { is_default = E.is_default }) (record { eq = E.eq }) S.StreamSource A.Allocator) self.entry
-            (λ new. Leaves (section_asked shdr.now) strings_view
-            (λ bytes. section_data_as_strtab (stream_file E.little self.old bytes) shdr.now) self.old new result)) }
+        ensures* leaves { sem 𝓛 (Lends E.row S.row A.row E.EndianParse S.StreamSource A.Allocator self.entry
+            (λ _. typed_section_asked 3 shdr.now) strings_view
+            (λ file. section_data_as_strtab file shdr.now) result) }
     {
         self.load_content(shdr, abi::SHT_STRTAB)?;
         self.lend_strtab(shdr)
@@ -161,9 +160,8 @@ impl<E: EndianParse, S: StreamSource, A: Allocator + Copy> ElfStream<E, S, A> {
         &mut self,
         shdr: &SectionHeader,
     ) -> Result<RelIterator<'_, E>, ParseError>
-        ensures* leaves { sem 𝓛 (Rests (the_row E.row S.row A.row (record { little = E.little; of_byte = E.of_byte }) (record { is_default = E.is_default }) (record { eq = E.eq }) S.StreamSource A.Allocator) self.entry
-            (λ new. Leaves (section_asked shdr.now) rels_left
-            (λ bytes. section_data_as_rels (stream_file E.little self.old bytes) shdr.now) self.old new result)) }
+        ensures* leaves { sem 𝓛 (Lends E.row S.row A.row E.EndianParse S.StreamSource A.Allocator self.entry
+            (λ _. typed_section_asked 9 shdr.now) rels_left (λ file. section_data_as_rels file shdr.now) result) }
         ensures bound { IfOk result (λ rels. length (rels_left rels) < 2 ^ 64) }
     {
         self.load_content(shdr, abi::SHT_REL)?;
@@ -176,9 +174,8 @@ impl<E: EndianParse, S: StreamSource, A: Allocator + Copy> ElfStream<E, S, A> {
         &mut self,
         shdr: &SectionHeader,
     ) -> Result<RelaIterator<'_, E>, ParseError>
-        ensures* leaves { sem 𝓛 (Rests (the_row E.row S.row A.row (record { little = E.little; of_byte = E.of_byte }) (record { is_default = E.is_default }) (record { eq = E.eq }) S.StreamSource A.Allocator) self.entry
-            (λ new. Leaves (section_asked shdr.now) relas_left
-            (λ bytes. section_data_as_relas (stream_file E.little self.old bytes) shdr.now) self.old new result)) }
+        ensures* leaves { sem 𝓛 (Lends E.row S.row A.row E.EndianParse S.StreamSource A.Allocator self.entry
+            (λ _. typed_section_asked 4 shdr.now) relas_left (λ file. section_data_as_relas file shdr.now) result) }
         ensures bound { IfOk result (λ relas. length (relas_left relas) < 2 ^ 64) }
     {
         self.load_content(shdr, abi::SHT_RELA)?;
@@ -210,9 +207,8 @@ impl<E: EndianParse, S: StreamSource, A: Allocator + Copy> ElfStream<E, S, A> {
         &mut self,
         shdr: &SectionHeader,
     ) -> Result<NoteIterator<'_, E>, ParseError>
-        ensures* leaves { sem 𝓛 (Rests (the_row E.row S.row A.row (record { little = E.little; of_byte = E.of_byte }) (record { is_default = E.is_default }) (record { eq = E.eq }) S.StreamSource A.Allocator) self.entry
-            (λ new. Leaves (section_asked shdr.now) notes_left
-            (λ bytes. section_data_as_notes (stream_file E.little self.old bytes) shdr.now) self.old new result)) }
+        ensures* leaves { sem 𝓛 (Lends E.row S.row A.row E.EndianParse S.StreamSource A.Allocator self.entry
+            (λ _. typed_section_asked 7 shdr.now) notes_left (λ file. section_data_as_notes file shdr.now) result) }
         ensures bound { IfOk result (λ notes. length (notes_left notes) < 2 ^ 64) }
     {
         self.load_content(shdr, abi::SHT_NOTE)?;
@@ -231,9 +227,8 @@ impl<E: EndianParse, S: StreamSource, A: Allocator + Copy> ElfStream<E, S, A> {
 
     /// The bytes of a segment in the file. Refuses where its range does not lie in the file.
     pub fn segment_data(&mut self, phdr: &ProgramHeader) -> Result<&[u8], ParseError>
-        ensures* leaves { sem 𝓛 (Rests (the_row E.row S.row A.row (record { little = E.little; of_byte = E.of_byte }) (record { is_default = E.is_default }) (record { eq = E.eq }) S.StreamSource A.Allocator) self.entry
-            (λ new. Leaves (segment_asked phdr.now) (λ part. part.now)
-            (λ bytes. segment_data (stream_file E.little self.old bytes) phdr.now) self.old new result)) }
+        ensures* leaves { sem 𝓛 (Lends E.row S.row A.row E.EndianParse S.StreamSource A.Allocator self.entry
+            (λ _. segment_asked phdr.now) (λ part. part.now) (λ file. segment_data file phdr.now) result) }
     {
         self.load_segment(phdr)?;
         Ok(self.lend_segment(phdr))
@@ -263,9 +258,8 @@ impl<E: EndianParse, S: StreamSource, A: Allocator + Copy> ElfStream<E, S, A> {
         &mut self,
         phdr: &ProgramHeader,
     ) -> Result<NoteIterator<'_, E>, ParseError>
-        ensures* leaves { sem 𝓛 (Rests (the_row E.row S.row A.row (record { little = E.little; of_byte = E.of_byte }) (record { is_default = E.is_default }) (record { eq = E.eq }) S.StreamSource A.Allocator) self.entry
-            (λ new. Leaves (segment_asked phdr.now) notes_left
-            (λ bytes. segment_data_as_notes (stream_file E.little self.old bytes) phdr.now) self.old new result)) }
+        ensures* leaves { sem 𝓛 (Lends E.row S.row A.row E.EndianParse S.StreamSource A.Allocator self.entry
+            (λ _. segment_notes_asked phdr.now) notes_left (λ file. segment_data_as_notes file phdr.now) result) }
         ensures bound { IfOk result (λ notes. length (notes_left notes) < 2 ^ 64) }
     {
         if phdr.p_type != abi::PT_NOTE {
