@@ -16,4 +16,5 @@ pub mod Memory
 pub mod StreamView
 pub mod Asked
 pub mod Lending
+pub mod Calls
 pub mod inner

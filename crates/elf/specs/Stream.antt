@@ -7,7 +7,8 @@ use Rattle.elf_parts.specs.declared.parse.ParseError.{ParseError}
 use Rattle.elf_parts.specs.declared.parse.ParseError.TheVariants.{IOError, OutOfMemory}
 use Rattle.elf_parts.specs.declared.section.SectionHeader.{SectionHeader}
 use Rattle.elf_parts.specs.declared.segment.ProgramHeader.{ProgramHeader}
-use Rattle.elf.specs.View.{View, section_list, segment_list}
+use Rattle.elf.specs.Opening.{opened}
+use Rattle.elf.specs.View.{View, section_list, segment_list, with_header}
 
 -- a stream: the content of its source, where that is told, whether the source can fail and how often it did; the
 -- file header as it stands, whether a table of section headers is declared, the section and the program headers;
@@ -48,6 +49,12 @@ headers_of v = record {
   sections = section_list v.sections;
   segments = segment_list v.segments;
 }
+
+-- the stream is of the file that these bytes hold: its tables are those that the opening gives, whatever header stands
+-- in it now
+abbrev pub IsOfFile : {E : Type 0} → (E → Bool) → (ℕ → Option E) → List ℕ → Seen E → Type 0
+IsOfFile {E} little of_byte bytes s =
+    (v : View E) × (opened little of_byte bytes ≡ Ok v) × (shown_headers s ≡ headers_of (with_header v s.ehdr))
 
 -- ---- which ranges are held
 

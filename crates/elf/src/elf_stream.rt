@@ -1,9 +1,9 @@
 //! A file as a source that is read lazily.
-ghost use Rattle.std.specs.Prelude.{◌≡◌, ℕ, ◌≤◌, ◌+◌, ◌^◌, ◌<◌, OnOk, OnErr, IfOk, IfErr, IfSome, Ok, IsOk, take, drop, [], ◌∷◌};
+ghost use Rattle.std.specs.Prelude.{◌≡◌, ℕ, ◌≤◌, ◌+◌, ◌^◌, ◌<◌, OnOk, OnErr, IfOk, IfErr, IfSome, Ok, IsOk, length, take, drop, [], ◌∷◌};
 ghost use Rattle.elf_parts.specs.Number.{bytes_at, ok_map};
 ghost use Rattle.elf.specs.Asked.{range_of_section, range_of_segment};
 ghost use Rattle.elf.specs.Opening.{opened};
-ghost use Rattle.elf.specs.Stream.{IsAnswer, IsFor, Kind, headers_of, Keeps, IsHeld, IsOpening, kind, shown_headers};
+ghost use Rattle.elf.specs.Stream.{IsAnswer, IsFor, IsOfFile, Kind, headers_of, Keeps, IsHeld, IsOpening, kind, shown_headers};
 ghost use Rattle.elf.specs.inner.Loads.{Loads};
 
 use crate::source::StreamSource;
@@ -52,7 +52,8 @@ pub struct ElfStream<E: EndianParse, S: StreamSource, A: Allocator + Copy> {
 impl<E: EndianParse, S: StreamSource, A: Allocator + Copy> Model for ElfStream<E, S, A> {
     ghost use Rattle.std.specs.Prelude.{map};
     ghost use Rattle.elf.specs.Stream.{Seen};
-    ghost use Rattle.elf.specs.inner.Piece.{range_of, IsSound};
+    ghost use Rattle.elf.specs.inner.Opened.{IsOpened};
+    ghost use Rattle.elf.specs.inner.Piece.{range_of};
 
     ghost Value = { Seen E };
 
@@ -67,7 +68,8 @@ impl<E: EndianParse, S: StreamSource, A: Allocator + Copy> Model for ElfStream<E
       kept = map range_of s.cache;
     } };
 
-    ghost invariant = { λ s. IsSound (S.content s.source) s.len s.cache };
+    ghost invariant = { λ s. IsOpened E.little E.of_byte (S.content s.source) s.len s.cache
+        s.declares_sections s.shdrs.items s.phdrs.items };
 }
 
 impl<E: EndianParse, S: StreamSource, A: Allocator + Copy> ElfStream<E, S, A> {
@@ -97,6 +99,14 @@ impl<E: EndianParse, S: StreamSource, A: Allocator + Copy> ElfStream<E, S, A> {
             len,
             cache: Cache::new(alloc),
         })
+    }
+
+    /// A stream is of the file that its source holds: where the content is known, its tables are those that the opening
+    /// gives, whatever header stands in `ehdr`.
+    pub fn is_of_file(&self)
+        ensures { IfSome self.now.content (λ bytes. IsOfFile E.little E.of_byte bytes self.now) }
+    {
+        let _ = &self.ehdr;
     }
 
     /// Every range that lies within a held one is held.
@@ -151,7 +161,8 @@ impl<E: EndianParse, S: StreamSource, A: Allocator + Copy> ElfStream<E, S, A> {
     fn held_bytes(&self, start: u64, size: u64) -> &[u8]
         requires low { start + size < 2 ^ 64 }
         requires held { IsHeld self.now start (start + size) }
-        ensures { IfSome self.now.content (λ bytes. bytes_at size bytes start ≡ Ok result.now) }
+        ensures bytes { IfSome self.now.content (λ bytes. bytes_at size bytes start ≡ Ok result.now) }
+        ensures within { IfSome self.now.content (λ bytes. length result.now ≤ length bytes) }
     {
         self.cache.bytes(start, start + size)
     }

@@ -1,16 +1,15 @@
 -- Finding the part that has a range, and what its bytes are.
-use Rattle.std.proofs.Common.{◌≡◌, ℕ, ◌+◌, ◌-◌, ◌<◌, ◌≤◌, Bool, true, false, ◌&&◌, ◌||◌, List, [], ◌∷◌, length, take, drop, map, get_or, refl, sym, ap, ◌∙◌, arith, Option, Some, None, IfSome, leb-true, le-leb, length-drop, subst}
-use Rattle.std.specs.Prelude.{IsTrue, nat_le, ◌^◌, Ok, IsErr, IsOk, IsPermutation}
-use Rattle.std.specs.List.{list_any, HoldsAt}
+use Rattle.std.proofs.Common.{◌≡◌, ℕ, ◌+◌, ◌-◌, ◌<◌, ◌≤◌, Bool, true, false, ◌&&◌, ◌||◌, List, [], ◌∷◌, length, take, drop, map, refl, sym, ap, ◌∙◌, arith, Option, Some, None, IfSome, leb-true, le-leb, length-drop, length-take, subst}
+use Rattle.std.specs.Prelude.{IsTrue, nat_le, ◌^◌, Result, Ok, IsErr, IsOk, is_ok}
+use Rattle.std.specs.List.{list_any}
 use Rattle.std.proofs.lemmas.Bool.{and_parts}
-use Rattle.std.proofs.lemmas.List.{take-take, drop-take, drop-drop, length-take-le, get_or-drop, get_or-take, take-append-drop}
+use Rattle.std.proofs.lemmas.List.{take-take, drop-take, drop-drop}
 use Rattle.elf.specs.inner.Piece.{Piece, IsPartOf, covers, range_of, IsOf, IsSound}
 use Rattle.elf.specs.Stream.{is_held}
 use Rattle.elf_parts.specs.Number.{bytes_at}
 use Rattle.std.proofs.lemmas.Bool.Decides.{nat_tests}
-use Rattle.std.proofs.lemmas.List.Sorted.{All-permutation, list_any-IsPermutation}
-use Rattle.std.proofs.lemmas.List.Folds.{Any-from_list_any, list_any-append, list_any_none}
-use Rattle.std.proofs.lemmas.List.Elements.{All-cons, All-contains}
+use Rattle.std.proofs.lemmas.List.Folds.{Any-from_list_any}
+use Rattle.std.proofs.lemmas.List.Elements.{All-contains}
 
 list_any-map : {X Y : Type 0} (f : X → Y) (t : Y → Bool) (xs : List X) → list_any t (map f xs) ≡ list_any (λ x. t (f x)) xs
 list_any-map f t [] = refl
@@ -83,6 +82,20 @@ part_bytes (Some bytes) len ps start size part sound low at =
     let long : start + size - start ≡ size = omega arith in
     read_within bytes start size low (piece_within bytes p start (start + size) of reach)
     ∙ ap Ok (sym (piece_bytes bytes p start size of reach) ∙ ap (λ n. take n (drop (start - p.start) p.bytes)) (sym long) ∙ sym at.3)
+
+pub one_value : {A E : Type 0} (r : Result A E) (a b : A) → r ≡ Ok a → r ≡ Ok b → a ≡ b
+one_value r a b h k = cc
+
+-- the bytes of a range are no more than the content's
+shorter : (bytes part : List ℕ) (start size : ℕ) → bytes_at size bytes start ≡ Ok part → length part ≤ length bytes
+shorter bytes part start size is =
+    let there = read_is_within bytes start size (ap is_ok is) in
+    let same = one_value (bytes_at size bytes start) (take size (drop start bytes)) part (read_within bytes start size there.0 there.1) is in
+    subst (λ part. length part ≤ length bytes) same (simp (length-take, length-drop) (omega arith))
+
+pub part_within : (told : Option (List ℕ)) (start size : ℕ) (part : List ℕ) → IfSome told (λ bytes. bytes_at size bytes start ≡ Ok part) → IfSome told (λ bytes. length part ≤ length bytes)
+part_within None start size part h = tt
+part_within (Some bytes) start size part h = shorter bytes part start size h
 
 -- ---- a range within a held one is held
 

@@ -1,5 +1,5 @@
 //! Sections and segments: their bytes.
-ghost use Rattle.std.specs.Prelude.{◌≡◌, ◌<◌, ◌^◌, IfErr, IfOk, IfSome, Ok, OnOk, length};
+ghost use Rattle.std.specs.Prelude.{◌≡◌, ◌≤◌, ◌<◌, ◌^◌, IfErr, IfOk, IfSome, Ok, OnOk, length};
 ghost use Rattle.elf_parts.specs.Note.{notes_left};
 ghost use Rattle.elf_parts.specs.Number.{ok_map};
 ghost use Rattle.elf_parts.specs.StringTable.{strings_view};
@@ -51,6 +51,7 @@ impl<E: EndianParse, S: StreamSource, A: Allocator + Copy> ElfStream<E, S, A> {
         requires held { AreHeld self.now (section_asked shdr.now) }
         ensures value { IfSome self.now.content (λ bytes.
             ok_map payload_view result ≡ payload (stream_file E.little self.now bytes) shdr.now) }
+        ensures within { IfOk result (λ found. IfSome self.now.content (λ bytes. length found.0.now ≤ length bytes)) }
         ensures plain { IfErr result (λ e. kind e ≡ Kind.Refusal) }
     {
         if shdr.sh_type == abi::SHT_NOBITS {
@@ -102,6 +103,7 @@ impl<E: EndianParse, S: StreamSource, A: Allocator + Copy> ElfStream<E, S, A> {
         requires held { AreHeld self.now (section_asked shdr.now) }
         ensures value { IfSome self.now.content (λ bytes. ok_map (λ part. part.now) result
             ≡ content_of_type sh_type (stream_file E.little self.now bytes) shdr.now) }
+        ensures within { IfOk result (λ part. IfSome self.now.content (λ bytes. length part.now ≤ length bytes)) }
         ensures plain { IfErr result (λ e. kind e ≡ Kind.Refusal) }
     {
         let (bytes, _) = self.lend_payload(shdr)?;
@@ -148,6 +150,8 @@ impl<E: EndianParse, S: StreamSource, A: Allocator + Copy> ElfStream<E, S, A> {
             ≡ ok_map (λ part. table_items P.size P.record_at (table_of (stream_file E.little self.now bytes) part))
             (content_of_type sh_type (stream_file E.little self.now bytes) shdr.now)) }
         ensures plain { IfErr result (λ e. kind e ≡ Kind.Refusal) }
+        ensures few { IfOk result (λ records.
+            IfSome self.now.content (λ bytes. length (items_left P.size P.record_at records) ≤ length bytes)) }
         ensures bound { IfOk result (λ records. length (items_left P.size P.record_at records) < 2 ^ 64) }
     {
         let bytes = self.lend_content(shdr, sh_type)?;
@@ -162,6 +166,7 @@ impl<E: EndianParse, S: StreamSource, A: Allocator + Copy> ElfStream<E, S, A> {
     ) -> Result<RelIterator<'_, E>, ParseError>
         ensures* leaves { sem 𝓛 (Lends E.row S.row A.row E.EndianParse S.StreamSource A.Allocator self.entry
             (λ _. typed_section_asked 9 shdr.now) rels_left (λ file. section_data_as_rels file shdr.now) result) }
+        ensures few { IfOk result (λ rels. IfSome self.old.content (λ bytes. length (rels_left rels) ≤ length bytes)) }
         ensures bound { IfOk result (λ rels. length (rels_left rels) < 2 ^ 64) }
     {
         self.load_content(shdr, abi::SHT_REL)?;
@@ -176,6 +181,7 @@ impl<E: EndianParse, S: StreamSource, A: Allocator + Copy> ElfStream<E, S, A> {
     ) -> Result<RelaIterator<'_, E>, ParseError>
         ensures* leaves { sem 𝓛 (Lends E.row S.row A.row E.EndianParse S.StreamSource A.Allocator self.entry
             (λ _. typed_section_asked 4 shdr.now) relas_left (λ file. section_data_as_relas file shdr.now) result) }
+        ensures few { IfOk result (λ relas. IfSome self.old.content (λ bytes. length (relas_left relas) ≤ length bytes)) }
         ensures bound { IfOk result (λ relas. length (relas_left relas) < 2 ^ 64) }
     {
         self.load_content(shdr, abi::SHT_RELA)?;
@@ -190,6 +196,7 @@ impl<E: EndianParse, S: StreamSource, A: Allocator + Copy> ElfStream<E, S, A> {
         ensures value { IfSome self.now.content (λ bytes.
             ok_map notes_left result ≡ section_data_as_notes (stream_file E.little self.now bytes) shdr.now) }
         ensures plain { IfErr result (λ e. kind e ≡ Kind.Refusal) }
+        ensures few { IfOk result (λ notes. IfSome self.now.content (λ bytes. length (notes_left notes) ≤ length bytes)) }
         ensures bound { IfOk result (λ notes. length (notes_left notes) < 2 ^ 64) }
     {
         let bytes = self.lend_content(shdr, abi::SHT_NOTE)?;
@@ -209,6 +216,7 @@ impl<E: EndianParse, S: StreamSource, A: Allocator + Copy> ElfStream<E, S, A> {
     ) -> Result<NoteIterator<'_, E>, ParseError>
         ensures* leaves { sem 𝓛 (Lends E.row S.row A.row E.EndianParse S.StreamSource A.Allocator self.entry
             (λ _. typed_section_asked 7 shdr.now) notes_left (λ file. section_data_as_notes file shdr.now) result) }
+        ensures few { IfOk result (λ notes. IfSome self.old.content (λ bytes. length (notes_left notes) ≤ length bytes)) }
         ensures bound { IfOk result (λ notes. length (notes_left notes) < 2 ^ 64) }
     {
         self.load_content(shdr, abi::SHT_NOTE)?;
@@ -219,7 +227,8 @@ impl<E: EndianParse, S: StreamSource, A: Allocator + Copy> ElfStream<E, S, A> {
     pub(super) fn lend_segment(&self, phdr: &ProgramHeader) -> &[u8]
         requires low { AreLow (segment_asked phdr.now) }
         requires held { AreHeld self.now (segment_asked phdr.now) }
-        ensures { IfSome self.now.content (λ bytes.
+        ensures within { IfSome self.now.content (λ bytes. length result.now ≤ length bytes) }
+        ensures value { IfSome self.now.content (λ bytes.
             segment_data (stream_file E.little self.now bytes) phdr.now ≡ Ok result.now) }
     {
         self.held_bytes(phdr.p_offset, phdr.p_filesz)
@@ -241,6 +250,7 @@ impl<E: EndianParse, S: StreamSource, A: Allocator + Copy> ElfStream<E, S, A> {
         requires held { AreHeld self.now (segment_asked phdr.now) }
         ensures value { IfSome self.now.content (λ bytes.
             segment_data_as_notes (stream_file E.little self.now bytes) phdr.now ≡ Ok (notes_left result)) }
+        ensures few { IfSome self.now.content (λ bytes. length (notes_left result) ≤ length bytes) }
         ensures bound { length (notes_left result) < 2 ^ 64 }
     {
         let bytes = self.lend_segment(phdr);
@@ -260,6 +270,7 @@ impl<E: EndianParse, S: StreamSource, A: Allocator + Copy> ElfStream<E, S, A> {
     ) -> Result<NoteIterator<'_, E>, ParseError>
         ensures* leaves { sem 𝓛 (Lends E.row S.row A.row E.EndianParse S.StreamSource A.Allocator self.entry
             (λ _. segment_notes_asked phdr.now) notes_left (λ file. segment_data_as_notes file phdr.now) result) }
+        ensures few { IfOk result (λ notes. IfSome self.old.content (λ bytes. length (notes_left notes) ≤ length bytes)) }
         ensures bound { IfOk result (λ notes. length (notes_left notes) < 2 ^ 64) }
     {
         if phdr.p_type != abi::PT_NOTE {

@@ -10,18 +10,20 @@ returns-in_default-clause-answer g c = refused_past_64 _ c.args.start c.args.siz
 
 pub returns-then-holds-clause-answer : goal.returns-then-holds-clause-answer
 returns-then-holds-clause-answer g c =
-    rw (← c.self.view_is) (sound_held _ c.self.inside.len c.self.inside.cache c.args.start c.args.size _ c.self.invariant (omega (arith, c.in-Some.ensures)) (search rules))
+    rw (← c.self.view_is) (sound_held _ c.self.inside.len c.self.inside.cache c.args.start c.args.size _ c.self.invariant.sound (omega (arith, c.in-Some.ensures)) (search rules))
 
 pub returns-then-end-self-clause-answer : goal.returns-then-end-self-clause-answer
 returns-then-end-self-clause-answer g c =
-    rw (← c.self.view_is) (refused_past _ c.self.inside.len c.args.start c.args.size _ c.self.invariant.len (omega (arith, c.in-Some.ensures)))
+    rw (← c.self.view_is) (refused_past _ c.self.inside.len c.args.start c.args.size _ c.self.invariant.sound.len (omega (arith, c.in-Some.ensures)))
 
 pub invariant_of-self-2 : goal.invariant_of-self-2
 invariant_of-self-2 g c =
-    rw c.fetch.ensures.content
-    (sound_put _ c.self.inside.len c.self.inside.cache c.put.new.self c.args.start c.in-Some.end (record { start = c.args.start; bytes = c.in_ok-bytes.bytes.items }) c.put.result c.self.invariant c.put.ensures.put c.put.ensures.refused
-    (omega (arith, c.in-Some.ensures)) c.if-end-self.false refl
-    c.in_ok-bytes.ensures.len c.in_ok-bytes.ensures.bytes)
+    rw c.fetch.ensures.content record {
+      sound = sound_put _ c.self.inside.len c.self.inside.cache c.put.new.self c.args.start c.in-Some.end (record { start = c.args.start; bytes = c.in_ok-bytes.bytes.items }) c.put.result c.self.invariant.sound c.put.ensures.put c.put.ensures.refused
+          (omega (arith, c.in-Some.ensures)) c.if-end-self.false refl
+          c.in_ok-bytes.ensures.len c.in_ok-bytes.ensures.bytes;
+      tables = c.self.invariant.tables;
+    }
 
 pub returns-clause-keeps : goal.returns-clause-keeps
 returns-clause-keeps g c =
@@ -46,14 +48,14 @@ pub returns-clause-answer : goal.returns-clause-answer
 returns-clause-answer g c =
     let low : c.args.start + c.args.size < 2 ^ 64 = omega (arith, c.in-Some.ensures) in
     rw (← c.self.view_is)
-    (load_answered _ c.self.inside.len c.args.start c.args.size _ _ _ c.put.result c.self.invariant.len low (omega (arith, c.in-Some.ensures)) c.in_ok-bytes.ensures.reason (refused_for _ c.put.result c.put.ensures.refused))
+    (load_answered _ c.self.inside.len c.args.start c.args.size _ _ _ c.put.result c.self.invariant.sound.len low (omega (arith, c.in-Some.ensures)) c.in_ok-bytes.ensures.reason (refused_for _ c.put.result c.put.ensures.refused))
 
 pub returns-in_err-bytes-clause-needed : goal.returns-in_err-bytes-clause-needed
 returns-in_err-bytes-clause-needed g c =
     rw (← c.self.view_is)
-    (needed_there _ c.self.inside.len c.args.start c.args.size _ c.self.invariant.len (omega (arith, c.in-Some.ensures)) (omega (arith, c.in-Some.ensures)))
+    (needed_there _ c.self.inside.len c.args.start c.args.size _ c.self.invariant.sound.len (omega (arith, c.in-Some.ensures)) (omega (arith, c.in-Some.ensures)))
 
 pub returns-clause-needed : goal.returns-clause-needed
 returns-clause-needed g c =
     rw (← c.self.view_is)
-    (needed_there _ c.self.inside.len c.args.start c.args.size _ c.self.invariant.len (omega (arith, c.in-Some.ensures)) (omega (arith, c.in-Some.ensures)))
+    (needed_there _ c.self.inside.len c.args.start c.args.size _ c.self.invariant.sound.len (omega (arith, c.in-Some.ensures)) (omega (arith, c.in-Some.ensures)))
