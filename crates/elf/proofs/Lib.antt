@@ -3,4 +3,5 @@ pub mod VersionChoice
 pub mod CommonPass
 pub mod Alike
 pub mod Same
+pub mod Calls
 pub mod stream

@@ -1,6 +1,8 @@
 pub mod Filling
 pub mod Pieces
+pub mod Kept
 pub mod Loads
+pub mod Opened
 pub mod Steps
 pub mod Chains
 pub mod Plain

@@ -1,6 +1,7 @@
 -- The ranges that a call of a stream asks for, each by its start and its size: the whole ranges of the headers whose
 -- bytes its answer is cut from.
 use Rattle.std.specs.Prelude.{ℕ, Bool, ◌==◌, if◌then◌else◌, List, [], ◌∷◌, ◌++◌, Option, Some, None, Result, Ok, Err}
+use Rattle.elf_parts.specs.Dynamic.{dyn_layout}
 use Rattle.elf_parts.specs.Record.{◌>>=◌, size_by}
 use Rattle.elf_parts.specs.Symver.{version_index_layout}
 use Rattle.elf_parts.specs.declared.parse.ParseError.{ParseError}
@@ -21,13 +22,21 @@ range_of_section s = (s.sh_offset, s.sh_size)
 abbrev pub range_of_segment : ProgramHeader → ℕ × ℕ
 range_of_segment p = (p.p_offset, p.p_filesz)
 
--- section_data and its typed views: a section of type SHT_NOBITS (8) has no bytes
+-- section_data: a section of type SHT_NOBITS (8) has no bytes
 abbrev pub section_asked : SectionHeader → List (ℕ × ℕ)
 section_asked s = if s.sh_type == 8 then [] else range_of_section s ∷ []
 
--- segment_data and segment_data_as_notes
+-- its typed views: a section of another type is refused before it is read
+abbrev pub typed_section_asked : ℕ → SectionHeader → List (ℕ × ℕ)
+typed_section_asked t s = if s.sh_type == t then section_asked s else []
+
+-- segment_data
 abbrev pub segment_asked : ProgramHeader → List (ℕ × ℕ)
 segment_asked p = range_of_segment p ∷ []
+
+-- segment_data_as_notes: a segment of another type than PT_NOTE (4) is refused before it is read
+abbrev pub segment_notes_asked : ProgramHeader → List (ℕ × ℕ)
+segment_notes_asked p = if p.p_type == 4 then segment_asked p else []
 
 -- ---- of calls that choose their headers, which takes the headers alone and no byte of the file
 
@@ -60,10 +69,14 @@ names_asked file = if_chosen whole_section (name_section file)
 abbrev pub symbols_asked : ℕ → ObjectFile → List (ℕ × ℕ)
 symbols_asked t file = if_chosen both_sections (symbol_sections t file)
 
+-- the dynamic entries of a section: where its entry size is not that of an entry it is refused before it is read
+abbrev pub section_dynamic_asked : ObjectFile → SectionHeader → List (ℕ × ℕ)
+section_dynamic_asked file s = if s.sh_entsize == size_by dyn_layout file.class then section_asked s else []
+
 -- dynamic
 abbrev pub dynamic_asked : ObjectFile → List (ℕ × ℕ)
 dynamic_asked file =
-    if file.has_sections then if_there section_asked (first_section_of 6 file.sections)
+    if file.has_sections then if_there (section_dynamic_asked file) (first_section_of 6 file.sections)
     else if_there segment_asked (first_segment_of 2 file.segments)
 
 -- a section, and the one that it links to

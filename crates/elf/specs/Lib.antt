@@ -15,4 +15,6 @@ pub mod Source
 pub mod Memory
 pub mod StreamView
 pub mod Asked
+pub mod Lending
+pub mod Calls
 pub mod inner

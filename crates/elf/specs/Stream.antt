@@ -1,12 +1,14 @@
 -- What contracts see of an `ElfStream`, and what a call of it leaves and answers.
-use Rattle.std.specs.Prelude.{◌≡◌, ℕ, ◌+◌, ◌<◌, ◌&&◌, Bool, IsTrue, nat_le, List, [], ◌∷◌, Option, Result, Ok, Err, IfSome, OnOk, IsOk, IsErr, is_some}
+use Rattle.std.specs.Prelude.{◌≡◌, ℕ, ◌+◌, ◌<◌, ◌&&◌, Bool, IsTrue, nat_le, List, [], ◌∷◌, Option, Result, Ok, Err, IfSome, OnOk, IfErr, IsOk, IsErr, is_some}
 use Rattle.std.specs.List.{list_any}
+use Rattle.elf_parts.specs.Number.{bytes_at}
 use Rattle.elf_parts.specs.declared.file.FileHeader.{FileHeader}
 use Rattle.elf_parts.specs.declared.parse.ParseError.{ParseError}
 use Rattle.elf_parts.specs.declared.parse.ParseError.TheVariants.{IOError, OutOfMemory}
 use Rattle.elf_parts.specs.declared.section.SectionHeader.{SectionHeader}
 use Rattle.elf_parts.specs.declared.segment.ProgramHeader.{ProgramHeader}
-use Rattle.elf.specs.View.{View, section_list, segment_list}
+use Rattle.elf.specs.Opening.{opened}
+use Rattle.elf.specs.View.{View, section_list, segment_list, with_header}
 
 -- a stream: the content of its source, where that is told, whether the source can fail and how often it did; the
 -- file header as it stands, whether a table of section headers is declared, the section and the program headers;
@@ -47,6 +49,12 @@ headers_of v = record {
   sections = section_list v.sections;
   segments = segment_list v.segments;
 }
+
+-- the stream is of the file that these bytes hold: its tables are those that the opening gives, whatever header stands
+-- in it now
+abbrev pub IsOfFile : {E : Type 0} → (E → Bool) → (ℕ → Option E) → List ℕ → Seen E → Type 0
+IsOfFile {E} little of_byte bytes s =
+    (v : View E) × (opened little of_byte bytes ≡ Ok v) × (shown_headers s ≡ headers_of (with_header v s.ehdr))
 
 -- ---- which ranges are held
 
@@ -100,14 +108,29 @@ IsAnswer shown answer can_fail before now (Err e) = IsRefused before now can_fai
 
 -- ---- what a call leaves
 
+-- the ranges up to the first that is not held lie in the bytes: the source and memory are needed for that one
+abbrev pub IsNeeded : {E : Type 0} → List ℕ → Seen E → List (ℕ × ℕ) → Type 0
+IsNeeded bytes s [] = ⊥
+IsNeeded bytes s (r ∷ rs) = IsOk (bytes_at r.1 bytes r.0) × (IsHeld s r.0 (r.0 + r.1) → IsNeeded bytes s rs)
+
+-- the source fails and memory is refused only where they are needed
+abbrev pub IsFor : Type 0 → Kind → Type 0
+IsFor need Failure = need
+IsFor need Want = need
+IsFor need Refusal = Unit {0}
+
 -- What a call leaves whose answer over a content is given: the same file, no held range lost, and after an Ok the
--- asked ranges held. Its answer is the content's; and it is accepted where that is and the asked ranges were held.
+-- asked ranges held. Its answer is the content's. Where the asked ranges were held before, which they are where none is
+-- asked for, the source and memory are not touched: the stream is as it was, and a refusal is the content's; else they
+-- are for a range that lies in the content.
 pub record Leaves {E T Y : Type 0} (asked : List (ℕ × ℕ)) (shown : T → Y) (answer : List ℕ → Result Y ParseError)
     (old new : Seen E) (r : Result T ParseError) : Type 0 where
   pub keeps : Keeps old new
   pub loaded : OnOk r (AreHeld new asked)
   pub answers : IfSome old.content (λ bytes. IsAnswer shown (answer bytes) old.can_fail old.faults new.faults r)
   pub accepted : IfSome old.content (λ bytes. IsOk (answer bytes) → AreHeld old asked → IsOk r)
+  pub untouched : AreHeld old asked → (new ≡ old) × IfErr r (λ e. kind e ≡ Refusal)
+  pub needed : IfSome old.content (λ bytes. IfErr r (λ e. IsFor (IsNeeded bytes new asked) (kind e)))
 
 -- ---- what an opening answers
 

@@ -1,9 +1,9 @@
 //! A file as a source that is read lazily.
-ghost use Rattle.std.specs.Prelude.{◌≡◌, ℕ, ◌≤◌, ◌+◌, ◌^◌, ◌<◌, OnOk, OnErr, IfOk, IfSome, Ok, IsOk, take, drop, [], ◌∷◌};
+ghost use Rattle.std.specs.Prelude.{◌≡◌, ℕ, ◌≤◌, ◌+◌, ◌^◌, ◌<◌, OnOk, OnErr, IfOk, IfErr, IfSome, Ok, IsOk, length, take, drop, [], ◌∷◌};
 ghost use Rattle.elf_parts.specs.Number.{bytes_at, ok_map};
 ghost use Rattle.elf.specs.Asked.{range_of_section, range_of_segment};
 ghost use Rattle.elf.specs.Opening.{opened};
-ghost use Rattle.elf.specs.Stream.{IsAnswer, headers_of, Keeps, IsHeld, IsOpening, shown_headers};
+ghost use Rattle.elf.specs.Stream.{IsAnswer, IsFor, IsOfFile, Kind, headers_of, Keeps, IsHeld, IsOpening, kind, shown_headers};
 ghost use Rattle.elf.specs.inner.Loads.{Loads};
 
 use crate::source::StreamSource;
@@ -15,7 +15,6 @@ use elf_parts::segment::ProgramHeader;
 use std::alloc::Allocator;
 use std::marker::Model;
 
-mod buffer;
 mod cache;
 mod dynamic;
 mod names;
@@ -25,7 +24,6 @@ mod sections;
 mod symbols;
 mod versions;
 
-use buffer::Buffer;
 use cache::Cache;
 use opening::{read_ehdr, read_phdrs, read_shdrs};
 use reads::fetch;
@@ -54,7 +52,8 @@ pub struct ElfStream<E: EndianParse, S: StreamSource, A: Allocator + Copy> {
 impl<E: EndianParse, S: StreamSource, A: Allocator + Copy> Model for ElfStream<E, S, A> {
     ghost use Rattle.std.specs.Prelude.{map};
     ghost use Rattle.elf.specs.Stream.{Seen};
-    ghost use Rattle.elf.specs.inner.Piece.{range_of, IsSound};
+    ghost use Rattle.elf.specs.inner.Opened.{IsOpened};
+    ghost use Rattle.elf.specs.inner.Piece.{range_of};
 
     ghost Value = { Seen E };
 
@@ -69,7 +68,8 @@ impl<E: EndianParse, S: StreamSource, A: Allocator + Copy> Model for ElfStream<E
       kept = map range_of s.cache;
     } };
 
-    ghost invariant = { λ s. IsSound (S.content s.source) s.len s.cache };
+    ghost invariant = { λ s. IsOpened E.little E.of_byte (S.content s.source) s.len s.cache
+        s.declares_sections s.shdrs.items s.phdrs.items };
 }
 
 impl<E: EndianParse, S: StreamSource, A: Allocator + Copy> ElfStream<E, S, A> {
@@ -99,6 +99,14 @@ impl<E: EndianParse, S: StreamSource, A: Allocator + Copy> ElfStream<E, S, A> {
             len,
             cache: Cache::new(alloc),
         })
+    }
+
+    /// A stream is of the file that its source holds: where the content is known, its tables are those that the opening
+    /// gives, whatever header stands in `ehdr`.
+    pub fn is_of_file(&self)
+        ensures { IfSome self.now.content (λ bytes. IsOfFile E.little E.of_byte bytes self.now) }
+    {
+        let _ = &self.ehdr;
     }
 
     /// Every range that lies within a held one is held.
@@ -131,6 +139,10 @@ impl<E: EndianParse, S: StreamSource, A: Allocator + Copy> ElfStream<E, S, A> {
         ensures answer { IfSome self.old.content (λ bytes.
             IsAnswer (λ _. take size (drop start bytes)) (bytes_at size bytes start)
             self.old.can_fail self.old.faults self.new.faults result) }
+        ensures untouched { IsHeld self.old start (start + size)
+            → (self.new ≡ self.old) × IfErr result (λ e. kind e ≡ Kind.Refusal) }
+        ensures needed { IfSome self.old.content (λ bytes.
+            IfErr result (λ e. IsFor (IsOk (bytes_at size bytes start)) (kind e))) }
     {
         let Some(end) = start.checked_add(size) else {
             return Err(ParseError::IntegerOverflow);
@@ -142,14 +154,15 @@ impl<E: EndianParse, S: StreamSource, A: Allocator + Copy> ElfStream<E, S, A> {
             return Err(ParseError::BadOffset(end));
         }
         let bytes = fetch(self.alloc, &mut self.source, start, end)?;
-        self.cache.put(Buffer::new(start, bytes))
+        self.cache.put(start, bytes)
     }
 
     // The bytes of a range that is held.
     fn held_bytes(&self, start: u64, size: u64) -> &[u8]
         requires low { start + size < 2 ^ 64 }
         requires held { IsHeld self.now start (start + size) }
-        ensures { IfSome self.now.content (λ bytes. bytes_at size bytes start ≡ Ok result.now) }
+        ensures bytes { IfSome self.now.content (λ bytes. bytes_at size bytes start ≡ Ok result.now) }
+        ensures within { IfSome self.now.content (λ bytes. length result.now ≤ length bytes) }
     {
         self.cache.bytes(start, start + size)
     }

@@ -1,5 +1,6 @@
 //! What both readers answer alike.
-ghost use Rattle.std.specs.Prelude.{◌≡◌, ℕ, List, Ok};
+ghost use Rattle.std.specs.Prelude.{◌≡◌, ℕ, List, All, IfSome, Ok, Some};
+ghost use Rattle.elf.specs.Calls.{AreMade, Call, IsAnsweredAlike};
 ghost use Rattle.elf.specs.Listed.{stream_file};
 ghost use Rattle.elf.specs.ObjectFile.{object_file};
 ghost use Rattle.elf.specs.Opening.{opened};
@@ -8,9 +9,12 @@ ghost use Rattle.elf.specs.Stream.{Seen, headers_of, shown_headers};
 ghost use Rattle.elf.specs.View.{View, with_header};
 ghost use Rattle.elf_parts.specs.declared.file.FileHeader.{FileHeader};
 
+use crate::elf_stream::ElfStream;
+use crate::source::StreamSource;
 use elf_parts::endian::EndianParse;
 use elf_parts::laws::lists::list_is_what_get_gives;
 use elf_parts::section::SectionHeader;
+use std::alloc::Allocator;
 
 /// Of a file that is opened each method answers alike, whether its headers stand in the file's tables, as those
 /// of an `ElfBytes`, or in lists, as those of an `ElfStream`: the same value, or both refuse. So it is of
@@ -21,4 +25,27 @@ pub fn list_answers_as_table<E: EndianParse>()
         SameAnswers (object_file E.little (with_header v header)) (stream_file E.little s bytes) }
 {
     list_is_what_get_gives::<SectionHeader>();
+}
+
+/// The headline over lists of calls. Of a stream over known content, opened from it and however often called since, each
+/// call of a list of calls answers as `ElfBytes` over that content does, whatever header is put into `ehdr` before it: the
+/// same value, or both refuse, or the source failed in that call, or memory was refused.
+pub fn calls_answer_alike<E: EndianParse>()
+    ensures { (bytes : List ℕ) (v : View E) (s : Seen E) (calls : List (Call E)) →
+        opened E.little E.of_byte bytes ≡ Ok v → s.content ≡ Some bytes →
+        shown_headers s ≡ headers_of (with_header v s.ehdr) → AreMade E.little s calls →
+        All (IsAnsweredAlike E.little v) calls }
+{
+    list_answers_as_table::<E>();
+}
+
+/// A stream answers about its file as `ElfBytes` does about the content, with the header that stands in it.
+pub fn stream_answers_as_bytes<E: EndianParse, S: StreamSource, A: Allocator + Copy>(
+    stream: &ElfStream<E, S, A>,
+)
+    ensures { IfSome stream.now.content (λ bytes. (v : View E) × (opened E.little E.of_byte bytes ≡ Ok v)
+        × SameAnswers (object_file E.little (with_header v stream.now.ehdr)) (stream_file E.little stream.now bytes)) }
+{
+    stream.is_of_file();
+    list_answers_as_table::<E>();
 }

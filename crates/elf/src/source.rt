@@ -49,18 +49,19 @@ pub trait StreamSource: Drop {
 }
 
 /// A source over bytes in memory. It cannot fail.
-#[derive(Drop)]
+#[derive(Debug, Drop)]
 pub struct MemSource<'a> {
     bytes: &'a [u8],
     at: u64,
 }
 
 impl<'a> MemSource<'a> {
-    ghost use Rattle.elf.specs.Memory.{mem_bytes};
+    ghost use Rattle.elf.specs.Memory.{mem_bytes, mem_position};
 
-    /// The source of these bytes.
+    /// The source of these bytes, at their start.
     pub fn new(bytes: &'a [u8]) -> Self
-        ensures { mem_bytes result ≡ bytes.now }
+        ensures bytes { mem_bytes result ≡ bytes.now }
+        ensures position { mem_position result ≡ 0 }
     {
         MemSource { bytes, at: 0 }
     }
@@ -100,7 +101,7 @@ impl<'a> StreamSource for MemSource<'a> {
 }
 
 /// A source over a file. Nothing is known of what it holds.
-#[derive(Drop)]
+#[derive(Debug, Drop)]
 pub struct FileSource {
     file: File,
 }

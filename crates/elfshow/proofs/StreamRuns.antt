@@ -3,7 +3,7 @@ use Rattle.std.proofs.Common.{◌≡◌, ℕ, ◌+◌, ◌<◌, ◌≤◌, Bool,
 use Rattle.std.proofs.lemmas.List.Elements.{All-get_or}
 use Rattle.std.specs.Prelude.{IsErr, IsOk, OnOk, is_ok, slice_get}
 use Rattle.std.specs.Io.KnownBytes.{Appends}
-use Rattle.elf.specs.Asked.{headers_alone, if_there, section_asked, segment_asked}
+use Rattle.elf.specs.Asked.{headers_alone, if_there}
 use Rattle.elf.specs.Listed.{stream_file}
 use Rattle.elf.specs.ObjectFile.{ObjectFile}
 use Rattle.elf.specs.Stream.{AreHeld, IsAnswer, IsRefused, Keeps, Kind, Leaves, Seen, kind}
@@ -345,24 +345,24 @@ both_told count line (Err e) b n y counted is = cc counted
 -- ---- of a section, and of a segment, that is there
 
 module _ {E T Y X : Type 0} (little : E → Bool) (call : Asked) (old new : Seen E) (shown : T → Y) (line : Y → List ℕ) where
-  pub section_refused : (i : ℕ) (s : SectionHeader) (answer : ObjectFile → SectionHeader → Result Y ParseError) (whole : Result T ParseError) (e : ParseError) (before : Option (List ℕ))
+  pub section_refused : (ranges : SectionHeader → List (ℕ × ℕ)) (i : ℕ) (s : SectionHeader) (answer : ObjectFile → SectionHeader → Result Y ParseError) (whole : Result T ParseError) (e : ParseError) (before : Option (List ℕ))
       → ((bytes : List ℕ) → call_text (stream_answers little old bytes) call ≡ unless_absent (λ s. unless_refused line (answer (stream_file little old bytes) s)) (slice_get old.sections i))
-      → ((bytes : List ℕ) → IsAtHand little old bytes call → AreHeld old (if_there section_asked (slice_get old.sections i)) × OfThere (λ s. IsOk (answer (stream_file little old bytes) s)) (slice_get old.sections i))
-      → slice_get old.sections i ≡ Some s → Leaves (section_asked s) shown (λ bytes. answer (stream_file little old bytes) s) old new whole → whole ≡ Err e → TriedCall {X = X} little call old new before before (Err e)
-  section_refused i s answer whole e before texts hand there leaves is =
-      call_refused little call old new (section_asked s) shown (λ bytes. answer (stream_file little old bytes) s) whole e before
+      → ((bytes : List ℕ) → IsAtHand little old bytes call → AreHeld old (if_there ranges (slice_get old.sections i)) × OfThere (λ s. IsOk (answer (stream_file little old bytes) s)) (slice_get old.sections i))
+      → slice_get old.sections i ≡ Some s → Leaves (ranges s) shown (λ bytes. answer (stream_file little old bytes) s) old new whole → whole ≡ Err e → TriedCall {X = X} little call old new before before (Err e)
+  section_refused ranges i s answer whole e before texts hand there leaves is =
+      call_refused little call old new (ranges s) shown (λ bytes. answer (stream_file little old bytes) s) whole e before
       (λ bytes refused. texts bytes ∙ ap (unless_absent (λ s. unless_refused line (answer (stream_file little old bytes) s))) there ∙ refused_text line (answer (stream_file little old bytes) s) refused)
-      (λ bytes ready. subst (λ o. AreHeld old (if_there section_asked o) × OfThere (λ s. IsOk (answer (stream_file little old bytes) s)) o) there (hand bytes ready))
+      (λ bytes ready. subst (λ o. AreHeld old (if_there ranges o) × OfThere (λ s. IsOk (answer (stream_file little old bytes) s)) o) there (hand bytes ready))
       leaves is
 
-  pub segment_refused : (i : ℕ) (p : ProgramHeader) (answer : ObjectFile → ProgramHeader → Result Y ParseError) (whole : Result T ParseError) (e : ParseError) (before : Option (List ℕ))
+  pub segment_refused : (ranges : ProgramHeader → List (ℕ × ℕ)) (i : ℕ) (p : ProgramHeader) (answer : ObjectFile → ProgramHeader → Result Y ParseError) (whole : Result T ParseError) (e : ParseError) (before : Option (List ℕ))
       → ((bytes : List ℕ) → call_text (stream_answers little old bytes) call ≡ unless_absent (λ p. unless_refused line (answer (stream_file little old bytes) p)) (slice_get old.segments i))
-      → ((bytes : List ℕ) → IsAtHand little old bytes call → AreHeld old (if_there segment_asked (slice_get old.segments i)) × OfThere (λ p. IsOk (answer (stream_file little old bytes) p)) (slice_get old.segments i))
-      → slice_get old.segments i ≡ Some p → Leaves (segment_asked p) shown (λ bytes. answer (stream_file little old bytes) p) old new whole → whole ≡ Err e → TriedCall {X = X} little call old new before before (Err e)
-  segment_refused i p answer whole e before texts hand there leaves is =
-      call_refused little call old new (segment_asked p) shown (λ bytes. answer (stream_file little old bytes) p) whole e before
+      → ((bytes : List ℕ) → IsAtHand little old bytes call → AreHeld old (if_there ranges (slice_get old.segments i)) × OfThere (λ p. IsOk (answer (stream_file little old bytes) p)) (slice_get old.segments i))
+      → slice_get old.segments i ≡ Some p → Leaves (ranges p) shown (λ bytes. answer (stream_file little old bytes) p) old new whole → whole ≡ Err e → TriedCall {X = X} little call old new before before (Err e)
+  segment_refused ranges i p answer whole e before texts hand there leaves is =
+      call_refused little call old new (ranges p) shown (λ bytes. answer (stream_file little old bytes) p) whole e before
       (λ bytes refused. texts bytes ∙ ap (unless_absent (λ p. unless_refused line (answer (stream_file little old bytes) p))) there ∙ refused_text line (answer (stream_file little old bytes) p) refused)
-      (λ bytes ready. subst (λ o. AreHeld old (if_there segment_asked o) × OfThere (λ p. IsOk (answer (stream_file little old bytes) p)) o) there (hand bytes ready))
+      (λ bytes ready. subst (λ o. AreHeld old (if_there ranges o) × OfThere (λ p. IsOk (answer (stream_file little old bytes) p)) o) there (hand bytes ready))
       leaves is
 
 -- ---- a section that is checked

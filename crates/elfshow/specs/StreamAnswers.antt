@@ -1,6 +1,6 @@
 -- What an `ElfStream` answers over a content, and which ranges of it a call asks for.
 use Rattle.std.specs.Prelude.{ℕ, Bool, List, [], ◌++◌, Option, Some, None, IsOk, slice_get}
-use Rattle.elf.specs.Asked.{dynamic_asked, headers_alone, if_there, names_asked, section_asked, segment_asked, symbols_asked, versions_asked}
+use Rattle.elf.specs.Asked.{dynamic_asked, headers_alone, if_there, names_asked, section_asked, segment_asked, segment_notes_asked, symbols_asked, typed_section_asked, versions_asked}
 use Rattle.elf.specs.Listed.{stream_file}
 use Rattle.elf.specs.ObjectFile.{ObjectFile}
 use Rattle.elf.specs.Stream.{Seen}
@@ -23,12 +23,12 @@ ranges_of file Sections = names_asked file
 ranges_of file Segments = []
 ranges_of file (Name name) = names_asked file
 ranges_of file (Data i) = if_there section_asked (slice_get file.sections i)
-ranges_of file (Strings i) = if_there section_asked (slice_get file.sections i)
-ranges_of file (Rels i) = if_there section_asked (slice_get file.sections i)
-ranges_of file (Relas i) = if_there section_asked (slice_get file.sections i)
-ranges_of file (Notes i) = if_there section_asked (slice_get file.sections i)
+ranges_of file (Strings i) = if_there (typed_section_asked 3) (slice_get file.sections i)
+ranges_of file (Rels i) = if_there (typed_section_asked 9) (slice_get file.sections i)
+ranges_of file (Relas i) = if_there (typed_section_asked 4) (slice_get file.sections i)
+ranges_of file (Notes i) = if_there (typed_section_asked 7) (slice_get file.sections i)
 ranges_of file (Seg j) = if_there segment_asked (slice_get file.segments j)
-ranges_of file (SegNotes j) = if_there segment_asked (slice_get file.segments j)
+ranges_of file (SegNotes j) = if_there segment_notes_asked (slice_get file.segments j)
 ranges_of file Symbols = symbols_asked 2 file
 ranges_of file DynSyms = symbols_asked 11 file
 ranges_of file Dynamic = dynamic_asked file

@@ -53,7 +53,7 @@ moved : {T Y : Type 0} (shows : T → Y) (answer : Result Y ParseError) (can_fai
 moved shows answer can_fail before middle now (Ok x) same h = (h.0 ∙ same, h.1)
 moved shows answer can_fail before middle now (Err e) same h = refused_so (kind e) (IsErr answer) (IsErr answer) before middle now can_fail (λ x. x) same h
 
-given : {X Y : Type 0} (x : Result X ParseError) (v : X) (f : X → Result Y ParseError) → x ≡ Ok v → (x >>= f) ≡ f v
+pub given : {X Y : Type 0} (x : Result X ParseError) (v : X) (f : X → Result Y ParseError) → x ≡ Ok v → (x >>= f) ≡ f v
 given x v f h = ap (λ z. z >>= f) h
 
 -- the first step gave x

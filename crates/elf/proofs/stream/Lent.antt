@@ -33,7 +33,14 @@ loads_for old new rs answer r needs h = record {
   loaded = h.loaded;
   reason = for_reason old.content rs answer old.faults new.faults old.can_fail r needs h.reason;
   accepted = for_accepted old.content old rs answer r needs h.accepted;
+  untouched = h.untouched;
+  needed = h.needed;
 }
+
+-- the same of ranges that are asked for under a condition, which holds
+pub loads_if : {E Y : Type 0} (is : Bool) (old new : Seen E) (rs : List (ℕ × ℕ)) (answer : List ℕ → Result Y ParseError) (r : Result (Unit {0}) ParseError) → is ≡ true → LoadsFor rs answer old new r → LoadsFor (if is then rs else []) answer old new r
+loads_if true old new rs answer r same h = h
+loads_if false old new rs answer r same h = cc
 
 for_refused : {T X Y : Type 0} (told : Option (List ℕ)) (shown : T → Y) (wanted : List ℕ → Result X ParseError) (answer : List ℕ → Result Y ParseError) (before now : ℕ) (can_fail : Bool) (e : ParseError) → ((bytes : List ℕ) → is_ok (answer bytes) ≡ is_ok (wanted bytes))
     → IfSome told (λ bytes. IsRefused before now can_fail (IsErr (wanted bytes)) (kind e)) → IfSome told (λ bytes. IsAnswer shown (answer bytes) can_fail before now (Err e))
@@ -53,6 +60,8 @@ leaves_refused_for {E} {T} {X} {Y} old new rs shown wanted answer e r is same h 
   loaded = tt;
   answers = for_refused old.content shown wanted answer old.faults new.faults old.can_fail e same h.reason;
   accepted = for_accepts T old.content old rs wanted answer e same h.accepted;
+  untouched = h.untouched;
+  needed = h.needed;
 })
 
 pub ok_of_map : {A B E : Type 0} (f : A → B) (x : Result A E) → is_ok (ok_map f x) ≡ is_ok x

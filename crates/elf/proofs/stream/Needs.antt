@@ -17,6 +17,7 @@ use Rattle.elf.specs.Range.{section_range, segment_range}
 use Rattle.elf.specs.inner.Loads.{AreThere}
 use Rattle.elf.specs.inner.Plans.{definitions_by, needs_by, versions_by}
 use Rattle.elf.proofs.stream.Lent.{payload_needs}
+use Rattle.elf.proofs.stream.Steps.{there_append}
 
 ok_first : {A B E : Type 0} (x : Result A E) (f : A → Result B E) → IsOk (x >>= f) → IsOk x
 ok_first (Ok a) f h = refl
@@ -38,10 +39,6 @@ dynamic_needs file s h =
 -- of a segment of dynamic entries
 pub segment_needs : (file : ObjectFile) (p : ProgramHeader) → IsOk (segment_dynamic file p) → AreThere file.bytes (segment_asked p)
 segment_needs file p h = (ok_inside (table_of file) (segment_range file.bytes p) h, tt)
-
-there_append : (bytes : List ℕ) (rs qs : List (ℕ × ℕ)) → AreThere bytes rs → AreThere bytes qs → AreThere bytes (rs ++ qs)
-there_append bytes [] qs a b = b
-there_append bytes (r ∷ rs) qs a b = (a.0, there_append bytes rs qs a.1 b)
 
 -- of the names of sections, where they are chosen
 pub names_need : {A : Type 0} (bytes : List ℕ) (s : SectionHeader) (f : Option (List ℕ) → A) → IsOk (ok_map f (if_found (section_range bytes) (Some s))) → AreThere bytes (whole_section s)

@@ -7,7 +7,7 @@ use Rattle.elf_parts.specs.Record.{◌>>=◌, ReadsOnly, ReadsWherever, ReadsWit
 use Rattle.elf_parts.specs.declared.file.Class.{Class}
 use Rattle.elf_parts.specs.declared.parse.ParseError.{ParseError}
 use Rattle.elf.proofs.stream.Chains.{AreAlike}
-use Rattle.elf.proofs.stream.Pieces.{read_within, read_is_within, read_past_64}
+use Rattle.elf.proofs.stream.Pieces.{one_value, read_within, read_is_within, read_past_64}
 use Rattle.elf.specs.Opening.{table_bytes}
 use Rattle.elf_parts.specs.declared.parse.ParseError.TheVariants.{BadEntsize}
 use Rattle.std.proofs.lemmas.Bool.Decides.{nat_tests}
@@ -22,9 +22,6 @@ ok_from x a h = subst (λ z. IsOk z) (sym h) refl
 
 clash : {A E : Type 0} (e : E) (a : A) → Err e ≡ Ok a → ⊥
 clash e a h = cc
-
-one_value : {A E : Type 0} (r : Result A E) (a b : A) → r ≡ Ok a → r ≡ Ok b → a ≡ b
-one_value r a b h k = cc
 
 part_length : (bytes : List ℕ) (o size : ℕ) → o + size ≤ length bytes → length (take size (drop o bytes)) ≡ size
 part_length bytes o size within = simp (length-take, length-drop) (omega arith)

@@ -1,16 +1,15 @@
 -- Finding the part that has a range, and what its bytes are.
-use Rattle.std.proofs.Common.{◌≡◌, ℕ, ◌+◌, ◌-◌, ◌<◌, ◌≤◌, Bool, true, false, ◌&&◌, ◌||◌, List, [], ◌∷◌, length, take, drop, map, get_or, refl, sym, ap, ◌∙◌, arith, Option, Some, None, IfSome, leb-true, le-leb, length-drop, subst}
-use Rattle.std.specs.Prelude.{IsTrue, nat_le, ◌^◌, Ok, IsErr, IsOk, IsPermutation}
-use Rattle.std.specs.List.{list_any, HoldsAt}
+use Rattle.std.proofs.Common.{◌≡◌, ℕ, ◌+◌, ◌-◌, ◌<◌, ◌≤◌, Bool, true, false, ◌&&◌, ◌||◌, List, [], ◌∷◌, length, take, drop, map, refl, sym, ap, ◌∙◌, arith, Option, Some, None, IfSome, leb-true, le-leb, length-drop, length-take, subst}
+use Rattle.std.specs.Prelude.{IsTrue, nat_le, ◌^◌, Result, Ok, IsErr, IsOk, is_ok}
+use Rattle.std.specs.List.{list_any}
 use Rattle.std.proofs.lemmas.Bool.{and_parts}
-use Rattle.std.proofs.lemmas.List.{take-take, drop-take, drop-drop, length-take-le, get_or-drop, get_or-take, take-append-drop}
+use Rattle.std.proofs.lemmas.List.{take-take, drop-take, drop-drop}
 use Rattle.elf.specs.inner.Piece.{Piece, IsPartOf, covers, range_of, IsOf, IsSound}
 use Rattle.elf.specs.Stream.{is_held}
 use Rattle.elf_parts.specs.Number.{bytes_at}
 use Rattle.std.proofs.lemmas.Bool.Decides.{nat_tests}
-use Rattle.std.proofs.lemmas.List.Sorted.{All-permutation, list_any-IsPermutation}
-use Rattle.std.proofs.lemmas.List.Folds.{Any-from_list_any, list_any-append, list_any_none}
-use Rattle.std.proofs.lemmas.List.Elements.{All-cons, All-contains}
+use Rattle.std.proofs.lemmas.List.Folds.{Any-from_list_any}
+use Rattle.std.proofs.lemmas.List.Elements.{All-contains}
 
 list_any-map : {X Y : Type 0} (f : X → Y) (t : Y → Bool) (xs : List X) → list_any t (map f xs) ≡ list_any (λ x. t (f x)) xs
 list_any-map f t [] = refl
@@ -72,69 +71,6 @@ sound_held (Some bytes) len ps start size count sound low held =
     let a = Any-from_list_any (covers start (start + size)) ps (sym (list_any-map range_of _ ps) ∙ held) in
     (refl, read_within bytes start size low (piece_within bytes a.1 start (start + size) (subst (IsOf bytes) a.3 (sound.parts a.0 a.1 a.2)) (reaches a.1 start (start + size) a.4)))
 
--- ---- one more part, which has the content's bytes
-
-pub sound_more : (told : Option (List ℕ)) (len : ℕ) (ps qs : List Piece) (start end : ℕ) (p : Piece) → IsSound told len ps → IsPermutation (p ∷ ps) qs → start ≤ end → end ≤ len
-    → p.start ≡ start → length p.bytes ≡ end - start → IfSome told (λ bytes. p.bytes ≡ take (end - start) (drop start bytes)) → IsSound told len qs
-sound_more None len ps qs start end p sound put ordered within from long same = record { len = tt; parts = tt }
-sound_more (Some bytes) len ps qs start end p sound put ordered within from long same =
-    let all = sound.len in record {
-      len = all;
-      parts = All-permutation (IsOf bytes) (p ∷ ps) qs put (All-cons (IsOf bytes) p ps (record {
-        within = omega arith;
-        same = same ∙ ap (λ n. take n (drop start bytes)) (sym long) ∙ ap (λ n. take (length p.bytes) (drop n bytes)) (sym from);
-      }) sound.parts);
-    }
-
-or_true : (b : Bool) → (b || true) ≡ true
-or_true true = refl
-or_true false = refl
-
-covers_itself : (p : Piece) → covers p.start (p.start + length p.bytes) p ≡ true
-covers_itself p = rw (le-leb p.start p.start (omega arith), le-leb (p.start + length p.bytes) (p.start + length p.bytes) (omega arith)) refl
-
--- which ranges are held is that of the parts
-held_by : (ps : List Piece) (start end : ℕ) → is_held (map range_of ps) start end ≡ list_any (covers start end) ps
-held_by ps start end = list_any-map range_of _ ps
-
--- ---- the part that has a range is one of those at the front, which start at its start or before it
-
-not_covers : (p : Piece) (start end : ℕ) → start < p.start → covers start end p ≡ false
-not_covers p start end past = grind (arith, nat_tests)
-
-none_behind : (ps : List Piece) (n start end : ℕ) → ((k : ℕ) (d : Piece) → n ≤ k → k < length ps → start < (get_or ps k d).start) → list_any (covers start end) (drop n ps) ≡ false
-none_behind ps n start end behind =
-    list_any_none (covers start end) (drop n ps) (λ k d lt.
-    let at : n + k < length ps = omega (arith, simp (length-drop) at lt) in
-    ap (covers start end) (get_or-drop n ps k d) ∙ not_covers (get_or ps (n + k) d) start end (behind (n + k) d (omega arith) at))
-
-or_false : (b : Bool) → (b || false) ≡ b
-or_false true = refl
-or_false false = refl
-
-pub front_holds : (ps : List Piece) (n start end : ℕ) (found : Bool) → ((k : ℕ) (d : Piece) → n ≤ k → k < length ps → start < (get_or ps k d).start) → found ≡ list_any (covers start end) (take n ps) → found ≡ is_held (map range_of ps) start end
-front_holds ps n start end found behind h =
-    h ∙ sym (or_false (list_any (covers start end) (take n ps)))
-    ∙ ap (λ b. list_any (covers start end) (take n ps) || b) (sym (none_behind ps n start end behind))
-    ∙ sym (list_any-append (covers start end) (take n ps) (drop n ps))
-    ∙ ap (list_any (covers start end)) (take-append-drop n ps) ∙ sym (held_by ps start end)
-
-pub front_covers : (ps : List Piece) (n start end : ℕ) (r : Option ℕ) → n ≤ length ps → IfSome r (λ i. (i < length (take n ps)) × HoldsAt (λ p. IsTrue (covers start end p)) (take n ps) i)
-    → IfSome r (λ i. (i < length ps) × HoldsAt (λ p. IsTrue (covers start end p)) ps i)
-front_covers ps n start end None within h = tt
-front_covers ps n start end (Some i) within h =
-    let at : i < n = subst (λ m. i < m) (length-take-le n ps within) h.0 in
-    (omega arith, λ d. subst (λ p. IsTrue (covers start end p)) (get_or-take n ps i d at) (h.1 d))
-
-pub held_more : (ps qs : List Piece) (p : Piece) → IsPermutation (p ∷ ps) qs → (start end : ℕ) → IsTrue (is_held (map range_of ps) start end) → IsTrue (is_held (map range_of qs) start end)
-held_more ps qs p put start end held =
-    held_by qs start end ∙ sym (list_any-IsPermutation (covers start end) (p ∷ ps) qs put) ∙ ap (λ b. covers start end p || b) (sym (held_by ps start end) ∙ held) ∙ or_true (covers start end p)
-
-pub held_new : (ps qs : List Piece) (p : Piece) → IsPermutation (p ∷ ps) qs → IsTrue (is_held (map range_of qs) p.start (p.start + length p.bytes))
-held_new ps qs p put =
-    held_by qs p.start (p.start + length p.bytes) ∙ sym (list_any-IsPermutation (covers p.start (p.start + length p.bytes)) (p ∷ ps) qs put)
-    ∙ ap (λ b. b || list_any (covers p.start (p.start + length p.bytes)) ps) (covers_itself p)
-
 -- the bytes of a range within one of the parts are the content's
 pub part_bytes : (told : Option (List ℕ)) (len : ℕ) (ps : List Piece) (start size : ℕ) (part : List ℕ) → IsSound told len ps → start + size < 2 ^ 64 → IsPartOf ps start (start + size) part
     → IfSome told (λ bytes. bytes_at size bytes start ≡ Ok part)
@@ -147,7 +83,25 @@ part_bytes (Some bytes) len ps start size part sound low at =
     read_within bytes start size low (piece_within bytes p start (start + size) of reach)
     ∙ ap Ok (sym (piece_bytes bytes p start size of reach) ∙ ap (λ n. take n (drop (start - p.start) p.bytes)) (sym long) ∙ sym at.3)
 
+pub one_value : {A E : Type 0} (r : Result A E) (a b : A) → r ≡ Ok a → r ≡ Ok b → a ≡ b
+one_value r a b h k = cc
+
+-- the bytes of a range are no more than the content's
+shorter : (bytes part : List ℕ) (start size : ℕ) → bytes_at size bytes start ≡ Ok part → length part ≤ length bytes
+shorter bytes part start size is =
+    let there = read_is_within bytes start size (ap is_ok is) in
+    let same = one_value (bytes_at size bytes start) (take size (drop start bytes)) part (read_within bytes start size there.0 there.1) is in
+    subst (λ part. length part ≤ length bytes) same (simp (length-take, length-drop) (omega arith))
+
+pub part_within : (told : Option (List ℕ)) (start size : ℕ) (part : List ℕ) → IfSome told (λ bytes. bytes_at size bytes start ≡ Ok part) → IfSome told (λ bytes. length part ≤ length bytes)
+part_within None start size part h = tt
+part_within (Some bytes) start size part h = shorter bytes part start size h
+
 -- ---- a range within a held one is held
+
+or_true : (b : Bool) → (b || true) ≡ true
+or_true true = refl
+or_true false = refl
 
 covers_within : (p : ℕ × ℕ) (start end low high : ℕ) → low ≤ start → end ≤ high → (nat_le p.0 low && nat_le high p.1) ≡ true → (nat_le p.0 start && nat_le end p.1) ≡ true
 covers_within p start end low high from to h =

@@ -129,6 +129,8 @@ leaves_alike old new rs shown one other r same h = record {
   loaded = h.loaded;
   answers = told_answers old.content shown one other old.faults new.faults old.can_fail r same h.answers;
   accepted = told_accepted old.content old rs one other r same h.accepted;
+  untouched = h.untouched;
+  needed = h.needed;
 }
 
 -- the load of a plan was refused

@@ -1,11 +1,11 @@
 -- One load after another, and what a call leaves whose loads were refused.
-use Rattle.std.proofs.Common.{◌≡◌, ℕ, ◌+◌, ◌<◌, Bool, List, [], ◌∷◌, ◌++◌, refl, sym, ◌∙◌, subst, arith, Option, Some, None, IfSome}
-use Rattle.std.specs.Prelude.{◌^◌, Result, Ok, Err, IsErr, IsOk, OnOk, take, drop}
+use Rattle.std.proofs.Common.{◌≡◌, ℕ, ◌+◌, ◌<◌, Bool, List, [], ◌∷◌, ◌++◌, refl, sym, ap, ◌∙◌, subst, arith, Option, Some, None, IfSome}
+use Rattle.std.specs.Prelude.{IsTrue, ◌^◌, Result, Ok, Err, IsErr, IsOk, IfErr, OnOk, OnErr, is_ok, take, drop}
 use Rattle.elf_parts.specs.Number.{bytes_at}
 use Rattle.elf_parts.specs.declared.parse.ParseError.{ParseError}
 use Rattle.elf.specs.Asked.{if_chosen}
 use Rattle.elf.specs.inner.Loads.{HasReason, AreLow, AreThere, Loads}
-use Rattle.elf.specs.Stream.{IsAnswer, IsRefused, Kind, kind, Seen, AreHeld, IsHeld, Keeps, Leaves}
+use Rattle.elf.specs.Stream.{IsAnswer, IsFor, IsNeeded, IsRefused, Kind, is_held, kind, Seen, AreHeld, IsHeld, Keeps, Leaves}
 use Rattle.elf.proofs.stream.Pieces.{read_is_within}
 
 pub refused_so : (k : Kind) (P Q : Type 0) (before middle now : ℕ) (can_fail : Bool) → (P → Q) → middle ≡ before → IsRefused middle now can_fail P k → IsRefused before now can_fail Q k
@@ -52,6 +52,25 @@ there_back : (bytes : List ℕ) (rs qs : List (ℕ × ℕ)) → AreThere bytes (
 there_back bytes [] qs h = h
 there_back bytes (r ∷ rs) qs h = there_back bytes rs qs h.1
 
+pub there_append : (bytes : List ℕ) (rs qs : List (ℕ × ℕ)) → AreThere bytes rs → AreThere bytes qs → AreThere bytes (rs ++ qs)
+there_append bytes [] qs a b = b
+there_append bytes (r ∷ rs) qs a b = (a.0, there_append bytes rs qs a.1 b)
+
+-- ---- which range the source and memory are needed for
+
+for_so : (P Q : Type 0) (k : Kind) → (P → Q) → IsFor P k → IsFor Q k
+for_so P Q Kind.Failure so h = so h
+for_so P Q Kind.Want so h = so h
+for_so P Q Kind.Refusal so h = tt
+
+needed_front : {E : Type 0} (bytes : List ℕ) (s : Seen E) (rs qs : List (ℕ × ℕ)) → IsNeeded bytes s rs → IsNeeded bytes s (rs ++ qs)
+needed_front bytes s [] qs h = absurd h
+needed_front bytes s (r ∷ rs) qs h = (h.0, λ held. needed_front bytes s rs qs (h.1 held))
+
+needed_back : {E : Type 0} (bytes : List ℕ) (s : Seen E) (rs qs : List (ℕ × ℕ)) → AreThere bytes rs → IsNeeded bytes s qs → IsNeeded bytes s (rs ++ qs)
+needed_back bytes s [] qs there h = h
+needed_back bytes s (r ∷ rs) qs there h = (there.0, λ _. needed_back bytes s rs qs there.1 h)
+
 -- ---- a load of one range
 
 pub refused_not : {A E : Type 0} (x : Result A E) → IsErr x → IsOk x → ⊥
@@ -74,15 +93,40 @@ accepted_one : {E : Type 0} (told : Option (List ℕ)) (old : Seen E) (start siz
 accepted_one None old start size r h = tt
 accepted_one (Some bytes) old start size r h = λ there held. h (read_is_within bytes start size there.0).0 held.0
 
+there_one : (told : Option (List ℕ)) (start size before now : ℕ) (can_fail : Bool) (r : Result (Unit {0}) ParseError)
+    → IfSome told (λ bytes. IsAnswer (λ _. take size (drop start bytes)) (bytes_at size bytes start) can_fail before now r)
+    → IfSome told (λ bytes. OnOk r (AreThere bytes ((start, size) ∷ [])))
+there_one None start size before now can_fail r h = tt
+there_one (Some bytes) start size before now can_fail (Ok x) h = (ap is_ok h.1, tt)
+there_one (Some bytes) start size before now can_fail (Err e) h = tt
+
+not_held : {E : Type 0} (old new : Seen E) (start size : ℕ) (e : ParseError) → new.kept ≡ old.kept → (start + size < 2 ^ 64 → IsHeld old start (start + size) → IsOk {T = Unit {0}} (Err e))
+    → start + size < 2 ^ 64 → IsHeld new start (start + size) → ⊥
+not_held old new start size e same held low h = let ok = held low (subst (λ kept. IsTrue (is_held kept start (start + size))) same h) in cc
+
+needed_one : {E : Type 0} (told : Option (List ℕ)) (old new : Seen E) (start size : ℕ) (r : Result (Unit {0}) ParseError) → OnErr r (new.kept ≡ old.kept)
+    → (start + size < 2 ^ 64 → IsHeld old start (start + size) → IsOk r)
+    → IfSome told (λ bytes. IfErr r (λ e. IsFor (IsOk (bytes_at size bytes start)) (kind e)))
+    → IfSome told (λ bytes. IfErr r (λ e. IsFor (IsNeeded bytes new ((start, size) ∷ [])) (kind e)))
+needed_one None old new start size r same held h = tt
+needed_one (Some bytes) old new start size (Ok x) same held h = tt
+needed_one (Some bytes) old new start size (Err e) same held h =
+    for_so _ _ (kind e) (λ there. (there, not_held old new start size e same held (read_is_within bytes start size there).0)) h
+
 pub loads_one : {E : Type 0} (old new : Seen E) (start size : ℕ) (r : Result (Unit {0}) ParseError) → Keeps old new → OnOk r ((start + size < 2 ^ 64) × IsHeld new start (start + size))
     → (start + size < 2 ^ 64 → IsHeld old start (start + size) → IsOk r)
     → IfSome old.content (λ bytes. IsAnswer (λ _. take size (drop start bytes)) (bytes_at size bytes start) old.can_fail old.faults new.faults r)
+    → OnErr r (new.kept ≡ old.kept) → (IsHeld old start (start + size) → (new ≡ old) × IfErr r (λ e. kind e ≡ Kind.Refusal))
+    → IfSome old.content (λ bytes. IfErr r (λ e. IsFor (IsOk (bytes_at size bytes start)) (kind e)))
     → Loads ((start, size) ∷ []) old new r
-loads_one old new start size r keeps loaded held answer = record {
+loads_one old new start size r keeps loaded held answer same untouched needed = record {
   keeps = keeps;
   loaded = loaded_one new start size r loaded;
+  there = there_one old.content start size old.faults new.faults old.can_fail r answer;
   reason = reason_one old.content start size old.faults new.faults old.can_fail r answer;
   accepted = accepted_one old.content old start size r held;
+  untouched = λ h. untouched h.0;
+  needed = needed_one old.content old new start size r same held needed;
 }
 
 -- ---- one load after another
@@ -97,13 +141,25 @@ stopped_accepted : {E : Type 0} (told : Option (List ℕ)) (old : Seen E) (rs qs
 stopped_accepted None old rs qs e h = tt
 stopped_accepted (Some bytes) old rs qs e h = λ there held. h (there_front bytes rs qs there) (held_front old rs qs held)
 
+stopped_needed : {E : Type 0} (told : Option (List ℕ)) (new : Seen E) (rs qs : List (ℕ × ℕ)) (e : ParseError)
+    → IfSome told (λ bytes. IsFor (IsNeeded bytes new rs) (kind e)) → IfSome told (λ bytes. IsFor (IsNeeded bytes new (rs ++ qs)) (kind e))
+stopped_needed None new rs qs e h = tt
+stopped_needed (Some bytes) new rs qs e h = for_so _ _ (kind e) (needed_front bytes new rs qs) h
+
+none_there : (told : Option (List ℕ)) (rs qs : List (ℕ × ℕ)) (e : ParseError) → IfSome told (λ bytes. OnOk {T = Unit {0}} (Err e) (AreThere bytes (rs ++ qs)))
+none_there None rs qs e = tt
+none_there (Some bytes) rs qs e = tt
+
 -- the first load was refused
 pub loads_stop : {E : Type 0} (old new : Seen E) (rs qs : List (ℕ × ℕ)) (e : ParseError) → Loads rs old new (Err e) → Loads (rs ++ qs) old new (Err e)
 loads_stop old new rs qs e h = record {
   keeps = h.keeps;
   loaded = tt;
+  there = none_there old.content rs qs e;
   reason = stopped_reason old.content rs qs old.faults new.faults old.can_fail e h.reason;
   accepted = stopped_accepted old.content old rs qs e h.accepted;
+  untouched = λ held. h.untouched (held_front old rs qs held);
+  needed = stopped_needed old.content new rs qs e h.needed;
 }
 
 then_loaded : {E : Type 0} (middle new : Seen E) (rs qs : List (ℕ × ℕ)) (r : Result (Unit {0}) ParseError) → Keeps middle new → AreLow rs × AreHeld middle rs → OnOk r (AreLow qs × AreHeld new qs) → OnOk r (AreLow (rs ++ qs) × AreHeld new (rs ++ qs))
@@ -121,6 +177,25 @@ then_accepted : {E : Type 0} (told : Option (List ℕ)) (old middle : Seen E) (r
 then_accepted None old middle rs qs r keeps h = tt
 then_accepted (Some bytes) old middle rs qs r keeps h = λ there held. h (there_back bytes rs qs there) (still_held old middle qs keeps (held_back old rs qs held))
 
+then_there : (told : Option (List ℕ)) (rs qs : List (ℕ × ℕ)) (r : Result (Unit {0}) ParseError) → IfSome told (λ bytes. AreThere bytes rs)
+    → IfSome told (λ bytes. OnOk r (AreThere bytes qs)) → IfSome told (λ bytes. OnOk r (AreThere bytes (rs ++ qs)))
+then_there None rs qs r a b = tt
+then_there (Some bytes) rs qs (Ok x) a b = there_append bytes rs qs a b
+then_there (Some bytes) rs qs (Err e) a b = tt
+
+then_needed : {E : Type 0} (told : Option (List ℕ)) (new : Seen E) (rs qs : List (ℕ × ℕ)) (r : Result (Unit {0}) ParseError) → IfSome told (λ bytes. AreThere bytes rs)
+    → IfSome told (λ bytes. IfErr r (λ e. IsFor (IsNeeded bytes new qs) (kind e))) → IfSome told (λ bytes. IfErr r (λ e. IsFor (IsNeeded bytes new (rs ++ qs)) (kind e)))
+then_needed None new rs qs r a b = tt
+then_needed (Some bytes) new rs qs (Ok x) a b = tt
+then_needed (Some bytes) new rs qs (Err e) a b = for_so _ _ (kind e) (needed_back bytes new rs qs a) b
+
+then_untouched : {E : Type 0} (old middle new : Seen E) (rs qs : List (ℕ × ℕ)) (x : Unit {0}) (r : Result (Unit {0}) ParseError) → Loads rs old middle (Ok x) → Loads qs middle new r
+    → AreHeld old (rs ++ qs) → (new ≡ old) × IfErr r (λ e. kind e ≡ Kind.Refusal)
+then_untouched old middle new rs qs x r a b held =
+    let first = a.untouched (held_front old rs qs held) in
+    let second = b.untouched (subst (λ s. AreHeld s qs) (sym first.0) (held_back old rs qs held)) in
+    (second.0 ∙ first.0, second.1)
+
 -- the second load is made after the first
 pub loads_then : {E : Type 0} (old middle new : Seen E) (rs qs : List (ℕ × ℕ)) (x : Unit {0}) (r : Result (Unit {0}) ParseError) → Loads rs old middle (Ok x) → Loads qs middle new r → Loads (rs ++ qs) old new r
 loads_then {E} old middle new rs qs x r a b =
@@ -131,7 +206,10 @@ loads_then {E} old middle new rs qs x r a b =
       reason = then_reason old.content rs qs old.faults middle.faults new.faults old.can_fail r a.reason
           (subst (λ can_fail. IfSome old.content (λ bytes. HasReason middle.faults new.faults can_fail (AreThere bytes qs → ⊥) r)) nature
           (subst (λ told. IfSome told (λ bytes. HasReason middle.faults new.faults middle.can_fail (AreThere bytes qs → ⊥) r)) same b.reason));
+      there = then_there old.content rs qs r a.there (subst (λ told. IfSome told (λ bytes. OnOk r (AreThere bytes qs))) same b.there);
       accepted = then_accepted old.content old middle rs qs r a.keeps (subst (λ told. IfSome told (λ bytes. AreThere bytes qs → AreHeld middle qs → IsOk r)) same b.accepted);
+      untouched = then_untouched old middle new rs qs x r a b;
+      needed = then_needed old.content new rs qs r a.there (subst (λ told. IfSome told (λ bytes. IfErr r (λ e. IsFor (IsNeeded bytes new qs) (kind e)))) same b.needed);
     }
 
 -- ---- a call whose loads were refused
@@ -158,6 +236,8 @@ leaves_refused {E} {T} {Y} old new rs shown answer e r is needs h = rw is (recor
   loaded = tt;
   answers = refused_answer old.content rs shown answer old.faults new.faults old.can_fail e needs h.reason;
   accepted = refused_accepted T old.content old rs answer e needs h.accepted;
+  untouched = h.untouched;
+  needed = h.needed;
 })
 
 -- the same of ranges that were chosen first

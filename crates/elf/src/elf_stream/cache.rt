@@ -1,41 +1,42 @@
-//! The parts of a source that are kept.
-ghost use Rattle.std.specs.Prelude.{◌≡◌, [], ◌∷◌, ◌≤◌, length, map, is_some, IsTrue, IfSome, OnOk, IfErr, ℕ, ◌<◌, slice_index_or};
-ghost use Rattle.std.specs.List.{HoldsAt, list_any};
-ghost use Rattle.std.specs.List.Sorted.{IsNonDecreasingBy, IsPermutation};
-ghost use Rattle.elf.specs.inner.Piece.{Piece, IsPartOf, covers, range_of};
+//! The parts of a source that are cached.
+ghost use Rattle.std.specs.Prelude.{◌≡◌, [], ◌∷◌, ◌≤◌, ◌<◌, ◌+◌, ◌^◌, length, map, false, not, nat_lt, is_some, IsSome, IsTrue, IfSome, IfNone, OnOk, IfErr, ℕ};
+ghost use Rattle.std.specs.List.{filter, All, AllPairs, Contains};
+ghost use Rattle.std.specs.BTreeMap.{get_by};
+ghost use Rattle.std.specs.Ordering.{nat_cmp};
+ghost use Rattle.elf.specs.inner.Piece.{Piece, AreSpread, IsPartOf, IsPut, covers, end_of, is_within, piece_of, range_of};
 ghost use Rattle.elf.specs.Stream.{is_held};
 ghost use Rattle.elf_parts.specs.declared.parse.ParseError.{ParseError};
 
-use super::buffer::Buffer;
 use elf_parts::parse::ParseError;
 use std::alloc::Allocator;
+use std::collections::BTreeMap;
 use std::marker::Model;
+use std::ops::Bound;
 
-/// Buffers in the order of their starts. None is changed or taken out.
+/// The cached parts of a source, by their starts. None lies within another, so a look-up has to see one of them alone.
 #[derive(Drop)]
 pub(super) struct Cache<A: Allocator> {
-    buffers: Vec<Buffer<A>, A>,
+    buffers: BTreeMap<u64, Vec<u8, A>, A>,
 }
 
 impl<A: Allocator> Model for Cache<A> {
-    ghost use Rattle.std.specs.Prelude.{List};
-    ghost use Rattle.std.specs.List.Sorted.{IsNonDecreasingBy};
-    ghost use Rattle.elf.specs.inner.Piece.{Piece};
+    ghost use Rattle.std.specs.Prelude.{List, map};
+    ghost use Rattle.elf.specs.inner.Piece.{Piece, AreSpread, piece_of};
 
     ghost Value = { List Piece };
 
-    ghost view = { λ c. c.buffers.items };
+    ghost view = { λ c. map (piece_of (λ v. v.items)) c.buffers.entries };
 
-    ghost invariant = { λ c. IsNonDecreasingBy (λ p. p.start) c.buffers.items };
+    ghost invariant = { λ c. AreSpread (λ v. v.items) c.buffers.entries };
 }
 
 impl<A: Allocator> Cache<A> {
-    /// Nothing is kept.
+    /// The empty cache.
     pub(super) fn new(alloc: A) -> Self
         ensures { result ≡ [] }
     {
         Cache {
-            buffers: Vec::new(alloc),
+            buffers: BTreeMap::new(alloc),
         }
     }
 
@@ -46,15 +47,18 @@ impl<A: Allocator> Cache<A> {
         self.find(start, end).is_some()
     }
 
-    // A buffer that has the bytes from `start` to `end`. It starts at `start` or before it, so it is one of the
-    // buffers at the front; that with the greatest start is looked at first.
-    fn find(&self, start: u64, end: u64) -> Option<usize>
+    // The buffer that has the bytes from `start` to `end`. Of the buffers that start at `start` or before it the last one
+    // ends last, so no other can have them.
+    fn find(&self, start: u64, end: u64) -> Option<(u64, &[u8])>
         ensures held { is_some result ≡ is_held (map range_of self.now) start end }
-        ensures covers { IfSome result (λ i. (i < length self.now)
-            × HoldsAt (λ p. IsTrue (covers start end p)) self.now i) }
+        ensures covers { IfSome result (λ r. Contains self.now (record { start = r.0; bytes = r.1.now })
+            × IsTrue (covers start end (record { start = r.0; bytes = r.1.now }))) }
     {
-        let behind = first_behind(&self.buffers, start);
-        last_covering(&self.buffers[..behind], start, end)
+        let (from, bytes) = self.buffers.range(..=start).next_back()?;
+        if end.saturating_sub(*from) <= bytes.len() as u64 {
+            return Some((*from, bytes));
+        }
+        None
     }
 
     /// The bytes from `start` to `end`, which lie in one buffer.
@@ -64,50 +68,57 @@ impl<A: Allocator> Cache<A> {
         ensures { IsPartOf self.now start end result.now }
     {
         match self.find(start, end) {
-            Some(i) => {
-                let buffer = &self.buffers[i];
-                buffer.range(start, end)
-            }
+            Some((from, bytes)) => &bytes[(start - from) as usize..(end - from) as usize],
             None => unreachable!(),
         }
     }
 
-    /// Keeps one more buffer.
-    pub(super) fn put(&mut self, buffer: Buffer<A>) -> Result<(), ParseError>
-        ensures put { OnOk result (IsPermutation (buffer ∷ self.old) self.new) }
+    /// Caches one more buffer, whose range is not cached yet, and drops those that lie within it. Each buffer is dropped at
+    /// most once, so a load costs the logarithm of their number over time.
+    pub(super) fn put(&mut self, start: u64, bytes: Vec<u8, A>) -> Result<(), ParseError>
+    where
+        A: Copy,
+        requires low { start + length bytes.items < 2 ^ 64 }
+        requires new { is_held (map range_of self.old) start (start + length bytes.items) ≡ false }
+        ensures put { OnOk result (IsPut (record { start = start; bytes = bytes.items }) self.old self.new) }
         ensures refused { IfErr result (λ e. (e ≡ ParseError.OutOfMemory) × (self.new ≡ self.old)) }
     {
-        let place = first_behind(&self.buffers, buffer.start());
-        if self.buffers.insert(place, buffer).is_err() {
+        let end = start + bytes.len() as u64;
+        if self.buffers.insert(start, bytes).is_err() {
             return Err(ParseError::OutOfMemory);
         }
+        take_within(&mut self.buffers, start, end);
         Ok(())
     }
 }
 
-// The last of the buffers that has the bytes from `start` to `end`.
-fn last_covering<A: Allocator>(buffers: &[Buffer<A>], start: u64, end: u64) -> Option<usize>
-    ensures held { is_some result ≡ list_any (covers start end) buffers.now }
-    ensures covers { IfSome result (λ i. (i < length buffers.now)
-        × HoldsAt (λ p. IsTrue (covers start end p)) buffers.now i) }
+// Drops the buffers that start behind `start` and end at `end` or before it.
+fn take_within<A: Allocator>(buffers: &mut BTreeMap<u64, Vec<u8, A>, A>, start: u64, end: u64)
+    requires { AreSpread (λ v. v.items) (filter (λ e. nat_lt start e.0) buffers.old.entries) }
+    ensures { buffers.new.entries ≡ filter (λ e. not (is_within start end (piece_of (λ v. v.items) e))) buffers.old.entries }
 {
-    let mut i = buffers.len();
-    while i > 0 {
-        i -= 1;
-        if buffers[i].covers(start, end) {
-            return Some(i);
-        }
+    while let Some(next) = next_within(buffers, start, end) {
+        buffers.remove(&next);
     }
-    None
 }
 
-// How many of the buffers start at `start` or before it.
-fn first_behind<A: Allocator>(buffers: &[Buffer<A>], start: u64) -> usize
-    requires { IsNonDecreasingBy (λ p. p.start) buffers.now }
-    ensures bound { result ≤ length buffers.now }
-    ensures before { (k : ℕ) (d : Piece) → k < result → (slice_index_or buffers.now k d).start ≤ start }
-    ensures behind { (k : ℕ) (d : Piece) → result ≤ k → k < length buffers.now
-        → start < (slice_index_or buffers.now k d).start }
+// The first buffer that starts behind `start`, if it ends at `end` or before it. If it does not, no later one does.
+fn next_within<A: Allocator>(
+    buffers: &BTreeMap<u64, Vec<u8, A>, A>,
+    start: u64,
+    end: u64,
+) -> Option<u64>
+    requires { AreSpread (λ v. v.items) (filter (λ e. nat_lt start e.0) buffers.now.entries) }
+    ensures one { IfSome result (λ k. IfSome (get_by (nat_cmp k) buffers.now)
+        (λ v. IsTrue (is_within start end (piece_of (λ v. v.items) (k, v))))) }
+    ensures there { IfSome result (λ k. IsSome (get_by (nat_cmp k) buffers.now)) }
+    ensures none { IfNone result (All (λ e. is_within start end (piece_of (λ v. v.items) e) ≡ false) buffers.now.entries) }
 {
-    buffers.partition_point(|b| b.start() <= start)
+    let (from, bytes) = buffers
+        .range((Bound::Excluded(start), Bound::Unbounded))
+        .next()?;
+    if *from <= end && bytes.len() as u64 <= end - *from {
+        return Some(*from);
+    }
+    None
 }

@@ -6,10 +6,10 @@ ghost use Rattle.std.specs.Option.{option_map};
 ghost use Rattle.elf_parts.specs.Number.{ok_map};
 ghost use Rattle.elf_parts.specs.Table.{table_view};
 ghost use Rattle.elf.specs.Answers.{dynamic, section_dynamic, segment_dynamic};
-ghost use Rattle.elf.specs.Asked.{dynamic_asked, headers_alone, if_there, section_asked, segment_asked};
+ghost use Rattle.elf.specs.Asked.{dynamic_asked, headers_alone, if_there, section_asked, section_dynamic_asked, segment_asked};
 ghost use Rattle.elf.specs.Choice.{first_section_of, first_segment_of, if_found};
 ghost use Rattle.elf.specs.Listed.{stream_file};
-ghost use Rattle.elf.specs.Stream.{AreHeld, Kind, Leaves, kind};
+ghost use Rattle.elf.specs.Stream.{AreHeld, Kind, kind};
 ghost use Rattle.elf.specs.inner.Loads.{AreLow, LoadsFor};
 
 use super::ElfStream;
@@ -24,14 +24,14 @@ use std::alloc::Allocator;
 
 impl<E: EndianParse, S: StreamSource, A: Allocator + Copy> ElfStream<E, S, A> {
     ghost use Rattle.std.specs.Borrow.{sem};
-    ghost use Rattle.std.specs.Io.BufRead.{Rests};
-    ghost use Rattle.elf.specs.contracts.elf_stream.ElfStream.{the_row};
+    ghost use Rattle.elf.specs.Lending.{Lends};
 
     // Loads the range of a section of dynamic entries.
     fn load_dynamic(&mut self, shdr: &SectionHeader) -> Result<(), ParseError>
-        ensures loads { LoadsFor (section_asked shdr.now)
+        ensures loads { LoadsFor (section_dynamic_asked (headers_alone E.little self.old) shdr.now)
             (λ bytes. section_dynamic (stream_file E.little self.old bytes) shdr.now) self.old self.new result }
         ensures sized { OnOk result (shdr.now.sh_entsize ≡ size_by dyn_layout self.old.ehdr.class) }
+        ensures loaded { OnOk result (AreLow (section_asked shdr.now) × AreHeld self.new (section_asked shdr.now)) }
     {
         Dyn::validate_entsize(self.ehdr.class, shdr.sh_entsize as usize)?;
         self.load_payload(shdr)
@@ -55,9 +55,9 @@ impl<E: EndianParse, S: StreamSource, A: Allocator + Copy> ElfStream<E, S, A> {
         &mut self,
         shdr: &SectionHeader,
     ) -> Result<Option<DynamicTable<'_, E>>, ParseError>
-        ensures* leaves { sem 𝓛 (Rests (the_row E.row S.row A.row (record { little = E.little; of_byte = E.of_byte }) (record { is_default = E.is_default }) (record { eq = E.eq }) S.StreamSource A.Allocator) self.entry
-            (λ new. Leaves (section_asked shdr.now) (option_map table_view)
-            (λ bytes. ok_map Some (section_dynamic (stream_file E.little self.old bytes) shdr.now)) self.old new result)) }
+        ensures* leaves { sem 𝓛 (Lends E.row S.row A.row E.EndianParse S.StreamSource A.Allocator self.entry
+            (λ file. section_dynamic_asked file shdr.now) (option_map table_view)
+            (λ file. ok_map Some (section_dynamic file shdr.now)) result) }
     {
         self.load_dynamic(shdr)?;
         self.lend_dynamic(shdr)
@@ -76,9 +76,9 @@ impl<E: EndianParse, S: StreamSource, A: Allocator + Copy> ElfStream<E, S, A> {
 
     // The dynamic entries of the first section of type `SHT_DYNAMIC`.
     fn first_section_dynamic(&mut self) -> Result<Option<DynamicTable<'_, E>>, ParseError>
-        ensures* leaves { sem 𝓛 (Rests (the_row E.row S.row A.row (record { little = E.little; of_byte = E.of_byte }) (record { is_default = E.is_default }) (record { eq = E.eq }) S.StreamSource A.Allocator) self.entry
-            (λ new. Leaves (if_there section_asked (first_section_of 6 self.old.sections)) (option_map table_view)
-            (λ bytes. if_found (section_dynamic (stream_file E.little self.old bytes)) (first_section_of 6 self.old.sections)) self.old new result)) }
+        ensures* leaves { sem 𝓛 (Lends E.row S.row A.row E.EndianParse S.StreamSource A.Allocator self.entry
+            (λ file. if_there (section_dynamic_asked file) (first_section_of 6 file.sections)) (option_map table_view)
+            (λ file. if_found (section_dynamic file) (first_section_of 6 file.sections)) result) }
     {
         let Some(shdr) = self.first_section_of(abi::SHT_DYNAMIC) else {
             return Ok(None);
@@ -88,9 +88,9 @@ impl<E: EndianParse, S: StreamSource, A: Allocator + Copy> ElfStream<E, S, A> {
 
     // The dynamic entries of the first segment of type `PT_DYNAMIC`.
     fn first_segment_dynamic(&mut self) -> Result<Option<DynamicTable<'_, E>>, ParseError>
-        ensures* leaves { sem 𝓛 (Rests (the_row E.row S.row A.row (record { little = E.little; of_byte = E.of_byte }) (record { is_default = E.is_default }) (record { eq = E.eq }) S.StreamSource A.Allocator) self.entry
-            (λ new. Leaves (if_there segment_asked (first_segment_of 2 self.old.segments)) (option_map table_view)
-            (λ bytes. if_found (segment_dynamic (stream_file E.little self.old bytes)) (first_segment_of 2 self.old.segments)) self.old new result)) }
+        ensures* leaves { sem 𝓛 (Lends E.row S.row A.row E.EndianParse S.StreamSource A.Allocator self.entry
+            (λ file. if_there segment_asked (first_segment_of 2 file.segments)) (option_map table_view)
+            (λ file. if_found (segment_dynamic file) (first_segment_of 2 file.segments)) result) }
     {
         let Some(phdr) = self.first_segment_of(abi::PT_DYNAMIC) else {
             return Ok(None);
@@ -104,9 +104,8 @@ impl<E: EndianParse, S: StreamSource, A: Allocator + Copy> ElfStream<E, S, A> {
     /// where the entry size that the section header gives is not that of an entry, and where the bytes
     /// are refused.
     pub fn dynamic(&mut self) -> Result<Option<DynamicTable<'_, E>>, ParseError>
-        ensures* leaves { sem 𝓛 (Rests (the_row E.row S.row A.row (record { little = E.little; of_byte = E.of_byte }) (record { is_default = E.is_default }) (record { eq = E.eq }) S.StreamSource A.Allocator) self.entry
-            (λ new. Leaves (dynamic_asked (headers_alone E.little self.old)) (option_map table_view)
-            (λ bytes. dynamic (stream_file E.little self.old bytes)) self.old new result)) }
+        ensures* leaves { sem 𝓛 (Lends E.row S.row A.row E.EndianParse S.StreamSource A.Allocator self.entry
+            dynamic_asked (option_map table_view) dynamic result) }
     {
         if self.declares_sections {
             self.first_section_dynamic()

@@ -8,7 +8,7 @@ ghost use Rattle.elf.specs.Choice.{first_section_of, first_segment_of};
 ghost use Rattle.elf.specs.Listed.{listed_at, stream_file};
 ghost use Rattle.elf.specs.Names.{headers_with_names, name_index, name_section};
 ghost use Rattle.elf.specs.Range.{section_range};
-ghost use Rattle.elf.specs.Stream.{AreHeld, Kind, Leaves, kind};
+ghost use Rattle.elf.specs.Stream.{AreHeld, Kind, kind};
 ghost use Rattle.elf.specs.inner.Loads.{AreLow};
 
 use super::ElfStream;
@@ -49,8 +49,7 @@ fn first_named_in<'a>(
 
 impl<E: EndianParse, S: StreamSource, A: Allocator + Copy> ElfStream<E, S, A> {
     ghost use Rattle.std.specs.Borrow.{sem};
-    ghost use Rattle.std.specs.Io.BufRead.{Rests};
-    ghost use Rattle.elf.specs.contracts.elf_stream.ElfStream.{the_row};
+    ghost use Rattle.elf.specs.Lending.{Lends};
     ghost use Rattle.elf.specs.StreamView.{listed_view};
 
     // A section header by its index.
@@ -129,9 +128,8 @@ impl<E: EndianParse, S: StreamSource, A: Allocator + Copy> ElfStream<E, S, A> {
     pub fn section_headers_with_strtab(
         &mut self,
     ) -> Result<(&Vec<SectionHeader, A>, Option<StringTable<'_>>), ParseError>
-        ensures* leaves { sem 𝓛 (Rests (the_row E.row S.row A.row (record { little = E.little; of_byte = E.of_byte }) (record { is_default = E.is_default }) (record { eq = E.eq }) S.StreamSource A.Allocator) self.entry
-            (λ new. Leaves (names_asked (headers_alone E.little self.old)) listed_view
-            (λ bytes. headers_with_names (stream_file E.little self.old bytes)) self.old new result)) }
+        ensures* leaves { sem 𝓛 (Lends E.row S.row A.row E.EndianParse S.StreamSource A.Allocator self.entry
+            names_asked listed_view headers_with_names result) }
     {
         let Some(names) = self.name_section()? else {
             return Ok(self.lend_unnamed());
@@ -161,9 +159,8 @@ impl<E: EndianParse, S: StreamSource, A: Allocator + Copy> ElfStream<E, S, A> {
         &mut self,
         name: &str,
     ) -> Result<Option<&SectionHeader>, ParseError>
-        ensures* leaves { sem 𝓛 (Rests (the_row E.row S.row A.row (record { little = E.little; of_byte = E.of_byte }) (record { is_default = E.is_default }) (record { eq = E.eq }) S.StreamSource A.Allocator) self.entry
-            (λ new. Leaves (names_asked (headers_alone E.little self.old)) option_copied
-            (λ bytes. section_header_by_name (stream_file E.little self.old bytes) name.now) self.old new result)) }
+        ensures* leaves { sem 𝓛 (Lends E.row S.row A.row E.EndianParse S.StreamSource A.Allocator self.entry
+            names_asked option_copied (λ file. section_header_by_name file name.now) result) }
     {
         let Some(names) = self.name_section()? else {
             return Ok(None);

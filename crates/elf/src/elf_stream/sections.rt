@@ -1,16 +1,16 @@
 //! Sections and segments: their bytes.
-ghost use Rattle.std.specs.Prelude.{◌≡◌, ◌<◌, ◌^◌, IfErr, IfOk, IfSome, Ok, OnOk, length};
+ghost use Rattle.std.specs.Prelude.{◌≡◌, ◌≤◌, ◌<◌, ◌^◌, IfErr, IfOk, IfSome, Ok, OnOk, length};
 ghost use Rattle.elf_parts.specs.Note.{notes_left};
 ghost use Rattle.elf_parts.specs.Number.{ok_map};
 ghost use Rattle.elf_parts.specs.StringTable.{strings_view};
 ghost use Rattle.elf_parts.specs.Table.{items_left, table_items};
 ghost use Rattle.elf.specs.Answers.{relas_left, rels_left, section_data, section_data_as_notes, section_data_as_relas, section_data_as_rels};
 ghost use Rattle.elf.specs.Answers.{section_data_as_strtab, segment_data, segment_data_as_notes};
-ghost use Rattle.elf.specs.Asked.{section_asked, segment_asked};
+ghost use Rattle.elf.specs.Asked.{section_asked, segment_asked, segment_notes_asked, typed_section_asked};
 ghost use Rattle.elf.specs.Listed.{stream_file};
 ghost use Rattle.elf.specs.ObjectFile.{table_of};
 ghost use Rattle.elf.specs.Payload.{content_of_type, payload, payload_view};
-ghost use Rattle.elf.specs.Stream.{AreHeld, Kind, Leaves, kind};
+ghost use Rattle.elf.specs.Stream.{AreHeld, Kind, kind};
 ghost use Rattle.elf.specs.inner.Loads.{AreLow, Loads, LoadsFor};
 
 use super::ElfStream;
@@ -29,8 +29,7 @@ use std::alloc::Allocator;
 
 impl<E: EndianParse, S: StreamSource, A: Allocator + Copy> ElfStream<E, S, A> {
     ghost use Rattle.std.specs.Borrow.{sem};
-    ghost use Rattle.std.specs.Io.BufRead.{Rests};
-    ghost use Rattle.elf.specs.contracts.elf_stream.ElfStream.{the_row};
+    ghost use Rattle.elf.specs.Lending.{Lends};
 
     // Loads the range of a section that has bytes.
     pub(super) fn load_payload(&mut self, shdr: &SectionHeader) -> Result<(), ParseError>
@@ -52,6 +51,7 @@ impl<E: EndianParse, S: StreamSource, A: Allocator + Copy> ElfStream<E, S, A> {
         requires held { AreHeld self.now (section_asked shdr.now) }
         ensures value { IfSome self.now.content (λ bytes.
             ok_map payload_view result ≡ payload (stream_file E.little self.now bytes) shdr.now) }
+        ensures within { IfOk result (λ found. IfSome self.now.content (λ bytes. length found.0.now ≤ length bytes)) }
         ensures plain { IfErr result (λ e. kind e ≡ Kind.Refusal) }
     {
         if shdr.sh_type == abi::SHT_NOBITS {
@@ -76,9 +76,8 @@ impl<E: EndianParse, S: StreamSource, A: Allocator + Copy> ElfStream<E, S, A> {
         &mut self,
         shdr: &SectionHeader,
     ) -> Result<(&[u8], Option<CompressionHeader>), ParseError>
-        ensures* leaves { sem 𝓛 (Rests (the_row E.row S.row A.row (record { little = E.little; of_byte = E.of_byte }) (record { is_default = E.is_default }) (record { eq = E.eq }) S.StreamSource A.Allocator) self.entry
-            (λ new. Leaves (section_asked shdr.now) payload_view
-            (λ bytes. section_data (stream_file E.little self.old bytes) shdr.now) self.old new result)) }
+        ensures* leaves { sem 𝓛 (Lends E.row S.row A.row E.EndianParse S.StreamSource A.Allocator self.entry
+            (λ _. section_asked shdr.now) payload_view (λ file. section_data file shdr.now) result) }
     {
         self.load_payload(shdr)?;
         self.lend_payload(shdr)
@@ -86,9 +85,10 @@ impl<E: EndianParse, S: StreamSource, A: Allocator + Copy> ElfStream<E, S, A> {
 
     // Loads the range of a section that has to be of a type.
     fn load_content(&mut self, shdr: &SectionHeader, sh_type: u32) -> Result<(), ParseError>
-        ensures loads { LoadsFor (section_asked shdr.now)
+        ensures loads { LoadsFor (typed_section_asked sh_type shdr.now)
             (λ bytes. content_of_type sh_type (stream_file E.little self.old bytes) shdr.now) self.old self.new result }
         ensures of_type { OnOk result (shdr.now.sh_type ≡ sh_type) }
+        ensures loaded { OnOk result (AreLow (section_asked shdr.now) × AreHeld self.new (section_asked shdr.now)) }
     {
         if shdr.sh_type != sh_type {
             return Err(ParseError::UnexpectedSectionType((shdr.sh_type, sh_type)));
@@ -103,6 +103,7 @@ impl<E: EndianParse, S: StreamSource, A: Allocator + Copy> ElfStream<E, S, A> {
         requires held { AreHeld self.now (section_asked shdr.now) }
         ensures value { IfSome self.now.content (λ bytes. ok_map (λ part. part.now) result
             ≡ content_of_type sh_type (stream_file E.little self.now bytes) shdr.now) }
+        ensures within { IfOk result (λ part. IfSome self.now.content (λ bytes. length part.now ≤ length bytes)) }
         ensures plain { IfErr result (λ e. kind e ≡ Kind.Refusal) }
     {
         let (bytes, _) = self.lend_payload(shdr)?;
@@ -128,9 +129,9 @@ impl<E: EndianParse, S: StreamSource, A: Allocator + Copy> ElfStream<E, S, A> {
         &mut self,
         shdr: &SectionHeader,
     ) -> Result<StringTable<'_>, ParseError>
-        ensures* leaves { sem 𝓛 (Rests (the_row E.row S.row A.row (record { little = E.little; of_byte = E.of_byte }) (record { is_default = E.is_default }) (record { eq = E.eq }) S.StreamSource A.Allocator) self.entry
-            (λ new. Leaves (section_asked shdr.now) strings_view
-            (λ bytes. section_data_as_strtab (stream_file E.little self.old bytes) shdr.now) self.old new result)) }
+        ensures* leaves { sem 𝓛 (Lends E.row S.row A.row E.EndianParse S.StreamSource A.Allocator self.entry
+            (λ _. typed_section_asked 3 shdr.now) strings_view
+            (λ file. section_data_as_strtab file shdr.now) result) }
     {
         self.load_content(shdr, abi::SHT_STRTAB)?;
         self.lend_strtab(shdr)
@@ -149,6 +150,8 @@ impl<E: EndianParse, S: StreamSource, A: Allocator + Copy> ElfStream<E, S, A> {
             ≡ ok_map (λ part. table_items P.size P.record_at (table_of (stream_file E.little self.now bytes) part))
             (content_of_type sh_type (stream_file E.little self.now bytes) shdr.now)) }
         ensures plain { IfErr result (λ e. kind e ≡ Kind.Refusal) }
+        ensures few { IfOk result (λ records.
+            IfSome self.now.content (λ bytes. length (items_left P.size P.record_at records) ≤ length bytes)) }
         ensures bound { IfOk result (λ records. length (items_left P.size P.record_at records) < 2 ^ 64) }
     {
         let bytes = self.lend_content(shdr, sh_type)?;
@@ -161,9 +164,9 @@ impl<E: EndianParse, S: StreamSource, A: Allocator + Copy> ElfStream<E, S, A> {
         &mut self,
         shdr: &SectionHeader,
     ) -> Result<RelIterator<'_, E>, ParseError>
-        ensures* leaves { sem 𝓛 (Rests (the_row E.row S.row A.row (record { little = E.little; of_byte = E.of_byte }) (record { is_default = E.is_default }) (record { eq = E.eq }) S.StreamSource A.Allocator) self.entry
-            (λ new. Leaves (section_asked shdr.now) rels_left
-            (λ bytes. section_data_as_rels (stream_file E.little self.old bytes) shdr.now) self.old new result)) }
+        ensures* leaves { sem 𝓛 (Lends E.row S.row A.row E.EndianParse S.StreamSource A.Allocator self.entry
+            (λ _. typed_section_asked 9 shdr.now) rels_left (λ file. section_data_as_rels file shdr.now) result) }
+        ensures few { IfOk result (λ rels. IfSome self.old.content (λ bytes. length (rels_left rels) ≤ length bytes)) }
         ensures bound { IfOk result (λ rels. length (rels_left rels) < 2 ^ 64) }
     {
         self.load_content(shdr, abi::SHT_REL)?;
@@ -176,9 +179,9 @@ impl<E: EndianParse, S: StreamSource, A: Allocator + Copy> ElfStream<E, S, A> {
         &mut self,
         shdr: &SectionHeader,
     ) -> Result<RelaIterator<'_, E>, ParseError>
-        ensures* leaves { sem 𝓛 (Rests (the_row E.row S.row A.row (record { little = E.little; of_byte = E.of_byte }) (record { is_default = E.is_default }) (record { eq = E.eq }) S.StreamSource A.Allocator) self.entry
-            (λ new. Leaves (section_asked shdr.now) relas_left
-            (λ bytes. section_data_as_relas (stream_file E.little self.old bytes) shdr.now) self.old new result)) }
+        ensures* leaves { sem 𝓛 (Lends E.row S.row A.row E.EndianParse S.StreamSource A.Allocator self.entry
+            (λ _. typed_section_asked 4 shdr.now) relas_left (λ file. section_data_as_relas file shdr.now) result) }
+        ensures few { IfOk result (λ relas. IfSome self.old.content (λ bytes. length (relas_left relas) ≤ length bytes)) }
         ensures bound { IfOk result (λ relas. length (relas_left relas) < 2 ^ 64) }
     {
         self.load_content(shdr, abi::SHT_RELA)?;
@@ -193,6 +196,7 @@ impl<E: EndianParse, S: StreamSource, A: Allocator + Copy> ElfStream<E, S, A> {
         ensures value { IfSome self.now.content (λ bytes.
             ok_map notes_left result ≡ section_data_as_notes (stream_file E.little self.now bytes) shdr.now) }
         ensures plain { IfErr result (λ e. kind e ≡ Kind.Refusal) }
+        ensures few { IfOk result (λ notes. IfSome self.now.content (λ bytes. length (notes_left notes) ≤ length bytes)) }
         ensures bound { IfOk result (λ notes. length (notes_left notes) < 2 ^ 64) }
     {
         let bytes = self.lend_content(shdr, abi::SHT_NOTE)?;
@@ -210,9 +214,9 @@ impl<E: EndianParse, S: StreamSource, A: Allocator + Copy> ElfStream<E, S, A> {
         &mut self,
         shdr: &SectionHeader,
     ) -> Result<NoteIterator<'_, E>, ParseError>
-        ensures* leaves { sem 𝓛 (Rests (the_row E.row S.row A.row (record { little = E.little; of_byte = E.of_byte }) (record { is_default = E.is_default }) (record { eq = E.eq }) S.StreamSource A.Allocator) self.entry
-            (λ new. Leaves (section_asked shdr.now) notes_left
-            (λ bytes. section_data_as_notes (stream_file E.little self.old bytes) shdr.now) self.old new result)) }
+        ensures* leaves { sem 𝓛 (Lends E.row S.row A.row E.EndianParse S.StreamSource A.Allocator self.entry
+            (λ _. typed_section_asked 7 shdr.now) notes_left (λ file. section_data_as_notes file shdr.now) result) }
+        ensures few { IfOk result (λ notes. IfSome self.old.content (λ bytes. length (notes_left notes) ≤ length bytes)) }
         ensures bound { IfOk result (λ notes. length (notes_left notes) < 2 ^ 64) }
     {
         self.load_content(shdr, abi::SHT_NOTE)?;
@@ -223,7 +227,8 @@ impl<E: EndianParse, S: StreamSource, A: Allocator + Copy> ElfStream<E, S, A> {
     pub(super) fn lend_segment(&self, phdr: &ProgramHeader) -> &[u8]
         requires low { AreLow (segment_asked phdr.now) }
         requires held { AreHeld self.now (segment_asked phdr.now) }
-        ensures { IfSome self.now.content (λ bytes.
+        ensures within { IfSome self.now.content (λ bytes. length result.now ≤ length bytes) }
+        ensures value { IfSome self.now.content (λ bytes.
             segment_data (stream_file E.little self.now bytes) phdr.now ≡ Ok result.now) }
     {
         self.held_bytes(phdr.p_offset, phdr.p_filesz)
@@ -231,9 +236,8 @@ impl<E: EndianParse, S: StreamSource, A: Allocator + Copy> ElfStream<E, S, A> {
 
     /// The bytes of a segment in the file. Refuses where its range does not lie in the file.
     pub fn segment_data(&mut self, phdr: &ProgramHeader) -> Result<&[u8], ParseError>
-        ensures* leaves { sem 𝓛 (Rests (the_row E.row S.row A.row (record { little = E.little; of_byte = E.of_byte }) (record { is_default = E.is_default }) (record { eq = E.eq }) S.StreamSource A.Allocator) self.entry
-            (λ new. Leaves (segment_asked phdr.now) (λ part. part.now)
-            (λ bytes. segment_data (stream_file E.little self.old bytes) phdr.now) self.old new result)) }
+        ensures* leaves { sem 𝓛 (Lends E.row S.row A.row E.EndianParse S.StreamSource A.Allocator self.entry
+            (λ _. segment_asked phdr.now) (λ part. part.now) (λ file. segment_data file phdr.now) result) }
     {
         self.load_segment(phdr)?;
         Ok(self.lend_segment(phdr))
@@ -246,6 +250,7 @@ impl<E: EndianParse, S: StreamSource, A: Allocator + Copy> ElfStream<E, S, A> {
         requires held { AreHeld self.now (segment_asked phdr.now) }
         ensures value { IfSome self.now.content (λ bytes.
             segment_data_as_notes (stream_file E.little self.now bytes) phdr.now ≡ Ok (notes_left result)) }
+        ensures few { IfSome self.now.content (λ bytes. length (notes_left result) ≤ length bytes) }
         ensures bound { length (notes_left result) < 2 ^ 64 }
     {
         let bytes = self.lend_segment(phdr);
@@ -263,9 +268,9 @@ impl<E: EndianParse, S: StreamSource, A: Allocator + Copy> ElfStream<E, S, A> {
         &mut self,
         phdr: &ProgramHeader,
     ) -> Result<NoteIterator<'_, E>, ParseError>
-        ensures* leaves { sem 𝓛 (Rests (the_row E.row S.row A.row (record { little = E.little; of_byte = E.of_byte }) (record { is_default = E.is_default }) (record { eq = E.eq }) S.StreamSource A.Allocator) self.entry
-            (λ new. Leaves (segment_asked phdr.now) notes_left
-            (λ bytes. segment_data_as_notes (stream_file E.little self.old bytes) phdr.now) self.old new result)) }
+        ensures* leaves { sem 𝓛 (Lends E.row S.row A.row E.EndianParse S.StreamSource A.Allocator self.entry
+            (λ _. segment_notes_asked phdr.now) notes_left (λ file. segment_data_as_notes file phdr.now) result) }
+        ensures few { IfOk result (λ notes. IfSome self.old.content (λ bytes. length (notes_left notes) ≤ length bytes)) }
         ensures bound { IfOk result (λ notes. length (notes_left notes) < 2 ^ 64) }
     {
         if phdr.p_type != abi::PT_NOTE {

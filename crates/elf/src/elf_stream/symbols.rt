@@ -5,7 +5,7 @@ ghost use Rattle.elf_parts.specs.Number.{ok_map};
 ghost use Rattle.elf.specs.Answers.{dynamic_symbol_table, first_symbols, symbol_sections, symbol_table, symbols_in, symbols_view};
 ghost use Rattle.elf.specs.Asked.{both_sections, headers_alone, symbols_asked};
 ghost use Rattle.elf.specs.Listed.{stream_file};
-ghost use Rattle.elf.specs.Stream.{AreHeld, Kind, Leaves, kind};
+ghost use Rattle.elf.specs.Stream.{AreHeld, Kind, kind};
 ghost use Rattle.elf.specs.inner.Loads.{AreLow, Loads};
 
 use super::ElfStream;
@@ -20,8 +20,7 @@ use std::alloc::Allocator;
 
 impl<E: EndianParse, S: StreamSource, A: Allocator + Copy> ElfStream<E, S, A> {
     ghost use Rattle.std.specs.Borrow.{sem};
-    ghost use Rattle.std.specs.Io.BufRead.{Rests};
-    ghost use Rattle.elf.specs.contracts.elf_stream.ElfStream.{the_row};
+    ghost use Rattle.elf.specs.Lending.{Lends};
 
     // The first section of a type of symbols, with the section that it links to.
     fn symbol_sections(
@@ -75,9 +74,8 @@ impl<E: EndianParse, S: StreamSource, A: Allocator + Copy> ElfStream<E, S, A> {
         &mut self,
         sh_type: u32,
     ) -> Result<Option<(SymbolTable<'_, E>, StringTable<'_>)>, ParseError>
-        ensures* leaves { sem 𝓛 (Rests (the_row E.row S.row A.row (record { little = E.little; of_byte = E.of_byte }) (record { is_default = E.is_default }) (record { eq = E.eq }) S.StreamSource A.Allocator) self.entry
-            (λ new. Leaves (symbols_asked sh_type (headers_alone E.little self.old)) (option_map symbols_view)
-            (λ bytes. first_symbols sh_type (stream_file E.little self.old bytes)) self.old new result)) }
+        ensures* leaves { sem 𝓛 (Lends E.row S.row A.row E.EndianParse S.StreamSource A.Allocator self.entry
+            (symbols_asked sh_type) (option_map symbols_view) (first_symbols sh_type) result) }
     {
         let Some((shdr, linked)) = self.symbol_sections(sh_type)? else {
             return Ok(None);
@@ -92,9 +90,8 @@ impl<E: EndianParse, S: StreamSource, A: Allocator + Copy> ElfStream<E, S, A> {
     pub fn symbol_table(
         &mut self,
     ) -> Result<Option<(SymbolTable<'_, E>, StringTable<'_>)>, ParseError>
-        ensures* leaves { sem 𝓛 (Rests (the_row E.row S.row A.row (record { little = E.little; of_byte = E.of_byte }) (record { is_default = E.is_default }) (record { eq = E.eq }) S.StreamSource A.Allocator) self.entry
-            (λ new. Leaves (symbols_asked 2 (headers_alone E.little self.old)) (option_map symbols_view)
-            (λ bytes. symbol_table (stream_file E.little self.old bytes)) self.old new result)) }
+        ensures* leaves { sem 𝓛 (Lends E.row S.row A.row E.EndianParse S.StreamSource A.Allocator self.entry
+            (symbols_asked 2) (option_map symbols_view) symbol_table result) }
     {
         self.first_symbols(abi::SHT_SYMTAB)
     }
@@ -104,9 +101,8 @@ impl<E: EndianParse, S: StreamSource, A: Allocator + Copy> ElfStream<E, S, A> {
     pub fn dynamic_symbol_table(
         &mut self,
     ) -> Result<Option<(SymbolTable<'_, E>, StringTable<'_>)>, ParseError>
-        ensures* leaves { sem 𝓛 (Rests (the_row E.row S.row A.row (record { little = E.little; of_byte = E.of_byte }) (record { is_default = E.is_default }) (record { eq = E.eq }) S.StreamSource A.Allocator) self.entry
-            (λ new. Leaves (symbols_asked 11 (headers_alone E.little self.old)) (option_map symbols_view)
-            (λ bytes. dynamic_symbol_table (stream_file E.little self.old bytes)) self.old new result)) }
+        ensures* leaves { sem 𝓛 (Lends E.row S.row A.row E.EndianParse S.StreamSource A.Allocator self.entry
+            (symbols_asked 11) (option_map symbols_view) dynamic_symbol_table result) }
     {
         self.first_symbols(abi::SHT_DYNSYM)
     }

@@ -7,7 +7,7 @@ ghost use Rattle.elf.specs.Answers.{symbol_version_table};
 ghost use Rattle.elf.specs.Asked.{both_sections, headers_alone, if_there, plan_asked, version_plan, versions_asked, whole_section, with_link};
 ghost use Rattle.elf.specs.Choice.{if_found};
 ghost use Rattle.elf.specs.Listed.{stream_file};
-ghost use Rattle.elf.specs.Stream.{AreHeld, Kind, Leaves, kind};
+ghost use Rattle.elf.specs.Stream.{AreHeld, Kind, kind};
 ghost use Rattle.elf.specs.Versions.{version_sections};
 ghost use Rattle.elf.specs.inner.Loads.{AreLow, Loads};
 ghost use Rattle.elf.specs.inner.Plans.{definitions_by, needs_by, planned_versions, versions_by};
@@ -52,8 +52,7 @@ fn version_sections_in(shdrs: &[SectionHeader]) -> VersionSections
 
 impl<E: EndianParse, S: StreamSource, A: Allocator + Copy> ElfStream<E, S, A> {
     ghost use Rattle.std.specs.Borrow.{sem};
-    ghost use Rattle.std.specs.Io.BufRead.{Rests};
-    ghost use Rattle.elf.specs.contracts.elf_stream.ElfStream.{the_row};
+    ghost use Rattle.elf.specs.Lending.{Lends};
 
     // A section with the one that it links to, where there is one.
     fn link_if(&self, shdr: Option<SectionHeader>) -> Result<Option<Linked>, ParseError>
@@ -167,9 +166,8 @@ impl<E: EndianParse, S: StreamSource, A: Allocator + Copy> ElfStream<E, S, A> {
 
     // The versions of the sections that are chosen, if any are.
     fn planned_versions(&mut self) -> Result<Option<SymbolVersionTable<'_, E>>, ParseError>
-        ensures* leaves { sem 𝓛 (Rests (the_row E.row S.row A.row (record { little = E.little; of_byte = E.of_byte }) (record { is_default = E.is_default }) (record { eq = E.eq }) S.StreamSource A.Allocator) self.entry
-            (λ new. Leaves (versions_asked (headers_alone E.little self.old)) (option_map versions_view)
-            (λ bytes. planned_versions (stream_file E.little self.old bytes)) self.old new result)) }
+        ensures* leaves { sem 𝓛 (Lends E.row S.row A.row E.EndianParse S.StreamSource A.Allocator self.entry
+            versions_asked (option_map versions_view) planned_versions result) }
     {
         let Some(plan) = self.version_plan()? else {
             return Ok(None);
@@ -183,9 +181,8 @@ impl<E: EndianParse, S: StreamSource, A: Allocator + Copy> ElfStream<E, S, A> {
     /// section by which all three were seen. Refuses where the entry size of the indexes is not 2, where
     /// one of the ranges does not lie in the file, and where a section that is linked to cannot be had.
     pub fn symbol_version_table(&mut self) -> Result<Option<SymbolVersionTable<'_, E>>, ParseError>
-        ensures* leaves { sem 𝓛 (Rests (the_row E.row S.row A.row (record { little = E.little; of_byte = E.of_byte }) (record { is_default = E.is_default }) (record { eq = E.eq }) S.StreamSource A.Allocator) self.entry
-            (λ new. Leaves (versions_asked (headers_alone E.little self.old)) (option_map versions_view)
-            (λ bytes. symbol_version_table (stream_file E.little self.old bytes)) self.old new result)) }
+        ensures* leaves { sem 𝓛 (Lends E.row S.row A.row E.EndianParse S.StreamSource A.Allocator self.entry
+            versions_asked (option_map versions_view) symbol_version_table result) }
     {
         self.planned_versions()
     }

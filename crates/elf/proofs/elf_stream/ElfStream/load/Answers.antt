@@ -1,6 +1,7 @@
 use Rattle.std.proofs.Common.{rules, ◌∙◌, ap, arith, length, ◌≡◌, ◌<◌, ◌+◌, ◌-◌, refl}
 use Rattle.std.specs.Prelude.{◌^◌}
-use Rattle.elf.proofs.stream.Loads.{refused_past_64, refused_past, load_answered, refused_for, sound_put, held_put, loaded_put}
+use Rattle.elf.proofs.stream.Loads.{refused_past_64, refused_past, load_answered, needed_there, refused_for}
+use Rattle.elf.proofs.stream.Kept.{sound_put, held_put, loaded_put}
 use Rattle.elf.proofs.stream.Pieces.{sound_held}
 use Rattle.elf.proofs.elf_stream.ElfStream.load.Goals as goal
 
@@ -9,18 +10,20 @@ returns-in_default-clause-answer g c = refused_past_64 _ c.args.start c.args.siz
 
 pub returns-then-holds-clause-answer : goal.returns-then-holds-clause-answer
 returns-then-holds-clause-answer g c =
-    rw (← c.self.view_is) (sound_held _ c.self.inside.len c.self.inside.cache c.args.start c.args.size _ c.self.invariant (omega (arith, c.in-Some.ensures)) (search rules))
+    rw (← c.self.view_is) (sound_held _ c.self.inside.len c.self.inside.cache c.args.start c.args.size _ c.self.invariant.sound (omega (arith, c.in-Some.ensures)) (search rules))
 
 pub returns-then-end-self-clause-answer : goal.returns-then-end-self-clause-answer
 returns-then-end-self-clause-answer g c =
-    rw (← c.self.view_is) (refused_past _ c.self.inside.len c.args.start c.args.size _ c.self.invariant.len (omega (arith, c.in-Some.ensures)))
+    rw (← c.self.view_is) (refused_past _ c.self.inside.len c.args.start c.args.size _ c.self.invariant.sound.len (omega (arith, c.in-Some.ensures)))
 
 pub invariant_of-self-2 : goal.invariant_of-self-2
 invariant_of-self-2 g c =
-    rw c.fetch.ensures.content
-    (sound_put _ c.self.inside.len c.self.inside.cache c.put.new.self c.args.start c.in-Some.end c.new.result c.put.result c.self.invariant c.put.ensures.put c.put.ensures.refused
-    (omega (arith, c.in-Some.ensures)) c.if-end-self.false c.new.ensures.start
-    (ap length c.new.ensures.bytes ∙ c.in_ok-bytes.ensures.len) (rw c.new.ensures.bytes c.in_ok-bytes.ensures.bytes))
+    rw c.fetch.ensures.content record {
+      sound = sound_put _ c.self.inside.len c.self.inside.cache c.put.new.self c.args.start c.in-Some.end (record { start = c.args.start; bytes = c.in_ok-bytes.bytes.items }) c.put.result c.self.invariant.sound c.put.ensures.put c.put.ensures.refused
+          (omega (arith, c.in-Some.ensures)) c.if-end-self.false refl
+          c.in_ok-bytes.ensures.len c.in_ok-bytes.ensures.bytes;
+      tables = c.self.invariant.tables;
+    }
 
 pub returns-clause-keeps : goal.returns-clause-keeps
 returns-clause-keeps g c =
@@ -31,19 +34,28 @@ returns-clause-keeps g c =
       declares_sections = refl;
       sections = refl;
       segments = refl;
-      held = held_put c.self.inside.cache c.put.new.self c.new.result c.put.result c.put.ensures.put c.put.ensures.refused;
+      held = held_put c.self.inside.cache c.put.new.self (record { start = c.args.start; bytes = c.in_ok-bytes.bytes.items }) c.put.result c.put.ensures.put c.put.ensures.refused;
     }
 
 pub returns-clause-loaded : goal.returns-clause-loaded
 returns-clause-loaded g c =
     let end : c.in-Some.end ≡ c.args.start + c.args.size = omega (arith, c.in-Some.ensures) in
     let low : c.args.start + c.args.size < 2 ^ 64 = omega (arith, c.in-Some.ensures) in
-    let long : length c.new.result.bytes ≡ c.in-Some.end - c.args.start = ap length c.new.ensures.bytes ∙ c.in_ok-bytes.ensures.len in
-    let start = c.new.ensures.start in
-    loaded_put c.self.inside.cache c.put.new.self c.new.result c.args.start (c.args.start + c.args.size) c.put.result low c.put.ensures.put start (omega arith)
+    let long : length c.in_ok-bytes.bytes.items ≡ c.in-Some.end - c.args.start = c.in_ok-bytes.ensures.len in
+    loaded_put c.self.inside.cache c.put.new.self (record { start = c.args.start; bytes = c.in_ok-bytes.bytes.items }) c.args.start (c.args.start + c.args.size) c.put.result low c.put.ensures.put refl (omega arith)
 
 pub returns-clause-answer : goal.returns-clause-answer
 returns-clause-answer g c =
     let low : c.args.start + c.args.size < 2 ^ 64 = omega (arith, c.in-Some.ensures) in
     rw (← c.self.view_is)
-    (load_answered _ c.self.inside.len c.args.start c.args.size _ _ _ c.put.result c.self.invariant.len low (omega (arith, c.in-Some.ensures)) c.in_ok-bytes.ensures.reason (refused_for _ c.put.result c.put.ensures.refused))
+    (load_answered _ c.self.inside.len c.args.start c.args.size _ _ _ c.put.result c.self.invariant.sound.len low (omega (arith, c.in-Some.ensures)) c.in_ok-bytes.ensures.reason (refused_for _ c.put.result c.put.ensures.refused))
+
+pub returns-in_err-bytes-clause-needed : goal.returns-in_err-bytes-clause-needed
+returns-in_err-bytes-clause-needed g c =
+    rw (← c.self.view_is)
+    (needed_there _ c.self.inside.len c.args.start c.args.size _ c.self.invariant.sound.len (omega (arith, c.in-Some.ensures)) (omega (arith, c.in-Some.ensures)))
+
+pub returns-clause-needed : goal.returns-clause-needed
+returns-clause-needed g c =
+    rw (← c.self.view_is)
+    (needed_there _ c.self.inside.len c.args.start c.args.size _ c.self.invariant.sound.len (omega (arith, c.in-Some.ensures)) (omega (arith, c.in-Some.ensures)))

@@ -1,5 +1,6 @@
 use Rattle.std.proofs.Common.{refl, sym, ◌∙◌}
 use Rattle.elfshow.proofs.StreamRuns.{segment_refused}
+use Rattle.elf.specs.Asked.{segment_asked}
 use Rattle.elfshow.specs.Asked.{Seg}
 use Rattle.elf.specs.Answers.{segment_data}
 use Rattle.elfshow.specs.lines.Data.{segment_data_line}
@@ -7,5 +8,5 @@ use Rattle.elfshow.proofs.calls.stream.write_seg.Goals as goal
 
 pub returns-in-Err : goal.returns-in-Err
 returns-in-Err g c =
-    segment_refused g.E.EndianParse.little (Seg c.args.index) c.args.stream.now c.segment_data.follows.lender-at-none (λ part. part.now) segment_data_line c.args.index c.in-Some.segment segment_data c.segment_data.result c.in-Err.error _
+    segment_refused g.E.EndianParse.little (Seg c.args.index) c.args.stream.now c.segment_data.follows.lender-at-none (λ part. part.now) segment_data_line segment_asked c.args.index c.in-Some.segment segment_data c.segment_data.result c.in-Err.error _
     (λ bytes. refl) (λ bytes ready. (ready.1, ready.2)) (sym c.program_header.ensures ∙ c.in-Some.is) c.segment_data.follows.holds-at-none c.in-Err.is

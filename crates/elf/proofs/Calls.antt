@@ -1,0 +1,93 @@
+-- Calls of a stream, one after the other, answer as those of `ElfBytes`.
+use Rattle.std.proofs.Common.{◌≡◌, ℕ, Bool, List, [], ◌∷◌, refl, sym, ap, ◌∙◌, subst, Option, Some, None, IfSome}
+use Rattle.std.specs.Prelude.{Result, Ok, Err, IsErr, All}
+use Rattle.std.specs.Result.{result_ok}
+use Rattle.std.proofs.lemmas.List.Elements.{All-cons, All-nil}
+use Rattle.elf_parts.specs.Number.{ok_map}
+use Rattle.elf_parts.specs.declared.file.FileHeader.{FileHeader}
+use Rattle.elf_parts.specs.declared.parse.ParseError.{ParseError}
+use Rattle.elf_parts.specs.declared.section.SectionHeader.{SectionHeader}
+use Rattle.elf.specs.Calls.{AreMade, Call, IsAnsweredAlike, IsSame, Method, answer, asked}
+use Rattle.elf.specs.Calls.{Dynamic, DynamicSymbolTable, SectionData, SectionDataAsNotes, SectionDataAsRelas, SectionDataAsRels, SectionDataAsStrtab, SectionHeaderByName, SectionHeadersWithStrtab, SegmentData, SegmentDataAsNotes, SymbolTable, SymbolVersionTable}
+use Rattle.elf.specs.Asked.{headers_alone}
+use Rattle.elf.specs.Listed.{stream_file}
+use Rattle.elf.specs.Names.{name_table}
+use Rattle.elf.specs.ObjectFile.{ObjectFile, object_file}
+use Rattle.elf.specs.Same.{AreAlike, SameAnswers}
+use Rattle.elf.specs.Opening.{opened}
+use Rattle.elf.specs.Stream.{Headers, IsAnswer, IsOfFile, IsRefused, Keeps, Kind, Leaves, Seen, headers_of, kind, shown_headers}
+use Rattle.elf.specs.View.{View, with_header}
+
+names_alike : {A : Type 0} (one other : List SectionHeader) (x y : Result A ParseError) → one ≡ other → AreAlike x y → AreAlike {A = List SectionHeader × A} (ok_map (λ names. (one, names)) x) (ok_map (λ names. (other, names)) y)
+names_alike one other (Ok a) (Ok b) same alike = let there : a ≡ b = cc alike in rw (same, there) refl
+names_alike one other (Ok a) (Err e) same alike = cc
+names_alike one other (Err d) (Ok b) same alike = cc
+names_alike one other (Err d) (Err e) same alike = refl
+
+-- each method answers alike
+alike : (one other : ObjectFile) → SameAnswers one other → (m : Method) → AreAlike (answer m one) (answer m other)
+alike one other same SectionHeadersWithStrtab = names_alike one.sections other.sections (name_table one) (name_table other) same.section_headers same.section_names
+alike one other same (SectionHeaderByName name) = same.section_header_by_name name
+alike one other same (SectionData s) = same.section_data s
+alike one other same (SectionDataAsStrtab s) = same.section_data_as_strtab s
+alike one other same (SectionDataAsRels s) = same.section_data_as_rels s
+alike one other same (SectionDataAsRelas s) = same.section_data_as_relas s
+alike one other same (SectionDataAsNotes s) = same.section_data_as_notes s
+alike one other same (SegmentData p) = same.segment_data p
+alike one other same (SegmentDataAsNotes p) = same.segment_data_as_notes p
+alike one other same SymbolTable = same.symbol_table
+alike one other same DynamicSymbolTable = same.dynamic_symbol_table
+alike one other same Dynamic = same.dynamic
+alike one other same SymbolVersionTable = same.symbol_version_table
+
+value_alike : {A : Type 0} (one other : Result A ParseError) (x : A) → AreAlike one other → other ≡ Ok x → one ≡ Ok x
+value_alike (Ok a) (Ok b) x same h = cc
+value_alike (Ok a) (Err e) x same h = cc
+value_alike (Err d) (Ok b) x same h = cc
+value_alike (Err d) (Err e) x same h = cc
+
+refused_alike : {A : Type 0} (one other : Result A ParseError) → AreAlike one other → IsErr other → IsErr one
+refused_alike (Ok a) (Ok b) same h = cc
+refused_alike (Ok a) (Err e) same h = cc
+refused_alike (Err d) (Ok b) same h = cc
+refused_alike (Err d) (Err e) same h = refl
+
+refusal : (k : Kind) (before now : ℕ) (can_fail : Bool) (P : Type 0) → IsRefused before now can_fail P k → k ≡ Kind.Refusal → P
+refusal Kind.Failure before now can_fail P h is = cc
+refusal Kind.Want before now can_fail P h is = cc
+refusal Kind.Refusal before now can_fail P h is = h.1
+
+one_call : {A : Type 0} (one other : Result A ParseError) (can_fail : Bool) (before now : ℕ) (r : Result A ParseError) → AreAlike one other → IsAnswer (λ x. x) other can_fail before now r → IsSame one r
+one_call one other can_fail before now (Ok x) same h = value_alike one other x same h.1
+one_call one other can_fail before now (Err e) same h = λ is. refused_alike one other same (refusal (kind e) before now can_fail (IsErr other) h is)
+
+told : (bytes : List ℕ) (content : Option (List ℕ)) (P : List ℕ → Type 0) → content ≡ Some bytes → IfSome content P → P bytes
+told bytes content P is h = subst (λ content. IfSome content P) is h
+
+-- the headers stay, and another one may be put in
+put_in : {E : Type 0} (v : View E) (s : Seen E) (h : FileHeader E) → shown_headers s ≡ headers_of (with_header v s.ehdr) → shown_headers (record s { ehdr = h }) ≡ headers_of (with_header v h)
+put_in v s h same = ap (λ (headers : Headers _). record headers { ehdr = h }) same
+
+stay : {E : Type 0} (v : View E) (old new : Seen E) → Keeps old new → shown_headers old ≡ headers_of (with_header v old.ehdr) → shown_headers new ≡ headers_of (with_header v new.ehdr)
+stay v old new keeps same = rw (keeps.ehdr, keeps.declares_sections, keeps.sections, keeps.segments) same
+
+module _ {E : Type 0} (little : E → Bool) (bytes : List ℕ) (v : View E)
+    (law : (header : FileHeader E) (s : Seen E) → shown_headers s ≡ headers_of (with_header v header) → SameAnswers (object_file little (with_header v header)) (stream_file little s bytes)) where
+  pub calls_alike : (s : Seen E) (calls : List (Call E)) → s.content ≡ Some bytes → shown_headers s ≡ headers_of (with_header v s.ehdr) → AreMade little s calls → All (IsAnsweredAlike little v) calls
+  calls_alike s [] content headers made = All-nil (IsAnsweredAlike little v)
+  calls_alike s (call ∷ calls) content headers made =
+      let old : Seen E = record s { ehdr = call.header } in
+      let leaves : Leaves (asked call.method (headers_alone little old)) (λ x. x) (λ bytes. answer call.method (stream_file little old bytes)) old call.new call.result = made.0 in
+      let now : shown_headers old ≡ headers_of (with_header v old.ehdr) = put_in v s call.header headers in
+      All-cons (IsAnsweredAlike little v) call calls
+      (one_call (answer call.method (object_file little (with_header v call.header))) (answer call.method (stream_file little old bytes)) old.can_fail old.faults call.new.faults call.result
+      (alike (object_file little (with_header v call.header)) (stream_file little old bytes) (law call.header old now) call.method)
+      (told bytes old.content (λ bytes. IsAnswer (λ x. x) (answer call.method (stream_file little old bytes)) old.can_fail old.faults call.new.faults call.result) content leaves.answers))
+      (calls_alike call.new calls (leaves.keeps.content ∙ content) (stay v old call.new leaves.keeps now) made.1)
+
+pub stream_alike : {E : Type 0} (little : E → Bool) (of_byte : ℕ → Option E) (s : Seen E) (told : Option (List ℕ))
+    → ((bytes : List ℕ) (v : View E) (header : FileHeader E) (s : Seen E) → opened little of_byte bytes ≡ Ok v → shown_headers s ≡ headers_of (with_header v header) → SameAnswers (object_file little (with_header v header)) (stream_file little s bytes))
+    → IfSome told (λ bytes. IsOfFile little of_byte bytes s)
+    → IfSome told (λ bytes. (v : View E) × (opened little of_byte bytes ≡ Ok v) × SameAnswers (object_file little (with_header v s.ehdr)) (stream_file little s bytes))
+stream_alike little of_byte s None law h = tt
+stream_alike little of_byte s (Some bytes) law h = (h.0, h.1, law bytes h.0 s.ehdr s h.1 h.2)

@@ -1,0 +1,109 @@
+-- Calls of an `ElfStream` one after the other, with headers put into `ehdr` between them, and what `ElfBytes` answers to
+-- the same calls with the same headers.
+use Rattle.std.specs.Prelude.{◌≡◌, ℕ, Bool, List, [], ◌∷◌, Option, Result, Ok, Err, IsErr}
+use Rattle.elf_parts.specs.Note.{NoteContent}
+use Rattle.elf_parts.specs.Symver.{Versions}
+use Rattle.elf_parts.specs.Table.{Table}
+use Rattle.elf_parts.specs.declared.compression.CompressionHeader.{CompressionHeader}
+use Rattle.elf_parts.specs.declared.file.FileHeader.{FileHeader}
+use Rattle.elf_parts.specs.declared.parse.ParseError.{ParseError}
+use Rattle.elf_parts.specs.declared.relocation.Rel.{Rel}
+use Rattle.elf_parts.specs.declared.relocation.Rela.{Rela}
+use Rattle.elf_parts.specs.declared.section.SectionHeader.{SectionHeader}
+use Rattle.elf_parts.specs.declared.segment.ProgramHeader.{ProgramHeader}
+use Rattle.elf.specs.Answers as methods
+use Rattle.elf.specs.Asked.{dynamic_asked, headers_alone, names_asked, section_asked, segment_asked, segment_notes_asked, symbols_asked, typed_section_asked, versions_asked}
+use Rattle.elf.specs.Listed.{stream_file}
+use Rattle.elf.specs.Names.{headers_with_names}
+use Rattle.elf.specs.ObjectFile.{ObjectFile, object_file}
+use Rattle.elf.specs.Stream.{Kind, Leaves, Seen, kind}
+use Rattle.elf.specs.View.{View, with_header}
+
+-- a method that both readers have, with its arguments
+pub data Method : Type 0 where
+  SectionHeadersWithStrtab : Method
+  SectionHeaderByName : List ℕ → Method
+  SectionData : SectionHeader → Method
+  SectionDataAsStrtab : SectionHeader → Method
+  SectionDataAsRels : SectionHeader → Method
+  SectionDataAsRelas : SectionHeader → Method
+  SectionDataAsNotes : SectionHeader → Method
+  SegmentData : ProgramHeader → Method
+  SegmentDataAsNotes : ProgramHeader → Method
+  SymbolTable : Method
+  DynamicSymbolTable : Method
+  Dynamic : Method
+  SymbolVersionTable : Method
+
+-- what its result shows
+abbrev pub Shown : Method → Type 0
+Shown SectionHeadersWithStrtab = List SectionHeader × Option (List ℕ)
+Shown (SectionHeaderByName name) = Option SectionHeader
+Shown (SectionData s) = List ℕ × Option CompressionHeader
+Shown (SectionDataAsStrtab s) = List ℕ
+Shown (SectionDataAsRels s) = List Rel
+Shown (SectionDataAsRelas s) = List Rela
+Shown (SectionDataAsNotes s) = List NoteContent
+Shown (SegmentData p) = List ℕ
+Shown (SegmentDataAsNotes p) = List NoteContent
+Shown SymbolTable = Option (Table × List ℕ)
+Shown DynamicSymbolTable = Option (Table × List ℕ)
+Shown Dynamic = Option Table
+Shown SymbolVersionTable = Option Versions
+
+-- its answer about an object file
+abbrev pub answer : (m : Method) → ObjectFile → Result (Shown m) ParseError
+answer SectionHeadersWithStrtab file = headers_with_names file
+answer (SectionHeaderByName name) file = methods.section_header_by_name file name
+answer (SectionData s) file = methods.section_data file s
+answer (SectionDataAsStrtab s) file = methods.section_data_as_strtab file s
+answer (SectionDataAsRels s) file = methods.section_data_as_rels file s
+answer (SectionDataAsRelas s) file = methods.section_data_as_relas file s
+answer (SectionDataAsNotes s) file = methods.section_data_as_notes file s
+answer (SegmentData p) file = methods.segment_data file p
+answer (SegmentDataAsNotes p) file = methods.segment_data_as_notes file p
+answer SymbolTable file = methods.symbol_table file
+answer DynamicSymbolTable file = methods.dynamic_symbol_table file
+answer Dynamic file = methods.dynamic file
+answer SymbolVersionTable file = methods.symbol_version_table file
+
+-- the ranges that a stream is asked for
+abbrev pub asked : Method → ObjectFile → List (ℕ × ℕ)
+asked SectionHeadersWithStrtab file = names_asked file
+asked (SectionHeaderByName name) file = names_asked file
+asked (SectionData s) file = section_asked s
+asked (SectionDataAsStrtab s) file = typed_section_asked 3 s
+asked (SectionDataAsRels s) file = typed_section_asked 9 s
+asked (SectionDataAsRelas s) file = typed_section_asked 4 s
+asked (SectionDataAsNotes s) file = typed_section_asked 7 s
+asked (SegmentData p) file = segment_asked p
+asked (SegmentDataAsNotes p) file = segment_notes_asked p
+asked SymbolTable file = symbols_asked 2 file
+asked DynamicSymbolTable file = symbols_asked 11 file
+asked Dynamic file = dynamic_asked file
+asked SymbolVersionTable file = versions_asked file
+
+-- a call of a stream: the header that stands in it, the method, what its result shows, and the stream afterwards
+pub record Call (E : Type 0) : Type 0 where
+  pub header : FileHeader E
+  pub method : Method
+  pub result : Result (Shown method) ParseError
+  pub new : Seen E
+
+-- the calls are made one after the other, each with its header put into `ehdr`, and each does what its contract says
+abbrev pub AreMade : {E : Type 0} → (E → Bool) → Seen E → List (Call E) → Type 0
+AreMade little s [] = Unit {0}
+AreMade little s (call ∷ calls) =
+    let old = record s { ehdr = call.header } in
+    Leaves (asked call.method (headers_alone little old)) (λ x. x)
+    (λ bytes. answer call.method (stream_file little old bytes)) old call.new call.result
+    × AreMade little call.new calls
+
+-- the same value; or where the content is refused the other refuses too, and else the source failed or memory was refused
+abbrev pub IsSame : {A : Type 0} → Result A ParseError → Result A ParseError → Type 0
+IsSame other (Ok x) = other ≡ Ok x
+IsSame other (Err e) = kind e ≡ Kind.Refusal → IsErr other
+
+-- what `ElfBytes` answers to the call, over the file that was opened, with the header of the call
+abbrev pub IsAnsweredAlike : {E : Type 0} → (E → Bool) → View E → Call E → Type 0
+IsAnsweredAlike little v call = IsSame (answer call.method (object_file little (with_header v call.header))) call.result
