@@ -84,7 +84,7 @@ pub fn changed_file(rt: &HostRuntime, file: &str) -> Result<Vec<u8>, RowError> {
 }
 
 /// Changes the bytes of a file as the words say: `46=29ff` writes bytes from place 46 on, `cut=100` leaves the first
-/// 100 bytes alone, and `more=00ff` puts bytes behind the file.
+/// 100 bytes alone, `more=00ff` puts bytes behind the file, and `pad=100` puts zeros behind it until it has 100 bytes.
 fn change(data: &mut Vec<u8>, alloc: Global, edit: &str) -> Result<(), RowError> {
     let (place, bytes) = edit
         .split_once('=')
@@ -92,6 +92,7 @@ fn change(data: &mut Vec<u8>, alloc: Global, edit: &str) -> Result<(), RowError>
     match place {
         "cut" => data.truncate(number(bytes)?),
         "more" => push_bytes(data, bytes)?,
+        "pad" => data.resize(number::<usize>(bytes)?.max(data.len()), 0)?,
         _ => {
             let mut new = Vec::new(alloc);
             push_bytes(&mut new, bytes)?;
