@@ -2,7 +2,7 @@
 use crate::files::HEADER_ALONE;
 use crate::memory::all_memory;
 use crate::texts::{HEADER_LINE, USAGE_LINE};
-use crate::writers::{Counting, Line, Narrow};
+use crate::writers::{Counting, Faulty, Line, Narrow};
 use elfshow::calls::Call;
 use elfshow::show::{
     RequestError, answer, parse_words, show, tell_request_error, tell_stopped, tell_usage,
@@ -109,6 +109,15 @@ fn nothing_is_written_without_memory(rt: HostRuntime) -> Result<(), AllocError> 
         &mut out,
         &mut err,
     );
+    let wrong = [
+        &["other", "F", "header"][..],
+        &["bytes", "F"],
+        &["bytes", "F", "header", "other"],
+    ];
+    for words in wrong {
+        let refused = parse_words(alloc, words).err();
+        assert!(rt; refused == Some(RequestError::Usage));
+    }
     drop(blocks);
     assert!(rt; status == 1 && out.writes == 0);
     let want = "elfshow: stopped after 0 calls: Out of memory\n";
@@ -141,4 +150,16 @@ fn messages_stand_alone(rt: HostRuntime) {
     let stopped = err.strip_prefix(USAGE_LINE.as_bytes());
     let want = b"elfshow: stopped after 7 calls: no more\n";
     assert!(rt; stopped == Some(want.as_slice()));
+}
+
+#[test]
+fn a_failed_flush_is_told_in_each_mode(rt: HostRuntime) {
+    for mode in ["bytes", "stream", "both"] {
+        let mut out = Faulty::at_flush(rt.alloc());
+        let mut err = Vec::new(rt.alloc());
+        let words = [mode, "F", "header", "sections"];
+        let status = show(rt.alloc(), &words, &HEADER_ALONE, &mut out, &mut err);
+        assert!(rt; status == 1, "{mode}");
+        assert!(rt; err.starts_with(b"elfshow: stopped after 0 calls: "), "{mode}");
+    }
 }

@@ -1,7 +1,7 @@
 //! Runs over streams whose source fails, and to writers that fail.
 use crate::files::{HASHED, TWO_SECTIONS};
 use crate::sources::Halting;
-use crate::writers::Narrow;
+use crate::writers::{Faulty, Narrow};
 use elf::endian::AnyEndian;
 use elf::{ElfStream, MemSource, ParseError};
 use elfshow::calls::{Call, RunError, run_bytes, run_stream};
@@ -94,6 +94,10 @@ fn a_full_writer_stops_the_run(rt: HostRuntime) -> Result<(), Fail> {
     let mut out = Narrow::new(alloc, first.len(), 4096);
     let stopped = run_stream(&mut stream, &calls, &mut out);
     assert!(rt; matches!(stopped, Err(RunError::Write { done: 1, .. })));
+    assert!(rt; out.held.as_slice() == first.as_slice());
+    let mut out = Faulty::at_flush(alloc);
+    let stopped = run_stream(&mut stream, &calls, &mut out);
+    assert!(rt; matches!(stopped, Err(RunError::Write { done: 0, .. })));
     assert!(rt; out.held.as_slice() == first.as_slice());
     Ok(())
 }

@@ -63,17 +63,29 @@ told_accepted : {E Y : Type 0} (T U : Type 0) (told : Option (List ℕ)) (old : 
 told_accepted T U None old ranges hand answer e h at_hand = tt
 told_accepted T U (Some bytes) old ranges hand answer e h at_hand = λ ready. let p = at_hand bytes ready in h p.1 p.0
 
+-- what a call leaves behind another one, whose ranges may have been loaded before
+pub record LeavesBehind {E T Y : Type 0} (asked : List (ℕ × ℕ)) (shown : T → Y) (answer : List ℕ → Result Y ParseError) (old new : Seen E) (r : Result T ParseError) : Type 0 where
+  pub keeps : Keeps old new
+  pub answers : IfSome old.content (λ bytes. IsAnswer shown (answer bytes) old.can_fail old.faults new.faults r)
+  pub accepted : IfSome old.content (λ bytes. IsOk (answer bytes) → AreHeld old asked → IsOk r)
+
 module _ {E : Type 0} (little : E → Bool) (call : Asked) (old new : Seen E) where
-  pub call_refused : {T Y X : Type 0} (asked : List (ℕ × ℕ)) (shown : T → Y) (answer : List ℕ → Result Y ParseError) (whole : Result T ParseError) (e : ParseError) (before : Option (List ℕ))
+  pub behind_refused : {T Y X : Type 0} (asked : List (ℕ × ℕ)) (shown : T → Y) (answer : List ℕ → Result Y ParseError) (whole : Result T ParseError) (e : ParseError) (before : Option (List ℕ))
       → ((bytes : List ℕ) → IsErr (answer bytes) → call_text (stream_answers little old bytes) call ≡ refused_line) → ((bytes : List ℕ) → IsAtHand little old bytes call → AreHeld old asked × IsOk (answer bytes))
-      → Leaves asked shown answer old new whole → whole ≡ Err e → TriedCall {X = X} little call old new before before (Err e)
-  call_refused {T} {Y} {X} asked shown answer whole e before text hand leaves is =
-      let refused : Leaves asked shown answer old new (Err e) = subst (λ w. Leaves asked shown answer old new w) is leaves in
+      → LeavesBehind asked shown answer old new whole → whole ≡ Err e → TriedCall {X = X} little call old new before before (Err e)
+  behind_refused {T} {Y} {X} asked shown answer whole e before text hand leaves is =
+      let refused : LeavesBehind asked shown answer old new (Err e) = subst (λ w. LeavesBehind asked shown answer old new w) is leaves in
       record {
         keeps = refused.keeps;
         tried = told_tried X old.content shown answer (λ bytes. call_text (stream_answers little old bytes) call) before old.faults new.faults old.can_fail e refused.answers text;
         accepted = told_accepted T (Result (Unit {0}) X) old.content old asked (λ bytes. IsAtHand little old bytes call) answer e refused.accepted hand;
       }
+
+  pub call_refused : {T Y X : Type 0} (asked : List (ℕ × ℕ)) (shown : T → Y) (answer : List ℕ → Result Y ParseError) (whole : Result T ParseError) (e : ParseError) (before : Option (List ℕ))
+      → ((bytes : List ℕ) → IsErr (answer bytes) → call_text (stream_answers little old bytes) call ≡ refused_line) → ((bytes : List ℕ) → IsAtHand little old bytes call → AreHeld old asked × IsOk (answer bytes))
+      → Leaves asked shown answer old new whole → whole ≡ Err e → TriedCall {X = X} little call old new before before (Err e)
+  call_refused asked shown answer whole e before text hand leaves is =
+      behind_refused asked shown answer whole e before text hand (record { keeps = leaves.keeps; answers = leaves.answers; accepted = leaves.accepted }) is
 
 pub refused_text : {A : Type 0} (line : A → List ℕ) (r : Result A ParseError) → IsErr r → unless_refused line r ≡ refused_line
 refused_text line (Ok x) h = cc
@@ -279,16 +291,12 @@ later_accepted little old middle asked answer r (Some bytes) keeps h = λ ok hel
     h (subst (λ file. IsOk (answer file)) (sym (same_file little old middle bytes keeps)) ok)
     (subst (λ file. AreHeld middle (asked file)) (sym (same_file little old middle [] keeps)) (still_held old middle (asked (headers_alone little old)) keeps held))
 
-later_loaded : {E T : Type 0} (new : Seen E) (rs qs : List (ℕ × ℕ)) (r : Result T ParseError) → rs ≡ qs → OnOk r (AreHeld new rs) → OnOk r (AreHeld new qs)
-later_loaded new rs qs r same h = subst (λ ranges. OnOk r (AreHeld new ranges)) same h
-
 pub leaves_later : {E T Y : Type 0} (little : E → Bool) (old middle new : Seen E) (asked : ObjectFile → List (ℕ × ℕ)) (shown : T → Y) (answer : ObjectFile → Result Y ParseError) (r : Result T ParseError) → Keeps old middle → IfSome old.content (λ _. middle.faults ≡ old.faults)
-    → Leaves (asked (headers_alone little middle)) shown (λ bytes. answer (stream_file little middle bytes)) middle new r → Leaves (asked (headers_alone little old)) shown (λ bytes. answer (stream_file little old bytes)) old new r
+    → Leaves (asked (headers_alone little middle)) shown (λ bytes. answer (stream_file little middle bytes)) middle new r → LeavesBehind (asked (headers_alone little old)) shown (λ bytes. answer (stream_file little old bytes)) old new r
 leaves_later {E} {T} {Y} little old middle new asked shown answer r keeps same h =
     let given = gives_later little old middle new shown answer r keeps same (gives_of middle new (asked (headers_alone little middle)) shown (λ bytes. answer (stream_file little middle bytes)) r h) in
     record {
       keeps = given.keeps;
-      loaded = later_loaded new (asked (headers_alone little middle)) (asked (headers_alone little old)) r (ap asked (same_file little old middle [] keeps)) h.loaded;
       answers = given.answers;
       accepted = later_accepted little old middle asked answer r old.content keeps
           (subst (λ told. IfSome told (λ bytes. IsOk (answer (stream_file little middle bytes)) → AreHeld middle (asked (headers_alone little middle)) → IsOk r)) keeps.content h.accepted);
@@ -320,6 +328,8 @@ leaves_made {E} {T} {Y} {U} {Z} old new asked shown answer shows made whole e sa
       loaded = tt;
       answers = made_answers old.content shown answer shows made old.faults new.faults old.can_fail e same refused.answers;
       accepted = made_accepted T U old.content old asked answer made e same refused.accepted;
+      untouched = refused.untouched;
+      needed = refused.needed;
     }
 
 pub gives_made : {E T Y U Z : Type 0} (old new : Seen E) (shown : T → Y) (answer : List ℕ → Result Y ParseError) (shows : U → Z) (made : List ℕ → Result Z ParseError) (whole : Result T ParseError) (e : ParseError) → ((bytes : List ℕ) → is_ok (made bytes) ≡ is_ok (answer bytes))

@@ -1,5 +1,5 @@
 //! The program without its surroundings: what it does with the words of its command line.
-ghost use Rattle.std.specs.Prelude.{◌≡◌, ◌≤◌, IsErr, IsNone, IfOk, IfSome, IsOkAnd, IsSomeAnd, OnOk, Some, map};
+ghost use Rattle.std.specs.Prelude.{◌≡◌, ◌≤◌, IsErr, IsNone, IsSome, is_some, IfOk, IfSome, IsOkAnd, IsSomeAnd, OnOk, Some, map};
 ghost use Rattle.std.specs.Io.KnownBytes.{Appends};
 ghost use Rattle.elf_parts.specs.Endian.{any_is_little, any_of_byte};
 ghost use Rattle.elf.specs.Opening.{opened};
@@ -58,11 +58,13 @@ impl<T: Drop> From<AllocFailed<T>> for RequestError {
     }
 }
 
-/// What the words ask for: a mode, a file and at least one call.
+/// What the words ask for: a mode, a file and at least one call. The words are judged without memory, which
+/// only the list of the calls takes.
 pub fn parse_words<'a>(alloc: Global, words: &[&'a str]) -> Result<Request<'a>, RequestError>
     ensures ok { IfOk result (λ request. request_of words.now
         ≡ Some (request.mode, request.file.now, map asked request.calls.items)) }
     ensures usage { result ≡ Err RequestError.Usage → IsNone (request_of words.now) }
+    ensures memory { result ≡ Err RequestError.OutOfMemory → IsSome (request_of words.now) }
 {
     let [mode, file, rest @ ..] = words else {
         return Err(RequestError::Usage);
@@ -95,13 +97,29 @@ fn parse_mode(word: &str) -> Option<Mode>
 fn parse_calls<'a>(alloc: Global, words: &[&'a str]) -> Result<Vec<Call<'a>>, RequestError>
     ensures ok { IfOk result (λ calls. calls_of words.now ≡ Some (map asked calls.items)) }
     ensures usage { result ≡ Err RequestError.Usage → IsNone (calls_of words.now) }
+    ensures memory { result ≡ Err RequestError.OutOfMemory → IsSome (calls_of words.now) }
 {
+    if !are_calls(words) {
+        return Err(RequestError::Usage);
+    }
     let mut calls = Vec::new(alloc);
     for word in words {
         let call = parse_call(*word).ok_or(RequestError::Usage)?;
         calls.push(call)?;
     }
     Ok(calls)
+}
+
+// Whether each word spells a call.
+fn are_calls(words: &[&str]) -> bool
+    ensures { result ≡ is_some (calls_of words.now) }
+{
+    for word in words {
+        if parse_call(*word).is_none() {
+            return false;
+        }
+    }
+    true
 }
 
 /// Does what the program does with these words, the arguments behind its name, where the file that they
@@ -119,6 +137,7 @@ pub fn show<W: Write, V: Write>(
         Appends (W.contents out.old) (W.contents out.new)
         (shown_by request.0 (text (answers_of any_is_little file) request.2)))) }
     ensures usage { result ≡ 2 → IsNone (request_of words.now) }
+    ensures told { IsNone (request_of words.now) → result ≡ 2 }
     ensures no_request { IsNone (request_of words.now) → out.new ≡ out.old }
     ensures refused { IsErr (opened any_is_little any_of_byte «data».now) → out.new ≡ out.old }
     ensures status { result ≤ 2 }
@@ -249,10 +268,11 @@ fn write_both<W: Write>(one: &[u8], other: &[u8], out: &mut W) -> io::Result<()>
 {
     out.write_all(one)?;
     if one == other {
-        writeln!(out, "readers agree")
+        writeln!(out, "readers agree")?;
     } else {
-        writeln!(out, "readers differ")
+        writeln!(out, "readers differ")?;
     }
+    out.flush()
 }
 
 // Tells why a run stopped, and answers the exit status.

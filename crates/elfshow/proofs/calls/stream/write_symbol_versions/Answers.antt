@@ -8,9 +8,10 @@ use Rattle.elf_parts.specs.Number.{ok_map}
 use Rattle.elf_parts.specs.Symver.{versions_view}
 use Rattle.elfshow.specs.Asked.{Versions}
 use Rattle.elfshow.specs.BytesAnswers.{symbols_with_names}
+use Rattle.elfshow.specs.inner.RunSteps.{Gives}
 use Rattle.elfshow.specs.Text.{symbol_count, unless_none, unless_refused}
 use Rattle.elfshow.specs.lines.Versions.{versions_listed}
-use Rattle.elfshow.proofs.StreamRuns.{both_refused, both_told, call_refused, call_written, gives_answer, gives_of, gives_same, held_back, held_front, inner_refused, leaves_later, outer_ok, refused_text}
+use Rattle.elfshow.proofs.StreamRuns.{behind_refused, both_refused, both_told, call_refused, call_written, gives_answer, gives_of, gives_same, held_back, held_front, inner_refused, leaves_later, outer_ok, refused_text}
 use Rattle.elfshow.proofs.calls.stream.write_symbol_versions.Goals as goal
 
 pub returns-in-Err : goal.returns-in-Err
@@ -36,7 +37,7 @@ returns-in-Err-symbol_version_table g c =
     let counted = gives_of old middle (symbols_asked 11 (headers_alone little old)) (λ count. count) (λ bytes. ok_map symbol_count (symbols bytes)) c.dynamic_symbol_count.result c.dynamic_symbol_count.ensures in
     let same = gives_same old middle (λ count. count) (λ bytes. ok_map symbol_count (symbols bytes)) c.dynamic_symbol_count.result c.in-Ok.symbols c.in-Ok.is counted in
     let leaves = leaves_later little old middle new versions_asked (option_map versions_view) symbol_version_table c.symbol_version_table.result c.dynamic_symbol_count.ensures.keeps same c.symbol_version_table.follows.holds-at-none in
-    call_refused little Versions old new (versions_asked (headers_alone little old)) (option_map versions_view) (λ bytes. symbol_version_table (file bytes)) c.symbol_version_table.result c.in-Err-symbol_version_table.error _
+    behind_refused little Versions old new (versions_asked (headers_alone little old)) (option_map versions_view) (λ bytes. symbol_version_table (file bytes)) c.symbol_version_table.result c.in-Err-symbol_version_table.error _
     (λ bytes refused. both_refused (λ found. unless_none (versions_listed (symbol_count found))) (symbols bytes) (symbol_version_table (file bytes)) refused)
     (λ bytes ready. (held_back old (symbols_asked 11 (headers_alone little old)) (versions_asked (headers_alone little old)) ready.1, ready.2.1))
     leaves c.in-Err-symbol_version_table.is
@@ -55,7 +56,7 @@ returns-in-Ok-Some g c =
     let number = gives_answer old middle (λ count. count) (λ bytes. ok_map symbol_count (symbols bytes)) c.dynamic_symbol_count.result c.in-Ok.symbols c.in-Ok.is counted in
     let leaves = leaves_later little old middle new versions_asked (option_map versions_view) symbol_version_table c.symbol_version_table.result c.dynamic_symbol_count.ensures.keeps same c.symbol_version_table.follows.holds-at-none in
     let found : c.symbol_version_table.result ≡ Ok (Some c.in-Ok-Some.versions) = cc (c.in-Ok-Some.is, c.in-Ok-Some.field-0-is) in
-    let given = gives_of old new (versions_asked (headers_alone little old)) (option_map versions_view) versions c.symbol_version_table.result leaves in
+    let given : Gives (option_map versions_view) versions old new c.symbol_version_table.result = record { keeps = leaves.keeps; answers = leaves.answers } in
     call_written little Versions old new (option_map versions_view) versions c.symbol_version_table.result (Some c.in-Ok-Some.versions) (versions_listed c.in-Ok.symbols (versions_view c.in-Ok-Some.versions)) _ _ c.write_versions.result
     (IfSome_then old.content number (λ bytes count answer. both_told symbol_count (λ n. unless_none (versions_listed n)) (symbols bytes) (versions bytes) c.in-Ok.symbols (Some (versions_view c.in-Ok-Some.versions)) count answer))
     given found c.write_versions.ensures
