@@ -1,3 +1,4 @@
+pub mod Clones
 pub mod Number
 pub mod Record
 pub mod Endian

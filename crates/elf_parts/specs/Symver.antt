@@ -175,6 +175,10 @@ ver_need_view item = (item.0, ver_need_aux_left item.1)
 abbrev pub ver_def_aux_left : {E : Type 0} → VerDefAuxIterator E → List VerDefAux
 ver_def_aux_left s = ver_def_aux_records (links_view s.links) s.links.count s.links.offset
 
+-- the bytes that an iterator over the names of a version reads
+abbrev pub ver_def_aux_table : {E : Type 0} → VerDefAuxIterator E → Table
+ver_def_aux_table s = links_view s.links
+
 abbrev pub ver_defs_left : {E : Type 0} → VerDefIterator E → List (VerDef × List VerDefAux)
 ver_defs_left s = ver_defs (links_view s.links) s.links.count s.links.offset
 

@@ -2,7 +2,8 @@
 //! it defines, and the version of each symbol.
 ghost use Rattle.std.specs.Prelude.{◌≡◌, ◌==◌, ◌<◌, ◌≤◌, ◌^◌, ℕ, length};
 ghost use Rattle.std.specs.Iterator.{YieldsFirst, YieldsFirstBy, item_count};
-ghost use Rattle.elf_parts.specs.Symver.{ver_def_aux_left, ver_def_aux_records, ver_def_view, ver_defs, ver_defs_left};
+ghost use Rattle.elf_parts.specs.Symver.{ver_def_aux_left, ver_def_aux_records, ver_def_aux_table, ver_def_view, ver_defs};
+ghost use Rattle.elf_parts.specs.Symver.{ver_defs_left};
 ghost use Rattle.elf_parts.specs.Symver.{ver_need_aux_left, ver_need_aux_records, ver_need_view, ver_needs};
 ghost use Rattle.elf_parts.specs.Symver.{ver_needs_left};
 ghost use Rattle.elf_parts.specs.Symver.{version_index, version_is_hidden};
@@ -362,6 +363,7 @@ impl<'data, E: EndianParse> VerDefAuxIterator<'data, E> {
     ) -> Self
         ensures items { ver_def_aux_left result
             ≡ ver_def_aux_records (table_in (E.little endian) class «data».now) count starting_offset }
+        ensures view { ver_def_aux_table result ≡ table_in (E.little endian) class «data».now }
         ensures few { length (ver_def_aux_left result) ≤ length «data».now }
         ensures most { length (ver_def_aux_left result) ≤ count }
     {

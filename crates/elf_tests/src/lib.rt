@@ -4,6 +4,8 @@
 #[cfg(test)]
 mod abi_values;
 #[cfg(test)]
+mod clones;
+#[cfg(test)]
 mod faults;
 #[cfg(test)]
 mod files;

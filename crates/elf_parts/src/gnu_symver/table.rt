@@ -1,12 +1,13 @@
 //! The versions of the symbols of a file.
-ghost use Rattle.std.specs.Prelude.{◌≡◌, ◌==◌, ◌<◌, ◌^◌, length, map};
+ghost use Rattle.std.specs.Prelude.{◌≡◌, ◌==◌, ◌<◌, ◌≤◌, ◌^◌, length, map};
 ghost use Rattle.std.specs.Iterator.{item_count};
 ghost use Rattle.std.specs.Option.{option_map};
 ghost use Rattle.elf_parts.specs.Number.{ok_map};
 ghost use Rattle.elf_parts.specs.StringTable.{strings_view};
 ghost use Rattle.elf_parts.specs.Symver.{defined_version, definition, definition_by, definition_view, definitions_view};
 ghost use Rattle.elf_parts.specs.Symver.{names_left, needed_version, needs_view, raw_names, requirement, requirement_by};
-ghost use Rattle.elf_parts.specs.Symver.{ver_def_aux_left, ver_def_view, ver_defs_left, ver_need_aux_left};
+ghost use Rattle.elf_parts.specs.Symver.{ver_def_aux_left, ver_def_aux_table, ver_def_view, ver_defs_left};
+ghost use Rattle.elf_parts.specs.Symver.{ver_need_aux_left};
 ghost use Rattle.elf_parts.specs.Symver.{ver_needs_left, version_with, versions_view};
 ghost use Rattle.elf_parts.specs.Symver.{GivesRequirement, GivesTexts, HasFewNames, YieldsName};
 ghost use Rattle.elf_parts.specs.Table.{table_view};
@@ -46,9 +47,12 @@ pub struct SymbolNamesIterator<'data, E: EndianParse> {
 }
 
 impl<'data, E: EndianParse> SymbolNamesIterator<'data, E> {
-    /// The names that these records name in these strings.
+    /// The names that these records name in these strings: no more than the records' data has bytes.
+    #[tactic(auto, using(crate::proofs::Versions::names_few, crate::proofs::Versions::names_counted))]
     pub fn new(records: VerDefAuxIterator<'data, E>, strings: &'data StringTable<'data>) -> Self
-        ensures { names_left result ≡ raw_names (strings_view strings.now) (ver_def_aux_left records.entry) }
+        ensures items { names_left result ≡ raw_names (strings_view strings.now) (ver_def_aux_left records.entry) }
+        ensures few { length (names_left result) ≤ length (ver_def_aux_table records.entry).bytes }
+        ensures bound { length (names_left result) < 2 ^ 64 }
     {
         SymbolNamesIterator { records, strings }
     }

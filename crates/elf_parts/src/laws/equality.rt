@@ -3,8 +3,9 @@ ghost use Rattle.std.specs.Prelude.{◌≡◌, ◌↔◌, IsTrue};
 
 use crate::compression::CompressionHeader;
 use crate::dynamic::Dyn;
-use crate::endian::EndianParse;
-use crate::file::FileHeader;
+use crate::endian::{AnyEndian, BigEndian, EndianParse, LittleEndian};
+use crate::file::{Class, FileHeader};
+use crate::hash::{GnuHashHeader, SysVHashHeader};
 use crate::relocation::{Rel, Rela};
 use crate::section::SectionHeader;
 use crate::segment::ProgramHeader;
@@ -50,4 +51,26 @@ pub fn equal_dynamic_entries(a: &Dyn, b: &Dyn)
 /// Two compression headers are equal exactly where all their fields are.
 pub fn equal_compression_headers(a: &CompressionHeader, b: &CompressionHeader)
     ensures { IsTrue (⟦<CompressionHeader as PartialEq>⟧.eq a.now b.now) ↔ (a.now ≡ b.now) }
+{}
+
+/// Two headers of SysV hash sections are equal exactly where all their fields are.
+pub fn equal_sysv_hash_headers(a: &SysVHashHeader, b: &SysVHashHeader)
+    ensures { IsTrue (⟦<SysVHashHeader as PartialEq>⟧.eq a.now b.now) ↔ (a.now ≡ b.now) }
+{}
+
+/// Two headers of GNU hash sections are equal exactly where all their fields are.
+pub fn equal_gnu_hash_headers(a: &GnuHashHeader, b: &GnuHashHeader)
+    ensures { IsTrue (⟦<GnuHashHeader as PartialEq>⟧.eq a.now b.now) ↔ (a.now ≡ b.now) }
+{}
+
+/// A class is equal to itself alone.
+pub fn equal_classes(a: Class, b: Class)
+    ensures { IsTrue (⟦<Class as PartialEq>⟧.eq a b) ↔ (a ≡ b) }
+{}
+
+/// An order is equal to itself alone.
+pub fn equal_orders(a: AnyEndian, b: AnyEndian)
+    ensures either { IsTrue (⟦<AnyEndian as PartialEq>⟧.eq a b) ↔ (a ≡ b) }
+    ensures little { (x y : LittleEndian) → IsTrue (⟦<LittleEndian as PartialEq>⟧.eq x y) }
+    ensures big { (x y : BigEndian) → IsTrue (⟦<BigEndian as PartialEq>⟧.eq x y) }
 {}

@@ -1,11 +1,11 @@
 //! Laws of notes.
 ghost use Rattle.std.specs.Prelude.{◌≡◌, ◌↔◌, ◌<◌, IsTrue};
 ghost use Rattle.std.specs.Int.{next_multiple_of};
-ghost use Rattle.elf_parts.specs.Note.{note_links, AreAllNotes, IsLeastMultiple};
+ghost use Rattle.elf_parts.specs.Note.{note_links, note_view, AreAllNotes, IsLeastMultiple};
 
 use crate::endian::EndianParse;
 use crate::laws::tables::PlainRecord;
-use crate::note::NoteGnuAbiTag;
+use crate::note::{Note, NoteAny, NoteGnuAbiTag, NoteGnuBuildId};
 
 /// The notes of some bytes are the longest list of notes each of which begins where the one before it says.
 pub fn notes_are_the_longest_list<E: EndianParse>(endian: E, align: usize, data: &[u8])
@@ -27,4 +27,21 @@ impl PlainRecord for NoteGnuAbiTag {
 /// Two ABI tags are equal exactly where all their fields are.
 pub fn equal_abi_tags(a: &NoteGnuAbiTag, b: &NoteGnuAbiTag)
     ensures { IsTrue (⟦<NoteGnuAbiTag as PartialEq>⟧.eq a.now b.now) ↔ (a.now ≡ b.now) }
+{}
+
+/// Two build ids are equal exactly where they have the same bytes.
+pub fn equal_build_ids(a: &NoteGnuBuildId<'_>, b: &NoteGnuBuildId<'_>)
+    ensures { IsTrue (⟦<NoteGnuBuildId<'static> as PartialEq>⟧.eq a.now b.now) ↔ (a.now.0.now ≡ b.now.0.now) }
+{}
+
+/// Two other notes are equal exactly where their types are, and the bytes of their names and descriptors.
+pub fn equal_other_notes(a: &NoteAny<'_>, b: &NoteAny<'_>)
+    ensures { IsTrue (⟦<NoteAny<'static> as PartialEq>⟧.eq a.now b.now)
+        ↔ ((a.now.n_type ≡ b.now.n_type) × (a.now.name.now ≡ b.now.name.now) × (a.now.desc.now ≡ b.now.desc.now)) }
+{}
+
+/// Two notes are equal exactly where they say the same: the same tag, the same build id, or the same type, name
+/// and descriptor.
+pub fn equal_notes(a: &Note<'_>, b: &Note<'_>)
+    ensures { IsTrue (⟦<Note<'static> as PartialEq>⟧.eq a.now b.now) ↔ (note_view a.now ≡ note_view b.now) }
 {}

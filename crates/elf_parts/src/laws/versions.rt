@@ -7,7 +7,7 @@ ghost use Rattle.elf_parts.specs.Table.{table_in};
 use crate::endian::EndianParse;
 use crate::file::Class;
 use crate::gnu_symver::links::Linked;
-use crate::gnu_symver::{VerDef, VerDefAux, VerNeed, VerNeedAux, VersionIndex};
+use crate::gnu_symver::{SymbolRequirement, VerDef, VerDefAux, VerNeed, VerNeedAux, VersionIndex};
 use crate::laws::tables::PlainRecord;
 
 /// The records that a version iterator goes over are the longest list of records that are linked, and no
@@ -90,4 +90,11 @@ pub fn equal_ver_def_auxs(a: &VerDefAux, b: &VerDefAux)
 /// Two version indexes are equal exactly where their numbers are.
 pub fn equal_version_indexes(a: &VersionIndex, b: &VersionIndex)
     ensures { IsTrue (⟦<VersionIndex as PartialEq>⟧.eq a.now b.now) ↔ (a.now ≡ b.now) }
+{}
+
+/// Two requirements are equal exactly where their names have the same bytes and all their other fields are equal.
+pub fn equal_requirements(a: &SymbolRequirement<'_>, b: &SymbolRequirement<'_>)
+    ensures { IsTrue (⟦<SymbolRequirement<'static> as PartialEq>⟧.eq a.now b.now)
+        ↔ ((a.now.file.now ≡ b.now.file.now) × (a.now.name.now ≡ b.now.name.now) × (a.now.hash ≡ b.now.hash)
+        × (a.now.flags ≡ b.now.flags) × (a.now.hidden ≡ b.now.hidden)) }
 {}

@@ -173,6 +173,11 @@ impl<'data, E: EndianParse, P: ParseAt> IntoIterator for ParsingTable<'data, E, 
 
     type IntoIter = ParsingIterator<'data, E, P>;
 
+    // Code over any `IntoIterator` learns by this what the clauses of `into_iter` say.
+    ghost into_iter_gives = { λ s r.
+        (items_left P.size P.record_at r ≡ table_items P.size P.record_at (table_view s))
+        × (length (items_left P.size P.record_at r) < 2 ^ 64) };
+
     fn into_iter(self) -> ParsingIterator<'data, E, P>
         ensures items { items_left P.size P.record_at result ≡ table_items P.size P.record_at (table_view self.entry) }
         ensures few { length (items_left P.size P.record_at result) ≤ length (table_view self.entry).bytes }

@@ -1,0 +1,56 @@
+//! Laws of clones: the clone of a value is the same value, and `clone` needs no memory.
+ghost use Rattle.elf_parts.specs.Clones.{ClonesExactly};
+
+use crate::compression::CompressionHeader;
+use crate::dynamic::Dyn;
+use crate::endian::{AnyEndian, BigEndian, EndianParse, LittleEndian};
+use crate::file::{Class, FileHeader};
+use crate::gnu_symver::{VerDefIterator, VerNeedIterator};
+use crate::hash::{GnuHashHeader, SysVHashHeader};
+use crate::note::{NoteGnuAbiTag, NoteGnuBuildId};
+use crate::parse::{ParseAt, ParsingTable};
+use crate::relocation::{Rel, Rela};
+use crate::section::SectionHeader;
+use crate::segment::ProgramHeader;
+use crate::string_table::StringTable;
+use crate::symbol::Symbol;
+
+/// Classes and orders are cloned as they are.
+pub fn clones_of_kinds()
+    ensures class { ClonesExactly ⟦<Class as Clone>⟧.is_clone ⟦<Class as Clone>⟧.is_infallible }
+    ensures either { ClonesExactly ⟦<AnyEndian as Clone>⟧.is_clone ⟦<AnyEndian as Clone>⟧.is_infallible }
+    ensures little { ClonesExactly ⟦<LittleEndian as Clone>⟧.is_clone ⟦<LittleEndian as Clone>⟧.is_infallible }
+    ensures big { ClonesExactly ⟦<BigEndian as Clone>⟧.is_clone ⟦<BigEndian as Clone>⟧.is_infallible }
+{}
+
+/// File headers, section headers and program headers are cloned as they are.
+pub fn clones_of_headers<E: EndianParse>()
+    ensures file { ClonesExactly ⟦<FileHeader<E> as Clone>⟧.is_clone ⟦<FileHeader<E> as Clone>⟧.is_infallible }
+    ensures section { ClonesExactly ⟦<SectionHeader as Clone>⟧.is_clone ⟦<SectionHeader as Clone>⟧.is_infallible }
+    ensures program { ClonesExactly ⟦<ProgramHeader as Clone>⟧.is_clone ⟦<ProgramHeader as Clone>⟧.is_infallible }
+    ensures compression { ClonesExactly ⟦<CompressionHeader as Clone>⟧.is_clone ⟦<CompressionHeader as Clone>⟧.is_infallible }
+    ensures sysv { ClonesExactly ⟦<SysVHashHeader as Clone>⟧.is_clone ⟦<SysVHashHeader as Clone>⟧.is_infallible }
+    ensures gnu { ClonesExactly ⟦<GnuHashHeader as Clone>⟧.is_clone ⟦<GnuHashHeader as Clone>⟧.is_infallible }
+{}
+
+/// Symbols, relocations, dynamic entries and what notes hold are cloned as they are.
+pub fn clones_of_records()
+    ensures symbol { ClonesExactly ⟦<Symbol as Clone>⟧.is_clone ⟦<Symbol as Clone>⟧.is_infallible }
+    ensures rel { ClonesExactly ⟦<Rel as Clone>⟧.is_clone ⟦<Rel as Clone>⟧.is_infallible }
+    ensures rela { ClonesExactly ⟦<Rela as Clone>⟧.is_clone ⟦<Rela as Clone>⟧.is_infallible }
+    ensures entry { ClonesExactly ⟦<Dyn as Clone>⟧.is_clone ⟦<Dyn as Clone>⟧.is_infallible }
+    ensures abi_tag { ClonesExactly ⟦<NoteGnuAbiTag as Clone>⟧.is_clone ⟦<NoteGnuAbiTag as Clone>⟧.is_infallible }
+    ensures build_id { ClonesExactly ⟦<NoteGnuBuildId<'static> as Clone>⟧.is_clone ⟦<NoteGnuBuildId<'static> as Clone>⟧.is_infallible }
+{}
+
+/// Tables and the version iterators that can be cloned are cloned as they are, an iterator at the place where
+/// it stands.
+pub fn clones_of_tables<E: EndianParse, P: ParseAt>()
+    ensures table { ClonesExactly
+        ⟦<ParsingTable<'static, E, P> as Clone>⟧.is_clone ⟦<ParsingTable<'static, E, P> as Clone>⟧.is_infallible }
+    ensures strings { ClonesExactly ⟦<StringTable<'static> as Clone>⟧.is_clone ⟦<StringTable<'static> as Clone>⟧.is_infallible }
+    ensures needs { ClonesExactly
+        ⟦<VerNeedIterator<'static, E> as Clone>⟧.is_clone ⟦<VerNeedIterator<'static, E> as Clone>⟧.is_infallible }
+    ensures definitions { ClonesExactly
+        ⟦<VerDefIterator<'static, E> as Clone>⟧.is_clone ⟦<VerDefIterator<'static, E> as Clone>⟧.is_infallible }
+{}

@@ -1,0 +1,15 @@
+//! Laws of defaults.
+ghost use Rattle.std.specs.Prelude.{◌≡◌, []};
+ghost use Rattle.elf_parts.specs.StringTable.{strings_view};
+ghost use Rattle.elf_parts.specs.declared.endian.AnyEndian.{AnyEndian};
+ghost use Rattle.elf_parts.specs.declared.string_table.StringTable.{StringTable};
+
+use crate::endian::{AnyEndian, BigEndian, LittleEndian};
+use crate::string_table::StringTable;
+
+/// The default table of strings holds no byte, and the default order is the little one, where a type has
+/// both.
+pub fn defaults()
+    ensures strings { (s : StringTable) → ⟦<StringTable<'static> as Default>⟧.is_default s → strings_view s ≡ [] }
+    ensures order { (e : AnyEndian) → ⟦<AnyEndian as Default>⟧.is_default e → e ≡ AnyEndian.Little }
+{}
