@@ -1,19 +1,16 @@
 -- Numbers and structures that are written are read.
-use Rattle.std.proofs.Common.{◌≡◌, ℕ, zero, suc, ◌+◌, ◌-◌, ◌*◌, ◌/◌, ◌%◌, ◌<◌, ◌≤◌, ◌^◌, nat_lt, nat_le, Bool, true, false, Option, Some, None, List, [], ◌∷◌, ◌++◌, length, reverse, map, max, take, drop, ◌&&◌, Result, Ok, Err, refl, ap, sym, ◌∙◌, subst, arith, append_assoc, length-append}
+use Rattle.std.proofs.Common.{◌≡◌, ℕ, zero, suc, ◌+◌, ◌-◌, ◌*◌, ◌/◌, ◌<◌, ◌≤◌, ◌^◌, nat_lt, nat_le, Bool, true, false, Option, Some, None, List, [], ◌∷◌, ◌++◌, length, reverse, map, max, take, drop, ◌&&◌, Ok, refl, ap, sym, ◌∙◌, subst, arith, append_assoc, length-append}
 use Rattle.std.specs.Prelude.{◌==◌, ℤ, pos, negsuc, ◌-ℤ◌, ◌+ℤ◌}
 use Rattle.std.specs.List.{sum_by}
 use Rattle.std.proofs.lemmas.List.Sums.{sum_by-cons}
 use Rattle.std.proofs.lemmas.Grind.{common_steps}
 use Rattle.std.proofs.lemmas.Bool.{eqb-true}
-use Rattle.std.proofs.lemmas.List.{length-reverse, reverse-append, take_at, drop_at, append-nil}
+use Rattle.std.proofs.lemmas.List.{length-reverse, reverse-append, take_at, drop_at}
 use Rattle.std.proofs.lemmas.Nat.{div_below, pow-add}
 use Rattle.std.proofs.Math.Nat.{mod-add-div, pow-suc, mul_assoc}
 use Rattle.std.proofs.Math.IntN.{+ℤ-neg_ℤ_cancel}
-use Rattle.elf_parts.specs.declared.file.Class.{Class}
-use Rattle.elf_parts.specs.declared.file.Class.TheVariants.{ELF32, ELF64}
-use Rattle.elf_parts.specs.declared.parse.ParseError.{ParseError}
-use Rattle.elf_parts.specs.Number.{number, little_number, big_number, number_at, ok_map, signed_number}
-use Rattle.elf_parts.specs.Record.{Field, Layout, accepted, numbers_at, record_by, size_by, size_of, ◌>>=◌}
+use Rattle.elf_parts.specs.Number.{number, little_number, big_number, signed_number}
+use Rattle.elf_parts.specs.Record.{Field, accepted, numbers_at, size_of}
 use Rattle.elf_parts.specs.Written.{digits_256, bytes_of, complement, FitsSigned, Member, Unsigned, Signed, Parts, width_of, number_of, FitsMember, Fits, struct_bytes}
 use Rattle.elf_parts.specs.inner.RecordLaws.{and_true, number_at-from}
 

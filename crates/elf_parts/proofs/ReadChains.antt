@@ -1,6 +1,5 @@
 -- Records that were linked by their distances are read as these lists.
-use Rattle.std.proofs.Common.{◌≡◌, ◌≢◌, ℕ, zero, suc, ◌+◌, ◌<◌, ◌≤◌, ◌^◌, Bool, true, false, nat_le, ◌||◌, Option, Some, None, List, [], ◌∷◌, ◌++◌, length, map, Result, Ok, refl, ap, sym, ◌∙◌, arith, length-append}
-use Rattle.std.specs.Prelude.{◌==◌}
+use Rattle.std.proofs.Common.{◌≡◌, ◌≢◌, ℕ, suc, ◌+◌, ◌<◌, ◌≤◌, ◌^◌, Bool, Some, None, List, [], ◌∷◌, ◌++◌, length, map, Ok, refl, ap, sym, ◌∙◌, arith, length-append}
 use Rattle.std.proofs.lemmas.Bool.{ne_eqb}
 use Rattle.std.proofs.lemmas.Grind.{common_steps}
 use Rattle.elf_parts.specs.declared.file.Class.{Class}
@@ -13,7 +12,7 @@ use Rattle.elf_parts.specs.Record.{Layout, record_by, size_by}
 use Rattle.elf_parts.specs.Structs.{ver_need_struct, ver_need_aux_struct, ver_def_struct, ver_def_aux_struct, NeedsAreChained, DefinitionsAreChained}
 use Rattle.elf_parts.specs.Symver.{ver_need_layout, ver_need_aux_layout, ver_def_layout, ver_def_aux_layout, ver_need_aux_records, ver_needs, ver_def_aux_records, ver_defs}
 use Rattle.elf_parts.specs.Table.{table_in}
-use Rattle.elf_parts.specs.Written.{Member, Fits, struct_bytes, LiesAt, IsDistance, AreChained, IsStruct}
+use Rattle.elf_parts.specs.Written.{Member, Fits, struct_bytes, LiesAt, AreChained, IsStruct}
 use Rattle.elf_parts.proofs.ReadStructs.{ver_need_is_struct, ver_need_aux_is_struct, ver_def_is_struct, ver_def_aux_is_struct}
 
 no_next : (o d : ℕ) → d ≡ 0 → next_start o d ≡ None

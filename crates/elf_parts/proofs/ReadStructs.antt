@@ -1,12 +1,12 @@
 -- Each structure as C prints it is what its field table reads.
-use Rattle.std.proofs.Common.{◌≡◌, ℕ, zero, suc, ◌+◌, ◌-◌, ◌*◌, ◌/◌, ◌%◌, ◌<◌, ◌≤◌, ◌^◌, Bool, true, false, List, [], ◌∷◌, ◌++◌, length, map, Ok, refl, ap, sym, ◌∙◌, subst, arith, append_assoc, length-append}
+use Rattle.std.proofs.Common.{◌≡◌, ℕ, ◌+◌, ◌-◌, ◌<◌, ◌≤◌, ◌^◌, Bool, true, List, [], ◌∷◌, ◌++◌, length, map, Ok, refl, ap, sym, ◌∙◌, arith, append_assoc, length-append}
 use Rattle.std.proofs.Common.{lit≤}
 use Rattle.std.proofs.lemmas.List.{append-nil}
 use Rattle.std.proofs.lemmas.Nat.{mod-mul-add, div-mul-add}
 use Rattle.elf_parts.specs.declared.file.Class.{Class}
 use Rattle.elf_parts.specs.declared.file.Class.TheVariants.{ELF32, ELF64}
-use Rattle.elf_parts.specs.Record.{Field, Layout, offset_by, record_by, size_by, size_of, numbers_at}
-use Rattle.elf_parts.specs.Table.{items_from, items, table_in, table_items}
+use Rattle.elf_parts.specs.Record.{Layout, offset_by, record_by, size_by, size_of}
+use Rattle.elf_parts.specs.Table.{items_from}
 use Rattle.elf_parts.specs.Written.{Member, number_of, word, xword, FitsMember, Fits, AllFit, struct_bytes, table_of, ReadsStruct, FillsRecord, ReadsTable, TellsApart, PlacesAreSums, IsStruct}
 use Rattle.elf_parts.specs.Structs.{section_header_struct, program_header_struct, symbol_struct, info, rel_struct, rela_struct, dyn_struct, compression_header_struct, note_header_struct, abi_tag_struct, ver_need_struct, ver_need_aux_struct, ver_def_struct, ver_def_aux_struct, version_index_struct, sysv_header_struct, gnu_header_struct, tail_struct}
 use Rattle.elf_parts.specs.Compression.{compression_header_layout}
@@ -331,6 +331,10 @@ tail_small ELF64 = lit≤ tt
 tail_fields_of : {E : Type 0} (class : Class) (x : FileHeader E) → is_struct_of 0 (tail_fields class) (tail_struct class x) ≡ true
 tail_fields_of ELF32 x = refl
 tail_fields_of ELF64 x = refl
+
+pub tail_long : {E : Type 0} (little : E → Bool) (x : FileHeader E) →
+    length (struct_bytes (little x.endianness) (tail_struct x.class x)) ≡ size_of (tail_fields x.class)
+tail_long little x = length-struct (little x.endianness) (tail_fields x.class) (tail_struct x.class x) (tail_fields_of x.class x)
 
 tail_packed : (class : Class) → is_packed_from 0 (tail_fields class) ≡ true
 tail_packed ELF32 = refl

@@ -1,9 +1,8 @@
 -- How a file is written: what gABI prints as C structs, string tables, notes, and records linked by distances, as bytes.
 -- Nothing here looks at the field tables, or at how anything is read.
-use Rattle.std.specs.Prelude.{◌≡◌, ◌≢◌, ℕ, zero, suc, ◌+◌, ◌-◌, ◌*◌, ◌/◌, ◌%◌, ◌^◌, ◌<◌, ◌≤◌, Bool, if◌then◌else◌, ⊤, ℤ, pos, negsuc}
-use Rattle.std.specs.Prelude.{List, [], ◌∷◌, ◌++◌, length, reverse, Result, Ok}
+use Rattle.std.specs.Prelude.{◌≡◌, ◌≢◌, ℕ, zero, suc, ◌+◌, ◌-◌, ◌*◌, ◌/◌, ◌%◌, ◌^◌, ◌<◌, Bool, if◌then◌else◌, ⊤, ℤ, pos, negsuc}
+use Rattle.std.specs.Prelude.{List, [], ◌∷◌, ◌++◌, length, reverse, Ok}
 use Rattle.elf_parts.specs.declared.file.Class.{Class}
-use Rattle.elf_parts.specs.declared.parse.ParseError.{ParseError}
 use Rattle.std.specs.List.{sum_by}
 use Rattle.elf_parts.specs.Record.{Field, Layout, record_by, size_by}
 use Rattle.elf_parts.specs.Table.{table_in, table_items}

@@ -6,6 +6,7 @@ ghost use Rattle.elf_parts.specs.Dynamic.{dyn_layout};
 ghost use Rattle.elf_parts.specs.File.{header_with_tail, tail_fields};
 ghost use Rattle.elf_parts.specs.Hash.{gnu_header_layout, sysv_header_layout};
 ghost use Rattle.elf_parts.specs.Note.{NoteContent, abi_tag_layout, note_header_layout, notes_in};
+ghost use Rattle.elf_parts.specs.Record.{size_of};
 ghost use Rattle.elf_parts.specs.Relocation.{rel_layout, rela_layout};
 ghost use Rattle.elf_parts.specs.Section.{section_header_layout};
 ghost use Rattle.elf_parts.specs.Segment.{program_header_layout};
@@ -145,12 +146,15 @@ pub fn words_are_read_back()
     ensures eight { IsStruct u64_layout (λ _ n. xword n ∷ []) }
 {}
 
-/// The tail of a file header, at the front of its bytes, is read as that header, and its places are sums.
-#[tactic(auto, using(crate::proofs::ReadStructs::tail_read_back, crate::proofs::ReadStructs::tail_places))]
+/// The tail of a file header, at the front of its bytes, is read as that header; it has the size of its fields, and its
+/// places are sums.
+#[tactic(auto, using(crate::proofs::ReadStructs::tail_read_back, crate::proofs::ReadStructs::tail_long))]
 pub fn tails_are_read_back<E>()
     ensures value { (little : E → Bool) (x : IsFileHeader E) (behind : List ℕ) → Fits (tail_struct x.class x) →
         header_with_tail little (x.endianness, x.class, x.osabi, x.abiversion)
         (struct_bytes (little x.endianness) (tail_struct x.class x) ++ behind) ≡ Ok x }
+    ensures size { (little : E → Bool) (x : IsFileHeader E) →
+        length (struct_bytes (little x.endianness) (tail_struct x.class x)) ≡ size_of (tail_fields x.class) }
     ensures places { (class : Class) → PlacesAreSums (tail_fields class) }
 {}
 
