@@ -13,3 +13,8 @@ pub mod HashWords
 pub mod Walks
 pub mod Runs
 pub mod Named
+pub mod ReadBack
+pub mod ReadStructs
+pub mod ReadStrings
+pub mod ReadNotes
+pub mod ReadChains

@@ -18,4 +18,6 @@ pub mod Symver
 pub mod Hash
 pub mod SysvFind
 pub mod GnuFind
+pub mod Written
+pub mod Structs
 pub mod inner

@@ -10,3 +10,4 @@ pub mod numbers;
 pub mod symbols;
 pub mod tables;
 pub mod versions;
+pub mod written;

@@ -3,5 +3,7 @@ pub mod FileOrders
 pub mod Files
 pub mod HashSections
 pub mod Known
+pub mod Objects
+pub mod Parts
 pub mod Records
 pub mod Triples

@@ -1,0 +1,202 @@
+//! Laws of what is written: it is read back.
+ghost use Rattle.std.specs.Prelude.{◌≡◌, ◌+◌, ◌<◌, ◌^◌, ◌∷◌, ◌++◌, [], ℕ, ℤ, Bool, List, Ok, length};
+ghost use Rattle.elf_parts.specs.Number.{number, signed_number};
+ghost use Rattle.elf_parts.specs.Compression.{compression_header_layout};
+ghost use Rattle.elf_parts.specs.Dynamic.{dyn_layout};
+ghost use Rattle.elf_parts.specs.File.{header_with_tail, tail_fields};
+ghost use Rattle.elf_parts.specs.Hash.{gnu_header_layout, sysv_header_layout};
+ghost use Rattle.elf_parts.specs.Note.{NoteContent, abi_tag_layout, note_header_layout, notes_in};
+ghost use Rattle.elf_parts.specs.Record.{size_of};
+ghost use Rattle.elf_parts.specs.Relocation.{rel_layout, rela_layout};
+ghost use Rattle.elf_parts.specs.Section.{section_header_layout};
+ghost use Rattle.elf_parts.specs.Segment.{program_header_layout};
+ghost use Rattle.elf_parts.specs.StringTable.{string_at};
+ghost use Rattle.elf_parts.specs.Structs.{DefinitionsAreChained, NeedsAreChained, NotesFit, abi_tag_struct, compression_header_struct, dyn_struct, gnu_header_struct, note_header_struct, notes_bytes, program_header_struct, rel_struct, rela_struct, section_header_struct, symbol_struct, sysv_header_struct, tail_struct, ver_def_aux_struct, ver_def_struct, ver_need_aux_struct, ver_need_struct, version_index_struct};
+ghost use Rattle.elf_parts.specs.Symbol.{symbol_layout};
+ghost use Rattle.elf_parts.specs.Symver.{ver_def_aux_layout, ver_def_layout, ver_need_aux_layout, ver_defs, ver_need_layout, ver_needs, version_index_layout};
+ghost use Rattle.elf_parts.specs.Table.{table_in};
+ghost use Rattle.elf_parts.specs.Word.{u32_layout, u64_layout};
+ghost use Rattle.elf_parts.specs.Written.{Fits, FitsSigned, HasNoNul, IsStruct, PlacesAreSums, bytes_of, complement, strings_of, struct_bytes, word, xword};
+ghost use Rattle.elf_parts.specs.declared.file.Class.{Class};
+ghost use Rattle.elf_parts.specs.declared.file.FileHeader.{FileHeader as IsFileHeader};
+ghost use Rattle.elf_parts.specs.declared.gnu_symver.VerDef.{VerDef as IsVerDef};
+ghost use Rattle.elf_parts.specs.declared.gnu_symver.VerDefAux.{VerDefAux as IsVerDefAux};
+ghost use Rattle.elf_parts.specs.declared.gnu_symver.VerNeed.{VerNeed as IsVerNeed};
+ghost use Rattle.elf_parts.specs.declared.gnu_symver.VerNeedAux.{VerNeedAux as IsVerNeedAux};
+
+/// A number is read from the bytes that it is written in, which are as many as were asked for.
+#[tactic(auto, using(crate::proofs::ReadBack::number_bytes_of, crate::proofs::ReadBack::length_bytes_of))]
+pub fn numbers_are_read_back()
+    ensures value { (little : Bool) (width n : ℕ) → n < 256 ^ width → number little (bytes_of little width n) ≡ n }
+    ensures width { (little : Bool) (width n : ℕ) → length (bytes_of little width n) ≡ width }
+{}
+
+/// A signed number is read from the bytes of its two's complement, and these are those of a number that fits.
+#[tactic(auto, using(crate::proofs::ReadBack::signed_number_complement, crate::proofs::ReadBack::complement_lt))]
+pub fn signed_numbers_are_read_back()
+    ensures value { (width : ℕ) (z : ℤ) → 0 < width → FitsSigned width z → signed_number width (complement width z) ≡ z }
+    ensures fits { (width : ℕ) (z : ℤ) → 0 < width → FitsSigned width z → complement width z < 256 ^ width }
+{}
+
+// ---- structures: of each type of records, that it is read back from the bytes of its C struct, in both classes and
+// orders, wherever these lie; that the struct has the size of the record; that a table of structs is the table of these
+// records and of no more; that equal bytes are of equal records; and that each place in its field table is the sum of
+// the widths before it
+
+/// The same of section headers.
+#[tactic(auto, using(crate::proofs::ReadStructs::section_header_is_struct))]
+pub fn section_headers_are_read_back()
+    ensures { IsStruct section_header_layout section_header_struct }
+{}
+
+/// The same of program headers.
+#[tactic(auto, using(crate::proofs::ReadStructs::program_header_is_struct))]
+pub fn program_headers_are_read_back()
+    ensures { IsStruct program_header_layout program_header_struct }
+{}
+
+/// The same of symbols.
+#[tactic(auto, using(crate::proofs::ReadStructs::symbol_is_struct))]
+pub fn symbols_are_read_back()
+    ensures { IsStruct symbol_layout symbol_struct }
+{}
+
+/// The same of relocations without an addend.
+#[tactic(auto, using(crate::proofs::ReadStructs::rel_is_struct))]
+pub fn rels_are_read_back()
+    ensures { IsStruct rel_layout rel_struct }
+{}
+
+/// The same of relocations with an addend.
+#[tactic(auto, using(crate::proofs::ReadStructs::rela_is_struct))]
+pub fn relas_are_read_back()
+    ensures { IsStruct rela_layout rela_struct }
+{}
+
+/// The same of dynamic entries.
+#[tactic(auto, using(crate::proofs::ReadStructs::dyn_is_struct))]
+pub fn dynamic_entries_are_read_back()
+    ensures { IsStruct dyn_layout dyn_struct }
+{}
+
+/// The same of headers of notes.
+#[tactic(auto, using(crate::proofs::ReadStructs::note_header_is_struct))]
+pub fn note_headers_are_read_back()
+    ensures { IsStruct note_header_layout (λ _. note_header_struct) }
+{}
+
+/// The same of ABI tags.
+#[tactic(auto, using(crate::proofs::ReadStructs::abi_tag_is_struct))]
+pub fn abi_tags_are_read_back()
+    ensures { IsStruct abi_tag_layout (λ _. abi_tag_struct) }
+{}
+
+/// The same of needs.
+#[tactic(auto, using(crate::proofs::ReadStructs::ver_need_is_struct))]
+pub fn ver_needs_are_read_back()
+    ensures { IsStruct ver_need_layout (λ _. ver_need_struct) }
+{}
+
+/// The same of needed versions.
+#[tactic(auto, using(crate::proofs::ReadStructs::ver_need_aux_is_struct))]
+pub fn ver_need_auxs_are_read_back()
+    ensures { IsStruct ver_need_aux_layout (λ _. ver_need_aux_struct) }
+{}
+
+/// The same of definitions of versions.
+#[tactic(auto, using(crate::proofs::ReadStructs::ver_def_is_struct))]
+pub fn ver_defs_are_read_back()
+    ensures { IsStruct ver_def_layout (λ _. ver_def_struct) }
+{}
+
+/// The same of names of definitions.
+#[tactic(auto, using(crate::proofs::ReadStructs::ver_def_aux_is_struct))]
+pub fn ver_def_auxs_are_read_back()
+    ensures { IsStruct ver_def_aux_layout (λ _. ver_def_aux_struct) }
+{}
+
+/// The same of version indexes.
+#[tactic(auto, using(crate::proofs::ReadStructs::version_index_is_struct))]
+pub fn version_indexes_are_read_back()
+    ensures { IsStruct version_index_layout (λ _. version_index_struct) }
+{}
+
+/// The same of headers of SysV hash sections.
+#[tactic(auto, using(crate::proofs::ReadStructs::sysv_header_is_struct))]
+pub fn sysv_headers_are_read_back()
+    ensures { IsStruct sysv_header_layout (λ _. sysv_header_struct) }
+{}
+
+/// The same of headers of GNU hash sections.
+#[tactic(auto, using(crate::proofs::ReadStructs::gnu_header_is_struct))]
+pub fn gnu_headers_are_read_back()
+    ensures { IsStruct gnu_header_layout (λ _. gnu_header_struct) }
+{}
+
+/// The same of compression headers, whatever stands in the reserved word.
+#[tactic(auto, using(crate::proofs::ReadStructs::compression_header_is_struct))]
+pub fn compression_headers_are_read_back()
+    ensures { (reserved : ℕ) → IsStruct compression_header_layout (compression_header_struct reserved) }
+{}
+
+/// The same of words of four and of eight bytes, as they stand in hash sections.
+#[tactic(auto, using(crate::proofs::ReadStructs::u32_is_struct, crate::proofs::ReadStructs::u64_is_struct))]
+pub fn words_are_read_back()
+    ensures four { IsStruct u32_layout (λ _ n. word n ∷ []) }
+    ensures eight { IsStruct u64_layout (λ _ n. xword n ∷ []) }
+{}
+
+/// The tail of a file header, at the front of its bytes, is read as that header; it has the size of its fields, and its
+/// places are sums.
+#[tactic(auto, using(crate::proofs::ReadStructs::tail_read_back, crate::proofs::ReadStructs::tail_long))]
+pub fn tails_are_read_back<E>()
+    ensures value { (little : E → Bool) (x : IsFileHeader E) (behind : List ℕ) → Fits (tail_struct x.class x) →
+        header_with_tail little (x.endianness, x.class, x.osabi, x.abiversion)
+        (struct_bytes (little x.endianness) (tail_struct x.class x) ++ behind) ≡ Ok x }
+    ensures size { (little : E → Bool) (x : IsFileHeader E) →
+        length (struct_bytes (little x.endianness) (tail_struct x.class x)) ≡ size_of (tail_fields x.class) }
+    ensures places { (class : Class) → PlacesAreSums (tail_fields class) }
+{}
+
+// ---- strings
+
+/// In a string table of names, each with a 0 byte behind it, at the offset of a name stands that name; and at an
+/// offset within it stands the rest of it. Only this rest may have no 0 byte: a name with one is cut there.
+#[tactic(auto, using(crate::proofs::ReadStrings::name_read_back))]
+pub fn names_are_read_back()
+    ensures { (before behind : List (List ℕ)) (head text rest : List ℕ) → HasNoNul text →
+        string_at (strings_of (before ++ (head ++ text) ∷ behind) ++ rest) (length (strings_of before) + length head)
+        ≡ Ok text }
+{}
+
+// ---- notes
+
+/// Notes that were laid out by the gABI's rule, each with its header, name, padding, descriptor and padding, are these
+/// notes and no more, for every alignment but 0. The premise keeps the offsets within 64 bits.
+#[tactic(auto, using(crate::proofs::ReadNotes::notes_read_back))]
+pub fn notes_are_read_back()
+    ensures { (little : Bool) (align : ℕ) (notes : List NoteContent) → 0 < align → NotesFit notes →
+        length (notes_bytes little align 0 notes) < 2 ^ 64 →
+        notes_in little align (notes_bytes little align 0 notes) ≡ notes }
+{}
+
+// ---- needs and definitions
+
+/// Needs that were linked by their distances are these needs, each with its versions, wherever they lie in the bytes.
+/// The premise keeps the offsets within 64 bits.
+#[tactic(auto, using(crate::proofs::ReadChains::needs_read_back))]
+pub fn needs_are_read_back()
+    ensures { (little : Bool) (class : Class) (bytes : List ℕ) → length bytes < 2 ^ 64 →
+        (needs : List (IsVerNeed × List IsVerNeedAux)) (start : ℕ) → NeedsAreChained little bytes start needs →
+        ver_needs (table_in little class bytes) (length needs) start ≡ needs }
+{}
+
+/// Definitions that were linked by their distances are these definitions, each with its names, wherever they lie in the
+/// bytes. The premise keeps the offsets within 64 bits.
+#[tactic(auto, using(crate::proofs::ReadChains::definitions_read_back))]
+pub fn definitions_are_read_back()
+    ensures { (little : Bool) (class : Class) (bytes : List ℕ) → length bytes < 2 ^ 64 →
+        (definitions : List (IsVerDef × List IsVerDefAux)) (start : ℕ) →
+        DefinitionsAreChained little bytes start definitions →
+        ver_defs (table_in little class bytes) (length definitions) start ≡ definitions }
+{}

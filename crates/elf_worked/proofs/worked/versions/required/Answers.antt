@@ -1,0 +1,31 @@
+use Rattle.std.proofs.Common.{refl}
+use Rattle.elf_parts.specs.Number.{bytes_at, number_at}
+use Rattle.elf_parts.specs.Record.{numbers_at}
+use Rattle.elf_parts.specs.Link.{links_in}
+use Rattle.elf_parts.specs.StringTable.{string_at}
+use Rattle.elf_parts.specs.Symver.{needed_version, defined_version}
+use Rattle.elf_worked.proofs.worked.versions.required.Goals as goal
+
+pub returns-clause-first : goal.returns-clause-first
+unfolding bytes_at number_at numbers_at links_in string_at needed_version defined_version
+returns-clause-first c = refl
+
+pub returns-clause-hidden : goal.returns-clause-hidden
+unfolding bytes_at number_at numbers_at links_in string_at needed_version defined_version
+returns-clause-hidden c = refl
+
+pub returns-clause-local : goal.returns-clause-local
+unfolding bytes_at number_at numbers_at links_in string_at needed_version defined_version
+returns-clause-local c = refl
+
+pub returns-clause-defined : goal.returns-clause-defined
+unfolding bytes_at number_at numbers_at links_in string_at needed_version defined_version
+returns-clause-defined c = refl
+
+pub returns-clause-none : goal.returns-clause-none
+unfolding bytes_at number_at numbers_at links_in string_at needed_version defined_version
+returns-clause-none c = refl
+
+pub returns-clause-no_needs : goal.returns-clause-no_needs
+unfolding bytes_at number_at numbers_at links_in string_at needed_version defined_version
+returns-clause-no_needs c = refl
