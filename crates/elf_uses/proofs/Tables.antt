@@ -10,12 +10,13 @@ use Rattle.std.specs.declared.default.Default.{Ghosts as DefaultGhosts}
 use Rattle.elf_parts.specs.declared.endian.EndianParse.{Ghosts as EndianGhosts}
 use Rattle.elf.specs.declared.elf_bytes.ElfBytes.{ElfBytes}
 use Rattle.elfshow.specs.ObjectView.{object_view}
-use Rattle.elfshow.specs.Resolve.{IsSound, IsTableOf, Object}
+use Rattle.elfshow.specs.Resolve.{IsFaultOf, IsSound, IsTableOf, Object}
 use Rattle.elfshow.specs.declared.hashcheck.gnu.CheckedGnuHash.{CheckedGnuHash}
 use Rattle.elfshow.specs.declared.hashcheck.sysv.CheckedSysvHash.{CheckedSysvHash}
 use Rattle.elfshow.specs.declared.resolve.HashKind.{HashKind}
 use Rattle.elfshow.specs.declared.resolve.ObjectFault.{ObjectFault}
-use Rattle.elf_uses.specs.Resolver.{HasTable, IsTable, library}
+use Rattle.elf_uses.specs.Resolver.{HasTable, HaveTables, IsTable, IsTrueOf, library}
+use Rattle.elf_uses.specs.declared.resolver.TablesError.TheVariants.{Fault, Memory, NoHash}
 
 module _ {F T : Type 0} (P : F → T → Type 0) where
   -- the first of the files have tables, so many
@@ -62,3 +63,23 @@ module _ {E : Type 0} {order : EndianGhosts E} {default : DefaultGhosts E} {equa
   pub table_sound : (file : ElfBytes E) (table : HashKind (CheckedSysvHash E order default equal) (CheckedGnuHash E order default equal)) →
       IsTable little file table → HasTable little file
   table_sound file table h = object_sound object_view table (library little file) h
+
+some_is : {A : Type 0} (P : A → Type 0) (o : Option A) (x : A) → o ≡ Some x → P x → IsSomeAnd o P
+some_is {A = A} P o x e here = subst (λ (p : Option A). IsSomeAnd p P) (sym e) here
+
+-- what a refusal says at the library at a place, where those before it have tables
+module _ {E : Type 0} (little : E → Bool) where
+  pub missing : (files : List (ElfBytes E)) (k : ℕ) (file : ElfBytes E) → slice_get files k ≡ Some file → library little file ≡ None →
+      HaveTables little files k → IsTrueOf little files (NoHash k)
+  missing files k file at none before = (some_is (λ (f : ElfBytes E). library little f ≡ None) (slice_get files k) file at none, before)
+
+  pub faulty : (files : List (ElfBytes E)) (k : ℕ) (file : ElfBytes E) (fault : ObjectFault) → slice_get files k ≡ Some file →
+      IsSomeAnd (library little file) (λ object. IsFaultOf object fault) → HaveTables little files k → IsTrueOf little files (Fault k fault)
+  faulty files k file fault at has before =
+      (some_is (λ (f : ElfBytes E). IsSomeAnd (library little f) (λ object. IsFaultOf object fault)) (slice_get files k) file at has, before)
+
+  pub first_has : (files : List (ElfBytes E)) (k : ℕ) (file : ElfBytes E) → slice_get files k ≡ Some file → HasTable little file →
+      HaveTables little files k → IsTrueOf little files Memory
+  first_has files zero file at has before = some_is (HasTable little) (slice_get files 0) file at has
+  first_has [] (suc k) file at has before = cc
+  first_has (f ∷ files) (suc k) file at has before = before 0 (omega arith)

@@ -42,13 +42,14 @@ module _ {E : Type 0} (little : E → Bool) where
   abbrev pub HaveTables : List (ElfBytes E) → ℕ → Type 0
   HaveTables files place = (k : ℕ) → k < place → IfSome (slice_get files k) HasTable
 
-  -- what a refusal says of the first library that has none
+  -- what a refusal says of the first library that has none. Memory is asked for only once the first library has a
+  -- table.
   abbrev pub IsTrueOf : List (ElfBytes E) → TablesError → Type 0
   IsTrueOf files (NoHash k) = IsSomeAnd (slice_get files k) (λ file. library little file ≡ None) × HaveTables files k
   IsTrueOf files (Fault k fault) =
       IsSomeAnd (slice_get files k) (λ file. IsSomeAnd (library little file) (λ object. IsFaultOf object fault))
       × HaveTables files k
-  IsTrueOf files Memory = Unit {0}
+  IsTrueOf files Memory = IsSomeAnd (slice_get files 0) HasTable
 
 -- ---- the first library that defines a name
 

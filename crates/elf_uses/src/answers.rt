@@ -10,126 +10,145 @@ use elf::section::SectionHeader;
 use elf::string_table::StringTable;
 use elf::symbol::{Symbol, SymbolTable};
 use elf::{ElfBytes, ParseError};
+use std::alloc::Global;
 use std::io;
 use std::io::Write;
 
 type File<'data> = ElfBytes<'data, AnyEndian>;
 
 /// The answers of a caller for each file, or of the resolver for all of them.
-pub fn print_answers(rt: &HostRuntime, caller: &str, files: &[Vec<u8>]) -> io::Result<()> {
+pub fn print_answers<W: Write>(
+    alloc: Global,
+    out: &mut W,
+    caller: &str,
+    files: &[Vec<u8>],
+) -> io::Result<()> {
     if let Some(name) = caller.strip_prefix("resolver=") {
-        return print_resolved(rt, name.as_bytes(), files);
+        return print_resolved(alloc, out, name.as_bytes(), files);
     }
     for data in files {
-        print_answer(rt, caller, data.as_slice())?;
+        print_answer(alloc, out, caller, data.as_slice())?;
     }
     Ok(())
 }
 
-fn print_answer(rt: &HostRuntime, caller: &str, data: &[u8]) -> io::Result<()> {
+fn print_answer<W: Write>(alloc: Global, out: &mut W, caller: &str, data: &[u8]) -> io::Result<()> {
     match ElfBytes::minimal_parse(data) {
-        Ok(file) => print_answer_of(rt, caller, &file),
-        Err(error) => print_refusal(rt, error),
+        Ok(file) => print_answer_of(alloc, out, caller, &file),
+        Err(error) => print_refusal(out, error),
     }
 }
 
-fn print_answer_of(rt: &HostRuntime, caller: &str, file: &File<'_>) -> io::Result<()> {
+fn print_answer_of<W: Write>(
+    alloc: Global,
+    out: &mut W,
+    caller: &str,
+    file: &File<'_>,
+) -> io::Result<()> {
     match caller {
-        "build_id" => print_build_id(rt, build_id(file)),
-        "functions" => print_functions(rt, file),
-        "load_plan" => print_plan(rt, file),
-        "hash_lint" => print_lint(rt, file),
+        "build_id" => print_build_id(out, build_id(file)),
+        "functions" => print_functions(alloc, out, file),
+        "load_plan" => print_plan(alloc, out, file),
+        "hash_lint" => print_lint(out, file),
         _ => Err(io::Error::other("no such caller")),
     }
 }
 
-fn print_refusal(rt: &HostRuntime, error: ParseError) -> io::Result<()> {
-    println!(rt; "refused: {error}")
+fn print_refusal<W: Write>(out: &mut W, error: ParseError) -> io::Result<()> {
+    writeln!(out, "refused: {error}")
 }
 
-fn print_build_id(rt: &HostRuntime, answer: Result<Option<&[u8]>, ParseError>) -> io::Result<()> {
+fn print_build_id<W: Write>(
+    out: &mut W,
+    answer: Result<Option<&[u8]>, ParseError>,
+) -> io::Result<()> {
     match answer {
-        Ok(Some(id)) => print_hex(rt, id),
-        Ok(None) => println!(rt; "none"),
-        Err(error) => print_refusal(rt, error),
+        Ok(Some(id)) => print_hex(out, id),
+        Ok(None) => writeln!(out, "none"),
+        Err(error) => print_refusal(out, error),
     }
 }
 
-fn print_hex(rt: &HostRuntime, bytes: &[u8]) -> io::Result<()> {
+fn print_hex<W: Write>(out: &mut W, bytes: &[u8]) -> io::Result<()> {
     for byte in bytes {
-        print!(rt; "{byte:02x}")?;
+        write!(out, "{byte:02x}")?;
     }
-    println!(rt)
+    writeln!(out)
 }
 
-fn print_functions(rt: &HostRuntime, file: &File<'_>) -> io::Result<()> {
+fn print_functions<W: Write>(alloc: Global, out: &mut W, file: &File<'_>) -> io::Result<()> {
     match file.dynamic_symbol_table() {
         Ok(Some((symbols, strings))) => match file.symbol_version_table() {
-            Ok(versions) => print_all(rt, &symbols, &strings, versions.as_ref()),
-            Err(error) => print_refusal(rt, error),
+            Ok(versions) => print_all(alloc, out, &symbols, &strings, versions.as_ref()),
+            Err(error) => print_refusal(out, error),
         },
-        Ok(None) => println!(rt; "none"),
-        Err(error) => print_refusal(rt, error),
+        Ok(None) => writeln!(out, "none"),
+        Err(error) => print_refusal(out, error),
     }
 }
 
-fn print_all(
-    rt: &HostRuntime,
+fn print_all<W: Write>(
+    alloc: Global,
+    out: &mut W,
     symbols: &SymbolTable<'_, AnyEndian>,
     strings: &StringTable<'_>,
     versions: Option<&SymbolVersionTable<'_, AnyEndian>>,
 ) -> io::Result<()> {
-    let found = functions(rt.alloc(), symbols)?;
+    let found = functions(alloc, symbols)?;
     for (index, symbol) in &found {
-        print_function(rt, symbol, strings)?;
-        print_version(rt, *index, versions)?;
+        print_function(out, symbol, strings)?;
+        print_version(out, *index, versions)?;
     }
     Ok(())
 }
 
-fn print_function(rt: &HostRuntime, symbol: &Symbol, strings: &StringTable<'_>) -> io::Result<()> {
+fn print_function<W: Write>(
+    out: &mut W,
+    symbol: &Symbol,
+    strings: &StringTable<'_>,
+) -> io::Result<()> {
     let value = symbol.st_value;
-    print!(rt; "0x{value:x} ")?;
+    write!(out, "0x{value:x} ")?;
     match strings.get_raw(symbol.st_name as usize) {
-        Ok(name) => rt.stdout().write_all(name),
-        Err(error) => print!(rt; "({error})"),
+        Ok(name) => out.write_all(name),
+        Err(error) => write!(out, "({error})"),
     }
 }
 
-fn print_version(
-    rt: &HostRuntime,
+fn print_version<W: Write>(
+    out: &mut W,
     index: usize,
     versions: Option<&SymbolVersionTable<'_, AnyEndian>>,
 ) -> io::Result<()> {
     let Some(versions) = versions else {
-        return println!(rt);
+        return writeln!(out);
     };
     match version_of(versions, index) {
         Ok(Some(version)) => {
             let name = version.name;
             let sign = if version.hidden { "@" } else { "@@" };
-            println!(rt; "{sign}{name}")
+            writeln!(out, "{sign}{name}")
         }
-        Ok(None) => println!(rt),
-        Err(error) => println!(rt; " ({error})"),
+        Ok(None) => writeln!(out),
+        Err(error) => writeln!(out, " ({error})"),
     }
 }
 
-fn print_plan(rt: &HostRuntime, file: &File<'_>) -> io::Result<()> {
-    match load_plan(rt.alloc(), file) {
-        Ok(plan) => print_mappings(rt, plan.as_slice()),
-        Err(error) => println!(rt; "refused: {error}"),
+fn print_plan<W: Write>(alloc: Global, out: &mut W, file: &File<'_>) -> io::Result<()> {
+    match load_plan(alloc, file) {
+        Ok(plan) => print_mappings(out, plan.as_slice()),
+        Err(error) => writeln!(out, "refused: {error}"),
     }
 }
 
-fn print_mappings(rt: &HostRuntime, plan: &[Mapping]) -> io::Result<()> {
+fn print_mappings<W: Write>(out: &mut W, plan: &[Mapping]) -> io::Result<()> {
     for mapping in plan {
-        print_mapping(rt, mapping)?;
+        print_mapping(out, mapping)?;
     }
     Ok(())
 }
 
-fn print_mapping(rt: &HostRuntime, mapping: &Mapping) -> io::Result<()> {
+fn print_mapping<W: Write>(out: &mut W, mapping: &Mapping) -> io::Result<()> {
     let Mapping {
         address,
         memory_size,
@@ -137,53 +156,62 @@ fn print_mapping(rt: &HostRuntime, mapping: &Mapping) -> io::Result<()> {
         file_size,
         flags,
     } = *mapping;
-    println!(rt;
+    writeln!(
+        out,
         "offset=0x{offset:x} address=0x{address:x} filesize=0x{file_size:x} memsize=0x{memory_size:x} flags={flags}"
     )
 }
 
-fn print_lint(rt: &HostRuntime, file: &File<'_>) -> io::Result<()> {
+fn print_lint<W: Write>(out: &mut W, file: &File<'_>) -> io::Result<()> {
     if let Some(sections) = file.section_headers() {
         for (index, section) in sections.iter().enumerate() {
-            print_section_lint(rt, file, index, &section)?;
+            print_section_lint(out, file, index, &section)?;
         }
     }
     Ok(())
 }
 
-fn print_section_lint(
-    rt: &HostRuntime,
+fn print_section_lint<W: Write>(
+    out: &mut W,
     file: &File<'_>,
     index: usize,
     section: &SectionHeader,
 ) -> io::Result<()> {
     match lint(file, section) {
-        Some(Ok(indexed)) => println!(rt; "section {index}: sound, indexed={indexed}"),
-        Some(Err(fault)) => println!(rt; "section {index}: {fault}"),
+        Some(Ok(indexed)) => writeln!(out, "section {index}: sound, indexed={indexed}"),
+        Some(Err(fault)) => writeln!(out, "section {index}: {fault}"),
         None => Ok(()),
     }
 }
 
-fn print_resolved(rt: &HostRuntime, name: &[u8], files: &[Vec<u8>]) -> io::Result<()> {
-    let mut libraries: Vec<File<'_>> = Vec::new(rt.alloc());
+fn print_resolved<W: Write>(
+    alloc: Global,
+    out: &mut W,
+    name: &[u8],
+    files: &[Vec<u8>],
+) -> io::Result<()> {
+    let mut libraries: Vec<File<'_>> = Vec::new(alloc);
     for data in files {
         match ElfBytes::minimal_parse(data.as_slice()) {
             Ok(file) => libraries.push(file)?,
-            Err(error) => return print_refusal(rt, error),
+            Err(error) => return print_refusal(out, error),
         }
     }
-    match tables(rt.alloc(), libraries.as_slice()) {
-        Ok(tables) => print_definition(rt, definition(tables.as_slice(), name)),
-        Err(error) => println!(rt; "refused: {error}"),
+    match tables(alloc, libraries.as_slice()) {
+        Ok(tables) => print_definition(out, definition(tables.as_slice(), name)),
+        Err(error) => writeln!(out, "refused: {error}"),
     }
 }
 
-fn print_definition(rt: &HostRuntime, found: Option<(usize, usize, Symbol)>) -> io::Result<()> {
+fn print_definition<W: Write>(
+    out: &mut W,
+    found: Option<(usize, usize, Symbol)>,
+) -> io::Result<()> {
     match found {
         Some((library, index, symbol)) => {
             let value = symbol.st_value;
-            println!(rt; "library {library}: symbol {index}, value 0x{value:x}")
+            writeln!(out, "library {library}: symbol {index}, value 0x{value:x}")
         }
-        None => println!(rt; "none"),
+        None => writeln!(out, "none"),
     }
 }

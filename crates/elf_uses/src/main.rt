@@ -15,51 +15,74 @@ mod resolver;
 
 use answers::print_answers;
 use elf_rows::{RowError, changed_file};
+use std::io::{BufWriter, Write};
 use std::{env, fs};
+
+// How many bytes of text go to standard output at once.
+const OUTPUT_BUFFER: usize = 65536;
 
 fn main(rt: HostRuntime) -> Result<(), RowError> {
     let words: Vec<String> = env::args(&rt)?.skip(1).collect(rt.alloc())?;
     match words.as_slice().split_first() {
-        Some((caller, names)) => run(&rt, caller.as_str(), names),
+        Some((caller, names)) => run_buffered(&rt, caller.as_str(), names),
         None => Err(RowError::Form("no caller")),
     }
 }
 
-fn run(rt: &HostRuntime, caller: &str, names: &[String]) -> Result<(), RowError> {
+/// Flushes what was printed before an error too. The error of the flush is told where there was none before it.
+fn run_buffered(rt: &HostRuntime, caller: &str, names: &[String]) -> Result<(), RowError> {
+    let mut out = BufWriter::with_capacity(rt.alloc(), OUTPUT_BUFFER, rt.stdout())?;
+    let ended = run(rt, caller, names, &mut out);
+    let flushed = out.flush();
+    ended?;
+    Ok(flushed?)
+}
+
+fn run<W: Write>(
+    rt: &HostRuntime,
+    caller: &str,
+    names: &[String],
+    out: &mut W,
+) -> Result<(), RowError> {
     if caller != "rows" {
-        return print_files(rt, caller, names);
+        return print_files(rt, caller, names, out);
     }
     for name in names {
-        print_rows(rt, name.as_str())?;
+        print_rows(rt, name.as_str(), out)?;
     }
     Ok(())
 }
 
 /// What a caller answers of files of the machine.
-fn print_files(rt: &HostRuntime, caller: &str, names: &[String]) -> Result<(), RowError> {
+fn print_files<W: Write>(
+    rt: &HostRuntime,
+    caller: &str,
+    names: &[String],
+    out: &mut W,
+) -> Result<(), RowError> {
     let mut files = Vec::new(rt.alloc());
     for name in names {
         files.push(fs::read(rt, name.as_str())?)?;
     }
-    Ok(print_answers(rt, caller, files.as_slice())?)
+    Ok(print_answers(rt.alloc(), out, caller, files.as_slice())?)
 }
 
-fn print_rows(rt: &HostRuntime, name: &str) -> Result<(), RowError> {
+fn print_rows<W: Write>(rt: &HostRuntime, name: &str, out: &mut W) -> Result<(), RowError> {
     let rows = fs::read_to_string(rt, name)?;
     for row in rows.lines() {
-        print_row(rt, row)?;
+        print_row(rt, row, out)?;
     }
     Ok(())
 }
 
 /// A row, and behind it what its caller answers.
-fn print_row(rt: &HostRuntime, row: &str) -> Result<(), RowError> {
-    println!(rt; "== {row}")?;
+fn print_row<W: Write>(rt: &HostRuntime, row: &str, out: &mut W) -> Result<(), RowError> {
+    writeln!(out, "== {row}")?;
     let mut parts = row.split(" : ");
     let caller = parts.next().unwrap_or("");
     let mut files = Vec::new(rt.alloc());
     for part in parts {
         files.push(changed_file(rt, part)?)?;
     }
-    Ok(print_answers(rt, caller, files.as_slice())?)
+    Ok(print_answers(rt.alloc(), out, caller, files.as_slice())?)
 }

@@ -20,7 +20,7 @@ pub enum TablesError {
     /// Its hash section gives no checked table.
     #[error("library {library}: {fault}")]
     Fault { library: usize, fault: ObjectFault },
-    /// Memory was refused.
+    /// An allocation failed.
     #[error("out of memory")]
     Memory,
 }
@@ -33,7 +33,8 @@ impl<T: Drop> From<AllocFailed<T>> for TablesError {
     }
 }
 
-/// The checked tables of the libraries, in their order. Refuses the first library that has none.
+/// The checked tables of the libraries, in their order. Refuses the first library that has none. Memory is asked for
+/// only once the first library has a table.
 pub fn tables<'data, E: EndianParse>(
     alloc: Global,
     files: &[ElfBytes<'data, E>],

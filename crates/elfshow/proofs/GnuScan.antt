@@ -98,7 +98,7 @@ module _ (s : Given GnuTable) (name : List ℕ) where
     pub is : find_in_run s.table s.symbols s.strings name limit k ≡ Ok found
     pub answer : RunAnswer k found
 
-  odd_or_even : (n : ℕ) → (n % 2 ≡ 0) ⊎ (n % 2 ≡ 1)
+  pub odd_or_even : (n : ℕ) → (n % 2 ≡ 0) ⊎ (n % 2 ≡ 1)
   odd_or_even n = elim (cases_lt (n % 2) 1) [ inl h ↦ inl (omega arith) | inr h ↦ inr (omega arith) ]
 
   one_place : (limit k w : ℕ) (found : Symbol × List ℕ) → word_at s.table.chains k ≡ Ok w → named_symbol s.symbols s.strings (s.table.hdr.table_start_idx + k) ≡ Ok found → w / 2 ≡ gnu_hash_of found.1 / 2 → k < word_count s.table.chains → Run limit (k + 1) → Run (suc limit) k
@@ -160,7 +160,7 @@ module _ (s : Given GnuTable) (name : List ℕ) where
     pub bits : HasBothBits s.table (gnu_hash_of name)
     pub run : InRun s.table place (gnu_hash_of name)
 
-  indexed : SoundGnu s → ReadsBelowCount s.table.chains → (i : ℕ) → ScanGnu s name i → Indexed i
+  pub indexed : SoundGnu s → ReadsBelowCount s.table.chains → (i : ℕ) → ScanGnu s name i → Indexed i
   indexed sound reads i scan =
       let place = i - s.table.hdr.table_start_idx in
       let index : i ≡ s.table.hdr.table_start_idx + place = omega (arith, scan.0.0) in

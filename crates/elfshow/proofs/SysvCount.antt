@@ -125,7 +125,7 @@ module _ (s : Given SysvTable) (bucket last : ℕ) (ends : EndsAt s bucket last)
       ap (value s.table bucket) a ∙ ap (chain_word s.table.chains) (same_way i k d e) ∙ ap (value s.table bucket) (sym b)
 
   -- no index comes twice, since the chain would not end
-  apart_in_chain : (i k : ℕ) → i < k → k < last → value s.table bucket i ≢ value s.table bucket k
+  pub apart_in_chain : (i k : ℕ) → i < k → k < last → value s.table bucket i ≢ value s.table bucket k
   apart_in_chain i k less below same =
       let end_at : k + (last - k) ≡ last = omega arith in
       let early = value_before s bucket last ends (i + (last - k)) (omega arith) in

@@ -17,6 +17,7 @@ pub mod SoundVerdict
 pub mod CheckedView
 pub mod ChainLengths
 pub mod Resolve
+pub mod NamedSymbols
 pub mod ObjectView
 pub mod Verdicts
 pub mod inner

@@ -5,11 +5,13 @@
 
 mod gnu;
 pub mod laws;
+mod named;
 mod reads;
 mod sysv;
 mod words;
 
 pub use gnu::{CheckedGnuHash, check_gnu, check_gnu_counted};
+pub use named::NamedSymbols;
 pub use reads::Reads;
 pub use sysv::{CheckedSysvHash, check_sysv, check_sysv_counted};
 

@@ -7,7 +7,7 @@ ghost use Rattle.elfshow.specs.declared.resolve.ObjectFault.TheVariants.{Read as
 
 mod objects;
 
-use crate::hashcheck::{CheckedGnuHash, CheckedSysvHash, HashFault};
+use crate::hashcheck::{CheckedGnuHash, CheckedSysvHash, HashFault, NamedSymbols};
 use elf_parts::endian::EndianParse;
 use elf_parts::parse::ParseError;
 use elf_parts::symbol::Symbol;
@@ -52,6 +52,7 @@ impl From<ParseError> for ObjectFault {
 impl<'data, E: EndianParse> HashKind<CheckedSysvHash<'data, E>, CheckedGnuHash<'data, E>> {
     ghost use Rattle.elfshow.specs.Resolve.{Indexed, IsFound, indexed_count};
     ghost use Rattle.elfshow.specs.ObjectView.{object_view};
+    ghost use Rattle.elfshow.specs.NamedSymbols.{AreAllNamed, named_left};
 
     /// The index and the symbol of a name: of a GNU section the least of the indexed ones, of a SysV section
     /// the first in its chain. None where no indexed symbol has the name.
@@ -61,6 +62,17 @@ impl<'data, E: EndianParse> HashKind<CheckedSysvHash<'data, E>, CheckedGnuHash<'
         match self {
             AnyChecked::Sysv(table) => table.find(name),
             AnyChecked::Gnu(table) => table.find(name),
+        }
+    }
+
+    /// All symbols of a name that the section indexes, each with its index: the first is the one that `find` gives. Of
+    /// a GNU section they come in the order of their indices, of a SysV section in the order of their chain.
+    pub fn find_all<'a>(&self, name: &'a [u8]) -> NamedSymbols<'a, 'data, E>
+        ensures { AreAllNamed (object_view self.now) name.now (named_left result) }
+    {
+        match self {
+            AnyChecked::Sysv(table) => table.find_all(name),
+            AnyChecked::Gnu(table) => table.find_all(name),
         }
     }
 

@@ -2,6 +2,8 @@
 ghost use Rattle.std.specs.Prelude.{◌≡◌};
 ghost use Rattle.elf_parts.specs.GnuFind.{gnu_view};
 ghost use Rattle.elf_parts.specs.Hash.{word_count};
+ghost use Rattle.elfshow.specs.NamedSymbols.{AreAllNamed, named_left};
+ghost use Rattle.elfshow.specs.Resolve.{Object};
 ghost use Rattle.elfshow.specs.Scan.{IndexedGnu, IsLeastNamed};
 ghost use Rattle.elfshow.specs.Sound.{gnu_given};
 ghost use Rattle.elfshow.specs.SoundCount.{IsNumberOf};
@@ -10,6 +12,8 @@ ghost use Rattle.elfshow.specs.inner.SoundProps.{GnuReads, GnuReads-prop, SoundG
 
 mod check;
 
+use crate::hashcheck::named::{Links, NamedSymbols, Walk};
+use crate::hashcheck::words::word_count;
 pub use check::{check_gnu, check_gnu_counted};
 use elf_parts::endian::EndianParse;
 use elf_parts::hash::GnuHashTable;
@@ -30,6 +34,7 @@ pub struct CheckedGnuHash<'data, E: EndianParse> {
 
 impl<'data, E: EndianParse> CheckedGnuHash<'data, E> {
     ghost use Rattle.elfshow.specs.CheckedView.{checked_gnu_view, gnu_indexed};
+    ghost use Rattle.elfshow.specs.NamedSymbols.{indices_left, run_from};
 
     /// The index and the symbol of a name, the least of the indexed ones; none where no indexed symbol has
     /// the name.
@@ -40,6 +45,31 @@ impl<'data, E: EndianParse> CheckedGnuHash<'data, E> {
             Ok(found) => found,
             Err(_) => None,
         }
+    }
+
+    // The indices of a run, from the index that `find` gives on, where it gives one.
+    fn run_from(&self, found: Option<(usize, Symbol)>) -> Walk<'data, E>
+        ensures { indices_left result ≡ run_from (checked_gnu_view self.now).table found }
+    {
+        let chains = self.table.chains();
+        let links = Links::Run {
+            first: self.table.hdr.table_start_idx,
+        };
+        let Some((index, _)) = found else {
+            return Walk::new(links, chains, None, 0);
+        };
+        let place = index.saturating_sub(self.table.hdr.table_start_idx as usize);
+        let left = word_count(&chains).saturating_sub(place);
+        Walk::new(links, chains, Some(index), left)
+    }
+
+    /// All symbols of a name that the section indexes, each with its index: the first is the one that `find` gives, and
+    /// they come in the order of their indices.
+    pub fn find_all<'a>(&self, name: &'a [u8]) -> NamedSymbols<'a, 'data, E>
+        ensures { AreAllNamed (Object.ByGnu (checked_gnu_view self.now)) name.now (named_left result) }
+    {
+        let walk = self.run_from(self.find(name));
+        NamedSymbols::new(walk, self.symtab, self.strtab, name)
     }
 
     /// How many symbols the section indexes.

@@ -2,6 +2,8 @@
 ghost use Rattle.std.specs.Prelude.{◌≡◌};
 ghost use Rattle.elf_parts.specs.Hash.{word_count};
 ghost use Rattle.elf_parts.specs.SysvFind.{sysv_view};
+ghost use Rattle.elfshow.specs.NamedSymbols.{AreAllNamed, named_left};
+ghost use Rattle.elfshow.specs.Resolve.{Object};
 ghost use Rattle.elfshow.specs.Scan.{IndexedSysv, IsFirstNamed};
 ghost use Rattle.elfshow.specs.Sound.{sysv_given};
 ghost use Rattle.elfshow.specs.SoundCount.{IsNumberOf};
@@ -11,6 +13,8 @@ ghost use Rattle.elfshow.specs.inner.SoundProps.{SoundSysv-prop, SysvReads, Sysv
 
 mod check;
 
+use crate::hashcheck::named::{Links, NamedSymbols, Walk};
+use crate::hashcheck::words::word_count;
 pub use check::{check_sysv, check_sysv_counted};
 use elf_parts::endian::EndianParse;
 use elf_parts::hash::SysVHashTable;
@@ -31,6 +35,7 @@ pub struct CheckedSysvHash<'data, E: EndianParse> {
 
 impl<'data, E: EndianParse> CheckedSysvHash<'data, E> {
     ghost use Rattle.elfshow.specs.CheckedView.{checked_sysv_view, sysv_indexed};
+    ghost use Rattle.elfshow.specs.NamedSymbols.{chain_from, indices_left};
 
     /// The index and the symbol of a name, the first in its chain; none where no indexed symbol has the
     /// name.
@@ -41,6 +46,27 @@ impl<'data, E: EndianParse> CheckedSysvHash<'data, E> {
             Ok(found) => found,
             Err(_) => None,
         }
+    }
+
+    // The indices of a chain, from the index that `find` gives on, where it gives one.
+    fn chain_from(&self, found: Option<(usize, Symbol)>) -> Walk<'data, E>
+        ensures { indices_left result ≡ chain_from (checked_sysv_view self.now).table found }
+    {
+        let chains = self.table.chains();
+        let left = word_count(&chains);
+        match found {
+            Some((index, _)) => Walk::new(Links::Chain, chains, Some(index), left),
+            None => Walk::new(Links::Chain, chains, None, 0),
+        }
+    }
+
+    /// All symbols of a name that the section indexes, each with its index: the first is the one that `find` gives, and
+    /// they come in the order of their chain.
+    pub fn find_all<'a>(&self, name: &'a [u8]) -> NamedSymbols<'a, 'data, E>
+        ensures { AreAllNamed (Object.BySysv (checked_sysv_view self.now)) name.now (named_left result) }
+    {
+        let walk = self.chain_from(self.find(name));
+        NamedSymbols::new(walk, self.symtab, self.strtab, name)
     }
 
     /// How many symbols the section indexes.

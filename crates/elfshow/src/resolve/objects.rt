@@ -119,6 +119,7 @@ pub fn object_table<'data, E: EndianParse>(
     Ok(None)
 }
 
+#[tactic(auto, using(std::proofs::lemmas::Grind::elements))]
 /// The first object in the list that has the name, by its place from 0 on, with the index and the symbol that its
 /// `find` gives. None where no object has the name.
 pub fn resolve<E: EndianParse>(

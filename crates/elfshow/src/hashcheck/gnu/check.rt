@@ -1,15 +1,15 @@
 //! The check of a GNU section, in one pass over its chain words.
-ghost use Rattle.std.specs.Prelude.{◌≡◌, ◌↔◌, ◌+◌, ◌<◌, ◌≤◌, ◌^◌, Some, IsTrue, MatchOption, IfNone};
+ghost use Rattle.std.specs.Prelude.{◌≡◌, ◌↔◌, ◌+◌, ◌<◌, ◌≤◌, ◌^◌, Some, IsTrue, MatchOption, IfNone, IfSome};
 ghost use Rattle.elf_parts.specs.GnuFind.{gnu_section, gnu_view};
 ghost use Rattle.elf_parts.specs.Hash.{word_count};
 ghost use Rattle.elf_parts.specs.StringTable.{strings_view};
 ghost use Rattle.elf_parts.specs.Table.{table_view};
 ghost use Rattle.elfshow.specs.CheckedView.{checked_gnu_view, gnu_indexed};
 ghost use Rattle.elfshow.specs.Sound.{bloom, gnu_given, word};
-ghost use Rattle.elfshow.specs.SoundCount.{counted, read_count};
+ghost use Rattle.elfshow.specs.SoundCount.{counted, read_count, symbols_of};
 ghost use Rattle.elfshow.specs.SoundFaults.{IsTrueOfGnu};
 ghost use Rattle.elfshow.specs.SoundGnu.{HasBothBits, InRun, SoundGnu, SoundWord};
-ghost use Rattle.elfshow.specs.SoundVerdict.{GivesVerdict, OnSound, gnu_chain_count, section_given};
+ghost use Rattle.elfshow.specs.SoundVerdict.{GivesVerdict, OnFaulty, OnSound, gnu_chain_count, section_given};
 ghost use Rattle.elfshow.specs.inner.HashSteps.{RunBegins};
 
 use crate::hashcheck::gnu::CheckedGnuHash;
@@ -121,6 +121,9 @@ fn first_fault<'data, E: EndianParse>(
     ensures at_most { read_count reads.new ≤ read_count reads.old + word_count (gnu_view table.now).chains }
     ensures at_least { IfNone result
         (counted (read_count reads.old) (word_count (gnu_view table.now).chains) ≤ read_count reads.new) }
+    ensures never_less { read_count reads.old ≤ read_count reads.new }
+    ensures at_fault { IfSome result (λ fault.
+        counted (read_count reads.old) (symbols_of fault) ≤ read_count reads.new) }
 {
     if table.hdr.nshift >= 32 {
         return Some(HashFault::ShiftTooLarge);
@@ -141,7 +144,8 @@ fn first_fault<'data, E: EndianParse>(
 }
 
 /// Whether a GNU section is sound for its symbols, with the symbols that were read added to the count: at most
-/// one for each chain word. Refuses exactly where `GnuHashTable::new` does.
+/// one for each chain word, at least those that a sound section indexes, or one where a fault names a symbol.
+/// Refuses exactly where `GnuHashTable::new` does.
 pub fn check_gnu_counted<'data, E: EndianParse>(
     endian: E,
     class: Class,
@@ -157,6 +161,9 @@ pub fn check_gnu_counted<'data, E: EndianParse>(
         read_count reads.new ≤ read_count reads.old + gnu_chain_count cut }
     ensures at_least { OnSound result (λ checked.
         counted (read_count reads.old) (gnu_indexed checked) ≤ read_count reads.new) }
+    ensures never_less { read_count reads.old ≤ read_count reads.new }
+    ensures at_fault { OnFaulty result (λ fault.
+        counted (read_count reads.old) (symbols_of fault) ≤ read_count reads.new) }
 {
     let table = GnuHashTable::new(endian, class, section)?;
     gnu_words_can_be_read(section);

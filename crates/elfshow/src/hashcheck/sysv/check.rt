@@ -2,17 +2,17 @@
 //!
 //! A chain whose names all belong to its own bucket shares no index with an earlier one, so all chains that
 //! end have no more indices than there are chain words. A chain that does not end is left after as many.
-ghost use Rattle.std.specs.Prelude.{◌≡◌, ◌+◌, ◌*◌, ◌<◌, ◌≤◌, ◌^◌, IfOk, MatchResult};
+ghost use Rattle.std.specs.Prelude.{◌≡◌, ◌+◌, ◌*◌, ◌<◌, ◌≤◌, ◌^◌, IfErr, IfOk, MatchResult};
 ghost use Rattle.elf_parts.specs.Hash.{word_count};
 ghost use Rattle.elf_parts.specs.StringTable.{strings_view};
 ghost use Rattle.elf_parts.specs.SysvFind.{sysv_section, sysv_view};
 ghost use Rattle.elf_parts.specs.Table.{table_view};
 ghost use Rattle.elfshow.specs.CheckedView.{checked_sysv_view, sysv_indexed};
 ghost use Rattle.elfshow.specs.Sound.{sysv_given};
-ghost use Rattle.elfshow.specs.SoundCount.{counted, read_count};
+ghost use Rattle.elfshow.specs.SoundCount.{counted, read_count, symbols_of};
 ghost use Rattle.elfshow.specs.SoundFaults.{IsTrueOfSysv};
 ghost use Rattle.elfshow.specs.SoundSysv.{EndsAt, SoundSysv};
-ghost use Rattle.elfshow.specs.SoundVerdict.{GivesVerdict, OnSound, section_given, sysv_chain_count};
+ghost use Rattle.elfshow.specs.SoundVerdict.{GivesVerdict, OnFaulty, OnSound, section_given, sysv_chain_count};
 ghost use Rattle.elfshow.specs.ChainLengths.{chain_lengths};
 
 use crate::hashcheck::sysv::CheckedSysvHash;
@@ -39,6 +39,9 @@ fn chain_length<'data, E: EndianParse>(
         MatchResult result (EndsAt s bucket) (IsTrueOfSysv s) }
     ensures at_most { read_count reads.new ≤ read_count reads.old + word_count (sysv_view table.now).chains }
     ensures exact { IfOk result (λ length. read_count reads.new ≡ counted (read_count reads.old) length) }
+    ensures never_less { read_count reads.old ≤ read_count reads.new }
+    ensures at_fault { IfErr result (λ fault.
+        counted (read_count reads.old) (symbols_of fault) ≤ read_count reads.new) }
     ensures short { word_count (sysv_view table.now).chains < 2 ^ 62 }
 {
     let buckets = table.buckets();
@@ -81,6 +84,9 @@ fn first_fault<'data, E: EndianParse>(
         (λ fault. (¬ SoundSysv s) × IsTrueOfSysv s fault) }
     ensures at_most { read_count reads.new ≤ read_count reads.old + 2 * word_count (sysv_view table.now).chains }
     ensures at_least { IfOk result (λ indexed. counted (read_count reads.old) indexed ≤ read_count reads.new) }
+    ensures never_less { read_count reads.old ≤ read_count reads.new }
+    ensures at_fault { IfErr result (λ fault.
+        counted (read_count reads.old) (symbols_of fault) ≤ read_count reads.new) }
 {
     let mut indexed = 0;
     for bucket in 0..word_count(&table.buckets()) {
@@ -93,7 +99,8 @@ fn first_fault<'data, E: EndianParse>(
 }
 
 /// Whether a SysV section is sound for its symbols, with the symbols that were read added to the count: at
-/// most two for each chain word. Refuses exactly where `SysVHashTable::new` does.
+/// most two for each chain word, at least those that a sound section indexes, or one where a fault names a symbol.
+/// Refuses exactly where `SysVHashTable::new` does.
 pub fn check_sysv_counted<'data, E: EndianParse>(
     endian: E,
     class: Class,
@@ -109,6 +116,9 @@ pub fn check_sysv_counted<'data, E: EndianParse>(
         read_count reads.new ≤ read_count reads.old + 2 * sysv_chain_count cut }
     ensures at_least { OnSound result (λ checked.
         counted (read_count reads.old) (sysv_indexed checked) ≤ read_count reads.new) }
+    ensures never_less { read_count reads.old ≤ read_count reads.new }
+    ensures at_fault { OnFaulty result (λ fault.
+        counted (read_count reads.old) (symbols_of fault) ≤ read_count reads.new) }
 {
     let table = SysVHashTable::new(endian, class, section)?;
     sysv_words_can_be_read(section);

@@ -1,0 +1,15 @@
+use Rattle.std.proofs.Common.{◌≡◌, ap, ◌∙◌, ℕ, List, subst, sym}
+use Rattle.elf_parts.specs.declared.symbol.Symbol.{Symbol}
+use Rattle.elfshow.specs.NamedSymbols.{AreAllNamed, kept_named}
+use Rattle.elfshow.specs.Resolve.{BySysv}
+use Rattle.elfshow.specs.Sound.{sysv_given}
+use Rattle.elfshow.proofs.AllNamed.{sysv_all}
+use Rattle.elfshow.proofs.hashcheck.sysv.CheckedSysvHash.find_all.Goals as goal
+
+pub returns : goal.returns
+returns g c =
+    let s = sysv_given c.args.self.now.table c.args.self.now.symtab c.args.self.now.strtab in
+    let all = sysv_all s c.args.name.now c.args.self.now.sound c.find.result c.find.ensures in
+    let same = c.new.ensures ∙ ap (kept_named s.symbols s.strings c.args.name.now) c.chain_from-walk.ensures in
+    let P : List (ℕ × Symbol) → Type 0 = λ found. AreAllNamed (BySysv s) c.args.name.now found in
+    subst P (sym same) all
