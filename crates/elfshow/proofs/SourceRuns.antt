@@ -22,21 +22,21 @@ module _ {E : Type 0} (little : E → Bool) (of_byte : ℕ → Option E)
     → text (answers_of little (with_header v header)) calls ≡ text (stream_answers little s bytes) calls) where
   told_listed : (told : Option (List ℕ)) (s : Seen E) (can_fail : Bool) (faults now : ℕ) (calls : List Call) (before after : Option (List ℕ)) (x : Unit {0})
       → IfSome told (λ bytes. IsOpening shown_headers (ok_map headers_of (opened little of_byte bytes)) can_fail faults (Ok s))
-      → IfSome told (λ bytes. Ran (λ calls. text (stream_answers little s bytes) (map asked calls)) calls before after s.faults now (Ok x))
+      → IfSome told (λ bytes. Ran (λ calls. text (stream_answers little s bytes) (map asked calls)) calls before after s.can_fail s.faults now (Ok x))
       → IfSome told (λ bytes. IsOkAnd (opened little of_byte bytes) (λ file. Appends before after (text (answers_of little file) (map asked calls))))
   told_listed None s can_fail faults now calls before after x opening ran = tt
   told_listed (Some bytes) s can_fail faults now calls before after x opening ran =
       let found = ok_map-ok headers_of (opened little of_byte bytes) (shown_headers s) opening.1 in
       let v : View E = found.0 in
       let same = law bytes v v.ehdr s (map asked calls) found.1 (sym found.2) in
-      let written : Appends before after (text (answers_of little v) (map asked calls)) = subst (λ t. Appends before after t) (sym same) ran in
+      let written : Appends before after (text (answers_of little v) (map asked calls)) = subst (λ t. Appends before after t) (sym same) ran.1 in
       subst (λ (o : Result (View E) ParseError). IsOkAnd o (λ file. Appends before after (text (answers_of little file) (map asked calls)))) (sym found.1) written
 
   pub source_listed : (told : Option (List ℕ)) (s : Seen E) (can_fail : Bool) (faults now : ℕ) (calls : List Call) (before after : Option (List ℕ)) (r : Result (Unit {0}) RunError) → s.content ≡ told
       → IfSome told (λ bytes. IsOpening shown_headers (ok_map headers_of (opened little of_byte bytes)) can_fail faults (Ok s))
-      → IfSome s.content (λ bytes. Ran (λ calls. text (stream_answers little s bytes) (map asked calls)) calls before after s.faults now r)
+      → IfSome s.content (λ bytes. Ran (λ calls. text (stream_answers little s bytes) (map asked calls)) calls before after s.can_fail s.faults now r)
       → OnOk r (IfSome told (λ bytes. IsOkAnd (opened little of_byte bytes) (λ file. Appends before after (text (answers_of little file) (map asked calls)))))
   source_listed told s can_fail faults now calls before after (Err e) same opening ran = tt
   source_listed told s can_fail faults now calls before after (Ok x) same opening ran =
       told_listed told s can_fail faults now calls before after x opening
-      (subst (λ content. IfSome content (λ bytes. Ran (λ calls. text (stream_answers little s bytes) (map asked calls)) calls before after s.faults now (Ok x))) same ran)
+      (subst (λ content. IfSome content (λ bytes. Ran (λ calls. text (stream_answers little s bytes) (map asked calls)) calls before after s.can_fail s.faults now (Ok x))) same ran)

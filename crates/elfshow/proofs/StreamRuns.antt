@@ -13,7 +13,7 @@ use Rattle.elf_parts.specs.declared.parse.ParseError.{ParseError}
 use Rattle.elf_parts.specs.declared.section.SectionHeader.{SectionHeader}
 use Rattle.elf_parts.specs.declared.segment.ProgramHeader.{ProgramHeader}
 use Rattle.elfshow.specs.Asked.{Asked, asked}
-use Rattle.elfshow.specs.Run.{IsAtHand, IsCause, IsFaultless}
+use Rattle.elfshow.specs.Run.{IsAtHand, IsFaultless}
 use Rattle.elfshow.specs.StreamAnswers.{IsAnswered, OfThere, ranges_of, stream_answers}
 use Rattle.elfshow.specs.Text.{call_text, unless_absent, unless_refused}
 use Rattle.elfshow.specs.declared.calls.Call.{Call}
@@ -25,24 +25,19 @@ use Rattle.elfshow.specs.lines.Stand.{refused_line}
 -- ---- a refusal
 
 ran_by : (k : Kind) (none : Type 0) (line : List ℕ) (old new : Option (List ℕ)) (before now : ℕ) (can_fail : Bool) (r : Result (Unit {0}) RunError)
-    → IsRefused before now can_fail none k → (none → line ≡ refused_line) → LeadsTo k old new r → RanOne line old new before now r
+    → IsRefused before now can_fail none k → (none → line ≡ refused_line) → LeadsTo k old new r → RanOne line old new can_fail before now r
 ran_by Kind.Failure none line old new before now can_fail (Ok x) h text leads = absurd leads.1
 ran_by Kind.Failure none line old new before now can_fail (Err (Open e)) h text leads = absurd leads.1
-ran_by Kind.Failure none line old new before now can_fail (Err (Fault done e)) h text leads = (leads.0, subst (λ k. IsCause before now k) (sym leads.1) h.0)
+ran_by Kind.Failure none line old new before now can_fail (Err (Fault done e)) h text leads = (leads.0, subst (λ k. IsRefused before now can_fail ⊥ k) (sym leads.1) h)
 ran_by Kind.Failure none line old new before now can_fail (Err (Write done e)) h text leads = absurd leads.1
 ran_by Kind.Want none line old new before now can_fail (Ok x) h text leads = absurd leads.1
 ran_by Kind.Want none line old new before now can_fail (Err (Open e)) h text leads = absurd leads.1
-ran_by Kind.Want none line old new before now can_fail (Err (Fault done e)) h text leads = (leads.0, subst (λ k. IsCause before now k) (sym leads.1) tt)
+ran_by Kind.Want none line old new before now can_fail (Err (Fault done e)) h text leads = (leads.0, subst (λ k. IsRefused before now can_fail ⊥ k) (sym leads.1) h)
 ran_by Kind.Want none line old new before now can_fail (Err (Write done e)) h text leads = absurd leads.1
-ran_by Kind.Refusal none line old new before now can_fail (Ok x) h text leads = subst (λ bytes. Appends old new bytes) (sym (text h.1)) leads
+ran_by Kind.Refusal none line old new before now can_fail (Ok x) h text leads = (h.0, subst (λ bytes. Appends old new bytes) (sym (text h.1)) leads)
 ran_by Kind.Refusal none line old new before now can_fail (Err (Open e)) h text leads = absurd leads
 ran_by Kind.Refusal none line old new before now can_fail (Err (Fault done e)) h text leads = absurd leads
-ran_by Kind.Refusal none line old new before now can_fail (Err (Write done e)) h text leads = tt
-
-counted_by : (k : Kind) (none : Type 0) (before now : ℕ) (can_fail : Bool) → IsRefused before now can_fail none k → before ≤ now
-counted_by Kind.Failure none before now can_fail h = let up = h.0 in omega arith
-counted_by Kind.Want none before now can_fail h = omega (arith, h)
-counted_by Kind.Refusal none before now can_fail h = omega (arith, h.0)
+ran_by Kind.Refusal none line old new before now can_fail (Err (Write done e)) h text leads = h.0
 
 not_refused : (T : Type 0) (e : ParseError) → IsOk {T = T} (Err e) → ⊥
 not_refused T e h = cc
@@ -119,15 +114,15 @@ faultless (Err x) (Err (Open e)) h = absurd h
 faultless (Err x) (Err (Fault done e)) h = absurd h
 faultless (Err x) (Err (Write done e)) h = tt
 
-ran_written : {A X : Type 0} (line written : List ℕ) (old new : Option (List ℕ)) (before now : ℕ) (w : Result A X) (r : Result (Unit {0}) RunError) → line ≡ written → OnOk w (Appends old new written) → IsWritten w r → RanOne line old new before now r
-ran_written line written old new before now (Ok x) (Ok y) text h is = subst (λ bytes. Appends old new bytes) (sym text) h
-ran_written line written old new before now (Ok x) (Err (Open e)) text h is = absurd is
-ran_written line written old new before now (Ok x) (Err (Fault done e)) text h is = absurd is
-ran_written line written old new before now (Ok x) (Err (Write done e)) text h is = absurd is
-ran_written line written old new before now (Err x) (Ok y) text h is = absurd is
-ran_written line written old new before now (Err x) (Err (Open e)) text h is = absurd is
-ran_written line written old new before now (Err x) (Err (Fault done e)) text h is = absurd is
-ran_written line written old new before now (Err x) (Err (Write done e)) text h is = tt
+ran_written : {A X : Type 0} (line written : List ℕ) (old new : Option (List ℕ)) (before now : ℕ) (can_fail : Bool) (w : Result A X) (r : Result (Unit {0}) RunError) → line ≡ written → now ≡ before → OnOk w (Appends old new written) → IsWritten w r → RanOne line old new can_fail before now r
+ran_written line written old new before now can_fail (Ok x) (Ok y) text same h is = (same, subst (λ bytes. Appends old new bytes) (sym text) h)
+ran_written line written old new before now can_fail (Ok x) (Err (Open e)) text same h is = absurd is
+ran_written line written old new before now can_fail (Ok x) (Err (Fault done e)) text same h is = absurd is
+ran_written line written old new before now can_fail (Ok x) (Err (Write done e)) text same h is = absurd is
+ran_written line written old new before now can_fail (Err x) (Ok y) text same h is = absurd is
+ran_written line written old new before now can_fail (Err x) (Err (Open e)) text same h is = absurd is
+ran_written line written old new before now can_fail (Err x) (Err (Fault done e)) text same h is = absurd is
+ran_written line written old new before now can_fail (Err x) (Err (Write done e)) text same h is = same
 
 told_written : {T Y X : Type 0} (told : Option (List ℕ)) (shown : T → Y) (answer : List ℕ → Result Y ParseError) (x : T) (line : List ℕ → List ℕ) (written : List ℕ) (old new : Option (List ℕ)) (before now : ℕ) (can_fail : Bool) (w : Result (Unit {0}) X)
     → IfSome told (λ bytes. answer bytes ≡ Ok (shown x) → line bytes ≡ written) → IfSome told (λ bytes. IsAnswer shown (answer bytes) can_fail before now (Ok x)) → OnOk w (Appends old new written) → IfSome told (λ bytes. TriedOne (line bytes) old new can_fail before now (Ok w))
@@ -186,29 +181,19 @@ module _ {E : Type 0} (little : E → Bool) (call : Asked) (old new : Seen E) wh
 -- ---- a call that was tried, as a run tells it
 
 ran_tried : {X : Type 0} (told : Option (List ℕ)) (line : List ℕ → List ℕ) (old new : Option (List ℕ)) (before now : ℕ) (can_fail : Bool) (w : Result (Unit {0}) X) (r : Result (Unit {0}) RunError)
-    → IfSome told (λ bytes. TriedOne (line bytes) old new can_fail before now (Ok w)) → IsWritten w r → IfSome told (λ bytes. RanOne (line bytes) old new before now r)
+    → IfSome told (λ bytes. TriedOne (line bytes) old new can_fail before now (Ok w)) → IsWritten w r → IfSome told (λ bytes. RanOne (line bytes) old new can_fail before now r)
 ran_tried None line old new before now can_fail w r h is = tt
-ran_tried (Some bytes) line old new before now can_fail w r h is = ran_written (line bytes) (line bytes) old new before now w r refl h.1 is
-
-same_count : {X : Type 0} (told : Option (List ℕ)) (line : List ℕ → List ℕ) (old new : Option (List ℕ)) (before now : ℕ) (can_fail : Bool) (w : Result (Unit {0}) X)
-    → IfSome told (λ bytes. TriedOne (line bytes) old new can_fail before now (Ok w)) → IfSome told (λ _. before ≤ now)
-same_count None line old new before now can_fail w h = tt
-same_count (Some bytes) line old new before now can_fail w h = omega (arith, h.0)
+ran_tried (Some bytes) line old new before now can_fail w r h is = ran_written (line bytes) (line bytes) old new before now can_fail w r refl h.0 h.1 is
 
 told_faultless : (told : Option (List ℕ)) (hand : List ℕ → Type 0) (r : Result (Unit {0}) RunError) → IsFaultless r → IfSome told (λ bytes. hand bytes → IsFaultless r)
 told_faultless None hand r h = tt
 told_faultless (Some bytes) hand r h = λ _. h
 
 refused_ran : (X : Type 0) (told : Option (List ℕ)) (line : List ℕ → List ℕ) (old middle new : Option (List ℕ)) (before now : ℕ) (can_fail : Bool) (e : ParseError) (r : Result (Unit {0}) RunError)
-    → IfSome told (λ bytes. TriedOne {X = X} (line bytes) old middle can_fail before now (Err e)) → LeadsTo (kind e) middle new r → IfSome told (λ bytes. RanOne (line bytes) old new before now r)
+    → IfSome told (λ bytes. TriedOne {X = X} (line bytes) old middle can_fail before now (Err e)) → LeadsTo (kind e) middle new r → IfSome told (λ bytes. RanOne (line bytes) old new can_fail before now r)
 refused_ran X None line old middle new before now can_fail e r h leads = tt
 refused_ran X (Some bytes) line old middle new before now can_fail e r h leads =
     ran_by (kind e) (line bytes ≡ refused_line) (line bytes) old new before now can_fail r h.1 (λ same. same) (subst (λ o. LeadsTo (kind e) o new r) h.0 leads)
-
-refused_count : (X : Type 0) (told : Option (List ℕ)) (line : List ℕ → List ℕ) (old middle : Option (List ℕ)) (before now : ℕ) (can_fail : Bool) (e : ParseError)
-    → IfSome told (λ bytes. TriedOne {X = X} (line bytes) old middle can_fail before now (Err e)) → IfSome told (λ _. before ≤ now)
-refused_count X None line old middle before now can_fail e h = tt
-refused_count X (Some bytes) line old middle before now can_fail e h = counted_by (kind e) (line bytes ≡ refused_line) before now can_fail h.1
 
 refused_faultless : (T : Type 0) (told : Option (List ℕ)) (hand : List ℕ → Type 0) (e : ParseError) (r : Result (Unit {0}) RunError)
     → IfSome told (λ bytes. hand bytes → IsOk {T = T} (Err e)) → IfSome told (λ bytes. hand bytes → IsFaultless r)
@@ -224,7 +209,6 @@ module _ {E X : Type 0} (little : E → Bool) (call : Asked) (old new : Seen E) 
       record {
         keeps = here.keeps;
         ran = ran_tried old.content line before after old.faults new.faults old.can_fail w r here.tried told_so;
-        counted = same_count old.content line before after old.faults new.faults old.can_fail w here.tried;
         no_fault = told_faultless old.content (λ bytes. IsAtHand little old bytes call) r (faultless w r told_so);
       }
 
@@ -236,7 +220,6 @@ module _ {E X : Type 0} (little : E → Bool) (call : Asked) (old new : Seen E) 
       record {
         keeps = here.keeps;
         ran = refused_ran X old.content line before middle after old.faults new.faults old.can_fail e r here.tried leads;
-        counted = refused_count X old.content line before middle old.faults new.faults old.can_fail e here.tried;
         no_fault = refused_faultless (Result (Unit {0}) X) old.content (λ bytes. IsAtHand little old bytes call) e r here.accepted;
       }
 

@@ -1,26 +1,27 @@
 -- What a run of calls over a stream writes, and why it stops.
-use Rattle.std.specs.Prelude.{ℕ, ◌<◌, ◌≤◌, Bool, List, length, take, Option, Result, Ok, Err}
+use Rattle.std.specs.Prelude.{◌≡◌, ℕ, ◌<◌, Bool, List, length, take, Option, Result, Ok, Err}
 use Rattle.std.specs.Io.KnownBytes.{Appends}
-use Rattle.elf.specs.Stream.{AreHeld, Kind, Seen, kind}
+use Rattle.elf.specs.Stream.{AreHeld, IsRefused, Seen, kind}
 use Rattle.elfshow.specs.Asked.{Asked}
 use Rattle.elfshow.specs.StreamAnswers.{IsAnswered, TakesNoMemory, call_ranges, stream_answers}
 use Rattle.elfshow.specs.declared.calls.RunError.{RunError}
 use Rattle.elfshow.specs.declared.calls.RunError.TheVariants.{Fault, Open, Write}
 
--- why there was a fault: the source failed, which its count shows, or memory was refused
-abbrev pub IsCause : ℕ → ℕ → Kind → Type 0
-IsCause before now Kind.Failure = before < now
-IsCause before now Kind.Want = Unit {0}
-IsCause before now Kind.Refusal = ⊥
-
--- At Ok the whole text was written, at a fault that of the calls that were done; of what a writer holds that failed
+-- At Ok the whole text was written, and the source did not fail. A fault is a failure of the source, which its count
+-- shows, or want of memory; then the text of the calls that were done was written. Of what a writer holds that failed
 -- nothing is said. A run over a stream opens no file.
-abbrev pub Ran : {C : Type 0} → (List C → List ℕ) → List C → Option (List ℕ) → Option (List ℕ) → ℕ → ℕ → Result (Unit {0}) RunError → Type 0
-Ran texts calls old new before now (Ok _) = Appends old new (texts calls)
-Ran texts calls old new before now (Err (Open e)) = ⊥
-Ran texts calls old new before now (Err (Fault done e)) =
-    (done ≤ length calls) × Appends old new (texts (take done calls)) × IsCause before now (kind e)
-Ran texts calls old new before now (Err (Write done e)) = done ≤ length calls
+abbrev pub Ran : {C : Type 0} → (List C → List ℕ) → List C → Option (List ℕ) → Option (List ℕ) → Bool → ℕ → ℕ →
+    Result (Unit {0}) RunError → Type 0
+Ran texts calls old new can_fail before now (Ok _) = (now ≡ before) × Appends old new (texts calls)
+Ran texts calls old new can_fail before now (Err (Open e)) = ⊥
+Ran texts calls old new can_fail before now (Err (Fault done e)) =
+    (done < length calls) × Appends old new (texts (take done calls)) × IsRefused before now can_fail ⊥ (kind e)
+Ran texts calls old new can_fail before now (Err (Write done e)) = (done < length calls) × (now ≡ before)
+
+-- a run that a writer stopped had calls left
+abbrev pub StopsWithin : ℕ → Result (Unit {0}) RunError → Type 0
+StopsWithin count (Err (Write done e)) = done < count
+StopsWithin count _ = Unit {0}
 
 -- there was no fault
 abbrev pub IsFaultless : Result (Unit {0}) RunError → Type 0

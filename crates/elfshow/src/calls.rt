@@ -1,11 +1,11 @@
 //! The calls of a listing, and the text that they write.
-ghost use Rattle.std.specs.Prelude.{◌≡◌, ◌≢◌, ℕ, All, OnOk, IfOk, IfErr, IfSome, Err, map};
+ghost use Rattle.std.specs.Prelude.{◌≡◌, ◌≢◌, ℕ, All, OnOk, IfOk, IfErr, IfSome, Err, length, map};
 ghost use Rattle.std.specs.Io.KnownBytes.{Appends};
 ghost use Rattle.elf.specs.Opening.{opened};
 ghost use Rattle.elf.specs.Stream.{Keeps};
 ghost use Rattle.elfshow.specs.Asked.{asked};
 ghost use Rattle.elfshow.specs.BytesAnswers.{answers_of};
-ghost use Rattle.elfshow.specs.Run.{IsAtHand, IsFaultless, Ran};
+ghost use Rattle.elfshow.specs.Run.{IsAtHand, IsFaultless, Ran, StopsWithin};
 ghost use Rattle.elfshow.specs.StreamAnswers.{stream_answers};
 ghost use Rattle.elfshow.specs.Text.{text};
 ghost use Rattle.elf_parts.specs.declared.parse.ParseError.{ParseError};
@@ -89,6 +89,7 @@ pub fn run_bytes<E: EndianParse, W: Write>(
     ensures open { (e : ParseError) → result ≡ Err (RunError.Open e) →
         (opened E.little E.of_byte «data».now ≡ Err e) × (out.new ≡ out.old) }
     ensures no_fault { (done : ℕ) (e : ParseError) → result ≢ Err (RunError.Fault done e) }
+    ensures stopped { StopsWithin (length calls.now) result }
 {
     let file = match ElfBytes::<E>::minimal_parse(data) {
         Ok(file) => file,
@@ -120,7 +121,7 @@ pub fn run_stream<E: EndianParse, S: StreamSource, A: Allocator + Copy, W: Write
     ensures keeps { Keeps stream.old stream.new }
     ensures ran { IfSome stream.old.content (λ bytes.
         Ran (λ calls. text (stream_answers E.little stream.old bytes) (map asked calls)) calls.now
-        (W.contents out.old) (W.contents out.new) stream.old.faults stream.new.faults result) }
+        (W.contents out.old) (W.contents out.new) stream.old.can_fail stream.old.faults stream.new.faults result) }
     ensures no_fault { IfSome stream.old.content (λ bytes.
         All (λ call. IsAtHand E.little stream.old bytes (asked call)) calls.now → IsFaultless result) }
 {

@@ -13,7 +13,7 @@ use Rattle.elfshow.specs.declared.lines.hashes.Verdict.{Verdict}
 use Rattle.std.specs.Option.{option_map}
 use Rattle.elf_parts.specs.declared.parse.ParseError.{ParseError}
 use Rattle.elfshow.specs.Asked.{Asked}
-use Rattle.elfshow.specs.Run.{IsAtHand, IsCause, IsFaultless}
+use Rattle.elfshow.specs.Run.{IsAtHand, IsFaultless}
 use Rattle.elfshow.specs.StreamAnswers.{stream_answers}
 use Rattle.elfshow.specs.Text.{call_text}
 use Rattle.elfshow.specs.declared.calls.RunError.{RunError}
@@ -22,17 +22,16 @@ use Rattle.elfshow.specs.lines.Stand.{refused_line}
 use Rattle.std.specs.Io.KnownBytes.{Keeps as KeepsBytes}
 
 -- as Ran, of one call; at a fault nothing was written
-abbrev pub RanOne : List ℕ → Option (List ℕ) → Option (List ℕ) → ℕ → ℕ → Result (Unit {0}) RunError → Type 0
-RanOne line old new before now (Ok _) = Appends old new line
-RanOne line old new before now (Err (Open e)) = ⊥
-RanOne line old new before now (Err (Fault done e)) = KeepsBytes old new × IsCause before now (kind e)
-RanOne line old new before now (Err (Write done e)) = Unit {0}
+abbrev pub RanOne : List ℕ → Option (List ℕ) → Option (List ℕ) → Bool → ℕ → ℕ → Result (Unit {0}) RunError → Type 0
+RanOne line old new can_fail before now (Ok _) = (now ≡ before) × Appends old new line
+RanOne line old new can_fail before now (Err (Open e)) = ⊥
+RanOne line old new can_fail before now (Err (Fault done e)) = KeepsBytes old new × IsRefused before now can_fail ⊥ (kind e)
+RanOne line old new can_fail before now (Err (Write done e)) = now ≡ before
 
 -- the same file, the text of the call, and no fault where it is answered at hand
 pub record RanCall {E : Type 0} (little : E → Bool) (call : Asked) (old new : Seen E) (before after : Option (List ℕ)) (r : Result (Unit {0}) RunError) : Type 0 where
   pub keeps : Keeps old new
-  pub ran : IfSome old.content (λ bytes. RanOne (call_text (stream_answers little old bytes) call) before after old.faults new.faults r)
-  pub counted : IfSome old.content (λ _. old.faults ≤ new.faults)
+  pub ran : IfSome old.content (λ bytes. RanOne (call_text (stream_answers little old bytes) call) before after old.can_fail old.faults new.faults r)
   pub no_fault : IfSome old.content (λ bytes. IsAtHand little old bytes call → IsFaultless r)
 
 -- of a call that was tried: its text was written; or the stream refuses it, and then nothing was written, and where

@@ -1,4 +1,4 @@
-use Rattle.std.proofs.Common.{◌≤◌, map, take, IfSome}
+use Rattle.std.proofs.Common.{◌≡◌, map, take, IfSome}
 use Rattle.std.specs.Io.KnownBytes.{Appends}
 use Rattle.elf.specs.Stream.{Keeps}
 use Rattle.elfshow.specs.Asked.{asked}
@@ -12,5 +12,5 @@ invariant-loop-done g l = record {
   keeps : Keeps l.initial.stream l.stream;
   written : IfSome l.initial.stream.content (λ bytes.
       Appends (g.W.Write.contents l.initial.out) (g.W.Write.contents l.out) (text (stream_answers g.E.EndianParse.little l.initial.stream bytes) (map asked (take l.done l.calls)))
-      × (l.initial.stream.faults ≤ l.stream.faults));
+      × (l.stream.faults ≡ l.initial.stream.faults));
 }
