@@ -1,4 +1,5 @@
 //! The common data of a file, and what its hash sections find in it.
+use crate::records::show_items;
 use crate::shown::{show, show_refusal};
 use elf::endian::EndianParse;
 use elf::{CommonElfData, ElfBytes};
@@ -43,4 +44,16 @@ fn show_found<E: EndianParse>(
         show(rt, table.find(name, &*symbols, &*strings))?;
     }
     Ok(())
+}
+
+/// The entries of the dynamic table among the common data.
+pub(crate) fn show_common_dynamic<E: EndianParse>(
+    rt: &HostRuntime,
+    file: &ElfBytes<'_, E>,
+) -> io::Result<()> {
+    match file.find_common_data().map(|common| common.dynamic) {
+        Ok(Some(table)) => show_items(rt, &table, table.len()),
+        Ok(None) => print!(rt; "none"),
+        Err(error) => show_refusal(rt, error),
+    }
 }

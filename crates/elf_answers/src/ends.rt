@@ -18,7 +18,7 @@ use std::io;
 
 /// `ends KIND ORDER CLASS COUNT BYTES`: whether the iterator over the bytes from each place on gives no more items than
 /// bytes, and no more linked records than the count, and then `None` three times. Of notes the count is the alignment, of
-/// records of a table it is not looked at.
+/// records of a table it is not looked at. Linked records are also looked for at the greatest offset, where there is none.
 pub(crate) fn show_ends(rt: &HostRuntime, words: &mut Words<'_>) -> io::Result<()> {
     let kind = words.word();
     let order = words.order();
@@ -66,14 +66,24 @@ fn is_ended(asked: Asked, kind: &str, data: &[u8]) -> bool {
             NoteIterator::new(order, class, count as usize, data),
             data.len(),
         ),
-        "VerDefIterator" => is_few(
-            VerDefIterator::new(order, class, count, 0, data),
-            least(count, data),
-        ),
-        "VerNeedIterator" => is_few(
-            VerNeedIterator::new(order, class, count, 0, data),
-            least(count, data),
-        ),
+        "VerDefIterator" => {
+            is_few(
+                VerDefIterator::new(order, class, count, 0, data),
+                least(count, data),
+            ) && is_few(
+                VerDefIterator::new(order, class, count, usize::MAX, data),
+                0,
+            )
+        }
+        "VerNeedIterator" => {
+            is_few(
+                VerNeedIterator::new(order, class, count, 0, data),
+                least(count, data),
+            ) && is_few(
+                VerNeedIterator::new(order, class, count, usize::MAX, data),
+                0,
+            )
+        }
         "SectionHeader" => is_table_ended::<SectionHeader>(asked, data),
         "Symbol" => is_table_ended::<Symbol>(asked, data),
         "Rela" => is_table_ended::<Rela>(asked, data),

@@ -50,7 +50,8 @@ fn show_tail_by<E: EndianParse + Debug>(
 /// `KIND ORDER FILE CHANGE.. : SET..`, where KIND is
 /// `open`: how many sections and segments the opened file has, or why it is not opened;
 /// `file`: its header and all of its sections and segments;
-/// `names`: the names of its sections.
+/// `names`: the names of its sections;
+/// `cuts`: what opening answers of the first 0, 1, 2 and so on of its bytes, up to all of them;
 /// any other: what a method of the opened file answers.
 /// A SET, as `shstrndx=2`, changes a field of the header of the opened file, or, as `offset=52`, of the header made by
 /// hand that the method is asked with; `name=N` is the name that it is asked with.
@@ -71,12 +72,30 @@ fn show_file_by<E: EndianParse + Debug>(
     data: &[u8],
     words: &mut Words<'_>,
 ) -> io::Result<()> {
+    if kind == "cuts" {
+        return show_cuts::<E>(rt, data);
+    }
     match ElfBytes::<E>::minimal_parse(data) {
         Ok(mut file) => {
             let given = given_by(&mut file.ehdr, words);
             show_opened(rt, kind, &file, given)
         }
         Err(error) => show_refusal(rt, error),
+    }
+}
+
+fn show_cuts<E: EndianParse>(rt: &HostRuntime, data: &[u8]) -> io::Result<()> {
+    for length in 0..=data.len() {
+        print!(rt; "\n    {length} ")?;
+        show_opening::<E>(rt, &data[..length])?;
+    }
+    Ok(())
+}
+
+fn show_opening<E: EndianParse>(rt: &HostRuntime, data: &[u8]) -> io::Result<()> {
+    match ElfBytes::<E>::minimal_parse(data) {
+        Ok(file) => show_counts(rt, &file),
+        Err(error) => print!(rt; "{error:?}"),
     }
 }
 

@@ -1,5 +1,5 @@
 //! The answers of an opened file.
-use crate::common::show_common;
+use crate::common::{show_common, show_common_dynamic};
 use crate::notes::show_each;
 use crate::records::show_items;
 use crate::shown::{show, show_lines, show_refusal};
@@ -94,6 +94,7 @@ pub(crate) fn show_method<E: EndianParse>(
         "dynsyms" => show_symbols(rt, file.dynamic_symbol_table()),
         "dynamic" => show_table(rt, file.dynamic()),
         "common" => show_common(rt, file, given.name.as_bytes()),
+        "common_dynamic" => show_common_dynamic(rt, file),
         "segment" => show(rt, file.segment_data(&given.segment())),
         "segment_notes" => show_notes(rt, file.segment_data_as_notes(&given.segment())),
         _ => show_section(rt, kind, file, given.section()),

@@ -32,6 +32,8 @@ mod shown;
 #[cfg(test)]
 mod sources;
 #[cfg(test)]
+mod stopped_run;
+#[cfg(test)]
 mod stops;
 #[cfg(test)]
 mod stream_runs;

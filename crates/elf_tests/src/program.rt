@@ -160,6 +160,9 @@ fn a_failed_flush_is_told_in_each_mode(rt: HostRuntime) {
         let words = [mode, "F", "header", "sections"];
         let status = show(rt.alloc(), &words, &HEADER_ALONE, &mut out, &mut err);
         assert!(rt; status == 1, "{mode}");
-        assert!(rt; err.starts_with(b"elfshow: stopped after 0 calls: "), "{mode}");
+        assert!(rt;
+            err.starts_with(b"elfshow: stopped after 0 calls: "),
+            "{mode}"
+        );
     }
 }

@@ -1,7 +1,11 @@
 //! The plain structs, which no call of the library reads or writes.
+use elf::compression::{Elf32_Chdr, Elf64_Chdr};
+use elf::dynamic::{Elf32_Dyn, Elf64_Dyn};
 use elf::file::{Elf32_Ehdr, Elf64_Ehdr};
+use elf::relocation::{Elf32_Rel, Elf32_Rela, Elf64_Rel, Elf64_Rela};
 use elf::section::{Elf32_Shdr, Elf64_Shdr};
 use elf::segment::{Elf32_Phdr, Elf64_Phdr};
+use elf::symbol::{Elf32_Sym, Elf64_Sym};
 use std::fmt::Debug;
 use std::process::Abort;
 
@@ -115,5 +119,103 @@ fn plain_structs_have_their_fields(rt: HostRuntime) {
             p_align: u64::MAX,
         },
         "Elf64_Phdr { p_type: 4294967295, p_flags: 4294967295, p_offset: 18446744073709551615, p_vaddr: 18446744073709551615, p_paddr: 18446744073709551615, p_filesz: 18446744073709551615, p_memsz: 18446744073709551615, p_align: 18446744073709551615 }",
+    );
+}
+
+// Each field has the greatest value of its type, and a signed one the least.
+#[test]
+fn plain_structs_of_records_have_their_fields(rt: HostRuntime) {
+    assert_fields(
+        &rt,
+        Elf32_Sym {
+            st_name: u32::MAX,
+            st_value: u32::MAX,
+            st_size: u32::MAX,
+            st_info: u8::MAX,
+            st_other: u8::MAX,
+            st_shndx: u16::MAX,
+        },
+        "Elf32_Sym { st_name: 4294967295, st_value: 4294967295, st_size: 4294967295, st_info: 255, st_other: 255, st_shndx: 65535 }",
+    );
+    assert_fields(
+        &rt,
+        Elf64_Sym {
+            st_name: u32::MAX,
+            st_info: u8::MAX,
+            st_other: u8::MAX,
+            st_shndx: u16::MAX,
+            st_value: u64::MAX,
+            st_size: u64::MAX,
+        },
+        "Elf64_Sym { st_name: 4294967295, st_info: 255, st_other: 255, st_shndx: 65535, st_value: 18446744073709551615, st_size: 18446744073709551615 }",
+    );
+    assert_fields(
+        &rt,
+        Elf32_Rel {
+            r_offset: u32::MAX,
+            r_info: u32::MAX,
+        },
+        "Elf32_Rel { r_offset: 4294967295, r_info: 4294967295 }",
+    );
+    assert_fields(
+        &rt,
+        Elf64_Rel {
+            r_offset: u64::MAX,
+            r_info: u64::MAX,
+        },
+        "Elf64_Rel { r_offset: 18446744073709551615, r_info: 18446744073709551615 }",
+    );
+    assert_fields(
+        &rt,
+        Elf32_Rela {
+            r_offset: u32::MAX,
+            r_info: u32::MAX,
+            r_addend: i32::MIN,
+        },
+        "Elf32_Rela { r_offset: 4294967295, r_info: 4294967295, r_addend: -2147483648 }",
+    );
+    assert_fields(
+        &rt,
+        Elf64_Rela {
+            r_offset: u64::MAX,
+            r_info: u64::MAX,
+            r_addend: i64::MIN,
+        },
+        "Elf64_Rela { r_offset: 18446744073709551615, r_info: 18446744073709551615, r_addend: -9223372036854775808 }",
+    );
+    assert_fields(
+        &rt,
+        Elf32_Dyn {
+            d_tag: i32::MIN,
+            d_un: u32::MAX,
+        },
+        "Elf32_Dyn { d_tag: -2147483648, d_un: 4294967295 }",
+    );
+    assert_fields(
+        &rt,
+        Elf64_Dyn {
+            d_tag: i64::MIN,
+            d_un: u64::MAX,
+        },
+        "Elf64_Dyn { d_tag: -9223372036854775808, d_un: 18446744073709551615 }",
+    );
+    assert_fields(
+        &rt,
+        Elf32_Chdr {
+            ch_type: u32::MAX,
+            ch_size: u32::MAX,
+            ch_addralign: u32::MAX,
+        },
+        "Elf32_Chdr { ch_type: 4294967295, ch_size: 4294967295, ch_addralign: 4294967295 }",
+    );
+    assert_fields(
+        &rt,
+        Elf64_Chdr {
+            ch_type: u32::MAX,
+            ch_reserved: u32::MAX,
+            ch_size: u64::MAX,
+            ch_addralign: u64::MAX,
+        },
+        "Elf64_Chdr { ch_type: 4294967295, ch_reserved: 4294967295, ch_size: 18446744073709551615, ch_addralign: 18446744073709551615 }",
     );
 }

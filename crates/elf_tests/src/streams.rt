@@ -1,12 +1,14 @@
 //! A stream over sources that give little, that fail, and that are shorter than they say.
 use crate::files::{
-    COMPRESSED, HASHED, HASHED_OTHERWISE, ONE_DYNAMIC_ENTRY, ONE_SEGMENT, TWO_SECTIONS, VERSIONED,
+    COMPRESSED, COMPRESSED_WIDE, HASHED, HASHED_OTHERWISE, ONE_DYNAMIC_ENTRY, ONE_SEGMENT,
+    TWO_SECTIONS, VERSIONED, VERSIONS_BY_NAME,
 };
 use crate::memory::all_memory;
 use crate::refusals::refusal;
 use crate::sources::{Halting, Meter, Metered, Short};
 use elf::dynamic::{Dyn, DynamicTable};
 use elf::endian::AnyEndian;
+use elf::gnu_symver::{SymbolDefinition, SymbolRequirement, SymbolVersionTable};
 use elf::note::{Note, NoteIterator};
 use elf::relocation::{Rel, RelIterator, Rela, RelaIterator};
 use elf::section::SectionHeader;
@@ -19,15 +21,23 @@ use std::cell::Cell;
 use std::process::Abort;
 use std::test::Fail;
 
-const FILES: [&[u8]; 7] = [
+const FILES: [&[u8]; 9] = [
     &TWO_SECTIONS,
     &ONE_SEGMENT,
     &COMPRESSED,
+    &COMPRESSED_WIDE,
     &HASHED,
     &HASHED_OTHERWISE,
     &ONE_DYNAMIC_ENTRY,
     &VERSIONED,
+    &VERSIONS_BY_NAME,
 ];
+
+/// How many calls over each of the files read their first range, where nothing is held.
+const READING: [usize; 9] = [18, 15, 15, 15, 17, 17, 17, 18, 17];
+
+/// How many of the opening and the calls over each of the files have a range that no call before them asked for.
+const STARVED: [usize; 9] = [7, 6, 6, 6, 6, 6, 8, 7, 6];
 
 const EMPTY: SectionHeader = SectionHeader {
     sh_name: 0,
@@ -72,9 +82,15 @@ const COMPRESSED_STRINGS: SectionHeader = SectionHeader {
     ..EMPTY
 };
 
+const WIDE_COMPRESSED_STRINGS: SectionHeader = SectionHeader {
+    sh_offset: 64,
+    sh_size: 27,
+    ..COMPRESSED_STRINGS
+};
+
 /// Headers made by hand: strings, records and notes, no bytes, bytes that only the longer files have, and a range
 /// that no file has.
-const SECTIONS: [SectionHeader; 8] = [
+const SECTIONS: [SectionHeader; 9] = [
     SectionHeader {
         sh_type: 3,
         sh_offset: 52,
@@ -82,6 +98,7 @@ const SECTIONS: [SectionHeader; 8] = [
         ..EMPTY
     },
     COMPRESSED_STRINGS,
+    WIDE_COMPRESSED_STRINGS,
     RELS,
     RELAS,
     NOTES,
@@ -277,6 +294,64 @@ fn copied(found: Option<&SectionHeader>) -> Option<SectionHeader> {
     found.copied()
 }
 
+type Versions<'a> = SymbolVersionTable<'a, AnyEndian>;
+
+/// The version that the first symbol needs.
+fn first_requirement<'a>(versions: &'a Versions<'_>) -> Option<SymbolRequirement<'a>> {
+    versions.get_requirement(0).ok()?
+}
+
+fn have_same_name(
+    one: Option<Result<&str, ParseError>>,
+    other: Option<Result<&str, ParseError>>,
+) -> bool {
+    match (one, other) {
+        (Some(Ok(one)), Some(Ok(other))) => one == other,
+        (None, None) | (Some(Err(_)), Some(Err(_))) => true,
+        _ => false,
+    }
+}
+
+/// Whether both tell the same of a version, the first of its names included.
+fn are_same(
+    mut one: SymbolDefinition<'_, AnyEndian>,
+    mut other: SymbolDefinition<'_, AnyEndian>,
+) -> bool {
+    one.hash == other.hash
+        && one.flags == other.flags
+        && one.hidden == other.hidden
+        && have_same_name(one.names.next(), other.names.next())
+}
+
+/// Whether both give the second symbol the same version.
+fn have_same_definition(one: &Versions<'_>, other: &Versions<'_>) -> bool {
+    match (one.get_definition(1), other.get_definition(1)) {
+        (Ok(Some(one)), Ok(Some(other))) => are_same(one, other),
+        (Ok(None), Ok(None)) | (Err(_), Err(_)) => true,
+        _ => false,
+    }
+}
+
+fn have_same_versions(one: &Versions<'_>, other: &Versions<'_>) -> bool {
+    first_requirement(one) == first_requirement(other) && have_same_definition(one, other)
+}
+
+fn versions_answer(
+    stream: Result<Option<Versions<'_>>, ParseError>,
+    bytes: Result<Option<Versions<'_>>, ParseError>,
+) -> Answer {
+    match (stream, bytes) {
+        (Ok(Some(one)), Ok(Some(other))) => {
+            if have_same_versions(&one, &other) {
+                Answer::Same
+            } else {
+                Answer::Other
+            }
+        }
+        (stream, bytes) => compared(stream.map(is_there), bytes.map(is_there)),
+    }
+}
+
 fn is_there<T: Drop>(found: Option<T>) -> bool {
     found.is_some()
 }
@@ -303,10 +378,9 @@ fn choice_answer(stream: &mut Halted<'_>, file: &Bytes<'_>, choice: Choice) -> A
             stream.dynamic().map(first_entry),
             file.dynamic().map(first_entry),
         ),
-        Choice::Versions => compared(
-            stream.symbol_version_table().map(is_there),
-            file.symbol_version_table().map(is_there),
-        ),
+        Choice::Versions => {
+            versions_answer(stream.symbol_version_table(), file.symbol_version_table())
+        }
     }
 }
 
@@ -547,19 +621,77 @@ fn notes_are_lent(rt: HostRuntime) -> Result<(), ParseError> {
 
 #[test]
 fn strings_stand_behind_a_compression_header(rt: HostRuntime) -> Result<(), Fail> {
-    let mut stream = InMemory::open_stream(rt.alloc(), MemSource::new(&COMPRESSED))?;
-    let found = stream.section_data_as_strtab(&COMPRESSED_STRINGS);
-    assert!(rt; found.ok().and_then(second_string) == Some(b"a".as_slice()));
+    for (bytes, shdr) in [
+        (&COMPRESSED[..], COMPRESSED_STRINGS),
+        (&COMPRESSED_WIDE, WIDE_COMPRESSED_STRINGS),
+    ] {
+        let mut stream = InMemory::open_stream(rt.alloc(), MemSource::new(bytes))?;
+        let found = stream.section_data_as_strtab(&shdr);
+        assert!(rt; found.ok().and_then(second_string) == Some(b"a".as_slice()));
+    }
     Ok(())
 }
 
-/// A stream over a source that does not fail.
+/// A stream over a source that gives one byte a read and does not fail.
 fn open<'a>(
     alloc: Global,
     bytes: &'a [u8],
     calls_left: &'a Cell<u64>,
 ) -> Result<Halted<'a>, ParseError> {
-    Halted::open_stream(alloc, Halting::new(bytes, 3, calls_left))
+    Halted::open_stream(alloc, Halting::new(bytes, 1, calls_left))
+}
+
+/// Whether the first call of a stream is refused, where its source fails behind so many calls.
+fn first_call_fails(
+    rt: &(impl Abort + AllocGlobal),
+    bytes: &[u8],
+    asked: Asked,
+    calls_before: u64,
+) -> Result<bool, ParseError> {
+    let file = ElfBytes::minimal_parse(bytes)?;
+    let calls_left = Cell::new(u64::MAX);
+    let mut stream = open(rt.alloc(), bytes, &calls_left)?;
+    calls_left.set(calls_before);
+    let is_refused = call_is_refused(rt, &mut stream, &file, asked, Answer::Failed);
+    assert!(rt; has_headers(&stream, &file));
+    Ok(is_refused)
+}
+
+/// At how many calls of its source the first call of a stream fails.
+fn faults_of_first_call(
+    rt: &(impl Abort + AllocGlobal),
+    bytes: &[u8],
+    asked: Asked,
+) -> Result<u64, ParseError> {
+    for calls_before in 0..1000 {
+        if !first_call_fails(rt, bytes, asked, calls_before)? {
+            return Ok(calls_before);
+        }
+    }
+    Ok(1000)
+}
+
+/// How many of the calls need the source, each as the first one of a stream.
+fn calls_that_read(rt: &(impl Abort + AllocGlobal), bytes: &[u8]) -> Result<usize, ParseError> {
+    let mut reading = 0usize;
+    for number in 0..CALLS {
+        if let Some(asked) = call(number)
+            && faults_of_first_call(rt, bytes, asked)? > 0
+        {
+            reading = reading.saturating_add(1);
+        }
+    }
+    Ok(reading)
+}
+
+#[test]
+fn the_first_call_may_fail(rt: HostRuntime) -> Result<(), ParseError> {
+    let faults = faults_of_first_call(&rt, &TWO_SECTIONS, Asked::Choice(Choice::Named))?;
+    assert!(rt; faults > 4, "{faults} faults");
+    for (bytes, reading) in FILES.iter().zip(READING) {
+        assert!(rt; calls_that_read(&rt, bytes)? >= reading);
+    }
+    Ok(())
 }
 
 /// The stream that was opened, or where memory was refused, that of a second try; and whether there was one.
@@ -657,14 +789,16 @@ fn is_starved(
     Ok(first == Answer::Starved)
 }
 
-/// How many of the opening and the calls with no header are refused while no memory is left.
+/// How many of the opening and all calls are refused while no memory is left.
 fn starved_calls(rt: &(impl Abort + AllocGlobal), bytes: &[u8]) -> Result<usize, Fail> {
     let file = ElfBytes::minimal_parse(bytes)?;
     let calls_left = Cell::new(u64::MAX);
     let (mut stream, is_again) = starved_opening(rt.alloc(), bytes, &calls_left)?;
     let mut starved = usize::from(is_again);
-    for choice in CHOICES {
-        if is_starved(rt, &mut stream, &calls_left, &file, Asked::Choice(choice))? {
+    for number in 0..CALLS {
+        if let Some(asked) = call(number)
+            && is_starved(rt, &mut stream, &calls_left, &file, asked)?
+        {
             starved = starved.saturating_add(1);
         }
     }
@@ -673,12 +807,7 @@ fn starved_calls(rt: &(impl Abort + AllocGlobal), bytes: &[u8]) -> Result<usize,
 
 #[test]
 fn what_is_held_needs_no_memory(rt: HostRuntime) -> Result<(), Fail> {
-    for (bytes, starved) in [
-        (&TWO_SECTIONS[..], 2),
-        (&HASHED, 2),
-        (&ONE_DYNAMIC_ENTRY, 2),
-        (&VERSIONED, 3),
-    ] {
+    for (bytes, starved) in FILES.iter().zip(STARVED) {
         assert_eq!(rt; starved_calls(&rt, bytes)?, starved);
     }
     Ok(())

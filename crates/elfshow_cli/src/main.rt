@@ -98,13 +98,10 @@ fn read_whole(rt: &HostRuntime, file: &str) -> io::Result<Vec<u8>> {
     Ok(data)
 }
 
-// A file is read in one piece, by the length that the system tells; what it has beyond that is read behind it.
+// Reads a file into room of the length that the system gives, which grows where the file is longer.
 fn read_file(rt: &HostRuntime, path: &str) -> io::Result<Vec<u8>> {
     let mut file = File::open(rt, path)?;
-    let mut data = Vec::new(rt.alloc());
-    data.resize(file.metadata()?.len() as usize, 0)?;
-    let read = file.read(data.as_mut_slice())?;
-    data.truncate(read);
+    let mut data = Vec::with_capacity(rt.alloc(), file.metadata()?.len() as usize)?;
     file.read_to_end(&mut data)?;
     Ok(data)
 }
