@@ -36,9 +36,6 @@ const FILES: [&[u8]; 9] = [
 /// How many calls over each of the files read their first range, where nothing is held.
 const READING: [usize; 9] = [18, 15, 15, 15, 17, 17, 17, 18, 17];
 
-/// How many of the opening and the calls over each of the files have a range that no call before them asked for.
-const STARVED: [usize; 9] = [7, 6, 6, 6, 6, 6, 8, 7, 6];
-
 const EMPTY: SectionHeader = SectionHeader {
     sh_name: 0,
     sh_type: 1,
@@ -789,16 +786,15 @@ fn is_starved(
     Ok(first == Answer::Starved)
 }
 
-/// How many of the opening and all calls are refused while no memory is left.
+/// How many of the opening and the calls with no header are refused while no memory is left. To take all memory and give it
+/// back costs a tenth of a second and more, so not all calls are tried.
 fn starved_calls(rt: &(impl Abort + AllocGlobal), bytes: &[u8]) -> Result<usize, Fail> {
     let file = ElfBytes::minimal_parse(bytes)?;
     let calls_left = Cell::new(u64::MAX);
     let (mut stream, is_again) = starved_opening(rt.alloc(), bytes, &calls_left)?;
     let mut starved = usize::from(is_again);
-    for number in 0..CALLS {
-        if let Some(asked) = call(number)
-            && is_starved(rt, &mut stream, &calls_left, &file, asked)?
-        {
+    for choice in CHOICES {
+        if is_starved(rt, &mut stream, &calls_left, &file, Asked::Choice(choice))? {
             starved = starved.saturating_add(1);
         }
     }
@@ -807,7 +803,12 @@ fn starved_calls(rt: &(impl Abort + AllocGlobal), bytes: &[u8]) -> Result<usize,
 
 #[test]
 fn what_is_held_needs_no_memory(rt: HostRuntime) -> Result<(), Fail> {
-    for (bytes, starved) in FILES.iter().zip(STARVED) {
+    for (bytes, starved) in [
+        (&TWO_SECTIONS[..], 2),
+        (&HASHED, 2),
+        (&ONE_DYNAMIC_ENTRY, 2),
+        (&VERSIONED, 3),
+    ] {
         assert_eq!(rt; starved_calls(&rt, bytes)?, starved);
     }
     Ok(())
