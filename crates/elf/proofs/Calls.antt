@@ -1,7 +1,6 @@
 -- Calls of a stream, one after the other, answer as those of `ElfBytes`.
-use Rattle.std.proofs.Common.{◌≡◌, ℕ, Bool, List, [], ◌∷◌, refl, sym, ap, ◌∙◌, subst, Option, Some, None, IfSome}
+use Rattle.std.proofs.Common.{◌≡◌, ℕ, Bool, List, [], ◌∷◌, refl, ap, ◌∙◌, subst, Option, Some, None, IfSome}
 use Rattle.std.specs.Prelude.{Result, Ok, Err, IsErr, All}
-use Rattle.std.specs.Result.{result_ok}
 use Rattle.std.proofs.lemmas.List.Elements.{All-cons, All-nil}
 use Rattle.elf_parts.specs.Number.{ok_map}
 use Rattle.elf_parts.specs.declared.file.FileHeader.{FileHeader}

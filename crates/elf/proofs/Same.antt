@@ -4,8 +4,8 @@ use Rattle.std.specs.Prelude.{ok_or, slice_get}
 use Rattle.std.specs.Result.{result_ok}
 use Rattle.std.proofs.lemmas.List.{length-take}
 use Rattle.elf_parts.specs.Number.{bytes_at, ok_map}
-use Rattle.elf_parts.specs.Record.{◌>>=◌, record_by, size_by}
-use Rattle.elf_parts.specs.Section.{section_header_layout}
+use Rattle.elf_parts.specs.Record.{◌>>=◌, size_by}
+use Rattle.elf_parts.specs.Section.{section_header_layout, section_header_reads}
 use Rattle.elf_parts.specs.Symbol.{symbol_layout}
 use Rattle.elf_parts.specs.Symver.{Definitions, Needs, Versions, ver_defs, ver_needs}
 use Rattle.elf_parts.specs.Table.{Table, table_get, table_in, table_items}
@@ -184,7 +184,7 @@ module _ {E : Type 0} (little : E → Bool) where
 
 -- ---- the table and the list
 
-module _ (law : (t : Table) (i : ℕ) → length t.bytes < 2 ^ 64 → slice_get (table_items (size_by section_header_layout) (record_by section_header_layout) t) i ≡ result_ok (table_get (size_by section_header_layout) (record_by section_header_layout) t i)) where
+module _ (law : (t : Table) (i : ℕ) → length t.bytes < 2 ^ 64 → slice_get (table_items section_header_reads t) i ≡ result_ok (table_get section_header_reads t i)) where
   ok_of_or : {A : Type 0} (o : Option A) (e : ParseError) → result_ok (ok_or o e) ≡ o
   ok_of_or None e = refl
   ok_of_or (Some x) e = refl

@@ -1,11 +1,13 @@
 -- What each method answers about an object file.
 use Rattle.std.specs.Prelude.{ℕ, ◌==◌, if◌then◌else◌, List, Option, Some, None, Result, Ok, Err}
 use Rattle.std.specs.List.{find}
+use Rattle.elf_abi.specs.Values.{pt_dynamic, pt_note, sht_dynamic, sht_dynsym, sht_note, sht_rel}
+use Rattle.elf_abi.specs.Values.{sht_rela, sht_strtab, sht_symtab}
 use Rattle.elf_parts.specs.Dynamic.{dyn_layout}
 use Rattle.elf_parts.specs.Note.{NoteContent, notes_in}
 use Rattle.elf_parts.specs.Number.{ok_map}
-use Rattle.elf_parts.specs.Record.{◌>>=◌, record_by, size_by}
-use Rattle.elf_parts.specs.Relocation.{rel_layout, rela_layout}
+use Rattle.elf_parts.specs.Record.{◌>>=◌, size_by}
+use Rattle.elf_parts.specs.Relocation.{rel_reads, rela_reads}
 use Rattle.elf_parts.specs.Symbol.{symbol_layout}
 use Rattle.elf_parts.specs.StringTable.{strings_view}
 use Rattle.elf_parts.specs.Symver.{Versions}
@@ -63,10 +65,10 @@ symbols_view found = (table_view found.0, strings_view found.1)
 
 -- the relocations that an iterator is still to give
 abbrev pub rels_left : {E : Type 0} → ParsingIterator E Rel → List Rel
-rels_left rels = items_left (size_by rel_layout) (record_by rel_layout) rels
+rels_left rels = items_left rel_reads rels
 
 abbrev pub relas_left : {E : Type 0} → ParsingIterator E Rela → List Rela
-relas_left relas = items_left (size_by rela_layout) (record_by rela_layout) relas
+relas_left relas = items_left rela_reads relas
 
 -- the dynamic entries of a section
 abbrev pub section_dynamic : ObjectFile → SectionHeader → Result Table ParseError
@@ -85,44 +87,39 @@ section_header_by_name file name = ok_map (first_named file.sections name) (name
 abbrev pub section_data : ObjectFile → SectionHeader → Result (List ℕ × Option CompressionHeader) ParseError
 section_data file s = payload file s
 
--- SHT_STRTAB
 abbrev pub section_data_as_strtab : ObjectFile → SectionHeader → Result (List ℕ) ParseError
-section_data_as_strtab file s = content_of_type 3 file s
+section_data_as_strtab file s = content_of_type sht_strtab file s
 
--- SHT_REL
 abbrev pub section_data_as_rels : ObjectFile → SectionHeader → Result (List Rel) ParseError
-section_data_as_rels file s = ok_map (records_of rel_layout file) (content_of_type 9 file s)
+section_data_as_rels file s = ok_map (records_of rel_reads file) (content_of_type sht_rel file s)
 
--- SHT_RELA
 abbrev pub section_data_as_relas : ObjectFile → SectionHeader → Result (List Rela) ParseError
-section_data_as_relas file s = ok_map (records_of rela_layout file) (content_of_type 4 file s)
+section_data_as_relas file s = ok_map (records_of rela_reads file) (content_of_type sht_rela file s)
 
--- SHT_NOTE; the alignment is sh_addralign
+-- the alignment is sh_addralign
 abbrev pub section_data_as_notes : ObjectFile → SectionHeader → Result (List NoteContent) ParseError
-section_data_as_notes file s = ok_map (notes_in file.little s.sh_addralign) (content_of_type 7 file s)
+section_data_as_notes file s = ok_map (notes_in file.little s.sh_addralign) (content_of_type sht_note file s)
 
 abbrev pub segment_data : ObjectFile → ProgramHeader → Result (List ℕ) ParseError
 segment_data file p = segment_range file.bytes p
 
--- PT_NOTE; the alignment is p_align
+-- the alignment is p_align
 abbrev pub segment_data_as_notes : ObjectFile → ProgramHeader → Result (List NoteContent) ParseError
 segment_data_as_notes file p =
-    if p.p_type == 4 then ok_map (notes_in file.little p.p_align) (segment_data file p)
-    else Err (UnexpectedSegmentType (p.p_type, 4))
+    if p.p_type == pt_note then ok_map (notes_in file.little p.p_align) (segment_data file p)
+    else Err (UnexpectedSegmentType (p.p_type, pt_note))
 
--- SHT_SYMTAB
 abbrev pub symbol_table : ObjectFile → Result (Option (Table × List ℕ)) ParseError
-symbol_table file = first_symbols 2 file
+symbol_table file = first_symbols sht_symtab file
 
--- SHT_DYNSYM
 abbrev pub dynamic_symbol_table : ObjectFile → Result (Option (Table × List ℕ)) ParseError
-dynamic_symbol_table file = first_symbols 11 file
+dynamic_symbol_table file = first_symbols sht_dynsym file
 
 -- the first section of type SHT_DYNAMIC, or where no table of sections is declared the first segment of type PT_DYNAMIC
 abbrev pub dynamic : ObjectFile → Result (Option Table) ParseError
 dynamic file =
-    if file.has_sections then if_found (section_dynamic file) (first_section_of 6 file.sections)
-    else if_found (segment_dynamic file) (first_segment_of 2 file.segments)
+    if file.has_sections then if_found (section_dynamic file) (first_section_of sht_dynamic file.sections)
+    else if_found (segment_dynamic file) (first_segment_of pt_dynamic file.segments)
 
 -- None without a section of type SHT_GNU_VERSYM
 abbrev pub symbol_version_table : ObjectFile → Result (Option Versions) ParseError

@@ -1,6 +1,7 @@
 -- The ranges that a call of a stream asks for, each by its start and its size: the whole ranges of the headers whose
 -- bytes its answer is cut from.
 use Rattle.std.specs.Prelude.{ℕ, Bool, ◌==◌, if◌then◌else◌, List, [], ◌∷◌, ◌++◌, Option, Some, None, Result, Ok, Err}
+use Rattle.elf_abi.specs.Values.{pt_dynamic, pt_note, sht_dynamic, sht_nobits}
 use Rattle.elf_parts.specs.Dynamic.{dyn_layout}
 use Rattle.elf_parts.specs.Record.{◌>>=◌, size_by}
 use Rattle.elf_parts.specs.Symver.{version_index_layout}
@@ -22,9 +23,9 @@ range_of_section s = (s.sh_offset, s.sh_size)
 abbrev pub range_of_segment : ProgramHeader → ℕ × ℕ
 range_of_segment p = (p.p_offset, p.p_filesz)
 
--- section_data: a section of type SHT_NOBITS (8) has no bytes
+-- section_data: a section of type SHT_NOBITS has no bytes
 abbrev pub section_asked : SectionHeader → List (ℕ × ℕ)
-section_asked s = if s.sh_type == 8 then [] else range_of_section s ∷ []
+section_asked s = if s.sh_type == sht_nobits then [] else range_of_section s ∷ []
 
 -- its typed views: a section of another type is refused before it is read
 abbrev pub typed_section_asked : ℕ → SectionHeader → List (ℕ × ℕ)
@@ -34,9 +35,9 @@ typed_section_asked t s = if s.sh_type == t then section_asked s else []
 abbrev pub segment_asked : ProgramHeader → List (ℕ × ℕ)
 segment_asked p = range_of_segment p ∷ []
 
--- segment_data_as_notes: a segment of another type than PT_NOTE (4) is refused before it is read
+-- segment_data_as_notes: a segment of another type than PT_NOTE is refused before it is read
 abbrev pub segment_notes_asked : ProgramHeader → List (ℕ × ℕ)
-segment_notes_asked p = if p.p_type == 4 then segment_asked p else []
+segment_notes_asked p = if p.p_type == pt_note then segment_asked p else []
 
 -- ---- of calls that choose their headers, which takes the headers alone and no byte of the file
 
@@ -65,7 +66,7 @@ both_sections pair = range_of_section pair.0 ∷ range_of_section pair.1 ∷ []
 abbrev pub names_asked : ObjectFile → List (ℕ × ℕ)
 names_asked file = if_chosen whole_section (name_section file)
 
--- symbol_table (type 2, SHT_SYMTAB) and dynamic_symbol_table (11, SHT_DYNSYM)
+-- symbol_table (SHT_SYMTAB) and dynamic_symbol_table (SHT_DYNSYM)
 abbrev pub symbols_asked : ℕ → ObjectFile → List (ℕ × ℕ)
 symbols_asked t file = if_chosen both_sections (symbol_sections t file)
 
@@ -76,8 +77,8 @@ section_dynamic_asked file s = if s.sh_entsize == size_by dyn_layout file.class 
 -- dynamic
 abbrev pub dynamic_asked : ObjectFile → List (ℕ × ℕ)
 dynamic_asked file =
-    if file.has_sections then if_there (section_dynamic_asked file) (first_section_of 6 file.sections)
-    else if_there segment_asked (first_segment_of 2 file.segments)
+    if file.has_sections then if_there (section_dynamic_asked file) (first_section_of sht_dynamic file.sections)
+    else if_there segment_asked (first_segment_of pt_dynamic file.segments)
 
 -- a section, and the one that it links to
 abbrev pub Linked : Type 0

@@ -1,6 +1,7 @@
 -- Calls of an `ElfStream` one after the other, with headers put into `ehdr` between them, and what `ElfBytes` answers to
 -- the same calls with the same headers.
 use Rattle.std.specs.Prelude.{◌≡◌, ℕ, Bool, List, [], ◌∷◌, Option, Result, Ok, Err, IsErr}
+use Rattle.elf_abi.specs.Values.{sht_dynsym, sht_note, sht_rel, sht_rela, sht_strtab, sht_symtab}
 use Rattle.elf_parts.specs.Note.{NoteContent}
 use Rattle.elf_parts.specs.Symver.{Versions}
 use Rattle.elf_parts.specs.Table.{Table}
@@ -72,14 +73,14 @@ abbrev pub asked : Method → ObjectFile → List (ℕ × ℕ)
 asked SectionHeadersWithStrtab file = names_asked file
 asked (SectionHeaderByName name) file = names_asked file
 asked (SectionData s) file = section_asked s
-asked (SectionDataAsStrtab s) file = typed_section_asked 3 s
-asked (SectionDataAsRels s) file = typed_section_asked 9 s
-asked (SectionDataAsRelas s) file = typed_section_asked 4 s
-asked (SectionDataAsNotes s) file = typed_section_asked 7 s
+asked (SectionDataAsStrtab s) file = typed_section_asked sht_strtab s
+asked (SectionDataAsRels s) file = typed_section_asked sht_rel s
+asked (SectionDataAsRelas s) file = typed_section_asked sht_rela s
+asked (SectionDataAsNotes s) file = typed_section_asked sht_note s
 asked (SegmentData p) file = segment_asked p
 asked (SegmentDataAsNotes p) file = segment_notes_asked p
-asked SymbolTable file = symbols_asked 2 file
-asked DynamicSymbolTable file = symbols_asked 11 file
+asked SymbolTable file = symbols_asked sht_symtab file
+asked DynamicSymbolTable file = symbols_asked sht_dynsym file
 asked Dynamic file = dynamic_asked file
 asked SymbolVersionTable file = versions_asked file
 

@@ -2,6 +2,7 @@
 use Rattle.std.specs.Prelude.{ℕ, ◌==◌, if◌then◌else◌, List, [], ◌∷◌, map, Option, Some, None, Result, Ok}
 use Rattle.std.specs.List.{filter_map, last_or}
 use Rattle.std.specs.Option.{option_map}
+use Rattle.elf_abi.specs.Values.{pt_dynamic, sht_dynamic, sht_dynsym, sht_gnu_hash, sht_hash, sht_symtab}
 use Rattle.elf_parts.specs.GnuFind.{GnuTable, gnu_section, gnu_view}
 use Rattle.elf_parts.specs.Number.{ok_map}
 use Rattle.elf_parts.specs.Record.{◌>>=◌}
@@ -35,11 +36,11 @@ gnu_hash_of file s = section_range file.bytes s >>= gnu_section file.little file
 -- by the type of the section: SHT_SYMTAB, SHT_DYNSYM, SHT_DYNAMIC, SHT_HASH or SHT_GNU_HASH
 abbrev pub common_part : ObjectFile → SectionHeader → Result CommonPart ParseError
 common_part file s =
-    if s.sh_type == 2 then ok_map Symbols (symbols_of file s)
-    else if s.sh_type == 11 then ok_map DynamicSymbols (symbols_of file s)
-    else if s.sh_type == 6 then ok_map DynamicEntries (section_dynamic file s)
-    else if s.sh_type == 5 then ok_map SysvHash (sysv_hash_of file s)
-    else if s.sh_type == 0x6ffffff6 then ok_map GnuHash (gnu_hash_of file s)
+    if s.sh_type == sht_symtab then ok_map Symbols (symbols_of file s)
+    else if s.sh_type == sht_dynsym then ok_map DynamicSymbols (symbols_of file s)
+    else if s.sh_type == sht_dynamic then ok_map DynamicEntries (section_dynamic file s)
+    else if s.sh_type == sht_hash then ok_map SysvHash (sysv_hash_of file s)
+    else if s.sh_type == sht_gnu_hash then ok_map GnuHash (gnu_hash_of file s)
     else Ok Nothing
 
 -- what is in all of the results, or the first refusal
@@ -99,7 +100,7 @@ last_of_each parts = record {
 -- the dynamic entries of the sections, or where there are none those of the first segment of type PT_DYNAMIC
 abbrev pub dynamic_or_segment : ObjectFile → Option Table → Result (Option Table) ParseError
 dynamic_or_segment file (Some entries) = Ok (Some entries)
-dynamic_or_segment file None = if_found (segment_dynamic file) (first_segment_of 2 file.segments)
+dynamic_or_segment file None = if_found (segment_dynamic file) (first_segment_of pt_dynamic file.segments)
 
 -- the same data with other dynamic entries
 abbrev pub with_dynamic : CommonData → Option Table → CommonData

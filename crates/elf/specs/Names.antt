@@ -2,6 +2,7 @@
 use Rattle.std.specs.Prelude.{ℕ, ◌==◌, Bool, false, if◌then◌else◌, not, List, Option, Some, None, Result, Ok, Err}
 use Rattle.std.specs.Option.{option_map}
 use Rattle.std.specs.Str.{bytes_eq}
+use Rattle.elf_abi.specs.Values.{shn_undef, shn_xindex}
 use Rattle.elf_parts.specs.Number.{ok_map}
 use Rattle.elf_parts.specs.Record.{◌>>=◌}
 use Rattle.elf_parts.specs.StringTable.{string_at, strings_view}
@@ -14,17 +15,17 @@ use Rattle.elf.specs.Choice.{if_found}
 use Rattle.elf.specs.ObjectFile.{ObjectFile}
 use Rattle.elf.specs.Range.{section_range}
 
--- which section holds the names: e_shstrndx, or where that is SHN_XINDEX (0xffff) the sh_link of section 0
+-- which section holds the names: e_shstrndx, or where that is SHN_XINDEX the sh_link of section 0
 abbrev pub name_index : ObjectFile → Result ℕ ParseError
 name_index file =
-    if file.e_shstrndx == 0xffff then ok_map (λ first. first.sh_link) (file.section_at 0)
+    if file.e_shstrndx == shn_xindex then ok_map (λ first. first.sh_link) (file.section_at 0)
     else Ok file.e_shstrndx
 
--- that section: none without section headers, and none where e_shstrndx is SHN_UNDEF (0)
+-- that section: none without section headers, and none where e_shstrndx is SHN_UNDEF
 unfoldable pub name_section : ObjectFile → Result (Option SectionHeader) ParseError
 name_section file =
     if not file.has_sections then Ok None
-    else if file.e_shstrndx == 0 then Ok None
+    else if file.e_shstrndx == shn_undef then Ok None
     else name_index file >>= λ index. ok_map Some (file.section_at index)
 
 -- the table of the names: the bytes of that section

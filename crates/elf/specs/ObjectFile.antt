@@ -1,7 +1,7 @@
 -- An object file as the answers about it take it: headers and bytes, and no word of how a table of
 -- headers lies in the file. So it does not matter which reader has opened it.
 use Rattle.std.specs.Prelude.{ℕ, Bool, List, Result, is_some}
-use Rattle.elf_parts.specs.Record.{Layout, record_by, size_by}
+use Rattle.elf_parts.specs.Record.{RecordType}
 use Rattle.elf_parts.specs.Table.{Table, table_in, table_items}
 use Rattle.elf_parts.specs.declared.file.Class.{Class}
 use Rattle.elf_parts.specs.declared.parse.ParseError.{ParseError}
@@ -40,5 +40,5 @@ abbrev pub table_of : ObjectFile → List ℕ → Table
 table_of file bytes = table_in file.little file.class bytes
 
 -- the records that they hold
-abbrev pub records_of : {A : Type 0} → Layout A → ObjectFile → List ℕ → List A
-records_of layout file bytes = table_items (size_by layout) (record_by layout) (table_of file bytes)
+abbrev pub records_of : {A : Type 0} → RecordType A → ObjectFile → List ℕ → List A
+records_of reads file bytes = table_items reads (table_of file bytes)

@@ -1,6 +1,7 @@
 -- How a file is opened (gABI, chapters "ELF Header", "Sections" and "Program Header"): its header is read,
 -- and the two tables that it declares are found. The first step that is refused refuses the file.
 use Rattle.std.specs.Prelude.{ℕ, ◌*◌, ◌==◌, Bool, if◌then◌else◌, List, Option, Some, None, Result, Ok, Err}
+use Rattle.elf_abi.specs.Values.{ei_nident, pn_xnum}
 use Rattle.elf_parts.specs.Number.{bytes_at, ok_map}
 use Rattle.elf_parts.specs.Record.{◌>>=◌, record_by, size_by, size_of}
 use Rattle.elf_parts.specs.File.{header_with_tail, ident_of, tail_fields}
@@ -26,8 +27,8 @@ module _ {E : Type 0} (little : E → Bool) where
   -- the header at the front: the identification in the first sixteen bytes, and the tail behind them
   unfoldable pub header_at_front : (ℕ → Option E) → List ℕ → Result (FileHeader E) ParseError
   header_at_front of_byte bytes =
-      bytes_at 16 bytes 0 >>= λ front. ident_of of_byte front >>= λ ident.
-      bytes_at (size_of (tail_fields ident.1)) bytes 16 >>= λ tail. header_with_tail little ident tail
+      bytes_at ei_nident bytes 0 >>= λ front. ident_of of_byte front >>= λ ident.
+      bytes_at (size_of (tail_fields ident.1)) bytes ei_nident >>= λ tail. header_with_tail little ident tail
 
   -- the first section header, at e_shoff
   abbrev pub first_section : FileHeader E → List ℕ → Result SectionHeader ParseError
@@ -38,10 +39,10 @@ module _ {E : Type 0} (little : E → Bool) where
   section_count h bytes =
       if h.e_shnum == 0 then ok_map (λ first. first.sh_size) (first_section h bytes) else Ok h.e_shnum
 
-  -- e_phnum, or where that is PN_XNUM (0xffff) the sh_info of the first section header
+  -- e_phnum, or where that is PN_XNUM the sh_info of the first section header
   abbrev pub segment_count : FileHeader E → List ℕ → Result ℕ ParseError
   segment_count h bytes =
-      if h.e_phnum == 0xffff then ok_map (λ first. first.sh_info) (first_section h bytes) else Ok h.e_phnum
+      if h.e_phnum == pn_xnum then ok_map (λ first. first.sh_info) (first_section h bytes) else Ok h.e_phnum
 
   -- the section headers; a file whose e_shoff is 0 declares none
   unfoldable pub section_table : FileHeader E → List ℕ → Result (Option Table) ParseError

@@ -1,5 +1,6 @@
 -- The bytes that a section stands for (gABI, chapter "Sections", "Section Compression").
 use Rattle.std.specs.Prelude.{ℕ, ◌==◌, if◌then◌else◌, bit_and, List, [], drop, Option, Some, None, Result, Ok, Err}
+use Rattle.elf_abi.specs.Values.{shf_compressed, sht_nobits}
 use Rattle.elf_parts.specs.Compression.{compression_header_layout}
 use Rattle.elf_parts.specs.Number.{ok_map}
 use Rattle.elf_parts.specs.Record.{◌>>=◌, record_by, size_by}
@@ -22,13 +23,13 @@ compressed file part =
     let header = record_by compression_header_layout file.little file.class in
     at_front (size_by compression_header_layout file.class) header part
 
--- a section of type SHT_NOBITS (8) has no bytes, and its range is not looked at; else its range, and where its
--- flags have SHF_COMPRESSED (0x800) the header at the front of that, and what follows it
+-- a section of type SHT_NOBITS has no bytes, and its range is not looked at; else its range, and where its
+-- flags have SHF_COMPRESSED the header at the front of that, and what follows it
 unfoldable pub payload : ObjectFile → SectionHeader → Result (List ℕ × Option CompressionHeader) ParseError
 payload file s =
-    if s.sh_type == 8 then Ok ([], None)
+    if s.sh_type == sht_nobits then Ok ([], None)
     else section_range file.bytes s >>= λ part.
-    if bit_and s.sh_flags 0x800 == 0 then Ok (part, None)
+    if bit_and s.sh_flags shf_compressed == 0 then Ok (part, None)
     else ok_map (λ found. (found.0, Some found.1)) (compressed file part)
 
 -- the bytes in which strings or records of a section are looked for

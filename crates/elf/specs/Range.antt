@@ -1,8 +1,7 @@
 -- Section i of a file, and the bytes that a header gives a range of (gABI, chapters "Sections" and "Program Header").
 use Rattle.std.specs.Prelude.{ℕ, List, Option, Some, None, Result, Err}
 use Rattle.elf_parts.specs.Number.{bytes_at}
-use Rattle.elf_parts.specs.Record.{record_by, size_by}
-use Rattle.elf_parts.specs.Section.{section_header_layout}
+use Rattle.elf_parts.specs.Section.{section_header_reads}
 use Rattle.elf_parts.specs.Table.{Table, table_get}
 use Rattle.elf_parts.specs.declared.parse.ParseError.{ParseError}
 use Rattle.elf_parts.specs.declared.parse.ParseError.TheVariants.{BadOffset}
@@ -12,7 +11,7 @@ use Rattle.elf_parts.specs.declared.segment.ProgramHeader.{ProgramHeader}
 -- section header i of a table, or why it cannot be had; where no table is declared there is none
 abbrev pub section_at : Option Table → ℕ → Result SectionHeader ParseError
 section_at None i = Err (BadOffset i)
-section_at (Some t) i = table_get (size_by section_header_layout) (record_by section_header_layout) t i
+section_at (Some t) i = table_get section_header_reads t i
 
 -- the bytes of a section: sh_size of them from sh_offset on
 abbrev pub section_range : List ℕ → SectionHeader → Result (List ℕ) ParseError

@@ -134,14 +134,14 @@ pub record Leaves {E T Y : Type 0} (asked : List (ℕ × ℕ)) (shown : T → Y)
 
 -- ---- what an opening answers
 
--- as IsRefused, of a source that is given up with the refusal
-abbrev pub MayRefuse : Bool → Type 0 → Kind → Type 0
-MayRefuse can_fail none Failure = IsTrue can_fail
-MayRefuse can_fail none Want = Unit {0}
-MayRefuse can_fail none Refusal = none
+-- as IsRefused, of a source that is given up with the refusal; memory is wanted only for a file that opens
+abbrev pub MayRefuse : Bool → Type 0 → Type 0 → Kind → Type 0
+MayRefuse can_fail some none Failure = IsTrue can_fail
+MayRefuse can_fail some none Want = some
+MayRefuse can_fail some none Refusal = none
 
 -- a stream with the headers that the content gives, over a source that did not fail; or a refusal
 abbrev pub IsOpening :
     {E Y : Type 0} → (Seen E → Y) → Result Y ParseError → Bool → ℕ → Result (Seen E) ParseError → Type 0
 IsOpening shown answer can_fail before (Ok s) = (s.faults ≡ before) × (answer ≡ Ok (shown s))
-IsOpening shown answer can_fail before (Err e) = MayRefuse can_fail (IsErr answer) (kind e)
+IsOpening shown answer can_fail before (Err e) = MayRefuse can_fail (IsOk answer) (IsErr answer) (kind e)

@@ -2,6 +2,7 @@
 -- are needed of other files, and those that are defined.
 use Rattle.std.specs.Prelude.{ℕ, Bool, ◌&&◌, if◌then◌else◌, List, [], ◌∷◌, Result, Ok}
 use Rattle.std.specs.List.{list_any}
+use Rattle.elf_abi.specs.Values.{sht_gnu_verdef, sht_gnu_verneed, sht_gnu_versym}
 use Rattle.elf_parts.specs.Number.{ok_map}
 use Rattle.elf_parts.specs.Record.{◌>>=◌, size_by}
 use Rattle.elf_parts.specs.Symver.{Definitions, Needs, Versions, ver_defs, ver_needs, version_index_layout}
@@ -23,15 +24,15 @@ up_to test (x ∷ xs) = x ∷ (if test (x ∷ []) then [] else up_to (λ front. 
 -- whether there are sections of all three types: SHT_GNU_VERSYM, SHT_GNU_VERNEED and SHT_GNU_VERDEF
 abbrev pub has_all_three : List SectionHeader → Bool
 has_all_three sections =
-    list_any (is_of_type 0x6fffffff) sections && list_any (is_of_type 0x6ffffffe) sections
-    && list_any (is_of_type 0x6ffffffd) sections
+    list_any (is_of_type sht_gnu_versym) sections && list_any (is_of_type sht_gnu_verneed) sections
+    && list_any (is_of_type sht_gnu_verdef) sections
 
 -- the last section of each of these types
 abbrev pub last_three : List SectionHeader → VersionSections
 last_three sections = record {
-  indexes = last_section_of 0x6fffffff sections;
-  needs = last_section_of 0x6ffffffe sections;
-  definitions = last_section_of 0x6ffffffd sections;
+  indexes = last_section_of sht_gnu_versym sections;
+  needs = last_section_of sht_gnu_verneed sections;
+  definitions = last_section_of sht_gnu_verdef sections;
 }
 
 -- the last of each among the sections up to the first one by which all three types were seen

@@ -1,9 +1,8 @@
 -- What a file that was opened shows: its header as it stands, its bytes, and the two tables that it declares.
 use Rattle.std.specs.Prelude.{ℕ, List, [], Option, Some, None}
 use Rattle.std.specs.Option.{option_map}
-use Rattle.elf_parts.specs.Record.{record_by, size_by}
-use Rattle.elf_parts.specs.Section.{section_header_layout}
-use Rattle.elf_parts.specs.Segment.{program_header_layout}
+use Rattle.elf_parts.specs.Section.{section_header_reads}
+use Rattle.elf_parts.specs.Segment.{program_header_reads}
 use Rattle.elf_parts.specs.Table.{Table, table_items, table_view}
 use Rattle.elf_parts.specs.declared.file.FileHeader.{FileHeader}
 use Rattle.elf_parts.specs.declared.section.SectionHeader.{SectionHeader}
@@ -32,9 +31,9 @@ with_header v header = record v { ehdr = header }
 -- the section headers of a table; where none is declared there are none
 abbrev pub section_list : Option Table → List SectionHeader
 section_list None = []
-section_list (Some t) = table_items (size_by section_header_layout) (record_by section_header_layout) t
+section_list (Some t) = table_items section_header_reads t
 
 -- the program headers of a table; where none is declared there are none
 abbrev pub segment_list : Option Table → List ProgramHeader
 segment_list None = []
-segment_list (Some t) = table_items (size_by program_header_layout) (record_by program_header_layout) t
+segment_list (Some t) = table_items program_header_reads t

@@ -100,7 +100,7 @@ fn table_bytes<'data, P: ParseAt>(
     offset: u64,
     data: &'data [u8],
 ) -> Result<&'data [u8], ParseError>
-    ensures { ok_map (λ bytes. bytes.now) result ≡ table_bytes (P.size class) entsize count offset «data».now }
+    ensures { ok_map (λ bytes. bytes.now) result ≡ table_bytes (P.reads.size class) entsize count offset «data».now }
 {
     let size = P::validate_entsize(class, entsize as usize)?;
     let length = size.checked_mul(count).ok_or(ParseError::IntegerOverflow)?;

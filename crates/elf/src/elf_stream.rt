@@ -25,7 +25,7 @@ mod symbols;
 mod versions;
 
 use cache::Cache;
-use opening::{read_ehdr, read_phdrs, read_shdrs};
+use opening::{locate_phdrs, locate_shdrs, read_ehdr, read_records};
 use reads::fetch;
 
 /// A file whose bytes are read from a source as calls ask for them, and are kept. Its header and its two
@@ -75,7 +75,8 @@ impl<E: EndianParse, S: StreamSource, A: Allocator + Copy> Model for ElfStream<E
 impl<E: EndianParse, S: StreamSource, A: Allocator + Copy> ElfStream<E, S, A> {
     /// Opens a file: reads its header and the two tables that it declares (gABI, chapters "ELF Header",
     /// "Sections" and "Program Header"), and keeps no other bytes. Refuses where `ElfBytes::minimal_parse`
-    /// does, and with `IOError` or `OutOfMemory`; the source is given up then.
+    /// does, and with `IOError` or `OutOfMemory`; the source is given up then. Takes memory for the two tables alone,
+    /// and only if both lie in the source.
     pub fn open_stream(alloc: A, mut reader: S) -> Result<Self, ParseError>
         ensures content { IfOk result (λ s. (s.content ≡ S.content reader) × (s.can_fail ≡ S.can_fail reader)) }
         ensures kept { IfOk result (λ s. s.kept ≡ []) }
@@ -86,12 +87,14 @@ impl<E: EndianParse, S: StreamSource, A: Allocator + Copy> ElfStream<E, S, A> {
             Ok(len) => len,
             Err(e) => return Err(ParseError::IOError(e)),
         };
-        let ehdr = read_ehdr(alloc, &mut reader, len)?;
-        let (declares_sections, shdrs) = read_shdrs(alloc, &mut reader, len, &ehdr)?;
-        let phdrs = read_phdrs(alloc, &mut reader, len, &ehdr)?;
+        let ehdr = read_ehdr(&mut reader, len)?;
+        let sections = locate_shdrs(&mut reader, len, &ehdr)?;
+        let segments = locate_phdrs(&mut reader, len, &ehdr)?;
+        let shdrs = read_records(alloc, &mut reader, &ehdr, sections)?;
+        let phdrs = read_records(alloc, &mut reader, &ehdr, segments)?;
         Ok(ElfStream {
             ehdr,
-            declares_sections,
+            declares_sections: sections.is_some(),
             shdrs,
             phdrs,
             alloc,

@@ -14,7 +14,7 @@ pub(crate) fn front<'data, E: EndianParse, P: ParseAt + Drop>(
     data: &'data [u8],
 ) -> Result<(&'data [u8], P), ParseError>
     ensures value { ok_map front_view result
-        ≡ at_front (P.size class) (P.record_at (E.little endian) class) «data».now }
+        ≡ at_front (P.reads.size class) (P.reads.record_at (E.little endian) class) «data».now }
     ensures within { IfOk result (λ found. length found.0.now ≤ length «data».now) }
 {
     let mut offset = 0;

@@ -7,8 +7,8 @@ use elf::file::Class;
 use elf::string_table::StringTable;
 use elf::symbol::{Symbol, SymbolTable};
 use elfshow::hashcheck::{
-    Checked, CheckedGnuHash, CheckedSysvHash, HashFault, Reads, check_gnu_counted,
-    check_sysv_counted,
+    Checked, CheckedGnuHash, CheckedSysvHash, HashFault, NamedSymbols, Reads, check_gnu,
+    check_gnu_counted, check_sysv, check_sysv_counted,
 };
 use std::io;
 use std::str::SplitWhitespace;
@@ -44,6 +44,55 @@ pub(crate) fn show_check(
         show_gnu(rt, section, is_fault_told, names)
     };
     show_reads(rt, reads?, least, most)
+}
+
+/// `all KIND ORDER CLASS SECTION SYMBOLS STRINGS NAME..`: the index and the value of each indexed symbol of each name, in
+/// the order in which they are found, where the section is sound.
+pub(crate) fn show_all(rt: &HostRuntime, words: &mut Words<'_>) -> io::Result<()> {
+    let kind = words.word();
+    let order = words.order();
+    let class = words.class();
+    let section = words.bytes(rt);
+    let symbols = words.bytes(rt);
+    let strings = words.bytes(rt);
+    let symtab = SymbolTable::new(order, class, symbols.as_slice());
+    let strtab = StringTable::new(strings.as_slice());
+    let names = words.rest();
+    if kind == "sysv" {
+        match check_sysv(order, class, section.as_slice(), symtab, strtab) {
+            Ok(Checked::Sound(table)) => {
+                for name in names {
+                    show_named(rt, name, table.find_all(name.as_bytes()))?;
+                }
+                Ok(())
+            }
+            Ok(Checked::Faulty(fault)) => show_fault(rt, fault, true),
+            Err(error) => show_refusal(rt, error),
+        }
+    } else {
+        match check_gnu(order, class, section.as_slice(), symtab, strtab) {
+            Ok(Checked::Sound(table)) => {
+                for name in names {
+                    show_named(rt, name, table.find_all(name.as_bytes()))?;
+                }
+                Ok(())
+            }
+            Ok(Checked::Faulty(fault)) => show_fault(rt, fault, true),
+            Err(error) => show_refusal(rt, error),
+        }
+    }
+}
+
+fn show_named(
+    rt: &HostRuntime,
+    name: &str,
+    symbols: NamedSymbols<'_, '_, AnyEndian>,
+) -> io::Result<()> {
+    print!(rt; "{name}")?;
+    for (index, symbol) in symbols {
+        print!(rt; " {index}={}", symbol.st_value)?;
+    }
+    print!(rt; ";")
 }
 
 /// A hash section and what it is checked with.

@@ -55,6 +55,7 @@ fn show_call(rt: &HostRuntime, words: &mut Words<'_>) -> io::Result<()> {
         "hash" => hashes::show_hashes(rt, words),
         "find" => hashes::show_find(rt, words),
         "check" => checks::show_check(rt, true, words),
+        "all" => checks::show_all(rt, words),
         "verdict" => checks::show_check(rt, false, words),
         "linked" => versions::show_linked(rt, words),
         "version" => versions::show_version(rt, words),

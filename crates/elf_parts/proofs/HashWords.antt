@@ -5,11 +5,11 @@ use Rattle.std.proofs.lemmas.Grind.{common_steps}
 use Rattle.elf_parts.specs.GnuFind.{GnuTable, ReadsBloom, bloom_size, bloom_word, bloom_word_by, gnu_section}
 use Rattle.elf_parts.specs.Hash.{ReadsBelowCount, gnu_header_layout, long_word_at, sysv_header_layout, word_at}
 use Rattle.elf_parts.specs.Number.{bytes_at}
-use Rattle.elf_parts.specs.Record.{◌>>=◌, record_by, size_by}
+use Rattle.elf_parts.specs.Record.{◌>>=◌, record_by}
 use Rattle.elf_parts.specs.SysvFind.{SysvTable, sysv_section}
 use Rattle.elf_parts.specs.Table.{Table, table_in}
-use Rattle.elf_parts.specs.Word.{u32_layout, u32_size, u64_layout, u64_size}
-use Rattle.elf_parts.specs.inner.RecordLaws.{bind-ok, bytes_at-ok, wherever_by, within_by}
+use Rattle.elf_parts.specs.Word.{u32_layout, u32_reads, u64_layout, u64_reads}
+use Rattle.elf_parts.specs.inner.RecordLaws.{bind-ok, bytes_at-ok, wherever_by}
 use Rattle.elf_parts.specs.declared.file.Class.{Class}
 use Rattle.elf_parts.specs.declared.file.Class.TheVariants.{ELF32, ELF64}
 use Rattle.elf_parts.specs.declared.hash.gnu.GnuHashHeader.{GnuHashHeader}
@@ -20,14 +20,14 @@ use Rattle.elf_parts.proofs.Places.{item_at-below}
 pub words_read : (words : Table) → length words.bytes < 2 ^ 64 → ReadsBelowCount words
 unfolding word_at
 words_read words short =
-    let law = lies (size_by u32_layout) (record_by u32_layout) _ u32_size (within_by u32_layout u32_size) words.little words.class in
-    λ i. item_at-below (record_by u32_layout words.little words.class) 4 words.bytes i law (wherever_by u32_layout (λ _. refl) words.little words.class words.bytes) short
+    let law = lies u32_reads words.little words.class in
+    λ i. item_at-below (record_by u32_layout words.little words.class) 4 words.bytes i law (wherever_by u32_layout refl words.little words.class words.bytes) short
 
 long_word_below : (words : Table) (i : ℕ) → length words.bytes < 2 ^ 64 → i < length words.bytes / 8 → IsOk (long_word_at words i)
 unfolding long_word_at
 long_word_below words i short below =
-    let law = lies (size_by u64_layout) (record_by u64_layout) _ u64_size (within_by u64_layout u64_size) words.little words.class in
-    (item_at-below (record_by u64_layout words.little words.class) 8 words.bytes i law (wherever_by u64_layout (λ _. refl) words.little words.class words.bytes) short).1 below
+    let law = lies u64_reads words.little words.class in
+    (item_at-below (record_by u64_layout words.little words.class) 8 words.bytes i law (wherever_by u64_layout refl words.little words.class words.bytes) short).1 below
 
 bloom_below_by : (class : Class) (words : Table) (n i : ℕ) → length words.bytes < 2 ^ 64 → length words.bytes ≡ bloom_size class * n → i < n → IsOk (bloom_word_by class words i)
 bloom_below_by ELF32 words n i short size below = (words_read words short i).1 (omega arith)

@@ -2,7 +2,7 @@
 use Rattle.std.proofs.Common.{◌≡◌, ℕ, Bool, zero, suc, ◌+◌, ◌-◌, ◌≤◌, List, [], ◌∷◌, length, Result, Ok, Err, refl, ap, sym, ◌∙◌, arith}
 use Rattle.elf_parts.specs.declared.parse.ParseError.{ParseError}
 use Rattle.elf_parts.specs.declared.file.Class.{Class}
-use Rattle.elf_parts.specs.Record.{ReadsWithin}
+use Rattle.elf_parts.specs.Record.{RecordType}
 use Rattle.elf_parts.specs.Table.{items_from, unless_refused}
 
 -- a read that succeeds lies in the bytes
@@ -42,17 +42,17 @@ items_from-read {A = A} gives size bytes o x law e =
 
 -- ---- the same by the laws of a type of records
 
-module _ {A : Type 0} (size : Class → ℕ) (record_at : Bool → Class → List ℕ → ℕ → Result A ParseError) (after : Bool → Class → List ℕ → ℕ → ℕ) (some : (class : Class) → 1 ≤ size class) (within : ReadsWithin size record_at after) where
-  pub lies : (little : Bool) (class : Class) → LiesWithin (record_at little class) (size class)
-  lies little class = record { some = some class; within = λ bytes o x e. (within little class bytes o x e).0 }
+module _ {A : Type 0} (reads : RecordType A) where
+  pub lies : (little : Bool) (class : Class) → LiesWithin (reads.record_at little class) (reads.size class)
+  lies little class = record { some = reads.some_size class; within = λ bytes o x e. (reads.within little class bytes o x e).0 }
 
-  pub step_read : (little : Bool) (class : Class) (bytes : List ℕ) (o next : ℕ) (x : A) → Ok x ≡ record_at little class bytes o → next ≡ after little class bytes o → items_from (record_at little class) (size class) (length bytes - o) bytes o ≡ x ∷ items_from (record_at little class) (size class) (length bytes - next) bytes next
+  pub step_read : (little : Bool) (class : Class) (bytes : List ℕ) (o next : ℕ) (x : A) → Ok x ≡ reads.record_at little class bytes o → next ≡ reads.offset_after little class bytes o → items_from (reads.record_at little class) (reads.size class) (length bytes - o) bytes o ≡ x ∷ items_from (reads.record_at little class) (reads.size class) (length bytes - next) bytes next
   step_read little class bytes o next x e moved =
-      items_from-read (record_at little class) (size class) bytes o x (lies little class) (sym e)
-      ∙ ap (λ (n : ℕ). x ∷ items_from (record_at little class) (size class) (length bytes - n) bytes n) (sym (moved ∙ (within little class bytes o x (sym e)).1))
+      items_from-read (reads.record_at little class) (reads.size class) bytes o x (lies little class) (sym e)
+      ∙ ap (λ (n : ℕ). x ∷ items_from (reads.record_at little class) (reads.size class) (length bytes - n) bytes n) (sym (moved ∙ (reads.within little class bytes o x (sym e)).1))
 
-  pub none_left : (little : Bool) (class : Class) (o : ℕ) → items_from (record_at little class) (size class) (length {A = ℕ} [] - o) [] o ≡ []
-  none_left little class o = items_from-enough (record_at little class) (size class) [] (lies little class) (length {A = ℕ} [] - o) 0 o (omega arith) (omega arith)
+  pub none_left : (little : Bool) (class : Class) (o : ℕ) → items_from (reads.record_at little class) (reads.size class) (length {A = ℕ} [] - o) [] o ≡ []
+  none_left little class o = items_from-enough (reads.record_at little class) (reads.size class) [] (lies little class) (length {A = ℕ} [] - o) 0 o (omega arith) (omega arith)
 
 one_bounded : {A : Type 0} (r : Result A ParseError) (xs : List A) (n : ℕ) → length xs ≤ n → length (unless_refused r xs) ≤ suc n
 one_bounded (Ok x) xs n h = omega arith

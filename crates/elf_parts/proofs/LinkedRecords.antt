@@ -6,7 +6,7 @@ use Rattle.std.proofs.lemmas.List.{length-map}
 use Rattle.std.proofs.lemmas.Grind.{common_steps}
 use Rattle.elf_parts.specs.declared.file.Class.{Class}
 use Rattle.elf_parts.specs.declared.parse.ParseError.{ParseError}
-use Rattle.elf_parts.specs.Record.{ReadsWithin}
+use Rattle.elf_parts.specs.Record.{RecordType}
 use Rattle.elf_parts.specs.Table.{Table}
 use Rattle.elf_parts.specs.Link.{AreLinked, AreLongest, from_next, linked, links, links_in, next_start}
 
@@ -32,52 +32,51 @@ module _ {A : Type 0} (record_at : Bool → Class → List ℕ → ℕ → Resul
       let less : suc n - 1 ≡ n = omega arith in
       rw (h, less) refl
 
-  module _ (size : Class → ℕ) (after : Bool → Class → List ℕ → ℕ → ℕ)
-      (some_size : (class : Class) → 1 ≤ size class) (within : ReadsWithin size record_at after) where
-    past : (t : Table) (n o : ℕ) (r : Result A ParseError) → length t.bytes ≤ o →
-        record_at t.little t.class t.bytes o ≡ r →
-        linked (λ o x. next_start o (next x)) o r (links_in record_at next t n) ≡ []
-    past t n o (Ok x) end e =
-        let some = some_size t.class in
-        let inside = within t.little t.class t.bytes o x e in
-        absurd (omega (arith, some, inside.0))
-    past t n o (Err d) end e = refl
+module _ {A : Type 0} (reads : RecordType A) (next : A → ℕ) where
+  past : (t : Table) (n o : ℕ) (r : Result A ParseError) → length t.bytes ≤ o →
+      reads.record_at t.little t.class t.bytes o ≡ r →
+      linked (λ o x. next_start o (next x)) o r (links_in reads.record_at next t n) ≡ []
+  past t n o (Ok x) end e =
+      let some = reads.some_size t.class in
+      let inside = reads.within t.little t.class t.bytes o x e in
+      absurd (omega (arith, some, inside.0))
+  past t n o (Err d) end e = refl
 
-    -- no record begins behind the data
-    pub links_past : (t : Table) (n o : ℕ) → length t.bytes ≤ o → links_in record_at next t n o ≡ []
-    unfolding links_in
-    links_past t zero o end = refl
-    links_past t (suc n) o end = past t n o (record_at t.little t.class t.bytes o) end refl
+  -- no record begins behind the data
+  pub links_past : (t : Table) (n o : ℕ) → length t.bytes ≤ o → links_in reads.record_at next t n o ≡ []
+  unfolding links_in
+  links_past t zero o end = refl
+  links_past t (suc n) o end = past t n o (reads.record_at t.little t.class t.bytes o) end refl
 
-    next_few : (t : Table) (n o d : ℕ) → ((p : ℕ) → length (links_in record_at next t n p) ≤ length t.bytes - p) →
-        length (from_next (next_start o d) (links_in record_at next t n)) ≤ length t.bytes - (o + 1)
-    next_few t n o d behind = grind (arith, common_steps, behind (o + d))
+  next_few : (t : Table) (n o d : ℕ) → ((p : ℕ) → length (links_in reads.record_at next t n p) ≤ length t.bytes - p) →
+      length (from_next (next_start o d) (links_in reads.record_at next t n)) ≤ length t.bytes - (o + 1)
+  next_few t n o d behind = grind (arith, common_steps, behind (o + d))
 
-    step_few : (t : Table) (n o : ℕ) (r : Result A ParseError) → record_at t.little t.class t.bytes o ≡ r →
-        ((p : ℕ) → length (links_in record_at next t n p) ≤ length t.bytes - p) →
-        length (linked (λ o x. next_start o (next x)) o r (links_in record_at next t n)) ≤ length t.bytes - o
-    step_few t n o (Ok x) e behind =
-        let some = some_size t.class in
-        let inside = within t.little t.class t.bytes o x e in
-        let rest : length (from_next (next_start o (next x)) (links_in record_at next t n)) ≤ length t.bytes - (o + 1) =
-        next_few t n o (next x) behind in
-        omega (arith, some, inside.0)
-    step_few t n o (Err d) e behind = omega arith
+  step_few : (t : Table) (n o : ℕ) (r : Result A ParseError) → reads.record_at t.little t.class t.bytes o ≡ r →
+      ((p : ℕ) → length (links_in reads.record_at next t n p) ≤ length t.bytes - p) →
+      length (linked (λ o x. next_start o (next x)) o r (links_in reads.record_at next t n)) ≤ length t.bytes - o
+  step_few t n o (Ok x) e behind =
+      let some = reads.some_size t.class in
+      let inside = reads.within t.little t.class t.bytes o x e in
+      let rest : length (from_next (next_start o (next x)) (links_in reads.record_at next t n)) ≤ length t.bytes - (o + 1) =
+      next_few t n o (next x) behind in
+      omega (arith, some, inside.0)
+  step_few t n o (Err d) e behind = omega arith
 
-    -- no more records than bytes
-    pub links_few : (t : Table) (n o : ℕ) → length (links_in record_at next t n o) ≤ length t.bytes - o
-    unfolding links_in
-    links_few t zero o = omega arith
-    links_few t (suc n) o = step_few t n o (record_at t.little t.class t.bytes o) refl (links_few t n)
+  -- no more records than bytes
+  pub links_few : (t : Table) (n o : ℕ) → length (links_in reads.record_at next t n o) ≤ length t.bytes - o
+  unfolding links_in
+  links_few t zero o = omega arith
+  links_few t (suc n) o = step_few t n o (reads.record_at t.little t.class t.bytes o) refl (links_few t n)
 
-    -- so an offset behind the data may be any other one
-    pub links_clipped : (t : Table) (n o p : ℕ) → p ≡ min o (length t.bytes) →
-        links_in record_at next t n p ≡ links_in record_at next t n o
-    links_clipped t n o p e =
-        elim (cases_lt o (length t.bytes)) [
-          | inl h ↦ let same : p ≡ o = omega arith in ap (links_in record_at next t n) same
-          | inr h ↦ links_past t n p (omega arith) ∙ sym (links_past t n o h)
-        ]
+  -- so an offset behind the data may be any other one
+  pub links_clipped : (t : Table) (n o p : ℕ) → p ≡ min o (length t.bytes) →
+      links_in reads.record_at next t n p ≡ links_in reads.record_at next t n o
+  links_clipped t n o p e =
+      elim (cases_lt o (length t.bytes)) [
+        | inl h ↦ let same : p ≡ o = omega arith in ap (links_in reads.record_at next t n) same
+        | inr h ↦ links_past t n p (omega arith) ∙ sym (links_past t n o h)
+      ]
 
 module _ {A : Type 0} (gives : ℕ → Result A ParseError) (follow : ℕ → A → Option ℕ) where
   some_linked : (o : ℕ) (r : Result A ParseError) (behind : ℕ → List (ℕ × A)) → gives o ≡ r →

@@ -5,13 +5,13 @@ use Rattle.std.proofs.lemmas.List.{length-map}
 use Rattle.std.proofs.lemmas.Grind.{common_steps}
 use Rattle.elf_parts.specs.Number.{bytes_at}
 use Rattle.elf_parts.specs.Record.{◌>>=◌, record_by}
-use Rattle.elf_parts.specs.inner.RecordLaws.{bind-ok, within_by}
+use Rattle.elf_parts.specs.inner.RecordLaws.{bind-ok}
 use Rattle.elf_parts.specs.declared.file.Class.TheVariants.{ELF32}
 use Rattle.elf_parts.specs.declared.parse.ParseError.{ParseError}
 use Rattle.elf_parts.specs.Link.{AreLinked, linked, links}
 use Rattle.elf_parts.proofs.LinkedRecords.{links_bounded, longest}
 use Rattle.elf_parts.specs.Note.{AreAllNotes, NoteContent, aligned, content_of, note_at, note_header_layout}
-use Rattle.elf_parts.specs.Note.{note_header_size, note_links}
+use Rattle.elf_parts.specs.Note.{note_header_reads, note_links}
 use Rattle.elf_parts.specs.declared.note.NoteHeader.{NoteHeader}
 
 -- ---- a list whose records each lie in the first `size` bytes and tell of a next one behind themselves
@@ -96,7 +96,7 @@ note_lies little align bytes o p e =
     let same : p.1 ≡ f.0 = cc k.2 in
     let first = aligned_behind align (o + 12 + h.n_namesz) c.0 c.1 in
     let second = aligned_behind align (c.0 + h.n_descsz) f.0 f.1 in
-    let inside = within_by note_header_layout note_header_size little ELF32 bytes o h a.1 in
+    let inside = note_header_reads.within little ELF32 bytes o h a.1 in
     let fits : o + 12 ≤ length bytes = inside.0 in
     (omega (arith, fits), omega (arith, first, second, same))
 

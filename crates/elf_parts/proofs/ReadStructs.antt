@@ -5,7 +5,7 @@ use Rattle.std.proofs.lemmas.List.{append-nil}
 use Rattle.std.proofs.lemmas.Nat.{mod-mul-add, div-mul-add}
 use Rattle.elf_parts.specs.declared.file.Class.{Class}
 use Rattle.elf_parts.specs.declared.file.Class.TheVariants.{ELF32, ELF64}
-use Rattle.elf_parts.specs.Record.{Layout, offset_by, record_by, size_by, size_of}
+use Rattle.elf_parts.specs.Record.{Layout, record_by, size_by, size_of}
 use Rattle.elf_parts.specs.Table.{items_from}
 use Rattle.elf_parts.specs.Written.{Member, number_of, word, xword, FitsMember, Fits, AllFit, struct_bytes, table_of, ReadsStruct, FillsRecord, ReadsTable, TellsApart, PlacesAreSums, IsStruct}
 use Rattle.elf_parts.specs.Structs.{section_header_struct, program_header_struct, symbol_struct, info, rel_struct, rela_struct, dyn_struct, compression_header_struct, note_header_struct, abi_tag_struct, ver_need_struct, ver_need_aux_struct, ver_def_struct, ver_def_aux_struct, version_index_struct, sysv_header_struct, gnu_header_struct, tail_struct}
@@ -29,7 +29,7 @@ use Rattle.elf_parts.specs.declared.section.SectionHeader.{SectionHeader}
 use Rattle.elf_parts.specs.declared.segment.ProgramHeader.{ProgramHeader}
 use Rattle.elf_parts.specs.declared.symbol.Symbol.{Symbol}
 use Rattle.elf_parts.specs.inner.RecordLaws.{within_by}
-use Rattle.elf_parts.proofs.Items.{LiesWithin, lies, items_from-enough, items_from-read}
+use Rattle.elf_parts.proofs.Items.{LiesWithin, items_from-enough, items_from-read}
 use Rattle.elf_parts.proofs.ReadBack.{signed_number_complement, is_struct_of, is_packed_from, place_is_sum, length-struct, struct_read_back}
 
 -- what has to be looked at in each type of records, mostly by evaluation: the table has the widths of the structure, one
@@ -51,7 +51,10 @@ module _ {A : Type 0} (layout : Layout A) (struct : Class → A → List Member)
 
   lies_in : (little : Bool) (class : Class) → LiesWithin (record_by layout little class) (size_by layout class)
   lies_in little class =
-      lies (size_by layout) (record_by layout) (offset_by layout) (λ c. (meets.size c).0) (within_by layout (λ c. (meets.size c).0)) little class
+      record {
+        some = (meets.size class).0;
+        within = λ bytes o x e. (within_by layout (λ c. (meets.size c).0) little class bytes o x e).0;
+      }
 
   rows_from : (little : Bool) (class : Class) (xs : List A) (bytes front : List ℕ) (o : ℕ) →
       AllFit (struct class) xs → length front ≡ o → bytes ≡ front ++ table_of little (struct class) xs →

@@ -4,10 +4,9 @@ use Rattle.std.specs.List.{find}
 use Rattle.std.proofs.lemmas.Grind.{common_steps}
 use Rattle.elf_parts.proofs.LinkedRecords.{count_bounds, links_few, map_bounds}
 use Rattle.elf_parts.specs.Link.{links_in, links_view}
-use Rattle.elf_parts.specs.Record.{offset_by, record_by, size_by}
-use Rattle.elf_parts.specs.inner.RecordLaws.{within_by}
+use Rattle.elf_parts.specs.Record.{record_by}
 use Rattle.elf_parts.specs.Symver.{defined_version, needed_versions, needed_version, version_with}
-use Rattle.elf_parts.specs.Symver.{raw_names, ver_def_aux_layout, ver_def_aux_left, ver_def_aux_size, ver_def_aux_table}
+use Rattle.elf_parts.specs.Symver.{raw_names, ver_def_aux_layout, ver_def_aux_left, ver_def_aux_reads, ver_def_aux_table}
 use Rattle.elf_parts.specs.Symver.{ver_def_layout, ver_def_with_aux, ver_defs}
 use Rattle.elf_parts.specs.Table.{Table}
 use Rattle.elf_parts.specs.declared.gnu_symver.VerDef.{VerDef}
@@ -85,9 +84,7 @@ pub names_few : {E : Type 0} (strings : List ℕ) (s : VerDefAuxIterator E) →
 names_few strings s =
     let n = length (ver_def_aux_table s).bytes in
     let few =
-    links_few (record_by ver_def_aux_layout) (λ x. x.vda_next) (size_by ver_def_aux_layout)
-    (offset_by ver_def_aux_layout) ver_def_aux_size (within_by ver_def_aux_layout ver_def_aux_size) (links_view s.links)
-    s.links.count s.links.offset in
+    links_few ver_def_aux_reads (λ x. x.vda_next) (links_view s.links) s.links.count s.links.offset in
     map_bounds _ (ver_def_aux_left s) n (map_bounds _ _ n (omega (arith, few)))
 
 -- nor than the count

@@ -1,8 +1,7 @@
 -- The field table of a compression header (gABI, chapter "Sections", "Section Compression").
-use Rattle.std.specs.Prelude.{◌≡◌, ℕ, ◌≤◌, true, List, [], ◌∷◌, slice_index, refl}
-use Rattle.std.proofs.Common.{lit≤}
-use Rattle.elf_parts.specs.Record.{Field, field, Layout, size_by}
-use Rattle.elf_parts.specs.inner.RecordLaws.{is_free}
+use Rattle.std.specs.Prelude.{ℕ, List, [], ◌∷◌, slice_index, refl}
+use Rattle.elf_parts.specs.Record.{Field, field, Layout, RecordType}
+use Rattle.elf_parts.specs.inner.RecordLaws.{by_layout}
 use Rattle.elf_parts.specs.declared.file.Class.{Class}
 use Rattle.elf_parts.specs.declared.file.Class.TheVariants.{ELF32, ELF64}
 use Rattle.elf_parts.specs.declared.compression.CompressionHeader.{CompressionHeader}
@@ -36,10 +35,5 @@ compression_header ELF64 n = record {
 abbrev pub compression_header_layout : Layout CompressionHeader
 compression_header_layout = record { fields = compression_header_fields; make = compression_header }
 
-pub compression_header_size : (class : Class) → 1 ≤ size_by compression_header_layout class
-compression_header_size ELF32 = lit≤ tt
-compression_header_size ELF64 = lit≤ tt
-
-pub compression_header_free : (class : Class) → is_free (compression_header_layout.fields class) ≡ true
-compression_header_free ELF32 = refl
-compression_header_free ELF64 = refl
+abbrev pub compression_header_reads : RecordType CompressionHeader
+compression_header_reads = by_layout compression_header_layout refl

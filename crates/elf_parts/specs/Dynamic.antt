@@ -1,9 +1,8 @@
 -- The field table of a dynamic entry (gABI, chapter "Dynamic Section").
-use Rattle.std.specs.Prelude.{◌≡◌, ℕ, ◌≤◌, true, List, [], ◌∷◌, slice_index, refl}
-use Rattle.std.proofs.Common.{lit≤}
+use Rattle.std.specs.Prelude.{ℕ, List, [], ◌∷◌, slice_index, refl}
 use Rattle.elf_parts.specs.Number.{signed_number}
-use Rattle.elf_parts.specs.Record.{Field, field, Layout, size_by}
-use Rattle.elf_parts.specs.inner.RecordLaws.{is_free}
+use Rattle.elf_parts.specs.Record.{Field, field, Layout, RecordType}
+use Rattle.elf_parts.specs.inner.RecordLaws.{by_layout}
 use Rattle.elf_parts.specs.declared.file.Class.{Class}
 use Rattle.elf_parts.specs.declared.file.Class.TheVariants.{ELF32, ELF64}
 use Rattle.elf_parts.specs.declared.dynamic.Dyn.{Dyn}
@@ -33,13 +32,8 @@ dyn_entry class n = record {
 abbrev pub dyn_layout : Layout Dyn
 dyn_layout = record { fields = dyn_fields; make = dyn_entry }
 
-pub dyn_size : (class : Class) → 1 ≤ size_by dyn_layout class
-dyn_size ELF32 = lit≤ tt
-dyn_size ELF64 = lit≤ tt
-
-pub dyn_free : (class : Class) → is_free (dyn_layout.fields class) ≡ true
-dyn_free ELF32 = refl
-dyn_free ELF64 = refl
+abbrev pub dyn_reads : RecordType Dyn
+dyn_reads = by_layout dyn_layout refl
 
 -- the one number behind the tag, a value or an address
 abbrev pub d_un_view : Dyn → ℕ

@@ -1,6 +1,8 @@
 -- The file header (gABI, chapter "ELF Header"): the identification, and the fields behind it, called the tail.
 use Rattle.std.specs.Prelude.{ℕ, Bool, ◌==◌, ◌&&◌, if◌then◌else◌, Option, ok_or, Result, Ok, Err}
 use Rattle.std.specs.Prelude.{List, [], ◌∷◌, slice_get, slice_index}
+use Rattle.elf_abi.specs.Values.{ei_abiversion, ei_class, ei_data, ei_nident, ei_osabi, ei_version, ev_current}
+use Rattle.elf_abi.specs.Values.{elfclass32, elfclass64, elfmag0, elfmag1, elfmag2, elfmag3}
 use Rattle.elf_parts.specs.Record.{◌>>=◌, Field, field, Layout, record_by}
 use Rattle.elf_parts.specs.declared.file.Class.{Class}
 use Rattle.elf_parts.specs.declared.file.Class.TheVariants.{ELF32, ELF64}
@@ -17,11 +19,11 @@ Ident E = E × Class × ℕ × ℕ
 
 -- a byte of the identification, which has sixteen
 abbrev pub byte_in : List ℕ → ℕ → Result ℕ ParseError
-byte_in bytes place = ok_or (slice_get bytes place) (SliceReadError (0, 16))
+byte_in bytes place = ok_or (slice_get bytes place) (SliceReadError (0, ei_nident))
 
 -- the class that a class byte stands for
 abbrev pub class_of : ℕ → Result Class ParseError
-class_of n = if n == 1 then Ok ELF32 else if n == 2 then Ok ELF64 else Err (UnsupportedElfClass n)
+class_of n = if n == elfclass32 then Ok ELF32 else if n == elfclass64 then Ok ELF64 else Err (UnsupportedElfClass n)
 
 -- the order that an order byte stands for, where the type of orders has it
 abbrev pub order_of : {E : Type 0} → (ℕ → Option E) → ℕ → Result E ParseError
@@ -31,20 +33,23 @@ order_of of_byte n = ok_or (of_byte n) (UnsupportedElfEndianness n)
 abbrev pub magic_in : List ℕ → Result (Unit {0}) ParseError
 magic_in bytes =
     byte_in bytes 0 >>= λ a. byte_in bytes 1 >>= λ b. byte_in bytes 2 >>= λ c. byte_in bytes 3 >>= λ d.
-    if a == 0x7f && b == 0x45 && c == 0x4c && d == 0x46 then Ok tt else Err (BadMagic (a ∷ b ∷ c ∷ d ∷ []))
+    if a == elfmag0 && b == elfmag1 && c == elfmag2 && d == elfmag3 then Ok tt
+    else Err (BadMagic (a ∷ b ∷ c ∷ d ∷ []))
 
--- the version is 1
+-- the version is the one that there is
 abbrev pub version_in : List ℕ → Result (Unit {0}) ParseError
-version_in bytes = byte_in bytes 6 >>= λ version. if version == 1 then Ok tt else Err (UnsupportedVersion (version, 1))
+version_in bytes =
+    byte_in bytes ei_version >>= λ version.
+    if version == ev_current then Ok tt else Err (UnsupportedVersion (version, ev_current))
 
 -- the identification at the front of the bytes, or the first of these that is refused: magic, version, class, order,
 -- and the bytes behind them
 unfoldable pub ident_of : {E : Type 0} → (ℕ → Option E) → List ℕ → Result (Ident E) ParseError
 ident_of of_byte bytes =
     magic_in bytes >>= λ _. version_in bytes >>= λ _.
-    byte_in bytes 4 >>= λ class_byte. class_of class_byte >>= λ class.
-    byte_in bytes 5 >>= λ order_byte. order_of of_byte order_byte >>= λ order.
-    byte_in bytes 7 >>= λ osabi. byte_in bytes 8 >>= λ abiversion.
+    byte_in bytes ei_class >>= λ class_byte. class_of class_byte >>= λ class.
+    byte_in bytes ei_data >>= λ order_byte. order_of of_byte order_byte >>= λ order.
+    byte_in bytes ei_osabi >>= λ osabi. byte_in bytes ei_abiversion >>= λ abiversion.
     Ok (order, class, osabi, abiversion)
 
 -- ---- the tail

@@ -1,14 +1,12 @@
 -- The two hashes of a name (gABI, chapter "Hash Table", and GNU's), and what a hash section is read by: its header,
 -- words, and symbols with their names.
-use Rattle.std.specs.Prelude.{◌≡◌, ◌↔◌, ℕ, ◌+◌, ◌*◌, ◌/◌, ◌%◌, ◌^◌, ◌<◌, ◌≤◌, List, [], ◌∷◌, slice_index, length, true, refl, bit_and, bit_xor, Result, Ok, IsOk}
-use Rattle.std.proofs.Common.{lit≤}
-use Rattle.elf_parts.specs.Record.{◌>>=◌, Field, field, Layout, record_by, size_by}
+use Rattle.std.specs.Prelude.{◌≡◌, ◌↔◌, ℕ, ◌+◌, ◌*◌, ◌/◌, ◌%◌, ◌^◌, ◌<◌, List, [], ◌∷◌, slice_index, length, refl, bit_and, bit_xor, Result, Ok, IsOk}
+use Rattle.elf_parts.specs.Record.{◌>>=◌, Field, field, Layout, RecordType}
 use Rattle.elf_parts.specs.StringTable.{string_at}
-use Rattle.elf_parts.specs.Symbol.{symbol_layout}
+use Rattle.elf_parts.specs.Symbol.{symbol_reads}
 use Rattle.elf_parts.specs.Table.{Table, table_get}
-use Rattle.elf_parts.specs.Word.{u32_layout, u64_layout}
-use Rattle.elf_parts.specs.inner.RecordLaws.{is_free}
-use Rattle.elf_parts.specs.declared.file.Class.{Class}
+use Rattle.elf_parts.specs.Word.{u32_reads, u64_reads}
+use Rattle.elf_parts.specs.inner.RecordLaws.{by_layout}
 use Rattle.elf_parts.specs.declared.hash.sysv.SysVHashHeader.{SysVHashHeader}
 use Rattle.elf_parts.specs.declared.hash.gnu.GnuHashHeader.{GnuHashHeader}
 use Rattle.elf_parts.specs.declared.parse.ParseError.{ParseError}
@@ -50,11 +48,8 @@ sysv_header_layout = record {
   make = λ _ n. record { nbucket = slice_index n 0; nchain = slice_index n 1 };
 }
 
-pub sysv_header_size : (class : Class) → 1 ≤ size_by sysv_header_layout class
-sysv_header_size class = lit≤ tt
-
-pub sysv_header_free : (class : Class) → is_free (sysv_header_layout.fields class) ≡ true
-sysv_header_free class = refl
+abbrev pub sysv_header_reads : RecordType SysVHashHeader
+sysv_header_reads = by_layout sysv_header_layout refl
 
 abbrev pub gnu_header_fields : List Field
 gnu_header_fields =
@@ -75,11 +70,8 @@ gnu_header_layout = record {
   };
 }
 
-pub gnu_header_size : (class : Class) → 1 ≤ size_by gnu_header_layout class
-gnu_header_size class = lit≤ tt
-
-pub gnu_header_free : (class : Class) → is_free (gnu_header_layout.fields class) ≡ true
-gnu_header_free class = refl
+abbrev pub gnu_header_reads : RecordType GnuHashHeader
+gnu_header_reads = by_layout gnu_header_layout refl
 
 -- ---- words, and symbols with their names
 
@@ -89,15 +81,15 @@ word_count words = length words.bytes / 4
 
 -- word i of four bytes, or why it cannot be had
 unfoldable pub word_at : Table → ℕ → Result ℕ ParseError
-word_at words i = table_get (size_by u32_layout) (record_by u32_layout) words i
+word_at words i = table_get u32_reads words i
 
 -- word i of eight bytes, or why it cannot be had
 unfoldable pub long_word_at : Table → ℕ → Result ℕ ParseError
-long_word_at words i = table_get (size_by u64_layout) (record_by u64_layout) words i
+long_word_at words i = table_get u64_reads words i
 
 -- symbol i, or why it cannot be had
 abbrev pub symbol_at : Table → ℕ → Result Symbol ParseError
-symbol_at symbols i = table_get (size_by symbol_layout) (record_by symbol_layout) symbols i
+symbol_at symbols i = table_get symbol_reads symbols i
 
 -- symbol i and its name, or the refusal of either
 unfoldable pub named_symbol : Table → List ℕ → ℕ → Result (Symbol × List ℕ) ParseError

@@ -1,17 +1,16 @@
 -- Notes (gABI, chapter "Program Header", "Note Section"): a header, a name and a descriptor.
-use Rattle.std.specs.Prelude.{◌≡◌, ◌≢◌, ◌++◌, true, refl, MatchResult, IsUtf8, ◌≤◌, ℕ, ◌+◌, ◌-◌, ◌*◌, ◌%◌, ◌^◌, Bool}
+use Rattle.std.specs.Prelude.{◌≡◌, ◌≢◌, ◌++◌, refl, MatchResult, IsUtf8, ◌≤◌, ℕ, ◌+◌, ◌-◌, ◌*◌, ◌%◌, ◌^◌, Bool}
 use Rattle.std.specs.Prelude.{if◌then◌else◌, ◌==◌, ◌&&◌, ◌||◌, nat_le, Some, List, [], ◌∷◌, length, map, take}
 use Rattle.std.specs.Prelude.{slice_index, Result, Ok, Err}
 use Rattle.std.specs.Cmp.Lexicographic.{pointwise}
 use Rattle.std.specs.List.{repeat}
 use Rattle.std.specs.Int.{next_multiple_of}
-use Rattle.std.proofs.Common.{lit≤}
+use Rattle.elf_abi.specs.Values.{nt_gnu_abi_tag, nt_gnu_build_id}
 use Rattle.elf_parts.specs.Link.{AreLinked, links}
 use Rattle.elf_parts.specs.Number.{bytes_at, ok_map}
-use Rattle.elf_parts.specs.Record.{◌>>=◌, Field, field, Layout, record_by, size_by}
+use Rattle.elf_parts.specs.Record.{◌>>=◌, Field, field, Layout, record_by, RecordType}
 use Rattle.elf_parts.specs.StringTable.{GivesText}
-use Rattle.elf_parts.specs.inner.RecordLaws.{is_free}
-use Rattle.elf_parts.specs.declared.file.Class.{Class}
+use Rattle.elf_parts.specs.inner.RecordLaws.{by_layout}
 use Rattle.elf_parts.specs.declared.file.Class.TheVariants.{ELF32}
 use Rattle.elf_parts.specs.declared.note.Note.{Note}
 use Rattle.elf_parts.specs.declared.note.Note.TheVariants.{GnuAbiTag, GnuBuildId, Unknown}
@@ -41,8 +40,8 @@ note_header n = record {
 abbrev pub note_header_layout : Layout NoteHeader
 note_header_layout = record { fields = λ _. note_header_fields; make = λ _. note_header }
 
-pub note_header_size : (class : Class) → 1 ≤ size_by note_header_layout class
-note_header_size class = lit≤ tt
+abbrev pub note_header_reads : RecordType NoteHeader
+note_header_reads = by_layout note_header_layout refl
 
 -- the descriptor of an ABI tag
 abbrev pub abi_tag_fields : List Field
@@ -64,11 +63,8 @@ abi_tag n = record {
 abbrev pub abi_tag_layout : Layout NoteGnuAbiTag
 abi_tag_layout = record { fields = λ _. abi_tag_fields; make = λ _. abi_tag }
 
-pub abi_tag_size : (class : Class) → 1 ≤ size_by abi_tag_layout class
-abi_tag_size class = lit≤ tt
-
-pub abi_tag_free : (class : Class) → is_free (abi_tag_layout.fields class) ≡ true
-abi_tag_free class = refl
+abbrev pub abi_tag_reads : RecordType NoteGnuAbiTag
+abi_tag_reads = by_layout abi_tag_layout refl
 
 -- ---- what a note says
 
@@ -85,8 +81,8 @@ is_gnu name = pointwise (λ a b. a == b) name (71 ∷ 78 ∷ 85 ∷ 0 ∷ [])
 -- what a note of this type, name and descriptor says; a tag whose descriptor is too short is refused
 unfoldable pub content_of : Bool → ℕ → List ℕ → List ℕ → Result NoteContent ParseError
 content_of little n_type name descriptor =
-    if is_gnu name && n_type == 1 then ok_map AbiTag (record_by abi_tag_layout little ELF32 descriptor 0)
-    else if is_gnu name && n_type == 3 then Ok (BuildId descriptor)
+    if is_gnu name && n_type == nt_gnu_abi_tag then ok_map AbiTag (record_by abi_tag_layout little ELF32 descriptor 0)
+    else if is_gnu name && n_type == nt_gnu_build_id then Ok (BuildId descriptor)
     else Ok (Other n_type name descriptor)
 
 -- ---- where a note lies

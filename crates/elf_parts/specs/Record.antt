@@ -53,7 +53,7 @@ numbers_end little size [] bytes o = o + size
 numbers_end little size (f ∷ fs) bytes o =
     after_field o f (number_at little f.width bytes (o + f.place)) (numbers_end little size fs bytes o)
 
--- ---- what a type of records says of itself
+-- ---- a record by its field table
 
 -- the field table of each class, and what the numbers of its fields make
 pub record Layout (A : Type 0) : Type 0 where
@@ -85,6 +85,18 @@ ReadsOnly {A = A} size gives =
     (little : Bool) (class : Class) (bytes others : List ℕ) (o p : ℕ) (x y : A) →
     gives little class bytes o ≡ Ok x → gives little class others p ≡ Ok y →
     take (size class) (drop o bytes) ≡ take (size class) (drop p others) → x ≡ y
+
+-- ---- a type of records
+
+-- how many bytes a record has, the record at an offset or why it cannot be read, where its read leaves the offset, and
+-- the laws of these
+pub record RecordType (A : Type 0) : Type 0 where
+  pub size : Class → ℕ
+  pub record_at : Bool → Class → List ℕ → ℕ → Result A ParseError
+  pub offset_after : Bool → Class → List ℕ → ℕ → ℕ
+  pub some_size : (class : Class) → 1 ≤ size class
+  pub within : ReadsWithin size record_at offset_after
+  pub only : ReadsOnly size record_at
 
 -- a record is read wherever its bytes lie in the data
 abbrev pub ReadsWherever : {A : Type 0} → (Class → ℕ) → (Bool → Class → List ℕ → ℕ → Result A ParseError) → Type 0

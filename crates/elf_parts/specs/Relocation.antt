@@ -1,9 +1,8 @@
 -- The field tables of relocations, without and with an addend (gABI, chapter "Relocation").
-use Rattle.std.specs.Prelude.{◌≡◌, ℕ, ◌≤◌, ◌/◌, ◌%◌, ◌^◌, true, List, [], ◌∷◌, slice_index, refl}
-use Rattle.std.proofs.Common.{lit≤}
+use Rattle.std.specs.Prelude.{ℕ, ◌/◌, ◌%◌, ◌^◌, List, [], ◌∷◌, slice_index, refl}
 use Rattle.elf_parts.specs.Number.{signed_number}
-use Rattle.elf_parts.specs.Record.{Field, field, Layout, size_by}
-use Rattle.elf_parts.specs.inner.RecordLaws.{is_free}
+use Rattle.elf_parts.specs.Record.{Field, field, Layout, RecordType}
+use Rattle.elf_parts.specs.inner.RecordLaws.{by_layout}
 use Rattle.elf_parts.specs.declared.file.Class.{Class}
 use Rattle.elf_parts.specs.declared.file.Class.TheVariants.{ELF32, ELF64}
 use Rattle.elf_parts.specs.declared.relocation.Rel.{Rel}
@@ -40,13 +39,8 @@ rel class n = record {
 abbrev pub rel_layout : Layout Rel
 rel_layout = record { fields = rel_fields; make = rel }
 
-pub rel_size : (class : Class) → 1 ≤ size_by rel_layout class
-rel_size ELF32 = lit≤ tt
-rel_size ELF64 = lit≤ tt
-
-pub rel_free : (class : Class) → is_free (rel_layout.fields class) ≡ true
-rel_free ELF32 = refl
-rel_free ELF64 = refl
+abbrev pub rel_reads : RecordType Rel
+rel_reads = by_layout rel_layout refl
 
 -- ---- with an addend, which is signed
 
@@ -78,10 +72,5 @@ rela class n = record {
 abbrev pub rela_layout : Layout Rela
 rela_layout = record { fields = rela_fields; make = rela }
 
-pub rela_size : (class : Class) → 1 ≤ size_by rela_layout class
-rela_size ELF32 = lit≤ tt
-rela_size ELF64 = lit≤ tt
-
-pub rela_free : (class : Class) → is_free (rela_layout.fields class) ≡ true
-rela_free ELF32 = refl
-rela_free ELF64 = refl
+abbrev pub rela_reads : RecordType Rela
+rela_reads = by_layout rela_layout refl

@@ -1,8 +1,7 @@
 -- The field table of a section header (gABI, chapter "Sections").
-use Rattle.std.specs.Prelude.{◌≡◌, ℕ, ◌≤◌, true, List, [], ◌∷◌, slice_index, refl}
-use Rattle.std.proofs.Common.{lit≤}
-use Rattle.elf_parts.specs.Record.{Field, field, Layout, size_by}
-use Rattle.elf_parts.specs.inner.RecordLaws.{is_free}
+use Rattle.std.specs.Prelude.{ℕ, List, [], ◌∷◌, slice_index, refl}
+use Rattle.elf_parts.specs.Record.{Field, field, Layout, RecordType}
+use Rattle.elf_parts.specs.inner.RecordLaws.{by_layout}
 use Rattle.elf_parts.specs.declared.file.Class.{Class}
 use Rattle.elf_parts.specs.declared.file.Class.TheVariants.{ELF32, ELF64}
 use Rattle.elf_parts.specs.declared.section.SectionHeader.{SectionHeader}
@@ -51,10 +50,5 @@ section_header class n = record {
 abbrev pub section_header_layout : Layout SectionHeader
 section_header_layout = record { fields = section_header_fields; make = section_header }
 
-pub section_header_size : (class : Class) → 1 ≤ size_by section_header_layout class
-section_header_size ELF32 = lit≤ tt
-section_header_size ELF64 = lit≤ tt
-
-pub section_header_free : (class : Class) → is_free (section_header_layout.fields class) ≡ true
-section_header_free ELF32 = refl
-section_header_free ELF64 = refl
+abbrev pub section_header_reads : RecordType SectionHeader
+section_header_reads = by_layout section_header_layout refl

@@ -1,8 +1,7 @@
 -- The field table of a program header (gABI, chapter "Program Header").
-use Rattle.std.specs.Prelude.{◌≡◌, ℕ, ◌≤◌, true, List, [], ◌∷◌, slice_index, refl}
-use Rattle.std.proofs.Common.{lit≤}
-use Rattle.elf_parts.specs.Record.{Field, field, Layout, size_by}
-use Rattle.elf_parts.specs.inner.RecordLaws.{is_free}
+use Rattle.std.specs.Prelude.{ℕ, List, [], ◌∷◌, slice_index, refl}
+use Rattle.elf_parts.specs.Record.{Field, field, Layout, RecordType}
+use Rattle.elf_parts.specs.inner.RecordLaws.{by_layout}
 use Rattle.elf_parts.specs.declared.file.Class.{Class}
 use Rattle.elf_parts.specs.declared.file.Class.TheVariants.{ELF32, ELF64}
 use Rattle.elf_parts.specs.declared.segment.ProgramHeader.{ProgramHeader}
@@ -55,10 +54,5 @@ program_header ELF64 n = record {
 abbrev pub program_header_layout : Layout ProgramHeader
 program_header_layout = record { fields = program_header_fields; make = program_header }
 
-pub program_header_size : (class : Class) → 1 ≤ size_by program_header_layout class
-program_header_size ELF32 = lit≤ tt
-program_header_size ELF64 = lit≤ tt
-
-pub program_header_free : (class : Class) → is_free (program_header_layout.fields class) ≡ true
-program_header_free ELF32 = refl
-program_header_free ELF64 = refl
+abbrev pub program_header_reads : RecordType ProgramHeader
+program_header_reads = by_layout program_header_layout refl

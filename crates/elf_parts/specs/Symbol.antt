@@ -1,8 +1,7 @@
 -- The field table of a symbol (gABI, chapter "Symbol Table").
-use Rattle.std.specs.Prelude.{◌≡◌, ℕ, ◌/◌, ◌%◌, ◌≤◌, true, List, [], ◌∷◌, slice_index, refl}
-use Rattle.std.proofs.Common.{lit≤}
-use Rattle.elf_parts.specs.Record.{Field, field, Layout, size_by}
-use Rattle.elf_parts.specs.inner.RecordLaws.{is_free}
+use Rattle.std.specs.Prelude.{ℕ, ◌/◌, ◌%◌, List, [], ◌∷◌, slice_index, refl}
+use Rattle.elf_parts.specs.Record.{Field, field, Layout, RecordType}
+use Rattle.elf_parts.specs.inner.RecordLaws.{by_layout}
 use Rattle.elf_parts.specs.declared.file.Class.{Class}
 use Rattle.elf_parts.specs.declared.file.Class.TheVariants.{ELF32, ELF64}
 use Rattle.elf_parts.specs.declared.symbol.Symbol.{Symbol}
@@ -47,13 +46,8 @@ symbol ELF64 n = record {
 abbrev pub symbol_layout : Layout Symbol
 symbol_layout = record { fields = symbol_fields; make = symbol }
 
-pub symbol_size : (class : Class) → 1 ≤ size_by symbol_layout class
-symbol_size ELF32 = lit≤ tt
-symbol_size ELF64 = lit≤ tt
-
-pub symbol_free : (class : Class) → is_free (symbol_layout.fields class) ≡ true
-symbol_free ELF32 = refl
-symbol_free ELF64 = refl
+abbrev pub symbol_reads : RecordType Symbol
+symbol_reads = by_layout symbol_layout refl
 
 -- what a symbol names and how far it binds stand in one number, st_info
 abbrev pub symbol_type : Symbol → ℕ

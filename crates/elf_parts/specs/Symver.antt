@@ -1,18 +1,17 @@
 -- The versions of symbols (GNU symbol versioning): which versions of other files an object needs, which ones it
 -- defines, and the version of each symbol. The field tables are the same in both classes; the version of a record is
 -- not kept.
-use Rattle.std.specs.Prelude.{◌≡◌, true, refl, ℕ, ◌+◌, ◌%◌, ◌^◌, ◌≤◌, ◌<◌, ◌==◌, nat_le, Bool, ⊤, ◌⊎◌, Option, Some, None}
+use Rattle.std.specs.Prelude.{◌≡◌, refl, ℕ, ◌+◌, ◌%◌, ◌^◌, ◌<◌, ◌==◌, nat_le, Bool, ⊤, ◌⊎◌, Option, Some, None}
 use Rattle.std.specs.Prelude.{List, [], ◌∷◌, ◌++◌, length, map, slice_index, MatchOption, MatchResult, Result, Ok, Err}
 use Rattle.std.specs.List.{find}
 use Rattle.std.specs.Option.{option_map}
-use Rattle.std.proofs.Common.{lit≤}
+use Rattle.elf_abi.specs.Values.{ver_def_current, ver_need_current}
 use Rattle.elf_parts.specs.Link.{links_in, links_view}
 use Rattle.elf_parts.specs.Number.{ok_map}
-use Rattle.elf_parts.specs.Record.{Field, field, version_field, Layout, size_by, record_by}
+use Rattle.elf_parts.specs.Record.{Field, field, version_field, Layout, record_by, RecordType}
 use Rattle.elf_parts.specs.StringTable.{string_at, strings_view, GivesText}
 use Rattle.elf_parts.specs.Table.{Table, table_get, table_view}
-use Rattle.elf_parts.specs.inner.RecordLaws.{is_free}
-use Rattle.elf_parts.specs.declared.file.Class.{Class}
+use Rattle.elf_parts.specs.inner.RecordLaws.{by_layout}
 use Rattle.elf_parts.specs.declared.gnu_symver.VerDef.{VerDef}
 use Rattle.elf_parts.specs.declared.gnu_symver.VerDefAux.{VerDefAux}
 use Rattle.elf_parts.specs.declared.gnu_symver.VerDefAuxIterator.{VerDefAuxIterator}
@@ -34,7 +33,7 @@ use denote.Ref.{Bor}
 
 abbrev pub ver_need_fields : List Field
 ver_need_fields =
-    version_field 0 2 1 ∷  -- vn_version
+    version_field 0 2 ver_need_current ∷  -- vn_version
     field 2 2 ∷  -- vn_cnt
     field 4 4 ∷  -- vn_file
     field 8 4 ∷  -- vn_aux
@@ -52,8 +51,8 @@ ver_need n = record {
 abbrev pub ver_need_layout : Layout VerNeed
 ver_need_layout = record { fields = λ _. ver_need_fields; make = λ _. ver_need }
 
-pub ver_need_size : (class : Class) → 1 ≤ size_by ver_need_layout class
-ver_need_size class = lit≤ tt
+abbrev pub ver_need_reads : RecordType VerNeed
+ver_need_reads = by_layout ver_need_layout refl
 
 abbrev pub ver_need_aux_fields : List Field
 ver_need_aux_fields =
@@ -76,11 +75,8 @@ ver_need_aux n = record {
 abbrev pub ver_need_aux_layout : Layout VerNeedAux
 ver_need_aux_layout = record { fields = λ _. ver_need_aux_fields; make = λ _. ver_need_aux }
 
-pub ver_need_aux_size : (class : Class) → 1 ≤ size_by ver_need_aux_layout class
-ver_need_aux_size class = lit≤ tt
-
-pub ver_need_aux_free : (class : Class) → is_free (ver_need_aux_layout.fields class) ≡ true
-ver_need_aux_free class = refl
+abbrev pub ver_need_aux_reads : RecordType VerNeedAux
+ver_need_aux_reads = by_layout ver_need_aux_layout refl
 
 -- the versions that are needed of one file, the first of which begins at `start`
 abbrev pub ver_need_aux_records : Table → ℕ → ℕ → List VerNeedAux
@@ -100,7 +96,7 @@ ver_needs t count start =
 
 abbrev pub ver_def_fields : List Field
 ver_def_fields =
-    version_field 0 2 1 ∷  -- vd_version
+    version_field 0 2 ver_def_current ∷  -- vd_version
     field 2 2 ∷  -- vd_flags
     field 4 2 ∷  -- vd_ndx
     field 6 2 ∷  -- vd_cnt
@@ -122,8 +118,8 @@ ver_def n = record {
 abbrev pub ver_def_layout : Layout VerDef
 ver_def_layout = record { fields = λ _. ver_def_fields; make = λ _. ver_def }
 
-pub ver_def_size : (class : Class) → 1 ≤ size_by ver_def_layout class
-ver_def_size class = lit≤ tt
+abbrev pub ver_def_reads : RecordType VerDef
+ver_def_reads = by_layout ver_def_layout refl
 
 abbrev pub ver_def_aux_fields : List Field
 ver_def_aux_fields =
@@ -140,11 +136,8 @@ ver_def_aux n = record {
 abbrev pub ver_def_aux_layout : Layout VerDefAux
 ver_def_aux_layout = record { fields = λ _. ver_def_aux_fields; make = λ _. ver_def_aux }
 
-pub ver_def_aux_size : (class : Class) → 1 ≤ size_by ver_def_aux_layout class
-ver_def_aux_size class = lit≤ tt
-
-pub ver_def_aux_free : (class : Class) → is_free (ver_def_aux_layout.fields class) ≡ true
-ver_def_aux_free class = refl
+abbrev pub ver_def_aux_reads : RecordType VerDefAux
+ver_def_aux_reads = by_layout ver_def_aux_layout refl
 
 -- the names of one version, the first of which begins at `start`
 abbrev pub ver_def_aux_records : Table → ℕ → ℕ → List VerDefAux
@@ -196,11 +189,8 @@ version_index_fields =
 abbrev pub version_index_layout : Layout VersionIndex
 version_index_layout = record { fields = λ _. version_index_fields; make = λ _ n. record { 0 = slice_index n 0 } }
 
-pub version_index_size : (class : Class) → 1 ≤ size_by version_index_layout class
-version_index_size class = lit≤ tt
-
-pub version_index_free : (class : Class) → is_free (version_index_layout.fields class) ≡ true
-version_index_free class = refl
+abbrev pub version_index_reads : RecordType VersionIndex
+version_index_reads = by_layout version_index_layout refl
 
 abbrev pub version_index : VersionIndex → ℕ
 version_index version = version.0 % 2 ^ 15
@@ -228,7 +218,7 @@ pub record Versions : Type 0 where
 
 -- the version index of symbol i, or why it cannot be had
 abbrev pub index_of : Versions → ℕ → Result VersionIndex ParseError
-index_of versions i = table_get (size_by version_index_layout) (record_by version_index_layout) versions.indexes i
+index_of versions i = table_get version_index_reads versions.indexes i
 
 -- ---- the version that a symbol needs of another file
 

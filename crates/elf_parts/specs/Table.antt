@@ -3,6 +3,7 @@ use Rattle.std.specs.Prelude.{ℕ, zero, suc, ◌+◌, ◌-◌, ◌*◌, ◌/◌
 use Rattle.elf_parts.specs.declared.file.Class.{Class}
 use Rattle.elf_parts.specs.declared.parse.ParseError.{ParseError}
 use Rattle.elf_parts.specs.declared.parse.ParseError.TheVariants.{BadOffset, IntegerOverflow}
+use Rattle.elf_parts.specs.Record.{RecordType}
 use Rattle.elf_parts.specs.declared.parse.table.ParsingTable.{ParsingTable}
 use Rattle.elf_parts.specs.declared.parse.table.ParsingIterator.{ParsingIterator}
 
@@ -39,20 +40,20 @@ items_from gives size (suc limit) bytes o = unless_refused (gives bytes o) (item
 abbrev pub items : {A : Type 0} → (List ℕ → ℕ → Result A ParseError) → ℕ → List ℕ → List A
 items gives size bytes = items_from gives size (length bytes) bytes 0
 
--- ---- a type of records, by what it tells of itself: the size of a record, and the record at an offset
+-- ---- a type of records, by how it is read
 
-module _ {A : Type 0} (size : Class → ℕ) (record_at : Bool → Class → List ℕ → ℕ → Result A ParseError) where
+module _ {A : Type 0} (reads : RecordType A) where
   -- how many records fit
   abbrev pub table_len : Table → ℕ
-  table_len t = length t.bytes / size t.class
+  table_len t = length t.bytes / reads.size t.class
 
   -- record i, or why it cannot be had
   abbrev pub table_get : Table → ℕ → Result A ParseError
-  table_get t i = item_at (record_at t.little t.class) (size t.class) t.bytes i
+  table_get t i = item_at (reads.record_at t.little t.class) (reads.size t.class) t.bytes i
 
   -- the records up to the first that is refused
   abbrev pub table_items : Table → List A
-  table_items t = items (record_at t.little t.class) (size t.class) t.bytes
+  table_items t = items (reads.record_at t.little t.class) (reads.size t.class) t.bytes
 
 -- ---- what the structs show
 
@@ -60,5 +61,6 @@ abbrev pub table_view : {E P : Type 0} → ParsingTable E P → Table
 table_view t = table_in t.little t.class t.«data».now
 
 -- the records that an iterator is still to give
-unfoldable pub items_left : {E P : Type 0} → (Class → ℕ) → (Bool → Class → List ℕ → ℕ → Result P ParseError) → ParsingIterator E P → List P
-items_left size record_at s = items_from (record_at s.little s.class) (size s.class) (length s.«data».now - s.offset) s.«data».now s.offset
+unfoldable pub items_left : {E P : Type 0} → RecordType P → ParsingIterator E P → List P
+items_left reads s =
+    items_from (reads.record_at s.little s.class) (reads.size s.class) (length s.«data».now - s.offset) s.«data».now s.offset

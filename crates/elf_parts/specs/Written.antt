@@ -5,7 +5,7 @@ use Rattle.std.specs.Prelude.{List, [], ◌∷◌, ◌++◌, length, reverse, Ok
 use Rattle.elf_parts.specs.declared.file.Class.{Class}
 use Rattle.std.specs.List.{sum_by}
 use Rattle.elf_parts.specs.Record.{Field, Layout, record_by, size_by}
-use Rattle.elf_parts.specs.Table.{table_in, table_items}
+use Rattle.elf_parts.specs.Table.{items}
 
 -- ---- numbers
 
@@ -111,7 +111,7 @@ abbrev pub ReadsTable : {A : Type 0} → Layout A → (Class → A → List Memb
 ReadsTable {A = A} layout struct =
     (little : Bool) (class : Class) (xs : List A) → AllFit (struct class) xs →
     length (table_of little (struct class) xs) < 2 ^ 64 →
-    table_items (size_by layout) (record_by layout) (table_in little class (table_of little (struct class) xs)) ≡ xs
+    items (record_by layout little class) (size_by layout class) (table_of little (struct class) xs) ≡ xs
 
 -- records whose structures are the same bytes are the same
 abbrev pub TellsApart : {A : Type 0} → (Class → A → List Member) → Type 0

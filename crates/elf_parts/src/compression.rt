@@ -32,21 +32,9 @@ pub struct CompressionHeader {
 }
 
 impl ParseAt for CompressionHeader {
-    ghost use Rattle.elf_parts.specs.Compression.{compression_header_layout, compression_header_size};
-    ghost use Rattle.elf_parts.specs.Record.{offset_by, record_by, size_by};
-    ghost use Rattle.elf_parts.specs.inner.RecordLaws.{only_by, within_by};
+    ghost use Rattle.elf_parts.specs.Compression.{compression_header_reads};
 
-    ghost size = { size_by compression_header_layout };
-
-    ghost record_at = { record_by compression_header_layout };
-
-    ghost offset_after = { offset_by compression_header_layout };
-
-    ghost some_size = { compression_header_size };
-
-    ghost within = { within_by compression_header_layout compression_header_size };
-
-    ghost only = { only_by compression_header_layout };
+    ghost reads = { compression_header_reads };
 
     #[tactic(auto, unfolding(crate::specs::Record::numbers_at, crate::specs::Record::numbers_end))]
     fn parse_at<E: EndianParse>(

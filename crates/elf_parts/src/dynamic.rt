@@ -70,21 +70,9 @@ fn dyn_64(d_tag: u64, d_un: u64) -> Dyn
 }
 
 impl ParseAt for Dyn {
-    ghost use Rattle.elf_parts.specs.Dynamic.{dyn_layout, dyn_size};
-    ghost use Rattle.elf_parts.specs.Record.{offset_by, record_by, size_by};
-    ghost use Rattle.elf_parts.specs.inner.RecordLaws.{only_by, within_by};
+    ghost use Rattle.elf_parts.specs.Dynamic.{dyn_reads};
 
-    ghost size = { size_by dyn_layout };
-
-    ghost record_at = { record_by dyn_layout };
-
-    ghost offset_after = { offset_by dyn_layout };
-
-    ghost some_size = { dyn_size };
-
-    ghost within = { within_by dyn_layout dyn_size };
-
-    ghost only = { only_by dyn_layout };
+    ghost reads = { dyn_reads };
 
     #[tactic(auto, unfolding(crate::specs::Record::numbers_at, crate::specs::Record::numbers_end))]
     fn parse_at<E: EndianParse>(

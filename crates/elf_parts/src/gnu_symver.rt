@@ -1,7 +1,8 @@
 //! The versions of symbols (GNU symbol versioning): which versions of other files an object needs, which ones
 //! it defines, and the version of each symbol.
-ghost use Rattle.std.specs.Prelude.{◌≡◌, ◌==◌, ◌<◌, ◌≤◌, ◌^◌, ℕ, length};
+ghost use Rattle.std.specs.Prelude.{◌≡◌, ◌==◌, ◌<◌, ◌≤◌, ◌^◌, length};
 ghost use Rattle.std.specs.Iterator.{YieldsFirst, YieldsFirstBy, item_count};
+ghost use Rattle.elf_abi.specs.Values.{ver_ndx_global, ver_ndx_local};
 ghost use Rattle.elf_parts.specs.Symver.{ver_def_aux_left, ver_def_aux_records, ver_def_aux_table, ver_def_view, ver_defs};
 ghost use Rattle.elf_parts.specs.Symver.{ver_defs_left};
 ghost use Rattle.elf_parts.specs.Symver.{ver_need_aux_left, ver_need_aux_records, ver_need_view, ver_needs};
@@ -30,21 +31,9 @@ pub struct VerNeed {
 }
 
 impl ParseAt for VerNeed {
-    ghost use Rattle.elf_parts.specs.Record.{offset_by, record_by, size_by};
-    ghost use Rattle.elf_parts.specs.inner.RecordLaws.{only_by, within_by};
-    ghost use Rattle.elf_parts.specs.Symver.{ver_need_layout, ver_need_size};
+    ghost use Rattle.elf_parts.specs.Symver.{ver_need_reads};
 
-    ghost size = { size_by ver_need_layout };
-
-    ghost record_at = { record_by ver_need_layout };
-
-    ghost offset_after = { offset_by ver_need_layout };
-
-    ghost some_size = { ver_need_size };
-
-    ghost within = { within_by ver_need_layout ver_need_size };
-
-    ghost only = { only_by ver_need_layout };
+    ghost reads = { ver_need_reads };
 
     #[tactic(auto, unfolding(crate::specs::Record::numbers_at, crate::specs::Record::numbers_end))]
     fn parse_at<E: EndianParse>(
@@ -93,21 +82,9 @@ pub struct VerNeedAux {
 }
 
 impl ParseAt for VerNeedAux {
-    ghost use Rattle.elf_parts.specs.Record.{offset_by, record_by, size_by};
-    ghost use Rattle.elf_parts.specs.inner.RecordLaws.{only_by, within_by};
-    ghost use Rattle.elf_parts.specs.Symver.{ver_need_aux_layout, ver_need_aux_size};
+    ghost use Rattle.elf_parts.specs.Symver.{ver_need_aux_reads};
 
-    ghost size = { size_by ver_need_aux_layout };
-
-    ghost record_at = { record_by ver_need_aux_layout };
-
-    ghost offset_after = { offset_by ver_need_aux_layout };
-
-    ghost some_size = { ver_need_aux_size };
-
-    ghost within = { within_by ver_need_aux_layout ver_need_aux_size };
-
-    ghost only = { only_by ver_need_aux_layout };
+    ghost reads = { ver_need_aux_reads };
 
     #[tactic(auto, unfolding(crate::specs::Record::numbers_at, crate::specs::Record::numbers_end))]
     fn parse_at<E: EndianParse>(
@@ -240,21 +217,9 @@ pub struct VerDef {
 }
 
 impl ParseAt for VerDef {
-    ghost use Rattle.elf_parts.specs.Record.{offset_by, record_by, size_by};
-    ghost use Rattle.elf_parts.specs.inner.RecordLaws.{only_by, within_by};
-    ghost use Rattle.elf_parts.specs.Symver.{ver_def_layout, ver_def_size};
+    ghost use Rattle.elf_parts.specs.Symver.{ver_def_reads};
 
-    ghost size = { size_by ver_def_layout };
-
-    ghost record_at = { record_by ver_def_layout };
-
-    ghost offset_after = { offset_by ver_def_layout };
-
-    ghost some_size = { ver_def_size };
-
-    ghost within = { within_by ver_def_layout ver_def_size };
-
-    ghost only = { only_by ver_def_layout };
+    ghost reads = { ver_def_reads };
 
     #[tactic(auto, unfolding(crate::specs::Record::numbers_at, crate::specs::Record::numbers_end))]
     fn parse_at<E: EndianParse>(
@@ -302,21 +267,9 @@ pub struct VerDefAux {
 }
 
 impl ParseAt for VerDefAux {
-    ghost use Rattle.elf_parts.specs.Record.{offset_by, record_by, size_by};
-    ghost use Rattle.elf_parts.specs.inner.RecordLaws.{only_by, within_by};
-    ghost use Rattle.elf_parts.specs.Symver.{ver_def_aux_layout, ver_def_aux_size};
+    ghost use Rattle.elf_parts.specs.Symver.{ver_def_aux_reads};
 
-    ghost size = { size_by ver_def_aux_layout };
-
-    ghost record_at = { record_by ver_def_aux_layout };
-
-    ghost offset_after = { offset_by ver_def_aux_layout };
-
-    ghost some_size = { ver_def_aux_size };
-
-    ghost within = { within_by ver_def_aux_layout ver_def_aux_size };
-
-    ghost only = { only_by ver_def_aux_layout };
+    ghost reads = { ver_def_aux_reads };
 
     #[tactic(auto, unfolding(crate::specs::Record::numbers_at, crate::specs::Record::numbers_end))]
     fn parse_at<E: EndianParse>(
@@ -443,21 +396,9 @@ pub struct VersionIndex(pub u16);
 pub type VersionIndexTable<'data, E> = ParsingTable<'data, E, VersionIndex>;
 
 impl ParseAt for VersionIndex {
-    ghost use Rattle.elf_parts.specs.Record.{offset_by, record_by, size_by};
-    ghost use Rattle.elf_parts.specs.inner.RecordLaws.{only_by, within_by};
-    ghost use Rattle.elf_parts.specs.Symver.{version_index_layout, version_index_size};
+    ghost use Rattle.elf_parts.specs.Symver.{version_index_reads};
 
-    ghost size = { size_by version_index_layout };
-
-    ghost record_at = { record_by version_index_layout };
-
-    ghost offset_after = { offset_by version_index_layout };
-
-    ghost some_size = { version_index_size };
-
-    ghost within = { within_by version_index_layout version_index_size };
-
-    ghost only = { only_by version_index_layout };
+    ghost reads = { version_index_reads };
 
     #[tactic(auto, unfolding(crate::specs::Record::numbers_at, crate::specs::Record::numbers_end))]
     fn parse_at<E: EndianParse>(
@@ -484,14 +425,14 @@ impl VersionIndex {
 
     /// Whether the symbol is local: its index is 0.
     pub fn is_local(&self) -> bool
-        ensures { result ≡ (version_index self.now == 0) }
+        ensures { result ≡ (version_index self.now == ver_ndx_local) }
     {
         self.index() == abi::VER_NDX_LOCAL
     }
 
     /// Whether the symbol is global and has no version of its own: its index is 1.
     pub fn is_global(&self) -> bool
-        ensures { result ≡ (version_index self.now == 1) }
+        ensures { result ≡ (version_index self.now == ver_ndx_global) }
     {
         self.index() == abi::VER_NDX_GLOBAL
     }

@@ -1,5 +1,5 @@
 //! Notes (gABI, chapter "Program Header", "Note Section").
-ghost use Rattle.std.specs.Prelude.{◌≡◌, ◌≤◌, ◌<◌, ◌^◌, ◌+◌, Bool, length, OnOk};
+ghost use Rattle.std.specs.Prelude.{◌≡◌, ◌≤◌, ◌<◌, ◌^◌, ◌+◌, length, OnOk};
 ghost use Rattle.std.specs.Iterator.{YieldsFirstBy, item_count};
 ghost use Rattle.elf_parts.specs.Note.{aligned, content_of, note_and_next_view, note_at, note_view, notes_in};
 ghost use Rattle.elf_parts.specs.Note.{notes_left, GivesNameText};
@@ -63,21 +63,9 @@ struct NoteHeader {
 }
 
 impl ParseAt for NoteHeader {
-    ghost use Rattle.elf_parts.specs.Record.{offset_by, record_by, size_by};
-    ghost use Rattle.elf_parts.specs.inner.RecordLaws.{only_by, within_by};
-    ghost use Rattle.elf_parts.specs.Note.{note_header_layout, note_header_size};
+    ghost use Rattle.elf_parts.specs.Note.{note_header_reads};
 
-    ghost size = { size_by note_header_layout };
-
-    ghost record_at = { record_by note_header_layout };
-
-    ghost offset_after = { offset_by note_header_layout };
-
-    ghost some_size = { note_header_size };
-
-    ghost within = { within_by note_header_layout note_header_size };
-
-    ghost only = { only_by note_header_layout };
+    ghost reads = { note_header_reads };
 
     #[tactic(auto, unfolding(crate::specs::Record::numbers_at, crate::specs::Record::numbers_end))]
     fn parse_at<E: EndianParse>(
@@ -99,21 +87,9 @@ impl ParseAt for NoteHeader {
 }
 
 impl ParseAt for NoteGnuAbiTag {
-    ghost use Rattle.elf_parts.specs.Record.{offset_by, record_by, size_by};
-    ghost use Rattle.elf_parts.specs.inner.RecordLaws.{only_by, within_by};
-    ghost use Rattle.elf_parts.specs.Note.{abi_tag_layout, abi_tag_size};
+    ghost use Rattle.elf_parts.specs.Note.{abi_tag_reads};
 
-    ghost size = { size_by abi_tag_layout };
-
-    ghost record_at = { record_by abi_tag_layout };
-
-    ghost offset_after = { offset_by abi_tag_layout };
-
-    ghost some_size = { abi_tag_size };
-
-    ghost within = { within_by abi_tag_layout abi_tag_size };
-
-    ghost only = { only_by abi_tag_layout };
+    ghost reads = { abi_tag_reads };
 
     #[tactic(auto, unfolding(crate::specs::Record::numbers_at, crate::specs::Record::numbers_end))]
     fn parse_at<E: EndianParse>(

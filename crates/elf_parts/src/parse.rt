@@ -1,9 +1,8 @@
 //! Why bytes are refused, records that are read from them, and tables of such records.
-ghost use Rattle.std.specs.Prelude.{◌≡◌, ◌≤◌, ℕ, Bool, List, Result, if◌then◌else◌, ◌==◌};
+ghost use Rattle.std.specs.Prelude.{◌≡◌, if◌then◌else◌, ◌==◌};
 ghost use Rattle.elf_parts.specs.Number.{moved_by, number_at};
-ghost use Rattle.elf_parts.specs.Record.{ReadsOnly, ReadsWithin};
+ghost use Rattle.elf_parts.specs.Record.{RecordType};
 ghost use Rattle.elf_parts.specs.inner.Part.{class_width};
-ghost use Rattle.elf_parts.specs.declared.file.Class.{Class};
 ghost use Rattle.elf_parts.specs.declared.parse.ParseError.{ParseError};
 ghost use Rattle.elf_parts.specs.declared.parse.ParseError.TheVariants.{IOError as IsIOError, Utf8Error as IsUtf8Error};
 ghost use Rattle.elf_parts.specs.declared.parse.ParseError.TheVariants.{TryFromIntError as IsTryFromIntError};
@@ -113,14 +112,8 @@ impl From<std::io::Error> for ParseError {
 /// offset afterwards are fixed by order, class, offset and data; a read that succeeds lies in the data and
 /// moves the offset by the size, and its value depends on those bytes, the order and the class alone.
 pub trait ParseAt: Sized {
-    // How many bytes a record has.
-    ghost size: { Class → ℕ };
-
-    // The record at an offset, or why it cannot be read.
-    ghost record_at: { Bool → Class → List ℕ → ℕ → Result Self ParseError };
-
-    // Where the read of a record leaves the offset.
-    ghost offset_after: { Bool → Class → List ℕ → ℕ → ℕ };
+    // How a record is read: its size, what is read at an offset, and the laws of these.
+    ghost reads: { RecordType Self };
 
     /// Reads the record at the offset, in bytes, and moves the offset behind it.
     fn parse_at<E: EndianParse>(
@@ -129,17 +122,17 @@ pub trait ParseAt: Sized {
         offset: &mut usize,
         data: &[u8],
     ) -> Result<Self, ParseError>
-        ensures value { result ≡ record_at (E.little endian) class «data».now offset.old }
-        ensures moved { offset.new ≡ offset_after (E.little endian) class «data».now offset.old };
+        ensures value { result ≡ reads.record_at (E.little endian) class «data».now offset.old }
+        ensures moved { offset.new ≡ reads.offset_after (E.little endian) class «data».now offset.old };
 
     /// How many bytes a record has.
     fn size_for(class: Class) -> usize
-        ensures { result ≡ size class };
+        ensures { result ≡ reads.size class };
 
     /// The entry size that a file gives, in bytes, where it is that of the record; else `BadEntsize`.
     fn validate_entsize(class: Class, entsize: usize) -> Result<usize, ParseError>
-        ensures { result ≡ (if entsize == size class then Ok entsize
-            else Err (ParseError.BadEntsize (entsize, size class))) }
+        ensures { result ≡ (if entsize == reads.size class then Ok entsize
+            else Err (ParseError.BadEntsize (entsize, reads.size class))) }
     {
         let expected = Self::size_for(class);
         if entsize == expected {
@@ -148,15 +141,6 @@ pub trait ParseAt: Sized {
             Err(ParseError::BadEntsize((entsize as u64, expected as u64)))
         }
     }
-
-    // A record has at least one byte.
-    ghost some_size: { (class : Class) → 1 ≤ size class };
-
-    // A record that is read lies in the data, and the offset moves behind it.
-    ghost within: { ReadsWithin size record_at offset_after };
-
-    // What is read depends on the record's own bytes alone.
-    ghost only: { ReadsOnly size record_at };
 }
 
 // An address, an offset or a size: four bytes in a 32-bit file, eight in a 64-bit one.

@@ -127,21 +127,9 @@ fn rela_64(r_offset: u64, r_info: u64, r_addend: u64) -> Rela
 }
 
 impl ParseAt for Rel {
-    ghost use Rattle.elf_parts.specs.Record.{offset_by, record_by, size_by};
-    ghost use Rattle.elf_parts.specs.Relocation.{rel_layout, rel_size};
-    ghost use Rattle.elf_parts.specs.inner.RecordLaws.{only_by, within_by};
+    ghost use Rattle.elf_parts.specs.Relocation.{rel_reads};
 
-    ghost size = { size_by rel_layout };
-
-    ghost record_at = { record_by rel_layout };
-
-    ghost offset_after = { offset_by rel_layout };
-
-    ghost some_size = { rel_size };
-
-    ghost within = { within_by rel_layout rel_size };
-
-    ghost only = { only_by rel_layout };
+    ghost reads = { rel_reads };
 
     #[tactic(auto, unfolding(crate::specs::Record::numbers_at, crate::specs::Record::numbers_end))]
     fn parse_at<E: EndianParse>(
@@ -173,21 +161,9 @@ impl ParseAt for Rel {
 }
 
 impl ParseAt for Rela {
-    ghost use Rattle.elf_parts.specs.Record.{offset_by, record_by, size_by};
-    ghost use Rattle.elf_parts.specs.Relocation.{rela_layout, rela_size};
-    ghost use Rattle.elf_parts.specs.inner.RecordLaws.{only_by, within_by};
+    ghost use Rattle.elf_parts.specs.Relocation.{rela_reads};
 
-    ghost size = { size_by rela_layout };
-
-    ghost record_at = { record_by rela_layout };
-
-    ghost offset_after = { offset_by rela_layout };
-
-    ghost some_size = { rela_size };
-
-    ghost within = { within_by rela_layout rela_size };
-
-    ghost only = { only_by rela_layout };
+    ghost reads = { rela_reads };
 
     #[tactic(auto, unfolding(crate::specs::Record::numbers_at, crate::specs::Record::numbers_end))]
     fn parse_at<E: EndianParse>(

@@ -59,21 +59,9 @@ pub struct SectionHeader {
 }
 
 impl ParseAt for SectionHeader {
-    ghost use Rattle.elf_parts.specs.Record.{offset_by, record_by, size_by};
-    ghost use Rattle.elf_parts.specs.inner.RecordLaws.{only_by, within_by};
-    ghost use Rattle.elf_parts.specs.Section.{section_header_layout, section_header_size};
+    ghost use Rattle.elf_parts.specs.Section.{section_header_reads};
 
-    ghost size = { size_by section_header_layout };
-
-    ghost record_at = { record_by section_header_layout };
-
-    ghost offset_after = { offset_by section_header_layout };
-
-    ghost some_size = { section_header_size };
-
-    ghost within = { within_by section_header_layout section_header_size };
-
-    ghost only = { only_by section_header_layout };
+    ghost reads = { section_header_reads };
 
     fn parse_at<E: EndianParse>(
         endian: E,

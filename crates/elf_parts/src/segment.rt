@@ -53,21 +53,9 @@ pub struct ProgramHeader {
 }
 
 impl ParseAt for ProgramHeader {
-    ghost use Rattle.elf_parts.specs.Record.{offset_by, record_by, size_by};
-    ghost use Rattle.elf_parts.specs.inner.RecordLaws.{only_by, within_by};
-    ghost use Rattle.elf_parts.specs.Segment.{program_header_layout, program_header_size};
+    ghost use Rattle.elf_parts.specs.Segment.{program_header_reads};
 
-    ghost size = { size_by program_header_layout };
-
-    ghost record_at = { record_by program_header_layout };
-
-    ghost offset_after = { offset_by program_header_layout };
-
-    ghost some_size = { program_header_size };
-
-    ghost within = { within_by program_header_layout program_header_size };
-
-    ghost only = { only_by program_header_layout };
+    ghost reads = { program_header_reads };
 
     #[tactic(auto, unfolding(crate::specs::Record::numbers_at, crate::specs::Record::numbers_end))]
     fn parse_at<E: EndianParse>(

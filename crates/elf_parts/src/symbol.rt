@@ -1,5 +1,6 @@
 //! Symbols (gABI, chapter "Symbol Table").
 ghost use Rattle.std.specs.Prelude.{◌≡◌, ◌==◌};
+ghost use Rattle.elf_abi.specs.Values.{shn_undef};
 ghost use Rattle.elf_parts.specs.Symbol.{symbol_binding, symbol_type, symbol_visibility};
 
 use crate::endian::EndianParse;
@@ -50,7 +51,7 @@ pub struct Symbol {
 impl Symbol {
     /// Whether no section defines the symbol.
     pub fn is_undefined(&self) -> bool
-        ensures { result ≡ (self.now.st_shndx == 0) }
+        ensures { result ≡ (self.now.st_shndx == shn_undef) }
     {
         self.st_shndx == abi::SHN_UNDEF
     }
@@ -78,21 +79,9 @@ impl Symbol {
 }
 
 impl ParseAt for Symbol {
-    ghost use Rattle.elf_parts.specs.Record.{offset_by, record_by, size_by};
-    ghost use Rattle.elf_parts.specs.Symbol.{symbol_layout, symbol_size};
-    ghost use Rattle.elf_parts.specs.inner.RecordLaws.{only_by, within_by};
+    ghost use Rattle.elf_parts.specs.Symbol.{symbol_reads};
 
-    ghost size = { size_by symbol_layout };
-
-    ghost record_at = { record_by symbol_layout };
-
-    ghost offset_after = { offset_by symbol_layout };
-
-    ghost some_size = { symbol_size };
-
-    ghost within = { within_by symbol_layout symbol_size };
-
-    ghost only = { only_by symbol_layout };
+    ghost reads = { symbol_reads };
 
     #[tactic(auto, unfolding(crate::specs::Record::numbers_at, crate::specs::Record::numbers_end))]
     fn parse_at<E: EndianParse>(

@@ -1,4 +1,5 @@
 //! Each type that can be compared or cloned: other values are not equal, and a clone is.
+use elf::CommonElfData;
 use elf::compression::CompressionHeader;
 use elf::dynamic::Dyn;
 use elf::endian::{AnyEndian, BigEndian, LittleEndian};
@@ -249,4 +250,12 @@ fn tables_and_version_iterators_are_cloned(rt: HostRuntime) -> Result<(), AllocE
             .eq([1, 2])
     );
     Ok(())
+}
+
+#[test]
+fn default_common_data_has_nothing(rt: HostRuntime) {
+    let found = CommonElfData::<'_, AnyEndian>::default();
+    assert!(rt; found.symtab.is_none() && found.symtab_strs.is_none());
+    assert!(rt; found.dynsyms.is_none() && found.dynsyms_strs.is_none());
+    assert!(rt; found.dynamic.is_none() && found.sysv_hash.is_none() && found.gnu_hash.is_none());
 }

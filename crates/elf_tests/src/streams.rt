@@ -814,6 +814,35 @@ fn what_is_held_needs_no_memory(rt: HostRuntime) -> Result<(), Fail> {
     Ok(())
 }
 
+/// How many of all calls answer as `ElfBytes` does while no memory is left and the source would fail, once each of them
+/// was made.
+fn held_calls(rt: &(impl Abort + AllocGlobal), bytes: &[u8]) -> Result<usize, Fail> {
+    let file = ElfBytes::minimal_parse(bytes)?;
+    let calls_left = Cell::new(u64::MAX);
+    let mut stream = open(rt.alloc(), bytes, &calls_left)?;
+    assert_eq!(rt; refused_calls(rt, &mut stream, &file, Answer::Starved), 0);
+    calls_left.set(0);
+    let blocks = all_memory(rt.alloc())?;
+    let mut held = 0usize;
+    for number in 0..CALLS {
+        if let Some(asked) = call(number)
+            && answer_of(&mut stream, &file, asked) == Answer::Same
+        {
+            held = held.saturating_add(1);
+        }
+    }
+    drop(blocks);
+    Ok(held)
+}
+
+#[test]
+fn all_that_was_asked_needs_no_memory_and_no_source(rt: HostRuntime) -> Result<(), Fail> {
+    for bytes in FILES {
+        assert_eq!(rt; held_calls(&rt, bytes)?, CALLS);
+    }
+    Ok(())
+}
+
 #[test]
 fn a_cut_file_is_refused(rt: HostRuntime) {
     for length in 0..=HASHED.len() {

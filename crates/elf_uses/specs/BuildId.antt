@@ -1,6 +1,7 @@
--- The build id of a file: the first among the notes of its segments of type PT_NOTE (4), and then of its sections of
--- type SHT_NOTE (7). What is refused before it is found is the answer.
+-- The build id of a file: the first among the notes of its segments of type PT_NOTE, and then of its sections of
+-- type SHT_NOTE. What is refused before it is found is the answer.
 use Rattle.std.specs.Prelude.{ℕ, ◌==◌, if◌then◌else◌, List, [], ◌∷◌, map, Option, Some, None, Result, Ok}
+use Rattle.elf_abi.specs.Values.{pt_note, sht_note}
 use Rattle.elf_parts.specs.Note.{NoteContent, AbiTag, BuildId, Other}
 use Rattle.elf_parts.specs.Number.{ok_map}
 use Rattle.elf_parts.specs.Record.{◌>>=◌}
@@ -18,13 +19,13 @@ first_id (AbiTag tag ∷ notes) = first_id notes
 first_id (Other n_type name descriptor ∷ notes) = first_id notes
 
 abbrev pub segment_id : ObjectFile → ProgramHeader → Result (Option (List ℕ)) ParseError
-segment_id file p = if p.p_type == 4 then ok_map first_id (segment_data_as_notes file p) else Ok None
+segment_id file p = if p.p_type == pt_note then ok_map first_id (segment_data_as_notes file p) else Ok None
 
 abbrev pub segments_id : ObjectFile → Result (Option (List ℕ)) ParseError
 segments_id file = first_decided (map (segment_id file) file.segments)
 
 abbrev pub section_id : ObjectFile → SectionHeader → Result (Option (List ℕ)) ParseError
-section_id file s = if s.sh_type == 7 then ok_map first_id (section_data_as_notes file s) else Ok None
+section_id file s = if s.sh_type == sht_note then ok_map first_id (section_data_as_notes file s) else Ok None
 
 abbrev pub sections_id : ObjectFile → Result (Option (List ℕ)) ParseError
 sections_id file = first_decided (map (section_id file) file.sections)

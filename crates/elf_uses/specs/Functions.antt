@@ -1,6 +1,7 @@
 -- Which symbols are functions that a file defines for others, and the versions that it defines them with.
 use Rattle.std.specs.Prelude.{◌≡◌, ℕ, ◌==◌, ◌&&◌, ◌||◌, not, Bool, MatchBool, bit_and, List, [], ◌∷◌, Option, Some, None, Result, Ok, Err, MatchResult}
 use Rattle.std.specs.Option.{IsSomeAnd}
+use Rattle.elf_abi.specs.Values.{shn_undef, stb_local, stt_func, stt_gnu_ifunc, ver_flg_base}
 use Rattle.elf_parts.specs.StringTable.{GivesText}
 use Rattle.elf_parts.specs.Symbol.{symbol_binding, symbol_type}
 use Rattle.elf_parts.specs.Symver.{Definition}
@@ -12,7 +13,8 @@ use Rattle.elf_uses.specs.declared.functions.Version.{Version}
 -- the file is loaded (STT_GNU_IFUNC, 10)
 abbrev pub is_defined_function : Symbol → Bool
 is_defined_function s =
-    not (s.st_shndx == 0) && not (symbol_binding s == 0) && (symbol_type s == 2 || symbol_type s == 10)
+    not (s.st_shndx == shn_undef) && not (symbol_binding s == stb_local)
+    && (symbol_type s == stt_func || symbol_type s == stt_gnu_ifunc)
 
 -- the first name as text, or why it is none; a version without names is none
 abbrev pub GivesFirst : Bool → List (Result (List ℕ) ParseError) → Result (Option Version) ParseError → Type 0
@@ -24,7 +26,8 @@ GivesFirst hidden (name ∷ others) result =
 
 -- a definition that stands for the file itself (VER_FLG_BASE, 1) is no version
 abbrev pub GivesVersionOf : Definition → Result (Option Version) ParseError → Type 0
-GivesVersionOf d result = MatchBool (bit_and d.flags 1 == 0) (GivesFirst d.hidden d.names result) (result ≡ Ok None)
+GivesVersionOf d result =
+    MatchBool (bit_and d.flags ver_flg_base == 0) (GivesFirst d.hidden d.names result) (result ≡ Ok None)
 
 abbrev pub GivesVersion : Result (Option Definition) ParseError → Result (Option Version) ParseError → Type 0
 GivesVersion (Err e) result = result ≡ Err e

@@ -2,6 +2,7 @@
 use Rattle.std.specs.Prelude.{◌≡◌, ℕ, ◌==◌, if◌then◌else◌, Option, Some, None, Result, MatchResult}
 use Rattle.std.specs.Option.{IsSomeAnd}
 use Rattle.std.specs.Result.{IsOkAnd}
+use Rattle.elf_abi.specs.Values.{sht_gnu_hash, sht_hash}
 use Rattle.elf_parts.specs.GnuFind.{gnu_section}
 use Rattle.elf_parts.specs.Number.{ok_map}
 use Rattle.elf_parts.specs.SysvFind.{sysv_section}
@@ -10,11 +11,11 @@ use Rattle.elf.specs.ObjectFile.{ObjectFile}
 use Rattle.elfshow.specs.Resolve.{ByGnu, BySysv, IsFaultOf, IsSound, Object, given_by, indexed_count}
 use Rattle.elfshow.specs.declared.resolve.ObjectFault.{ObjectFault}
 
--- the table of a section of type SHT_GNU_HASH (0x6ffffff6) or SHT_HASH (5), over the dynamic symbols
+-- the table of a section of type SHT_GNU_HASH or SHT_HASH, over the dynamic symbols
 abbrev pub hash_object : ObjectFile → SectionHeader → Option (Result Object ObjectFault)
 hash_object file s =
-    if s.sh_type == 0x6ffffff6 then Some (ok_map ByGnu (given_by gnu_section file s))
-    else if s.sh_type == 5 then Some (ok_map BySysv (given_by sysv_section file s))
+    if s.sh_type == sht_gnu_hash then Some (ok_map ByGnu (given_by gnu_section file s))
+    else if s.sh_type == sht_hash then Some (ok_map BySysv (given_by sysv_section file s))
     else None
 
 -- the count of the symbols of a table that is sound

@@ -2,6 +2,7 @@
 use Rattle.std.specs.Prelude.{◌≡◌, ℕ, ◌+◌, ◌<◌, ◌==◌, nat_le, nat_lt, min, max, Bool, true, false, List, length, map, filter, take, slice_get, IfSome}
 use Rattle.std.specs.List.{list_any}
 use Rattle.std.specs.Option.{IsSomeAnd}
+use Rattle.elf_abi.specs.Values.{pt_load}
 use Rattle.elf_parts.specs.declared.segment.ProgramHeader.{ProgramHeader}
 use Rattle.elf_uses.specs.declared.load_plan.Mapping.{Mapping}
 use Rattle.elf_uses.specs.declared.load_plan.PlanError.{PlanError}
@@ -16,9 +17,9 @@ mapping_of p = record {
   flags = p.p_flags;
 }
 
--- what the segments of type PT_LOAD (1) map
+-- what the segments of type PT_LOAD map
 abbrev pub mappings : List ProgramHeader → List Mapping
-mappings segments = map mapping_of (filter (λ p. p.p_type == 1) segments)
+mappings segments = map mapping_of (filter (λ p. p.p_type == pt_load) segments)
 
 -- there is memory for the bytes of the file
 abbrev pub fits : Mapping → Bool

@@ -4,6 +4,7 @@ use Rattle.std.specs.Option.{IsSomeAnd}
 use Rattle.std.specs.Result.{IsOkAnd}
 use Rattle.std.specs.declared.cmp.PartialEq.{Ghosts as PartialEqGhosts}
 use Rattle.std.specs.declared.default.Default.{Ghosts as DefaultGhosts}
+use Rattle.elf_abi.specs.Values.{shn_undef}
 use Rattle.elf_parts.specs.declared.endian.EndianParse.{Ghosts as EndianGhosts}
 use Rattle.elf_parts.specs.declared.symbol.Symbol.{Symbol}
 use Rattle.elf.specs.ObjectFile.{object_file}
@@ -53,14 +54,14 @@ module _ {E : Type 0} (little : E → Bool) where
 
 -- ---- the first library that defines a name
 
--- what is found in an object, and that a section of its file defines it (it is not SHN_UNDEF, 0)
+-- what is found in an object, and that a section of its file defines it (it is not SHN_UNDEF)
 abbrev pub Defines : List ℕ → Object → ℕ × Symbol → Type 0
 Defines name object found = IsFound object name (Some found) × (found.1.st_shndx ≢ 0)
 
 -- nothing is found in it, or a symbol that another file is to define
 abbrev pub IsUndefinedIn : List ℕ → Object → Type 0
 IsUndefinedIn name object =
-    (found : Option (ℕ × Symbol)) × IsFound object name found × IfSome found (λ f. f.1.st_shndx ≡ 0)
+    (found : Option (ℕ × Symbol)) × IsFound object name found × IfSome found (λ f. f.1.st_shndx ≡ shn_undef)
 
 module _ {C : Type 0} (view : C → Object) (tables : List C) (name : List ℕ) where
   abbrev pub UndefinedBefore : ℕ → Type 0

@@ -1,8 +1,7 @@
 //! The functions that a file defines for others, with their versions.
 ghost use Rattle.std.specs.Prelude.{◌≡◌, IfOk, filter};
 ghost use Rattle.std.specs.List.{enumerate_from};
-ghost use Rattle.elf_parts.specs.Record.{record_by, size_by};
-ghost use Rattle.elf_parts.specs.Symbol.{symbol_layout};
+ghost use Rattle.elf_parts.specs.Symbol.{symbol_reads};
 ghost use Rattle.elf_parts.specs.Symver.{definition, definition_view, versions_view};
 ghost use Rattle.elf_parts.specs.Table.{table_items, table_view};
 ghost use Rattle.elf_uses.specs.Functions.{GivesVersion, GivesVersionOf, is_defined_function};
@@ -37,7 +36,7 @@ pub fn functions<E: EndianParse>(
     symbols: &SymbolTable<'_, E>,
 ) -> Result<Vec<(usize, Symbol)>, AllocError>
     ensures { IfOk result (λ found. found.items ≡ filter (λ one. is_defined_function one.1)
-        (enumerate_from 0 (table_items (size_by symbol_layout) (record_by symbol_layout) (table_view symbols.now)))) }
+        (enumerate_from 0 (table_items symbol_reads (table_view symbols.now)))) }
 {
     symbols
         .iter()

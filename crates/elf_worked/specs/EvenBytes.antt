@@ -3,7 +3,7 @@ use Rattle.std.specs.Prelude.{◌≡◌, ℕ, Bool, ◌≤◌, ◌%◌, if◌the
 use Rattle.std.proofs.Common.{arith, lit≤, sym, ap, ◌∙◌}
 use Rattle.std.proofs.lemmas.Grind.{common_steps}
 use Rattle.elf_parts.specs.Number.{number, number_at, moved_by, ok_map}
-use Rattle.elf_parts.specs.Record.{ReadsOnly, ReadsWithin}
+use Rattle.elf_parts.specs.Record.{ReadsOnly, ReadsWithin, RecordType}
 use Rattle.elf_parts.specs.inner.RecordLaws.{number_at-ok, ok_map-ok}
 use Rattle.elf_parts.specs.declared.file.Class.{Class}
 use Rattle.elf_parts.specs.declared.parse.ParseError.{ParseError}
@@ -44,3 +44,13 @@ even_byte_only little class bytes others o p x y e d same =
     let a = number_at-ok little 1 bytes o m.0 m.1 in
     let b = number_at-ok little 1 others p n.0 n.1 in
     sym m.2 ∙ ap even_byte (a.2 ∙ ap (number little) same ∙ sym b.2) ∙ n.2
+
+abbrev pub even_bytes : RecordType EvenByte
+even_bytes = record {
+  size = even_byte_size;
+  record_at = even_byte_at;
+  offset_after = even_byte_end;
+  some_size = even_byte_some;
+  within = even_byte_within;
+  only = even_byte_only;
+}

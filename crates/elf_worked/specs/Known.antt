@@ -9,6 +9,7 @@ use Rattle.elf_parts.specs.declared.file.Class.TheVariants.{ELF32, ELF64}
 use Rattle.elf_parts.specs.declared.file.FileHeader.{FileHeader}
 use Rattle.elf_parts.specs.declared.parse.ParseError.{ParseError}
 use Rattle.elf_parts.specs.declared.section.SectionHeader.{SectionHeader}
+use Rattle.elf_parts.specs.declared.segment.ProgramHeader.{ProgramHeader}
 use Rattle.elf.specs.Names.{name_table}
 use Rattle.elf.specs.ObjectFile.{object_file}
 use Rattle.elf.specs.Opening.{opened}
@@ -16,7 +17,7 @@ use Rattle.elf.specs.View.{View}
 use Rattle.elfshow.specs.Asked.{Asked}
 use Rattle.elfshow.specs.BytesAnswers.{answers_of}
 use Rattle.elfshow.specs.Text.{text}
-use Rattle.elf_worked.specs.Files.{in_four, names_section, null_section, small_file, two_sections, zeros}
+use Rattle.elf_worked.specs.Files.{elsewhere, header_of_tables, in_eight, in_four, in_two, loaded_segment, names_section, null_section, small_file, two_sections, zeros}
 
 -- the header of the small file
 abbrev pub small_header : FileHeader AnyEndian
@@ -105,6 +106,49 @@ names_header = record {
   sh_addralign = 1;
   sh_entsize = 0;
 }
+
+-- a file of one section and one segment, both of whose numbers the first section header tells
+abbrev pub extended_header : FileHeader AnyEndian
+extended_header = record {
+  class = ELF64;
+  endianness = Little;
+  version = 0;
+  osabi = 0;
+  abiversion = 0;
+  e_type = 0;
+  e_machine = 0;
+  e_entry = 0;
+  e_phoff = 128;
+  e_shoff = 64;
+  e_flags = 0;
+  e_ehsize = 0;
+  e_phentsize = 56;
+  e_phnum = 0xffff;
+  e_shentsize = 64;
+  e_shnum = 0;
+  e_shstrndx = 0;
+}
+
+abbrev pub extended_section : SectionHeader
+extended_section = record null_header { sh_size = 1; sh_info = 1 }
+
+abbrev pub extended_segment : ProgramHeader
+extended_segment = record {
+  p_type = 1;
+  p_offset = 0;
+  p_vaddr = 0x400000;
+  p_paddr = 0x400000;
+  p_filesz = 4;
+  p_memsz = 8;
+  p_flags = 5;
+  p_align = 4096;
+}
+
+abbrev pub extended_file : List ℕ
+extended_file =
+    header_of_tables (in_eight 128 ++ in_eight 64) (in_two 56 ++ elsewhere) (in_two 64 ++ zeros 4)
+    ++ zeros 32 ++ in_eight 1 ++ zeros 4 ++ in_four 1 ++ zeros 16
+    ++ loaded_segment
 
 -- the file that the bytes hold, in the order that they tell
 abbrev pub opening : List ℕ → Result (View AnyEndian) ParseError

@@ -2,8 +2,13 @@ pub mod EvenBytes
 pub mod FileOrders
 pub mod Files
 pub mod HashSections
+pub mod HashesOfA
+pub mod Listed
 pub mod Known
+pub mod ObjectLists
 pub mod Objects
 pub mod Parts
 pub mod Records
+pub mod SoundSections
 pub mod Triples
+pub mod WrittenFiles

@@ -1,5 +1,5 @@
 -- Object files as the answers about them take them, by a few headers.
-use Rattle.std.specs.Prelude.{ℕ, true, List, [], ◌∷◌, ok_or, slice_get}
+use Rattle.std.specs.Prelude.{ℕ, true, List, [], ok_or, slice_get}
 use Rattle.elf_parts.specs.declared.file.Class.TheVariants.{ELF32}
 use Rattle.elf_parts.specs.declared.parse.ParseError.TheVariants.{BadOffset}
 use Rattle.elf_parts.specs.declared.section.SectionHeader.{SectionHeader}

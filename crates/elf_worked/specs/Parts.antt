@@ -1,5 +1,5 @@
 -- The bytes of notes and of versions of symbols, and what the versions are. Numbers are in little order.
-use Rattle.std.specs.Prelude.{ℕ, true, List, [], ◌∷◌, ◌++◌, Some, codes}
+use Rattle.std.specs.Prelude.{ℕ, true, List, [], ◌∷◌, ◌++◌, Some}
 use Rattle.elf_parts.specs.Symver.{Versions}
 use Rattle.elf_parts.specs.Table.{table_in}
 use Rattle.elf_parts.specs.declared.file.Class.TheVariants.{ELF64}

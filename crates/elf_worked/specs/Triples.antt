@@ -1,9 +1,7 @@
 -- The field table of a record of one byte and a number of two.
-use Rattle.std.specs.Prelude.{◌≡◌, ◌≤◌, true, [], ◌∷◌, slice_index, refl}
-use Rattle.std.proofs.Common.{lit≤}
-use Rattle.elf_parts.specs.Record.{field, Layout, size_by}
-use Rattle.elf_parts.specs.inner.RecordLaws.{is_free}
-use Rattle.elf_parts.specs.declared.file.Class.{Class}
+use Rattle.std.specs.Prelude.{[], ◌∷◌, slice_index, refl}
+use Rattle.elf_parts.specs.Record.{field, Layout, RecordType}
+use Rattle.elf_parts.specs.inner.RecordLaws.{by_layout}
 use Rattle.elf_worked.specs.declared.triple.Triple.{Triple}
 
 abbrev pub triple_layout : Layout Triple
@@ -12,8 +10,5 @@ triple_layout = record {
   make = λ _ n. record { kind = slice_index n 0; value = slice_index n 1 };
 }
 
-pub triple_size : (class : Class) → 1 ≤ size_by triple_layout class
-triple_size class = lit≤ tt
-
-pub triple_free : (class : Class) → is_free (triple_layout.fields class) ≡ true
-triple_free class = refl
+abbrev pub triple_reads : RecordType Triple
+triple_reads = by_layout triple_layout refl

@@ -9,7 +9,7 @@ use std::alloc::{AllocError, Global};
 
 /// How many records an iteration gives.
 pub fn count_items<E: EndianParse, P: ParseAt + Drop>(table: &ParsingTable<'_, E, P>) -> usize
-    ensures { result ≡ length (table_items P.size P.record_at (table_view table.now)) }
+    ensures { result ≡ length (table_items P.reads (table_view table.now)) }
 {
     table.iter().count()
 }
@@ -19,7 +19,7 @@ pub fn all_items<E: EndianParse, P: ParseAt + Drop>(
     alloc: Global,
     table: &ParsingTable<'_, E, P>,
 ) -> Result<Vec<P>, AllocError>
-    ensures { IfOk result (λ all. all.items ≡ table_items P.size P.record_at (table_view table.now)) }
+    ensures { IfOk result (λ all. all.items ≡ table_items P.reads (table_view table.now)) }
 {
     table.iter().collect(alloc)
 }
@@ -29,7 +29,7 @@ pub fn item_below<E: EndianParse, P: PlainRecord>(
     table: &ParsingTable<'_, E, P>,
     index: usize,
 ) -> Result<P, ParseError>
-    requires { index < table_len P.size P.record_at (table_view table.now) }
+    requires { index < table_len P.reads (table_view table.now) }
     ensures { IsOk result }
 {
     get_succeeds_below_len(table, index);

@@ -12,21 +12,9 @@ pub struct Triple {
 }
 
 impl ParseAt for Triple {
-    ghost use Rattle.elf_parts.specs.Record.{offset_by, record_by, size_by};
-    ghost use Rattle.elf_parts.specs.inner.RecordLaws.{only_by, within_by};
-    ghost use Rattle.elf_worked.specs.Triples.{triple_layout, triple_size};
+    ghost use Rattle.elf_worked.specs.Triples.{triple_reads};
 
-    ghost size = { size_by triple_layout };
-
-    ghost record_at = { record_by triple_layout };
-
-    ghost offset_after = { offset_by triple_layout };
-
-    ghost some_size = { triple_size };
-
-    ghost within = { within_by triple_layout triple_size };
-
-    ghost only = { only_by triple_layout };
+    ghost reads = { triple_reads };
 
     #[tactic(auto, unfolding(elf_parts::specs::Record::numbers_at, elf_parts::specs::Record::numbers_end))]
     fn parse_at<E: EndianParse>(
@@ -48,7 +36,8 @@ impl ParseAt for Triple {
 
 impl PlainRecord for Triple {
     ghost use Rattle.elf_parts.specs.inner.RecordLaws.{wherever_by};
-    ghost use Rattle.elf_worked.specs.Triples.{triple_layout, triple_free};
+    ghost use Rattle.elf_worked.specs.Triples.{triple_layout};
+    ghost use Rattle.std.specs.Prelude.{refl};
 
-    ghost wherever = { wherever_by triple_layout triple_free };
+    ghost wherever = { wherever_by triple_layout refl };
 }

@@ -1,17 +1,22 @@
 //! The values of the definitions at bytes whose answers are known, each proved by evaluation: the
 //! definitions are checked here apart from the code that was proved to meet them.
 
+pub mod calls;
 pub mod choices;
 pub mod common;
 pub mod hash;
 pub mod header;
+pub mod lines;
 pub mod notes;
 pub mod numbers;
 pub mod opening;
 pub mod payloads;
 pub mod records;
+pub mod resolving;
+pub mod soundness;
 pub mod strings;
 pub mod tables;
 pub mod text;
 pub mod versions;
 pub mod words;
+pub mod written;

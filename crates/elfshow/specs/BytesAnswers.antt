@@ -1,11 +1,11 @@
 -- What a reader answers about an object file, and an `ElfBytes` about the file that it opened.
 use Rattle.std.specs.Prelude.{ℕ, Bool, List, Option, Some, None, Result, Ok}
 use Rattle.std.specs.Option.{option_map}
-use Rattle.elf_parts.specs.Dynamic.{dyn_layout}
+use Rattle.elf_parts.specs.Dynamic.{dyn_reads}
 use Rattle.elf_parts.specs.GnuFind.{gnu_section}
 use Rattle.elf_parts.specs.Number.{ok_map}
-use Rattle.elf_parts.specs.Record.{◌>>=◌, record_by, size_by}
-use Rattle.elf_parts.specs.Symbol.{symbol_layout}
+use Rattle.elf_parts.specs.Record.{◌>>=◌}
+use Rattle.elf_parts.specs.Symbol.{symbol_reads}
 use Rattle.elf_parts.specs.SysvFind.{sysv_section}
 use Rattle.elf_parts.specs.Table.{Table, table_items}
 use Rattle.elf_parts.specs.declared.dynamic.Dyn.{Dyn}
@@ -25,11 +25,11 @@ use Rattle.elfshow.specs.declared.lines.hashes.Verdict.{Verdict}
 
 -- the symbols of a table, beside the bytes of their names
 abbrev pub symbols_with_names : Table × List ℕ → List Symbol × List ℕ
-symbols_with_names (table, names) = (table_items (size_by symbol_layout) (record_by symbol_layout) table, names)
+symbols_with_names (table, names) = (table_items symbol_reads table, names)
 
 -- the dynamic entries of a table
 abbrev pub dynamic_entries : Table → List Dyn
-dynamic_entries table = table_items (size_by dyn_layout) (record_by dyn_layout) table
+dynamic_entries table = table_items dyn_reads table
 
 -- what a checker says of a table, for symbols and their names, if there are any
 abbrev pub checked_for : {T : Type 0} → (Given T → Verdict) → Result T ParseError → Option (Table × List ℕ) →

@@ -2,6 +2,7 @@
 use Rattle.std.specs.Prelude.{◌≡◌, ℕ, ◌<◌, Bool, List, length, slice_get, Option, Some, None, Result, Ok, Err, MatchResult}
 use Rattle.std.specs.Option.{IsSomeAnd}
 use Rattle.std.specs.Result.{IsOkAnd}
+use Rattle.elf_abi.specs.Values.{sht_gnu_hash, sht_hash}
 use Rattle.elf_parts.specs.GnuFind.{GnuTable, gnu_section}
 use Rattle.elf_parts.specs.Hash.{word_count}
 use Rattle.elf_parts.specs.Number.{ok_map}
@@ -120,9 +121,9 @@ object_by file (Some gnu) sysv = Some (ok_map ByGnu (given_by gnu_section file g
 object_by file None (Some sysv) = Some (ok_map BySysv (given_by sysv_section file sysv))
 object_by file None None = None
 
--- by the first section of type SHT_GNU_HASH (0x6ffffff6), or else the first of type SHT_HASH (5)
+-- by the first section of type SHT_GNU_HASH, or else the first of type SHT_HASH
 abbrev pub object_of : ObjectFile → Option (Result Object ObjectFault)
-object_of file = object_by file (first_section_of 0x6ffffff6 file.sections) (first_section_of 5 file.sections)
+object_of file = object_by file (first_section_of sht_gnu_hash file.sections) (first_section_of sht_hash file.sections)
 
 -- the fault of an object that gives no checked table: of one that there is, a fault of it that is true
 abbrev pub IsFaultOf : Result Object ObjectFault → ObjectFault → Type 0

@@ -1,5 +1,6 @@
 -- What an `ElfStream` answers over a content, and which ranges of it a call asks for.
 use Rattle.std.specs.Prelude.{ℕ, Bool, List, [], ◌++◌, Option, Some, None, IsOk, slice_get}
+use Rattle.elf_abi.specs.Values.{sht_dynsym, sht_note, sht_rel, sht_rela, sht_strtab, sht_symtab}
 use Rattle.elf.specs.Asked.{dynamic_asked, headers_alone, if_there, names_asked, section_asked, segment_asked, segment_notes_asked, symbols_asked, typed_section_asked, versions_asked}
 use Rattle.elf.specs.Listed.{stream_file}
 use Rattle.elf.specs.ObjectFile.{ObjectFile}
@@ -16,6 +17,10 @@ stream_answers little s bytes = answers_from s.ehdr (stream_file little s bytes)
 
 -- ---- the ranges that a call asks for
 
+-- of a hash section, and of the symbols that it is checked for
+abbrev pub checked_asked : ObjectFile → SectionHeader → List (ℕ × ℕ)
+checked_asked file s = section_asked s ++ symbols_asked sht_dynsym file
+
 -- which they are hangs on the headers alone, and on no byte of the file
 abbrev pub ranges_of : ObjectFile → Asked → List (ℕ × ℕ)
 ranges_of file Header = []
@@ -23,18 +28,18 @@ ranges_of file Sections = names_asked file
 ranges_of file Segments = []
 ranges_of file (Name name) = names_asked file
 ranges_of file (Data i) = if_there section_asked (slice_get file.sections i)
-ranges_of file (Strings i) = if_there (typed_section_asked 3) (slice_get file.sections i)
-ranges_of file (Rels i) = if_there (typed_section_asked 9) (slice_get file.sections i)
-ranges_of file (Relas i) = if_there (typed_section_asked 4) (slice_get file.sections i)
-ranges_of file (Notes i) = if_there (typed_section_asked 7) (slice_get file.sections i)
+ranges_of file (Strings i) = if_there (typed_section_asked sht_strtab) (slice_get file.sections i)
+ranges_of file (Rels i) = if_there (typed_section_asked sht_rel) (slice_get file.sections i)
+ranges_of file (Relas i) = if_there (typed_section_asked sht_rela) (slice_get file.sections i)
+ranges_of file (Notes i) = if_there (typed_section_asked sht_note) (slice_get file.sections i)
 ranges_of file (Seg j) = if_there segment_asked (slice_get file.segments j)
 ranges_of file (SegNotes j) = if_there segment_notes_asked (slice_get file.segments j)
-ranges_of file Symbols = symbols_asked 2 file
-ranges_of file DynSyms = symbols_asked 11 file
+ranges_of file Symbols = symbols_asked sht_symtab file
+ranges_of file DynSyms = symbols_asked sht_dynsym file
 ranges_of file Dynamic = dynamic_asked file
-ranges_of file Versions = symbols_asked 11 file ++ versions_asked file
-ranges_of file (Sysv i) = if_there section_asked (slice_get file.sections i) ++ symbols_asked 11 file
-ranges_of file (Gnu i) = if_there section_asked (slice_get file.sections i) ++ symbols_asked 11 file
+ranges_of file Versions = symbols_asked sht_dynsym file ++ versions_asked file
+ranges_of file (Sysv i) = if_there (checked_asked file) (slice_get file.sections i)
+ranges_of file (Gnu i) = if_there (checked_asked file) (slice_get file.sections i)
 
 abbrev pub call_ranges : {E : Type 0} → (E → Bool) → Seen E → Asked → List (ℕ × ℕ)
 call_ranges little s call = ranges_of (headers_alone little s) call

@@ -1,12 +1,12 @@
 //! The calls of a listing, and the text that they write.
-ghost use Rattle.std.specs.Prelude.{◌≡◌, ◌≢◌, ℕ, All, OnOk, IfOk, IfErr, IfSome, Err, length, map};
+ghost use Rattle.std.specs.Prelude.{◌≡◌, ◌≢◌, ℕ, All, List, OnOk, IfOk, IfErr, IfSome, Err, length, map};
 ghost use Rattle.std.specs.Io.KnownBytes.{Appends};
 ghost use Rattle.elf.specs.Opening.{opened};
-ghost use Rattle.elf.specs.Stream.{Keeps};
+ghost use Rattle.elf.specs.Stream.{Keeps, Seen};
 ghost use Rattle.elfshow.specs.Asked.{asked};
 ghost use Rattle.elfshow.specs.BytesAnswers.{answers_of};
-ghost use Rattle.elfshow.specs.Run.{IsAtHand, IsFaultless, Ran, StopsWithin};
-ghost use Rattle.elfshow.specs.StreamAnswers.{stream_answers};
+ghost use Rattle.elfshow.specs.Run.{IsAtHand, IsFaultless, IsLoaded, Ran, StopsWithin};
+ghost use Rattle.elfshow.specs.StreamAnswers.{IsAnswered, TakesNoMemory, stream_answers};
 ghost use Rattle.elfshow.specs.Text.{text};
 ghost use Rattle.elf_parts.specs.declared.parse.ParseError.{ParseError};
 
@@ -112,7 +112,8 @@ pub fn run_bytes<E: EndianParse, W: Write>(
 /// `refused`, and the run goes on; at a failure of the source and where memory is refused it stops, and just
 /// the text of the calls before is written. The writer is flushed behind each call, so that `done` counts
 /// what reached its end. The calls `sysv` and `gnu` copy a section's bytes into memory of the stream's
-/// allocator.
+/// allocator. After `Ok` the ranges of each call that has an answer are held, so that these calls, run again,
+/// need the source no more.
 pub fn run_stream<E: EndianParse, S: StreamSource, A: Allocator + Copy, W: Write>(
     stream: &mut ElfStream<E, S, A>,
     calls: &[Call<'_>],
@@ -124,6 +125,8 @@ pub fn run_stream<E: EndianParse, S: StreamSource, A: Allocator + Copy, W: Write
         (W.contents out.old) (W.contents out.new) stream.old.can_fail stream.old.faults stream.new.faults result) }
     ensures no_fault { IfSome stream.old.content (λ bytes.
         All (λ call. IsAtHand E.little stream.old bytes (asked call)) calls.now → IsFaultless result) }
+    ensures loaded { OnOk result (IfSome stream.old.content (λ bytes.
+        All (λ call. IsLoaded E.little stream.new bytes (asked call)) calls.now)) }
 {
     for (done, call) in calls.iter().enumerate() {
         match stream::write_call(stream, *call, out) {
@@ -139,3 +142,12 @@ pub fn run_stream<E: EndianParse, S: StreamSource, A: Allocator + Copy, W: Write
     }
     Ok(())
 }
+
+/// Of calls whose ranges are held where they have an answer, those that have one and need no memory are at
+/// hand: so of a list that a run over a stream wrote, these calls, run again over what it left, have no fault.
+pub fn loaded_calls_are_at_hand<E: EndianParse>()
+    ensures { (s : Seen E) (bytes : List ℕ) (calls : List Call) →
+        All (λ call. IsLoaded E.little s bytes (asked call)) calls →
+        All (λ call. TakesNoMemory (asked call) × IsAnswered (stream_answers E.little s bytes) (asked call)) calls →
+        All (λ call. IsAtHand E.little s bytes (asked call)) calls }
+{}

@@ -1,10 +1,13 @@
 //! The program without its surroundings: what it does with the words of its command line.
 ghost use Rattle.std.specs.Prelude.{◌≡◌, ◌≤◌, IsErr, IsNone, IsSome, is_some, IfOk, IfSome, IsOkAnd, IsSomeAnd, OnOk, Some, map};
-ghost use Rattle.std.specs.Io.KnownBytes.{Appends};
+ghost use Rattle.std.specs.Io.Buffered.{writer_contents, writer_inner};
+ghost use Rattle.std.specs.Io.KnownBytes.{Appends, Keeps};
 ghost use Rattle.elf_parts.specs.Endian.{any_is_little, any_of_byte};
 ghost use Rattle.elf.specs.Opening.{opened};
 ghost use Rattle.elfshow.specs.Asked.{asked};
 ghost use Rattle.elfshow.specs.BytesAnswers.{answers_of};
+ghost use Rattle.elfshow.specs.Run.{IsStatusOf, IsUnwritten, RanOver};
+ghost use Rattle.elfshow.specs.inner.RunSteps.{IsUnfailing};
 ghost use Rattle.elfshow.specs.Text.{text};
 ghost use Rattle.elfshow.specs.Pieces.{◌⧺◌};
 ghost use Rattle.elfshow.specs.Words.{agreement, calls_of, mode_of, request_of, shown_by, status_of};
@@ -19,7 +22,7 @@ use elf::{ElfStream, MemSource, ParseError, StreamSource};
 use std::alloc::{AllocFailed, Global};
 use std::fmt::Display;
 use std::io;
-use std::io::Write;
+use std::io::{BufWriter, Write};
 
 /// The line that tells how the program is called.
 const USAGE: &str = "usage: elfshow bytes|stream|both FILE CALL...";
@@ -190,7 +193,7 @@ pub fn answer<W: Write, V: Write>(
 }
 
 /// Runs the calls of a request over a source, tells how the run stopped if it did, and answers the exit
-/// status.
+/// status: that of a run that left what `run_source` leaves. Which one it was only `run_source` tells.
 pub fn answer_stream<S: StreamSource, W: Write, V: Write>(
     alloc: Global,
     request: &Request<'_>,
@@ -203,6 +206,10 @@ pub fn answer_stream<S: StreamSource, W: Write, V: Write>(
         Appends (W.contents out.old) (W.contents out.new) (text (answers_of any_is_little file) (map asked request.now.calls.items)))) }
     ensures refused { IfSome (S.content source) (λ bytes.
         IsErr (opened any_is_little any_of_byte bytes) → out.new ≡ out.old) }
+    ensures run { IfSome (S.content source) (λ bytes. IsStatusOf
+        (λ run. RanOver (opened any_is_little any_of_byte bytes)
+        (λ file calls. text (answers_of any_is_little file) (map asked calls)) request.now.calls.items
+        (W.contents out.old) (W.contents out.new) (S.can_fail source) run) result) }
     ensures status { result ≤ 1 }
 {
     match run_source(alloc, source, request.calls.as_slice(), out) {
@@ -211,16 +218,18 @@ pub fn answer_stream<S: StreamSource, W: Write, V: Write>(
     }
 }
 
-// Opens the file that a source holds, and writes the text of the calls.
-fn run_source<S: StreamSource, W: Write>(
+/// Opens the file that a source holds, and writes the text of the calls, in order, as `run_stream` does. Where
+/// it stops the error tells what was written: nothing of a file that is not opened, and at a fault just the
+/// text of the calls before.
+pub fn run_source<S: StreamSource, W: Write>(
     alloc: Global,
     source: S,
     calls: &[Call<'_>],
     out: &mut W,
 ) -> Result<(), RunError>
-    ensures listed { OnOk result (IfSome (S.content source) (λ bytes.
-        IsOkAnd (opened any_is_little any_of_byte bytes) (λ file.
-        Appends (W.contents out.old) (W.contents out.new) (text (answers_of any_is_little file) (map asked calls.now))))) }
+    ensures ran { IfSome (S.content source) (λ bytes. RanOver (opened any_is_little any_of_byte bytes)
+        (λ file calls. text (answers_of any_is_little file) (map asked calls)) calls.now
+        (W.contents out.old) (W.contents out.new) (S.can_fail source) result) }
     ensures refused { IfSome (S.content source) (λ bytes.
         IsErr (opened any_is_little any_of_byte bytes) → out.new ≡ out.old) }
 {
@@ -247,18 +256,52 @@ pub fn answer_both<W: Write, V: Write>(
     ensures refused { IsErr (opened any_is_little any_of_byte «data».now) → out.new ≡ out.old }
     ensures status { result ≤ 1 }
 {
-    let calls = request.calls.as_slice();
+    match run_both(alloc, data, request.calls.as_slice(), out) {
+        Ok(()) => 0,
+        Err(error) => tell_run(error, err),
+    }
+}
+
+/// Runs the calls by both readers, in memory, and writes the text of the one and whether that of the other is
+/// the same. Writes only behind both runs: nothing where one of them stops. Memory that is refused to a text
+/// is a `Fault` before the first call.
+pub fn run_both<W: Write>(
+    alloc: Global,
+    data: &[u8],
+    calls: &[Call<'_>],
+    out: &mut W,
+) -> Result<(), RunError>
+    ensures ok { OnOk result (IsOkAnd (opened any_is_little any_of_byte «data».now) (λ file.
+        Appends (W.contents out.old) (W.contents out.new)
+        (shown_by Both (text (answers_of any_is_little file) (map asked calls.now))))) }
+    ensures stopped { IsUnwritten out.old out.new result }
+    ensures refused { IsErr (opened any_is_little any_of_byte «data».now) → out.new ≡ out.old }
+{
     let mut one = Vec::new(alloc);
     if let Err(error) = run_bytes::<AnyEndian, Vec<u8>>(data, calls, &mut one) {
-        return tell_run_in_memory(error, err);
+        return Err(in_memory(error));
     }
     let mut other = Vec::new(alloc);
     if let Err(error) = run_source(alloc, MemSource::new(data), calls, &mut other) {
-        return tell_run_in_memory(error, err);
+        return Err(in_memory(error));
     }
     match write_both(one.as_slice(), other.as_slice(), out) {
-        Ok(()) => 0,
-        Err(error) => tell_stopped(0, error, err),
+        Ok(()) => Ok(()),
+        Err(error) => Err(RunError::Write { done: 0, error }),
+    }
+}
+
+// Why a run stopped whose text goes to memory, so that a failed write is want of memory.
+fn in_memory(error: RunError) -> RunError
+    ensures { IsUnfailing result }
+{
+    match error {
+        RunError::Open(error) => RunError::Open(error),
+        RunError::Fault { done, error } => RunError::Fault { done, error },
+        RunError::Write { .. } => {
+            let error = ParseError::OutOfMemory;
+            RunError::Fault { done: 0, error }
+        }
     }
 }
 
@@ -275,6 +318,28 @@ fn write_both<W: Write>(one: &[u8], other: &[u8], out: &mut W) -> io::Result<()>
     out.flush()
 }
 
+/// Empties the buffer in front of a writer, behind a run of so many calls that ended with this status, and
+/// answers the status: 0 only where all that the buffer showed has reached the writer.
+#[tactic(auto, using(crate::proofs::Writing::emptied_buffer))]
+pub fn empty_buffer<W: Write + Drop, V: Write>(
+    status: u8,
+    done: usize,
+    out: &mut BufWriter<W>,
+    err: &mut V,
+) -> u8
+    ensures same { result ≡ 0 → status ≡ 0 }
+    ensures reached { result ≡ 0 → Keeps (writer_contents W.contents out.old) (W.contents (writer_inner out.new)) }
+    ensures within { status ≤ 1 → result ≤ 1 }
+{
+    if status != 0 {
+        return status;
+    }
+    match out.flush() {
+        Ok(()) => 0,
+        Err(error) => tell_stopped(done, error, err),
+    }
+}
+
 // Tells why a run stopped, and answers the exit status.
 fn tell_run<V: Write>(error: RunError, err: &mut V) -> u8
     ensures { result ≡ 1 }
@@ -283,17 +348,6 @@ fn tell_run<V: Write>(error: RunError, err: &mut V) -> u8
         RunError::Open(error) => tell_open(error, err),
         RunError::Fault { done, error } => tell_stopped(done, error, err),
         RunError::Write { done, error } => tell_stopped(done, error, err),
-    }
-}
-
-// The same of a run whose text goes to memory, so that a failed write is want of memory.
-fn tell_run_in_memory<V: Write>(error: RunError, err: &mut V) -> u8
-    ensures { result ≡ 1 }
-{
-    match error {
-        RunError::Open(error) => tell_open(error, err),
-        RunError::Fault { done, error } => tell_stopped(done, error, err),
-        RunError::Write { .. } => tell_no_memory(err),
     }
 }
 

@@ -3,7 +3,7 @@
 
 use elf::FileSource;
 use elfshow::show::{
-    Mode, Request, answer_in_memory, answer_stream, parse_words, tell_no_memory,
+    Mode, Request, answer_in_memory, answer_stream, empty_buffer, parse_words, tell_no_memory,
     tell_request_error, tell_usage,
 };
 use std::alloc::{AllocError, Global};
@@ -57,7 +57,10 @@ fn run_over_file(rt: &HostRuntime, request: &Request<'_>, err: &mut Stderr) -> u
     };
     let source = FileSource::new(file);
     match BufWriter::with_capacity(rt.alloc(), OUTPUT_BUFFER, rt.stdout()) {
-        Ok(mut out) => answer_stream(rt.alloc(), request, source, &mut out, err),
+        Ok(mut out) => {
+            let status = answer_stream(rt.alloc(), request, source, &mut out, err);
+            empty_buffer(status, request.calls.len(), &mut out, err)
+        }
         Err(_) => tell_no_memory(err),
     }
 }
@@ -69,7 +72,10 @@ fn run_in_memory(rt: &HostRuntime, request: &Request<'_>, err: &mut Stderr) -> u
         Err(error) => return tell_file(error, err),
     };
     match BufWriter::with_capacity(rt.alloc(), OUTPUT_BUFFER, rt.stdout()) {
-        Ok(mut out) => answer_in_memory(rt.alloc(), request, data.as_slice(), &mut out, err),
+        Ok(mut out) => {
+            let status = answer_in_memory(rt.alloc(), request, data.as_slice(), &mut out, err);
+            empty_buffer(status, request.calls.len(), &mut out, err)
+        }
         Err(_) => tell_no_memory(err),
     }
 }

@@ -23,6 +23,13 @@ pub fetch_answered : {T : Type 0} (told : Option (List ℕ)) (len start size end
 fetch_answered None len start size end before now can_fail shown r whole low to within same reason = tt
 fetch_answered (Some bytes) len start size end before now can_fail shown r whole low to within same reason = fetched bytes start size end before now can_fail shown r low to (omega arith) same reason
 
+-- bytes that were read into room of their length
+pub array_answered : (told : Option (List ℕ)) (len start size end before now : ℕ) (can_fail : Bool) (room part : List ℕ) → IfSome told (λ bytes. len ≡ length bytes) → start + size < 2 ^ 64 → end ≡ start + size → end ≤ len → length room ≡ size
+    → IfSome told (λ bytes. part ≡ take (length room) (drop start bytes)) → IfSome told (λ bytes. now ≡ before) → IfSome told (λ bytes. (now ≡ before) × (bytes_at size bytes start ≡ Ok part))
+array_answered None len start size end before now can_fail room part whole low to within long read count = tt
+array_answered (Some bytes) len start size end before now can_fail room part whole low to within long read count =
+    (count, read_within bytes start size low (omega arith) ∙ ap Ok (ap (λ n. take n (drop start bytes)) (sym long) ∙ sym read))
+
 -- ---- a step of a chain
 
 bind_refused : {A B E : Type 0} (x : Result A E) (f : A → Result B E) → IsErr x → IsErr (x >>= f)
@@ -89,3 +96,7 @@ answer_known (Some bytes) answer shows can_fail count r is plain = known shows a
 pub ok_map_same : {A E : Type 0} (r : Result A E) → ok_map (λ x. x) r ≡ r
 ok_map_same (Ok x) = refl
 ok_map_same (Err e) = refl
+
+-- an answer that needs no source and is shown as it is
+pub answer_plain : {Y : Type 0} (told : Option (List ℕ)) (answer : Result Y ParseError) (can_fail : Bool) (count : ℕ) (r : Result Y ParseError) → r ≡ answer → IsPlain answer → IfSome told (λ bytes. IsAnswer (λ x. x) answer can_fail count count r)
+answer_plain told answer can_fail count r is plain = answer_known told answer (λ x. x) can_fail count r (ok_map_same r ∙ is) plain

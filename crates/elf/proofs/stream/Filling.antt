@@ -1,8 +1,8 @@
 -- One more read into a buffer that is filled from the front.
 use Rattle.std.proofs.Common.{◌≡◌, ℕ, ◌+◌, ◌≤◌, Bool, List, ◌++◌, length, take, drop, sym, ap, ◌∙◌, arith, Option, Some, None, IfSome, Ok}
-use Rattle.std.proofs.lemmas.List.{take-append-le, drop-drop, length-take-le}
-use Rattle.std.proofs.Math.Seq.{take-add, take-append-add}
-use borrow.Rule.Slice.PartMut.{put_mid, post_of}
+use Rattle.std.proofs.lemmas.List.{take-append-le, drop-drop, length-take-le, take_all}
+use Rattle.std.proofs.Math.Seq.{take-add, take-append-add, take-append_seam, take-length}
+use borrow.Rule.Slice.PartMut.{mid_of, put_mid, post_of}
 use Rattle.elf.specs.Source.{Gives, HasCause}
 
 -- after a read into the rest of a buffer, its front is what was there and then what was read
@@ -38,3 +38,37 @@ IsFilled-more E (Some bytes) whole part start done n k before next faults faults
   behind = omega (arith, read.moves, old.behind);
   count = cause.ok ∙ old.count;
 }
+
+-- a vector whose elements were written in place
+pub written_whole : (n : ℕ) (x items : List ℕ) → length x ≡ n → take n (x ++ items) ≡ x
+written_whole n x items long = ap (λ m. take m (x ++ items)) (sym long) ∙ take-append_seam x items
+
+step_at : (bytes items whole part : List ℕ) (n k start before next faults faults' faults'' : ℕ)
+    → n ≡ length items → take n whole ≡ items → n ≤ length whole → n + length part ≡ length (put_mid n k whole part) → length part ≡ length (mid_of n k whole)
+    → IsFilled bytes items start (length items) before faults faults' → part ≡ take (length (mid_of n k whole)) (drop before bytes) → next ≡ before + length (mid_of n k whole) → faults'' ≡ faults'
+    → IsFilled bytes (put_mid n k whole part) start (length (put_mid n k whole part)) next faults faults''
+step_at bytes items whole part n k start before next faults faults' faults'' here kept within long same old read moves count =
+    let before_is : before ≡ start + n = omega (arith, old.behind) in
+    let first : take n whole ≡ take n (drop start bytes) = kept ∙ sym (take-length items) ∙ old.front ∙ ap (λ m. take m (drop start bytes)) (sym here) in
+    let second : take (length part) part ≡ take (length part) (drop (start + n) bytes) = take-length part ∙ read ∙ ap (λ m. take m (drop before bytes)) (sym same) ∙ ap (λ p. take (length part) (drop p bytes)) before_is in
+    let whole_front = reads_on bytes whole part start n (length part) k within (omega arith) first second in record {
+      front = rw (sym long) whole_front;
+      behind = omega (arith, old.behind);
+      count = count ∙ old.count;
+    }
+
+-- a vector that was filled to its end, then made longer, and whose new part was read from the source
+pub IsFilled-step : (content : Option (List ℕ)) (items whole part : List ℕ) (n k start before next faults faults' faults'' : ℕ)
+    → n ≡ length items → take n whole ≡ items → n ≤ length whole → n + length part ≡ length (put_mid n k whole part) → length part ≡ length (mid_of n k whole)
+    → IfSome content (λ bytes. IsFilled bytes items start (length items) before faults faults')
+    → IfSome content (λ bytes. part ≡ take (length (mid_of n k whole)) (drop before bytes)) → IfSome content (λ bytes. next ≡ before + length (mid_of n k whole)) → IfSome content (λ bytes. faults'' ≡ faults')
+    → IfSome content (λ bytes. IsFilled bytes (put_mid n k whole part) start (length (put_mid n k whole part)) next faults faults'')
+IsFilled-step None items whole part n k start before next faults faults' faults'' here kept within long same old read moves count = tt
+IsFilled-step (Some bytes) items whole part n k start before next faults faults' faults'' here kept within long same old read moves count =
+    step_at bytes items whole part n k start before next faults faults' faults'' here kept within long same old read moves count
+
+-- a vector that was made longer begins as it was
+pub kept_front : (items zeros : List ℕ) (n m : ℕ) → n ≡ length items → n ≤ m → take n (take m items ++ zeros) ≡ items
+kept_front items zeros n m here more =
+    let all : take m items ≡ items = take_all m items (omega arith) in
+    ap (λ z. take n (z ++ zeros)) all ∙ ap (λ i. take i (items ++ zeros)) here ∙ take-append_seam items zeros

@@ -1,6 +1,6 @@
 -- A map of buffers by their starts, none of which lies within another.
 use Rattle.std.proofs.Common.{◌≡◌, ℕ, zero, suc, ◌+◌, ◌-◌, ◌<◌, ◌≤◌, Bool, true, false, ◌&&◌, ◌||◌, List, [], ◌∷◌, ◌++◌, length, map, get_or, refl, sym, ap, ◌∙◌, arith, subst, leb-true, le-leb, not, true≢false}
-use Rattle.std.specs.Prelude.{IsTrue, nat_le, nat_lt}
+use Rattle.std.specs.Prelude.{IsTrue, nat_lt}
 use Rattle.std.specs.List.{list_any, filter, All, AllPairs, Contains}
 use Rattle.std.specs.BTreeMap.{insert_entry, is_at}
 use Rattle.std.specs.Map.{lookup, remove_entry}
@@ -19,7 +19,7 @@ use Rattle.std.proofs.lemmas.List.Elements.{All-cons, All-head, All-tail, All-fi
 use Rattle.std.proofs.lemmas.List.Kept.{AllPairs-cons, AllPairs-filter}
 use Rattle.std.proofs.lemmas.Map.Views.{any-filter_same}
 use Rattle.std.proofs.lemmas.List.{get_or_append_left, get_or_push, length_push}
-use Rattle.elf.specs.inner.Piece.{Piece, AreSpread, IsBefore, IsPut, IsOf, IsSound, covers, end_of, is_within, piece_of, range_of}
+use Rattle.elf.specs.inner.Piece.{Piece, AreSpread, IsBefore, IsPut, IsOf, IsSound, covers, is_within, piece_of, range_of}
 use Rattle.elf.specs.Stream.{is_held}
 
 pairs_head : {X : Type 0} (R : X → X → Type 0) (x : X) (xs : List X) → AllPairs R (x ∷ xs) → All (R x) xs

@@ -1,5 +1,5 @@
 -- Which ranges an accepted answer needs.
-use Rattle.std.proofs.Common.{ℕ, List, [], ◌∷◌, ◌++◌, Option, Some, None, Result, Ok, Err, refl}
+use Rattle.std.proofs.Common.{ℕ, List, Option, Some, None, Result, Ok, Err, refl}
 use Rattle.std.specs.Prelude.{IsOk}
 use Rattle.elf_parts.specs.Dynamic.{dyn_layout}
 use Rattle.elf_parts.specs.Number.{ok_map}

@@ -2,7 +2,7 @@
 use Rattle.std.proofs.Common.{◌≡◌, ℕ, ◌+◌, Bool, true, false, List, [], ◌∷◌, refl, sym, subst, Option, Some, None}
 use Rattle.elf_parts.specs.declared.file.Class.TheVariants.{ELF32, ELF64}
 use Rattle.elf_parts.specs.declared.parse.ParseError.TheVariants.{IntegerOverflow, SliceReadError, UnsupportedElfClass}
-use Rattle.std.specs.Prelude.{◌^◌, ◌==◌, nat_le, nat_lt, length, take, drop, Result, Ok, Err, ok_or, if◌then◌else◌}
+use Rattle.std.specs.Prelude.{◌^◌, ◌==◌, nat_le, nat_lt, length, take, drop, Result, Ok, Err, IfErr, ok_or, if◌then◌else◌}
 use Rattle.elf_parts.specs.File.{byte_in, class_of, ident_of, magic_in, order_of, version_in}
 use Rattle.elf_parts.specs.Number.{bytes_at, number_at, ok_map}
 use Rattle.elf_parts.specs.Record.{◌>>=◌, Field, Layout, accepted, numbers_at, record_by}
@@ -10,6 +10,7 @@ use Rattle.elf_parts.specs.declared.file.Class.{Class}
 use Rattle.elf_parts.specs.declared.parse.ParseError.{ParseError}
 use Rattle.elf.specs.Stream.{Kind, kind}
 use Rattle.elf.specs.Payload.{at_front}
+use Rattle.elf.specs.inner.HeaderSteps.{IsNoWant}
 use Rattle.elf.proofs.stream.Chains.{IsPlain}
 
 plain_ok : {A : Type 0} {x : A} → IsPlain (Ok x)
@@ -84,6 +85,14 @@ plain_kind_at e h = h.plain
 -- a refusal that such a reader gives
 pub plain_kind : {A : Type 0} (e : ParseError) (r : Result A ParseError) → Err e ≡ r → IsPlain r → kind e ≡ Kind.Refusal
 plain_kind e r is plain = plain_kind_at e (subst (λ z. IsPlain z) (sym is) plain)
+
+no_want : (e : ParseError) → kind e ≡ Kind.Refusal → IsNoWant (kind e)
+no_want e h = rw h tt
+
+-- it is never refused for want of memory
+pub plain_no_want : {A : Type 0} (r x : Result A ParseError) → r ≡ x → IsPlain x → IfErr r (λ e. IsNoWant (kind e))
+plain_no_want (Ok a) x is plain = tt
+plain_no_want (Err e) x is plain = no_want e (plain_kind e x is plain)
 
 pub plain_front : {A : Type 0} (size : ℕ) (gives : List ℕ → ℕ → Result A ParseError) (bytes : List ℕ) → IsPlain (gives bytes 0) → IsPlain (at_front size gives bytes)
 plain_front size gives bytes plain = plain_bind (gives bytes 0) _ plain (λ x. plain_ok)

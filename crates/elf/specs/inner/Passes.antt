@@ -1,5 +1,6 @@
 -- What a pass over the sections has found so far, with one section more; contracts of private functions speak of it.
 use Rattle.std.specs.Prelude.{if◌then◌else◌, Some}
+use Rattle.elf_abi.specs.Values.{sht_gnu_verdef, sht_gnu_verneed, sht_gnu_versym}
 use Rattle.elf_parts.specs.declared.section.SectionHeader.{SectionHeader}
 use Rattle.elf.specs.Choice.{is_of_type}
 use Rattle.elf.specs.Common.{CommonData, CommonPart, Symbols, DynamicSymbols, DynamicEntries, SysvHash, GnuHash, Nothing}
@@ -8,9 +9,9 @@ use Rattle.elf.specs.declared.elf_bytes.versions.VersionSections.{VersionSection
 -- a section of one of the three types of versions, in the place of an earlier one of its type
 abbrev pub with_version_section : VersionSections → SectionHeader → VersionSections
 with_version_section found s = record {
-  indexes = if is_of_type 0x6fffffff s then Some s else found.indexes;
-  needs = if is_of_type 0x6ffffffe s then Some s else found.needs;
-  definitions = if is_of_type 0x6ffffffd s then Some s else found.definitions;
+  indexes = if is_of_type sht_gnu_versym s then Some s else found.indexes;
+  needs = if is_of_type sht_gnu_verneed s then Some s else found.needs;
+  definitions = if is_of_type sht_gnu_verdef s then Some s else found.definitions;
 }
 
 -- what a section holds, in the place of an earlier part of its kind

@@ -1,5 +1,6 @@
 //! The dynamic entries of a stream.
 ghost use Rattle.std.specs.Prelude.{◌≡◌, ℕ, Ok, Some, IfErr, IfSome, OnOk};
+ghost use Rattle.elf_abi.specs.Values.{pt_dynamic, sht_dynamic};
 ghost use Rattle.elf_parts.specs.Dynamic.{dyn_layout};
 ghost use Rattle.elf_parts.specs.Record.{size_by};
 ghost use Rattle.std.specs.Option.{option_map};
@@ -77,8 +78,9 @@ impl<E: EndianParse, S: StreamSource, A: Allocator + Copy> ElfStream<E, S, A> {
     // The dynamic entries of the first section of type `SHT_DYNAMIC`.
     fn first_section_dynamic(&mut self) -> Result<Option<DynamicTable<'_, E>>, ParseError>
         ensures* leaves { sem 𝓛 (Lends E.row S.row A.row E.EndianParse S.StreamSource A.Allocator self.entry
-            (λ file. if_there (section_dynamic_asked file) (first_section_of 6 file.sections)) (option_map table_view)
-            (λ file. if_found (section_dynamic file) (first_section_of 6 file.sections)) result) }
+            (λ file. if_there (section_dynamic_asked file) (first_section_of sht_dynamic file.sections))
+            (option_map table_view)
+            (λ file. if_found (section_dynamic file) (first_section_of sht_dynamic file.sections)) result) }
     {
         let Some(shdr) = self.first_section_of(abi::SHT_DYNAMIC) else {
             return Ok(None);
@@ -89,8 +91,8 @@ impl<E: EndianParse, S: StreamSource, A: Allocator + Copy> ElfStream<E, S, A> {
     // The dynamic entries of the first segment of type `PT_DYNAMIC`.
     fn first_segment_dynamic(&mut self) -> Result<Option<DynamicTable<'_, E>>, ParseError>
         ensures* leaves { sem 𝓛 (Lends E.row S.row A.row E.EndianParse S.StreamSource A.Allocator self.entry
-            (λ file. if_there segment_asked (first_segment_of 2 file.segments)) (option_map table_view)
-            (λ file. if_found (segment_dynamic file) (first_segment_of 2 file.segments)) result) }
+            (λ file. if_there segment_asked (first_segment_of pt_dynamic file.segments)) (option_map table_view)
+            (λ file. if_found (segment_dynamic file) (first_segment_of pt_dynamic file.segments)) result) }
     {
         let Some(phdr) = self.first_segment_of(abi::PT_DYNAMIC) else {
             return Ok(None);

@@ -1,50 +1,56 @@
-//! Reading the headers of a file from a source.
-ghost use Rattle.std.specs.Prelude.{◌≡◌, ◌+◌, ◌^◌, ◌<◌, IfOk, IfErr, IfSome, length};
+//! Reading the headers of a file from a source. Memory is taken only for tables that lie in the source.
+ghost use Rattle.std.specs.Prelude.{◌≡◌, ℕ, ◌≤◌, Bool, List, Ok, IfOk, IfErr, IfSome, length};
+ghost use Rattle.std.specs.Option.{option_map};
 ghost use Rattle.elf.specs.Opening.{first_section, header_at_front, section_count, section_table, segment_count, segment_table, table_bytes};
 ghost use Rattle.elf_parts.specs.File.{tail_fields};
-ghost use Rattle.elf_parts.specs.Record.{size_of};
-ghost use Rattle.elf.specs.inner.HeaderSteps.{declared_sections, front_ident, tail_header};
-ghost use Rattle.elf_parts.specs.Number.{bytes_at, ok_map};
+ghost use Rattle.elf_parts.specs.Number.{bytes_at};
+ghost use Rattle.elf_parts.specs.Record.{size_by, size_of};
+ghost use Rattle.elf_parts.specs.Section.{section_header_layout};
 ghost use Rattle.elf_parts.specs.Table.{table_items, table_view};
-ghost use Rattle.elf.specs.View.{segment_list};
-ghost use Rattle.elf.specs.Stream.{IsAnswer};
+ghost use Rattle.elf.specs.Stream.{IsAnswer, kind};
+ghost use Rattle.elf.specs.inner.HeaderSteps.{IsNoWant, front_ident, range_bytes, range_records, range_table, tail_header};
 
-use super::reads::fetch;
+use super::reads::{fetch, read_at};
 use crate::source::StreamSource;
-use elf_abi::abi;
+use elf_abi::abi::{EI_NIDENT, PN_XNUM};
 use elf_parts::endian::EndianParse;
 use elf_parts::file::{Class, ELF32_EHDR_TAILSIZE, ELF64_EHDR_TAILSIZE, FileHeader, parse_ident};
 use elf_parts::parse::{ParseAt, ParseError, ParsingTable};
-use elf_parts::section::{SectionHeader, SectionHeaderTable};
-use elf_parts::segment::{ProgramHeader, SegmentTable};
+use elf_parts::section::SectionHeader;
+use elf_parts::segment::ProgramHeader;
 use std::alloc::{AllocError, Allocator};
 
-// Reads so many bytes from `start` on, which are asked for once. `len` is the length of the source.
-fn read_once<S: StreamSource, A: Allocator + Copy>(
-    alloc: A,
+// The sizes of a section header in bytes (gABI, chapter "Sections").
+const ELF32_SHDR_SIZE: usize = 40;
+
+const ELF64_SHDR_SIZE: usize = 64;
+
+// Reads the N bytes from `start` on into an array. `len` is the length of the source.
+fn read_array<const N: usize, S: StreamSource>(
     source: &mut S,
     len: u64,
     start: u64,
-    size: u64,
-) -> Result<Vec<u8, A>, ParseError>
+) -> Result<[u8; N], ParseError>
     requires { IfSome (S.content source.old) (λ bytes. len ≡ length bytes) }
     ensures content { S.content source.new ≡ S.content source.old }
     ensures nature { S.can_fail source.new ≡ S.can_fail source.old }
-    ensures answer { IfSome (S.content source.old) (λ bytes. IsAnswer (λ v. v.items) (bytes_at size bytes start)
+    ensures answer { IfSome (S.content source.old) (λ bytes. IsAnswer (λ part. part) (bytes_at N bytes start)
         (S.can_fail source.old) (S.faults source.old) (S.faults source.new) result) }
+    ensures memory { IfErr result (λ e. IsNoWant (kind e)) }
 {
-    let Some(end) = start.checked_add(size) else {
+    let Some(end) = start.checked_add(N as u64) else {
         return Err(ParseError::IntegerOverflow);
     };
     if end > len {
         return Err(ParseError::BadOffset(end));
     }
-    fetch(alloc, source, start, end)
+    let mut part = [0; N];
+    read_at(source, start, &mut part, end)?;
+    Ok(part)
 }
 
 // Reads the identification.
-fn read_ident<E: EndianParse, S: StreamSource, A: Allocator + Copy>(
-    alloc: A,
+fn read_ident<E: EndianParse, S: StreamSource>(
     source: &mut S,
     len: u64,
 ) -> Result<(E, Class, u8, u8), ParseError>
@@ -53,23 +59,32 @@ fn read_ident<E: EndianParse, S: StreamSource, A: Allocator + Copy>(
     ensures nature { S.can_fail source.new ≡ S.can_fail source.old }
     ensures answer { IfSome (S.content source.old) (λ bytes. IsAnswer (λ ident. ident) (front_ident E.of_byte bytes)
         (S.can_fail source.old) (S.faults source.old) (S.faults source.new) result) }
+    ensures memory { IfErr result (λ e. IsNoWant (kind e)) }
 {
-    let front = read_once(alloc, source, len, 0, abi::EI_NIDENT as u64)?;
+    let front = read_array::<EI_NIDENT, S>(source, len, 0)?;
     parse_ident(&front)
 }
 
-fn tail_size(class: Class) -> usize
-    ensures { result ≡ size_of (tail_fields class) }
+// Reads the tail of the header, which has N bytes in files of its class.
+fn read_tail_of<const N: usize, E: EndianParse, S: StreamSource>(
+    source: &mut S,
+    len: u64,
+    ident: (E, Class, u8, u8),
+) -> Result<FileHeader<E>, ParseError>
+    requires whole { IfSome (S.content source.old) (λ bytes. len ≡ length bytes) }
+    requires size { N ≡ size_of (tail_fields ident.1) }
+    ensures content { S.content source.new ≡ S.content source.old }
+    ensures nature { S.can_fail source.new ≡ S.can_fail source.old }
+    ensures answer { IfSome (S.content source.old) (λ bytes. IsAnswer (λ h. h) (tail_header E.little bytes ident)
+        (S.can_fail source.old) (S.faults source.old) (S.faults source.new) result) }
+    ensures memory { IfErr result (λ e. IsNoWant (kind e)) }
 {
-    match class {
-        Class::ELF32 => ELF32_EHDR_TAILSIZE,
-        Class::ELF64 => ELF64_EHDR_TAILSIZE,
-    }
+    let tail = read_array::<N, S>(source, len, EI_NIDENT as u64)?;
+    FileHeader::parse_tail(ident, &tail)
 }
 
 // Reads the tail of the header.
-fn read_tail<E: EndianParse, S: StreamSource, A: Allocator + Copy>(
-    alloc: A,
+fn read_tail<E: EndianParse, S: StreamSource>(
     source: &mut S,
     len: u64,
     ident: (E, Class, u8, u8),
@@ -79,15 +94,16 @@ fn read_tail<E: EndianParse, S: StreamSource, A: Allocator + Copy>(
     ensures nature { S.can_fail source.new ≡ S.can_fail source.old }
     ensures answer { IfSome (S.content source.old) (λ bytes. IsAnswer (λ h. h) (tail_header E.little bytes ident)
         (S.can_fail source.old) (S.faults source.old) (S.faults source.new) result) }
+    ensures memory { IfErr result (λ e. IsNoWant (kind e)) }
 {
-    let size = tail_size(ident.1);
-    let tail = read_once(alloc, source, len, abi::EI_NIDENT as u64, size as u64)?;
-    FileHeader::parse_tail(ident, &tail)
+    match ident.1 {
+        Class::ELF32 => read_tail_of::<ELF32_EHDR_TAILSIZE, E, S>(source, len, ident),
+        Class::ELF64 => read_tail_of::<ELF64_EHDR_TAILSIZE, E, S>(source, len, ident),
+    }
 }
 
 /// Reads the file header.
-pub(super) fn read_ehdr<E: EndianParse, S: StreamSource, A: Allocator + Copy>(
-    alloc: A,
+pub(super) fn read_ehdr<E: EndianParse, S: StreamSource>(
     source: &mut S,
     len: u64,
 ) -> Result<FileHeader<E>, ParseError>
@@ -96,14 +112,33 @@ pub(super) fn read_ehdr<E: EndianParse, S: StreamSource, A: Allocator + Copy>(
     ensures nature { S.can_fail source.new ≡ S.can_fail source.old }
     ensures answer { IfSome (S.content source.old) (λ bytes. IsAnswer (λ h. h) (header_at_front E.little E.of_byte bytes)
         (S.can_fail source.old) (S.faults source.old) (S.faults source.new) result) }
+    ensures memory { IfErr result (λ e. IsNoWant (kind e)) }
 {
-    let ident = read_ident(alloc, source, len)?;
-    read_tail(alloc, source, len, ident)
+    let ident = read_ident::<E, S>(source, len)?;
+    read_tail(source, len, ident)
+}
+
+// Reads the first section header, which has N bytes in files of its class.
+fn read_first_of<const N: usize, E: EndianParse, S: StreamSource>(
+    source: &mut S,
+    len: u64,
+    ehdr: &FileHeader<E>,
+) -> Result<SectionHeader, ParseError>
+    requires whole { IfSome (S.content source.old) (λ bytes. len ≡ length bytes) }
+    requires size { N ≡ size_by section_header_layout ehdr.now.class }
+    ensures content { S.content source.new ≡ S.content source.old }
+    ensures nature { S.can_fail source.new ≡ S.can_fail source.old }
+    ensures answer { IfSome (S.content source.old) (λ bytes. IsAnswer (λ h. h) (first_section E.little ehdr.now bytes)
+        (S.can_fail source.old) (S.faults source.old) (S.faults source.new) result) }
+    ensures memory { IfErr result (λ e. IsNoWant (kind e)) }
+{
+    let part = read_array::<N, S>(source, len, ehdr.e_shoff)?;
+    let mut offset = 0;
+    SectionHeader::parse_at(ehdr.endianness, ehdr.class, &mut offset, &part)
 }
 
 // Reads the first section header.
-fn read_first<E: EndianParse, S: StreamSource, A: Allocator + Copy>(
-    alloc: A,
+fn read_first<E: EndianParse, S: StreamSource>(
     source: &mut S,
     len: u64,
     ehdr: &FileHeader<E>,
@@ -113,15 +148,15 @@ fn read_first<E: EndianParse, S: StreamSource, A: Allocator + Copy>(
     ensures nature { S.can_fail source.new ≡ S.can_fail source.old }
     ensures answer { IfSome (S.content source.old) (λ bytes. IsAnswer (λ h. h) (first_section E.little ehdr.now bytes)
         (S.can_fail source.old) (S.faults source.old) (S.faults source.new) result) }
+    ensures memory { IfErr result (λ e. IsNoWant (kind e)) }
 {
-    let size = SectionHeader::size_for(ehdr.class);
-    let part = read_once(alloc, source, len, ehdr.e_shoff, size as u64)?;
-    let mut offset = 0;
-    SectionHeader::parse_at(ehdr.endianness, ehdr.class, &mut offset, &part)
+    match ehdr.class {
+        Class::ELF32 => read_first_of::<ELF32_SHDR_SIZE, E, S>(source, len, ehdr),
+        Class::ELF64 => read_first_of::<ELF64_SHDR_SIZE, E, S>(source, len, ehdr),
+    }
 }
 
-fn read_section_count<E: EndianParse, S: StreamSource, A: Allocator + Copy>(
-    alloc: A,
+fn read_section_count<E: EndianParse, S: StreamSource>(
     source: &mut S,
     len: u64,
     ehdr: &FileHeader<E>,
@@ -131,87 +166,17 @@ fn read_section_count<E: EndianParse, S: StreamSource, A: Allocator + Copy>(
     ensures nature { S.can_fail source.new ≡ S.can_fail source.old }
     ensures answer { IfSome (S.content source.old) (λ bytes. IsAnswer (λ n. n) (section_count E.little ehdr.now bytes)
         (S.can_fail source.old) (S.faults source.old) (S.faults source.new) result) }
+    ensures memory { IfErr result (λ e. IsNoWant (kind e)) }
 {
     if ehdr.e_shnum == 0 {
-        let first = read_first(alloc, source, len, ehdr)?;
+        let first = read_first(source, len, ehdr)?;
         Ok(first.sh_size)
     } else {
         Ok(u64::from(ehdr.e_shnum))
     }
 }
 
-// Reads so many records at an offset, whose size the file header gives as entsize.
-fn read_records<P: ParseAt, S: StreamSource, A: Allocator + Copy>(
-    alloc: A,
-    source: &mut S,
-    len: u64,
-    class: Class,
-    entsize: u16,
-    count: u64,
-    offset: u64,
-) -> Result<Vec<u8, A>, ParseError>
-    requires { IfSome (S.content source.old) (λ bytes. len ≡ length bytes) }
-    ensures content { S.content source.new ≡ S.content source.old }
-    ensures nature { S.can_fail source.new ≡ S.can_fail source.old }
-    ensures answer { IfSome (S.content source.old) (λ bytes. IsAnswer (λ v. v.items) (table_bytes (P.size class) entsize count offset bytes)
-        (S.can_fail source.old) (S.faults source.old) (S.faults source.new) result) }
-{
-    let size = P::validate_entsize(class, entsize as usize)? as u64;
-    let Some(length) = size.checked_mul(count) else {
-        return Err(ParseError::IntegerOverflow);
-    };
-    read_once(alloc, source, len, offset, length)
-}
-
-// The records of a table.
-fn collected<E: EndianParse, P: ParseAt + Drop, A: Allocator>(
-    alloc: A,
-    table: ParsingTable<'_, E, P>,
-) -> Result<Vec<P, A>, AllocError>
-    ensures { IfOk result (λ v. v.items ≡ table_items P.size P.record_at (table_view table.entry)) }
-{
-    table.iter().collect(alloc)
-}
-
-/// Reads the section headers, and tells whether a table of them is declared.
-#[tactic(auto, unfolding(crate::specs::Opening::section_table))]
-pub(super) fn read_shdrs<E: EndianParse, S: StreamSource, A: Allocator + Copy>(
-    alloc: A,
-    source: &mut S,
-    len: u64,
-    ehdr: &FileHeader<E>,
-) -> Result<(bool, Vec<SectionHeader, A>), ParseError>
-    requires { IfSome (S.content source.old) (λ bytes. len ≡ length bytes) }
-    ensures content { S.content source.new ≡ S.content source.old }
-    ensures nature { S.can_fail source.new ≡ S.can_fail source.old }
-    ensures answer { IfSome (S.content source.old) (λ bytes. IsAnswer (λ found. (found.0, found.1.items))
-        (ok_map declared_sections (section_table E.little ehdr.now bytes))
-        (S.can_fail source.old) (S.faults source.old) (S.faults source.new) result) }
-{
-    if ehdr.e_shoff == 0 {
-        return Ok((false, Vec::new(alloc)));
-    }
-    let count = read_section_count(alloc, source, len, ehdr)?;
-    let bytes = read_records::<SectionHeader, S, A>(
-        alloc,
-        source,
-        len,
-        ehdr.class,
-        ehdr.e_shentsize,
-        count,
-        ehdr.e_shoff,
-    )?;
-    match collected(
-        alloc,
-        SectionHeaderTable::new(ehdr.endianness, ehdr.class, &bytes),
-    ) {
-        Ok(headers) => Ok((true, headers)),
-        Err(AllocError) => Err(ParseError::OutOfMemory),
-    }
-}
-
-fn read_segment_count<E: EndianParse, S: StreamSource, A: Allocator + Copy>(
-    alloc: A,
+fn read_segment_count<E: EndianParse, S: StreamSource>(
     source: &mut S,
     len: u64,
     ehdr: &FileHeader<E>,
@@ -221,45 +186,135 @@ fn read_segment_count<E: EndianParse, S: StreamSource, A: Allocator + Copy>(
     ensures nature { S.can_fail source.new ≡ S.can_fail source.old }
     ensures answer { IfSome (S.content source.old) (λ bytes. IsAnswer (λ n. n) (segment_count E.little ehdr.now bytes)
         (S.can_fail source.old) (S.faults source.old) (S.faults source.new) result) }
+    ensures memory { IfErr result (λ e. IsNoWant (kind e)) }
 {
-    if ehdr.e_phnum == abi::PN_XNUM {
-        let first = read_first(alloc, source, len, ehdr)?;
+    if ehdr.e_phnum == PN_XNUM {
+        let first = read_first(source, len, ehdr)?;
         Ok(u64::from(first.sh_info))
     } else {
         Ok(u64::from(ehdr.e_phnum))
     }
 }
 
-/// Reads the program headers.
-#[tactic(auto, unfolding(crate::specs::Opening::segment_table))]
-pub(super) fn read_phdrs<E: EndianParse, S: StreamSource, A: Allocator + Copy>(
-    alloc: A,
+// Where so many records lie from `offset` on, whose size the file header gives as entsize: their start and their end in
+// a source of this length.
+fn locate_records<P: ParseAt>(
+    len: u64,
+    class: Class,
+    entsize: u16,
+    count: u64,
+    offset: u64,
+) -> Result<(u64, u64), ParseError>
+    ensures answer { (bytes : List ℕ) (can_fail : Bool) (faults : ℕ) → len ≡ length bytes → IsAnswer (range_bytes bytes)
+        (table_bytes (P.reads.size class) entsize count offset bytes) can_fail faults faults result }
+    ensures within { IfOk result (λ range. (range.0 ≤ range.1) × (range.1 ≤ len)) }
+    ensures memory { IfErr result (λ e. IsNoWant (kind e)) }
+{
+    let size = P::validate_entsize(class, entsize as usize)? as u64;
+    let Some(length) = size.checked_mul(count) else {
+        return Err(ParseError::IntegerOverflow);
+    };
+    let Some(end) = offset.checked_add(length) else {
+        return Err(ParseError::IntegerOverflow);
+    };
+    if end > len {
+        return Err(ParseError::BadOffset(end));
+    }
+    Ok((offset, end))
+}
+
+/// Where the section headers lie; none where the file declares none.
+#[tactic(auto, unfolding(crate::specs::Opening::section_table))]
+pub(super) fn locate_shdrs<E: EndianParse, S: StreamSource>(
     source: &mut S,
     len: u64,
     ehdr: &FileHeader<E>,
-) -> Result<Vec<ProgramHeader, A>, ParseError>
+) -> Result<Option<(u64, u64)>, ParseError>
     requires { IfSome (S.content source.old) (λ bytes. len ≡ length bytes) }
     ensures content { S.content source.new ≡ S.content source.old }
     ensures nature { S.can_fail source.new ≡ S.can_fail source.old }
-    ensures answer { IfSome (S.content source.old) (λ bytes. IsAnswer (λ v. v.items) (ok_map segment_list (segment_table E.little ehdr.now bytes))
+    ensures answer { IfSome (S.content source.old) (λ bytes. IsAnswer (option_map (range_table E.little ehdr.now bytes))
+        (section_table E.little ehdr.now bytes)
         (S.can_fail source.old) (S.faults source.old) (S.faults source.new) result) }
+    ensures within { IfOk result (λ found. IfSome found (λ range. (range.0 ≤ range.1) × (range.1 ≤ len))) }
+    ensures memory { IfErr result (λ e. IsNoWant (kind e)) }
+{
+    if ehdr.e_shoff == 0 {
+        return Ok(None);
+    }
+    let count = read_section_count(source, len, ehdr)?;
+    let range = locate_records::<SectionHeader>(
+        len,
+        ehdr.class,
+        ehdr.e_shentsize,
+        count,
+        ehdr.e_shoff,
+    )?;
+    Ok(Some(range))
+}
+
+/// Where the program headers lie; none where the file declares none.
+#[tactic(auto, unfolding(crate::specs::Opening::segment_table))]
+pub(super) fn locate_phdrs<E: EndianParse, S: StreamSource>(
+    source: &mut S,
+    len: u64,
+    ehdr: &FileHeader<E>,
+) -> Result<Option<(u64, u64)>, ParseError>
+    requires { IfSome (S.content source.old) (λ bytes. len ≡ length bytes) }
+    ensures content { S.content source.new ≡ S.content source.old }
+    ensures nature { S.can_fail source.new ≡ S.can_fail source.old }
+    ensures answer { IfSome (S.content source.old) (λ bytes. IsAnswer (option_map (range_table E.little ehdr.now bytes))
+        (segment_table E.little ehdr.now bytes)
+        (S.can_fail source.old) (S.faults source.old) (S.faults source.new) result) }
+    ensures within { IfOk result (λ found. IfSome found (λ range. (range.0 ≤ range.1) × (range.1 ≤ len))) }
+    ensures memory { IfErr result (λ e. IsNoWant (kind e)) }
 {
     if ehdr.e_phoff == 0 {
-        return Ok(Vec::new(alloc));
+        return Ok(None);
     }
-    let count = read_segment_count(alloc, source, len, ehdr)?;
-    let bytes = read_records::<ProgramHeader, S, A>(
-        alloc,
-        source,
+    let count = read_segment_count(source, len, ehdr)?;
+    let range = locate_records::<ProgramHeader>(
         len,
         ehdr.class,
         ehdr.e_phentsize,
         count,
         ehdr.e_phoff,
     )?;
+    Ok(Some(range))
+}
+
+// The records of a table.
+fn collected<E: EndianParse, P: ParseAt + Drop, A: Allocator>(
+    alloc: A,
+    table: ParsingTable<'_, E, P>,
+) -> Result<Vec<P, A>, AllocError>
+    ensures { IfOk result (λ v. v.items ≡ table_items P.reads (table_view table.entry)) }
+{
+    table.iter().collect(alloc)
+}
+
+/// Reads the records of a table that lies in the source.
+pub(super) fn read_records<E: EndianParse, P: ParseAt + Drop, S: StreamSource, A: Allocator + Copy>(
+    alloc: A,
+    source: &mut S,
+    ehdr: &FileHeader<E>,
+    found: Option<(u64, u64)>,
+) -> Result<Vec<P, A>, ParseError>
+    requires ordered { IfSome found (λ range. range.0 ≤ range.1) }
+    requires within { IfSome (S.content source.old) (λ bytes. IfSome found (λ range. range.1 ≤ length bytes)) }
+    ensures content { S.content source.new ≡ S.content source.old }
+    ensures nature { S.can_fail source.new ≡ S.can_fail source.old }
+    ensures answer { IfSome (S.content source.old) (λ bytes. IsAnswer (λ v. v.items)
+        (Ok (range_records P.reads (option_map (range_table E.little ehdr.now bytes) found)))
+        (S.can_fail source.old) (S.faults source.old) (S.faults source.new) result) }
+{
+    let Some((start, end)) = found else {
+        return Ok(Vec::new(alloc));
+    };
+    let bytes = fetch(alloc, source, start, end)?;
     match collected(
         alloc,
-        SegmentTable::new(ehdr.endianness, ehdr.class, &bytes),
+        ParsingTable::<E, P>::new(ehdr.endianness, ehdr.class, &bytes),
     ) {
         Ok(headers) => Ok(headers),
         Err(AllocError) => Err(ParseError::OutOfMemory),

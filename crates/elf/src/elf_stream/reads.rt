@@ -1,5 +1,7 @@
 //! Reading a range of a source whole.
-ghost use Rattle.std.specs.Prelude.{◌≡◌, ◌+◌, ◌-◌, ◌<◌, ◌≤◌, length, take, drop, IfOk, IfSome, OnOk};
+ghost use Rattle.std.specs.Prelude.{◌≡◌, ◌+◌, ◌-◌, ◌<◌, ◌≤◌, length, take, drop, IfErr, IfOk, IfSome, OnOk};
+ghost use Rattle.elf.specs.Stream.{kind};
+ghost use Rattle.elf.specs.inner.HeaderSteps.{IsNoWant};
 ghost use Rattle.elf.specs.inner.Loads.{HasReason};
 
 use crate::source::StreamSource;
@@ -15,6 +17,9 @@ fn fill<S: StreamSource>(source: &mut S, buf: &mut [u8], end: u64) -> Result<(),
     ensures reason { IfSome (S.content source.old)
         (λ bytes. HasReason (S.faults source.old) (S.faults source.new) (S.can_fail source.old)
         (length bytes < S.position source.old + length buf.old) result) }
+    ensures position { OnOk result (IfSome (S.content source.old)
+        (λ _. S.position source.new ≡ S.position source.old + length buf.old)) }
+    ensures memory { IfErr result (λ e. IsNoWant (kind e)) }
 {
     let mut done = 0;
     while done < buf.len() {
@@ -31,7 +36,33 @@ fn fill<S: StreamSource>(source: &mut S, buf: &mut [u8], end: u64) -> Result<(),
     Ok(())
 }
 
-/// Reads the bytes from `start` to `end` into memory of their own.
+/// Fills the buffer with the bytes from `start` on, which end at `end`.
+pub(super) fn read_at<S: StreamSource>(
+    source: &mut S,
+    start: u64,
+    buf: &mut [u8],
+    end: u64,
+) -> Result<(), ParseError>
+    ensures content { S.content source.new ≡ S.content source.old }
+    ensures nature { S.can_fail source.new ≡ S.can_fail source.old }
+    ensures bytes { OnOk result (IfSome (S.content source.old)
+        (λ bytes. buf.new ≡ take (length buf.old) (drop start bytes))) }
+    ensures reason { IfSome (S.content source.old)
+        (λ bytes. HasReason (S.faults source.old) (S.faults source.new) (S.can_fail source.old)
+        (length bytes < start + length buf.old) result) }
+    ensures memory { IfErr result (λ e. IsNoWant (kind e)) }
+{
+    if let Err(e) = source.seek_start(start) {
+        return Err(ParseError::IOError(e));
+    }
+    fill(source, buf, end)
+}
+
+// At most so many bytes more are touched than were read.
+const STEP: usize = 1 << 20;
+
+/// Reads the bytes from `start` to `end` into memory of their own. The memory is asked for at once and touched as the
+/// bytes come, so a source that tells more than it gives costs little.
 pub(super) fn fetch<S: StreamSource, A: Allocator + Copy>(
     alloc: A,
     source: &mut S,
@@ -48,12 +79,19 @@ pub(super) fn fetch<S: StreamSource, A: Allocator + Copy>(
         (λ bytes. HasReason (S.faults source.old) (S.faults source.new) (S.can_fail source.old)
         (length bytes < end) result) }
 {
-    let Ok(mut bytes) = Vec::from_elem(alloc, 0u8, (end - start) as usize) else {
+    let size = (end - start) as usize;
+    let Ok(mut bytes) = Vec::with_capacity(alloc, size) else {
         return Err(ParseError::OutOfMemory);
     };
     if let Err(e) = source.seek_start(start) {
         return Err(ParseError::IOError(e));
     }
-    fill(source, &mut bytes, end)?;
+    while bytes.len() < size {
+        let read = bytes.len();
+        if bytes.resize(size.min(read + STEP), 0).is_err() {
+            return Err(ParseError::OutOfMemory);
+        }
+        fill(source, &mut bytes[read..], end)?;
+    }
     Ok(bytes)
 }

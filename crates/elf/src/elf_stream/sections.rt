@@ -1,5 +1,6 @@
 //! Sections and segments: their bytes.
 ghost use Rattle.std.specs.Prelude.{◌≡◌, ◌≤◌, ◌<◌, ◌^◌, IfErr, IfOk, IfSome, Ok, OnOk, length};
+ghost use Rattle.elf_abi.specs.Values.{pt_note, sht_note, sht_rel, sht_rela, sht_strtab};
 ghost use Rattle.elf_parts.specs.Note.{notes_left};
 ghost use Rattle.elf_parts.specs.Number.{ok_map};
 ghost use Rattle.elf_parts.specs.StringTable.{strings_view};
@@ -112,7 +113,7 @@ impl<E: EndianParse, S: StreamSource, A: Allocator + Copy> ElfStream<E, S, A> {
 
     // The strings of a section, whose bytes are held.
     fn lend_strtab(&self, shdr: &SectionHeader) -> Result<StringTable<'_>, ParseError>
-        requires of_type { shdr.now.sh_type ≡ 3 }
+        requires of_type { shdr.now.sh_type ≡ sht_strtab }
         requires low { AreLow (section_asked shdr.now) }
         requires held { AreHeld self.now (section_asked shdr.now) }
         ensures value { IfSome self.now.content (λ bytes.
@@ -130,7 +131,7 @@ impl<E: EndianParse, S: StreamSource, A: Allocator + Copy> ElfStream<E, S, A> {
         shdr: &SectionHeader,
     ) -> Result<StringTable<'_>, ParseError>
         ensures* leaves { sem 𝓛 (Lends E.row S.row A.row E.EndianParse S.StreamSource A.Allocator self.entry
-            (λ _. typed_section_asked 3 shdr.now) strings_view
+            (λ _. typed_section_asked sht_strtab shdr.now) strings_view
             (λ file. section_data_as_strtab file shdr.now) result) }
     {
         self.load_content(shdr, abi::SHT_STRTAB)?;
@@ -146,13 +147,13 @@ impl<E: EndianParse, S: StreamSource, A: Allocator + Copy> ElfStream<E, S, A> {
         requires of_type { shdr.now.sh_type ≡ sh_type }
         requires low { AreLow (section_asked shdr.now) }
         requires held { AreHeld self.now (section_asked shdr.now) }
-        ensures value { IfSome self.now.content (λ bytes. ok_map (items_left P.size P.record_at) result
-            ≡ ok_map (λ part. table_items P.size P.record_at (table_of (stream_file E.little self.now bytes) part))
+        ensures value { IfSome self.now.content (λ bytes. ok_map (items_left P.reads) result
+            ≡ ok_map (λ part. table_items P.reads (table_of (stream_file E.little self.now bytes) part))
             (content_of_type sh_type (stream_file E.little self.now bytes) shdr.now)) }
         ensures plain { IfErr result (λ e. kind e ≡ Kind.Refusal) }
         ensures few { IfOk result (λ records.
-            IfSome self.now.content (λ bytes. length (items_left P.size P.record_at records) ≤ length bytes)) }
-        ensures bound { IfOk result (λ records. length (items_left P.size P.record_at records) < 2 ^ 64) }
+            IfSome self.now.content (λ bytes. length (items_left P.reads records) ≤ length bytes)) }
+        ensures bound { IfOk result (λ records. length (items_left P.reads records) < 2 ^ 64) }
     {
         let bytes = self.lend_content(shdr, sh_type)?;
         Ok(ParsingIterator::new(self.ehdr.endianness, self.ehdr.class, bytes))
@@ -165,7 +166,7 @@ impl<E: EndianParse, S: StreamSource, A: Allocator + Copy> ElfStream<E, S, A> {
         shdr: &SectionHeader,
     ) -> Result<RelIterator<'_, E>, ParseError>
         ensures* leaves { sem 𝓛 (Lends E.row S.row A.row E.EndianParse S.StreamSource A.Allocator self.entry
-            (λ _. typed_section_asked 9 shdr.now) rels_left (λ file. section_data_as_rels file shdr.now) result) }
+            (λ _. typed_section_asked sht_rel shdr.now) rels_left (λ file. section_data_as_rels file shdr.now) result) }
         ensures few { IfOk result (λ rels. IfSome self.old.content (λ bytes. length (rels_left rels) ≤ length bytes)) }
         ensures bound { IfOk result (λ rels. length (rels_left rels) < 2 ^ 64) }
     {
@@ -180,7 +181,8 @@ impl<E: EndianParse, S: StreamSource, A: Allocator + Copy> ElfStream<E, S, A> {
         shdr: &SectionHeader,
     ) -> Result<RelaIterator<'_, E>, ParseError>
         ensures* leaves { sem 𝓛 (Lends E.row S.row A.row E.EndianParse S.StreamSource A.Allocator self.entry
-            (λ _. typed_section_asked 4 shdr.now) relas_left (λ file. section_data_as_relas file shdr.now) result) }
+            (λ _. typed_section_asked sht_rela shdr.now) relas_left
+            (λ file. section_data_as_relas file shdr.now) result) }
         ensures few { IfOk result (λ relas. IfSome self.old.content (λ bytes. length (relas_left relas) ≤ length bytes)) }
         ensures bound { IfOk result (λ relas. length (relas_left relas) < 2 ^ 64) }
     {
@@ -190,7 +192,7 @@ impl<E: EndianParse, S: StreamSource, A: Allocator + Copy> ElfStream<E, S, A> {
 
     // The notes of a section, whose bytes are held.
     fn lend_notes(&self, shdr: &SectionHeader) -> Result<NoteIterator<'_, E>, ParseError>
-        requires of_type { shdr.now.sh_type ≡ 7 }
+        requires of_type { shdr.now.sh_type ≡ sht_note }
         requires low { AreLow (section_asked shdr.now) }
         requires held { AreHeld self.now (section_asked shdr.now) }
         ensures value { IfSome self.now.content (λ bytes.
@@ -215,7 +217,8 @@ impl<E: EndianParse, S: StreamSource, A: Allocator + Copy> ElfStream<E, S, A> {
         shdr: &SectionHeader,
     ) -> Result<NoteIterator<'_, E>, ParseError>
         ensures* leaves { sem 𝓛 (Lends E.row S.row A.row E.EndianParse S.StreamSource A.Allocator self.entry
-            (λ _. typed_section_asked 7 shdr.now) notes_left (λ file. section_data_as_notes file shdr.now) result) }
+            (λ _. typed_section_asked sht_note shdr.now) notes_left
+            (λ file. section_data_as_notes file shdr.now) result) }
         ensures few { IfOk result (λ notes. IfSome self.old.content (λ bytes. length (notes_left notes) ≤ length bytes)) }
         ensures bound { IfOk result (λ notes. length (notes_left notes) < 2 ^ 64) }
     {
@@ -245,7 +248,7 @@ impl<E: EndianParse, S: StreamSource, A: Allocator + Copy> ElfStream<E, S, A> {
 
     // The notes of a segment, whose bytes are held.
     fn lend_segment_notes(&self, phdr: &ProgramHeader) -> NoteIterator<'_, E>
-        requires of_type { phdr.now.p_type ≡ 4 }
+        requires of_type { phdr.now.p_type ≡ pt_note }
         requires low { AreLow (segment_asked phdr.now) }
         requires held { AreHeld self.now (segment_asked phdr.now) }
         ensures value { IfSome self.now.content (λ bytes.

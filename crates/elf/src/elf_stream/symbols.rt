@@ -1,6 +1,7 @@
 //! The symbols of a stream, with their strings.
 ghost use Rattle.std.specs.Prelude.{◌≡◌, ℕ, Ok, IfErr, IfSome};
 ghost use Rattle.std.specs.Option.{option_map};
+ghost use Rattle.elf_abi.specs.Values.{sht_dynsym, sht_symtab};
 ghost use Rattle.elf_parts.specs.Number.{ok_map};
 ghost use Rattle.elf.specs.Answers.{dynamic_symbol_table, first_symbols, symbol_sections, symbol_table, symbols_in, symbols_view};
 ghost use Rattle.elf.specs.Asked.{both_sections, headers_alone, symbols_asked};
@@ -91,7 +92,7 @@ impl<E: EndianParse, S: StreamSource, A: Allocator + Copy> ElfStream<E, S, A> {
         &mut self,
     ) -> Result<Option<(SymbolTable<'_, E>, StringTable<'_>)>, ParseError>
         ensures* leaves { sem 𝓛 (Lends E.row S.row A.row E.EndianParse S.StreamSource A.Allocator self.entry
-            (symbols_asked 2) (option_map symbols_view) symbol_table result) }
+            (symbols_asked sht_symtab) (option_map symbols_view) symbol_table result) }
     {
         self.first_symbols(abi::SHT_SYMTAB)
     }
@@ -102,7 +103,7 @@ impl<E: EndianParse, S: StreamSource, A: Allocator + Copy> ElfStream<E, S, A> {
         &mut self,
     ) -> Result<Option<(SymbolTable<'_, E>, StringTable<'_>)>, ParseError>
         ensures* leaves { sem 𝓛 (Lends E.row S.row A.row E.EndianParse S.StreamSource A.Allocator self.entry
-            (symbols_asked 11) (option_map symbols_view) dynamic_symbol_table result) }
+            (symbols_asked sht_dynsym) (option_map symbols_view) dynamic_symbol_table result) }
     {
         self.first_symbols(abi::SHT_DYNSYM)
     }

@@ -1,11 +1,12 @@
 -- What follows of every record that is read by a field table.
-use Rattle.std.proofs.Common.{◌≡◌, ℕ, ◌+◌, ◌-◌, ◌<◌, ◌≤◌, ◌^◌, Bool, true, false, Option, Some, None, List, [], ◌∷◌, length, take, drop, ◌&&◌, Result, Ok, Err, is_none, refl, ap, sym, ◌∙◌, arith}
+use Rattle.std.proofs.Common.{nat_lt, ◌≡◌, ℕ, ◌+◌, ◌-◌, ◌<◌, ◌≤◌, ◌^◌, Bool, true, false, Option, Some, None, List, [], ◌∷◌, length, take, drop, ◌&&◌, Result, Ok, Err, is_none, refl, ap, sym, ◌∙◌, arith}
 use Rattle.std.proofs.lemmas.Grind.{common_steps}
 use Rattle.std.proofs.lemmas.List.{drop-take, take-take, drop-drop}
 use Rattle.elf_parts.specs.declared.parse.ParseError.{ParseError}
 use Rattle.elf_parts.specs.Number.{bytes_at, number, number_at, ok_map}
-use Rattle.elf_parts.specs.Record.{Field, size_of, ◌>>=◌, accepted, numbers_at, numbers_end, Layout, size_by, record_by, offset_by, ReadsWithin, ReadsOnly, ReadsWherever}
+use Rattle.elf_parts.specs.Record.{Field, size_of, ◌>>=◌, accepted, numbers_at, numbers_end, Layout, size_by, record_by, offset_by, ReadsWithin, ReadsOnly, ReadsWherever, RecordType}
 use Rattle.elf_parts.specs.declared.file.Class.{Class}
+use Rattle.elf_parts.specs.declared.file.Class.TheVariants.{ELF32, ELF64}
 
 pub and_true : (a b : Bool) → (a && b) ≡ true → (a ≡ true) × (b ≡ true)
 and_true true b e = (refl, e)
@@ -146,7 +147,39 @@ only_by layout little class bytes others o p x y e d same =
     let n = ok_map-ok (layout.make class) (numbers_at little (layout.fields class) others p) y d in
     sym m.2 ∙ ap (layout.make class) (numbers_at-same little (layout.fields class) bytes others o p (size_by layout class) m.0 n.0 (omega arith) same m.1 n.1) ∙ n.2
 
-pub wherever_by : {A : Type 0} (layout : Layout A) → ((class : Class) → is_free (layout.fields class) ≡ true) → ReadsWherever (size_by layout) (record_by layout)
-wherever_by layout free little class bytes o small within =
-    let m = numbers_at-read little (layout.fields class) bytes o (free class) small within in
+-- ---- a type of records by its field tables
+
+-- a record has a byte, in either class
+abbrev pub has_size : {A : Type 0} → Layout A → Bool
+has_size layout = nat_lt 0 (size_by layout ELF32) && nat_lt 0 (size_by layout ELF64)
+
+some : (n : ℕ) → nat_lt 0 n ≡ true → 1 ≤ n
+some n e = grind (arith, common_steps)
+
+pub some_by : {A : Type 0} (layout : Layout A) → has_size layout ≡ true → (class : Class) → 1 ≤ size_by layout class
+some_by layout sized ELF32 = some (size_by layout ELF32) (and_true (nat_lt 0 (size_by layout ELF32)) (nat_lt 0 (size_by layout ELF64)) sized).0
+some_by layout sized ELF64 = some (size_by layout ELF64) (and_true (nat_lt 0 (size_by layout ELF32)) (nat_lt 0 (size_by layout ELF64)) sized).1
+
+abbrev pub by_layout : {A : Type 0} (layout : Layout A) → has_size layout ≡ true → RecordType A
+by_layout layout sized = record {
+  size = size_by layout;
+  record_at = record_by layout;
+  offset_after = offset_by layout;
+  some_size = some_by layout sized;
+  within = within_by layout (some_by layout sized);
+  only = only_by layout;
+}
+
+-- ---- a type of records that has no versions
+
+abbrev pub is_plain : {A : Type 0} → Layout A → Bool
+is_plain layout = is_free (layout.fields ELF32) && is_free (layout.fields ELF64)
+
+free_by : {A : Type 0} (layout : Layout A) → is_plain layout ≡ true → (class : Class) → is_free (layout.fields class) ≡ true
+free_by layout plain ELF32 = (and_true (is_free (layout.fields ELF32)) (is_free (layout.fields ELF64)) plain).0
+free_by layout plain ELF64 = (and_true (is_free (layout.fields ELF32)) (is_free (layout.fields ELF64)) plain).1
+
+pub wherever_by : {A : Type 0} (layout : Layout A) → is_plain layout ≡ true → ReadsWherever (size_by layout) (record_by layout)
+wherever_by layout plain little class bytes o small within =
+    let m = numbers_at-read little (layout.fields class) bytes o (free_by layout plain class) small within in
     rw m.1 refl

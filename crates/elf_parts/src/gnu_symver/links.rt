@@ -58,11 +58,11 @@ impl<'data, E: EndianParse, R: Linked> Links<'data, E, R> {
     /// The records that are linked from the one at `offset` on, at most `count`.
     #[tactic(auto, using(crate::proofs::LinkedRecords::count_bounds))]
     pub fn new(little: bool, class: Class, count: u64, offset: usize, data: &'data [u8]) -> Self
-        ensures items { links_left R.record_at R.next_distance result
-            ≡ links_in R.record_at R.next_distance (table_in little class «data».now) count offset }
+        ensures items { links_left R.reads.record_at R.next_distance result
+            ≡ links_in R.reads.record_at R.next_distance (table_in little class «data».now) count offset }
         ensures view { links_view result ≡ table_in little class «data».now }
-        ensures few { length (links_left R.record_at R.next_distance result) ≤ length «data».now }
-        ensures most { length (links_left R.record_at R.next_distance result) ≤ count }
+        ensures few { length (links_left R.reads.record_at R.next_distance result) ≤ length «data».now }
+        ensures most { length (links_left R.reads.record_at R.next_distance result) ≤ count }
     {
         Links {
             little,
@@ -77,8 +77,8 @@ impl<'data, E: EndianParse, R: Linked> Links<'data, E, R> {
 
     /// The records of another type that are linked from the one `distance` bytes behind `start` on.
     pub fn aux<A: Linked>(&self, start: usize, count: u16, distance: u32) -> Links<'data, E, A>
-        ensures { links_left A.record_at A.next_distance result
-            ≡ links_in A.record_at A.next_distance (links_view self.now) count (start + distance) }
+        ensures { links_left A.reads.record_at A.next_distance result
+            ≡ links_in A.reads.record_at A.next_distance (links_view self.now) count (start + distance) }
     {
         // No record begins at the end of the data or behind it.
         let offset = start.saturating_add(distance as usize).min(self.data.len());
@@ -88,9 +88,9 @@ impl<'data, E: EndianParse, R: Linked> Links<'data, E, R> {
     // Goes on to the record `distance` bytes behind this one, or to the end.
     #[tactic(auto, using(crate::proofs::LinkedRecords::links_none))]
     fn follow(&mut self, distance: u32)
-        ensures items { links_left R.record_at R.next_distance self.new
+        ensures items { links_left R.reads.record_at R.next_distance self.new
             ≡ from_next (next_start self.old.offset distance)
-            (links_in R.record_at R.next_distance (links_view self.old) (self.old.count - 1)) }
+            (links_in R.reads.record_at R.next_distance (links_view self.old) (self.old.count - 1)) }
         ensures view { links_view self.new ≡ links_view self.old }
     {
         match next_start(self.offset, distance) {
@@ -106,9 +106,9 @@ impl<'data, E: EndianParse, R: Linked> Links<'data, E, R> {
 impl<'data, E: EndianParse, R: Linked> Iterator for Links<'data, E, R> {
     type Item = (usize, R);
 
-    ghost next_gives = { λ s r t. YieldsFirst (links_left R.record_at R.next_distance) s r t × (links_view t ≡ links_view s) };
+    ghost next_gives = { λ s r t. YieldsFirst (links_left R.reads.record_at R.next_distance) s r t × (links_view t ≡ links_view s) };
 
-    ghost remaining = { item_count (links_left R.record_at R.next_distance) };
+    ghost remaining = { item_count (links_left R.reads.record_at R.next_distance) };
 
     fn next(&mut self) -> Option<(usize, R)> {
         if self.count == 0 {

@@ -30,21 +30,9 @@ pub struct GnuHashHeader {
 }
 
 impl ParseAt for GnuHashHeader {
-    ghost use Rattle.elf_parts.specs.Hash.{gnu_header_layout, gnu_header_size};
-    ghost use Rattle.elf_parts.specs.Record.{offset_by, record_by, size_by};
-    ghost use Rattle.elf_parts.specs.inner.RecordLaws.{only_by, within_by};
+    ghost use Rattle.elf_parts.specs.Hash.{gnu_header_reads};
 
-    ghost size = { size_by gnu_header_layout };
-
-    ghost record_at = { record_by gnu_header_layout };
-
-    ghost offset_after = { offset_by gnu_header_layout };
-
-    ghost some_size = { gnu_header_size };
-
-    ghost within = { within_by gnu_header_layout gnu_header_size };
-
-    ghost only = { only_by gnu_header_layout };
+    ghost reads = { gnu_header_reads };
 
     #[tactic(auto, unfolding(crate::specs::Record::numbers_at, crate::specs::Record::numbers_end))]
     fn parse_at<E: EndianParse>(

@@ -21,21 +21,9 @@ pub struct SysVHashHeader {
 }
 
 impl ParseAt for SysVHashHeader {
-    ghost use Rattle.elf_parts.specs.Hash.{sysv_header_layout, sysv_header_size};
-    ghost use Rattle.elf_parts.specs.Record.{offset_by, record_by, size_by};
-    ghost use Rattle.elf_parts.specs.inner.RecordLaws.{only_by, within_by};
+    ghost use Rattle.elf_parts.specs.Hash.{sysv_header_reads};
 
-    ghost size = { size_by sysv_header_layout };
-
-    ghost record_at = { record_by sysv_header_layout };
-
-    ghost offset_after = { offset_by sysv_header_layout };
-
-    ghost some_size = { sysv_header_size };
-
-    ghost within = { within_by sysv_header_layout sysv_header_size };
-
-    ghost only = { only_by sysv_header_layout };
+    ghost reads = { sysv_header_reads };
 
     #[tactic(auto, unfolding(crate::specs::Record::numbers_at, crate::specs::Record::numbers_end))]
     fn parse_at<E: EndianParse>(

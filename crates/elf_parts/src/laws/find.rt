@@ -1,6 +1,6 @@
 //! Laws of hash sections and of look-ups by them. Each is the contract of a function that does nothing, or that
 //! asks for a length and so learns that the bytes are fewer than 2^64.
-ghost use Rattle.std.specs.Prelude.{◌≡◌, Bool, List, ℕ, Ok, Some};
+ghost use Rattle.std.specs.Prelude.{◌≡◌, Bool, List, ℕ, Ok, Some, refl};
 ghost use Rattle.elf_parts.specs.GnuFind.{GnuTable, ReadsBloom, gnu_find, gnu_section};
 ghost use Rattle.elf_parts.specs.Hash.{IsNamed, ReadsBelowCount};
 ghost use Rattle.elf_parts.specs.SysvFind.{SysvTable, sysv_find, sysv_section};
@@ -14,17 +14,17 @@ use crate::laws::tables::PlainRecord;
 use crate::parse::ParsingTable;
 
 impl PlainRecord for SysVHashHeader {
-    ghost use Rattle.elf_parts.specs.Hash.{sysv_header_layout, sysv_header_free};
+    ghost use Rattle.elf_parts.specs.Hash.{sysv_header_layout};
     ghost use Rattle.elf_parts.specs.inner.RecordLaws.{wherever_by};
 
-    ghost wherever = { wherever_by sysv_header_layout sysv_header_free };
+    ghost wherever = { wherever_by sysv_header_layout refl };
 }
 
 impl PlainRecord for GnuHashHeader {
-    ghost use Rattle.elf_parts.specs.Hash.{gnu_header_layout, gnu_header_free};
+    ghost use Rattle.elf_parts.specs.Hash.{gnu_header_layout};
     ghost use Rattle.elf_parts.specs.inner.RecordLaws.{wherever_by};
 
-    ghost wherever = { wherever_by gnu_header_layout gnu_header_free };
+    ghost wherever = { wherever_by gnu_header_layout refl };
 }
 
 /// A symbol that a SysV look-up gives is that of its index, and has the name that was asked for.

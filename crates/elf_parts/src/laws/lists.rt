@@ -9,5 +9,5 @@ use crate::laws::tables::PlainRecord;
 /// `get` refuses.
 pub fn list_is_what_get_gives<P: PlainRecord>()
     ensures { (t : Table) (i : ℕ) → length t.bytes < 2 ^ 64 →
-        slice_get (table_items P.size P.record_at t) i ≡ result_ok (table_get P.size P.record_at t i) }
+        slice_get (table_items P.reads t) i ≡ result_ok (table_get P.reads t i) }
 {}

@@ -1,5 +1,5 @@
 //! Laws of notes.
-ghost use Rattle.std.specs.Prelude.{◌≡◌, ◌↔◌, ◌<◌, IsTrue};
+ghost use Rattle.std.specs.Prelude.{◌≡◌, ◌↔◌, ◌<◌, IsTrue, refl};
 ghost use Rattle.std.specs.Int.{next_multiple_of};
 ghost use Rattle.elf_parts.specs.Note.{note_links, note_view, AreAllNotes, IsLeastMultiple};
 
@@ -19,9 +19,9 @@ pub fn parts_begin_at_the_least_multiple(align: usize, offset: usize)
 
 impl PlainRecord for NoteGnuAbiTag {
     ghost use Rattle.elf_parts.specs.inner.RecordLaws.{wherever_by};
-    ghost use Rattle.elf_parts.specs.Note.{abi_tag_layout, abi_tag_free};
+    ghost use Rattle.elf_parts.specs.Note.{abi_tag_layout};
 
-    ghost wherever = { wherever_by abi_tag_layout abi_tag_free };
+    ghost wherever = { wherever_by abi_tag_layout refl };
 }
 
 /// Two ABI tags are equal exactly where all their fields are.

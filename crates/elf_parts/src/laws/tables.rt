@@ -1,5 +1,5 @@
 //! Laws of tables: which indexes `get` answers, and what `iter` gives.
-ghost use Rattle.std.specs.Prelude.{◌≡◌, ◌↔◌, ◌<◌, ◌≤◌, length, slice_get, IsOk};
+ghost use Rattle.std.specs.Prelude.{◌≡◌, ◌↔◌, ◌<◌, ◌≤◌, length, slice_get, IsOk, refl};
 ghost use Rattle.std.specs.Result.{result_ok};
 ghost use Rattle.elf_parts.specs.Record.{ReadsWherever};
 ghost use Rattle.elf_parts.specs.Table.{table_get, table_items, table_len, table_view};
@@ -16,70 +16,70 @@ use crate::symbol::Symbol;
 /// A record that is read wherever its bytes lie in the data, since none of its fields has to have a
 /// certain value.
 pub trait PlainRecord: ParseAt {
-    ghost wherever: { ReadsWherever Self.size Self.record_at };
+    ghost wherever: { ReadsWherever Self.reads.size Self.reads.record_at };
 }
 
 impl PlainRecord for u32 {
-    ghost use Rattle.elf_parts.specs.Word.{u32_layout, u32_free};
+    ghost use Rattle.elf_parts.specs.Word.{u32_layout};
     ghost use Rattle.elf_parts.specs.inner.RecordLaws.{wherever_by};
 
-    ghost wherever = { wherever_by u32_layout u32_free };
+    ghost wherever = { wherever_by u32_layout refl };
 }
 
 impl PlainRecord for u64 {
-    ghost use Rattle.elf_parts.specs.Word.{u64_layout, u64_free};
+    ghost use Rattle.elf_parts.specs.Word.{u64_layout};
     ghost use Rattle.elf_parts.specs.inner.RecordLaws.{wherever_by};
 
-    ghost wherever = { wherever_by u64_layout u64_free };
+    ghost wherever = { wherever_by u64_layout refl };
 }
 
 impl PlainRecord for SectionHeader {
     ghost use Rattle.elf_parts.specs.inner.RecordLaws.{wherever_by};
-    ghost use Rattle.elf_parts.specs.Section.{section_header_layout, section_header_free};
+    ghost use Rattle.elf_parts.specs.Section.{section_header_layout};
 
-    ghost wherever = { wherever_by section_header_layout section_header_free };
+    ghost wherever = { wherever_by section_header_layout refl };
 }
 
 impl PlainRecord for ProgramHeader {
     ghost use Rattle.elf_parts.specs.inner.RecordLaws.{wherever_by};
-    ghost use Rattle.elf_parts.specs.Segment.{program_header_layout, program_header_free};
+    ghost use Rattle.elf_parts.specs.Segment.{program_header_layout};
 
-    ghost wherever = { wherever_by program_header_layout program_header_free };
+    ghost wherever = { wherever_by program_header_layout refl };
 }
 
 impl PlainRecord for Symbol {
-    ghost use Rattle.elf_parts.specs.Symbol.{symbol_layout, symbol_free};
+    ghost use Rattle.elf_parts.specs.Symbol.{symbol_layout};
     ghost use Rattle.elf_parts.specs.inner.RecordLaws.{wherever_by};
 
-    ghost wherever = { wherever_by symbol_layout symbol_free };
+    ghost wherever = { wherever_by symbol_layout refl };
 }
 
 impl PlainRecord for Rel {
-    ghost use Rattle.elf_parts.specs.Relocation.{rel_layout, rel_free};
+    ghost use Rattle.elf_parts.specs.Relocation.{rel_layout};
     ghost use Rattle.elf_parts.specs.inner.RecordLaws.{wherever_by};
 
-    ghost wherever = { wherever_by rel_layout rel_free };
+    ghost wherever = { wherever_by rel_layout refl };
 }
 
 impl PlainRecord for Rela {
-    ghost use Rattle.elf_parts.specs.Relocation.{rela_layout, rela_free};
+    ghost use Rattle.elf_parts.specs.Relocation.{rela_layout};
     ghost use Rattle.elf_parts.specs.inner.RecordLaws.{wherever_by};
 
-    ghost wherever = { wherever_by rela_layout rela_free };
+    ghost wherever = { wherever_by rela_layout refl };
 }
 
 impl PlainRecord for Dyn {
-    ghost use Rattle.elf_parts.specs.Dynamic.{dyn_layout, dyn_free};
+    ghost use Rattle.elf_parts.specs.Dynamic.{dyn_layout};
     ghost use Rattle.elf_parts.specs.inner.RecordLaws.{wherever_by};
 
-    ghost wherever = { wherever_by dyn_layout dyn_free };
+    ghost wherever = { wherever_by dyn_layout refl };
 }
 
 impl PlainRecord for CompressionHeader {
-    ghost use Rattle.elf_parts.specs.Compression.{compression_header_layout, compression_header_free};
+    ghost use Rattle.elf_parts.specs.Compression.{compression_header_layout};
     ghost use Rattle.elf_parts.specs.inner.RecordLaws.{wherever_by};
 
-    ghost wherever = { wherever_by compression_header_layout compression_header_free };
+    ghost wherever = { wherever_by compression_header_layout refl };
 }
 
 /// Of a plain record `get` succeeds exactly below `len`.
@@ -87,8 +87,7 @@ pub fn get_succeeds_below_len<E: EndianParse, P: PlainRecord>(
     table: &ParsingTable<'_, E, P>,
     index: usize,
 )
-    ensures { IsOk (table_get P.size P.record_at (table_view table.now) index)
-        ↔ (index < table_len P.size P.record_at (table_view table.now)) }
+    ensures { IsOk (table_get P.reads (table_view table.now) index) ↔ (index < table_len P.reads (table_view table.now)) }
 {
     let _ = table.len();
 }
@@ -99,17 +98,16 @@ pub fn iter_gives_what_get_gives<E: EndianParse, P: ParseAt>(
     table: &ParsingTable<'_, E, P>,
     index: usize,
 )
-    ensures { index ≤ length (table_items P.size P.record_at (table_view table.now)) →
-        slice_get (table_items P.size P.record_at (table_view table.now)) index
-        ≡ result_ok (table_get P.size P.record_at (table_view table.now) index) }
+    ensures { index ≤ length (table_items P.reads (table_view table.now)) →
+        slice_get (table_items P.reads (table_view table.now)) index
+        ≡ result_ok (table_get P.reads (table_view table.now) index) }
 {
     let _ = table.len();
 }
 
 /// Of a plain record `iter` gives as many as `len` tells.
 pub fn iter_gives_len_records<E: EndianParse, P: PlainRecord>(table: &ParsingTable<'_, E, P>)
-    ensures { length (table_items P.size P.record_at (table_view table.now))
-        ≡ table_len P.size P.record_at (table_view table.now) }
+    ensures { length (table_items P.reads (table_view table.now)) ≡ table_len P.reads (table_view table.now) }
 {
     let _ = table.len();
 }
@@ -119,8 +117,8 @@ pub fn iter_gives_whatever_get_gives<E: EndianParse, P: PlainRecord>(
     table: &ParsingTable<'_, E, P>,
     index: usize,
 )
-    ensures { slice_get (table_items P.size P.record_at (table_view table.now)) index
-        ≡ result_ok (table_get P.size P.record_at (table_view table.now) index) }
+    ensures { slice_get (table_items P.reads (table_view table.now)) index
+        ≡ result_ok (table_get P.reads (table_view table.now) index) }
 {
     let _ = table.len();
 }

@@ -1,5 +1,6 @@
 //! Laws of linked records and of the versions of symbols.
-ghost use Rattle.std.specs.Prelude.{◌≡◌, ◌↔◌, ◌≤◌, ◌+◌, if◌then◌else◌, length, IsTrue};
+ghost use Rattle.std.specs.Prelude.{◌≡◌, ◌↔◌, ◌≤◌, ◌+◌, if◌then◌else◌, length, IsTrue, refl};
+ghost use Rattle.elf_abi.specs.Values.{ver_ndx_hidden};
 ghost use Rattle.elf_parts.specs.Link.{AreLongest, links_in, next_start};
 ghost use Rattle.elf_parts.specs.Symver.{ver_def_aux_records, ver_need_aux_records, version_index, version_is_hidden};
 ghost use Rattle.elf_parts.specs.Table.{table_in};
@@ -19,11 +20,11 @@ pub fn linked_records_are_the_longest_list<E: EndianParse, R: Linked>(
     start: usize,
     data: &[u8],
 )
-    ensures longest { AreLongest (R.record_at (E.little endian) class «data».now)
+    ensures longest { AreLongest (R.reads.record_at (E.little endian) class «data».now)
         (λ o x. next_start o (R.next_distance x)) count start
-        (links_in R.record_at R.next_distance (table_in (E.little endian) class «data».now) count start) }
+        (links_in R.reads.record_at R.next_distance (table_in (E.little endian) class «data».now) count start) }
     ensures few { let t = table_in (E.little endian) class «data».now in
-        length (links_in R.record_at R.next_distance t count start) ≤ length «data».now }
+        length (links_in R.reads.record_at R.next_distance t count start) ≤ length «data».now }
 {}
 
 /// A need has no more versions than its `vn_cnt` says, and a definition no more names than its `vd_cnt`.
@@ -43,28 +44,28 @@ pub fn aux_records_are_few<E: EndianParse>(
 
 /// The number of a version index is its index, plus 0x8000 where the version is hidden.
 pub fn index_and_hidden_bit(version: VersionIndex)
-    ensures { version.0 ≡ version_index version + (if version_is_hidden version then 0x8000 else 0) }
+    ensures { version.0 ≡ version_index version + (if version_is_hidden version then ver_ndx_hidden else 0) }
 {}
 
 impl PlainRecord for VerNeedAux {
     ghost use Rattle.elf_parts.specs.inner.RecordLaws.{wherever_by};
-    ghost use Rattle.elf_parts.specs.Symver.{ver_need_aux_layout, ver_need_aux_free};
+    ghost use Rattle.elf_parts.specs.Symver.{ver_need_aux_layout};
 
-    ghost wherever = { wherever_by ver_need_aux_layout ver_need_aux_free };
+    ghost wherever = { wherever_by ver_need_aux_layout refl };
 }
 
 impl PlainRecord for VerDefAux {
     ghost use Rattle.elf_parts.specs.inner.RecordLaws.{wherever_by};
-    ghost use Rattle.elf_parts.specs.Symver.{ver_def_aux_layout, ver_def_aux_free};
+    ghost use Rattle.elf_parts.specs.Symver.{ver_def_aux_layout};
 
-    ghost wherever = { wherever_by ver_def_aux_layout ver_def_aux_free };
+    ghost wherever = { wherever_by ver_def_aux_layout refl };
 }
 
 impl PlainRecord for VersionIndex {
     ghost use Rattle.elf_parts.specs.inner.RecordLaws.{wherever_by};
-    ghost use Rattle.elf_parts.specs.Symver.{version_index_layout, version_index_free};
+    ghost use Rattle.elf_parts.specs.Symver.{version_index_layout};
 
-    ghost wherever = { wherever_by version_index_layout version_index_free };
+    ghost wherever = { wherever_by version_index_layout refl };
 }
 
 /// Two needs are equal exactly where all their fields are.

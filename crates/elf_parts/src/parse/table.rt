@@ -16,9 +16,9 @@ pub(crate) fn read_record<P: ParseAt>(
     offset: &mut usize,
     data: &[u8],
 ) -> Result<P, ParseError>
-    ensures value { result ≡ P.record_at little class «data».now offset.old }
-    ensures moved { offset.new ≡ P.offset_after little class «data».now offset.old }
-    ensures behind { OnOk result (offset.new ≡ offset.old + P.size class) }
+    ensures value { result ≡ P.reads.record_at little class «data».now offset.old }
+    ensures moved { offset.new ≡ P.reads.offset_after little class «data».now offset.old }
+    ensures behind { OnOk result (offset.new ≡ offset.old + P.reads.size class) }
 {
     if little {
         P::parse_at(LittleEndian, class, offset, data)
@@ -55,10 +55,10 @@ pub struct ParsingIterator<'data, E: EndianParse, P: ParseAt> {
 impl<'data, E: EndianParse, P: ParseAt> ParsingIterator<'data, E, P> {
     /// The records of the data, in order.
     pub fn new(endian: E, class: Class, data: &'data [u8]) -> Self
-        ensures items { items_left P.size P.record_at result
-            ≡ table_items P.size P.record_at (table_in (E.little endian) class «data».now) }
-        ensures few { length (items_left P.size P.record_at result) ≤ length «data».now }
-        ensures bound { length (items_left P.size P.record_at result) < 2 ^ 64 }
+        ensures items { items_left P.reads result
+            ≡ table_items P.reads (table_in (E.little endian) class «data».now) }
+        ensures few { length (items_left P.reads result) ≤ length «data».now }
+        ensures bound { length (items_left P.reads result) < 2 ^ 64 }
     {
         Self::starting(endian.is_little(), class, data)
     }
@@ -66,9 +66,9 @@ impl<'data, E: EndianParse, P: ParseAt> ParsingIterator<'data, E, P> {
     // The same, where the order is given as whether it is little.
     #[tactic(auto, using(crate::proofs::Items::items_bounded), unfolding(crate::specs::Table::items_left))]
     fn starting(little: bool, class: Class, data: &'data [u8]) -> Self
-        ensures items { items_left P.size P.record_at result ≡ table_items P.size P.record_at (table_in little class «data».now) }
-        ensures few { length (items_left P.size P.record_at result) ≤ length «data».now }
-        ensures bound { length (items_left P.size P.record_at result) < 2 ^ 64 }
+        ensures items { items_left P.reads result ≡ table_items P.reads (table_in little class «data».now) }
+        ensures few { length (items_left P.reads result) ≤ length «data».now }
+        ensures bound { length (items_left P.reads result) < 2 ^ 64 }
     {
         ParsingIterator {
             little,
@@ -84,9 +84,9 @@ impl<'data, E: EndianParse, P: ParseAt> ParsingIterator<'data, E, P> {
 impl<'data, E: EndianParse, P: ParseAt> Iterator for ParsingIterator<'data, E, P> {
     type Item = P;
 
-    ghost next_gives = { YieldsFirst (items_left P.size P.record_at) };
+    ghost next_gives = { YieldsFirst (items_left P.reads) };
 
-    ghost remaining = { item_count (items_left P.size P.record_at) };
+    ghost remaining = { item_count (items_left P.reads) };
 
     fn next(&mut self) -> Option<P> {
         match read_record::<P>(self.little, self.class, &mut self.offset, self.data) {
@@ -126,16 +126,16 @@ impl<'data, E: EndianParse, P: ParseAt> ParsingTable<'data, E, P> {
 
     /// The records in order, up to the first that is refused.
     pub fn iter(&self) -> ParsingIterator<'data, E, P>
-        ensures items { items_left P.size P.record_at result ≡ table_items P.size P.record_at (table_view self.now) }
-        ensures few { length (items_left P.size P.record_at result) ≤ length (table_view self.now).bytes }
-        ensures bound { length (items_left P.size P.record_at result) < 2 ^ 64 }
+        ensures items { items_left P.reads result ≡ table_items P.reads (table_view self.now) }
+        ensures few { length (items_left P.reads result) ≤ length (table_view self.now).bytes }
+        ensures bound { length (items_left P.reads result) < 2 ^ 64 }
     {
         ParsingIterator::starting(self.little, self.class, self.data)
     }
 
     /// How many records the table holds.
     pub fn len(&self) -> usize
-        ensures count { result ≡ table_len P.size P.record_at (table_view self.now) }
+        ensures count { result ≡ table_len P.reads (table_view self.now) }
         ensures short { length (table_view self.now).bytes < 2 ^ 64 }
     {
         self.data.len() / P::size_for(self.class)
@@ -143,7 +143,7 @@ impl<'data, E: EndianParse, P: ParseAt> ParsingTable<'data, E, P> {
 
     /// Whether the table holds no record.
     pub fn is_empty(&self) -> bool
-        ensures { result ≡ (table_len P.size P.record_at (table_view self.now) == 0) }
+        ensures { result ≡ (table_len P.reads (table_view self.now) == 0) }
     {
         self.len() == 0
     }
@@ -152,7 +152,7 @@ impl<'data, E: EndianParse, P: ParseAt> ParsingTable<'data, E, P> {
     /// or the record would begin behind its bytes, with `IntegerOverflow` where the place of the record
     /// passes 64 bits, and else as the record's own read does.
     pub fn get(&self, index: usize) -> Result<P, ParseError>
-        ensures { result ≡ table_get P.size P.record_at (table_view self.now) index }
+        ensures { result ≡ table_get P.reads (table_view self.now) index }
     {
         if self.data.is_empty() {
             return Err(ParseError::BadOffset(index as u64));
@@ -175,13 +175,13 @@ impl<'data, E: EndianParse, P: ParseAt> IntoIterator for ParsingTable<'data, E, 
 
     // Code over any `IntoIterator` learns by this what the clauses of `into_iter` say.
     ghost into_iter_gives = { λ s r.
-        (items_left P.size P.record_at r ≡ table_items P.size P.record_at (table_view s))
-        × (length (items_left P.size P.record_at r) < 2 ^ 64) };
+        (items_left P.reads r ≡ table_items P.reads (table_view s))
+        × (length (items_left P.reads r) < 2 ^ 64) };
 
     fn into_iter(self) -> ParsingIterator<'data, E, P>
-        ensures items { items_left P.size P.record_at result ≡ table_items P.size P.record_at (table_view self.entry) }
-        ensures few { length (items_left P.size P.record_at result) ≤ length (table_view self.entry).bytes }
-        ensures bound { length (items_left P.size P.record_at result) < 2 ^ 64 }
+        ensures items { items_left P.reads result ≡ table_items P.reads (table_view self.entry) }
+        ensures few { length (items_left P.reads result) ≤ length (table_view self.entry).bytes }
+        ensures bound { length (items_left P.reads result) < 2 ^ 64 }
     {
         self.iter()
     }

@@ -4,16 +4,15 @@
 ghost use Rattle.std.specs.Prelude.{◌≡◌, [], ◌∷◌, ◌++◌, true, false, None, Some, Ok, Err, length, take};
 ghost use Rattle.elf_parts.specs.Number.{ok_map};
 ghost use Rattle.elf_parts.specs.Endian.{big_of_byte, little_of_byte};
-ghost use Rattle.elf_parts.specs.Section.{section_header_layout};
-ghost use Rattle.elf_parts.specs.Segment.{program_header_layout};
-ghost use Rattle.elf_parts.specs.Table.{table_in};
+ghost use Rattle.elf_parts.specs.Section.{section_header_reads};
+ghost use Rattle.elf_parts.specs.Segment.{program_header_reads};
+ghost use Rattle.elf_parts.specs.Table.{table_in, table_items};
 ghost use Rattle.elf_parts.specs.declared.file.Class.TheVariants.{ELF32, ELF64};
 ghost use Rattle.elf_parts.specs.declared.parse.ParseError.TheVariants.{BadEntsize, BadMagic, BadOffset, IntegerOverflow, SliceReadError, UnsupportedElfEndianness};
 ghost use Rattle.elf.specs.Opening.{opened};
 ghost use Rattle.elf.specs.Range.{section_at};
 ghost use Rattle.elf_worked.specs.Files.{compressed_section, counted_by_info, counted_by_size, elsewhere, header_as_section, header_of_tables, in_eight, in_four, in_two, loaded_segment, names_section, null_section, one_segment, ones, section_with_info, small_file, small_with, two_names, two_sections, two_sections_big, two_with, zeros};
 ghost use Rattle.elf_worked.specs.Known.{names_header, names_in, null_header, opening, small_view, two_table, two_view, two_view_with};
-ghost use Rattle.elf_worked.specs.Records.{items_by};
 
 /// How many bytes the files have.
 pub fn sizes_of_files()
@@ -133,7 +132,7 @@ pub fn tables_at_64_bits()
 pub fn one_segment_opened()
     ensures table { ok_map (λ file. file.segments) (opening one_segment)
         ≡ Ok (Some (table_in true ELF64 loaded_segment)) }
-    ensures header { items_by program_header_layout (table_in true ELF64 loaded_segment) ≡ record {
+    ensures header { table_items program_header_reads (table_in true ELF64 loaded_segment) ≡ record {
       p_type = 1;
       p_offset = 0;
       p_vaddr = 0x400000;
@@ -151,7 +150,7 @@ pub fn two_sections_opened()
     ensures first { section_at (Some two_table) 0 ≡ Ok null_header }
     ensures second { section_at (Some two_table) 1 ≡ Ok names_header }
     ensures at_the_end { section_at (Some two_table) 2 ≡ Err (SliceReadError (80, 84)) }
-    ensures all { items_by section_header_layout two_table ≡ null_header ∷ names_header ∷ [] }
+    ensures all { table_items section_header_reads two_table ≡ null_header ∷ names_header ∷ [] }
 {}
 
 /// The same file cut by a byte, cut behind its header, and with an e_shnum far too great.

@@ -4,11 +4,11 @@
 ghost use Rattle.std.specs.Prelude.{◌≡◌, ◌-◌, ◌^◌, [], ◌∷◌, true, false, Ok, Err};
 ghost use Rattle.elf_parts.specs.Number.{number_at};
 ghost use Rattle.elf_parts.specs.Record.{record_by};
-ghost use Rattle.elf_parts.specs.Table.{item_at, items, items_from, table_in};
+ghost use Rattle.elf_parts.specs.Table.{item_at, items, items_from, table_get, table_in, table_items, table_len};
 ghost use Rattle.elf_parts.specs.declared.file.Class.TheVariants.{ELF32, ELF64};
 ghost use Rattle.elf_parts.specs.declared.parse.ParseError.TheVariants.{BadOffset, IntegerOverflow, SliceReadError};
 ghost use Rattle.elf_worked.specs.Files.{first_eight};
-ghost use Rattle.elf_worked.specs.Records.{get_by, items_by, len_by, three_byte_layout, word_layout};
+ghost use Rattle.elf_worked.specs.Records.{three_byte_layout, three_byte_reads, word_reads};
 
 /// Numbers of four bytes in the bytes 00 to 07. The item at their end is read and refused; one further
 /// on has a bad offset, and one whose offset passes 64 bits overflows.
@@ -26,45 +26,45 @@ pub fn words()
 
 /// The same as a table of records in big order.
 pub fn words_in_big_order()
-    ensures len { len_by word_layout (table_in false ELF32 first_eight) ≡ 2 }
-    ensures second { get_by word_layout (table_in false ELF32 first_eight) 1 ≡ Ok 0x04050607 }
-    ensures at_the_end { get_by word_layout (table_in false ELF32 first_eight) 2
+    ensures len { table_len word_reads (table_in false ELF32 first_eight) ≡ 2 }
+    ensures second { table_get word_reads (table_in false ELF32 first_eight) 1 ≡ Ok 0x04050607 }
+    ensures at_the_end { table_get word_reads (table_in false ELF32 first_eight) 2
         ≡ Err (SliceReadError (8, 12)) }
-    ensures behind { get_by word_layout (table_in false ELF32 first_eight) 3 ≡ Err (BadOffset 3) }
-    ensures all { items_by word_layout (table_in false ELF32 first_eight)
+    ensures behind { table_get word_reads (table_in false ELF32 first_eight) 3 ≡ Err (BadOffset 3) }
+    ensures all { table_items word_reads (table_in false ELF32 first_eight)
         ≡ 0x00010203 ∷ 0x04050607 ∷ [] }
 {}
 
 /// The bytes 00 01 are too few for one number of four bytes: the table is empty, and its first item is
 /// refused as it is read.
 pub fn too_few_bytes()
-    ensures len { len_by word_layout (table_in true ELF32 (0 ∷ 1 ∷ [])) ≡ 0 }
-    ensures first { get_by word_layout (table_in true ELF32 (0 ∷ 1 ∷ [])) 0
+    ensures len { table_len word_reads (table_in true ELF32 (0 ∷ 1 ∷ [])) ≡ 0 }
+    ensures first { table_get word_reads (table_in true ELF32 (0 ∷ 1 ∷ [])) 0
         ≡ Err (SliceReadError (0, 4)) }
-    ensures none { items_by word_layout (table_in true ELF32 (0 ∷ 1 ∷ [])) ≡ [] }
+    ensures none { table_items word_reads (table_in true ELF32 (0 ∷ 1 ∷ [])) ≡ [] }
 {}
 
 /// Of no bytes every index is bad, also one whose offset would pass 64 bits.
 pub fn of_no_bytes()
-    ensures len { len_by word_layout (table_in true ELF64 []) ≡ 0 }
-    ensures first { get_by word_layout (table_in true ELF64 []) 0 ≡ Err (BadOffset 0) }
-    ensures past_64_bits { get_by word_layout (table_in true ELF64 []) (2 ^ 62)
+    ensures len { table_len word_reads (table_in true ELF64 []) ≡ 0 }
+    ensures first { table_get word_reads (table_in true ELF64 []) 0 ≡ Err (BadOffset 0) }
+    ensures past_64_bits { table_get word_reads (table_in true ELF64 []) (2 ^ 62)
         ≡ Err (BadOffset 4611686018427387904) }
-    ensures none { items_by word_layout (table_in true ELF64 []) ≡ [] }
+    ensures none { table_items word_reads (table_in true ELF64 []) ≡ [] }
 {}
 
 /// Records of three bytes, a number of one byte and a number of two, in the bytes 00 to 07: there are
 /// two, and the rest is too short for a third, whose first field fits and whose second does not.
 pub fn three_byte_records()
-    ensures len { len_by three_byte_layout (table_in true ELF32 first_eight) ≡ 2 }
-    ensures first { get_by three_byte_layout (table_in true ELF32 first_eight) 0 ≡ Ok (0x00, 0x0201) }
-    ensures second { get_by three_byte_layout (table_in true ELF32 first_eight) 1
+    ensures len { table_len three_byte_reads (table_in true ELF32 first_eight) ≡ 2 }
+    ensures first { table_get three_byte_reads (table_in true ELF32 first_eight) 0 ≡ Ok (0x00, 0x0201) }
+    ensures second { table_get three_byte_reads (table_in true ELF32 first_eight) 1
         ≡ Ok (0x03, 0x0504) }
-    ensures third { get_by three_byte_layout (table_in true ELF32 first_eight) 2
+    ensures third { table_get three_byte_reads (table_in true ELF32 first_eight) 2
         ≡ Err (SliceReadError (7, 9)) }
-    ensures fourth { get_by three_byte_layout (table_in true ELF32 first_eight) 3
+    ensures fourth { table_get three_byte_reads (table_in true ELF32 first_eight) 3
         ≡ Err (BadOffset 3) }
-    ensures all { items_by three_byte_layout (table_in true ELF32 first_eight)
+    ensures all { table_items three_byte_reads (table_in true ELF32 first_eight)
         ≡ (0x00, 0x0201) ∷ (0x03, 0x0504) ∷ [] }
     ensures none_left { items_from (record_by three_byte_layout true ELF32) 3 2 first_eight 6 ≡ [] }
 {}

@@ -1,9 +1,9 @@
 -- What one call of a run leaves; contracts of private functions speak of it.
-use Rattle.std.specs.Prelude.{◌≡◌, ℕ, ◌≤◌, Bool, List, Option, Result, Ok, Err, IfSome, IsOk, OnOk}
+use Rattle.std.specs.Prelude.{◌≡◌, ℕ, Bool, List, Option, Result, Ok, Err, IfErr, IfSome, IsOk, OnOk}
 use Rattle.std.specs.Io.KnownBytes.{Appends}
 use Rattle.elf.specs.Answers.{dynamic_symbol_table, section_data}
 use Rattle.elf.specs.ObjectFile.{ObjectFile}
-use Rattle.elf.specs.Stream.{IsAnswer, IsRefused, Keeps, Kind, Seen, kind}
+use Rattle.elf.specs.Stream.{AreHeld, IsAnswer, IsRefused, Keeps, Kind, Seen, kind}
 use Rattle.elf_parts.specs.Number.{ok_map}
 use Rattle.elf_parts.specs.Record.{◌>>=◌}
 use Rattle.elf_parts.specs.declared.section.SectionHeader.{SectionHeader}
@@ -13,8 +13,8 @@ use Rattle.elfshow.specs.declared.lines.hashes.Verdict.{Verdict}
 use Rattle.std.specs.Option.{option_map}
 use Rattle.elf_parts.specs.declared.parse.ParseError.{ParseError}
 use Rattle.elfshow.specs.Asked.{Asked}
-use Rattle.elfshow.specs.Run.{IsAtHand, IsFaultless}
-use Rattle.elfshow.specs.StreamAnswers.{stream_answers}
+use Rattle.elfshow.specs.Run.{IsAtHand, IsFaultless, IsLoaded}
+use Rattle.elfshow.specs.StreamAnswers.{IsAnswered, call_ranges, stream_answers}
 use Rattle.elfshow.specs.Text.{call_text}
 use Rattle.elfshow.specs.declared.calls.RunError.{RunError}
 use Rattle.elfshow.specs.declared.calls.RunError.TheVariants.{Fault, Open, Write}
@@ -28,11 +28,12 @@ RanOne line old new can_fail before now (Err (Open e)) = ⊥
 RanOne line old new can_fail before now (Err (Fault done e)) = KeepsBytes old new × IsRefused before now can_fail ⊥ (kind e)
 RanOne line old new can_fail before now (Err (Write done e)) = now ≡ before
 
--- the same file, the text of the call, and no fault where it is answered at hand
+-- the same file, the text of the call, no fault where it is answered at hand, and at Ok its ranges where it is answered
 pub record RanCall {E : Type 0} (little : E → Bool) (call : Asked) (old new : Seen E) (before after : Option (List ℕ)) (r : Result (Unit {0}) RunError) : Type 0 where
   pub keeps : Keeps old new
   pub ran : IfSome old.content (λ bytes. RanOne (call_text (stream_answers little old bytes) call) before after old.can_fail old.faults new.faults r)
   pub no_fault : IfSome old.content (λ bytes. IsAtHand little old bytes call → IsFaultless r)
+  pub loaded : OnOk r (IfSome old.content (λ bytes. IsLoaded little new bytes call))
 
 -- of a call that was tried: its text was written; or the stream refuses it, and then nothing was written, and where
 -- the content has no answer that text is the line `refused`
@@ -40,17 +41,26 @@ abbrev pub TriedOne : {X : Type 0} → List ℕ → Option (List ℕ) → Option
 TriedOne line old new can_fail before now (Ok written) = (now ≡ before) × OnOk written (Appends old new line)
 TriedOne line old new can_fail before now (Err e) = (new ≡ old) × IsRefused before now can_fail (line ≡ refused_line) (kind e)
 
--- the same file, the text of the call or a refusal, and no refusal where it is answered at hand
+-- the same file, the text of the call or a refusal, and no refusal where it is answered at hand; its ranges are held
+-- where it is not refused, and the content is not refused where it has an answer
 pub record TriedCall {E X : Type 0} (little : E → Bool) (call : Asked) (old new : Seen E) (before after : Option (List ℕ)) (r : Result (Result (Unit {0}) X) ParseError) : Type 0 where
   pub keeps : Keeps old new
   pub tried : IfSome old.content (λ bytes. TriedOne (call_text (stream_answers little old bytes) call) before after old.can_fail old.faults new.faults r)
   pub accepted : IfSome old.content (λ bytes. IsAtHand little old bytes call → IsOk r)
+  pub loaded : OnOk r (AreHeld new (call_ranges little old call))
+  pub answered : IfErr r (λ e. IfSome old.content (λ bytes. kind e ≡ Kind.Refusal → IsAnswered (stream_answers little old bytes) call → ⊥))
 
 -- what was written, as a run tells it
 abbrev pub IsWritten : {A E : Type 0} → Result A E → Result (Unit {0}) RunError → Type 0
 IsWritten (Ok _) (Ok _) = Unit {0}
 IsWritten (Err _) (Err (Write done e)) = done ≡ 0
 IsWritten _ _ = ⊥
+
+-- no writer failed
+abbrev pub IsUnfailing : RunError → Type 0
+IsUnfailing (Open e) = Unit {0}
+IsUnfailing (Fault done e) = Unit {0}
+IsUnfailing (Write done e) = ⊥
 
 -- a refusal of this kind is a fault
 abbrev pub IsFaultOf : Kind → Result (Unit {0}) RunError → Type 0
@@ -71,9 +81,10 @@ LeadsTo Kind.Refusal old new r = IsToldRefused old new r
 
 -- ---- calls that ask a stream more than once
 
--- the same file, and the answer that the content gives, or a refusal
-pub record Gives {E T Y : Type 0} (shown : T → Y) (answer : List ℕ → Result Y ParseError) (old new : Seen E) (r : Result T ParseError) : Type 0 where
+-- the same file, and the answer that the content gives, for which the asked ranges are held, or a refusal
+pub record Gives {E T Y : Type 0} (asked : List (ℕ × ℕ)) (shown : T → Y) (answer : List ℕ → Result Y ParseError) (old new : Seen E) (r : Result T ParseError) : Type 0 where
   pub keeps : Keeps old new
+  pub loaded : OnOk r (AreHeld new asked)
   pub answers : IfSome old.content (λ bytes. IsAnswer shown (answer bytes) old.can_fail old.faults new.faults r)
 
 -- the bytes of a section

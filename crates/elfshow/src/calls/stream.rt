@@ -1,14 +1,15 @@
 //! The text of a call, as an `ElfStream` answers it.
 ghost use Rattle.std.specs.Prelude.{◌≡◌, ℕ, OnOk, IfSome, slice_get};
 ghost use Rattle.std.specs.Io.KnownBytes.{Appends};
-ghost use Rattle.elf.specs.Asked.{headers_alone, symbols_asked};
+ghost use Rattle.elf_abi.specs.Values.{sht_dynsym};
+ghost use Rattle.elf.specs.Asked.{headers_alone, section_asked, symbols_asked};
 ghost use Rattle.elf.specs.Listed.{stream_file};
 ghost use Rattle.elf.specs.Stream.{Leaves, kind};
 ghost use Rattle.elf_parts.specs.GnuFind.{gnu_section};
 ghost use Rattle.elf_parts.specs.SysvFind.{sysv_section};
 ghost use Rattle.elf_parts.specs.Number.{ok_map};
 ghost use Rattle.elfshow.specs.Asked.{Asked, asked};
-ghost use Rattle.elfshow.specs.StreamAnswers.{stream_answers};
+ghost use Rattle.elfshow.specs.StreamAnswers.{checked_asked, stream_answers};
 ghost use Rattle.elfshow.specs.Text.{symbol_count};
 ghost use Rattle.elfshow.specs.Verdicts.{gnu_verdict, sysv_verdict};
 ghost use Rattle.elfshow.specs.inner.RunSteps.{Gives, IsWritten, LeadsTo, RanCall, TriedCall, checked_apart, section_bytes};
@@ -327,7 +328,7 @@ fn write_dynamic<E: EndianParse, S: StreamSource, A: Allocator + Copy, W: Write>
 fn dynamic_symbol_count<E: EndianParse, S: StreamSource, A: Allocator + Copy>(
     stream: &mut ElfStream<E, S, A>,
 ) -> Result<usize, ParseError>
-    ensures { Leaves (symbols_asked 11 (headers_alone E.little stream.old)) (λ count. count)
+    ensures { Leaves (symbols_asked sht_dynsym (headers_alone E.little stream.old)) (λ count. count)
         (λ bytes. ok_map symbol_count (stream_answers E.little stream.old bytes).dynamic_symbols) stream.old stream.new result }
 {
     match stream.dynamic_symbol_table() {
@@ -362,8 +363,8 @@ fn section_copy<E: EndianParse, S: StreamSource, A: Allocator + Copy>(
     stream: &mut ElfStream<E, S, A>,
     section: &SectionHeader,
 ) -> Result<Vec<u8, A>, ParseError>
-    ensures { Gives (λ copy. copy.items) (λ bytes. section_bytes (stream_file E.little stream.old bytes) section.now)
-        stream.old stream.new result }
+    ensures { Gives (section_asked section.now) (λ copy. copy.items)
+        (λ bytes. section_bytes (stream_file E.little stream.old bytes) section.now) stream.old stream.new result }
 {
     let alloc = *stream.section_headers().allocator();
     match stream.section_data(section) {
@@ -381,7 +382,8 @@ fn section_sysv_verdict<E: EndianParse, S: StreamSource, A: Allocator + Copy>(
     stream: &mut ElfStream<E, S, A>,
     section: &SectionHeader,
 ) -> Result<Option<Result<Verdict, ParseError>>, ParseError>
-    ensures { Gives (λ verdict. verdict) (λ bytes. checked_apart sysv_verdict
+    ensures { Gives (checked_asked (headers_alone E.little stream.old) section.now) (λ verdict. verdict)
+        (λ bytes. checked_apart sysv_verdict
         (sysv_section (E.little stream.old.ehdr.endianness) stream.old.ehdr.class) (stream_file E.little stream.old bytes) section.now)
         stream.old stream.new result }
 {
@@ -422,7 +424,8 @@ fn section_gnu_verdict<E: EndianParse, S: StreamSource, A: Allocator + Copy>(
     stream: &mut ElfStream<E, S, A>,
     section: &SectionHeader,
 ) -> Result<Option<Result<Verdict, ParseError>>, ParseError>
-    ensures { Gives (λ verdict. verdict) (λ bytes. checked_apart gnu_verdict
+    ensures { Gives (checked_asked (headers_alone E.little stream.old) section.now) (λ verdict. verdict)
+        (λ bytes. checked_apart gnu_verdict
         (gnu_section (E.little stream.old.ehdr.endianness) stream.old.ehdr.class) (stream_file E.little stream.old bytes) section.now)
         stream.old stream.new result }
 {

@@ -1,5 +1,5 @@
 //! Lists: a line for each item, and a last line with their number.
-ghost use Rattle.std.specs.Prelude.{◌≡◌, ◌-◌, ◌^◌, ℕ, List, OnOk, length, ◌<◌};
+ghost use Rattle.std.specs.Prelude.{◌-◌, ◌^◌, ℕ, List, OnOk, length, ◌<◌};
 ghost use Rattle.std.specs.Iterator.{Drains, UpTo};
 ghost use Rattle.std.specs.Io.KnownBytes.{Appends};
 ghost use Rattle.elf_parts.specs.Table.{items_left};
@@ -72,9 +72,9 @@ pub(crate) fn write_records<E: EndianParse, L: Line, W: Write>(
 ) -> io::Result<()>
 where
     L::Item: ParseAt + Drop,
-    requires { length (items_left L.Item.size L.Item.record_at records) < 2 ^ 64 }
+    requires { length (items_left L.Item.reads records) < 2 ^ 64 }
     ensures { OnOk result (Appends (W.contents out.old) (W.contents out.new)
-        (listed (L.line line.now) (items_left L.Item.size L.Item.record_at records.entry))) }
+        (listed (L.line line.now) (items_left L.Item.reads records.entry))) }
 {
     write_list(records, line, out)
 }

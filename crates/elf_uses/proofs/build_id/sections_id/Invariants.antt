@@ -1,6 +1,5 @@
 use Rattle.std.proofs.Common.{◌≡◌, map}
-use Rattle.elf_parts.specs.Record.{record_by, size_by}
-use Rattle.elf_parts.specs.Section.{section_header_layout}
+use Rattle.elf_parts.specs.Section.{section_header_reads}
 use Rattle.elf_parts.specs.SysvFind.{first_decided}
 use Rattle.elf_parts.specs.Table.{items_left}
 use Rattle.elf.specs.ObjectFile.{object_file}
@@ -12,6 +11,6 @@ use Rattle.elf_uses.proofs.build_id.sections_id.Given as goal
 abbrev pub invariant-loop-section : goal.invariant-loop-section
 invariant-loop-section g l =
     let file = object_file g.E.EndianParse.little (view l.file) in
-    let left = items_left (size_by section_header_layout) (record_by section_header_layout) l.section-iterator in
+    let left = items_left section_header_reads l.section-iterator in
     (goal.iterator-loop-section g).can_next l.section-iterator × (goal.iterator-loop-section g).is_finite l.section-iterator ×
     (first_decided (map (section_id file) left) ≡ sections_id file)

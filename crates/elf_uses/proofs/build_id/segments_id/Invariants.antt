@@ -1,6 +1,5 @@
 use Rattle.std.proofs.Common.{◌≡◌, map}
-use Rattle.elf_parts.specs.Record.{record_by, size_by}
-use Rattle.elf_parts.specs.Segment.{program_header_layout}
+use Rattle.elf_parts.specs.Segment.{program_header_reads}
 use Rattle.elf_parts.specs.SysvFind.{first_decided}
 use Rattle.elf_parts.specs.Table.{items_left}
 use Rattle.elf.specs.ObjectFile.{object_file}
@@ -12,6 +11,6 @@ use Rattle.elf_uses.proofs.build_id.segments_id.Given as goal
 abbrev pub invariant-loop-segment : goal.invariant-loop-segment
 invariant-loop-segment g l =
     let file = object_file g.E.EndianParse.little (view l.file) in
-    let left = items_left (size_by program_header_layout) (record_by program_header_layout) l.segment-iterator in
+    let left = items_left program_header_reads l.segment-iterator in
     (goal.iterator-loop-segment g).can_next l.segment-iterator × (goal.iterator-loop-segment g).is_finite l.segment-iterator ×
     (first_decided (map (segment_id file) left) ≡ segments_id file)

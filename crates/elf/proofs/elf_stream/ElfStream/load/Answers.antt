@@ -1,4 +1,4 @@
-use Rattle.std.proofs.Common.{rules, ◌∙◌, ap, arith, length, ◌≡◌, ◌<◌, ◌+◌, ◌-◌, refl}
+use Rattle.std.proofs.Common.{rules, arith, length, ◌≡◌, ◌<◌, ◌+◌, ◌-◌, refl}
 use Rattle.std.specs.Prelude.{◌^◌}
 use Rattle.elf.proofs.stream.Loads.{refused_past_64, refused_past, load_answered, needed_there, refused_for}
 use Rattle.elf.proofs.stream.Kept.{sound_put, held_put, loaded_put}

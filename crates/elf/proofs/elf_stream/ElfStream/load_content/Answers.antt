@@ -1,4 +1,4 @@
-use Rattle.std.proofs.Common.{rules, arith, ◌≡◌, ◌==◌, true}
+use Rattle.std.proofs.Common.{rules, ◌≡◌, ◌==◌, true}
 use Rattle.elf.specs.Asked.{section_asked}
 use Rattle.elf.specs.Listed.{stream_file}
 use Rattle.elf.specs.Payload.{content_of_type}

@@ -1,9 +1,10 @@
 use Rattle.std.proofs.Common.{rules, ℕ, List, Option}
-use Rattle.elf_parts.specs.Number.{ok_map}
+use Rattle.std.specs.Option.{option_map}
+use Rattle.elf_parts.specs.Section.{section_header_reads}
+use Rattle.elf_parts.specs.Segment.{program_header_reads}
 use Rattle.elf.specs.Opening.{header_at_front, section_table, segment_table}
-use Rattle.elf.specs.View.{segment_list}
-use Rattle.elf.specs.inner.HeaderSteps.{declared_sections}
-use Rattle.elf.proofs.stream.Opened.{tables, value_of}
+use Rattle.elf.specs.inner.HeaderSteps.{range_records, range_table}
+use Rattle.elf.proofs.stream.Opened.{all_found, ok_of, tables, value_of}
 use Rattle.elf.proofs.elf_stream.ElfStream.open_stream.Goals as goal
 
 pub invariant_of-result : goal.invariant_of-result
@@ -11,13 +12,19 @@ invariant_of-result g c =
     let told : Option (List ℕ) = g.S.StreamSource.content c.seek_end.new.self in
     let little = g.E.EndianParse.little in
     let of_byte = g.E.EndianParse.of_byte in
-    let header = value_of told (header_at_front little of_byte) c.in_ok-ehdr.ehdr _ _ c.in_ok-ehdr.ensures.answer in
-    let first = value_of told (λ bytes. ok_map declared_sections (section_table little c.in_ok-ehdr.ehdr bytes)) (c.in_ok-declares_sections.declares_sections, c.in_ok-declares_sections.shdrs.items) _ _
-    (rw c.in_ok-ehdr.ensures.content at c.in_ok-declares_sections.ensures.answer) in
-    let second = value_of told (λ bytes. ok_map segment_list (segment_table little c.in_ok-ehdr.ehdr bytes)) c.in_ok-phdrs.phdrs.items _ _
-    (rw (c.in_ok-declares_sections.ensures.content, c.in_ok-ehdr.ensures.content) at c.in_ok-phdrs.ensures.answer) in
+    let h = c.in_ok-ehdr.ehdr in
+    let places = c.in_ok-sections.sections in
+    let parts = c.in_ok-segments.segments in
+    let header = value_of told (header_at_front little of_byte) (λ _. h) _ _ c.in_ok-ehdr.ensures.answer in
+    let first = value_of told (section_table little h) (λ bytes. option_map (range_table little h bytes) places) _ _ (rw c.in_ok-ehdr.ensures.content at c.in_ok-sections.ensures.answer) in
+    let second = value_of told (segment_table little h) (λ bytes. option_map (range_table little h bytes) parts) _ _
+    (rw (c.in_ok-sections.ensures.content, c.in_ok-ehdr.ensures.content) at c.in_ok-segments.ensures.answer) in
+    let sections = value_of told (λ bytes. ok_of (range_records section_header_reads (option_map (range_table little h bytes) places))) (λ _. c.in_ok-shdrs.shdrs.items) _ _
+    (rw (c.in_ok-segments.ensures.content, c.in_ok-sections.ensures.content, c.in_ok-ehdr.ensures.content) at c.in_ok-shdrs.ensures.answer) in
+    let segments = value_of told (λ bytes. ok_of (range_records program_header_reads (option_map (range_table little h bytes) parts))) (λ _. c.in_ok-phdrs.phdrs.items) _ _
+    (rw (c.in_ok-shdrs.ensures.content, c.in_ok-segments.ensures.content, c.in_ok-sections.ensures.content, c.in_ok-ehdr.ensures.content) at c.in_ok-phdrs.ensures.answer) in
     record {
       sound = search rules;
-      tables = rw (c.in_ok-phdrs.ensures.content, c.in_ok-declares_sections.ensures.content, c.in_ok-ehdr.ensures.content)
-          (tables little of_byte told c.in_ok-ehdr.ehdr c.in_ok-declares_sections.declares_sections c.in_ok-declares_sections.shdrs.items c.in_ok-phdrs.phdrs.items header first second);
+      tables = rw (c.in_ok-phdrs.ensures.content, c.in_ok-shdrs.ensures.content, c.in_ok-segments.ensures.content, c.in_ok-sections.ensures.content, c.in_ok-ehdr.ensures.content)
+          (rw c.is_some.ensures (tables little of_byte told h places parts c.in_ok-shdrs.shdrs.items c.in_ok-phdrs.phdrs.items (all_found little of_byte told h places parts header first second) sections segments));
     }

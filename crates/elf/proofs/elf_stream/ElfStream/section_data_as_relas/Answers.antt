@@ -1,6 +1,6 @@
 use Rattle.std.proofs.lemmas.Result.{err_from_is_err_and}
 use Rattle.std.proofs.Common.{refl}
-use Rattle.elf_parts.specs.Relocation.{rela_layout}
+use Rattle.elf_parts.specs.Relocation.{rela_reads}
 use Rattle.elf.specs.Answers.{relas_left, section_data_as_relas}
 use Rattle.elf.specs.Asked.{typed_section_asked}
 use Rattle.elf.specs.Listed.{stream_file}
@@ -17,7 +17,7 @@ returns-in_err-load_content g c =
         refl,
         (λ _. tt),
         leaves_refused_for c.args.self.now c.load_content.new.self (typed_section_asked 4 c.args.shdr.now) relas_left (λ bytes. content_of_type 4 (file bytes) c.args.shdr.now) (λ bytes. section_data_as_relas (file bytes) c.args.shdr.now) p.0 _ p.1
-            (λ bytes. ok_of_map (records_of rela_layout (file bytes)) (content_of_type 4 (file bytes) c.args.shdr.now)) (rw p.2 c.in_err-load_content.ensures.loads),
+            (λ bytes. ok_of_map (records_of rela_reads (file bytes)) (content_of_type 4 (file bytes) c.args.shdr.now)) (rw p.2 c.in_err-load_content.ensures.loads),
       ),
       record { leaves = tt; few = rw p.1 tt; bound = rw p.1 tt },
     )

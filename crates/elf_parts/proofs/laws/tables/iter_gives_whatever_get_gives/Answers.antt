@@ -4,7 +4,7 @@ use Rattle.elf_parts.proofs.laws.tables.iter_gives_whatever_get_gives.Goals as g
 
 pub returns : goal.returns
 returns g c =
-    let p = g.P.ParseAt in
+    let p = g.P.ParseAt.reads in
     let table = c.args.table.now in
-    let law = lies p.size p.record_at p.offset_after g.met.P.ParseAt.some_size g.met.P.ParseAt.within table.little table.class in
+    let law = lies p table.little table.class in
     slice_get-plain (p.record_at table.little table.class) (p.size table.class) table.«data».now c.args.index law (g.met.P.PlainRecord.wherever table.little table.class table.«data».now) c.len.ensures.short

@@ -8,14 +8,12 @@ use Rattle.elf_parts.proofs.laws.versions.linked_records_are_the_longest_list.Go
 pub returns-clause-longest : goal.returns-clause-longest
 unfolding links_in
 returns-clause-longest g c =
-    longest (g.R.ParseAt.record_at (g.E.EndianParse.little c.args.endian) c.args.class c.args.«data».now)
+    longest (g.R.ParseAt.reads.record_at (g.E.EndianParse.little c.args.endian) c.args.class c.args.«data».now)
     (λ o x. next_start o (g.R.Linked.next_distance x)) c.args.count c.args.start
 
 pub returns-clause-few : goal.returns-clause-few
 returns-clause-few g c =
-    let p = g.R.ParseAt in
     let t = table_in (g.E.EndianParse.little c.args.endian) c.args.class c.args.«data».now in
     let few =
-    links_few p.record_at g.R.Linked.next_distance p.size p.offset_after g.met.R.ParseAt.some_size
-    g.met.R.ParseAt.within t c.args.count c.args.start in
+    links_few g.R.ParseAt.reads g.R.Linked.next_distance t c.args.count c.args.start in
     omega (arith, few)

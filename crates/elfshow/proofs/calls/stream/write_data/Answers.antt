@@ -10,4 +10,4 @@ use Rattle.elfshow.proofs.calls.stream.write_data.Goals as goal
 pub returns-in-Err : goal.returns-in-Err
 returns-in-Err g c =
     section_refused g.E.EndianParse.little (Data c.args.index) c.args.stream.now c.section_data.follows.lender-at-none payload_view (λ found. section_data_line found.0 found.1) section_asked c.args.index c.in-Some.section section_data c.section_data.result c.in-Err.error _
-    (λ bytes. refl) (λ bytes ready. (ready.1, ready.2)) (sym c.section_header.ensures ∙ c.in-Some.is) c.section_data.follows.holds-at-none c.in-Err.is
+    (λ bytes. refl) (λ held. held) (λ bytes ready. ready) (sym c.section_header.ensures ∙ c.in-Some.is) c.section_data.follows.holds-at-none c.in-Err.is

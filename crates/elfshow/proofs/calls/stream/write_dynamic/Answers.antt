@@ -19,5 +19,6 @@ returns-in-Err g c =
     let file = stream_file little old in
     call_refused little Dynamic old c.dynamic.follows.lender-at-none (dynamic_asked (headers_alone little old)) (option_map table_view) (λ bytes. dynamic (file bytes)) c.dynamic.result c.in-Err.error _
     (λ bytes refused. refused_text (unless_none (listed dyn_line)) (ok_map (option_map dynamic_entries) (dynamic (file bytes))) (outer_refused (option_map dynamic_entries) (dynamic (file bytes)) refused))
-    (λ bytes ready. (ready.1, inner_ok (option_map dynamic_entries) (dynamic (file bytes)) ready.2))
+    (λ held. held)
+    (λ bytes ready. inner_ok (option_map dynamic_entries) (dynamic (file bytes)) ready)
     c.dynamic.follows.holds-at-none c.in-Err.is

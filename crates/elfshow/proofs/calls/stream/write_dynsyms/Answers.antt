@@ -16,5 +16,6 @@ returns-in-Err g c =
     let file = stream_file little old in
     call_refused little DynSyms old c.dynamic_symbol_table.follows.lender-at-none (symbols_asked 11 (headers_alone little old)) (option_map symbols_view) (λ bytes. dynamic_symbol_table (file bytes)) c.dynamic_symbol_table.result c.in-Err.error _
     (λ bytes refused. refused_text (unless_none symbols_text) (ok_map (option_map symbols_with_names) (dynamic_symbol_table (file bytes))) (outer_refused (option_map symbols_with_names) (dynamic_symbol_table (file bytes)) refused))
-    (λ bytes ready. (ready.1, inner_ok (option_map symbols_with_names) (dynamic_symbol_table (file bytes)) ready.2))
+    (λ held. held)
+    (λ bytes ready. inner_ok (option_map symbols_with_names) (dynamic_symbol_table (file bytes)) ready)
     c.dynamic_symbol_table.follows.holds-at-none c.in-Err.is

@@ -15,5 +15,6 @@ returns-in-Err g c =
     let file = stream_file little old in
     call_refused little (Name c.args.name.now) old c.section_header_by_name.follows.lender-at-none (names_asked (headers_alone little old)) option_copied (λ bytes. section_header_by_name (file bytes) c.args.name.now) c.section_header_by_name.result c.in-Err.error _
     (λ bytes refused. refused_text (unless_none found_line) (section_header_by_name (file bytes) c.args.name.now) refused)
-    (λ bytes ready. (ready.1, ready.2))
+    (λ held. held)
+    (λ bytes ready. ready)
     c.section_header_by_name.follows.holds-at-none c.in-Err.is

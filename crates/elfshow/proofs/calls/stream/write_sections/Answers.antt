@@ -15,5 +15,6 @@ returns-in-Err g c =
     let file = stream_file little old in
     call_refused little Sections old c.section_headers_with_strtab.follows.lender-at-none (names_asked (headers_alone little old)) listed_view (λ bytes. headers_with_names (file bytes)) c.section_headers_with_strtab.result c.in-Err.error _
     (λ bytes refused. refused_text (λ names. listed (section_line names) old.sections) (name_table (file bytes)) (inner_refused (λ names. (old.sections, names)) (name_table (file bytes)) refused))
-    (λ bytes ready. (ready.1, outer_ok (λ names. (old.sections, names)) (name_table (file bytes)) ready.2))
+    (λ held. held)
+    (λ bytes ready. outer_ok (λ names. (old.sections, names)) (name_table (file bytes)) ready)
     c.section_headers_with_strtab.follows.holds-at-none c.in-Err.is

@@ -9,4 +9,4 @@ use Rattle.elfshow.proofs.calls.stream.write_seg.Goals as goal
 pub returns-in-Err : goal.returns-in-Err
 returns-in-Err g c =
     segment_refused g.E.EndianParse.little (Seg c.args.index) c.args.stream.now c.segment_data.follows.lender-at-none (λ part. part.now) segment_data_line segment_asked c.args.index c.in-Some.segment segment_data c.segment_data.result c.in-Err.error _
-    (λ bytes. refl) (λ bytes ready. (ready.1, ready.2)) (sym c.program_header.ensures ∙ c.in-Some.is) c.segment_data.follows.holds-at-none c.in-Err.is
+    (λ bytes. refl) (λ held. held) (λ bytes ready. ready) (sym c.program_header.ensures ∙ c.in-Some.is) c.segment_data.follows.holds-at-none c.in-Err.is

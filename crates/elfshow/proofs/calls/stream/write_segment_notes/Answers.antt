@@ -11,4 +11,4 @@ use Rattle.elfshow.proofs.calls.stream.write_segment_notes.Goals as goal
 pub returns-in-Err : goal.returns-in-Err
 returns-in-Err g c =
     segment_refused g.E.EndianParse.little (SegNotes c.args.index) c.args.stream.now c.segment_data_as_notes.follows.lender-at-none notes_left (listed note_line) segment_notes_asked c.args.index c.in-Some.segment segment_data_as_notes c.segment_data_as_notes.result c.in-Err.error _
-    (λ bytes. refl) (λ bytes ready. (ready.1, ready.2)) (sym c.program_header.ensures ∙ c.in-Some.is) c.segment_data_as_notes.follows.holds-at-none c.in-Err.is
+    (λ bytes. refl) (λ held. held) (λ bytes ready. ready) (sym c.program_header.ensures ∙ c.in-Some.is) c.segment_data_as_notes.follows.holds-at-none c.in-Err.is

@@ -6,6 +6,5 @@ use Rattle.elfshow.proofs.lines.listed.write_records.Goals as goal
 
 pub returns : goal.returns
 returns g c =
-    let item = g.L.Item.ParseAt in
     let written = Appends (g.W.Write.contents c.args.out.now) (g.W.Write.contents c.write_list.new.out) in
-    given (items_left item.size item.record_at) c.args.records (λ shown. written (listed (g.L.Line.line c.args.line.now) shown)) c.write_list.result c.write_list.ensures
+    given (items_left g.L.Item.ParseAt.reads) c.args.records (λ shown. written (listed (g.L.Line.line c.args.line.now) shown)) c.write_list.result c.write_list.ensures

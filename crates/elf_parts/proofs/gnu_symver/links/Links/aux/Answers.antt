@@ -7,8 +7,7 @@ use Rattle.elf_parts.proofs.gnu_symver.links.Links.aux.Goals as goal
 pub returns : goal.returns
 returns g c =
     let s = c.args.self.now in
-    let p = g.A.ParseAt in
     let clipped : c.min-offset.result ≡ min (c.args.start + c.args.distance) (length s.«data».now) = omega arith in
     c.new.ensures.items
-    ∙ links_clipped p.record_at g.A.Linked.next_distance p.size p.offset_after g.met.A.ParseAt.some_size
-    g.met.A.ParseAt.within (links_view s) c.args.count (c.args.start + c.args.distance) c.min-offset.result clipped
+    ∙ links_clipped g.A.ParseAt.reads g.A.Linked.next_distance (links_view s) c.args.count (c.args.start + c.args.distance)
+    c.min-offset.result clipped

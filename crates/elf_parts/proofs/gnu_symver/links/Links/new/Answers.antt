@@ -6,8 +6,7 @@ use Rattle.elf_parts.proofs.gnu_symver.links.Links.new.Goals as goal
 
 pub returns-clause-few : goal.returns-clause-few
 returns-clause-few g c =
-    let p = g.R.ParseAt in
     let few =
-    links_few p.record_at g.R.Linked.next_distance p.size p.offset_after g.met.R.ParseAt.some_size
-    g.met.R.ParseAt.within (table_in c.args.little c.args.class c.args.«data».now) c.args.count c.args.offset in
+    links_few g.R.ParseAt.reads g.R.Linked.next_distance (table_in c.args.little c.args.class c.args.«data».now)
+    c.args.count c.args.offset in
     omega (arith, few)

@@ -7,7 +7,7 @@ use Rattle.elf_parts.proofs.gnu_symver.links.LinksIterator.next.Goals as goal
 pub returns-then-self-eq0-clause-steps : goal.returns-then-self-eq0-clause-steps
 returns-then-self-eq0-clause-steps g c =
     let s = c.args.self.now in
-    let gives = g.R.ParseAt.record_at in
+    let gives = g.R.ParseAt.reads.record_at in
     let next = g.R.Linked.next_distance in
     let zero : s.count ≡ 0 = omega arith in
     let none =
@@ -18,7 +18,7 @@ returns-then-self-eq0-clause-steps g c =
 pub returns-in-Ok-clause-steps : goal.returns-in-Ok-clause-steps
 returns-in-Ok-clause-steps g c =
     let s = c.args.self.now in
-    let gives = g.R.ParseAt.record_at in
+    let gives = g.R.ParseAt.reads.record_at in
     let next = g.R.Linked.next_distance in
     let x = c.in-Ok.record in
     let t = links_view s in
@@ -39,7 +39,7 @@ returns-in-Ok-clause-goes g c =
 pub returns-in-Err-clause-steps : goal.returns-in-Err-clause-steps
 returns-in-Err-clause-steps g c =
     let s = c.args.self.now in
-    let gives = g.R.ParseAt.record_at in
+    let gives = g.R.ParseAt.reads.record_at in
     let next = g.R.Linked.next_distance in (
       (
         links_refused gives next (links_view s) s.count s.offset c.in-Err.field-0 (sym c.in-Err.ensures.value),

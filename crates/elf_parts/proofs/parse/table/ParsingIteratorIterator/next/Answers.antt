@@ -8,9 +8,8 @@ pub returns-in-Ok-clause-steps : goal.returns-in-Ok-clause-steps
 unfolding items_left
 returns-in-Ok-clause-steps g c =
     let s = c.args.self.now in
-    let p = g.P.ParseAt in
-    step_read p.size p.record_at p.offset_after g.met.P.ParseAt.some_size g.met.P.ParseAt.within
-    s.little s.class s.«data».now s.offset c.read_record.new.offset c.in-Ok.record c.in-Ok.ensures.value c.in-Ok.ensures.moved
+    step_read g.P.ParseAt.reads s.little s.class s.«data».now s.offset c.read_record.new.offset c.in-Ok.record
+    c.in-Ok.ensures.value c.in-Ok.ensures.moved
 
 pub returns-in-Ok-clause-goes : goal.returns-in-Ok-clause-goes
 returns-in-Ok-clause-goes g c =
@@ -21,8 +20,8 @@ pub returns-in-Err-clause-steps : goal.returns-in-Err-clause-steps
 unfolding items_left
 returns-in-Err-clause-steps g c =
     let s = c.args.self.now in
-    let p = g.P.ParseAt in
+    let p = g.P.ParseAt.reads in
     let little = s.little in (
       items_from-refused (p.record_at little s.class) (p.size s.class) s.«data».now _ s.offset c.in-Err.field-0 (sym c.in-Err.ensures.value),
-      none_left p.size p.record_at p.offset_after g.met.P.ParseAt.some_size g.met.P.ParseAt.within little s.class c.read_record.new.offset,
+      none_left p little s.class c.read_record.new.offset,
     )

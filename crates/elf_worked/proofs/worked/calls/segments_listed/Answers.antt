@@ -1,0 +1,12 @@
+use Rattle.std.proofs.Common.{refl}
+use Rattle.elf.specs.Opening.{header_at_front, section_table, segment_table}
+use Rattle.elf_parts.specs.File.{ident_of}
+use Rattle.elf_parts.specs.Number.{bytes_at, number_at}
+use Rattle.elf_parts.specs.Record.{numbers_at}
+use Rattle.elfshow.specs.lines.Segments.{segment_places, segment_sizes}
+use Rattle.std.specs.Fmt.{digits}
+use Rattle.elf_worked.proofs.worked.calls.segments_listed.Goals as goal
+
+pub returns : goal.returns
+unfolding bytes_at ident_of numbers_at number_at header_at_front section_table segment_table segment_places segment_sizes digits
+returns c = refl
