@@ -5,3 +5,9 @@ pub mod HashesOfA
 pub mod Resolved
 pub mod WrittenFiles
 pub mod FilesWritten
+pub mod PutIn
+pub mod Grouped
+pub mod BuiltSound
+pub mod BuiltKnown
+pub mod BuiltBytes
+pub mod BuiltGnuBytes

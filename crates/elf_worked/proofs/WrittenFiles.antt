@@ -37,7 +37,7 @@ use Rattle.elf_worked.specs.WrittenFiles.{IsWritten, LieAt, NamesLie, SectionsLi
 four_steps : {A B C D X : Type 0} (a : Result A X) (b : A → Result B X) (c : B → Result C X) (d : B → C → Result D X) (p : A) (q : B) (r : C) (s : D) → a ≡ Ok p → b p ≡ Ok q → c q ≡ Ok r → d q r ≡ Ok s → (a >>= λ x. b x >>= λ y. c y >>= λ z. d y z) ≡ Ok s
 four_steps a b c d p q r s e f g h = rw (e, f, g, h) refl
 
-three_steps : {A B D X : Type 0} (a : Result A X) (b c : A → Result B X) (make : A → B → B → D) (p : A) (q r : B) → a ≡ Ok p → b p ≡ Ok q → c p ≡ Ok r → (a >>= λ x. b x >>= λ y. c x >>= λ z. Ok (make x y z)) ≡ Ok (make p q r)
+pub three_steps : {A B D X : Type 0} (a : Result A X) (b c : A → Result B X) (make : A → B → B → D) (p : A) (q r : B) → a ≡ Ok p → b p ≡ Ok q → c p ≡ Ok r → (a >>= λ x. b x >>= λ y. c x >>= λ z. Ok (make x y z)) ≡ Ok (make p q r)
 three_steps a b c make p q r e f g = rw (e, f, g) refl
 
 -- a table that is declared
@@ -56,7 +56,7 @@ counted_here false found field n count told = let same : n ≡ count = cc told i
 
 -- ---- bytes that lie in others
 
-bytes_lie : (part bytes : List ℕ) (o w : ℕ) → length bytes < 2 ^ 64 → length part ≡ w → LieAt part bytes o → bytes_at w bytes o ≡ Ok part
+pub bytes_lie : (part bytes : List ℕ) (o w : ℕ) → length bytes < 2 ^ 64 → length part ≡ w → LieAt part bytes o → bytes_at w bytes o ≡ Ok part
 bytes_lie part bytes o w small long lies =
     let whole : length bytes ≡ length (lies.before ++ (part ++ lies.behind)) = ap length lies.is in
     let front = length-append lies.before (part ++ lies.behind) in
@@ -73,7 +73,7 @@ part_small part bytes o small lies =
     omega (arith, small, whole, length-append lies.before (part ++ lies.behind), length-append part lies.behind)
 
 module _ {A : Type 0} (layout : Layout A) (struct : Class → A → List Member) (is : IsStruct layout struct) where
-  length-table : (little : Bool) (class : Class) (xs : List A) → length (table_of little (struct class) xs) ≡ size_by layout class * length xs
+  pub length-table : (little : Bool) (class : Class) (xs : List A) → length (table_of little (struct class) xs) ≡ size_by layout class * length xs
   length-table little class [] = omega arith
   length-table little class (x ∷ xs) =
       let here = is.1 little class x in

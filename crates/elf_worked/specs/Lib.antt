@@ -1,3 +1,6 @@
+pub mod Built
+pub mod BuiltBytes
+pub mod BuiltSections
 pub mod EvenBytes
 pub mod FileOrders
 pub mod Files

@@ -1,6 +1,7 @@
 //! The theorems that evaluate the definitions on small files, and what a user's crate may do with the parts.
 #![tactic(auto)]
 
+pub mod built;
 pub mod callers;
 pub mod even_byte;
 pub mod example;

@@ -1,5 +1,5 @@
 -- All symbols of a name that a checked table indexes, in the order in which a look-up meets them.
-use Rattle.std.specs.Prelude.{◌≡◌, ◌≢◌, ◌↔◌, ℕ, zero, suc, ◌+◌, ◌-◌, ◌%◌, ◌<◌, Bool, if◌then◌else◌, ◌==◌, List, [], ◌∷◌, Option, Some, None}
+use Rattle.std.specs.Prelude.{◌≡◌, ◌≢◌, ◌↔◌, ℕ, zero, suc, ◌+◌, ◌-◌, ◌%◌, ◌<◌, if◌then◌else◌, ◌==◌, List, [], ◌∷◌, Option, Some, None}
 use Rattle.std.specs.List.{AllPairs, Contains, filter_map}
 use Rattle.std.specs.Str.{bytes_eq}
 use Rattle.elf_parts.specs.GnuFind.{GnuTable}
@@ -9,7 +9,7 @@ use Rattle.elf_parts.specs.StringTable.{strings_view}
 use Rattle.elf_parts.specs.Table.{Table, table_view}
 use Rattle.elf_parts.specs.declared.symbol.Symbol.{Symbol}
 use Rattle.elfshow.specs.Resolve.{BySysv, ByGnu, Indexed, IsFound, Object}
-use Rattle.elfshow.specs.Sound.{Given, named, word}
+use Rattle.elfshow.specs.Sound.{named, word}
 use Rattle.elfshow.specs.SoundSysv.{Visits}
 use Rattle.elfshow.specs.declared.hashcheck.named.Links.{Links}
 use Rattle.elfshow.specs.declared.hashcheck.named.Links.TheVariants.{Chain, Run}

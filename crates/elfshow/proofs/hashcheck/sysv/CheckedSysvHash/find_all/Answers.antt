@@ -1,4 +1,4 @@
-use Rattle.std.proofs.Common.{◌≡◌, ap, ◌∙◌, ℕ, List, subst, sym}
+use Rattle.std.proofs.Common.{ap, ◌∙◌, ℕ, List, subst, sym}
 use Rattle.elf_parts.specs.declared.symbol.Symbol.{Symbol}
 use Rattle.elfshow.specs.NamedSymbols.{AreAllNamed, kept_named}
 use Rattle.elfshow.specs.Resolve.{BySysv}
