@@ -4,8 +4,8 @@ use Rattle.std.specs.Result.{result_ok}
 use Rattle.elf_parts.specs.Number.{ok_map}
 use Rattle.elf_parts.specs.Record.{◌>>=◌}
 use Rattle.elf_parts.specs.declared.parse.ParseError.{ParseError}
-use Rattle.elf.specs.Choice.{if_found}
-use Rattle.elf.specs.Same.{AreAlike}
+use Rattle.elf.specs.Headers.{if_found}
+use Rattle.elf.specs.Readers.{AreAlike}
 
 pub alike_map : {A B : Type 0} (f : A → B) (p q : Result A ParseError) → AreAlike p q → AreAlike (ok_map f p) (ok_map f q)
 alike_map f (Ok x) (Ok y) h = let same : x ≡ y = cc in ap (λ z. Some (f z)) same

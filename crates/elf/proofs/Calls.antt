@@ -6,16 +6,16 @@ use Rattle.elf_parts.specs.Number.{ok_map}
 use Rattle.elf_parts.specs.declared.file.FileHeader.{FileHeader}
 use Rattle.elf_parts.specs.declared.parse.ParseError.{ParseError}
 use Rattle.elf_parts.specs.declared.section.SectionHeader.{SectionHeader}
-use Rattle.elf.specs.Calls.{AreMade, Call, IsAnsweredAlike, IsSame, Method, answer, asked}
-use Rattle.elf.specs.Calls.{Dynamic, DynamicSymbolTable, SectionData, SectionDataAsNotes, SectionDataAsRelas, SectionDataAsRels, SectionDataAsStrtab, SectionHeaderByName, SectionHeadersWithStrtab, SegmentData, SegmentDataAsNotes, SymbolTable, SymbolVersionTable}
-use Rattle.elf.specs.Asked.{headers_alone}
-use Rattle.elf.specs.Listed.{stream_file}
+use Rattle.elf.specs.Readers.{AreMade, Call, IsAnsweredAlike, IsSame, Method, answer, asked}
+use Rattle.elf.specs.Readers.{Dynamic, DynamicSymbolTable, SectionData, SectionDataAsNotes, SectionDataAsRelas, SectionDataAsRels, SectionDataAsStrtab, SectionHeaderByName, SectionHeadersWithStrtab, SegmentData, SegmentDataAsNotes, SymbolTable, SymbolVersionTable}
+use Rattle.elf.specs.Ranges.{headers_alone}
+use Rattle.elf.specs.StreamFile.{stream_file}
 use Rattle.elf.specs.Names.{name_table}
 use Rattle.elf.specs.ObjectFile.{ObjectFile, object_file}
-use Rattle.elf.specs.Same.{AreAlike, SameAnswers}
+use Rattle.elf.specs.Readers.{AreAlike, SameAnswers}
 use Rattle.elf.specs.Opening.{opened}
-use Rattle.elf.specs.Stream.{Headers, IsAnswer, IsOfFile, IsRefused, Keeps, Kind, Leaves, Seen, headers_of, kind, shown_headers}
-use Rattle.elf.specs.View.{View, with_header}
+use Rattle.elf.specs.ElfStream.{Headers, IsAnswer, IsOfFile, IsRefused, Keeps, Kind, Leaves, Seen, headers_of, kind, shown_headers}
+use Rattle.elf.specs.ElfBytes.{View, with_header}
 
 names_alike : {A : Type 0} (one other : List SectionHeader) (x y : Result A ParseError) → one ≡ other → AreAlike x y → AreAlike {A = List SectionHeader × A} (ok_map (λ names. (one, names)) x) (ok_map (λ names. (other, names)) y)
 names_alike one other (Ok a) (Ok b) same alike = let there : a ≡ b = cc alike in rw (same, there) refl

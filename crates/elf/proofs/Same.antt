@@ -7,25 +7,26 @@ use Rattle.elf_parts.specs.Number.{bytes_at, ok_map}
 use Rattle.elf_parts.specs.Record.{◌>>=◌, size_by}
 use Rattle.elf_parts.specs.Section.{section_header_layout, section_header_reads}
 use Rattle.elf_parts.specs.Symbol.{symbol_layout}
-use Rattle.elf_parts.specs.Symver.{Definitions, Needs, Versions, ver_defs, ver_needs}
+use Rattle.elf_parts.specs.gnu_symver.Lists.{ver_defs, ver_needs}
+use Rattle.elf_parts.specs.gnu_symver.Table.{Definitions, Needs, Versions}
 use Rattle.elf_parts.specs.Table.{Table, table_get, table_in, table_items}
 use Rattle.elf_parts.specs.declared.file.FileHeader.{FileHeader}
 use Rattle.elf_parts.specs.declared.parse.ParseError.{ParseError}
 use Rattle.elf_parts.specs.declared.section.SectionHeader.{SectionHeader}
 use Rattle.elf_parts.specs.inner.RecordLaws.{bind-ok, bytes_at-ok}
 use Rattle.elf.specs.Answers.{first_named, first_symbols, symbol_sections, symbols_in, with_linked, symbol_version_table}
-use Rattle.elf.specs.Choice.{entry_size, first_section_of, if_found}
-use Rattle.elf.specs.Listed.{listed_at, listed_file, stream_file}
+use Rattle.elf.specs.Headers.{entry_size, first_section_of, if_found}
+use Rattle.elf.specs.StreamFile.{listed_at, listed_file, stream_file}
 use Rattle.elf.specs.Names.{name_index, name_section, name_table}
 use Rattle.elf.specs.ObjectFile.{ObjectFile, object_file, table_of}
 use Rattle.elf.specs.Opening.{header_at_front, opened, section_count, section_table, segment_table, table_bytes}
-use Rattle.elf.specs.Payload.{payload}
-use Rattle.elf.specs.Range.{section_at, section_range}
-use Rattle.elf.specs.Same.{AreAlike, SameAnswers}
-use Rattle.elf.specs.Stream.{Seen, headers_of, shown_headers}
+use Rattle.elf.specs.Data.{payload}
+use Rattle.elf.specs.Headers.{section_at, section_range}
+use Rattle.elf.specs.Readers.{AreAlike, SameAnswers}
+use Rattle.elf.specs.ElfStream.{Seen, headers_of, shown_headers}
 use Rattle.elf.specs.Versions.{linked_strings, version_definitions, version_indexes, version_needs, version_sections, versions_of}
-use Rattle.elf.specs.View.{View, section_list, with_header}
-use Rattle.elf.specs.declared.elf_bytes.versions.VersionSections.{VersionSections}
+use Rattle.elf.specs.ElfBytes.{View, section_list, with_header}
+use Rattle.elf.specs.declared.headers.VersionSections.{VersionSections}
 use Rattle.elf.proofs.Alike.{alike_first, alike_found, alike_if, alike_later, alike_map}
 
 -- ---- a file, and the same with another way to its section headers

@@ -3,11 +3,11 @@ use Rattle.std.proofs.Common.{◌≡◌, Bool, true, false, ◌&&◌, ◌||◌, 
 use Rattle.std.specs.List.{filter, last_or, list_any}
 use Rattle.elf_parts.specs.declared.section.SectionHeader.{SectionHeader}
 use Rattle.elf.specs.Answers.{symbol_version_table}
-use Rattle.elf.specs.Choice.{is_of_type}
+use Rattle.elf.specs.Headers.{is_of_type}
 use Rattle.elf.specs.ObjectFile.{ObjectFile}
 use Rattle.elf.specs.Versions.{up_to, version_sections}
 use Rattle.elf.specs.inner.Passes.{with_version_section}
-use Rattle.elf.specs.declared.elf_bytes.versions.VersionSections.{VersionSections}
+use Rattle.elf.specs.declared.headers.VersionSections.{VersionSections}
 
 abbrev pub no_version_sections : VersionSections
 no_version_sections = record { indexes = None; needs = None; definitions = None }

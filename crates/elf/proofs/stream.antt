@@ -2,6 +2,7 @@ pub mod Filling
 pub mod Pieces
 pub mod Kept
 pub mod Loads
+pub mod Reads
 pub mod Located
 pub mod Opened
 pub mod Steps

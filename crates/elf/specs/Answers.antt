@@ -10,7 +10,7 @@ use Rattle.elf_parts.specs.Record.{◌>>=◌, size_by}
 use Rattle.elf_parts.specs.Relocation.{rel_reads, rela_reads}
 use Rattle.elf_parts.specs.Symbol.{symbol_layout}
 use Rattle.elf_parts.specs.StringTable.{strings_view}
-use Rattle.elf_parts.specs.Symver.{Versions}
+use Rattle.elf_parts.specs.gnu_symver.Table.{Versions}
 use Rattle.elf_parts.specs.Table.{Table, items_left, table_view}
 use Rattle.elf_parts.specs.declared.compression.CompressionHeader.{CompressionHeader}
 use Rattle.elf_parts.specs.declared.parse.ParseError.{ParseError}
@@ -22,11 +22,11 @@ use Rattle.elf_parts.specs.declared.relocation.Rela.{Rela}
 use Rattle.elf_parts.specs.declared.section.SectionHeader.{SectionHeader}
 use Rattle.elf_parts.specs.declared.segment.ProgramHeader.{ProgramHeader}
 use Rattle.elf_parts.specs.declared.string_table.StringTable.{StringTable}
-use Rattle.elf.specs.Choice.{entry_size, if_found, first_section_of, first_segment_of}
+use Rattle.elf.specs.Headers.{entry_size, if_found, first_section_of, first_segment_of}
 use Rattle.elf.specs.Names.{has_name, name_table}
 use Rattle.elf.specs.ObjectFile.{ObjectFile, records_of, table_of}
-use Rattle.elf.specs.Payload.{content, content_of_type, payload}
-use Rattle.elf.specs.Range.{section_range, segment_range}
+use Rattle.elf.specs.Data.{content, content_of_type, payload}
+use Rattle.elf.specs.Headers.{section_range, segment_range}
 use Rattle.elf.specs.Versions.{version_sections, versions_of}
 
 -- ---- parts of answers

@@ -1,5 +1,6 @@
 -- What is looked up most often, found in one pass over the sections.
-use Rattle.std.specs.Prelude.{ℕ, ◌==◌, if◌then◌else◌, List, [], ◌∷◌, map, Option, Some, None, Result, Ok}
+use Rattle.std.specs.Prelude.{ℕ, ◌==◌, if◌then◌else◌, List, [], ◌∷◌, map, Option, Some, None}
+use Rattle.std.specs.Prelude.{Result, Ok}
 use Rattle.std.specs.List.{filter_map, last_or}
 use Rattle.std.specs.Option.{option_map}
 use Rattle.elf_abi.specs.Values.{pt_dynamic, sht_dynamic, sht_dynsym, sht_gnu_hash, sht_hash, sht_symtab}
@@ -12,9 +13,9 @@ use Rattle.elf_parts.specs.Table.{Table, table_view}
 use Rattle.elf_parts.specs.declared.parse.ParseError.{ParseError}
 use Rattle.elf_parts.specs.declared.section.SectionHeader.{SectionHeader}
 use Rattle.elf.specs.Answers.{section_dynamic, segment_dynamic, symbols_of}
-use Rattle.elf.specs.Choice.{first_segment_of, if_found}
+use Rattle.elf.specs.Headers.{first_segment_of, if_found}
 use Rattle.elf.specs.ObjectFile.{ObjectFile}
-use Rattle.elf.specs.Range.{section_range}
+use Rattle.elf.specs.Headers.{section_range}
 use Rattle.elf.specs.declared.elf_bytes.common.CommonElfData.{CommonElfData}
 
 -- what a section holds of it: symbols with their strings, those that are bound at run time, dynamic entries, a hash

@@ -6,10 +6,10 @@ use Rattle.std.specs.declared.alloc.Allocator as allocator
 use Rattle.elf_parts.specs.declared.parse.ParseError.{ParseError}
 use Rattle.elf.specs.declared.source.StreamSource as source
 use Rattle.elf.specs.contracts.elf_stream.ElfStream.{the_row}
-use Rattle.elf.specs.Asked.{headers_alone}
-use Rattle.elf.specs.Listed.{stream_file}
+use Rattle.elf.specs.Ranges.{headers_alone}
+use Rattle.elf.specs.StreamFile.{stream_file}
 use Rattle.elf.specs.ObjectFile.{ObjectFile}
-use Rattle.elf.specs.Stream.{Leaves, Seen}
+use Rattle.elf.specs.ElfStream.{Leaves, Seen}
 
 -- what a type of orders tells of itself, with its supertraits
 abbrev pub Order : Type 0 → Type 1
@@ -22,12 +22,12 @@ Order E = record {
   of_byte : ℕ → Option E;
 }
 
--- Leaves, of the stream once the result's borrow of it ends, for the ranges that its headers name and for an answer over
--- its file
+-- Leaves, of the stream once the result's borrow of it ends, for the ranges that its headers name and for an answer
+-- over its file
 abbrev pub Lends :
-    (E S A : RattleType) → Order E.Denot → source.Ghosts S.Denot → allocator.Ghosts A.Denot → MutBor (Seen E.Denot) →
-    (ObjectFile → List (ℕ × ℕ)) → {T Y : Type 0} → (T → Y) → (ObjectFile → Result Y ParseError) → Result T ParseError →
-    Fml
+    (E S A : RattleType) → Order E.Denot → source.Ghosts S.Denot → allocator.Ghosts A.Denot →
+    MutBor (Seen E.Denot) → (ObjectFile → List (ℕ × ℕ)) →
+    {T Y : Type 0} → (T → Y) → (ObjectFile → Result Y ParseError) → Result T ParseError → Fml
 Lends E S A order source alloc stream asked shown answer r =
     Rests (the_row E S A (record { little = order.little; of_byte = order.of_byte })
     (record { is_default = order.is_default }) (record { eq = order.eq }) source alloc) stream

@@ -1,20 +1,42 @@
-pub mod View
+-- In the order in which they are read.
+
+-- ---- a file that was opened
+
+-- what an `ElfBytes` shows
+pub mod ElfBytes
+-- the header, and the two tables that it declares
 pub mod Opening
-pub mod Range
+-- section i, the bytes that a header gives a range of, and the first or last header of a type
+pub mod Headers
+-- what the answers take: headers and bytes
 pub mod ObjectFile
-pub mod Stream
-pub mod Listed
-pub mod Choice
+-- ---- the answers
+
+-- the names of sections
 pub mod Names
-pub mod Payload
-pub mod Answers
+-- the bytes of a section, with its compression header
+pub mod Data
+-- where the versions of symbols stand
 pub mod Versions
+-- the answer of each method
+pub mod Answers
+-- what is looked up most often, found in one pass
 pub mod Common
-pub mod Same
+-- ---- a stream
+
+-- what the calls of a source do, and what a source in memory holds
 pub mod Source
-pub mod Memory
-pub mod StreamView
-pub mod Asked
+-- what contracts see of a stream, and what its calls leave
+pub mod ElfStream
+-- the object file of a stream, whose headers stand in lists
+pub mod StreamFile
+-- the ranges that a call asks for
+pub mod Ranges
+-- what a method that lends leaves
 pub mod Lending
-pub mod Calls
+-- ---- both readers
+
+-- two readers answer the same, to one call and to a list of calls
+pub mod Readers
+-- what private functions and implementations cite
 pub mod inner

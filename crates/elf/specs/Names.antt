@@ -1,5 +1,5 @@
 -- The names of sections (gABI, chapters "Sections" and "String Table").
-use Rattle.std.specs.Prelude.{ℕ, ◌==◌, Bool, false, if◌then◌else◌, not, List, Option, Some, None, Result, Ok, Err}
+use Rattle.std.specs.Prelude.{ℕ, ◌==◌, Bool, false, if◌then◌else◌, not, List, Option, Some, None, Result, Ok, Err, Vec}
 use Rattle.std.specs.Option.{option_map}
 use Rattle.std.specs.Str.{bytes_eq}
 use Rattle.elf_abi.specs.Values.{shn_undef, shn_xindex}
@@ -11,9 +11,9 @@ use Rattle.elf_parts.specs.declared.parse.ParseError.{ParseError}
 use Rattle.elf_parts.specs.declared.parse.table.ParsingTable.{ParsingTable}
 use Rattle.elf_parts.specs.declared.section.SectionHeader.{SectionHeader}
 use Rattle.elf_parts.specs.declared.string_table.StringTable.{StringTable}
-use Rattle.elf.specs.Choice.{if_found}
 use Rattle.elf.specs.ObjectFile.{ObjectFile}
-use Rattle.elf.specs.Range.{section_range}
+use Rattle.elf.specs.Headers.{if_found, section_range}
+use denote.Ref.{Bor}
 
 -- which section holds the names: e_shstrndx, or where that is SHN_XINDEX the sh_link of section 0
 abbrev pub name_index : ObjectFile → Result ℕ ParseError
@@ -53,3 +53,8 @@ named_view found = (option_map table_view found.0, option_map strings_view found
 -- headers with their names
 abbrev pub beside : Option Table → Option (List ℕ) → Option Table × Option (List ℕ)
 beside headers names = (headers, names)
+
+-- section headers with a table of their names
+abbrev pub listed_view :
+    {A : Type 0} → Bor (Vec SectionHeader A) × Option StringTable → List SectionHeader × Option (List ℕ)
+listed_view found = (found.0.now.items, option_map strings_view found.1)

@@ -1,6 +1,7 @@
 -- How a file is opened (gABI, chapters "ELF Header", "Sections" and "Program Header"): its header is read,
 -- and the two tables that it declares are found. The first step that is refused refuses the file.
-use Rattle.std.specs.Prelude.{ℕ, ◌*◌, ◌==◌, Bool, if◌then◌else◌, List, Option, Some, None, Result, Ok, Err}
+use Rattle.std.specs.Prelude.{ℕ, ◌*◌, ◌==◌, Bool, if◌then◌else◌, List, Option, Some, None, Result, Ok}
+use Rattle.std.specs.Prelude.{Err}
 use Rattle.elf_abi.specs.Values.{ei_nident, pn_xnum}
 use Rattle.elf_parts.specs.Number.{bytes_at, ok_map}
 use Rattle.elf_parts.specs.Record.{◌>>=◌, record_by, size_by, size_of}
@@ -12,7 +13,7 @@ use Rattle.elf_parts.specs.declared.file.FileHeader.{FileHeader}
 use Rattle.elf_parts.specs.declared.section.SectionHeader.{SectionHeader}
 use Rattle.elf_parts.specs.declared.parse.ParseError.{ParseError}
 use Rattle.elf_parts.specs.declared.parse.ParseError.TheVariants.{BadEntsize}
-use Rattle.elf.specs.View.{View}
+use Rattle.elf.specs.ElfBytes.{View}
 
 -- so many records of this size at an offset, where that is the size that the header gives; `IntegerOverflow`
 -- where their size or their end passes 64 bits

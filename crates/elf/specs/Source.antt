@@ -1,5 +1,8 @@
--- What the calls of a source do.
+-- What the calls of a source do, and what a source in memory holds.
 use Rattle.std.specs.Prelude.{◌≡◌, ℕ, ◌+◌, ◌<◌, ◌≤◌, ◌^◌, Bool, IsTrue, List, length, take, drop, Result, OnOk, OnErr}
+use Rattle.elf.specs.declared.source.MemSource.{MemSource}
+
+-- ---- any source
 
 -- the next n bytes stand in front of the buffer, and the position goes on by n; there are none only at the end, or
 -- where there is no room
@@ -12,3 +15,13 @@ pub record Gives (bytes : List ℕ) (before now n : ℕ) (buf : List ℕ) : Type
 pub record HasCause {T E : Type 0} (before now : ℕ) (can_fail : Bool) (r : Result T E) : Type 0 where
   pub ok : OnOk r (now ≡ before)
   pub err : OnErr r ((before < now) × IsTrue can_fail × (now < 2 ^ 64))
+
+-- ---- a source in memory
+
+-- its bytes
+abbrev pub mem_bytes : MemSource → List ℕ
+mem_bytes s = s.bytes.now
+
+-- where its next read begins
+abbrev pub mem_position : MemSource → ℕ
+mem_position s = s.at

@@ -4,3 +4,4 @@ pub mod Piece
 pub mod Opened
 pub mod Loads
 pub mod HeaderSteps
+pub mod Reads

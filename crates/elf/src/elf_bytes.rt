@@ -3,8 +3,9 @@ ghost use Rattle.std.specs.Prelude.{◌≡◌, ◌≤◌, IfOk, length};
 ghost use Rattle.std.specs.Option.{option_map};
 ghost use Rattle.elf_parts.specs.Number.{bytes_at, ok_map};
 ghost use Rattle.elf_parts.specs.Table.{table_view};
-ghost use Rattle.elf.specs.Opening.{first_section, header_at_front, opened, section_count, section_table, segment_count, segment_table, table_bytes};
-ghost use Rattle.elf.specs.View.{view};
+ghost use Rattle.elf.specs.Opening.{first_section, header_at_front, opened, section_count, section_table};
+ghost use Rattle.elf.specs.Opening.{segment_count, segment_table, table_bytes};
+ghost use Rattle.elf.specs.ElfBytes.{view};
 
 use elf_abi::abi;
 use elf_parts::endian::EndianParse;
@@ -14,9 +15,13 @@ use elf_parts::section::{SectionHeader, SectionHeaderTable};
 use elf_parts::segment::{ProgramHeader, SegmentTable};
 
 mod common;
-pub(crate) mod sections;
+mod data;
+mod dynamic;
+mod headers;
+mod names;
+mod segments;
 mod symbols;
-pub(crate) mod versions;
+mod versions;
 
 pub use common::CommonElfData;
 
@@ -100,7 +105,8 @@ fn table_bytes<'data, P: ParseAt>(
     offset: u64,
     data: &'data [u8],
 ) -> Result<&'data [u8], ParseError>
-    ensures { ok_map (λ bytes. bytes.now) result ≡ table_bytes (P.reads.size class) entsize count offset «data».now }
+    ensures { ok_map (λ bytes. bytes.now) result
+        ≡ table_bytes (P.reads.size class) entsize count offset «data».now }
 {
     let size = P::validate_entsize(class, entsize as usize)?;
     let length = size.checked_mul(count).ok_or(ParseError::IntegerOverflow)?;

@@ -1,9 +1,11 @@
 //! A file as a source that is read lazily.
-ghost use Rattle.std.specs.Prelude.{◌≡◌, ℕ, ◌≤◌, ◌+◌, ◌^◌, ◌<◌, OnOk, OnErr, IfOk, IfErr, IfSome, Ok, IsOk, length, take, drop, [], ◌∷◌};
+ghost use Rattle.std.specs.Prelude.{◌≡◌, ℕ, ◌≤◌, ◌+◌, ◌^◌, ◌<◌, OnOk, OnErr, IfOk, IfErr};
+ghost use Rattle.std.specs.Prelude.{IfSome, Ok, IsOk, length, take, drop, [], ◌∷◌};
 ghost use Rattle.elf_parts.specs.Number.{bytes_at, ok_map};
-ghost use Rattle.elf.specs.Asked.{range_of_section, range_of_segment};
+ghost use Rattle.elf.specs.Ranges.{range_of_section, range_of_segment};
 ghost use Rattle.elf.specs.Opening.{opened};
-ghost use Rattle.elf.specs.Stream.{IsAnswer, IsFor, IsOfFile, Kind, headers_of, Keeps, IsHeld, IsOpening, kind, shown_headers};
+ghost use Rattle.elf.specs.ElfStream.{IsAnswer, IsFor, IsOfFile, Kind, headers_of, Keeps, IsHeld, IsOpening, kind};
+ghost use Rattle.elf.specs.ElfStream.{shown_headers};
 ghost use Rattle.elf.specs.inner.Loads.{Loads};
 
 use crate::source::StreamSource;
@@ -16,11 +18,13 @@ use std::alloc::Allocator;
 use std::marker::Model;
 
 mod cache;
+mod data;
 mod dynamic;
+mod headers;
 mod names;
 mod opening;
 mod reads;
-mod sections;
+mod segments;
 mod symbols;
 mod versions;
 
@@ -51,7 +55,7 @@ pub struct ElfStream<E: EndianParse, S: StreamSource, A: Allocator + Copy> {
 
 impl<E: EndianParse, S: StreamSource, A: Allocator + Copy> Model for ElfStream<E, S, A> {
     ghost use Rattle.std.specs.Prelude.{map};
-    ghost use Rattle.elf.specs.Stream.{Seen};
+    ghost use Rattle.elf.specs.ElfStream.{Seen};
     ghost use Rattle.elf.specs.inner.Opened.{IsOpened};
     ghost use Rattle.elf.specs.inner.Piece.{range_of};
 

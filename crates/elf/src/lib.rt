@@ -11,7 +11,8 @@ pub use elf_parts::{
 
 mod elf_bytes;
 mod elf_stream;
-mod front;
+mod headers;
+mod leading;
 pub mod readers;
 mod source;
 

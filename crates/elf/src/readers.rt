@@ -1,12 +1,12 @@
 //! What both readers answer alike.
 ghost use Rattle.std.specs.Prelude.{◌≡◌, ℕ, List, All, IfSome, Ok, Some};
-ghost use Rattle.elf.specs.Calls.{AreMade, Call, IsAnsweredAlike};
-ghost use Rattle.elf.specs.Listed.{stream_file};
+ghost use Rattle.elf.specs.Readers.{AreMade, Call, IsAnsweredAlike};
+ghost use Rattle.elf.specs.StreamFile.{stream_file};
 ghost use Rattle.elf.specs.ObjectFile.{object_file};
 ghost use Rattle.elf.specs.Opening.{opened};
-ghost use Rattle.elf.specs.Same.{SameAnswers};
-ghost use Rattle.elf.specs.Stream.{Seen, headers_of, shown_headers};
-ghost use Rattle.elf.specs.View.{View, with_header};
+ghost use Rattle.elf.specs.Readers.{SameAnswers};
+ghost use Rattle.elf.specs.ElfStream.{Seen, headers_of, shown_headers};
+ghost use Rattle.elf.specs.ElfBytes.{View, with_header};
 ghost use Rattle.elf_parts.specs.declared.file.FileHeader.{FileHeader};
 
 use crate::elf_stream::ElfStream;
@@ -27,9 +27,9 @@ pub fn list_answers_as_table<E: EndianParse>()
     list_is_what_get_gives::<SectionHeader>();
 }
 
-/// The headline over lists of calls. Of a stream over known content, opened from it and however often called since, each
-/// call of a list of calls answers as `ElfBytes` over that content does, whatever header is put into `ehdr` before it: the
-/// same value, or both refuse, or the source failed in that call, or memory was refused.
+/// The headline over lists of calls. Of a stream over known content, opened from it and however often called since,
+/// each call of a list of calls answers as `ElfBytes` over that content does, whatever header is put into `ehdr` before
+/// it: the same value, or both refuse, or the source failed in that call, or memory was refused.
 pub fn calls_answer_alike<E: EndianParse>()
     ensures { (bytes : List ℕ) (v : View E) (s : Seen E) (calls : List (Call E)) →
         opened E.little E.of_byte bytes ≡ Ok v → s.content ≡ Some bytes →

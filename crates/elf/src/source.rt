@@ -1,5 +1,6 @@
 //! The sources that a stream reads.
-ghost use Rattle.std.specs.Prelude.{◌≡◌, ℕ, Bool, true, false, ◌≤◌, List, length, take, None, Some, IfOk, IfSome, OnOk};
+ghost use Rattle.std.specs.Prelude.{◌≡◌, ℕ, Bool, true, false, ◌≤◌, List, length, take, None, Some};
+ghost use Rattle.std.specs.Prelude.{IfOk, IfSome, OnOk};
 ghost use Rattle.std.specs.declared.option.Option.{Option};
 ghost use Rattle.elf.specs.Source.{Gives, HasCause};
 
@@ -56,7 +57,7 @@ pub struct MemSource<'a> {
 }
 
 impl<'a> MemSource<'a> {
-    ghost use Rattle.elf.specs.Memory.{mem_bytes, mem_position};
+    ghost use Rattle.elf.specs.Source.{mem_bytes, mem_position};
 
     /// The source of these bytes, at their start.
     pub fn new(bytes: &'a [u8]) -> Self

@@ -1,5 +1,6 @@
 -- Values and their names as lists of rows, and what a look-up in such a list answers.
-use Rattle.std.specs.Prelude.{◌≡◌, ℕ, ◌++◌, ◌&&◌, Bool, true, false, List, [], ◌∷◌, codes, Contains, Option, Some, None, nat_eq, unwrap_or, if◌then◌else◌}
+use Rattle.std.specs.Prelude.{◌≡◌, ℕ, ◌++◌, ◌&&◌, Bool, true, false, List, []}
+use Rattle.std.specs.Prelude.{◌∷◌, codes, Contains, Option, Some, None, nat_eq, unwrap_or, if◌then◌else◌}
 use Rattle.std.specs.Borrow.{Bor}
 use Rattle.std.specs.Fmt.{digits}
 use Rattle.std.specs.Ordering.{is_lt}
@@ -16,7 +17,8 @@ name_of same (row ∷ rows) value = if same row.0 value then Some row.1 else nam
 
 -- no value stands beside two names
 abbrev pub NamesEachOnce : {K : Type 0} → List (Row K) → Type 0
-NamesEachOnce {K} rows = (value : K) (one other : List ℕ) → Contains rows (value, one) → Contains rows (value, other) → one ≡ other
+NamesEachOnce {K} rows =
+    (value : K) (one other : List ℕ) → Contains rows (value, one) → Contains rows (value, other) → one ≡ other
 
 -- the prefix, and in parentheses `0x` and the number's lower-case digits, with no zeros before them
 abbrev pub number_text : List ℕ → ℕ → List ℕ

@@ -108,9 +108,13 @@ sht_gnu_versym = 0x6fffffff
 abbrev pub shf_compressed : ℕ
 shf_compressed = 0x800
 
--- indexes of sections that have a meaning of their own: none, and one that stands elsewhere
+-- indexes of sections that have a meaning of their own: none, no section but an absolute value, and one that stands
+-- elsewhere
 abbrev pub shn_undef : ℕ
 shn_undef = 0
+
+abbrev pub shn_abs : ℕ
+shn_abs = 0xfff1
 
 abbrev pub shn_xindex : ℕ
 shn_xindex = 0xffff
@@ -129,16 +133,44 @@ pt_note = 4
 
 -- ---- symbols: gABI chapter 4, "Symbol Table"
 
--- the high half of `st_info`
+-- the high half of `st_info`, and a GNU extension
 abbrev pub stb_local : ℕ
 stb_local = 0
 
+abbrev pub stb_global : ℕ
+stb_global = 1
+
+abbrev pub stb_weak : ℕ
+stb_weak = 2
+
+abbrev pub stb_gnu_unique : ℕ
+stb_gnu_unique = 10
+
 -- the low half of `st_info`, and a GNU extension
+abbrev pub stt_notype : ℕ
+stt_notype = 0
+
+abbrev pub stt_object : ℕ
+stt_object = 1
+
 abbrev pub stt_func : ℕ
 stt_func = 2
 
+abbrev pub stt_common : ℕ
+stt_common = 5
+
+abbrev pub stt_tls : ℕ
+stt_tls = 6
+
 abbrev pub stt_gnu_ifunc : ℕ
 stt_gnu_ifunc = 10
+
+-- the low two bits of `st_other`
+abbrev pub stv_internal : ℕ
+stv_internal = 1
+
+abbrev pub stv_hidden : ℕ
+stv_hidden = 2
 
 -- ---- notes of the name GNU: GNU extensions
 

@@ -1,5 +1,6 @@
 //! The names of values, as the format's constants spell them, and texts for values that have none.
-ghost use Rattle.std.specs.Prelude.{◌≡◌, ◌==◌, if◌then◌else◌, IsTrue, All, IfOk, bit_and, codes, map, nat_eq, string_bytes, unwrap_or};
+ghost use Rattle.std.specs.Prelude.{◌≡◌, ◌==◌, if◌then◌else◌, IsTrue, All, IfOk};
+ghost use Rattle.std.specs.Prelude.{bit_and, codes, map, nat_eq, string_bytes, unwrap_or};
 ghost use Rattle.std.specs.Option.{option_copied};
 ghost use Rattle.std.specs.Ordering.{int_eq};
 ghost use Rattle.elf_abi.specs.Names.{name_of, name_or_number, number_text, row_of, values_rise, NamesEachOnce};

@@ -7,8 +7,8 @@ use elf::file::Class;
 use elf::string_table::StringTable;
 use elf::symbol::{Symbol, SymbolTable};
 use elfshow::hashcheck::{
-    Checked, CheckedGnuHash, CheckedSysvHash, HashFault, NamedSymbols, Reads, check_gnu,
-    check_gnu_counted, check_sysv, check_sysv_counted,
+    Checked, CheckedGnuHash, CheckedSysvHash, HashFault, HashSection, NamedSymbols, Reads,
+    check_any, check_gnu_counted, check_sysv_counted,
 };
 use std::io;
 use std::str::SplitWhitespace;
@@ -58,28 +58,20 @@ pub(crate) fn show_all(rt: &HostRuntime, words: &mut Words<'_>) -> io::Result<()
     let symtab = SymbolTable::new(order, class, symbols.as_slice());
     let strtab = StringTable::new(strings.as_slice());
     let names = words.rest();
-    if kind == "sysv" {
-        match check_sysv(order, class, section.as_slice(), symtab, strtab) {
-            Ok(Checked::Sound(table)) => {
-                for name in names {
-                    show_named(rt, name, table.find_all(name.as_bytes()))?;
-                }
-                Ok(())
-            }
-            Ok(Checked::Faulty(fault)) => show_fault(rt, fault, true),
-            Err(error) => show_refusal(rt, error),
-        }
+    let kind = if kind == "sysv" {
+        HashSection::Sysv
     } else {
-        match check_gnu(order, class, section.as_slice(), symtab, strtab) {
-            Ok(Checked::Sound(table)) => {
-                for name in names {
-                    show_named(rt, name, table.find_all(name.as_bytes()))?;
-                }
-                Ok(())
+        HashSection::Gnu
+    };
+    match check_any(kind, order, class, section.as_slice(), symtab, strtab) {
+        Ok(Checked::Sound(table)) => {
+            for name in names {
+                show_named(rt, name, table.find_all(name.as_bytes()))?;
             }
-            Ok(Checked::Faulty(fault)) => show_fault(rt, fault, true),
-            Err(error) => show_refusal(rt, error),
+            Ok(())
         }
+        Ok(Checked::Faulty(fault)) => show_fault(rt, fault, true),
+        Err(error) => show_refusal(rt, error),
     }
 }
 

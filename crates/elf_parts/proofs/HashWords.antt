@@ -2,7 +2,8 @@
 use Rattle.std.proofs.Common.{◌≡◌, ℕ, ◌+◌, ◌*◌, ◌/◌, ◌^◌, ◌<◌, ◌≤◌, Bool, List, length, drop, Ok, refl, ap, ◌∙◌, subst, arith, length-drop}
 use Rattle.std.specs.Result.{IsOk}
 use Rattle.std.proofs.lemmas.Grind.{common_steps}
-use Rattle.elf_parts.specs.GnuFind.{GnuTable, ReadsBloom, bloom_size, bloom_word, bloom_word_by, gnu_section}
+use Rattle.elf_parts.specs.Class.{address_size}
+use Rattle.elf_parts.specs.GnuFind.{GnuTable, ReadsBloom, bloom_word, bloom_word_by, gnu_section}
 use Rattle.elf_parts.specs.Hash.{ReadsBelowCount, gnu_header_layout, long_word_at, sysv_header_layout, word_at}
 use Rattle.elf_parts.specs.Number.{bytes_at}
 use Rattle.elf_parts.specs.Record.{◌>>=◌, record_by}
@@ -29,11 +30,11 @@ long_word_below words i short below =
     let law = lies u64_reads words.little words.class in
     (item_at-below (record_by u64_layout words.little words.class) 8 words.bytes i law (wherever_by u64_layout refl words.little words.class words.bytes) short).1 below
 
-bloom_below_by : (class : Class) (words : Table) (n i : ℕ) → length words.bytes < 2 ^ 64 → length words.bytes ≡ bloom_size class * n → i < n → IsOk (bloom_word_by class words i)
+bloom_below_by : (class : Class) (words : Table) (n i : ℕ) → length words.bytes < 2 ^ 64 → length words.bytes ≡ address_size class * n → i < n → IsOk (bloom_word_by class words i)
 bloom_below_by ELF32 words n i short size below = (words_read words short i).1 (omega arith)
 bloom_below_by ELF64 words n i short size below = long_word_below words i short (omega arith)
 
-bloom_below : (words : Table) (n i : ℕ) → length words.bytes < 2 ^ 64 → length words.bytes ≡ bloom_size words.class * n → i < n → IsOk (bloom_word words i)
+bloom_below : (words : Table) (n i : ℕ) → length words.bytes < 2 ^ 64 → length words.bytes ≡ address_size words.class * n → i < n → IsOk (bloom_word words i)
 unfolding bloom_word
 bloom_below words n i short size below = bloom_below_by words.class words n i short size below
 
@@ -47,7 +48,7 @@ length-bytes_at w bytes o part e =
 
 -- how long the parts of a table are that was cut from a section
 record Cut (bytes : List ℕ) (t : GnuTable) : Type 0 where
-  pub bloom : length t.bloom.bytes ≡ bloom_size t.bloom.class * t.hdr.nbloom
+  pub bloom : length t.bloom.bytes ≡ address_size t.bloom.class * t.hdr.nbloom
   pub bloom_within : length t.bloom.bytes ≤ length bytes
   pub buckets_within : length t.buckets.bytes ≤ length bytes
   pub chains_within : length t.chains.bytes ≤ length bytes
@@ -58,10 +59,10 @@ gnu_parts little class bytes header bloom buckets = record {
   hdr = header;
   bloom = table_in little class bloom;
   buckets = table_in little class buckets;
-  chains = table_in little class (drop (16 + bloom_size class * header.nbloom + 4 * header.nbucket) bytes);
+  chains = table_in little class (drop (16 + address_size class * header.nbloom + 4 * header.nbucket) bytes);
 }
 
-cut_parts : (little : Bool) (class : Class) (bytes : List ℕ) (t : GnuTable) (header : GnuHashHeader) (bloom buckets : List ℕ) → bytes_at (bloom_size class * header.nbloom) bytes 16 ≡ Ok bloom → bytes_at (4 * header.nbucket) bytes (16 + bloom_size class * header.nbloom) ≡ Ok buckets → gnu_parts little class bytes header bloom buckets ≡ t → Cut bytes t
+cut_parts : (little : Bool) (class : Class) (bytes : List ℕ) (t : GnuTable) (header : GnuHashHeader) (bloom buckets : List ℕ) → bytes_at (address_size class * header.nbloom) bytes 16 ≡ Ok bloom → bytes_at (4 * header.nbucket) bytes (16 + address_size class * header.nbloom) ≡ Ok buckets → gnu_parts little class bytes header bloom buckets ≡ t → Cut bytes t
 cut_parts little class bytes t header bloom buckets e d same =
     let P : GnuTable → Type 0 = λ u. Cut bytes u in
     let a = length-bytes_at _ bytes _ bloom e in
@@ -73,14 +74,14 @@ cut_parts little class bytes t header bloom buckets e d same =
       chains_within = omega (arith, length-drop {A = ℕ});
     })
 
-cut_buckets : (little : Bool) (class : Class) (bytes : List ℕ) (t : GnuTable) (header : GnuHashHeader) (bloom : List ℕ) → bytes_at (bloom_size class * header.nbloom) bytes 16 ≡ Ok bloom → (bytes_at (4 * header.nbucket) bytes (16 + bloom_size class * header.nbloom) >>= λ buckets. Ok (gnu_parts little class bytes header bloom buckets)) ≡ Ok t → Cut bytes t
+cut_buckets : (little : Bool) (class : Class) (bytes : List ℕ) (t : GnuTable) (header : GnuHashHeader) (bloom : List ℕ) → bytes_at (address_size class * header.nbloom) bytes 16 ≡ Ok bloom → (bytes_at (4 * header.nbucket) bytes (16 + address_size class * header.nbloom) >>= λ buckets. Ok (gnu_parts little class bytes header bloom buckets)) ≡ Ok t → Cut bytes t
 cut_buckets little class bytes t header bloom e d =
-    let k = bind-ok {A = List ℕ} {B = GnuTable} (bytes_at (4 * header.nbucket) bytes (16 + bloom_size class * header.nbloom)) _ t d in
+    let k = bind-ok {A = List ℕ} {B = GnuTable} (bytes_at (4 * header.nbucket) bytes (16 + address_size class * header.nbloom)) _ t d in
     cut_parts little class bytes t header bloom k.0 e k.1 (cc k.2)
 
-cut_bloom : (little : Bool) (class : Class) (bytes : List ℕ) (t : GnuTable) (header : GnuHashHeader) → (bytes_at (bloom_size class * header.nbloom) bytes 16 >>= λ bloom. bytes_at (4 * header.nbucket) bytes (16 + bloom_size class * header.nbloom) >>= λ buckets. Ok (gnu_parts little class bytes header bloom buckets)) ≡ Ok t → Cut bytes t
+cut_bloom : (little : Bool) (class : Class) (bytes : List ℕ) (t : GnuTable) (header : GnuHashHeader) → (bytes_at (address_size class * header.nbloom) bytes 16 >>= λ bloom. bytes_at (4 * header.nbucket) bytes (16 + address_size class * header.nbloom) >>= λ buckets. Ok (gnu_parts little class bytes header bloom buckets)) ≡ Ok t → Cut bytes t
 cut_bloom little class bytes t header d =
-    let b = bind-ok {A = List ℕ} {B = GnuTable} (bytes_at (bloom_size class * header.nbloom) bytes 16) _ t d in
+    let b = bind-ok {A = List ℕ} {B = GnuTable} (bytes_at (address_size class * header.nbloom) bytes 16) _ t d in
     cut_buckets little class bytes t header b.0 b.1 b.2
 
 cut : (little : Bool) (class : Class) (bytes : List ℕ) (t : GnuTable) → gnu_section little class bytes ≡ Ok t → Cut bytes t

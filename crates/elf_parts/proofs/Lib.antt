@@ -5,6 +5,7 @@ pub mod Places
 pub mod Packed
 pub mod LinkedRecords
 pub mod Versions
+pub mod Indexed
 pub mod NoteLists
 pub mod NoteNames
 pub mod Multiples
@@ -15,6 +16,7 @@ pub mod Runs
 pub mod Named
 pub mod ReadBack
 pub mod ReadStructs
+pub mod Nuls
 pub mod ReadStrings
 pub mod ReadNotes
 pub mod ReadChains

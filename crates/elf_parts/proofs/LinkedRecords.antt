@@ -8,7 +8,8 @@ use Rattle.elf_parts.specs.declared.file.Class.{Class}
 use Rattle.elf_parts.specs.declared.parse.ParseError.{ParseError}
 use Rattle.elf_parts.specs.Record.{RecordType}
 use Rattle.elf_parts.specs.Table.{Table}
-use Rattle.elf_parts.specs.Link.{AreLinked, AreLongest, from_next, linked, links, links_in, next_start}
+use Rattle.elf_parts.specs.Link.{AreLinked, AreLongest, from_next, linked, links}
+use Rattle.elf_parts.specs.gnu_symver.Links.{links_in, next_start}
 
 module _ {A : Type 0} (record_at : Bool → Class → List ℕ → ℕ → Result A ParseError) (next : A → ℕ) where
   -- no record where there is to be none

@@ -3,14 +3,17 @@ use Rattle.std.proofs.Common.{◌≡◌, ◌≢◌, ℕ, suc, ◌+◌, ◌<◌, 
 use Rattle.std.proofs.lemmas.Bool.{ne_eqb}
 use Rattle.std.proofs.lemmas.Grind.{common_steps}
 use Rattle.elf_parts.specs.declared.file.Class.{Class}
-use Rattle.elf_parts.specs.declared.gnu_symver.VerDef.{VerDef}
-use Rattle.elf_parts.specs.declared.gnu_symver.VerDefAux.{VerDefAux}
-use Rattle.elf_parts.specs.declared.gnu_symver.VerNeed.{VerNeed}
-use Rattle.elf_parts.specs.declared.gnu_symver.VerNeedAux.{VerNeedAux}
-use Rattle.elf_parts.specs.Link.{from_next, links, links_in, next_start}
+use Rattle.elf_parts.specs.declared.gnu_symver.records.VerDef.{VerDef}
+use Rattle.elf_parts.specs.declared.gnu_symver.records.VerDefAux.{VerDefAux}
+use Rattle.elf_parts.specs.declared.gnu_symver.records.VerNeed.{VerNeed}
+use Rattle.elf_parts.specs.declared.gnu_symver.records.VerNeedAux.{VerNeedAux}
+use Rattle.elf_parts.specs.Link.{from_next, links}
+use Rattle.elf_parts.specs.gnu_symver.Links.{links_in, next_start}
 use Rattle.elf_parts.specs.Record.{Layout, record_by, size_by}
-use Rattle.elf_parts.specs.Structs.{ver_need_struct, ver_need_aux_struct, ver_def_struct, ver_def_aux_struct, NeedsAreChained, DefinitionsAreChained}
-use Rattle.elf_parts.specs.Symver.{ver_need_layout, ver_need_aux_layout, ver_def_layout, ver_def_aux_layout, ver_need_aux_records, ver_needs, ver_def_aux_records, ver_defs}
+use Rattle.elf_parts.specs.Structs.{ver_need_struct, ver_need_aux_struct, ver_def_struct, ver_def_aux_struct}
+use Rattle.elf_parts.specs.Structs.{EntriesAreChained, NeedsAreChained, DefinitionsAreChained}
+use Rattle.elf_parts.specs.gnu_symver.Lists.{aux_records, entries_in, ver_defs, ver_needs, with_aux_records}
+use Rattle.elf_parts.specs.gnu_symver.Records.{ver_def_aux_layout, ver_def_layout, ver_need_aux_layout, ver_need_layout}
 use Rattle.elf_parts.specs.Table.{table_in}
 use Rattle.elf_parts.specs.Written.{Member, Fits, struct_bytes, LiesAt, AreChained, IsStruct}
 use Rattle.elf_parts.proofs.ReadStructs.{ver_need_is_struct, ver_need_aux_is_struct, ver_def_is_struct, ver_def_aux_is_struct}
@@ -66,52 +69,60 @@ module _ {A : Type 0} (layout : Layout A) (struct : A → List Member) (next : A
   unfolding links_in
   chain_read_back xs o chained = chain_from xs o chained
 
-module _ (little : Bool) (class : Class) (bytes : List ℕ) (small : length bytes < 2 ^ 64) where
-  need_versions : (need : VerNeed × List VerNeedAux) (o : ℕ) → need.0.vn_cnt ≡ length need.1 →
-      AreChained little ver_need_aux_struct (λ x. x.vna_next) bytes (o + need.0.vn_aux) need.1 →
-      ver_need_aux_records (table_in little class bytes) need.0.vn_cnt (o + need.0.vn_aux) ≡ need.1
-  need_versions need o count chained =
-      rw count (chain_read_back ver_need_aux_layout ver_need_aux_struct (λ x. x.vna_next) ver_need_aux_is_struct little class bytes small need.1 (o + need.0.vn_aux) chained)
+-- entries that were linked by their distances are read as these entries, each with its auxiliary entries
+module _ {V A : Type 0} (layout : Layout V) (struct : V → List Member) (next count aux : V → ℕ)
+    (is : IsStruct layout (λ _. struct)) (aux_layout : Layout A) (aux_struct : A → List Member) (aux_next : A → ℕ)
+    (aux_is : IsStruct aux_layout (λ _. aux_struct)) (little : Bool) (class : Class) (bytes : List ℕ)
+    (small : length bytes < 2 ^ 64) where
+  aux_read_back : (entry : V × List A) (o : ℕ) → count entry.0 ≡ length entry.1 →
+      AreChained little aux_struct aux_next bytes (o + aux entry.0) entry.1 →
+      aux_records (record_by aux_layout) aux_next (table_in little class bytes) (count entry.0) (o + aux entry.0)
+      ≡ entry.1
+  aux_read_back entry o long chained =
+      rw long
+      (chain_read_back aux_layout aux_struct aux_next aux_is little class bytes small entry.1 (o + aux entry.0) chained)
 
+  pub entries_read_back : (entries : List (V × List A)) (o : ℕ) →
+      EntriesAreChained little struct next count aux aux_struct aux_next bytes o entries →
+      entries_in (record_by layout) next (with_aux_records (record_by aux_layout) aux_next count aux)
+      (table_in little class bytes) (length entries) o
+      ≡ entries
+  unfolding links_in
+  entries_read_back [] o chained = refl
+  entries_read_back (entry ∷ []) o chained =
+      let here = chained.0 in
+      rw (
+        link_read layout struct next is little class bytes small entry.0 o 0 here.0 here.1,
+        no_next o (next entry.0) here.2,
+      )
+      (ap (λ (list : List A). (entry.0, list) ∷ []) (aux_read_back entry o here.3 here.4))
+  entries_read_back (entry ∷ other ∷ entries) o chained =
+      let here = chained.0 in
+      let behind = entries_read_back (other ∷ entries) (o + next entry.0) chained.1 in
+      rw (
+        link_read layout struct next is little class bytes small entry.0 o (length (other ∷ entries)) here.0 here.1,
+        next_lies layout struct next is little class bytes small entry.0 other.0 o chained.1.0.0 here.2,
+      )
+      (ap
+      (λ (list : List A).
+      (entry.0, list)
+      ∷ entries_in (record_by layout) next (with_aux_records (record_by aux_layout) aux_next count aux)
+      (table_in little class bytes) (length (other ∷ entries)) (o + next entry.0))
+      (aux_read_back entry o here.3 here.4)
+      ∙ ap (λ (others : List (V × List A)). entry ∷ others) behind)
+
+module _ (little : Bool) (class : Class) (bytes : List ℕ) (small : length bytes < 2 ^ 64) where
   pub needs_read_back : (needs : List (VerNeed × List VerNeedAux)) (o : ℕ) → NeedsAreChained little bytes o needs →
       ver_needs (table_in little class bytes) (length needs) o ≡ needs
-  unfolding links_in
-  needs_read_back [] o chained = refl
-  needs_read_back (need ∷ []) o chained =
-      let here = chained.0 in
-      rw (link_read ver_need_layout ver_need_struct (λ x. x.vn_next) ver_need_is_struct little class bytes small need.0 o 0 here.0 here.1, no_next o (need.0.vn_next) here.2)
-      (ap (λ (versions : List VerNeedAux). (need.0, versions) ∷ []) (need_versions need o here.3 here.4))
-  needs_read_back (need ∷ other ∷ needs) o chained =
-      let here = chained.0 in
-      let behind = needs_read_back (other ∷ needs) (o + need.0.vn_next) chained.1 in
-      rw (
-        link_read ver_need_layout ver_need_struct (λ x. x.vn_next) ver_need_is_struct little class bytes small need.0 o (length (other ∷ needs)) here.0 here.1,
-        next_lies ver_need_layout ver_need_struct (λ x. x.vn_next) ver_need_is_struct little class bytes small need.0 other.0 o chained.1.0.0 here.2,
-      )
-      (ap (λ (versions : List VerNeedAux). (need.0, versions) ∷ ver_needs (table_in little class bytes) (length (other ∷ needs)) (o + need.0.vn_next)) (need_versions need o here.3 here.4)
-      ∙ ap (λ (others : List (VerNeed × List VerNeedAux)). need ∷ others) behind)
-
-  definition_names : (definition : VerDef × List VerDefAux) (o : ℕ) → definition.0.vd_cnt ≡ length definition.1 →
-      AreChained little ver_def_aux_struct (λ x. x.vda_next) bytes (o + definition.0.vd_aux) definition.1 →
-      ver_def_aux_records (table_in little class bytes) definition.0.vd_cnt (o + definition.0.vd_aux) ≡ definition.1
-  definition_names definition o count chained =
-      rw count (chain_read_back ver_def_aux_layout ver_def_aux_struct (λ x. x.vda_next) ver_def_aux_is_struct little class bytes small definition.1 (o + definition.0.vd_aux) chained)
+  needs_read_back =
+      entries_read_back ver_need_layout ver_need_struct (λ x. x.vn_next) (λ x. x.vn_cnt) (λ x. x.vn_aux)
+      ver_need_is_struct ver_need_aux_layout ver_need_aux_struct (λ x. x.vna_next) ver_need_aux_is_struct little class
+      bytes small
 
   pub definitions_read_back : (definitions : List (VerDef × List VerDefAux)) (o : ℕ) →
       DefinitionsAreChained little bytes o definitions →
       ver_defs (table_in little class bytes) (length definitions) o ≡ definitions
-  unfolding links_in
-  definitions_read_back [] o chained = refl
-  definitions_read_back (definition ∷ []) o chained =
-      let here = chained.0 in
-      rw (link_read ver_def_layout ver_def_struct (λ x. x.vd_next) ver_def_is_struct little class bytes small definition.0 o 0 here.0 here.1, no_next o (definition.0.vd_next) here.2)
-      (ap (λ (names : List VerDefAux). (definition.0, names) ∷ []) (definition_names definition o here.3 here.4))
-  definitions_read_back (definition ∷ other ∷ definitions) o chained =
-      let here = chained.0 in
-      let behind = definitions_read_back (other ∷ definitions) (o + definition.0.vd_next) chained.1 in
-      rw (
-        link_read ver_def_layout ver_def_struct (λ x. x.vd_next) ver_def_is_struct little class bytes small definition.0 o (length (other ∷ definitions)) here.0 here.1,
-        next_lies ver_def_layout ver_def_struct (λ x. x.vd_next) ver_def_is_struct little class bytes small definition.0 other.0 o chained.1.0.0 here.2,
-      )
-      (ap (λ (names : List VerDefAux). (definition.0, names) ∷ ver_defs (table_in little class bytes) (length (other ∷ definitions)) (o + definition.0.vd_next)) (definition_names definition o here.3 here.4)
-      ∙ ap (λ (others : List (VerDef × List VerDefAux)). definition ∷ others) behind)
+  definitions_read_back =
+      entries_read_back ver_def_layout ver_def_struct (λ x. x.vd_next) (λ x. x.vd_cnt) (λ x. x.vd_aux)
+      ver_def_is_struct ver_def_aux_layout ver_def_aux_struct (λ x. x.vda_next) ver_def_aux_is_struct little class
+      bytes small

@@ -18,7 +18,7 @@ use Rattle.elf_parts.specs.Relocation.{rel_layout, rela_layout, sym_of_info, typ
 use Rattle.elf_parts.specs.Section.{section_header_layout}
 use Rattle.elf_parts.specs.Segment.{program_header_layout}
 use Rattle.elf_parts.specs.Symbol.{symbol_layout}
-use Rattle.elf_parts.specs.Symver.{ver_need_layout, ver_need_aux_layout, ver_def_layout, ver_def_aux_layout, version_index_layout}
+use Rattle.elf_parts.specs.gnu_symver.Records.{ver_def_aux_layout, ver_def_layout, ver_need_aux_layout, ver_need_layout, version_index_layout}
 use Rattle.elf_parts.specs.Word.{u32_layout, u64_layout}
 use Rattle.elf_parts.specs.declared.compression.CompressionHeader.{CompressionHeader}
 use Rattle.elf_parts.specs.declared.dynamic.Dyn.{Dyn}

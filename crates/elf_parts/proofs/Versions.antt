@@ -3,17 +3,20 @@ use Rattle.std.proofs.Common.{◌≡◌, ◌≤◌, ◌+◌, ℕ, Bool, ◌==◌
 use Rattle.std.specs.List.{find}
 use Rattle.std.proofs.lemmas.Grind.{common_steps}
 use Rattle.elf_parts.proofs.LinkedRecords.{count_bounds, links_few, map_bounds}
-use Rattle.elf_parts.specs.Link.{links_in, links_view}
+use Rattle.elf_parts.specs.gnu_symver.Links.{links_in, links_view}
 use Rattle.elf_parts.specs.Record.{record_by}
-use Rattle.elf_parts.specs.Symver.{defined_version, needed_versions, needed_version, version_with}
-use Rattle.elf_parts.specs.Symver.{raw_names, ver_def_aux_layout, ver_def_aux_left, ver_def_aux_reads, ver_def_aux_table}
-use Rattle.elf_parts.specs.Symver.{ver_def_layout, ver_def_with_aux, ver_defs}
+use Rattle.elf_parts.specs.gnu_symver.Table.{defined_version, needed_version, needed_versions, version_with}
+use Rattle.elf_parts.specs.gnu_symver.Lists.{aux_view, ver_def_aux_left}
+use Rattle.elf_parts.specs.gnu_symver.Records.{ver_def_aux_layout, ver_def_aux_reads}
+use Rattle.elf_parts.specs.gnu_symver.Table.{raw_names}
+use Rattle.elf_parts.specs.gnu_symver.Lists.{ver_def_with_aux, ver_defs}
+use Rattle.elf_parts.specs.gnu_symver.Records.{ver_def_layout}
 use Rattle.elf_parts.specs.Table.{Table}
-use Rattle.elf_parts.specs.declared.gnu_symver.VerDef.{VerDef}
-use Rattle.elf_parts.specs.declared.gnu_symver.VerDefAux.{VerDefAux}
-use Rattle.elf_parts.specs.declared.gnu_symver.VerDefAuxIterator.{VerDefAuxIterator}
-use Rattle.elf_parts.specs.declared.gnu_symver.VerNeed.{VerNeed}
-use Rattle.elf_parts.specs.declared.gnu_symver.VerNeedAux.{VerNeedAux}
+use Rattle.elf_parts.specs.declared.gnu_symver.records.VerDef.{VerDef}
+use Rattle.elf_parts.specs.declared.gnu_symver.records.VerDefAux.{VerDefAux}
+use Rattle.elf_parts.specs.declared.gnu_symver.lists.AuxIterator.{AuxIterator}
+use Rattle.elf_parts.specs.declared.gnu_symver.records.VerNeed.{VerNeed}
+use Rattle.elf_parts.specs.declared.gnu_symver.records.VerNeedAux.{VerNeedAux}
 
 -- an item with the property is found before those behind it
 found_front : {A B : Type 0} (p : A → Bool) (q : B → Bool) (f : B → A) → ((x : B) → p (f x) ≡ q x) →
@@ -79,16 +82,16 @@ defined_few index t count start found e =
     (links_in (record_by ver_def_layout) (λ x. x.vd_next) t count start) found e
 
 -- no more names than bytes
-pub names_few : {E : Type 0} (strings : List ℕ) (s : VerDefAuxIterator E) →
-    length (raw_names strings (ver_def_aux_left s)) ≤ length (ver_def_aux_table s).bytes
+pub names_few : {E : Type 0} (strings : List ℕ) (s : AuxIterator E VerDefAux) →
+    length (raw_names strings (ver_def_aux_left s)) ≤ length (aux_view s).bytes
 names_few strings s =
-    let n = length (ver_def_aux_table s).bytes in
+    let n = length (aux_view s).bytes in
     let few =
     links_few ver_def_aux_reads (λ x. x.vda_next) (links_view s.links) s.links.count s.links.offset in
     map_bounds _ (ver_def_aux_left s) n (map_bounds _ _ n (omega (arith, few)))
 
 -- nor than the count
-pub names_counted : {E : Type 0} (strings : List ℕ) (s : VerDefAuxIterator E) →
+pub names_counted : {E : Type 0} (strings : List ℕ) (s : AuxIterator E VerDefAux) →
     length (raw_names strings (ver_def_aux_left s)) ≤ s.links.count
 names_counted strings s =
     let n = s.links.count in

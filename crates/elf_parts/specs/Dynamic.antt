@@ -1,5 +1,6 @@
 -- The field table of a dynamic entry (gABI, chapter "Dynamic Section").
 use Rattle.std.specs.Prelude.{ℕ, List, [], ◌∷◌, slice_index, refl}
+use Rattle.elf_parts.specs.Class.{address_size}
 use Rattle.elf_parts.specs.Number.{signed_number}
 use Rattle.elf_parts.specs.Record.{Field, field, Layout, RecordType}
 use Rattle.elf_parts.specs.inner.RecordLaws.{by_layout}
@@ -17,15 +18,10 @@ dyn_fields ELF64 =
     field 8 8 ∷  -- d_un
     []
 
--- how many bytes a tag has
-abbrev pub tag_width : Class → ℕ
-tag_width ELF32 = 4
-tag_width ELF64 = 8
-
--- the entry that the numbers of its fields make; a tag is signed
+-- the entry that the numbers of its fields make; a tag is signed and has the size of an address
 abbrev pub dyn_entry : Class → List ℕ → Dyn
 dyn_entry class n = record {
-  d_tag = signed_number (tag_width class) (slice_index n 0);
+  d_tag = signed_number (address_size class) (slice_index n 0);
   d_un = slice_index n 1;
 }
 

@@ -1,7 +1,9 @@
 -- GNU hash sections, and what is found by them.
-use Rattle.std.specs.Prelude.{ℕ, ◌+◌, ◌-◌, ◌*◌, ◌/◌, ◌%◌, ◌^◌, ◌<◌, zero, suc, Bool, false, ◌||◌, if◌then◌else◌, ◌==◌, nat_lt, nat_le, List, [], ◌∷◌, drop, map, Option, Some, None, Result, Ok, Err, IsOk}
+use Rattle.std.specs.Prelude.{ℕ, ◌+◌, ◌-◌, ◌*◌, ◌/◌, ◌%◌, ◌^◌, ◌<◌, zero, suc, Bool, false, ◌||◌, if◌then◌else◌, ◌==◌}
+use Rattle.std.specs.Prelude.{nat_lt, nat_le, List, [], ◌∷◌, drop, map, Option, Some, None, Result, Ok, Err, IsOk}
 use Rattle.std.specs.Int.{bit_at}
 use Rattle.std.specs.Str.{bytes_eq}
+use Rattle.elf_parts.specs.Class.{address_bits, address_size}
 use Rattle.elf_parts.specs.Hash.{gnu_hash_of, gnu_header_layout, long_word_at, named_symbol, word_at, word_count}
 use Rattle.elf_parts.specs.Number.{bytes_at, ok_map}
 use Rattle.elf_parts.specs.Record.{◌>>=◌, record_by}
@@ -30,17 +32,7 @@ gnu_view t = record {
   chains = table_view t.chains;
 }
 
--- how many bytes a bloom word has
-abbrev pub bloom_size : Class → ℕ
-bloom_size ELF32 = 4
-bloom_size ELF64 = 8
-
--- how many bits
-abbrev pub bloom_bits : Class → ℕ
-bloom_bits ELF32 = 32
-bloom_bits ELF64 = 64
-
--- bloom word i, or why it cannot be had
+-- bloom word i, which has the size of an address, or why it cannot be had
 abbrev pub bloom_word_by : Class → Table → ℕ → Result ℕ ParseError
 bloom_word_by ELF32 bloom i = word_at bloom i
 bloom_word_by ELF64 bloom i = long_word_at bloom i
@@ -53,13 +45,13 @@ bloom_word bloom i = bloom_word_by bloom.class bloom i
 unfoldable pub gnu_section : Bool → Class → List ℕ → Result GnuTable ParseError
 gnu_section little class bytes =
     record_by gnu_header_layout little class bytes 0 >>= λ header.
-    bytes_at (bloom_size class * header.nbloom) bytes 16 >>= λ bloom.
-    bytes_at (4 * header.nbucket) bytes (16 + bloom_size class * header.nbloom) >>= λ buckets.
+    bytes_at (address_size class * header.nbloom) bytes 16 >>= λ bloom.
+    bytes_at (4 * header.nbucket) bytes (16 + address_size class * header.nbloom) >>= λ buckets.
     Ok (record {
       hdr = header;
       bloom = table_in little class bloom;
       buckets = table_in little class buckets;
-      chains = table_in little class (drop (16 + bloom_size class * header.nbloom + 4 * header.nbucket) bytes);
+      chains = table_in little class (drop (16 + address_size class * header.nbloom + 4 * header.nbucket) bytes);
     })
 
 -- the rest of a run, behind a word that does not end it
@@ -67,7 +59,7 @@ abbrev pub run_on : Result ℕ ParseError → List ℕ → List ℕ
 run_on (Ok word) rest = if word % 2 == 1 then [] else rest
 run_on (Err e) rest = []
 
--- the places from this one up to and with that of the first chain word whose bit 0 is set, at most so many
+-- the places from this one up to and with that of the first chain word whose bit 0 is set, at most `limit`
 abbrev pub run : Table → ℕ → ℕ → List ℕ
 run chains zero place = []
 run chains (suc limit) place = place ∷ run_on (word_at chains place) (run chains limit (place + 1))
@@ -75,15 +67,15 @@ run chains (suc limit) place = place ∷ run_on (word_at chains place) (run chai
 module _ (t : GnuTable) where
   -- the bloom word of a hash
   abbrev pub bloom_of : ℕ → Result ℕ ParseError
-  bloom_of hash = bloom_word t.bloom (hash / bloom_bits t.bloom.class % t.hdr.nbloom)
+  bloom_of hash = bloom_word t.bloom (hash / address_bits t.bloom.class % t.hdr.nbloom)
 
   -- whether both bits of a hash are set in its bloom word; the second one is looked at only where the first is
   unfoldable pub passes : ℕ → Result Bool ParseError
   passes hash =
       bloom_of hash >>= λ word.
-      if bit_at word (hash % bloom_bits t.bloom.class) == 0 then Ok false
+      if bit_at word (hash % address_bits t.bloom.class) == 0 then Ok false
       else if nat_le 32 t.hdr.nshift then Err IntegerOverflow
-      else Ok (bit_at word (hash / 2 ^ t.hdr.nshift % bloom_bits t.bloom.class) == 1)
+      else Ok (bit_at word (hash / 2 ^ t.hdr.nshift % address_bits t.bloom.class) == 1)
 
   -- the bloom words that the header counts can be read
   abbrev pub ReadsBloom : Type 0

@@ -1,6 +1,7 @@
 -- The two hashes of a name (gABI, chapter "Hash Table", and GNU's), and what a hash section is read by: its header,
 -- words, and symbols with their names.
-use Rattle.std.specs.Prelude.{◌≡◌, ◌↔◌, ℕ, ◌+◌, ◌*◌, ◌/◌, ◌%◌, ◌^◌, ◌<◌, List, [], ◌∷◌, slice_index, length, refl, bit_and, bit_xor, Result, Ok, IsOk}
+use Rattle.std.specs.Prelude.{◌≡◌, ◌↔◌, ℕ, ◌+◌, ◌*◌, ◌/◌, ◌%◌, ◌^◌, ◌<◌, List, [], ◌∷◌, slice_index, length, refl}
+use Rattle.std.specs.Prelude.{bit_and, bit_xor, Result, Ok, IsOk}
 use Rattle.elf_parts.specs.Record.{◌>>=◌, Field, field, Layout, RecordType}
 use Rattle.elf_parts.specs.StringTable.{string_at}
 use Rattle.elf_parts.specs.Symbol.{symbol_reads}

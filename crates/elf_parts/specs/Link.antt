@@ -1,14 +1,7 @@
--- Linked records: each one tells how far behind its own start the next one begins.
-use Rattle.std.specs.Prelude.{◌≡◌, ◌≤◌, ⊤, length, take, ℕ, zero, suc, ◌+◌, ◌^◌, if◌then◌else◌, ◌==◌, ◌||◌, nat_le}
-use Rattle.std.specs.Prelude.{Option, Some, None, List, [], ◌∷◌, Result, Ok, Err, Bool}
-use Rattle.elf_parts.specs.declared.file.Class.{Class}
+-- Linked records: each one tells where the next one begins.
+use Rattle.std.specs.Prelude.{◌≡◌, ◌≤◌, ⊤, length, take, ℕ, zero, suc}
+use Rattle.std.specs.Prelude.{Option, Some, None, List, [], ◌∷◌, Result, Ok, Err}
 use Rattle.elf_parts.specs.declared.parse.ParseError.{ParseError}
-use Rattle.elf_parts.specs.declared.gnu_symver.links.Links.{Links}
-use Rattle.elf_parts.specs.Table.{Table, table_in}
-
--- where the next record begins, if there is one: not where the distance to it is 0, nor where it would lie past 64 bits
-abbrev pub next_start : ℕ → ℕ → Option ℕ
-next_start o distance = if distance == 0 || nat_le (2 ^ 64) (o + distance) then None else Some (o + distance)
 
 -- the list from an offset on, if there is one
 abbrev pub from_next : {X : Type 0} → Option ℕ → (ℕ → List X) → List X
@@ -41,21 +34,3 @@ AreLongest {A = A} gives follow count start list =
     AreLinked gives follow (Some start) list × (length list ≤ count)
     × ((others : List (ℕ × A)) → AreLinked gives follow (Some start) others → length others ≤ count →
     others ≡ take (length others) list)
-
--- ---- a type of records, by the record at an offset and the distance to the next one that it tells
-
-module _ {A : Type 0} (record_at : Bool → Class → List ℕ → ℕ → Result A ParseError) (distance : A → ℕ) where
-  -- the linked records of these bytes
-  unfoldable pub links_in : Table → ℕ → ℕ → List (ℕ × A)
-  links_in t count start = links (record_at t.little t.class t.bytes) (λ o x. next_start o (distance x)) count start
-
--- ---- what the struct shows
-
--- the bytes that an iterator reads, with their order and class
-abbrev pub links_view : {E R : Type 0} → Links E R → Table
-links_view s = table_in s.little s.class s.«data».now
-
--- the records that an iterator is still to give
-abbrev pub links_left : {E R : Type 0} → (Bool → Class → List ℕ → ℕ → Result R ParseError) → (R → ℕ) → Links E R →
-    List (ℕ × R)
-links_left record_at distance s = links_in record_at distance (links_view s) s.count s.offset

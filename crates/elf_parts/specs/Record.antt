@@ -7,7 +7,7 @@ use Rattle.elf_parts.specs.declared.parse.ParseError.{ParseError}
 use Rattle.elf_parts.specs.declared.parse.ParseError.TheVariants.{UnsupportedVersion}
 use Rattle.elf_parts.specs.Number.{number_at, ok_map}
 
--- a number of so many bytes, so far behind the start of its record; a version has to be the one given
+-- a number of `width` bytes, `place` bytes behind the start of its record; a version has to be the one given
 pub record Field : Type 0 where
   pub place : ℕ
   pub width : ℕ

@@ -1,5 +1,6 @@
 -- The field tables of relocations, without and with an addend (gABI, chapter "Relocation").
 use Rattle.std.specs.Prelude.{ℕ, ◌/◌, ◌%◌, ◌^◌, List, [], ◌∷◌, slice_index, refl}
+use Rattle.elf_parts.specs.Class.{address_size}
 use Rattle.elf_parts.specs.Number.{signed_number}
 use Rattle.elf_parts.specs.Record.{Field, field, Layout, RecordType}
 use Rattle.elf_parts.specs.inner.RecordLaws.{by_layout}
@@ -42,7 +43,7 @@ rel_layout = record { fields = rel_fields; make = rel }
 abbrev pub rel_reads : RecordType Rel
 rel_reads = by_layout rel_layout refl
 
--- ---- with an addend, which is signed
+-- ---- with an addend, which is signed and has the size of an address
 
 abbrev pub rela_fields : Class → List Field
 rela_fields ELF32 =
@@ -56,17 +57,12 @@ rela_fields ELF64 =
     field 16 8 ∷  -- r_addend
     []
 
--- how many bytes an addend has
-abbrev pub addend_width : Class → ℕ
-addend_width ELF32 = 4
-addend_width ELF64 = 8
-
 abbrev pub rela : Class → List ℕ → Rela
 rela class n = record {
   r_offset = slice_index n 0;
   r_sym = sym_of_info class (slice_index n 1);
   r_type = type_of_info class (slice_index n 1);
-  r_addend = signed_number (addend_width class) (slice_index n 2);
+  r_addend = signed_number (address_size class) (slice_index n 2);
 }
 
 abbrev pub rela_layout : Layout Rela

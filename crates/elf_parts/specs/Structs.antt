@@ -4,17 +4,18 @@ use Rattle.std.specs.Prelude.{◌≡◌, ◌≢◌, ℕ, ◌+◌, ◌-◌, ◌<�
 use Rattle.std.specs.Int.{next_multiple_of}
 use Rattle.std.specs.List.{repeat}
 use Rattle.elf_parts.specs.Note.{NoteContent, AbiTag, BuildId, Other}
-use Rattle.elf_parts.specs.Written.{Member, Parts, byte, half, word, xword, sword, sxword, struct_bytes, Fits, LiesAt, IsDistance, AreChained}
+use Rattle.elf_parts.specs.Written.{Member, Parts, byte, half, word, xword, sword, sxword, struct_bytes, Fits, LiesAt}
+use Rattle.elf_parts.specs.Written.{IsDistance, AreChained}
 use Rattle.elf_parts.specs.declared.compression.CompressionHeader.{CompressionHeader}
 use Rattle.elf_parts.specs.declared.dynamic.Dyn.{Dyn}
 use Rattle.elf_parts.specs.declared.file.Class.{Class}
 use Rattle.elf_parts.specs.declared.file.Class.TheVariants.{ELF32, ELF64}
 use Rattle.elf_parts.specs.declared.file.FileHeader.{FileHeader}
-use Rattle.elf_parts.specs.declared.gnu_symver.VerDef.{VerDef}
-use Rattle.elf_parts.specs.declared.gnu_symver.VerDefAux.{VerDefAux}
-use Rattle.elf_parts.specs.declared.gnu_symver.VerNeed.{VerNeed}
-use Rattle.elf_parts.specs.declared.gnu_symver.VerNeedAux.{VerNeedAux}
-use Rattle.elf_parts.specs.declared.gnu_symver.VersionIndex.{VersionIndex}
+use Rattle.elf_parts.specs.declared.gnu_symver.records.VerDef.{VerDef}
+use Rattle.elf_parts.specs.declared.gnu_symver.records.VerDefAux.{VerDefAux}
+use Rattle.elf_parts.specs.declared.gnu_symver.records.VerNeed.{VerNeed}
+use Rattle.elf_parts.specs.declared.gnu_symver.records.VerNeedAux.{VerNeedAux}
+use Rattle.elf_parts.specs.declared.gnu_symver.records.VersionIndex.{VersionIndex}
 use Rattle.elf_parts.specs.declared.hash.gnu.GnuHashHeader.{GnuHashHeader}
 use Rattle.elf_parts.specs.declared.hash.sysv.SysVHashHeader.{SysVHashHeader}
 use Rattle.elf_parts.specs.declared.note.NoteGnuAbiTag.{NoteGnuAbiTag}
@@ -135,26 +136,31 @@ abbrev pub ident_bytes : Class → ℕ → ℕ → ℕ → List ℕ → List ℕ
 ident_bytes class order osabi abiversion padding =
     0x7f ∷ 0x45 ∷ 0x4c ∷ 0x46 ∷ class_byte class ∷ order ∷ 1 ∷ osabi ∷ abiversion ∷ padding
 
--- ---- needs and definitions, each with its records (GNU symbol versioning)
+-- ---- needs and definitions, each with its auxiliary entries (GNU symbol versioning)
 
--- needs lie in the bytes, the first at o, and each next one where vn_next tells; of each so many needed versions as vn_cnt
--- tells, the first where vn_aux tells, and each next one where vna_next tells
+module _ {V A : Type 0} (little : Bool) (struct : V → List Member) (next count aux : V → ℕ)
+    (aux_struct : A → List Member) (aux_next : A → ℕ) (bytes : List ℕ) where
+  -- entries lie in the bytes, the first at o, and each next one where `next` tells; of each as many auxiliary entries
+  -- as `count` tells, the first where `aux` tells, and each next one where `aux_next` tells
+  abbrev pub EntriesAreChained : ℕ → List (V × List A) → Type 0
+  EntriesAreChained o [] = ⊤
+  EntriesAreChained o (entry ∷ entries) =
+      (LiesAt little (struct entry.0) bytes o × Fits (struct entry.0) × IsDistance (next entry.0) entries
+      × (count entry.0 ≡ length entry.1)
+      × AreChained little aux_struct aux_next bytes (o + aux entry.0) entry.1)
+      × EntriesAreChained (o + next entry.0) entries
+
+-- needs, each with the versions that are needed
 abbrev pub NeedsAreChained : Bool → List ℕ → ℕ → List (VerNeed × List VerNeedAux) → Type 0
-NeedsAreChained little bytes o [] = ⊤
-NeedsAreChained little bytes o (need ∷ needs) =
-    (LiesAt little (ver_need_struct need.0) bytes o × Fits (ver_need_struct need.0)
-    × IsDistance (need.0.vn_next) needs × (need.0.vn_cnt ≡ length need.1)
-    × AreChained little ver_need_aux_struct (λ x. x.vna_next) bytes (o + need.0.vn_aux) need.1)
-    × NeedsAreChained little bytes (o + need.0.vn_next) needs
+NeedsAreChained little bytes o needs =
+    EntriesAreChained little ver_need_struct (λ x. x.vn_next) (λ x. x.vn_cnt) (λ x. x.vn_aux) ver_need_aux_struct
+    (λ x. x.vna_next) bytes o needs
 
--- the same of definitions and their names
+-- definitions, each with its names
 abbrev pub DefinitionsAreChained : Bool → List ℕ → ℕ → List (VerDef × List VerDefAux) → Type 0
-DefinitionsAreChained little bytes o [] = ⊤
-DefinitionsAreChained little bytes o (definition ∷ definitions) =
-    (LiesAt little (ver_def_struct definition.0) bytes o × Fits (ver_def_struct definition.0)
-    × IsDistance (definition.0.vd_next) definitions × (definition.0.vd_cnt ≡ length definition.1)
-    × AreChained little ver_def_aux_struct (λ x. x.vda_next) bytes (o + definition.0.vd_aux) definition.1)
-    × DefinitionsAreChained little bytes (o + definition.0.vd_next) definitions
+DefinitionsAreChained little bytes o definitions =
+    EntriesAreChained little ver_def_struct (λ x. x.vd_next) (λ x. x.vd_cnt) (λ x. x.vd_aux) ver_def_aux_struct
+    (λ x. x.vda_next) bytes o definitions
 
 -- ---- notes (gABI, "Program Header", "Note Section")
 
@@ -168,7 +174,7 @@ note_parts little (AbiTag tag) = (1, gnu_name, struct_bytes little (abi_tag_stru
 note_parts little (BuildId id) = (3, gnu_name, id)
 note_parts little (Other type name descriptor) = (type, name, descriptor)
 
--- so many 0 bytes that what follows begins at a multiple of the alignment
+-- the 0 bytes from o up to the next multiple of the alignment
 abbrev pub padding : ℕ → ℕ → List ℕ
 padding align o = repeat (next_multiple_of o align - o) (0 ∷ [])
 

@@ -1,5 +1,6 @@
 -- SysV hash sections, and what is found by them (gABI, chapter "Hash Table").
-use Rattle.std.specs.Prelude.{ℕ, ◌+◌, ◌*◌, ◌%◌, zero, suc, Bool, if◌then◌else◌, ◌==◌, List, [], ◌∷◌, map, Option, Some, None, Result, Ok, Err}
+use Rattle.std.specs.Prelude.{ℕ, ◌+◌, ◌*◌, ◌%◌, zero, suc, Bool, if◌then◌else◌, ◌==◌, List, [], ◌∷◌, map, Option, Some}
+use Rattle.std.specs.Prelude.{None, Result, Ok, Err}
 use Rattle.std.specs.Str.{bytes_eq}
 use Rattle.elf_parts.specs.Hash.{named_symbol, sysv_hash_of, sysv_header_layout, word_at, word_count}
 use Rattle.elf_parts.specs.Number.{bytes_at}
@@ -38,7 +39,7 @@ abbrev pub walk_on : Result ℕ ParseError → (ℕ → List ℕ) → List ℕ
 walk_on (Ok next) rest = rest next
 walk_on (Err e) rest = []
 
--- an index, the chain word at it, and so on: at most so many, and none of them 0
+-- an index, the chain word at it, and so on: at most `limit` of them, none of them 0
 abbrev pub walk : Table → ℕ → ℕ → List ℕ
 walk chains zero index = []
 walk chains (suc limit) index =

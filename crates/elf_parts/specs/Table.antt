@@ -1,5 +1,6 @@
 -- Tables: records of one size that lie one behind the other (gABI, "Sections" and "Program Header").
-use Rattle.std.specs.Prelude.{ℕ, zero, suc, ◌+◌, ◌-◌, ◌*◌, ◌/◌, ◌^◌, Bool, if◌then◌else◌, ◌==◌, nat_le, nat_lt, List, [], ◌∷◌, length, Result, Ok, Err}
+use Rattle.std.specs.Prelude.{ℕ, zero, suc, ◌+◌, ◌-◌, ◌*◌, ◌/◌, ◌^◌, Bool, if◌then◌else◌, ◌==◌, nat_le, nat_lt, List}
+use Rattle.std.specs.Prelude.{[], ◌∷◌, length, Result, Ok, Err}
 use Rattle.elf_parts.specs.declared.file.Class.{Class}
 use Rattle.elf_parts.specs.declared.parse.ParseError.{ParseError}
 use Rattle.elf_parts.specs.declared.parse.ParseError.TheVariants.{BadOffset, IntegerOverflow}
@@ -34,9 +35,11 @@ unless_refused (Err e) xs = []
 -- the records at o, o + size and so on, up to the first that is refused, and no more than the limit
 abbrev pub items_from : {A : Type 0} → (List ℕ → ℕ → Result A ParseError) → ℕ → ℕ → List ℕ → ℕ → List A
 items_from gives size zero bytes o = []
-items_from gives size (suc limit) bytes o = unless_refused (gives bytes o) (items_from gives size limit bytes (o + size))
+items_from gives size (suc limit) bytes o =
+    unless_refused (gives bytes o) (items_from gives size limit bytes (o + size))
 
--- all records of the bytes up to the first that is refused; since a record has a byte at least, there are no more records than bytes
+-- all records of the bytes up to the first that is refused; since a record has a byte at least, there are no more
+-- records than bytes
 abbrev pub items : {A : Type 0} → (List ℕ → ℕ → Result A ParseError) → ℕ → List ℕ → List A
 items gives size bytes = items_from gives size (length bytes) bytes 0
 
@@ -63,4 +66,5 @@ table_view t = table_in t.little t.class t.«data».now
 -- the records that an iterator is still to give
 unfoldable pub items_left : {E P : Type 0} → RecordType P → ParsingIterator E P → List P
 items_left reads s =
-    items_from (reads.record_at s.little s.class) (reads.size s.class) (length s.«data».now - s.offset) s.«data».now s.offset
+    items_from (reads.record_at s.little s.class) (reads.size s.class) (length s.«data».now - s.offset) s.«data».now
+    s.offset

@@ -1,6 +1,7 @@
--- How a file is written: what gABI prints as C structs, string tables, notes, and records linked by distances, as bytes.
--- Nothing here looks at the field tables, or at how anything is read.
-use Rattle.std.specs.Prelude.{◌≡◌, ◌≢◌, ℕ, zero, suc, ◌+◌, ◌-◌, ◌*◌, ◌/◌, ◌%◌, ◌^◌, ◌<◌, Bool, if◌then◌else◌, ⊤, ℤ, pos, negsuc}
+-- How a file is written: what gABI prints as C structs, string tables, notes, and records linked by distances, as
+-- bytes. Nothing here looks at the field tables, or at how anything is read.
+use Rattle.std.specs.Prelude.{◌≡◌, ◌≢◌, ℕ, zero, suc, ◌+◌, ◌-◌, ◌*◌, ◌/◌, ◌%◌, ◌^◌, ◌<◌, Bool, if◌then◌else◌, ⊤, ℤ, pos}
+use Rattle.std.specs.Prelude.{negsuc}
 use Rattle.std.specs.Prelude.{List, [], ◌∷◌, ◌++◌, length, reverse, Ok}
 use Rattle.elf_parts.specs.declared.file.Class.{Class}
 use Rattle.std.specs.List.{sum_by}
@@ -9,12 +10,12 @@ use Rattle.elf_parts.specs.Table.{items}
 
 -- ---- numbers
 
--- so many digits of n to base 256, the lowest first
+-- the lowest digits of n to base 256, as many as the width, the lowest first
 abbrev pub digits_256 : ℕ → ℕ → List ℕ
 digits_256 zero n = []
 digits_256 (suc width) n = n % 256 ∷ digits_256 width (n / 256)
 
--- a number in so many bytes: the lowest byte comes first in little order, last in big order
+-- a number in `width` bytes: the lowest byte comes first in little order, last in big order
 abbrev pub bytes_of : Bool → ℕ → ℕ → List ℕ
 bytes_of little width n = if little then digits_256 width n else reverse (digits_256 width n)
 
@@ -30,8 +31,8 @@ FitsSigned width (negsuc n) = n < 2 ^ (8 * width - 1)
 
 -- ---- structures
 
--- a member of a C struct of so many bytes: an unsigned number; a signed number; or two parts of one number, the higher
--- one and behind it the lower one, which has so many bits
+-- a member of a C struct, by its number of bytes: an unsigned number; a signed number; or, with the number of bits of
+-- its lower part, a number in two parts, of which the higher one comes first
 pub data Member : Type 0 where
   Unsigned : ℕ → ℕ → Member
   Signed : ℕ → ℤ → Member
@@ -80,7 +81,8 @@ Fits (member ∷ members) = FitsMember member × Fits members
 -- the members one directly behind the other
 abbrev pub struct_bytes : Bool → List Member → List ℕ
 struct_bytes little [] = []
-struct_bytes little (member ∷ members) = bytes_of little (width_of member) (number_of member) ++ struct_bytes little members
+struct_bytes little (member ∷ members) =
+    bytes_of little (width_of member) (number_of member) ++ struct_bytes little members
 
 -- structures one directly behind the other
 abbrev pub table_of : {A : Type 0} → Bool → (A → List Member) → List A → List ℕ

@@ -1,8 +1,8 @@
 //! Why bytes are refused, records that are read from them, and tables of such records.
 ghost use Rattle.std.specs.Prelude.{◌≡◌, if◌then◌else◌, ◌==◌};
+ghost use Rattle.elf_parts.specs.Class.{address_size};
 ghost use Rattle.elf_parts.specs.Number.{moved_by, number_at};
 ghost use Rattle.elf_parts.specs.Record.{RecordType};
-ghost use Rattle.elf_parts.specs.inner.Part.{class_width};
 ghost use Rattle.elf_parts.specs.declared.parse.ParseError.{ParseError};
 ghost use Rattle.elf_parts.specs.declared.parse.ParseError.TheVariants.{IOError as IsIOError, Utf8Error as IsUtf8Error};
 ghost use Rattle.elf_parts.specs.declared.parse.ParseError.TheVariants.{TryFromIntError as IsTryFromIntError};
@@ -143,15 +143,17 @@ pub trait ParseAt: Sized {
     }
 }
 
-// An address, an offset or a size: four bytes in a 32-bit file, eight in a 64-bit one.
+// An address, an offset or a size: four bytes in a 32-bit file, eight in a 64-bit one. A call of it costs more than
+// what it does, and a section header has six.
+#[inline(always)]
 pub(crate) fn parse_by_class<E: EndianParse>(
     endian: E,
     class: Class,
     offset: &mut usize,
     data: &[u8],
 ) -> Result<u64, ParseError>
-    ensures value { result ≡ number_at (E.little endian) (class_width class) «data».now offset.old }
-    ensures moved { offset.new ≡ moved_by (class_width class) result offset.old }
+    ensures value { result ≡ number_at (E.little endian) (address_size class) «data».now offset.old }
+    ensures moved { offset.new ≡ moved_by (address_size class) result offset.old }
 {
     match class {
         Class::ELF32 => Ok(endian.parse_u32_at(offset, data)? as u64),

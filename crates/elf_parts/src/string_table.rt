@@ -1,16 +1,51 @@
 //! Tables of strings (gABI, chapter "String Table").
-ghost use Rattle.std.specs.Prelude.{◌≡◌, ◌==◌, position};
+ghost use Rattle.std.specs.Prelude.{◌≡◌, ◌==◌, ◌+◌, ◌≤◌, drop, length, not, position, take};
+ghost use Rattle.std.specs.List.{prefix_len};
 ghost use Rattle.elf_parts.specs.Number.{ok_map};
 ghost use Rattle.elf_parts.specs.StringTable.{string_at, strings_view, GivesText};
 
 use crate::parse::ParseError;
+use std::simd::prelude::*;
 use std::str::from_utf8;
+
+// How many bytes are compared with 0 at once.
+const LANES: usize = 16;
+
+// How many of the `LANES` bytes from start on come before the first 0 byte.
+fn count_before_nul(bytes: &[u8], start: usize) -> usize
+    requires { start + LANES ≤ length bytes.now }
+    ensures { result ≡ prefix_len (λ byte. not (byte == 0)) (take LANES (drop start bytes.now)) }
+{
+    let nuls = u8x16::from_slice(&bytes[start..]).simd_eq(u8x16::splat(0));
+    let mask = nuls.to_bitmask();
+    if mask == 0 {
+        LANES
+    } else {
+        mask.trailing_zeros() as usize
+    }
+}
+
+// The place of the first 0 byte, looked for one by one.
+fn first_nul_of_few(bytes: &[u8]) -> Option<usize>
+    ensures { result ≡ position (λ byte. byte == 0) bytes.now }
+{
+    bytes.iter().position(|byte| *byte == 0)
+}
 
 // The place of the first 0 byte.
 fn first_nul(bytes: &[u8]) -> Option<usize>
     ensures { result ≡ position (λ byte. byte == 0) bytes.now }
 {
-    bytes.iter().position(|byte| *byte == 0)
+    let mut start = 0;
+    while LANES <= bytes.len() - start {
+        let count = count_before_nul(bytes, start);
+        if count < LANES {
+            return Some(start + count);
+        }
+        start += LANES;
+    }
+    let count = first_nul_of_few(&bytes[start..])?;
+    Some(start + count)
 }
 
 /// Strings, each ended by a 0 byte and named by the offset of its first byte. The default has none.

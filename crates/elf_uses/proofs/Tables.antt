@@ -9,12 +9,13 @@ use Rattle.std.specs.declared.cmp.PartialEq.{Ghosts as PartialEqGhosts}
 use Rattle.std.specs.declared.default.Default.{Ghosts as DefaultGhosts}
 use Rattle.elf_parts.specs.declared.endian.EndianParse.{Ghosts as EndianGhosts}
 use Rattle.elf.specs.declared.elf_bytes.ElfBytes.{ElfBytes}
-use Rattle.elfshow.specs.ObjectView.{object_view}
-use Rattle.elfshow.specs.Resolve.{IsFaultOf, IsSound, IsTableOf, Object}
-use Rattle.elfshow.specs.declared.hashcheck.gnu.CheckedGnuHash.{CheckedGnuHash}
-use Rattle.elfshow.specs.declared.hashcheck.sysv.CheckedSysvHash.{CheckedSysvHash}
-use Rattle.elfshow.specs.declared.resolve.HashKind.{HashKind}
-use Rattle.elfshow.specs.declared.resolve.ObjectFault.{ObjectFault}
+use Rattle.elf_check.specs.CheckedTable.{object_view}
+use Rattle.elf_check.specs.Object.{IsSound, Object}
+use Rattle.elf_check.specs.ObjectTable.{IsFaultOf, IsTableOf}
+use Rattle.elf_check.specs.declared.hashcheck.gnu.CheckedGnuHash.{CheckedGnuHash}
+use Rattle.elf_check.specs.declared.hashcheck.sysv.CheckedSysvHash.{CheckedSysvHash}
+use Rattle.elf_check.specs.declared.hashcheck.any.HashKind.{HashKind}
+use Rattle.elf_check.specs.declared.resolve.ObjectFault.{ObjectFault}
 use Rattle.elf_uses.specs.Resolver.{HasTable, HaveTables, IsTable, IsTrueOf, library}
 use Rattle.elf_uses.specs.declared.resolver.TablesError.TheVariants.{Fault, Memory, NoHash}
 

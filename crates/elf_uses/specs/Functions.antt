@@ -1,10 +1,11 @@
 -- Which symbols are functions that a file defines for others, and the versions that it defines them with.
-use Rattle.std.specs.Prelude.{◌≡◌, ℕ, ◌==◌, ◌&&◌, ◌||◌, not, Bool, MatchBool, bit_and, List, [], ◌∷◌, Option, Some, None, Result, Ok, Err, MatchResult}
+use Rattle.std.specs.Prelude.{◌≡◌, ℕ, ◌==◌, ◌&&◌, ◌||◌, not, Bool, MatchBool, bit_and, List}
+use Rattle.std.specs.Prelude.{[], ◌∷◌, Option, Some, None, Result, Ok, Err, MatchResult}
 use Rattle.std.specs.Option.{IsSomeAnd}
 use Rattle.elf_abi.specs.Values.{shn_undef, stb_local, stt_func, stt_gnu_ifunc, ver_flg_base}
 use Rattle.elf_parts.specs.StringTable.{GivesText}
 use Rattle.elf_parts.specs.Symbol.{symbol_binding, symbol_type}
-use Rattle.elf_parts.specs.Symver.{Definition}
+use Rattle.elf_parts.specs.gnu_symver.Table.{Definition}
 use Rattle.elf_parts.specs.declared.parse.ParseError.{ParseError}
 use Rattle.elf_parts.specs.declared.symbol.Symbol.{Symbol}
 use Rattle.elf_uses.specs.declared.functions.Version.{Version}

@@ -3,19 +3,18 @@ use Rattle.std.specs.Prelude.{◌≡◌, ℕ, ◌==◌, if◌then◌else◌, Opt
 use Rattle.std.specs.Option.{IsSomeAnd}
 use Rattle.std.specs.Result.{IsOkAnd}
 use Rattle.elf_abi.specs.Values.{sht_gnu_hash, sht_hash}
-use Rattle.elf_parts.specs.GnuFind.{gnu_section}
-use Rattle.elf_parts.specs.Number.{ok_map}
-use Rattle.elf_parts.specs.SysvFind.{sysv_section}
 use Rattle.elf_parts.specs.declared.section.SectionHeader.{SectionHeader}
 use Rattle.elf.specs.ObjectFile.{ObjectFile}
-use Rattle.elfshow.specs.Resolve.{ByGnu, BySysv, IsFaultOf, IsSound, Object, given_by, indexed_count}
-use Rattle.elfshow.specs.declared.resolve.ObjectFault.{ObjectFault}
+use Rattle.elf_check.specs.Object.{IsSound, Object, indexed_count}
+use Rattle.elf_check.specs.ObjectTable.{IsFaultOf, section_object}
+use Rattle.elf_check.specs.declared.hashcheck.any.HashSection.TheVariants.{Gnu, Sysv}
+use Rattle.elf_check.specs.declared.resolve.ObjectFault.{ObjectFault}
 
 -- the table of a section of type SHT_GNU_HASH or SHT_HASH, over the dynamic symbols
 abbrev pub hash_object : ObjectFile → SectionHeader → Option (Result Object ObjectFault)
 hash_object file s =
-    if s.sh_type == sht_gnu_hash then Some (ok_map ByGnu (given_by gnu_section file s))
-    else if s.sh_type == sht_hash then Some (ok_map BySysv (given_by sysv_section file s))
+    if s.sh_type == sht_gnu_hash then Some (section_object Gnu file s)
+    else if s.sh_type == sht_hash then Some (section_object Sysv file s)
     else None
 
 -- the count of the symbols of a table that is sound

@@ -3,3 +3,4 @@ pub mod Functions
 pub mod LoadPlan
 pub mod HashLint
 pub mod Resolver
+pub mod Bindings

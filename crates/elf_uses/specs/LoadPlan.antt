@@ -1,5 +1,6 @@
 -- What a loader maps where, and when that is a plan (gABI, chapter "Program Header").
-use Rattle.std.specs.Prelude.{◌≡◌, ℕ, ◌+◌, ◌<◌, ◌==◌, nat_le, nat_lt, min, max, Bool, true, false, List, length, map, filter, take, slice_get, IfSome}
+use Rattle.std.specs.Prelude.{◌≡◌, ℕ, ◌+◌, ◌<◌, ◌==◌, nat_le, nat_lt, min, max, Bool}
+use Rattle.std.specs.Prelude.{true, false, List, length, map, filter, take, slice_get, IfSome}
 use Rattle.std.specs.List.{list_any}
 use Rattle.std.specs.Option.{IsSomeAnd}
 use Rattle.elf_abi.specs.Values.{pt_load}

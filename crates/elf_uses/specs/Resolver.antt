@@ -8,14 +8,16 @@ use Rattle.elf_abi.specs.Values.{shn_undef}
 use Rattle.elf_parts.specs.declared.endian.EndianParse.{Ghosts as EndianGhosts}
 use Rattle.elf_parts.specs.declared.symbol.Symbol.{Symbol}
 use Rattle.elf.specs.ObjectFile.{object_file}
-use Rattle.elf.specs.View.{view}
+use Rattle.elf.specs.ElfBytes.{view}
 use Rattle.elf.specs.declared.elf_bytes.ElfBytes.{ElfBytes}
-use Rattle.elfshow.specs.ObjectView.{object_view}
-use Rattle.elfshow.specs.Resolve.{At, IsFaultOf, IsFound, IsSound, IsTableOf, Object, object_of}
-use Rattle.elfshow.specs.declared.hashcheck.gnu.CheckedGnuHash.{CheckedGnuHash}
-use Rattle.elfshow.specs.declared.hashcheck.sysv.CheckedSysvHash.{CheckedSysvHash}
-use Rattle.elfshow.specs.declared.resolve.HashKind.{HashKind}
-use Rattle.elfshow.specs.declared.resolve.ObjectFault.{ObjectFault}
+use Rattle.elf_check.specs.CheckedTable.{object_view}
+use Rattle.elf_check.specs.Object.{IsFound, IsSound, Object}
+use Rattle.elf_check.specs.ObjectTable.{IsFaultOf, IsTableOf, object_of}
+use Rattle.elf_check.specs.Resolve.{At}
+use Rattle.elf_check.specs.declared.hashcheck.gnu.CheckedGnuHash.{CheckedGnuHash}
+use Rattle.elf_check.specs.declared.hashcheck.sysv.CheckedSysvHash.{CheckedSysvHash}
+use Rattle.elf_check.specs.declared.hashcheck.any.HashKind.{HashKind}
+use Rattle.elf_check.specs.declared.resolve.ObjectFault.{ObjectFault}
 use Rattle.elf_uses.specs.declared.resolver.TablesError.{TablesError}
 use Rattle.elf_uses.specs.declared.resolver.TablesError.TheVariants.{Fault, Memory, NoHash}
 

@@ -1,7 +1,7 @@
 //! What a loader maps where.
 ghost use Rattle.std.specs.Prelude.{◌≡◌, IfErr, IfOk, MatchOption, length};
 ghost use Rattle.std.specs.List.{list_any};
-ghost use Rattle.elf.specs.View.{segment_list, view};
+ghost use Rattle.elf.specs.ElfBytes.{segment_list, view};
 ghost use Rattle.elf_uses.specs.LoadPlan.{ApartBefore, FitBefore, IsFirstOverlap, IsFirstUnfit, IsPlan, IsTrueOf};
 ghost use Rattle.elf_uses.specs.LoadPlan.{fits, mapping_of, mappings, overlap};
 ghost use Rattle.elf_uses.specs.declared.load_plan.PlanError.TheVariants.{Memory as IsMemory};

@@ -1,12 +1,14 @@
-//! Five callers of the library, each in a module of its own, with the contract that its user wants: `build_id`,
-//! `functions`, `load_plan`, `hash_lint` and `resolver`.
+//! Six callers of the library, each in a module of its own, with the contract that its user wants: `build_id`,
+//! `functions`, `load_plan`, `hash_lint`, `resolver` and `bindings`.
 //!
 //! `elf_uses CALLER FILE..` prints what a caller answers of each file, where `resolver=NAME` looks a name up in all of
-//! them. `elf_uses rows FILE` does so for each line `CALLER : FILE CHANGE.. : FILE CHANGE..` of a file, over small files
+//! them, and `bindings` binds the undefined symbols of each of them, a program and its libraries in search order.
+//! `elf_uses rows FILE` does so for each line `CALLER : FILE CHANGE.. : FILE CHANGE..` of a file, over small files
 //! that are changed.
 #![tactic(auto)]
 
 mod answers;
+mod bindings;
 mod build_id;
 mod functions;
 mod hash_lint;

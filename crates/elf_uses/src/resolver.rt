@@ -1,13 +1,13 @@
 //! Names that are resolved over an ordered list of libraries.
 ghost use Rattle.std.specs.Prelude.{◌≡◌, IfErr, IfOk};
-ghost use Rattle.elfshow.specs.ObjectView.{object_view};
+ghost use Rattle.elf_check.specs.CheckedTable.{object_view};
 ghost use Rattle.elf_uses.specs.Resolver.{AreTables, IsDefinition, IsTrueOf};
 ghost use Rattle.elf_uses.specs.declared.resolver.TablesError.TheVariants.{Memory as IsMemory};
 
 use elf::ElfBytes;
 use elf::endian::EndianParse;
 use elf::symbol::Symbol;
-use elfshow::resolve::{AnyChecked, ObjectFault, object_table};
+use elf_check::resolve::{AnyChecked, ObjectFault, object_table};
 use std::alloc::{AllocFailed, Global};
 use thiserror::Error;
 

@@ -20,9 +20,8 @@ use Rattle.elf_parts.specs.Word.{u32_layout, u32_reads}
 use Rattle.elf_parts.specs.Written.{AllFit, Fits, IsStruct, Member, Unsigned, struct_bytes, table_of}
 use Rattle.elf_parts.specs.declared.file.Class.{Class}
 use Rattle.elf_parts.specs.declared.hash.sysv.SysVHashHeader.{SysVHashHeader}
-use Rattle.elfshow.specs.Sound.{word}
-use Rattle.elfshow.specs.SoundSysv.{SoundSysv}
-use Rattle.elfshow.specs.SoundVerdict.{section_given}
+use Rattle.elf_check.specs.SoundSysv.{SoundSysv}
+use Rattle.elf_check.specs.WithSymbols.{with_symbols, word}
 use Rattle.elf_worked.proofs.BuiltSound.{sysv_sound}
 use Rattle.elf_worked.proofs.PutIn.{head_in, tail_in}
 use Rattle.elf_worked.proofs.WrittenFiles.{bytes_lie, length-table, three_steps}
@@ -177,7 +176,7 @@ module _ (little : Bool) (class : Class) (nbucket : ℕ) (names : List (List ℕ
 
   pub sysv_bytes_built : nbucket < 2 ^ 32 → length names < 2 ^ 32 → CanPutIn nbucket names put symbols strings →
       let cut = sysv_section little class (sysv_section_bytes little nbucket names put) in
-      IsOkAnd (section_given symbols strings cut) (λ s. IsBuiltSysv names put s × SoundSysv s)
+      IsOkAnd (with_symbols symbols strings cut) (λ s. IsBuiltSysv names put s × SoundSysv s)
   sysv_bytes_built few_buckets few_names can =
       let h : SysVHashHeader = record { nbucket = nbucket; nchain = length names } in
       let b = built few_buckets few_names can in

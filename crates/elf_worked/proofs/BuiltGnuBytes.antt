@@ -8,7 +8,8 @@ use Rattle.std.proofs.lemmas.List.Sums.{prefix_len-le-length}
 use Rattle.std.proofs.lemmas.Nat.{or_lt, pow_below}
 use Rattle.elf_parts.proofs.Items.{lies}
 use Rattle.elf_parts.proofs.ReadStructs.{gnu_header_is_struct, u64_is_struct}
-use Rattle.elf_parts.specs.GnuFind.{GnuTable, bloom_bits, bloom_size, bloom_word, gnu_section}
+use Rattle.elf_parts.specs.Class.{address_bits, address_size}
+use Rattle.elf_parts.specs.GnuFind.{GnuTable, bloom_word, gnu_section}
 use Rattle.elf_parts.specs.Hash.{gnu_hash_from, gnu_hash_of, gnu_header_layout, long_word_at, word_at, word_count}
 use Rattle.elf_parts.specs.Number.{bytes_at}
 use Rattle.elf_parts.specs.Record.{record_by}
@@ -19,9 +20,8 @@ use Rattle.elf_parts.specs.Written.{Fits, struct_bytes, table_of}
 use Rattle.elf_parts.specs.declared.file.Class.{Class}
 use Rattle.elf_parts.specs.declared.file.Class.TheVariants.{ELF32, ELF64}
 use Rattle.elf_parts.specs.declared.hash.gnu.GnuHashHeader.{GnuHashHeader}
-use Rattle.elfshow.specs.Sound.{bloom, word}
-use Rattle.elfshow.specs.SoundGnu.{SoundGnu}
-use Rattle.elfshow.specs.SoundVerdict.{section_given}
+use Rattle.elf_check.specs.SoundGnu.{SoundGnu}
+use Rattle.elf_check.specs.WithSymbols.{bloom, with_symbols, word}
 use Rattle.elf_worked.proofs.BuiltBytes.{all_fit, item_written, length_words, length_written, words_written}
 use Rattle.elf_worked.proofs.BuiltSound.{gnu_sound}
 use Rattle.elf_worked.proofs.WrittenFiles.{bytes_lie, three_steps}
@@ -87,11 +87,11 @@ bloom_lt bits nbloom shift (hash ∷ hashes) place some power =
 -- ---- the bloom words
 
 length_bloom : (little : Bool) (class : Class) (count : ℕ) (at : ℕ → ℕ) →
-    length (bloom_bytes little class (all_below count at)) ≡ bloom_size class * count
+    length (bloom_bytes little class (all_below count at)) ≡ address_size class * count
 length_bloom little ELF32 count at = length_words little ELF32 count at
 length_bloom little ELF64 count at = length_written u64_layout one_xword u64_is_struct little ELF64 count at
 
-bloom_written : (little : Bool) (class : Class) (count : ℕ) (at : ℕ → ℕ) → ((i : ℕ) → at i < 2 ^ bloom_bits class) →
+bloom_written : (little : Bool) (class : Class) (count : ℕ) (at : ℕ → ℕ) → ((i : ℕ) → at i < 2 ^ address_bits class) →
     count < 2 ^ 32 → (i : ℕ) → i < count →
     bloom (table_in little class (bloom_bytes little class (all_below count at))) i ≡ Some (at i)
 unfolding word word_at long_word_at bloom bloom_word
@@ -114,8 +114,8 @@ table_of_parts little class h words buckets chains = record {
 }
 
 cut : (little : Bool) (class : Class) (h : GnuHashHeader) (words buckets chains : List ℕ) →
-    Fits (gnu_header_struct h) → length words ≡ bloom_size class * h.nbloom → length buckets ≡ 4 * h.nbucket →
-    16 + bloom_size class * h.nbloom + 4 * h.nbucket + length chains < 2 ^ 64 →
+    Fits (gnu_header_struct h) → length words ≡ address_size class * h.nbloom → length buckets ≡ 4 * h.nbucket →
+    16 + address_size class * h.nbloom + 4 * h.nbucket + length chains < 2 ^ 64 →
     gnu_section little class (struct_bytes little (gnu_header_struct h) ++ (words ++ (buckets ++ chains)))
     ≡ Ok (table_of_parts little class h words buckets chains)
 unfolding gnu_section
@@ -135,29 +135,29 @@ cut little class h words buckets chains fit long_words long_buckets short =
     split ∙ sym (append_assoc (front ++ words) buckets chains) in
     let first : LieAt words bytes 16 =
     record { before = front; behind = buckets ++ chains; at = sixteen; is = refl } in
-    let second : LieAt buckets bytes (16 + bloom_size class * h.nbloom) =
+    let second : LieAt buckets bytes (16 + address_size class * h.nbloom) =
     record { before = front ++ words; behind = chains; at = omega (arith, l4, sixteen, long_words); is = split } in
-    let rest : drop (16 + bloom_size class * h.nbloom + 4 * h.nbucket) bytes ≡ chains =
-    ap (λ (xs : List ℕ). drop (16 + bloom_size class * h.nbloom + 4 * h.nbucket) xs) split_again
-    ∙ drop_at ((front ++ words) ++ buckets) chains (16 + bloom_size class * h.nbloom + 4 * h.nbucket)
+    let rest : drop (16 + address_size class * h.nbloom + 4 * h.nbucket) bytes ≡ chains =
+    ap (λ (xs : List ℕ). drop (16 + address_size class * h.nbloom + 4 * h.nbucket) xs) split_again
+    ∙ drop_at ((front ++ words) ++ buckets) chains (16 + address_size class * h.nbloom + 4 * h.nbucket)
     (omega (arith, l4, l5, sixteen, long_words, long_buckets)) in
     let make : GnuHashHeader → List ℕ → List ℕ → GnuTable =
-    λ x y z. table_of_parts little class x y z (drop (16 + bloom_size class * x.nbloom + 4 * x.nbucket) bytes) in
+    λ x y z. table_of_parts little class x y z (drop (16 + address_size class * x.nbloom + 4 * x.nbucket) bytes) in
     three_steps (record_by gnu_header_layout little class bytes 0)
-    (λ x. bytes_at (bloom_size class * x.nbloom) bytes 16)
-    (λ x. bytes_at (4 * x.nbucket) bytes (16 + bloom_size class * x.nbloom))
+    (λ x. bytes_at (address_size class * x.nbloom) bytes 16)
+    (λ x. bytes_at (4 * x.nbucket) bytes (16 + address_size class * x.nbloom))
     make h words buckets
     (gnu_header_is_struct.0 little class h [] (words ++ (buckets ++ chains)) fit (lit≤ tt))
-    (bytes_lie words bytes 16 (bloom_size class * h.nbloom) small long_words first)
-    (bytes_lie buckets bytes (16 + bloom_size class * h.nbloom) (4 * h.nbucket) small long_buckets second)
+    (bytes_lie words bytes 16 (address_size class * h.nbloom) small long_words first)
+    (bytes_lie buckets bytes (16 + address_size class * h.nbloom) (4 * h.nbucket) small long_buckets second)
     ∙ ap (λ (xs : List ℕ). Ok (table_of_parts little class h words buckets xs)) rest
 
 -- the number of bits of a bloom word
-some_bits : (class : Class) → (0 < bloom_bits class) × (0 < 2 ^ bloom_bits class)
+some_bits : (class : Class) → (0 < address_bits class) × (0 < 2 ^ address_bits class)
 some_bits ELF32 = (lit≤ tt, lit≤ tt)
 some_bits ELF64 = (lit≤ tt, lit≤ tt)
 
-few_bytes : (class : Class) (count : ℕ) → count < 2 ^ 32 → bloom_size class * count < 2 ^ 36
+few_bytes : (class : Class) (count : ℕ) → count < 2 ^ 32 → address_size class * count < 2 ^ 36
 few_bytes ELF32 count few = omega (arith, few)
 few_bytes ELF64 count few = omega (arith, few)
 
@@ -167,7 +167,7 @@ module _ (little : Bool) (class : Class) (h : GnuHashHeader) (names : List (List
   hashes = gnu_hashes names
 
   abbrev bloom_at : ℕ → ℕ
-  bloom_at place = bloom_of_all (bloom_bits class) h.nbloom h.nshift hashes place
+  bloom_at place = bloom_of_all (address_bits class) h.nbloom h.nshift hashes place
 
   abbrev bucket_at : ℕ → ℕ
   bucket_at bucket = bucket_word h.nbucket hashes h.table_start_idx bucket
@@ -190,7 +190,7 @@ module _ (little : Bool) (class : Class) (h : GnuHashHeader) (names : List (List
       let bits = some_bits class in
       let bloom_words =
       bloom_written little class h.nbloom bloom_at (λ i.
-      bloom_lt (bloom_bits class) h.nbloom h.nshift hashes i bits.0 bits.1) fit.1.1.0 in
+      bloom_lt (address_bits class) h.nbloom h.nshift hashes i bits.0 bits.1) fit.1.1.0 in
       let bucket_words =
       words_written little class h.nbucket bucket_at (λ i _.
       bucket_word_lt h.nbucket hashes h.table_start_idx i (omega (arith, few, long))) (omega (arith, fit.0)) in
@@ -208,7 +208,7 @@ module _ (little : Bool) (class : Class) (h : GnuHashHeader) (names : List (List
   pub gnu_bytes_built : Fits (gnu_header_struct h) → h.table_start_idx + length names ≤ 2 ^ 32 →
       CanWrite h h.nbucket names symbols strings →
       let cut = gnu_section little class (gnu_section_bytes little class h (gnu_hashes names)) in
-      IsOkAnd (section_given symbols strings cut) (λ s. IsBuiltGnu names s × SoundGnu s)
+      IsOkAnd (with_symbols symbols strings cut) (λ s. IsBuiltGnu names s × SoundGnu s)
   gnu_bytes_built fit few can =
       let long : length hashes ≡ length names = length-map names gnu_hash_of in
       let b = built fit few can in
@@ -219,7 +219,7 @@ module _ (little : Bool) (class : Class) (h : GnuHashHeader) (names : List (List
       let buckets : List ℕ = table_of little one_word (all_below h.nbucket bucket_at) in
       let long_words = length_bloom little class h.nbloom bloom_at in
       let long_buckets = length_words little class h.nbucket bucket_at in
-      let short : 16 + bloom_size class * h.nbloom + 4 * h.nbucket + length chains < 2 ^ 64 =
+      let short : 16 + address_size class * h.nbloom + 4 * h.nbucket + length chains < 2 ^ 64 =
       omega (arith, few_blooms, fit.0, few, long, long_chains) in
       let e = cut little class h words buckets chains fit long_words long_buckets short in
       rw e (b, gnu_sound names (record { table = table; symbols = symbols; strings = strings }) b)

@@ -7,7 +7,7 @@ use Rattle.elf_parts.specs.Number.{bytes_at, number_at}
 use Rattle.elf_parts.specs.Record.{numbers_at}
 use Rattle.elf_parts.specs.StringTable.{string_at}
 use Rattle.elf_parts.specs.SysvFind.{SysvTable}
-use Rattle.elfshow.specs.Sound.{Given, bloom, name_at, named, word}
+use Rattle.elf_check.specs.WithSymbols.{WithSymbols, bloom, name_at, named, word}
 use Rattle.elf_worked.proofs.Below.{below_one, below_three, below_two}
 use Rattle.elf_worked.specs.Built.{AreGrouped, HasGnuWords, HasSysvWords, IsBuiltGnu, IsBuiltSysv, bloom_of_all, bucket_after, bucket_word, chain_after, gnu_hashes, name_in, run_word, sysv_bucket}
 use Rattle.elf_worked.specs.BuiltSections.{gnu_built_names, sysv_built_names, sysv_built_order}
@@ -16,7 +16,7 @@ use Rattle.elf_worked.specs.SoundSections.{gnu_with, sysv_with}
 
 -- ---- SysV
 
-abbrev sysv_one : Given SysvTable
+abbrev sysv_one : WithSymbols SysvTable
 sysv_one = sysv_with 8 (in_four 0)
 
 below_four : (P : ℕ → Type 0) → P 0 → P 1 → P 2 → P 3 → (i : ℕ) → i < 4 → P i
@@ -70,7 +70,7 @@ sysv_built = (
 
 -- ---- GNU
 
-abbrev gnu_one : Given GnuTable
+abbrev gnu_one : WithSymbols GnuTable
 gnu_one = gnu_with 3 5 0xc0 0x06 0x09
 
 gnu_words : HasGnuWords (gnu_hashes gnu_built_names) gnu_one.table

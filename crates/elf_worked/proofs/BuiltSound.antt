@@ -10,7 +10,8 @@ use Rattle.std.proofs.lemmas.List.Elements.{All-contains}
 use Rattle.std.proofs.lemmas.Map.Made.{IsDistinct-from_AllPairs, is_member-Decides}
 use Rattle.std.proofs.lemmas.Map.Steps.{length-le_from_distinct_below}
 use Rattle.elf_parts.proofs.Items.{lies}
-use Rattle.elf_parts.specs.GnuFind.{GnuTable, bloom_bits}
+use Rattle.elf_parts.specs.Class.{address_bits}
+use Rattle.elf_parts.specs.GnuFind.{GnuTable}
 use Rattle.elf_parts.specs.Hash.{gnu_hash_of, sysv_hash_of, word_at, word_count}
 use Rattle.elf_parts.specs.Record.{record_by}
 use Rattle.elf_parts.specs.SysvFind.{SysvTable}
@@ -18,12 +19,12 @@ use Rattle.elf_parts.specs.Table.{Table, item_at}
 use Rattle.elf_parts.specs.Word.{u32_layout, u32_reads}
 use Rattle.elf_parts.specs.declared.parse.ParseError.{ParseError}
 use Rattle.elf_parts.specs.declared.symbol.Symbol.{Symbol}
-use Rattle.elfshow.proofs.Reading.{word_ok}
-use Rattle.elfshow.proofs.SysvScan.{before_end, visits_before}
-use Rattle.elfshow.specs.Scan.{IndexedSysv, IsFirstNamed, IsLeastNamed}
-use Rattle.elfshow.specs.Sound.{Given, name_at, named, word}
-use Rattle.elfshow.specs.SoundGnu.{HasBothBits, InRun, RunsTo, SoundGnu, SoundWord}
-use Rattle.elfshow.specs.SoundSysv.{Belongs, EndsAt, SoundSysv, chain_word, value}
+use Rattle.elf_check.proofs.Reading.{word_ok}
+use Rattle.elf_check.proofs.SysvScan.{before_end, visits_before}
+use Rattle.elf_check.specs.Indexed.{IndexedSysv, IsFirstNamed, IsLeastNamed}
+use Rattle.elf_check.specs.SoundGnu.{HasBothBits, InRun, RunsTo, SoundGnu, SoundWord}
+use Rattle.elf_check.specs.SoundSysv.{Belongs, EndsAt, SoundSysv, chain_word, value}
+use Rattle.elf_check.specs.WithSymbols.{WithSymbols, name_at, named, word}
 use Rattle.elf_worked.proofs.Grouped.{bits_set, half_of_run_word, leads}
 use Rattle.elf_worked.proofs.PutIn.{Chained, Steps, whole_chain}
 use Rattle.elf_worked.specs.Built.{IsBuiltGnu, IsBuiltSysv, gnu_bucket, gnu_hashes, name_in, run_word, sysv_bucket}
@@ -43,7 +44,7 @@ name_such (Some found) name P e h = let same : found.1 ≡ name = cc e in subst 
 
 -- ---- SysV
 
-module _ (names : List (List ℕ)) (put : List ℕ) (s : Given SysvTable) (built : IsBuiltSysv names put s) where
+module _ (names : List (List ℕ)) (put : List ℕ) (s : WithSymbols SysvTable) (built : IsBuiltSysv names put s) where
   abbrev bucket_of : ℕ → ℕ
   bucket_of index = sysv_bucket (word_count s.table.buckets) names index
 
@@ -141,7 +142,7 @@ word_counted words i w e =
     let there = law.within words.bytes (i * 4) w (item_ok gives 4 words.bytes i w (word_ok words i w e)) in
     omega (arith, there)
 
-module _ (names : List (List ℕ)) (s : Given GnuTable) (built : IsBuiltGnu names s) where
+module _ (names : List (List ℕ)) (s : WithSymbols GnuTable) (built : IsBuiltGnu names s) where
   abbrev hashes : List ℕ
   hashes = gnu_hashes names
 
@@ -154,7 +155,7 @@ module _ (names : List (List ℕ)) (s : Given GnuTable) (built : IsBuiltGnu name
 
   both_bits_set : (k : ℕ) → k < length hashes → HasBothBits s.table (get_or hashes k 0)
   both_bits_set k below =
-      let bits = bloom_bits s.table.bloom.class in
+      let bits = address_bits s.table.bloom.class in
       let nbloom = s.table.hdr.nbloom in
       let place = get_or hashes k 0 / bits % nbloom in
       let inside : place < nbloom = omega (arith, built.1.some_bloom) in

@@ -7,17 +7,18 @@ use Rattle.elf_parts.specs.Number.{bytes_at, number_at}
 use Rattle.elf_parts.specs.Record.{numbers_at}
 use Rattle.elf_parts.specs.StringTable.{string_at}
 use Rattle.elf_parts.specs.Table.{Table}
-use Rattle.elfshow.proofs.GnuVerdicts.{true_fault}
-use Rattle.elfshow.specs.Sound.{Given, bloom, named, word}
-use Rattle.elfshow.specs.SoundFaults.{IsTrueOfGnu}
-use Rattle.elfshow.specs.SoundGnu.{HasBothBits, InRun, RunsTo, SoundGnu, SoundWord}
-use Rattle.elfshow.specs.declared.hashcheck.HashFault.{HashFault}
-use Rattle.elfshow.specs.declared.hashcheck.HashFault.TheVariants.{NoBloomBit, NotInRun, ShiftTooLarge, Unreadable, WrongHash}
+use Rattle.elf_check.proofs.GnuVerdicts.{true_fault}
+use Rattle.elf_check.specs.Faults.{IsTrueOfGnu}
+use Rattle.elf_check.specs.SoundGnu.{HasBothBits, InRun, RunsTo, SoundGnu, SoundWord}
+use Rattle.elf_check.specs.WithSymbols.{WithSymbols, bloom, named, word}
+use Rattle.elf_check.specs.declared.hashcheck.HashFault.{HashFault}
+use Rattle.elf_check.specs.declared.hashcheck.HashFault.TheVariants.{NoBloomBit, NotInRun, ShiftTooLarge, Unreadable}
+use Rattle.elf_check.specs.declared.hashcheck.HashFault.TheVariants.{WrongHash}
 use Rattle.elf_worked.specs.SoundSections.{HasGnuFault, gnu_with}
 
 -- ---- the sound one
 
-abbrev sound_one : Given GnuTable
+abbrev sound_one : WithSymbols GnuTable
 sound_one = gnu_with 3 5 0xc0 0x06 0x09
 
 -- a word that can be read begins within the bytes
@@ -89,7 +90,7 @@ not_in_run = (lit≤ tt, (1, refl, (refl, (lit≤ tt, (refl, refl)), no_run)))
 
 -- ---- a section of which a fault is true is not sound
 
-with_fault : (s : Given GnuTable) (fault : HashFault) → IsTrueOfGnu s fault → HasGnuFault fault s
+with_fault : (s : WithSymbols GnuTable) (fault : HashFault) → IsTrueOfGnu s fault → HasGnuFault fault s
 with_fault s fault h = (λ sound. true_fault s sound fault h, h)
 
 pub has_shift : HasGnuFault ShiftTooLarge (gnu_with 3 32 0xc0 0x06 0x09)

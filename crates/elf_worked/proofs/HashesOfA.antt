@@ -6,12 +6,12 @@ use Rattle.elf_parts.specs.Hash.{gnu_hash_of, named_symbol, sysv_hash_of, word_a
 use Rattle.elf_parts.specs.Number.{bytes_at, number_at}
 use Rattle.elf_parts.specs.Record.{numbers_at}
 use Rattle.elf_parts.specs.StringTable.{string_at}
-use Rattle.elfshow.proofs.SysvVerdicts.{true_fault}
-use Rattle.elfshow.specs.Sound.{bloom, named, word}
-use Rattle.elfshow.specs.SoundFaults.{IsTrueOfSysv}
-use Rattle.elfshow.specs.SoundGnu.{SoundGnu, SoundWord}
-use Rattle.elfshow.specs.SoundSysv.{SoundSysv, value}
-use Rattle.elfshow.specs.declared.hashcheck.HashFault.TheVariants.{Endless}
+use Rattle.elf_check.proofs.SysvVerdicts.{true_fault}
+use Rattle.elf_check.specs.Faults.{IsTrueOfSysv}
+use Rattle.elf_check.specs.SoundGnu.{SoundGnu, SoundWord}
+use Rattle.elf_check.specs.SoundSysv.{SoundSysv, value}
+use Rattle.elf_check.specs.WithSymbols.{bloom, named, word}
+use Rattle.elf_check.specs.declared.hashcheck.HashFault.TheVariants.{Endless}
 use Rattle.elf_worked.proofs.Below.{below_one, below_three, suc_other}
 use Rattle.elf_worked.proofs.GnuSound.{word_begins}
 use Rattle.elf_worked.proofs.SysvSound.{IsVisit}

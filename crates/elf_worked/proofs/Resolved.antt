@@ -9,12 +9,13 @@ use Rattle.elf_parts.specs.StringTable.{string_at}
 use Rattle.elf_parts.specs.SysvFind.{find_along, sysv_find, sysv_section}
 use Rattle.elf_parts.specs.declared.file.Class.TheVariants.{ELF32}
 use Rattle.elf_parts.specs.declared.symbol.Symbol.{Symbol}
-use Rattle.elfshow.proofs.GnuScan.{gnu_scan}
-use Rattle.elfshow.proofs.SysvScan.{sysv_scan}
-use Rattle.elfshow.specs.Resolve.{At, Has, Object}
-use Rattle.elfshow.specs.Scan.{IsFirstNamed, IsLeastNamed}
-use Rattle.elfshow.specs.Sound.{named, word}
-use Rattle.elfshow.specs.inner.SoundProps.{GnuReads, SysvReads}
+use Rattle.elf_check.proofs.GnuScan.{gnu_scan}
+use Rattle.elf_check.proofs.SysvScan.{sysv_scan}
+use Rattle.elf_check.specs.Indexed.{IsFirstNamed, IsLeastNamed}
+use Rattle.elf_check.specs.Object.{Has, Object}
+use Rattle.elf_check.specs.Resolve.{At}
+use Rattle.elf_check.specs.WithSymbols.{named, word}
+use Rattle.elf_check.specs.inner.SoundProps.{GnuReads, SysvReads}
 use Rattle.elf_worked.proofs.Below.{below_one, below_two, some_other}
 use Rattle.elf_worked.proofs.GnuSound.{gnu_sound}
 use Rattle.elf_worked.proofs.SysvSound.{IsOther, sysv_sound}
@@ -23,13 +24,13 @@ use Rattle.elf_worked.specs.ObjectLists.{Resolves, first_object, second_object}
 use Rattle.elf_worked.specs.SoundSections.{gnu_bytes, gnu_with, symbol_of, sysv_bytes, sysv_with}
 use Rattle.elf_parts.specs.GnuFind.{GnuTable}
 use Rattle.elf_parts.specs.SysvFind.{SysvTable}
-use Rattle.elfshow.specs.Sound.{Given}
+use Rattle.elf_check.specs.WithSymbols.{WithSymbols}
 use Rattle.std.specs.Prelude.{true}
 
-abbrev one : Given SysvTable
+abbrev one : WithSymbols SysvTable
 one = sysv_with 8 (in_four 0)
 
-abbrev two : Given GnuTable
+abbrev two : WithSymbols GnuTable
 two = gnu_with 3 5 0xc0 0x06 0x09
 
 -- ---- look-ups, by what a look-up in a sound section finds

@@ -5,12 +5,12 @@ use Rattle.elf_parts.specs.Hash.{named_symbol, sysv_hash_of, word_at}
 use Rattle.elf_parts.specs.Number.{bytes_at, number_at}
 use Rattle.elf_parts.specs.Record.{numbers_at}
 use Rattle.elf_parts.specs.StringTable.{string_at}
-use Rattle.elfshow.proofs.SysvVerdicts.{true_fault}
-use Rattle.elfshow.specs.Sound.{Given, named, word}
-use Rattle.elfshow.specs.SoundFaults.{IsTrueOfSysv}
-use Rattle.elfshow.specs.SoundSysv.{Belongs, SoundSysv, value}
-use Rattle.elfshow.specs.declared.hashcheck.HashFault.{HashFault}
-use Rattle.elfshow.specs.declared.hashcheck.HashFault.TheVariants.{Endless, PastChains, Unreadable, WrongBucket}
+use Rattle.elf_check.proofs.SysvVerdicts.{true_fault}
+use Rattle.elf_check.specs.Faults.{IsTrueOfSysv}
+use Rattle.elf_check.specs.SoundSysv.{Belongs, SoundSysv, value}
+use Rattle.elf_check.specs.WithSymbols.{WithSymbols, named, word}
+use Rattle.elf_check.specs.declared.hashcheck.HashFault.{HashFault}
+use Rattle.elf_check.specs.declared.hashcheck.HashFault.TheVariants.{Endless, PastChains, Unreadable, WrongBucket}
 use Rattle.elf_parts.specs.SysvFind.{SysvTable}
 use Rattle.elf_worked.proofs.Below.{below_five, below_one, below_three, below_two, some_other, suc_other}
 use Rattle.elf_worked.specs.Files.{in_four}
@@ -18,15 +18,15 @@ use Rattle.elf_worked.specs.SoundSections.{HasSysvFault, sysv_with}
 
 -- ---- the sound one
 
-abbrev sound_one : Given SysvTable
+abbrev sound_one : WithSymbols SysvTable
 sound_one = sysv_with 8 (in_four 0)
 
 -- value i of a bucket's chain is an index that belongs there
-abbrev pub IsVisit : Given SysvTable → ℕ → ℕ → Type 0
+abbrev pub IsVisit : WithSymbols SysvTable → ℕ → ℕ → Type 0
 IsVisit s bucket i = IsSomeAnd (value s.table bucket i) (λ index. (0 < index) × Belongs s bucket index)
 
 -- value i of a bucket's chain is not 0
-abbrev pub IsOther : Given SysvTable → ℕ → ℕ → Type 0
+abbrev pub IsOther : WithSymbols SysvTable → ℕ → ℕ → Type 0
 IsOther s bucket i = value s.table bucket i ≢ Some 0
 
 pub sysv_sound : SoundSysv sound_one
@@ -64,7 +64,7 @@ other_bucket h = h.1 1 (lit≤ tt) refl
 
 -- ---- a section of which a fault is true is not sound
 
-with_fault : (s : Given SysvTable) (fault : HashFault) → IsTrueOfSysv s fault → HasSysvFault fault s
+with_fault : (s : WithSymbols SysvTable) (fault : HashFault) → IsTrueOfSysv s fault → HasSysvFault fault s
 with_fault s fault h = (λ sound. true_fault s sound fault h, h)
 
 pub has_endless : HasSysvFault (Endless 0) (sysv_with 8 (in_four 1))

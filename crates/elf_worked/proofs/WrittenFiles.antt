@@ -22,14 +22,14 @@ use Rattle.elf_parts.specs.declared.segment.ProgramHeader.{ProgramHeader}
 use Rattle.elf_parts.proofs.Items.{lies}
 use Rattle.elf_parts.proofs.Places.{slice_get-items}
 use Rattle.elf_parts.specs.inner.RecordLaws.{bytes_at-from}
-use Rattle.elf.specs.Choice.{if_found}
+use Rattle.elf.specs.Headers.{if_found}
 use Rattle.elf.specs.Names.{name_index, name_section, name_table}
 use Rattle.elf.specs.ObjectFile.{object_file}
-use Rattle.elf.specs.Range.{section_at, section_range}
-use Rattle.elfshow.proofs.Reading.{ok_from_some}
+use Rattle.elf.specs.Headers.{section_at, section_range}
+use Rattle.elf_check.proofs.Reading.{ok_from_some}
 use Rattle.std.proofs.lemmas.Option.{slice_get_within}
 use Rattle.elf.specs.Opening.{first_section, header_at_front, opened, section_count, section_table, segment_count, segment_table, table_bytes}
-use Rattle.elf.specs.View.{section_list, segment_list}
+use Rattle.elf.specs.ElfBytes.{section_list, segment_list}
 use Rattle.elf_worked.specs.WrittenFiles.{IsWritten, LieAt, NamesLie, SectionsLie, SegmentsLie, TableLies, names_told, phdr_size, sections_told, segments_of, segments_told, shdr_size, written_sections, written_segments, written_view}
 
 -- ---- steps that succeed

@@ -1,12 +1,15 @@
 -- How a linker fills a hash section: every word of it, by the names of the symbols.
-use Rattle.std.specs.Prelude.{◌≡◌, ◌≢◌, ℕ, ◌+◌, ◌*◌, ◌/◌, ◌%◌, ◌^◌, ◌<◌, ◌≤◌, bit_or, Bool, if◌then◌else◌, ◌==◌, not, ◌||◌, List, [], ◌∷◌, length, map, slice_index, slice_index_or, Some}
+use Rattle.std.specs.Prelude.{◌≡◌, ◌≢◌, ℕ, ◌+◌, ◌*◌, ◌/◌, ◌%◌, ◌^◌}
+use Rattle.std.specs.Prelude.{◌<◌, ◌≤◌, bit_or, Bool, if◌then◌else◌, ◌==◌, not, ◌||◌}
+use Rattle.std.specs.Prelude.{List, [], ◌∷◌, length, map, slice_index, slice_index_or, Some}
 use Rattle.std.specs.List.{All, AllPairs, position_or_len}
-use Rattle.elf_parts.specs.GnuFind.{GnuTable, bloom_bits}
+use Rattle.elf_parts.specs.Class.{address_bits}
+use Rattle.elf_parts.specs.GnuFind.{GnuTable}
 use Rattle.elf_parts.specs.Hash.{gnu_hash_of, sysv_hash_of, word_count}
 use Rattle.elf_parts.specs.SysvFind.{SysvTable}
 use Rattle.elf_parts.specs.Table.{Table}
 use Rattle.elf_parts.specs.declared.hash.gnu.GnuHashHeader.{GnuHashHeader}
-use Rattle.elfshow.specs.Sound.{Given, bloom, name_at, word}
+use Rattle.elf_check.specs.WithSymbols.{WithSymbols, bloom, name_at, word}
 
 -- the words of a table: so many, and these
 abbrev pub AreWords : Table → ℕ → (ℕ → ℕ) → Type 0
@@ -58,7 +61,7 @@ pub record CanPutIn (nbucket : ℕ) (names : List (List ℕ)) (put : List ℕ) (
   pub named : All (λ index. name_at symbols strings index ≡ Some (name_in names index)) put
 
 -- a section that was built for symbols of these names, from index 0 on, of which those were put in
-abbrev pub IsBuiltSysv : List (List ℕ) → List ℕ → Given SysvTable → Type 0
+abbrev pub IsBuiltSysv : List (List ℕ) → List ℕ → WithSymbols SysvTable → Type 0
 IsBuiltSysv names put s =
     HasSysvWords names put s.table × CanPutIn (word_count s.table.buckets) names put s.symbols s.strings
 
@@ -110,7 +113,7 @@ gnu_hashes names = map gnu_hash_of names
 -- all words of a section
 pub record HasGnuWords (hashes : List ℕ) (t : GnuTable) : Type 0 where
   pub bloom : (i : ℕ) → i < t.hdr.nbloom →
-      bloom t.bloom i ≡ Some (bloom_of_all (bloom_bits t.bloom.class) t.hdr.nbloom t.hdr.nshift hashes i)
+      bloom t.bloom i ≡ Some (bloom_of_all (address_bits t.bloom.class) t.hdr.nbloom t.hdr.nshift hashes i)
   pub buckets :
       AreWords t.buckets (word_count t.buckets) (bucket_word (word_count t.buckets) hashes t.hdr.table_start_idx)
   pub chains : AreWords t.chains (length hashes) (run_word (word_count t.buckets) hashes)
@@ -130,7 +133,7 @@ pub record CanWrite (h : GnuHashHeader) (nbucket : ℕ) (names : List (List ℕ)
       name_at symbols strings (h.table_start_idx + k) ≡ Some (name_in names k)
 
 -- a section that was built for the symbols from the first one on, which have these names
-abbrev pub IsBuiltGnu : List (List ℕ) → Given GnuTable → Type 0
+abbrev pub IsBuiltGnu : List (List ℕ) → WithSymbols GnuTable → Type 0
 IsBuiltGnu names s =
     HasGnuWords (gnu_hashes names) s.table
     × CanWrite s.table.hdr (word_count s.table.buckets) names s.symbols s.strings

@@ -1,7 +1,7 @@
 -- The bytes of the hash sections that a linker builds.
 use Rattle.std.specs.Prelude.{ℕ, Bool, List, [], ◌∷◌, ◌++◌, length, map}
 use Rattle.std.specs.List.{range_with_len}
-use Rattle.elf_parts.specs.GnuFind.{bloom_bits}
+use Rattle.elf_parts.specs.Class.{address_bits}
 use Rattle.elf_parts.specs.Structs.{gnu_header_struct, sysv_header_struct}
 use Rattle.elf_parts.specs.Written.{Member, struct_bytes, table_of, word, xword}
 use Rattle.elf_parts.specs.declared.file.Class.{Class}
@@ -37,6 +37,6 @@ bloom_bytes little ELF64 words = table_of little one_xword words
 abbrev pub gnu_section_bytes : Bool → Class → GnuHashHeader → List ℕ → List ℕ
 gnu_section_bytes little class h hashes =
     struct_bytes little (gnu_header_struct h)
-    ++ (bloom_bytes little class (all_below h.nbloom (bloom_of_all (bloom_bits class) h.nbloom h.nshift hashes))
+    ++ (bloom_bytes little class (all_below h.nbloom (bloom_of_all (address_bits class) h.nbloom h.nshift hashes))
     ++ (table_of little one_word (all_below h.nbucket (bucket_word h.nbucket hashes h.table_start_idx))
     ++ table_of little one_word (all_below (length hashes) (run_word h.nbucket hashes))))

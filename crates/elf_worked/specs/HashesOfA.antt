@@ -4,7 +4,7 @@ use Rattle.elf_parts.specs.GnuFind.{GnuTable}
 use Rattle.elf_parts.specs.SysvFind.{SysvTable}
 use Rattle.elf_parts.specs.Table.{Table, table_in}
 use Rattle.elf_parts.specs.declared.file.Class.TheVariants.{ELF32}
-use Rattle.elfshow.specs.Sound.{Given}
+use Rattle.elf_check.specs.WithSymbols.{WithSymbols}
 use Rattle.elf_worked.specs.Files.{in_four, zeros}
 
 abbrev pub strings_of_a : List ℕ
@@ -13,7 +13,7 @@ strings_of_a = 0 ∷ 0x61 ∷ 0 ∷ []
 abbrev pub symbols_of_a : Table
 symbols_of_a = table_in true ELF32 (zeros 16 ++ in_four 1 ++ in_four 0x10 ++ in_four 4 ++ (0x12 ∷ 0 ∷ 1 ∷ 0 ∷ []))
 
-abbrev pub sysv_of_a : ℕ → Given SysvTable
+abbrev pub sysv_of_a : ℕ → WithSymbols SysvTable
 sysv_of_a chain = record {
   table = record {
     buckets = table_in true ELF32 (in_four 1);
@@ -23,7 +23,7 @@ sysv_of_a chain = record {
   strings = strings_of_a;
 }
 
-abbrev pub gnu_of_a : Given GnuTable
+abbrev pub gnu_of_a : WithSymbols GnuTable
 gnu_of_a = record {
   table = record {
     hdr = record { nbucket = 1; table_start_idx = 1; nbloom = 1; nshift = 5 };

@@ -13,11 +13,11 @@ use Rattle.elf_parts.specs.declared.segment.ProgramHeader.{ProgramHeader}
 use Rattle.elf.specs.Names.{name_table}
 use Rattle.elf.specs.ObjectFile.{object_file}
 use Rattle.elf.specs.Opening.{opened}
-use Rattle.elf.specs.View.{View}
-use Rattle.elfshow.specs.Asked.{Asked}
-use Rattle.elfshow.specs.BytesAnswers.{answers_of}
-use Rattle.elfshow.specs.Text.{text}
-use Rattle.elf_worked.specs.Files.{elsewhere, header_of_tables, in_eight, in_four, in_two, loaded_segment, names_section, null_section, small_file, two_sections, zeros}
+use Rattle.elf.specs.ElfBytes.{View}
+use Rattle.elfshow.specs.calls.Question.{Question}
+use Rattle.elfshow.specs.calls.Text.{text}
+use Rattle.elf_worked.specs.Files.{elsewhere, header_of_tables, in_eight, in_four, in_two, loaded_segment}
+use Rattle.elf_worked.specs.Files.{names_section, null_section, small_file, two_sections, zeros}
 
 -- the header of the small file
 abbrev pub small_header : FileHeader AnyEndian
@@ -159,5 +159,5 @@ abbrev pub names_in : View AnyEndian → Result (Option (List ℕ)) ParseError
 names_in file = name_table (object_file any_is_little file)
 
 -- the text of the calls over that file
-abbrev pub listing : List ℕ → List Asked → Result (List ℕ) ParseError
-listing bytes calls = ok_map (λ file. text (answers_of any_is_little file) calls) (opening bytes)
+abbrev pub listing : List ℕ → List Question → Result (List ℕ) ParseError
+listing bytes calls = ok_map (λ file. text file.ehdr (object_file any_is_little file) calls) (opening bytes)

@@ -23,18 +23,18 @@ symbol_a_parts =
     ++ zeros 16 ++ in_four 1 ++ in_four 0x10 ++ in_four 4 ++ (0x12 ∷ 0 ∷ 1 ∷ 0 ∷ [])
 
 -- a GNU section, and a SysV section with a chain word of symbol 1
-abbrev pub gnu_hash_of_a : List ℕ
-gnu_hash_of_a =
+abbrev pub gnu_section_of_a : List ℕ
+gnu_section_of_a =
     in_four 1 ++ in_four 1 ++ in_four 1 ++ in_four 5
     ++ (0x40 ∷ 0 ∷ 1 ∷ 0 ∷ []) ++ in_four 1 ++ (0x07 ∷ 0xb6 ∷ 0x02 ∷ 0 ∷ [])
 
-abbrev pub sysv_hash_of_a : ℕ → List ℕ
-sysv_hash_of_a chain = in_four 1 ++ in_four 2 ++ in_four 1 ++ in_four 0 ++ in_four chain
+abbrev pub sysv_section_of_a : ℕ → List ℕ
+sysv_section_of_a chain = in_four 1 ++ in_four 2 ++ in_four 1 ++ in_four 0 ++ in_four chain
 
 -- these, with a type of the section that holds the GNU hash section
 abbrev pub symbol_a_with : List ℕ → ℕ → List ℕ
 symbol_a_with type chain =
-    header_of_sections 136 5 ++ symbol_a_parts ++ gnu_hash_of_a ++ sysv_hash_of_a chain
+    header_of_sections 136 5 ++ symbol_a_parts ++ gnu_section_of_a ++ sysv_section_of_a chain
     ++ null_entry
     ++ section_entry (in_four 3) 52 3 (zeros 16)
     ++ section_entry (in_four 11) 56 32 (in_four 1 ++ zeros 8 ++ in_four 16)

@@ -5,8 +5,10 @@ use Rattle.elf_parts.specs.Number.{ok_map}
 use Rattle.elf_parts.specs.declared.parse.ParseError.{ParseError}
 use Rattle.elf_parts.specs.declared.symbol.Symbol.{Symbol}
 use Rattle.elf.specs.ObjectFile.{object_file}
-use Rattle.elfshow.specs.Resolve.{ByGnu, BySysv, IsResolved, Object, object_of}
-use Rattle.elfshow.specs.declared.resolve.ObjectFault.{ObjectFault}
+use Rattle.elf_check.specs.Object.{ByGnu, BySysv, Object}
+use Rattle.elf_check.specs.ObjectTable.{object_of}
+use Rattle.elf_check.specs.Resolve.{IsResolved}
+use Rattle.elf_check.specs.declared.resolve.ObjectFault.{ObjectFault}
 use Rattle.elf_worked.specs.Files.{in_four}
 use Rattle.elf_worked.specs.Known.{opening}
 use Rattle.elf_worked.specs.SoundSections.{gnu_with, sysv_with}

@@ -1,12 +1,12 @@
 -- The bytes of notes and of versions of symbols, and what the versions are. Numbers are in little order.
 use Rattle.std.specs.Prelude.{ℕ, true, List, [], ◌∷◌, ◌++◌, Some}
-use Rattle.elf_parts.specs.Symver.{Versions}
+use Rattle.elf_parts.specs.gnu_symver.Table.{Versions}
 use Rattle.elf_parts.specs.Table.{table_in}
 use Rattle.elf_parts.specs.declared.file.Class.TheVariants.{ELF64}
-use Rattle.elf_parts.specs.declared.gnu_symver.VerDef.{VerDef}
-use Rattle.elf_parts.specs.declared.gnu_symver.VerDefAux.{VerDefAux}
-use Rattle.elf_parts.specs.declared.gnu_symver.VerNeed.{VerNeed}
-use Rattle.elf_parts.specs.declared.gnu_symver.VerNeedAux.{VerNeedAux}
+use Rattle.elf_parts.specs.declared.gnu_symver.records.VerDef.{VerDef}
+use Rattle.elf_parts.specs.declared.gnu_symver.records.VerDefAux.{VerDefAux}
+use Rattle.elf_parts.specs.declared.gnu_symver.records.VerNeed.{VerNeed}
+use Rattle.elf_parts.specs.declared.gnu_symver.records.VerNeedAux.{VerNeedAux}
 use Rattle.elf_worked.specs.Files.{in_four, in_two, zeros}
 
 -- ---- notes

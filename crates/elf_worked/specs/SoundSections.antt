@@ -7,12 +7,11 @@ use Rattle.elf_parts.specs.Table.{table_in}
 use Rattle.elf_parts.specs.declared.file.Class.TheVariants.{ELF32}
 use Rattle.elf_parts.specs.declared.parse.ParseError.{ParseError}
 use Rattle.elf_parts.specs.declared.symbol.Symbol.{Symbol}
-use Rattle.elfshow.specs.Sound.{Given}
-use Rattle.elfshow.specs.SoundFaults.{IsTrueOfGnu, IsTrueOfSysv}
-use Rattle.elfshow.specs.SoundGnu.{SoundGnu}
-use Rattle.elfshow.specs.SoundSysv.{SoundSysv}
-use Rattle.elfshow.specs.SoundVerdict.{section_given}
-use Rattle.elfshow.specs.declared.hashcheck.HashFault.{HashFault}
+use Rattle.elf_check.specs.Faults.{IsTrueOfGnu, IsTrueOfSysv}
+use Rattle.elf_check.specs.SoundGnu.{SoundGnu}
+use Rattle.elf_check.specs.SoundSysv.{SoundSysv}
+use Rattle.elf_check.specs.WithSymbols.{WithSymbols, with_symbols}
+use Rattle.elf_check.specs.declared.hashcheck.HashFault.{HashFault}
 use Rattle.elf_worked.specs.Files.{in_four, zeros}
 
 -- the bytes of a symbol with this st_name, and the symbol
@@ -45,12 +44,12 @@ abbrev pub sysv_bytes : ℕ → List ℕ → List ℕ
 sysv_bytes count last = in_four 2 ++ in_four count ++ sysv_buckets ++ sysv_chains ++ last
 
 -- what such a section is, with symbols whose last st_name is given
-abbrev pub sysv_cut : ℕ → List ℕ → Result (Given SysvTable) ParseError
+abbrev pub sysv_cut : ℕ → List ℕ → Result (WithSymbols SysvTable) ParseError
 sysv_cut third section =
-    section_given (table_in true ELF32 (sysv_symbols third)) sysv_names (sysv_section true ELF32 section)
+    with_symbols (table_in true ELF32 (sysv_symbols third)) sysv_names (sysv_section true ELF32 section)
 
 -- the same put together by hand
-abbrev pub sysv_with : ℕ → List ℕ → Given SysvTable
+abbrev pub sysv_with : ℕ → List ℕ → WithSymbols SysvTable
 sysv_with third last = record {
   table = record { buckets = table_in true ELF32 sysv_buckets; chains = table_in true ELF32 (sysv_chains ++ last) };
   symbols = table_in true ELF32 (sysv_symbols third);
@@ -58,7 +57,7 @@ sysv_with third last = record {
 }
 
 -- the section is not sound, and this fault is true of it
-abbrev pub HasSysvFault : HashFault → Given SysvTable → Type 0
+abbrev pub HasSysvFault : HashFault → WithSymbols SysvTable → Type 0
 HasSysvFault fault s = (SoundSysv s → ⊥) × IsTrueOfSysv s fault
 
 -- ---- GNU: two buckets, a bloom word, and symbols from 1 on with the names "a", "c" and "b", whose hashes are 0x2b606,
@@ -90,12 +89,12 @@ gnu_bytes shift low first second =
     in_four 2 ++ in_four 1 ++ in_four 1 ++ in_four shift ++ gnu_bloom low ++ gnu_buckets ++ gnu_chains first second
 
 -- what such a section is, with symbols of which one st_name is given
-abbrev pub gnu_cut : ℕ → List ℕ → Result (Given GnuTable) ParseError
+abbrev pub gnu_cut : ℕ → List ℕ → Result (WithSymbols GnuTable) ParseError
 gnu_cut second section =
-    section_given (table_in true ELF32 (gnu_symbols second)) gnu_names (gnu_section true ELF32 section)
+    with_symbols (table_in true ELF32 (gnu_symbols second)) gnu_names (gnu_section true ELF32 section)
 
 -- the same put together by hand
-abbrev pub gnu_with : ℕ → ℕ → ℕ → ℕ → ℕ → Given GnuTable
+abbrev pub gnu_with : ℕ → ℕ → ℕ → ℕ → ℕ → WithSymbols GnuTable
 gnu_with name shift low first second = record {
   table = record {
     hdr = record { nbucket = 2; table_start_idx = 1; nbloom = 1; nshift = shift };
@@ -108,5 +107,5 @@ gnu_with name shift low first second = record {
 }
 
 -- the section is not sound, and this fault is true of it
-abbrev pub HasGnuFault : HashFault → Given GnuTable → Type 0
+abbrev pub HasGnuFault : HashFault → WithSymbols GnuTable → Type 0
 HasGnuFault fault s = (SoundGnu s → ⊥) × IsTrueOfGnu s fault

@@ -1,6 +1,7 @@
 -- A file as it is written: its header at the front, and its tables where the header says that they lie. Nothing here
 -- looks at the field tables, or at how a file is opened.
-use Rattle.std.specs.Prelude.{◌≡◌, ◌≢◌, ℕ, ◌<◌, ◌^◌, ◌==◌, Bool, if◌then◌else◌, List, [], ◌∷◌, ◌++◌, length, slice_get, Option, Some, None}
+use Rattle.std.specs.Prelude.{◌≡◌, ◌≢◌, ℕ, ◌<◌, ◌^◌, ◌==◌, Bool, if◌then◌else◌, List}
+use Rattle.std.specs.Prelude.{[], ◌∷◌, ◌++◌, length, slice_get, Option, Some, None}
 use Rattle.elf_parts.specs.Structs.{ident_bytes, program_header_struct, section_header_struct, tail_struct}
 use Rattle.elf_parts.specs.Table.{Table, table_in}
 use Rattle.elf_parts.specs.Written.{AllFit, Fits, Member, struct_bytes, table_of}
@@ -9,7 +10,7 @@ use Rattle.elf_parts.specs.declared.file.Class.TheVariants.{ELF32, ELF64}
 use Rattle.elf_parts.specs.declared.file.FileHeader.{FileHeader}
 use Rattle.elf_parts.specs.declared.section.SectionHeader.{SectionHeader}
 use Rattle.elf_parts.specs.declared.segment.ProgramHeader.{ProgramHeader}
-use Rattle.elf.specs.View.{View}
+use Rattle.elf.specs.ElfBytes.{View}
 
 -- these bytes lie at o
 pub record LieAt (part bytes : List ℕ) (o : ℕ) : Type 0 where

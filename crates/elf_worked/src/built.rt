@@ -13,31 +13,30 @@ ghost use Rattle.elf_parts.specs.declared.file.Class.{Class as AnyClass};
 ghost use Rattle.elf_parts.specs.declared.file.Class.TheVariants.{ELF32};
 ghost use Rattle.elf_parts.specs.declared.hash.gnu.GnuHashHeader.{GnuHashHeader};
 ghost use Rattle.elf_parts.specs.declared.symbol.Symbol.{Symbol as AnySymbol};
-ghost use Rattle.elfshow.specs.Scan.{IndexedSysv, IsFirstNamed, IsLeastNamed};
-ghost use Rattle.elfshow.specs.Sound.{Given};
-ghost use Rattle.elfshow.specs.SoundGnu.{SoundGnu};
-ghost use Rattle.elfshow.specs.SoundSysv.{SoundSysv};
-ghost use Rattle.elfshow.specs.SoundVerdict.{section_given};
+ghost use Rattle.elf_check.specs.Indexed.{IndexedSysv, IsFirstNamed, IsLeastNamed};
+ghost use Rattle.elf_check.specs.SoundGnu.{SoundGnu};
+ghost use Rattle.elf_check.specs.SoundSysv.{SoundSysv};
+ghost use Rattle.elf_check.specs.WithSymbols.{WithSymbols, with_symbols};
 ghost use Rattle.elf_worked.specs.Built.{CanPutIn, CanWrite, IsBuiltGnu, IsBuiltSysv, gnu_hashes, name_in};
 ghost use Rattle.elf_worked.specs.BuiltBytes.{gnu_section_bytes, sysv_section_bytes};
 ghost use Rattle.elf_worked.specs.BuiltSections.{gnu_built_names, sysv_built_names, sysv_built_order};
 ghost use Rattle.elf_worked.specs.Files.{in_four};
 ghost use Rattle.elf_worked.specs.SoundSections.{gnu_bytes, gnu_with, sysv_bytes, sysv_with};
 
+use elf_check::hashcheck::{Checked, check_gnu, check_sysv};
 use elf_parts::endian::EndianParse;
 use elf_parts::file::Class;
 use elf_parts::string_table::StringTable;
 use elf_parts::symbol::{Symbol, SymbolTable};
-use elfshow::hashcheck::{Checked, check_gnu, check_sysv};
 
 /// A SysV section that was built for any symbols is sound, it indexes exactly those that were put in, and `find`,
 /// whose contract is `IsFirstNamed`, finds the name of each.
 pub fn built_sysv_section_is_sound()
-    ensures sound { (names : List (List ℕ)) (put : List ℕ) (s : Given SysvTable) → IsBuiltSysv names put s →
+    ensures sound { (names : List (List ℕ)) (put : List ℕ) (s : WithSymbols SysvTable) → IsBuiltSysv names put s →
         SoundSysv s }
-    ensures indexed { (names : List (List ℕ)) (put : List ℕ) (s : Given SysvTable) → IsBuiltSysv names put s →
+    ensures indexed { (names : List (List ℕ)) (put : List ℕ) (s : WithSymbols SysvTable) → IsBuiltSysv names put s →
         (index : ℕ) → IndexedSysv s.table index ↔ Contains put index }
-    ensures found { (names : List (List ℕ)) (put : List ℕ) (s : Given SysvTable) → IsBuiltSysv names put s →
+    ensures found { (names : List (List ℕ)) (put : List ℕ) (s : WithSymbols SysvTable) → IsBuiltSysv names put s →
         (index : ℕ) → Contains put index → (found : Option (ℕ × AnySymbol)) →
         IsFirstNamed s (name_in names index) found → IsSome found }
 {}
@@ -48,14 +47,14 @@ pub fn built_sysv_bytes_are_sound()
     ensures { (little : Bool) (class : AnyClass) (nbucket : ℕ) (names : List (List ℕ)) (put : List ℕ) (symbols : Table)
         (strings : List ℕ) → nbucket < 2 ^ 32 → length names < 2 ^ 32 → CanPutIn nbucket names put symbols strings →
         let cut = sysv_section little class (sysv_section_bytes little nbucket names put) in
-        IsOkAnd (section_given symbols strings cut) (λ s. IsBuiltSysv names put s × SoundSysv s) }
+        IsOkAnd (with_symbols symbols strings cut) (λ s. IsBuiltSysv names put s × SoundSysv s) }
 {}
 
 /// A GNU section that was built for any symbols is sound, and `find`, whose contract is `IsLeastNamed`, finds each of
 /// their names.
 pub fn built_gnu_section_is_sound()
-    ensures sound { (names : List (List ℕ)) (s : Given GnuTable) → IsBuiltGnu names s → SoundGnu s }
-    ensures found { (names : List (List ℕ)) (s : Given GnuTable) → IsBuiltGnu names s →
+    ensures sound { (names : List (List ℕ)) (s : WithSymbols GnuTable) → IsBuiltGnu names s → SoundGnu s }
+    ensures found { (names : List (List ℕ)) (s : WithSymbols GnuTable) → IsBuiltGnu names s →
         (k : ℕ) → k < length names → (found : Option (ℕ × AnySymbol)) →
         IsLeastNamed s (name_in names k) found → IsSome found }
 {}
@@ -67,7 +66,7 @@ pub fn built_gnu_bytes_are_sound()
         (strings : List ℕ) → Fits (gnu_header_struct h) → h.table_start_idx + length names ≤ 2 ^ 32 →
         CanWrite h h.nbucket names symbols strings →
         let cut = gnu_section little class (gnu_section_bytes little class h (gnu_hashes names)) in
-        IsOkAnd (section_given symbols strings cut) (λ s. IsBuiltGnu names s × SoundGnu s) }
+        IsOkAnd (with_symbols symbols strings cut) (λ s. IsBuiltGnu names s × SoundGnu s) }
 {}
 
 /// The small sound sections were built so, and their bytes are those that a linker writes.
@@ -103,8 +102,8 @@ pub fn found_in_built_sysv<'data, E: EndianParse>(
     strtab: StringTable<'data>,
     name: &[u8],
 ) -> Option<(usize, Symbol)>
-    ensures { (names : List (List ℕ)) (put : List ℕ) (s : Given SysvTable) (index : ℕ) →
-        section_given (table_view symtab.entry) (strings_view strtab.entry)
+    ensures { (names : List (List ℕ)) (put : List ℕ) (s : WithSymbols SysvTable) (index : ℕ) →
+        with_symbols (table_view symtab.entry) (strings_view strtab.entry)
         (sysv_section (E.little endian) class section.now) ≡ Ok s →
         IsBuiltSysv names put s → Contains put index → name_in names index ≡ name.now →
         IsSome result × IsFirstNamed s name.now result }
@@ -125,8 +124,8 @@ pub fn found_in_built_gnu<'data, E: EndianParse>(
     strtab: StringTable<'data>,
     name: &[u8],
 ) -> Option<(usize, Symbol)>
-    ensures { (names : List (List ℕ)) (s : Given GnuTable) (k : ℕ) →
-        section_given (table_view symtab.entry) (strings_view strtab.entry)
+    ensures { (names : List (List ℕ)) (s : WithSymbols GnuTable) (k : ℕ) →
+        with_symbols (table_view symtab.entry) (strings_view strtab.entry)
         (gnu_section (E.little endian) class section.now) ≡ Ok s →
         IsBuiltGnu names s → k < length names → name_in names k ≡ name.now →
         IsSome result × IsLeastNamed s name.now result }

@@ -12,19 +12,17 @@ use Rattle.elf_parts.specs.declared.parse.ParseError.{ParseError}
 use Rattle.elf_parts.specs.declared.section.SectionHeader.{SectionHeader}
 use Rattle.elf_parts.specs.declared.segment.ProgramHeader.{ProgramHeader}
 use Rattle.elf_parts.specs.declared.compression.CompressionHeader.{CompressionHeader}
-use Rattle.elf.specs.Answers.{dynamic, dynamic_symbol_table, section_data, symbol_table}
-use Rattle.elf.specs.Listed.{stream_file}
+use Rattle.elf.specs.Answers.{dynamic, dynamic_symbol_table, section_data, section_data_as_notes, section_data_as_relas, section_data_as_rels, section_data_as_strtab, section_header_by_name, segment_data, segment_data_as_notes, symbol_table, symbol_version_table}
+use Rattle.elf.specs.Names.{name_table}
+use Rattle.elf.specs.StreamFile.{stream_file}
 use Rattle.elf.specs.ObjectFile.{ObjectFile, object_file}
-use Rattle.elf.specs.Same.{AreAlike, SameAnswers}
-use Rattle.elf.specs.Stream.{Seen, headers_of, shown_headers}
-use Rattle.elf.specs.View.{View}
-use Rattle.elfshow.specs.Answers.{Answers}
-use Rattle.elfshow.specs.Asked.{Asked, Header, Sections, Segments, Name, Data, Strings, Rels, Relas, Notes, Seg, SegNotes, Symbols, DynSyms, Dynamic, Versions, Sysv, Gnu}
-use Rattle.elfshow.specs.BytesAnswers.{answers_from, answers_of, checked_for, checked_section, dynamic_entries, symbols_with_names}
-use Rattle.elfshow.specs.Sound.{Given}
-use Rattle.elfshow.specs.StreamAnswers.{stream_answers}
-use Rattle.elfshow.specs.Text.{call_text, of_section, of_segment, symbol_count, symbols_text, text, unless_absent, unless_none, unless_refused}
+use Rattle.elf.specs.Readers.{AreAlike, SameAnswers}
+use Rattle.elf.specs.ElfStream.{Seen, headers_of, shown_headers}
+use Rattle.elf.specs.ElfBytes.{View}
+use Rattle.elf_check.specs.WithSymbols.{WithSymbols}
 use Rattle.elfshow.specs.Verdicts.{gnu_verdict, sysv_verdict}
+use Rattle.elfshow.specs.calls.Question.{Question, Header, Sections, Segments, Name, Data, Strings, Rels, Relas, Notes, Seg, SegNotes, Symbols, DynSyms, Dynamic, Versions, Sysv, Gnu}
+use Rattle.elfshow.specs.calls.Text.{call_answer, call_text, checked_as_gnu, checked_as_sysv, checked_for, checked_section, dynamic_text, of_section, of_segment, or_refused, symbol_count, symbols_text, text, unless_absent, unless_none}
 use Rattle.elfshow.specs.declared.lines.hashes.Verdict.{Verdict}
 use Rattle.elfshow.specs.lines.Data.{section_data_line, segment_data_line}
 use Rattle.elfshow.specs.lines.Dynamic.{dyn_line}
@@ -54,29 +52,27 @@ alike_later : {A B : Type 0} (p : Result A ParseError) (f g : A → Result B Par
 alike_later (Ok x) f g h = h x
 alike_later (Err e) f g h = refl
 
--- an answer and its text
-text_alike : {A : Type 0} (told : A → List ℕ) (p q : Result A ParseError) → AreAlike p q → unless_refused told p ≡ unless_refused told q
-text_alike told (Ok x) (Ok y) h = let same : x ≡ y = cc in ap told same
-text_alike told (Ok x) (Err e) h = cc
-text_alike told (Err e) (Ok y) h = cc
-text_alike told (Err e) (Err d) h = refl
-
 -- two answers behind one another
-texts_alike : {A B : Type 0} (told : A → B → List ℕ) (p q : Result A ParseError) (r s : Result B ParseError) → AreAlike p q → AreAlike r s
-    → unless_refused (λ x. unless_refused (told x) r) p ≡ unless_refused (λ x. unless_refused (told x) s) q
-texts_alike told (Ok x) (Ok y) r s h k = let same : x ≡ y = cc in ap (λ z. unless_refused (told z) r) same ∙ text_alike (told y) r s k
-texts_alike told (Ok x) (Err e) r s h k = cc
-texts_alike told (Err e) (Ok y) r s h k = cc
-texts_alike told (Err e) (Err d) r s h k = refl
+alike_both : {A B C : Type 0} (line : A → B → C) (p q : Result A ParseError) (r s : Result B ParseError) → AreAlike p q → AreAlike r s
+    → AreAlike (p >>= λ x. ok_map (line x) r) (q >>= λ x. ok_map (line x) s)
+alike_both line p q r s h k =
+    alike_first p q (λ x. ok_map (line x) r) h ∙ alike_later q (λ x. ok_map (line x) r) (λ x. ok_map (line x) s) (λ x. alike_map (line x) r s k)
 
--- the text of a header that there may not be
-absent_alike : {A : Type 0} (one other : A → List ℕ) (o : Option A) → ((x : A) → one x ≡ other x) → unless_absent one o ≡ unless_absent other o
+-- an answer and its text
+text_alike : (p q : Result (List ℕ) ParseError) → AreAlike p q → or_refused p ≡ or_refused q
+text_alike (Ok x) (Ok y) h = let same : x ≡ y = cc in same
+text_alike (Ok x) (Err e) h = cc
+text_alike (Err e) (Ok y) h = cc
+text_alike (Err e) (Err d) h = refl
+
+-- the answer for a header that there may not be
+absent_alike : {A : Type 0} (one other : A → Result (List ℕ) ParseError) (o : Option A) → ((x : A) → AreAlike (one x) (other x)) → AreAlike (unless_absent one o) (unless_absent other o)
 absent_alike one other None h = refl
 absent_alike one other (Some x) h = h x
 
 -- ---- a checked section
 
-module _ {T : Type 0} (says : Given T → Verdict) (cut : List ℕ → Result T ParseError) (one other : ObjectFile) (same : SameAnswers one other) (s : SectionHeader) where
+module _ {T : Type 0} (says : WithSymbols T → Verdict) (cut : List ℕ → Result T ParseError) (one other : ObjectFile) (same : SameAnswers one other) (s : SectionHeader) where
   checked_alike : AreAlike (checked_section says cut one s) (checked_section says cut other s)
   checked_alike =
       let behind : ObjectFile → List ℕ × Option CompressionHeader → Result (Option Verdict) ParseError = λ file found. dynamic_symbol_table file >>= λ symbols. checked_for says (cut found.0) symbols in
@@ -87,61 +83,59 @@ module _ {T : Type 0} (says : Given T → Verdict) (cut : List ℕ → Result T 
 -- ---- the text of a call
 
 module _ {E : Type 0} (h : FileHeader E) (one other : ObjectFile) (little : one.little ≡ other.little) (class : one.class ≡ other.class) (same : SameAnswers one other) where
-  abbrev ours : Answers E
-  ours = answers_from h one
+  section_alike : (i : ℕ) (a b : SectionHeader → Result (List ℕ) ParseError) → ((s : SectionHeader) → AreAlike (a s) (b s)) → AreAlike (of_section h one i a) (of_section h other i b)
+  section_alike i a b each = ap (λ sections. result_ok (unless_absent a (slice_get sections i))) same.section_headers ∙ absent_alike a b (slice_get other.sections i) each
 
-  abbrev theirs : Answers E
-  theirs = answers_from h other
+  segment_alike : (j : ℕ) (a b : ProgramHeader → Result (List ℕ) ParseError) → ((p : ProgramHeader) → AreAlike (a p) (b p)) → AreAlike (of_segment h one j a) (of_segment h other j b)
+  segment_alike j a b each = ap (λ segments. result_ok (unless_absent a (slice_get segments j))) same.segments ∙ absent_alike a b (slice_get other.segments j) each
 
-  section_text : (i : ℕ) (a b : SectionHeader → List ℕ) → ((s : SectionHeader) → a s ≡ b s) → of_section ours i a ≡ of_section theirs i b
-  section_text i a b each = ap (λ sections. unless_absent a (slice_get sections i)) same.section_headers ∙ absent_alike a b (slice_get other.sections i) each
-
-  segment_text : (j : ℕ) (a b : ProgramHeader → List ℕ) → ((p : ProgramHeader) → a p ≡ b p) → of_segment ours j a ≡ of_segment theirs j b
-  segment_text j a b each = ap (λ segments. unless_absent a (slice_get segments j)) same.segments ∙ absent_alike a b (slice_get other.segments j) each
-
-  symbols_same : AreAlike ours.dynamic_symbols theirs.dynamic_symbols
-  symbols_same = alike_map (option_map symbols_with_names) (dynamic_symbol_table one) (dynamic_symbol_table other) same.dynamic_symbol_table
-
-  sysv_same : (s : SectionHeader) → AreAlike (ours.sysv s) (theirs.sysv s)
-  sysv_same s =
+  sysv_alike : (s : SectionHeader) → AreAlike (checked_as_sysv one s) (checked_as_sysv other s)
+  sysv_alike s =
       checked_alike sysv_verdict (sysv_section one.little one.class) one other same s
       ∙ ap (λ cut. result_ok (checked_section sysv_verdict cut other s)) (rw (little, class) refl)
 
-  gnu_same : (s : SectionHeader) → AreAlike (ours.gnu s) (theirs.gnu s)
-  gnu_same s =
+  gnu_alike : (s : SectionHeader) → AreAlike (checked_as_gnu one s) (checked_as_gnu other s)
+  gnu_alike s =
       checked_alike gnu_verdict (gnu_section one.little one.class) one other same s
       ∙ ap (λ cut. result_ok (checked_section gnu_verdict cut other s)) (rw (little, class) refl)
 
-  call_same : (call : Asked) → call_text ours call ≡ call_text theirs call
-  call_same Header = rw little refl
-  call_same Sections = ap (λ sections. unless_refused (λ names. listed (section_line names) sections) ours.section_names) same.section_headers ∙ text_alike (λ names. listed (section_line names) other.sections) ours.section_names theirs.section_names same.section_names
-  call_same Segments = rw same.segments refl
-  call_same (Name name) = text_alike (unless_none found_line) (ours.named name) (theirs.named name) (same.section_header_by_name name)
-  call_same (Data i) = section_text i _ _ (λ s. text_alike (λ found. section_data_line found.0 found.1) (ours.section_data s) (theirs.section_data s) (same.section_data s))
-  call_same (Strings i) = section_text i _ _ (λ s. text_alike (λ bytes. listed string_line (strings_of bytes)) (ours.strings s) (theirs.strings s) (same.section_data_as_strtab s))
-  call_same (Rels i) = section_text i _ _ (λ s. text_alike (listed rel_line) (ours.rels s) (theirs.rels s) (same.section_data_as_rels s))
-  call_same (Relas i) = section_text i _ _ (λ s. text_alike (listed rela_line) (ours.relas s) (theirs.relas s) (same.section_data_as_relas s))
-  call_same (Notes i) = section_text i _ _ (λ s. text_alike (listed note_line) (ours.notes s) (theirs.notes s) (same.section_data_as_notes s))
-  call_same (Seg j) = segment_text j _ _ (λ p. text_alike segment_data_line (ours.segment_data p) (theirs.segment_data p) (same.segment_data p))
-  call_same (SegNotes j) = segment_text j _ _ (λ p. text_alike (listed note_line) (ours.segment_notes p) (theirs.segment_notes p) (same.segment_data_as_notes p))
-  call_same Symbols = text_alike (unless_none symbols_text) ours.symbols theirs.symbols (alike_map (option_map symbols_with_names) (symbol_table one) (symbol_table other) same.symbol_table)
-  call_same DynSyms = text_alike (unless_none symbols_text) ours.dynamic_symbols theirs.dynamic_symbols symbols_same
-  call_same Dynamic = text_alike (unless_none (listed dyn_line)) ours.dynamic theirs.dynamic (alike_map (option_map dynamic_entries) (dynamic one) (dynamic other) same.dynamic)
-  call_same Versions = texts_alike (λ symbols. unless_none (versions_listed (symbol_count symbols))) ours.dynamic_symbols theirs.dynamic_symbols ours.versions theirs.versions symbols_same same.symbol_version_table
-  call_same (Sysv i) = section_text i _ _ (λ s. text_alike (unless_none verdict_line) (ours.sysv s) (theirs.sysv s) (sysv_same s))
-  call_same (Gnu i) = section_text i _ _ (λ s. text_alike (unless_none verdict_line) (ours.gnu s) (theirs.gnu s) (gnu_same s))
+  call_alike : (call : Question) → AreAlike (call_answer h one call) (call_answer h other call)
+  call_alike Header = rw little refl
+  call_alike Sections =
+      ap (λ sections. result_ok (ok_map (λ names. listed (section_line names) sections) (name_table one))) same.section_headers
+      ∙ alike_map (λ names. listed (section_line names) other.sections) (name_table one) (name_table other) same.section_names
+  call_alike Segments = rw same.segments refl
+  call_alike (Name name) = alike_map (unless_none found_line) (section_header_by_name one name) (section_header_by_name other name) (same.section_header_by_name name)
+  call_alike (Data i) = section_alike i _ _ (λ s. alike_map (λ found. section_data_line found.0 found.1) (section_data one s) (section_data other s) (same.section_data s))
+  call_alike (Strings i) = section_alike i _ _ (λ s. alike_map (λ bytes. listed string_line (strings_of bytes)) (section_data_as_strtab one s) (section_data_as_strtab other s) (same.section_data_as_strtab s))
+  call_alike (Rels i) = section_alike i _ _ (λ s. alike_map (listed rel_line) (section_data_as_rels one s) (section_data_as_rels other s) (same.section_data_as_rels s))
+  call_alike (Relas i) = section_alike i _ _ (λ s. alike_map (listed rela_line) (section_data_as_relas one s) (section_data_as_relas other s) (same.section_data_as_relas s))
+  call_alike (Notes i) = section_alike i _ _ (λ s. alike_map (listed note_line) (section_data_as_notes one s) (section_data_as_notes other s) (same.section_data_as_notes s))
+  call_alike (Seg j) = segment_alike j _ _ (λ p. alike_map segment_data_line (segment_data one p) (segment_data other p) (same.segment_data p))
+  call_alike (SegNotes j) = segment_alike j _ _ (λ p. alike_map (listed note_line) (segment_data_as_notes one p) (segment_data_as_notes other p) (same.segment_data_as_notes p))
+  call_alike Symbols = alike_map (unless_none symbols_text) (symbol_table one) (symbol_table other) same.symbol_table
+  call_alike DynSyms = alike_map (unless_none symbols_text) (dynamic_symbol_table one) (dynamic_symbol_table other) same.dynamic_symbol_table
+  call_alike Dynamic = alike_map (unless_none dynamic_text) (dynamic one) (dynamic other) same.dynamic
+  call_alike Versions =
+      alike_both (λ symbols. unless_none (versions_listed (symbol_count symbols))) (dynamic_symbol_table one) (dynamic_symbol_table other) (symbol_version_table one) (symbol_version_table other)
+      same.dynamic_symbol_table same.symbol_version_table
+  call_alike (Sysv i) = section_alike i _ _ (λ s. alike_map (unless_none verdict_line) (checked_as_sysv one s) (checked_as_sysv other s) (sysv_alike s))
+  call_alike (Gnu i) = section_alike i _ _ (λ s. alike_map (unless_none verdict_line) (checked_as_gnu one s) (checked_as_gnu other s) (gnu_alike s))
 
-  pub text_same : (calls : List Asked) → text ours calls ≡ text theirs calls
+  call_same : (call : Question) → call_text h one call ≡ call_text h other call
+  call_same call = text_alike (call_answer h one call) (call_answer h other call) (call_alike call)
+
+  pub text_same : (calls : List Question) → text h one calls ≡ text h other calls
   text_same [] = refl
-  text_same (call ∷ calls) = ap (λ front. front ++ text ours calls) (call_same call) ∙ ap (λ back. call_text theirs call ++ back) (text_same calls)
+  text_same (call ∷ calls) = ap (λ front. front ++ text h one calls) (call_same call) ∙ ap (λ back. call_text h other call ++ back) (text_same calls)
 
 -- ---- of a file, and of a stream that shows its headers
 
-pub text_of_both : {E : Type 0} (little : E → Bool) (bytes : List ℕ) (v : View E) (s : Seen E) (calls : List Asked) → shown_headers s ≡ headers_of v
-    → SameAnswers (object_file little v) (stream_file little s bytes) → text (answers_of little v) calls ≡ text (stream_answers little s bytes) calls
+pub text_of_both : {E : Type 0} (little : E → Bool) (bytes : List ℕ) (v : View E) (s : Seen E) (calls : List Question) → shown_headers s ≡ headers_of v
+    → SameAnswers (object_file little v) (stream_file little s bytes) → text v.ehdr (object_file little v) calls ≡ text s.ehdr (stream_file little s bytes) calls
 text_of_both {E} little bytes v s calls shown same =
     let header : s.ehdr ≡ v.ehdr = ap (λ h. h.ehdr) shown in
     let little_same = ap (λ (h : FileHeader E). little h.endianness) (sym header) in
     let class_same = ap (λ (h : FileHeader E). h.class) (sym header) in
     text_same v.ehdr (object_file little v) (stream_file little s bytes) little_same class_same same calls
-    ∙ ap (λ h. text (answers_from h (stream_file little s bytes)) calls) (sym header)
+    ∙ ap (λ h. text h (stream_file little s bytes) calls) (sym header)

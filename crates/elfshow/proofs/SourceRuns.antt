@@ -2,18 +2,19 @@
 use Rattle.std.proofs.Common.{◌≡◌, ℕ, Bool, List, Option, Some, None, Result, Ok, Err, map, refl, sym, subst, take, IfSome}
 use Rattle.std.specs.Prelude.{IsErr, IsOk, IsOkAnd}
 use Rattle.std.specs.Io.KnownBytes.{Appends, Keeps as KeepsBytes}
+use Rattle.elf.specs.StreamFile.{stream_file}
+use Rattle.elf.specs.ObjectFile.{object_file}
 use Rattle.elf.specs.Opening.{opened}
-use Rattle.elf.specs.Stream.{IsOpening, IsRefused, Kind, MayRefuse, Seen, headers_of, kind, shown_headers}
-use Rattle.elf.specs.View.{View, with_header}
+use Rattle.elf.specs.ElfStream.{IsOpening, IsRefused, Kind, MayRefuse, Seen, headers_of, kind, shown_headers}
+use Rattle.elf.specs.ElfBytes.{View, with_header}
 use Rattle.elf_parts.specs.Number.{ok_map}
 use Rattle.elf_parts.specs.declared.file.FileHeader.{FileHeader}
 use Rattle.elf_parts.specs.declared.parse.ParseError.{ParseError}
 use Rattle.elf_parts.specs.inner.RecordLaws.{ok_map-ok}
-use Rattle.elfshow.specs.Asked.{Asked, asked}
-use Rattle.elfshow.specs.BytesAnswers.{answers_of}
-use Rattle.elfshow.specs.Run.{Ran, RanOver}
-use Rattle.elfshow.specs.StreamAnswers.{stream_answers}
-use Rattle.elfshow.specs.Text.{text}
+use Rattle.elfshow.specs.calls.Question.{Question, question}
+use Rattle.elfshow.specs.Show.{RanOver}
+use Rattle.elfshow.specs.calls.Run.{Ran}
+use Rattle.elfshow.specs.calls.Text.{text}
 use Rattle.elfshow.specs.declared.calls.Call.{Call}
 use Rattle.elfshow.specs.declared.calls.RunError.{RunError}
 use Rattle.elfshow.specs.declared.calls.RunError.TheVariants.{Fault, Open, Write}
@@ -42,23 +43,23 @@ keeps_itself None = tt
 keeps_itself (Some xs) = refl
 
 module _ {E : Type 0} (little : E → Bool) (of_byte : ℕ → Option E)
-    (law : (bytes : List ℕ) (v : View E) (header : FileHeader E) (s : Seen E) (calls : List Asked) → opened little of_byte bytes ≡ Ok v → shown_headers s ≡ headers_of (with_header v header)
-    → text (answers_of little (with_header v header)) calls ≡ text (stream_answers little s bytes) calls) where
+    (law : (bytes : List ℕ) (v : View E) (header : FileHeader E) (s : Seen E) (calls : List Question) → opened little of_byte bytes ≡ Ok v → shown_headers s ≡ headers_of (with_header v header)
+    → text header (object_file little (with_header v header)) calls ≡ text s.ehdr (stream_file little s bytes) calls) where
   opened_text : (bytes : List ℕ) (s : Seen E) (can_fail : Bool) (faults : ℕ) (calls : List Call) (before after : Option (List ℕ))
       → IsOpening shown_headers (ok_map headers_of (opened little of_byte bytes)) can_fail faults (Ok s)
-      → Appends before after (text (stream_answers little s bytes) (map asked calls))
-      → IsOkAnd (opened little of_byte bytes) (λ file. Appends before after (text (answers_of little file) (map asked calls)))
+      → Appends before after (text s.ehdr (stream_file little s bytes) (map question calls))
+      → IsOkAnd (opened little of_byte bytes) (λ file. Appends before after (text file.ehdr (object_file little file) (map question calls)))
   opened_text bytes s can_fail faults calls before after opening wrote =
       let found = ok_map-ok headers_of (opened little of_byte bytes) (shown_headers s) opening.1 in
       let v : View E = found.0 in
-      let same = law bytes v v.ehdr s (map asked calls) found.1 (sym found.2) in
-      let written : Appends before after (text (answers_of little v) (map asked calls)) = subst (λ t. Appends before after t) (sym same) wrote in
-      subst (λ (o : Result (View E) ParseError). IsOkAnd o (λ file. Appends before after (text (answers_of little file) (map asked calls)))) (sym found.1) written
+      let same = law bytes v v.ehdr s (map question calls) found.1 (sym found.2) in
+      let written : Appends before after (text v.ehdr (object_file little v) (map question calls)) = subst (λ t. Appends before after t) (sym same) wrote in
+      subst (λ (o : Result (View E) ParseError). IsOkAnd o (λ file. Appends before after (text file.ehdr (object_file little file) (map question calls)))) (sym found.1) written
 
   told_ran : (told : Option (List ℕ)) (s : Seen E) (can_fail : Bool) (faults now : ℕ) (calls : List Call) (before after : Option (List ℕ)) (r : Result (Unit {0}) RunError) → s.can_fail ≡ can_fail
       → IfSome told (λ bytes. IsOpening shown_headers (ok_map headers_of (opened little of_byte bytes)) can_fail faults (Ok s))
-      → IfSome told (λ bytes. Ran (λ calls. text (stream_answers little s bytes) (map asked calls)) calls before after s.can_fail s.faults now r)
-      → IfSome told (λ bytes. RanOver (opened little of_byte bytes) (λ file calls. text (answers_of little file) (map asked calls)) calls before after can_fail r)
+      → IfSome told (λ bytes. Ran (λ calls. text s.ehdr (stream_file little s bytes) (map question calls)) calls before after s.can_fail s.faults now r)
+      → IfSome told (λ bytes. RanOver (opened little of_byte bytes) (λ file calls. text file.ehdr (object_file little file) (map question calls)) calls before after can_fail r)
   told_ran None s can_fail faults now calls before after r may opening ran = tt
   told_ran (Some bytes) s can_fail faults now calls before after (Ok x) may opening ran = opened_text bytes s can_fail faults calls before after opening ran.1
   told_ran (Some bytes) s can_fail faults now calls before after (Err (Open e)) may opening ran = absurd ran
@@ -68,16 +69,16 @@ module _ {E : Type 0} (little : E → Bool) (of_byte : ℕ → Option E)
 
   pub source_ran : (told : Option (List ℕ)) (s : Seen E) (can_fail : Bool) (faults now : ℕ) (calls : List Call) (before after : Option (List ℕ)) (r : Result (Unit {0}) RunError) → s.content ≡ told → s.can_fail ≡ can_fail
       → IfSome told (λ bytes. IsOpening shown_headers (ok_map headers_of (opened little of_byte bytes)) can_fail faults (Ok s))
-      → IfSome s.content (λ bytes. Ran (λ calls. text (stream_answers little s bytes) (map asked calls)) calls before after s.can_fail s.faults now r)
-      → IfSome told (λ bytes. RanOver (opened little of_byte bytes) (λ file calls. text (answers_of little file) (map asked calls)) calls before after can_fail r)
+      → IfSome s.content (λ bytes. Ran (λ calls. text s.ehdr (stream_file little s bytes) (map question calls)) calls before after s.can_fail s.faults now r)
+      → IfSome told (λ bytes. RanOver (opened little of_byte bytes) (λ file calls. text file.ehdr (object_file little file) (map question calls)) calls before after can_fail r)
   source_ran told s can_fail faults now calls before after r same may opening ran =
       told_ran told s can_fail faults now calls before after r may opening
-      (subst (λ content. IfSome content (λ bytes. Ran (λ calls. text (stream_answers little s bytes) (map asked calls)) calls before after s.can_fail s.faults now r)) same ran)
+      (subst (λ content. IfSome content (λ bytes. Ran (λ calls. text s.ehdr (stream_file little s bytes) (map question calls)) calls before after s.can_fail s.faults now r)) same ran)
 
 -- a source that is refused: nothing was written
 pub source_refused : {E : Type 0} (little : E → Bool) (of_byte : ℕ → Option E) (told : Option (List ℕ)) (can_fail : Bool) (faults : ℕ) (calls : List Call) (before : Option (List ℕ)) (whole : Result (Seen E) ParseError) (e : ParseError) → whole ≡ Err e
     → IfSome told (λ bytes. IsOpening shown_headers (ok_map headers_of (opened little of_byte bytes)) can_fail faults whole)
-    → IfSome told (λ bytes. RanOver (opened little of_byte bytes) (λ file calls. text (answers_of little file) (map asked calls)) calls before before can_fail (Err (Open e)))
+    → IfSome told (λ bytes. RanOver (opened little of_byte bytes) (λ file calls. text file.ehdr (object_file little file) (map question calls)) calls before before can_fail (Err (Open e)))
 source_refused little of_byte None can_fail faults calls before whole e is opening = tt
 source_refused {E} little of_byte (Some bytes) can_fail faults calls before whole e is opening =
     let opening_answer = ok_map headers_of (opened little of_byte bytes) in

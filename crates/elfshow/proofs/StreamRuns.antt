@@ -4,24 +4,24 @@ use Rattle.std.proofs.lemmas.List.{append-nil, take_more}
 use Rattle.std.proofs.lemmas.List.Elements.{All-get_or, All-more, All-weaker}
 use Rattle.std.specs.Prelude.{IsErr, IsOk, OnOk, is_ok, slice_get}
 use Rattle.std.specs.Io.KnownBytes.{Appends, Keeps as KeepsBytes}
-use Rattle.elf.specs.Asked.{headers_alone, if_there}
-use Rattle.elf.specs.Listed.{stream_file}
+use Rattle.elf.specs.Ranges.{headers_alone, if_there}
+use Rattle.elf.specs.StreamFile.{stream_file}
 use Rattle.elf.specs.ObjectFile.{ObjectFile}
-use Rattle.elf.specs.Stream.{AreHeld, IsAnswer, IsRefused, Keeps, Kind, Leaves, Seen, kind}
+use Rattle.elf.specs.ElfStream.{AreHeld, IsAnswer, IsRefused, Keeps, Kind, Leaves, Seen, kind}
 use Rattle.elf_parts.specs.Number.{ok_map}
 use Rattle.elf_parts.specs.Record.{◌>>=◌}
+use Rattle.elf_parts.specs.declared.file.FileHeader.{FileHeader}
 use Rattle.elf_parts.specs.declared.parse.ParseError.{ParseError}
 use Rattle.elf_parts.specs.declared.section.SectionHeader.{SectionHeader}
 use Rattle.elf_parts.specs.declared.segment.ProgramHeader.{ProgramHeader}
-use Rattle.elfshow.specs.Answers.{Answers}
-use Rattle.elfshow.specs.Asked.{Asked, asked}
-use Rattle.elfshow.specs.Run.{IsAtHand, IsFaultless, IsLoaded}
-use Rattle.elfshow.specs.StreamAnswers.{IsAnswered, OfThere, call_ranges, ranges_of, stream_answers}
-use Rattle.elfshow.specs.Text.{call_text, text, unless_absent, unless_refused}
+use Rattle.elfshow.specs.calls.Question.{Question, question}
+use Rattle.elfshow.specs.calls.Ranges.{call_ranges, ranges_of}
+use Rattle.elfshow.specs.calls.Run.{IsAtHand, IsFaultless, IsLoaded, Ran, stream_answer}
+use Rattle.elfshow.specs.calls.Text.{call_answer, call_text, or_refused, text, unless_absent}
 use Rattle.elfshow.specs.declared.calls.Call.{Call}
-use Rattle.elfshow.specs.declared.calls.RunError.{RunError}
-use Rattle.elfshow.specs.declared.calls.RunError.TheVariants.{Fault, Open, Write}
-use Rattle.elfshow.specs.inner.RunSteps.{Gives, IsWritten, LeadsTo, RanCall, RanOne, TriedCall, TriedOne}
+use Rattle.elfshow.specs.declared.calls.Stop.{Stop}
+use Rattle.elfshow.specs.declared.calls.Stop.TheVariants as stop
+use Rattle.elfshow.specs.inner.RunSteps.{Gives, IsFaultlessCall, IsWritten, LeadsTo, RanCall, RanOne, TriedCall, TriedOne, stopped_after}
 use Rattle.elfshow.specs.lines.Stand.{refused_line}
 use Rattle.elfshow.proofs.Writing.{appends_more}
 
@@ -59,20 +59,21 @@ held_back s (r ∷ rs) qs h = held_back s rs qs h.1
 
 -- ---- a refusal
 
-ran_by : (k : Kind) (none : Type 0) (line : List ℕ) (old new : Option (List ℕ)) (before now : ℕ) (can_fail : Bool) (r : Result (Unit {0}) RunError)
-    → IsRefused before now can_fail none k → (none → line ≡ refused_line) → LeadsTo k old new r → RanOne line old new can_fail before now r
-ran_by Kind.Failure none line old new before now can_fail (Ok x) h text leads = absurd leads.1
-ran_by Kind.Failure none line old new before now can_fail (Err (Open e)) h text leads = absurd leads.1
-ran_by Kind.Failure none line old new before now can_fail (Err (Fault done e)) h text leads = (leads.0, subst (λ k. IsRefused before now can_fail ⊥ k) (sym leads.1) h)
-ran_by Kind.Failure none line old new before now can_fail (Err (Write done e)) h text leads = absurd leads.1
-ran_by Kind.Want none line old new before now can_fail (Ok x) h text leads = absurd leads.1
-ran_by Kind.Want none line old new before now can_fail (Err (Open e)) h text leads = absurd leads.1
-ran_by Kind.Want none line old new before now can_fail (Err (Fault done e)) h text leads = (leads.0, subst (λ k. IsRefused before now can_fail ⊥ k) (sym leads.1) h)
-ran_by Kind.Want none line old new before now can_fail (Err (Write done e)) h text leads = absurd leads.1
-ran_by Kind.Refusal none line old new before now can_fail (Ok x) h text leads = (h.0, subst (λ bytes. Appends old new bytes) (sym (text h.1)) leads)
-ran_by Kind.Refusal none line old new before now can_fail (Err (Open e)) h text leads = absurd leads
-ran_by Kind.Refusal none line old new before now can_fail (Err (Fault done e)) h text leads = absurd leads
-ran_by Kind.Refusal none line old new before now can_fail (Err (Write done e)) h text leads = h.0
+told_refused : (answer : Result (List ℕ) ParseError) → IsErr answer → or_refused answer ≡ refused_line
+told_refused (Ok text) h = cc
+told_refused (Err e) h = refl
+
+ran_by : (k : Kind) (answer : Result (List ℕ) ParseError) (old new : Option (List ℕ)) (before now : ℕ) (can_fail : Bool) (r : Result (Unit {0}) Stop)
+    → IsRefused before now can_fail (IsErr answer) k → LeadsTo k old new r → RanOne answer old new can_fail before now r
+ran_by Kind.Failure answer old new before now can_fail (Ok x) h leads = absurd leads.1
+ran_by Kind.Failure answer old new before now can_fail (Err (stop.Fault e)) h leads = (leads.0, subst (λ k. IsRefused before now can_fail ⊥ k) (sym leads.1) h)
+ran_by Kind.Failure answer old new before now can_fail (Err (stop.Write e)) h leads = absurd leads.1
+ran_by Kind.Want answer old new before now can_fail (Ok x) h leads = absurd leads.1
+ran_by Kind.Want answer old new before now can_fail (Err (stop.Fault e)) h leads = (leads.0, subst (λ k. IsRefused before now can_fail ⊥ k) (sym leads.1) h)
+ran_by Kind.Want answer old new before now can_fail (Err (stop.Write e)) h leads = absurd leads.1
+ran_by Kind.Refusal answer old new before now can_fail (Ok x) h leads = (h.0, subst (λ bytes. Appends old new bytes) (sym (told_refused answer h.1)) leads)
+ran_by Kind.Refusal answer old new before now can_fail (Err (stop.Fault e)) h leads = absurd leads
+ran_by Kind.Refusal answer old new before now can_fail (Err (stop.Write e)) h leads = h.0
 
 not_refused : (T : Type 0) (e : ParseError) → IsOk {T = T} (Err e) → ⊥
 not_refused T e h = cc
@@ -82,29 +83,25 @@ refused_by Kind.Failure P Q before now can_fail so h = h
 refused_by Kind.Want P Q before now can_fail so h = h
 refused_by Kind.Refusal P Q before now can_fail so h = (h.0, so h.1)
 
-told_tried : {T Y : Type 0} (X : Type 0) (told : Option (List ℕ)) (shown : T → Y) (answer : List ℕ → Result Y ParseError) (line : List ℕ → List ℕ) (old : Option (List ℕ)) (before now : ℕ) (can_fail : Bool) (e : ParseError)
-    → IfSome told (λ bytes. IsAnswer shown (answer bytes) can_fail before now (Err e)) → ((bytes : List ℕ) → IsErr (answer bytes) → line bytes ≡ refused_line)
-    → IfSome told (λ bytes. TriedOne {X = X} (line bytes) old old can_fail before now (Err e))
-told_tried X None shown answer line old before now can_fail e h text = tt
-told_tried X (Some bytes) shown answer line old before now can_fail e h text = (refl, refused_by (kind e) (IsErr (answer bytes)) (line bytes ≡ refused_line) before now can_fail (text bytes) h)
+pub ok_or_err : {A : Type 0} (r : Result A ParseError) → IsOk r → IsErr r → ⊥
+ok_or_err (Ok x) ok err = cc
+ok_or_err (Err e) ok err = cc
+
+-- an answer that another one rests on
+ok_below : {A B : Type 0} (below : Result A ParseError) (above : Result B ParseError) → (IsErr below → IsErr above) → IsOk above → IsOk below
+ok_below (Ok x) above so ok = refl
+ok_below (Err e) above so ok = absurd (ok_or_err above ok (so refl))
+
+told_tried : {T Y : Type 0} (X : Type 0) (told : Option (List ℕ)) (shown : T → Y) (answer : List ℕ → Result Y ParseError) (whole : List ℕ → Result (List ℕ) ParseError) (old : Option (List ℕ)) (before now : ℕ) (can_fail : Bool) (e : ParseError)
+    → IfSome told (λ bytes. IsAnswer shown (answer bytes) can_fail before now (Err e)) → ((bytes : List ℕ) → IsErr (answer bytes) → IsErr (whole bytes))
+    → IfSome told (λ bytes. TriedOne {X = X} (whole bytes) old old can_fail before now (Err e))
+told_tried X None shown answer whole old before now can_fail e h so = tt
+told_tried X (Some bytes) shown answer whole old before now can_fail e h so = (refl, refused_by (kind e) (IsErr (answer bytes)) (IsErr (whole bytes)) before now can_fail (so bytes) h)
 
 told_accepted : {E Y : Type 0} (T U : Type 0) (told : Option (List ℕ)) (old : Seen E) (ranges : List (ℕ × ℕ)) (hand : List ℕ → Type 0) (answer : List ℕ → Result Y ParseError) (e : ParseError)
     → IfSome told (λ bytes. IsOk (answer bytes) → AreHeld old ranges → IsOk {T = T} (Err e)) → ((bytes : List ℕ) → hand bytes → AreHeld old ranges × IsOk (answer bytes)) → IfSome told (λ bytes. hand bytes → IsOk {T = U} (Err e))
 told_accepted T U None old ranges hand answer e h at_hand = tt
 told_accepted T U (Some bytes) old ranges hand answer e h at_hand = λ ready. let p = at_hand bytes ready in h p.1 p.0
-
-pub ok_or_err : {A : Type 0} (r : Result A ParseError) → IsOk r → IsErr r → ⊥
-ok_or_err (Ok x) ok err = cc
-ok_or_err (Err e) ok err = cc
-
--- the content is refused only where it has no answer
-told_answered : {T Y : Type 0} (told : Option (List ℕ)) (shown : T → Y) (answer : List ℕ → Result Y ParseError) (answered : List ℕ → Type 0) (before now : ℕ) (can_fail : Bool) (e : ParseError)
-    → IfSome told (λ bytes. IsAnswer shown (answer bytes) can_fail before now (Err e)) → ((bytes : List ℕ) → answered bytes → IsErr (answer bytes) → ⊥)
-    → IfSome told (λ bytes. kind e ≡ Kind.Refusal → answered bytes → ⊥)
-told_answered None shown answer answered before now can_fail e h none = tt
-told_answered (Some bytes) shown answer answered before now can_fail e h none = λ is ready.
-    let refused : IsRefused before now can_fail (IsErr (answer bytes)) Kind.Refusal = subst (λ k. IsRefused before now can_fail (IsErr (answer bytes)) k) is h in
-    none bytes ready refused.1
 
 -- what a call leaves behind another one, whose ranges may have been loaded before
 pub record LeavesBehind {E T Y : Type 0} (asked : List (ℕ × ℕ)) (shown : T → Y) (answer : List ℕ → Result Y ParseError) (old new : Seen E) (r : Result T ParseError) : Type 0 where
@@ -113,41 +110,30 @@ pub record LeavesBehind {E T Y : Type 0} (asked : List (ℕ × ℕ)) (shown : T 
   pub answers : IfSome old.content (λ bytes. IsAnswer shown (answer bytes) old.can_fail old.faults new.faults r)
   pub accepted : IfSome old.content (λ bytes. IsOk (answer bytes) → AreHeld old asked → IsOk r)
 
-module _ {E : Type 0} (little : E → Bool) (call : Asked) (old new : Seen E) where
+-- the call has no answer where what it asks the stream for has none
+module _ {E : Type 0} (little : E → Bool) (call : Question) (old new : Seen E) where
   pub behind_refused : {T Y X : Type 0} (asked : List (ℕ × ℕ)) (shown : T → Y) (answer : List ℕ → Result Y ParseError) (whole : Result T ParseError) (e : ParseError) (before : Option (List ℕ))
-      → ((bytes : List ℕ) → IsErr (answer bytes) → call_text (stream_answers little old bytes) call ≡ refused_line) → (AreHeld old (call_ranges little old call) → AreHeld old asked) → ((bytes : List ℕ) → IsAnswered (stream_answers little old bytes) call → IsOk (answer bytes))
+      → ((bytes : List ℕ) → IsErr (answer bytes) → IsErr (stream_answer little old bytes call)) → (AreHeld old (call_ranges little old call) → AreHeld old asked)
       → LeavesBehind asked shown answer old new whole → whole ≡ Err e → TriedCall {X = X} little call old new before before (Err e)
-  behind_refused {T} {Y} {X} asked shown answer whole e before text held ok leaves is =
+  behind_refused {T} {Y} {X} asked shown answer whole e before so held leaves is =
       let refused : LeavesBehind asked shown answer old new (Err e) = subst (λ w. LeavesBehind asked shown answer old new w) is leaves in
       record {
         keeps = refused.keeps;
-        tried = told_tried X old.content shown answer (λ bytes. call_text (stream_answers little old bytes) call) before old.faults new.faults old.can_fail e refused.answers text;
-        accepted = told_accepted T (Result (Unit {0}) X) old.content old asked (λ bytes. IsAtHand little old bytes call) answer e refused.accepted (λ bytes ready. (held ready.1, ok bytes ready.2));
+        tried = told_tried X old.content shown answer (λ bytes. stream_answer little old bytes call) before old.faults new.faults old.can_fail e refused.answers so;
+        accepted = told_accepted T (Result (Unit {0}) X) old.content old asked (λ bytes. IsAtHand little old bytes call) answer e refused.accepted
+            (λ bytes ready. (held ready.1, ok_below (answer bytes) (stream_answer little old bytes call) (so bytes) ready.2));
         loaded = tt;
-        answered = told_answered old.content shown answer (λ bytes. IsAnswered (stream_answers little old bytes) call) old.faults new.faults old.can_fail e refused.answers (λ bytes ready. ok_or_err (answer bytes) (ok bytes ready));
       }
 
   pub call_refused : {T Y X : Type 0} (asked : List (ℕ × ℕ)) (shown : T → Y) (answer : List ℕ → Result Y ParseError) (whole : Result T ParseError) (e : ParseError) (before : Option (List ℕ))
-      → ((bytes : List ℕ) → IsErr (answer bytes) → call_text (stream_answers little old bytes) call ≡ refused_line) → (AreHeld old (call_ranges little old call) → AreHeld old asked) → ((bytes : List ℕ) → IsAnswered (stream_answers little old bytes) call → IsOk (answer bytes))
+      → ((bytes : List ℕ) → IsErr (answer bytes) → IsErr (stream_answer little old bytes call)) → (AreHeld old (call_ranges little old call) → AreHeld old asked)
       → Leaves asked shown answer old new whole → whole ≡ Err e → TriedCall {X = X} little call old new before before (Err e)
-  call_refused asked shown answer whole e before text held ok leaves is =
-      behind_refused asked shown answer whole e before text held ok (record { keeps = leaves.keeps; loaded = leaves.loaded; answers = leaves.answers; accepted = leaves.accepted }) is
-
-pub refused_text : {A : Type 0} (line : A → List ℕ) (r : Result A ParseError) → IsErr r → unless_refused line r ≡ refused_line
-refused_text line (Ok x) h = cc
-refused_text line (Err e) h = refl
+  call_refused asked shown answer whole e before so held leaves is =
+      behind_refused asked shown answer whole e before so held (record { keeps = leaves.keeps; loaded = leaves.loaded; answers = leaves.answers; accepted = leaves.accepted }) is
 
 pub inner_refused : {A B : Type 0} (f : A → B) (r : Result A ParseError) → IsErr (ok_map f r) → IsErr r
 inner_refused f (Ok x) h = cc
 inner_refused f (Err e) h = refl
-
-pub outer_ok : {A B : Type 0} (f : A → B) (r : Result A ParseError) → IsOk r → IsOk (ok_map f r)
-outer_ok f (Ok x) h = refl
-outer_ok f (Err e) h = cc
-
-pub inner_ok : {A B : Type 0} (f : A → B) (r : Result A ParseError) → IsOk (ok_map f r) → IsOk r
-inner_ok f (Ok x) h = refl
-inner_ok f (Err e) h = cc
 
 pub outer_refused : {A B : Type 0} (f : A → B) (r : Result A ParseError) → IsErr r → IsErr (ok_map f r)
 outer_refused f (Ok x) h = cc
@@ -155,30 +141,26 @@ outer_refused f (Err e) h = refl
 
 -- ---- an answer that was written
 
-faultless : {A X : Type 0} (w : Result A X) (r : Result (Unit {0}) RunError) → IsWritten w r → IsFaultless r
+faultless : {A X : Type 0} (w : Result A X) (r : Result (Unit {0}) Stop) → IsWritten w r → IsFaultlessCall r
 faultless (Ok x) (Ok y) h = tt
-faultless (Ok x) (Err (Open e)) h = absurd h
-faultless (Ok x) (Err (Fault done e)) h = absurd h
-faultless (Ok x) (Err (Write done e)) h = absurd h
+faultless (Ok x) (Err (stop.Fault e)) h = absurd h
+faultless (Ok x) (Err (stop.Write e)) h = absurd h
 faultless (Err x) (Ok y) h = absurd h
-faultless (Err x) (Err (Open e)) h = absurd h
-faultless (Err x) (Err (Fault done e)) h = absurd h
-faultless (Err x) (Err (Write done e)) h = tt
+faultless (Err x) (Err (stop.Fault e)) h = absurd h
+faultless (Err x) (Err (stop.Write e)) h = tt
 
-ran_written : {A X : Type 0} (line written : List ℕ) (old new : Option (List ℕ)) (before now : ℕ) (can_fail : Bool) (w : Result A X) (r : Result (Unit {0}) RunError) → line ≡ written → now ≡ before → OnOk w (Appends old new written) → IsWritten w r → RanOne line old new can_fail before now r
-ran_written line written old new before now can_fail (Ok x) (Ok y) text same h is = (same, subst (λ bytes. Appends old new bytes) (sym text) h)
-ran_written line written old new before now can_fail (Ok x) (Err (Open e)) text same h is = absurd is
-ran_written line written old new before now can_fail (Ok x) (Err (Fault done e)) text same h is = absurd is
-ran_written line written old new before now can_fail (Ok x) (Err (Write done e)) text same h is = absurd is
-ran_written line written old new before now can_fail (Err x) (Ok y) text same h is = absurd is
-ran_written line written old new before now can_fail (Err x) (Err (Open e)) text same h is = absurd is
-ran_written line written old new before now can_fail (Err x) (Err (Fault done e)) text same h is = absurd is
-ran_written line written old new before now can_fail (Err x) (Err (Write done e)) text same h is = same
+ran_written : {A X : Type 0} (answer : Result (List ℕ) ParseError) (old new : Option (List ℕ)) (before now : ℕ) (can_fail : Bool) (w : Result A X) (r : Result (Unit {0}) Stop) → now ≡ before → OnOk w (Appends old new (or_refused answer)) → IsWritten w r → RanOne answer old new can_fail before now r
+ran_written answer old new before now can_fail (Ok x) (Ok y) same h is = (same, h)
+ran_written answer old new before now can_fail (Ok x) (Err (stop.Fault e)) same h is = absurd is
+ran_written answer old new before now can_fail (Ok x) (Err (stop.Write e)) same h is = absurd is
+ran_written answer old new before now can_fail (Err x) (Ok y) same h is = absurd is
+ran_written answer old new before now can_fail (Err x) (Err (stop.Fault e)) same h is = absurd is
+ran_written answer old new before now can_fail (Err x) (Err (stop.Write e)) same h is = same
 
-told_written : {T Y X : Type 0} (told : Option (List ℕ)) (shown : T → Y) (answer : List ℕ → Result Y ParseError) (x : T) (line : List ℕ → List ℕ) (written : List ℕ) (old new : Option (List ℕ)) (before now : ℕ) (can_fail : Bool) (w : Result (Unit {0}) X)
-    → IfSome told (λ bytes. answer bytes ≡ Ok (shown x) → line bytes ≡ written) → IfSome told (λ bytes. IsAnswer shown (answer bytes) can_fail before now (Ok x)) → OnOk w (Appends old new written) → IfSome told (λ bytes. TriedOne (line bytes) old new can_fail before now (Ok w))
-told_written None shown answer x line written old new before now can_fail w text h wrote = tt
-told_written (Some bytes) shown answer x line written old new before now can_fail w text h wrote = (h.0, subst (λ t. OnOk w (Appends old new t)) (sym (text h.1)) wrote)
+told_written : {T Y X : Type 0} (told : Option (List ℕ)) (shown : T → Y) (answer : List ℕ → Result Y ParseError) (x : T) (whole : List ℕ → Result (List ℕ) ParseError) (written : List ℕ) (old new : Option (List ℕ)) (before now : ℕ) (can_fail : Bool) (w : Result (Unit {0}) X)
+    → IfSome told (λ bytes. answer bytes ≡ Ok (shown x) → whole bytes ≡ Ok written) → IfSome told (λ bytes. IsAnswer shown (answer bytes) can_fail before now (Ok x)) → OnOk w (Appends old new written) → IfSome told (λ bytes. TriedOne (whole bytes) old new can_fail before now (Ok w))
+told_written None shown answer x whole written old new before now can_fail w text h wrote = tt
+told_written (Some bytes) shown answer x whole written old new before now can_fail w text h wrote = (h.0, subst (λ a. OnOk w (Appends old new (or_refused a))) (sym (text h.1)) wrote)
 
 told_same : {T Y : Type 0} (told : Option (List ℕ)) (shown : T → Y) (answer : List ℕ → Result Y ParseError) (x : T) (before now : ℕ) (can_fail : Bool) → IfSome told (λ bytes. IsAnswer shown (answer bytes) can_fail before now (Ok x)) → IfSome told (λ _. now ≡ before)
 told_same None shown answer x before now can_fail h = tt
@@ -201,18 +183,17 @@ always_ok : {T : Type 0} (told : Option (List ℕ)) (hand : List ℕ → Type 0)
 always_ok None hand x = tt
 always_ok (Some bytes) hand x = λ _. refl
 
-module _ {E : Type 0} (little : E → Bool) (call : Asked) (old new : Seen E) where
+module _ {E : Type 0} (little : E → Bool) (call : Question) (old new : Seen E) where
   pub call_written : {T Y X : Type 0} (shown : T → Y) (answer : List ℕ → Result Y ParseError) (whole : Result T ParseError) (x : T) (written : List ℕ) (before after : Option (List ℕ)) (w : Result (Unit {0}) X)
-      → IfSome old.content (λ bytes. answer bytes ≡ Ok (shown x) → call_text (stream_answers little old bytes) call ≡ written)
+      → IfSome old.content (λ bytes. answer bytes ≡ Ok (shown x) → stream_answer little old bytes call ≡ Ok written)
       → Gives (call_ranges little old call) shown answer old new whole → whole ≡ Ok x → OnOk w (Appends before after written) → TriedCall little call old new before after (Ok w)
   call_written {T} shown answer whole x written before after w text gives is wrote =
       let answers = subst (λ w. IfSome old.content (λ bytes. IsAnswer shown (answer bytes) old.can_fail old.faults new.faults w)) is gives.answers in
       record {
         keeps = gives.keeps;
-        tried = told_written old.content shown answer x (λ bytes. call_text (stream_answers little old bytes) call) written before after old.faults new.faults old.can_fail w text answers wrote;
+        tried = told_written old.content shown answer x (λ bytes. stream_answer little old bytes call) written before after old.faults new.faults old.can_fail w text answers wrote;
         accepted = always_ok old.content (λ bytes. IsAtHand little old bytes call) w;
         loaded = subst (λ w. OnOk w (AreHeld new (call_ranges little old call))) is gives.loaded;
-        answered = tt;
       }
 
   never_at_hand : {T : Type 0} (told : Option (List ℕ)) (hand : List ℕ → Type 0) (r : Result T ParseError) → ((bytes : List ℕ) → hand bytes → ⊥) → IfSome told (λ bytes. hand bytes → IsOk r)
@@ -221,92 +202,98 @@ module _ {E : Type 0} (little : E → Bool) (call : Asked) (old new : Seen E) wh
 
   -- of a call that takes memory
   pub call_refused_given : {T Y X : Type 0} (asked : List (ℕ × ℕ)) (shown : T → Y) (answer : List ℕ → Result Y ParseError) (whole : Result T ParseError) (e : ParseError) (before : Option (List ℕ))
-      → ((bytes : List ℕ) → IsErr (answer bytes) → call_text (stream_answers little old bytes) call ≡ refused_line) → ((bytes : List ℕ) → IsAtHand little old bytes call → ⊥) → ((bytes : List ℕ) → IsAnswered (stream_answers little old bytes) call → IsErr (answer bytes) → ⊥)
+      → ((bytes : List ℕ) → IsErr (answer bytes) → IsErr (stream_answer little old bytes call)) → ((bytes : List ℕ) → IsAtHand little old bytes call → ⊥)
       → Gives asked shown answer old new whole → whole ≡ Err e → TriedCall {X = X} little call old new before before (Err e)
-  call_refused_given {T} {Y} {X} asked shown answer whole e before text hand none gives is =
+  call_refused_given {T} {Y} {X} asked shown answer whole e before so hand gives is =
       let answers = subst (λ w. IfSome old.content (λ bytes. IsAnswer shown (answer bytes) old.can_fail old.faults new.faults w)) is gives.answers in
       record {
         keeps = gives.keeps;
-        tried = told_tried X old.content shown answer (λ bytes. call_text (stream_answers little old bytes) call) before old.faults new.faults old.can_fail e answers text;
+        tried = told_tried X old.content shown answer (λ bytes. stream_answer little old bytes call) before old.faults new.faults old.can_fail e answers so;
         accepted = never_at_hand {T = Result (Unit {0}) X} old.content (λ bytes. IsAtHand little old bytes call) (Err e) hand;
         loaded = tt;
-        answered = told_answered old.content shown answer (λ bytes. IsAnswered (stream_answers little old bytes) call) old.faults new.faults old.can_fail e answers none;
       }
 
 -- ---- a call that was tried, as a run tells it
 
-ran_tried : {X : Type 0} (told : Option (List ℕ)) (line : List ℕ → List ℕ) (old new : Option (List ℕ)) (before now : ℕ) (can_fail : Bool) (w : Result (Unit {0}) X) (r : Result (Unit {0}) RunError)
-    → IfSome told (λ bytes. TriedOne (line bytes) old new can_fail before now (Ok w)) → IsWritten w r → IfSome told (λ bytes. RanOne (line bytes) old new can_fail before now r)
-ran_tried None line old new before now can_fail w r h is = tt
-ran_tried (Some bytes) line old new before now can_fail w r h is = ran_written (line bytes) (line bytes) old new before now can_fail w r refl h.0 h.1 is
+ran_tried : {X : Type 0} (told : Option (List ℕ)) (answer : List ℕ → Result (List ℕ) ParseError) (old new : Option (List ℕ)) (before now : ℕ) (can_fail : Bool) (w : Result (Unit {0}) X) (r : Result (Unit {0}) Stop)
+    → IfSome told (λ bytes. TriedOne (answer bytes) old new can_fail before now (Ok w)) → IsWritten w r → IfSome told (λ bytes. RanOne (answer bytes) old new can_fail before now r)
+ran_tried None answer old new before now can_fail w r h is = tt
+ran_tried (Some bytes) answer old new before now can_fail w r h is = ran_written (answer bytes) old new before now can_fail w r h.0 h.1 is
 
-told_faultless : (told : Option (List ℕ)) (hand : List ℕ → Type 0) (r : Result (Unit {0}) RunError) → IsFaultless r → IfSome told (λ bytes. hand bytes → IsFaultless r)
+told_faultless : (told : Option (List ℕ)) (hand : List ℕ → Type 0) (r : Result (Unit {0}) Stop) → IsFaultlessCall r → IfSome told (λ bytes. hand bytes → IsFaultlessCall r)
 told_faultless None hand r h = tt
 told_faultless (Some bytes) hand r h = λ _. h
 
-refused_ran : (X : Type 0) (told : Option (List ℕ)) (line : List ℕ → List ℕ) (old middle new : Option (List ℕ)) (before now : ℕ) (can_fail : Bool) (e : ParseError) (r : Result (Unit {0}) RunError)
-    → IfSome told (λ bytes. TriedOne {X = X} (line bytes) old middle can_fail before now (Err e)) → LeadsTo (kind e) middle new r → IfSome told (λ bytes. RanOne (line bytes) old new can_fail before now r)
-refused_ran X None line old middle new before now can_fail e r h leads = tt
-refused_ran X (Some bytes) line old middle new before now can_fail e r h leads =
-    ran_by (kind e) (line bytes ≡ refused_line) (line bytes) old new before now can_fail r h.1 (λ same. same) (subst (λ o. LeadsTo (kind e) o new r) h.0 leads)
+refused_ran : (X : Type 0) (told : Option (List ℕ)) (answer : List ℕ → Result (List ℕ) ParseError) (old middle new : Option (List ℕ)) (before now : ℕ) (can_fail : Bool) (e : ParseError) (r : Result (Unit {0}) Stop)
+    → IfSome told (λ bytes. TriedOne {X = X} (answer bytes) old middle can_fail before now (Err e)) → LeadsTo (kind e) middle new r → IfSome told (λ bytes. RanOne (answer bytes) old new can_fail before now r)
+refused_ran X None answer old middle new before now can_fail e r h leads = tt
+refused_ran X (Some bytes) answer old middle new before now can_fail e r h leads =
+    ran_by (kind e) (answer bytes) old new before now can_fail r h.1 (subst (λ o. LeadsTo (kind e) o new r) h.0 leads)
 
-refused_faultless : (T : Type 0) (told : Option (List ℕ)) (hand : List ℕ → Type 0) (e : ParseError) (r : Result (Unit {0}) RunError)
-    → IfSome told (λ bytes. hand bytes → IsOk {T = T} (Err e)) → IfSome told (λ bytes. hand bytes → IsFaultless r)
+refused_faultless : (T : Type 0) (told : Option (List ℕ)) (hand : List ℕ → Type 0) (e : ParseError) (r : Result (Unit {0}) Stop)
+    → IfSome told (λ bytes. hand bytes → IsOk {T = T} (Err e)) → IfSome told (λ bytes. hand bytes → IsFaultlessCall r)
 refused_faultless T None hand e r h = tt
 refused_faultless T (Some bytes) hand e r h = λ ready. absurd (not_refused T e (h ready))
 
 -- its ranges are held, in words of the stream that it leaves
-loaded_there : {E : Type 0} (little : E → Bool) (call : Asked) (old new : Seen E) → Keeps old new → AreHeld new (call_ranges little old call) → AreHeld new (call_ranges little new call)
+loaded_there : {E : Type 0} (little : E → Bool) (call : Question) (old new : Seen E) → Keeps old new → AreHeld new (call_ranges little old call) → AreHeld new (call_ranges little new call)
 loaded_there little call old new keeps held = subst (λ file. AreHeld new (ranges_of file call)) (sym (same_file little old new [] keeps)) held
 
-loaded_told : (told : Option (List ℕ)) (answered : List ℕ → Type 0) (held : Type 0) (r : Result (Unit {0}) RunError) → held → OnOk r (IfSome told (λ bytes. answered bytes → held))
+loaded_told : (told : Option (List ℕ)) (answered : List ℕ → Type 0) (held : Type 0) (r : Result (Unit {0}) Stop) → held → OnOk r (IfSome told (λ bytes. answered bytes → held))
 loaded_told None answered held (Ok x) h = tt
 loaded_told (Some bytes) answered held (Ok x) h = λ _. h
 loaded_told told answered held (Err e) h = tt
 
 -- a call that the content has no answer for
-loaded_never : (told : Option (List ℕ)) (answered there : List ℕ → Type 0) (held : Type 0) → IfSome told (λ bytes. answered bytes → ⊥) → ((bytes : List ℕ) → there bytes → answered bytes) → IfSome told (λ bytes. there bytes → held)
-loaded_never None answered there held none so = tt
-loaded_never (Some bytes) answered there held none so = λ ready. absurd (none (so bytes ready))
+loaded_never : (told : Option (List ℕ)) (answer : List ℕ → Result (List ℕ) ParseError) (there : List ℕ → Type 0) (held : Type 0) (before now : ℕ) (can_fail : Bool)
+    → IfSome told (λ bytes. IsRefused before now can_fail (IsErr (answer bytes)) Kind.Refusal) → ((bytes : List ℕ) → there bytes → IsOk (answer bytes)) → IfSome told (λ bytes. there bytes → held)
+loaded_never None answer there held before now can_fail h so = tt
+loaded_never (Some bytes) answer there held before now can_fail h so = λ ready. absurd (ok_or_err (answer bytes) (so bytes ready) h.1)
 
-refusal_told : (told : Option (List ℕ)) (k : Kind) (answered : List ℕ → Type 0) → k ≡ Kind.Refusal → IfSome told (λ bytes. k ≡ Kind.Refusal → answered bytes → ⊥) → IfSome told (λ bytes. answered bytes → ⊥)
-refusal_told None k answered is none = tt
-refusal_told (Some bytes) k answered is none = none is
+loaded_by : (told : Option (List ℕ)) (k : Kind) (answer : List ℕ → Result (List ℕ) ParseError) (there : List ℕ → Type 0) (held : Type 0) (before after : Option (List ℕ)) (faults now : ℕ) (can_fail : Bool) (r : Result (Unit {0}) Stop)
+    → LeadsTo k before after r → IfSome told (λ bytes. IsRefused faults now can_fail (IsErr (answer bytes)) k) → ((bytes : List ℕ) → there bytes → IsOk (answer bytes)) → OnOk r (IfSome told (λ bytes. there bytes → held))
+loaded_by told Kind.Failure answer there held before after faults now can_fail (Ok x) leads h so = absurd leads.1
+loaded_by told Kind.Want answer there held before after faults now can_fail (Ok x) leads h so = absurd leads.1
+loaded_by told Kind.Refusal answer there held before after faults now can_fail (Ok x) leads h so = loaded_never told answer there held faults now can_fail h so
+loaded_by told k answer there held before after faults now can_fail (Err e) leads h so = tt
 
-loaded_refused : (told : Option (List ℕ)) (k : Kind) (answered there : List ℕ → Type 0) (held : Type 0) (before after : Option (List ℕ)) (r : Result (Unit {0}) RunError)
-    → LeadsTo k before after r → IfSome told (λ bytes. k ≡ Kind.Refusal → answered bytes → ⊥) → ((bytes : List ℕ) → there bytes → answered bytes) → OnOk r (IfSome told (λ bytes. there bytes → held))
-loaded_refused told Kind.Failure answered there held before after (Ok x) leads none so = absurd leads.1
-loaded_refused told Kind.Want answered there held before after (Ok x) leads none so = absurd leads.1
-loaded_refused told Kind.Refusal answered there held before after (Ok x) leads none so = loaded_never told answered there held (refusal_told told Kind.Refusal answered refl none) so
-loaded_refused told k answered there held before after (Err e) leads none so = tt
+tried_refusal : (X : Type 0) (told : Option (List ℕ)) (answer : List ℕ → Result (List ℕ) ParseError) (old new : Option (List ℕ)) (before now : ℕ) (can_fail : Bool) (e : ParseError)
+    → IfSome told (λ bytes. TriedOne {X = X} (answer bytes) old new can_fail before now (Err e)) → IfSome told (λ bytes. IsRefused before now can_fail (IsErr (answer bytes)) (kind e))
+tried_refusal X None answer old new before now can_fail e h = tt
+tried_refusal X (Some bytes) answer old new before now can_fail e h = h.1
 
-same_answers : {E : Type 0} (little : E → Bool) (old new : Seen E) (bytes : List ℕ) → Keeps old new → stream_answers little new bytes ≡ stream_answers little old bytes
-same_answers little old new bytes keeps = rw (keeps.ehdr, keeps.declares_sections, keeps.sections, keeps.segments) refl
+same_answer : {E : Type 0} (little : E → Bool) (call : Question) (old new : Seen E) (bytes : List ℕ) → Keeps old new → stream_answer little new bytes call ≡ stream_answer little old bytes call
+same_answer little call old new bytes keeps =
+    ap (λ h. call_answer h (stream_file little new bytes) call) keeps.ehdr ∙ ap (λ file. call_answer old.ehdr file call) (same_file little old new bytes keeps)
 
-module _ {E X : Type 0} (little : E → Bool) (call : Asked) (old new : Seen E) where
-  pub tried_written : (before after : Option (List ℕ)) (whole : Result (Result (Unit {0}) X) ParseError) (w : Result (Unit {0}) X) (r : Result (Unit {0}) RunError)
+module _ {E : Type 0} (little : E → Bool) (call : Question) (old new : Seen E) where
+  abbrev answer : List ℕ → Result (List ℕ) ParseError
+  answer bytes = stream_answer little old bytes call
+
+  abbrev later : List ℕ → Type 0
+  later bytes = IsOk (stream_answer little new bytes call)
+
+  pub tried_written : {X : Type 0} (before after : Option (List ℕ)) (whole : Result (Result (Unit {0}) X) ParseError) (w : Result (Unit {0}) X) (r : Result (Unit {0}) Stop)
       → TriedCall little call old new before after whole → whole ≡ Ok w → IsWritten w r → RanCall little call old new before after r
   tried_written before after whole w r tried is told_so =
       let here : TriedCall little call old new before after (Ok w) = subst (λ o. TriedCall little call old new before after o) is tried in
-      let line = λ (bytes : List ℕ). call_text (stream_answers little old bytes) call in
       record {
         keeps = here.keeps;
-        ran = ran_tried old.content line before after old.faults new.faults old.can_fail w r here.tried told_so;
+        ran = ran_tried old.content answer before after old.faults new.faults old.can_fail w r here.tried told_so;
         no_fault = told_faultless old.content (λ bytes. IsAtHand little old bytes call) r (faultless w r told_so);
-        loaded = loaded_told old.content (λ bytes. IsAnswered (stream_answers little new bytes) call) (AreHeld new (call_ranges little new call)) r (loaded_there little call old new here.keeps here.loaded);
+        loaded = loaded_told old.content later (AreHeld new (call_ranges little new call)) r (loaded_there little call old new here.keeps here.loaded);
       }
 
-  pub tried_refused : (before middle after : Option (List ℕ)) (whole : Result (Result (Unit {0}) X) ParseError) (e : ParseError) (r : Result (Unit {0}) RunError)
+  pub tried_refused : {X : Type 0} (before middle after : Option (List ℕ)) (whole : Result (Result (Unit {0}) X) ParseError) (e : ParseError) (r : Result (Unit {0}) Stop)
       → TriedCall little call old new before middle whole → whole ≡ Err e → LeadsTo (kind e) middle after r → RanCall little call old new before after r
-  tried_refused before middle after whole e r tried is leads =
+  tried_refused {X} before middle after whole e r tried is leads =
       let here : TriedCall little call old new before middle (Err e) = subst (λ o. TriedCall little call old new before middle o) is tried in
-      let line = λ (bytes : List ℕ). call_text (stream_answers little old bytes) call in
       record {
         keeps = here.keeps;
-        ran = refused_ran X old.content line before middle after old.faults new.faults old.can_fail e r here.tried leads;
+        ran = refused_ran X old.content answer before middle after old.faults new.faults old.can_fail e r here.tried leads;
         no_fault = refused_faultless (Result (Unit {0}) X) old.content (λ bytes. IsAtHand little old bytes call) e r here.accepted;
-        loaded = loaded_refused old.content (kind e) (λ bytes. IsAnswered (stream_answers little old bytes) call) (λ bytes. IsAnswered (stream_answers little new bytes) call) (AreHeld new (call_ranges little new call)) middle after r leads here.answered
-            (λ bytes ready. subst (λ answers. IsAnswered answers call) (same_answers little old new bytes here.keeps) ready);
+        loaded = loaded_by old.content (kind e) answer later (AreHeld new (call_ranges little new call)) middle after old.faults new.faults old.can_fail r leads
+            (tried_refusal X old.content answer before middle old.faults new.faults old.can_fail e here.tried) (λ bytes ready. subst IsOk (same_answer little call old new bytes here.keeps) ready);
       }
 
 -- ---- one call of a stream behind another
@@ -387,41 +374,57 @@ pub ok_of_map : {A B : Type 0} (f : A → B) (x : Result A ParseError) → is_ok
 ok_of_map f (Ok a) = refl
 ok_of_map f (Err e) = refl
 
--- a text of two answers, one of them refused
-pub both_refused : {A B : Type 0} (line : A → B → List ℕ) (a : Result A ParseError) (b : Result B ParseError) → IsErr b → unless_refused (λ x. unless_refused (line x) b) a ≡ refused_line
-both_refused line (Ok x) b h = refused_text (line x) b h
+-- two answers, one of them refused
+pub both_refused : {A B C : Type 0} (line : A → B → C) (a : Result A ParseError) (b : Result B ParseError) → IsErr b → IsErr (a >>= λ x. ok_map (line x) b)
+both_refused line (Ok x) b h = outer_refused (line x) b h
 both_refused line (Err e) b h = refl
 
--- a text of two answers
-pub both_told : {A B : Type 0} (count : A → ℕ) (line : ℕ → B → List ℕ) (a : Result A ParseError) (b : Result B ParseError) (n : ℕ) (y : B) → ok_map count a ≡ Ok n → b ≡ Ok y → unless_refused (λ x. unless_refused (line (count x)) b) a ≡ line n y
-both_told count line (Ok x) b n y counted is = let same : count x ≡ n = cc counted in rw is (ap (λ m. line m y) same)
+pub first_refused : {A B : Type 0} (a : Result A ParseError) (f : A → Result B ParseError) → IsErr a → IsErr (a >>= f)
+first_refused (Ok x) f h = cc
+first_refused (Err e) f h = refl
+
+-- the text of two answers
+pub both_told : {A B : Type 0} (count : A → ℕ) (line : ℕ → B → List ℕ) (a : Result A ParseError) (b : Result B ParseError) (n : ℕ) (y : B) → ok_map count a ≡ Ok n → b ≡ Ok y → (a >>= λ x. ok_map (line (count x)) b) ≡ Ok (line n y)
+both_told count line (Ok x) b n y counted is = let same : count x ≡ n = cc counted in rw is (ap (λ m. Ok (line m y)) same)
 both_told count line (Err e) b n y counted is = cc counted
 
 -- ---- of a section, and of a segment, that is there
 
-module _ {E T Y X : Type 0} (little : E → Bool) (call : Asked) (old new : Seen E) (shown : T → Y) (line : Y → List ℕ) where
+everywhere : (told : Option (List ℕ)) (P : List ℕ → Type 0) → ((bytes : List ℕ) → P bytes) → IfSome told P
+everywhere None P h = tt
+everywhere (Some bytes) P h = h bytes
+
+module _ {E T Y X : Type 0} (little : E → Bool) (call : Question) (old new : Seen E) (shown : T → Y) (line : Y → List ℕ) where
   pub section_refused : (ranges : SectionHeader → List (ℕ × ℕ)) (i : ℕ) (s : SectionHeader) (answer : ObjectFile → SectionHeader → Result Y ParseError) (whole : Result T ParseError) (e : ParseError) (before : Option (List ℕ))
-      → ((bytes : List ℕ) → call_text (stream_answers little old bytes) call ≡ unless_absent (λ s. unless_refused line (answer (stream_file little old bytes) s)) (slice_get old.sections i))
+      → ((bytes : List ℕ) → stream_answer little old bytes call ≡ unless_absent (λ s. ok_map line (answer (stream_file little old bytes) s)) (slice_get old.sections i))
       → (AreHeld old (call_ranges little old call) → AreHeld old (if_there ranges (slice_get old.sections i)))
-      → ((bytes : List ℕ) → IsAnswered (stream_answers little old bytes) call → OfThere (λ s. IsOk (answer (stream_file little old bytes) s)) (slice_get old.sections i))
       → slice_get old.sections i ≡ Some s → Leaves (ranges s) shown (λ bytes. answer (stream_file little old bytes) s) old new whole → whole ≡ Err e → TriedCall {X = X} little call old new before before (Err e)
-  section_refused ranges i s answer whole e before texts held ok there leaves is =
+  section_refused ranges i s answer whole e before texts held there leaves is =
       call_refused little call old new (ranges s) shown (λ bytes. answer (stream_file little old bytes) s) whole e before
-      (λ bytes refused. texts bytes ∙ ap (unless_absent (λ s. unless_refused line (answer (stream_file little old bytes) s))) there ∙ refused_text line (answer (stream_file little old bytes) s) refused)
+      (λ bytes refused. subst IsErr (sym (texts bytes ∙ ap (unless_absent (λ s. ok_map line (answer (stream_file little old bytes) s))) there)) (outer_refused line (answer (stream_file little old bytes) s) refused))
       (λ ready. subst (λ o. AreHeld old (if_there ranges o)) there (held ready))
-      (λ bytes ready. subst (λ o. OfThere (λ s. IsOk (answer (stream_file little old bytes) s)) o) there (ok bytes ready))
       leaves is
 
+  pub section_written : (ranges : SectionHeader → List (ℕ × ℕ)) (i : ℕ) (s : SectionHeader) (answer : ObjectFile → SectionHeader → Result Y ParseError) (whole : Result T ParseError) (x : T) (written : List ℕ) (before after : Option (List ℕ)) (w : Result (Unit {0}) X)
+      → ((bytes : List ℕ) → stream_answer little old bytes call ≡ unless_absent (λ s. ok_map line (answer (stream_file little old bytes) s)) (slice_get old.sections i))
+      → call_ranges little old call ≡ if_there ranges (slice_get old.sections i)
+      → slice_get old.sections i ≡ Some s → Leaves (ranges s) shown (λ bytes. answer (stream_file little old bytes) s) old new whole → whole ≡ Ok x → line (shown x) ≡ written → OnOk w (Appends before after written) → TriedCall little call old new before after (Ok w)
+  section_written ranges i s answer whole x written before after w texts asked there leaves is text wrote =
+      let found = λ (bytes : List ℕ) (e : answer (stream_file little old bytes) s ≡ Ok (shown x)).
+      texts bytes ∙ ap (unless_absent (λ s. ok_map line (answer (stream_file little old bytes) s))) there ∙ ap (ok_map line) e ∙ ap Ok text in
+      let held = subst (λ rs. OnOk whole (AreHeld new rs)) (sym (asked ∙ ap (if_there ranges) there)) leaves.loaded in
+      call_written little call old new shown (λ bytes. answer (stream_file little old bytes) s) whole x written before after w
+      (everywhere old.content (λ bytes. answer (stream_file little old bytes) s ≡ Ok (shown x) → stream_answer little old bytes call ≡ Ok written) found)
+      (record { keeps = leaves.keeps; loaded = held; answers = leaves.answers }) is wrote
+
   pub segment_refused : (ranges : ProgramHeader → List (ℕ × ℕ)) (i : ℕ) (p : ProgramHeader) (answer : ObjectFile → ProgramHeader → Result Y ParseError) (whole : Result T ParseError) (e : ParseError) (before : Option (List ℕ))
-      → ((bytes : List ℕ) → call_text (stream_answers little old bytes) call ≡ unless_absent (λ p. unless_refused line (answer (stream_file little old bytes) p)) (slice_get old.segments i))
+      → ((bytes : List ℕ) → stream_answer little old bytes call ≡ unless_absent (λ p. ok_map line (answer (stream_file little old bytes) p)) (slice_get old.segments i))
       → (AreHeld old (call_ranges little old call) → AreHeld old (if_there ranges (slice_get old.segments i)))
-      → ((bytes : List ℕ) → IsAnswered (stream_answers little old bytes) call → OfThere (λ p. IsOk (answer (stream_file little old bytes) p)) (slice_get old.segments i))
       → slice_get old.segments i ≡ Some p → Leaves (ranges p) shown (λ bytes. answer (stream_file little old bytes) p) old new whole → whole ≡ Err e → TriedCall {X = X} little call old new before before (Err e)
-  segment_refused ranges i p answer whole e before texts held ok there leaves is =
+  segment_refused ranges i p answer whole e before texts held there leaves is =
       call_refused little call old new (ranges p) shown (λ bytes. answer (stream_file little old bytes) p) whole e before
-      (λ bytes refused. texts bytes ∙ ap (unless_absent (λ p. unless_refused line (answer (stream_file little old bytes) p))) there ∙ refused_text line (answer (stream_file little old bytes) p) refused)
+      (λ bytes refused. subst IsErr (sym (texts bytes ∙ ap (unless_absent (λ p. ok_map line (answer (stream_file little old bytes) p))) there)) (outer_refused line (answer (stream_file little old bytes) p) refused))
       (λ ready. subst (λ o. AreHeld old (if_there ranges o)) there (held ready))
-      (λ bytes ready. subst (λ o. OfThere (λ p. IsOk (answer (stream_file little old bytes) p)) o) there (ok bytes ready))
       leaves is
 
 -- ---- a section that is checked
@@ -434,36 +437,36 @@ apart_refused (Err e) p b k m h = refl
 
 -- ---- a run of calls
 
-hand_later : {E : Type 0} (little : E → Bool) (old middle : Seen E) (bytes : List ℕ) (call : Asked) → Keeps old middle → IsAtHand little old bytes call → IsAtHand little middle bytes call
+hand_later : {E : Type 0} (little : E → Bool) (old middle : Seen E) (bytes : List ℕ) (call : Question) → Keeps old middle → IsAtHand little old bytes call → IsAtHand little middle bytes call
 hand_later little old middle bytes call keeps h =
     let held = subst (λ file. AreHeld middle (ranges_of file call)) (sym (same_file little old middle [] keeps)) (still_held old middle (ranges_of (headers_alone little old) call) keeps h.1) in
-    (h.0, held, subst (λ answers. IsAnswered answers call) (sym (same_answers little old middle bytes keeps)) h.2)
+    (h.0, held, subst IsOk (sym (same_answer little call old middle bytes keeps)) h.2)
 
-loaded_later : {E : Type 0} (little : E → Bool) (old new : Seen E) (bytes : List ℕ) (call : Asked) → Keeps old new → IsLoaded little old bytes call → IsLoaded little new bytes call
+loaded_later : {E : Type 0} (little : E → Bool) (old new : Seen E) (bytes : List ℕ) (call : Question) → Keeps old new → IsLoaded little old bytes call → IsLoaded little new bytes call
 loaded_later little old new bytes call keeps loaded = λ ready.
-    let held = loaded (subst (λ answers. IsAnswered answers call) (same_answers little old new bytes keeps) ready) in
+    let held = loaded (subst IsOk (same_answer little call old new bytes keeps) ready) in
     loaded_there little call old new keeps (still_held old new (call_ranges little old call) keeps held)
 
 -- the calls so far are loaded, and then one more is
 all_loaded : {E : Type 0} (little : E → Bool) (middle new : Seen E) (told : Option (List ℕ)) (calls : List Call) (i : ℕ) (d : Call) → Keeps middle new → i < length calls
-    → IfSome told (λ bytes. All (λ call. IsLoaded little middle bytes (asked call)) (take i calls)) → IfSome told (λ bytes. IsLoaded little new bytes (asked (get_or calls i d)))
-    → IfSome told (λ bytes. All (λ call. IsLoaded little new bytes (asked call)) (take (i + 1) calls))
+    → IfSome told (λ bytes. All (λ call. IsLoaded little middle bytes (question call)) (take i calls)) → IfSome told (λ bytes. IsLoaded little new bytes (question (get_or calls i d)))
+    → IfSome told (λ bytes. All (λ call. IsLoaded little new bytes (question call)) (take (i + 1) calls))
 all_loaded little middle new None calls i d keeps within all one = tt
 all_loaded little middle new (Some bytes) calls i d keeps within all one =
-    let later = All-weaker (λ call. IsLoaded little middle bytes (asked call)) (λ call. IsLoaded little new bytes (asked call)) (λ call. loaded_later little middle new bytes (asked call) keeps) (take i calls) all in
-    All-more (λ call. IsLoaded little new bytes (asked call)) calls i d within later one
+    let later = All-weaker (λ call. IsLoaded little middle bytes (question call)) (λ call. IsLoaded little new bytes (question call)) (λ call. loaded_later little middle new bytes (question call) keeps) (take i calls) all in
+    All-more (λ call. IsLoaded little new bytes (question call)) calls i d within later one
 
-pub more_loaded : {E : Type 0} (little : E → Bool) (middle new : Seen E) (told : Option (List ℕ)) (calls : List Call) (i : ℕ) (d : Call) (r : Result (Unit {0}) RunError) (x : Unit {0}) → Keeps middle new → i < length calls → r ≡ Ok x
-    → IfSome told (λ bytes. All (λ call. IsLoaded little middle bytes (asked call)) (take i calls)) → OnOk r (IfSome told (λ bytes. IsLoaded little new bytes (asked (get_or calls i d))))
-    → IfSome told (λ bytes. All (λ call. IsLoaded little new bytes (asked call)) (take (i + 1) calls))
+pub more_loaded : {E : Type 0} (little : E → Bool) (middle new : Seen E) (told : Option (List ℕ)) (calls : List Call) (i : ℕ) (d : Call) (r : Result (Unit {0}) Stop) (x : Unit {0}) → Keeps middle new → i < length calls → r ≡ Ok x
+    → IfSome told (λ bytes. All (λ call. IsLoaded little middle bytes (question call)) (take i calls)) → OnOk r (IfSome told (λ bytes. IsLoaded little new bytes (question (get_or calls i d))))
+    → IfSome told (λ bytes. All (λ call. IsLoaded little new bytes (question call)) (take (i + 1) calls))
 more_loaded little middle new told calls i d r x keeps within is all one =
-    all_loaded little middle new told calls i d keeps within all (subst (λ w. OnOk w (IfSome told (λ bytes. IsLoaded little new bytes (asked (get_or calls i d))))) is one)
+    all_loaded little middle new told calls i d keeps within all (subst (λ w. OnOk w (IfSome told (λ bytes. IsLoaded little new bytes (question (get_or calls i d))))) is one)
 
 -- the text of the calls so far was written, and then that of one more
-text_more : {E : Type 0} (answers : Answers E) (calls : List Call) (call : Call) → text answers (map asked (calls ++ call ∷ [])) ≡ text answers (map asked calls) ++ call_text answers (asked call)
-text_more answers [] call = append-nil (call_text answers (asked call))
-text_more answers (first ∷ calls) call =
-    ap (λ (t : List ℕ). call_text answers (asked first) ++ t) (text_more answers calls call) ∙ sym (append_assoc (call_text answers (asked first)) (text answers (map asked calls)) (call_text answers (asked call)))
+text_more : {E : Type 0} (header : FileHeader E) (file : ObjectFile) (calls : List Call) (call : Call) → text header file (map question (calls ++ call ∷ [])) ≡ text header file (map question calls) ++ call_text header file (question call)
+text_more header file [] call = append-nil (call_text header file (question call))
+text_more header file (first ∷ calls) call =
+    ap (λ (t : List ℕ). call_text header file (question first) ++ t) (text_more header file calls call) ∙ sym (append_assoc (call_text header file (question first)) (text header file (map question calls)) (call_text header file (question call)))
 
 kept_appends : (u v w : Option (List ℕ)) (bytes : List ℕ) → Appends u v bytes → KeepsBytes v w → Appends u w bytes
 kept_appends None v w bytes h kept = tt
@@ -472,31 +475,51 @@ kept_appends (Some xs) (Some ys) None bytes h kept = kept
 kept_appends (Some xs) (Some ys) (Some zs) bytes h kept = kept ∙ h
 
 told_more : {E : Type 0} (little : E → Bool) (old middle : Seen E) (told : Option (List ℕ)) (calls : List Call) (i : ℕ) (d : Call) (now : ℕ) (u v w z : Option (List ℕ)) (x : Unit {0}) → Keeps old middle → i < length calls → KeepsBytes w z
-    → IfSome told (λ bytes. Appends u v (text (stream_answers little old bytes) (map asked (take i calls))) × (middle.faults ≡ old.faults))
-    → IfSome told (λ bytes. RanOne (call_text (stream_answers little middle bytes) (asked (get_or calls i d))) v w middle.can_fail middle.faults now (Ok x))
-    → IfSome told (λ bytes. Appends u z (text (stream_answers little old bytes) (map asked (take (i + 1) calls))) × (now ≡ old.faults))
+    → IfSome told (λ bytes. Appends u v (text old.ehdr (stream_file little old bytes) (map question (take i calls))) × (middle.faults ≡ old.faults))
+    → IfSome told (λ bytes. RanOne (stream_answer little middle bytes (question (get_or calls i d))) v w middle.can_fail middle.faults now (Ok x))
+    → IfSome told (λ bytes. Appends u z (text old.ehdr (stream_file little old bytes) (map question (take (i + 1) calls))) × (now ≡ old.faults))
 told_more little old middle None calls i d now u v w z x keeps within kept all one = tt
 told_more little old middle (Some bytes) calls i d now u v w z x keeps within kept all one =
-    let front = text (stream_answers little old bytes) (map asked (take i calls)) in
-    let piece : Appends v w (call_text (stream_answers little old bytes) (asked (get_or calls i d))) = subst (λ answers. Appends v w (call_text answers (asked (get_or calls i d)))) (same_answers little old middle bytes keeps) one.1 in
-    let both = appends_more u v w front (call_text (stream_answers little old bytes) (asked (get_or calls i d))) all.0 piece in
-    let whole = ap (λ cs. text (stream_answers little old bytes) (map asked cs)) (take_more calls i d within) ∙ text_more (stream_answers little old bytes) (take i calls) (get_or calls i d) in
-    (kept_appends u w z (text (stream_answers little old bytes) (map asked (take (i + 1) calls))) (subst (λ t. Appends u w t) (sym whole) both) kept, one.0 ∙ all.1)
+    let front = text old.ehdr (stream_file little old bytes) (map question (take i calls)) in
+    let here = question (get_or calls i d) in
+    let piece : Appends v w (or_refused (stream_answer little old bytes here)) = subst (λ answer. Appends v w (or_refused answer)) (same_answer little here old middle bytes keeps) one.1 in
+    let both = appends_more u v w front (or_refused (stream_answer little old bytes here)) all.0 piece in
+    let whole = ap (λ cs. text old.ehdr (stream_file little old bytes) (map question cs)) (take_more calls i d within) ∙ text_more old.ehdr (stream_file little old bytes) (take i calls) (get_or calls i d) in
+    (kept_appends u w z (text old.ehdr (stream_file little old bytes) (map question (take (i + 1) calls))) (subst (λ t. Appends u w t) (sym whole) both) kept, one.0 ∙ all.1)
 
-pub more_written : {E : Type 0} (little : E → Bool) (old middle : Seen E) (told : Option (List ℕ)) (calls : List Call) (i : ℕ) (d : Call) (now : ℕ) (u v w z : Option (List ℕ)) (r : Result (Unit {0}) RunError) (x : Unit {0}) → Keeps old middle → i < length calls → KeepsBytes w z → r ≡ Ok x
-    → IfSome told (λ bytes. Appends u v (text (stream_answers little old bytes) (map asked (take i calls))) × (middle.faults ≡ old.faults))
-    → IfSome told (λ bytes. RanOne (call_text (stream_answers little middle bytes) (asked (get_or calls i d))) v w middle.can_fail middle.faults now r)
-    → IfSome told (λ bytes. Appends u z (text (stream_answers little old bytes) (map asked (take (i + 1) calls))) × (now ≡ old.faults))
+pub more_written : {E : Type 0} (little : E → Bool) (old middle : Seen E) (told : Option (List ℕ)) (calls : List Call) (i : ℕ) (d : Call) (now : ℕ) (u v w z : Option (List ℕ)) (r : Result (Unit {0}) Stop) (x : Unit {0}) → Keeps old middle → i < length calls → KeepsBytes w z → r ≡ Ok x
+    → IfSome told (λ bytes. Appends u v (text old.ehdr (stream_file little old bytes) (map question (take i calls))) × (middle.faults ≡ old.faults))
+    → IfSome told (λ bytes. RanOne (stream_answer little middle bytes (question (get_or calls i d))) v w middle.can_fail middle.faults now r)
+    → IfSome told (λ bytes. Appends u z (text old.ehdr (stream_file little old bytes) (map question (take (i + 1) calls))) × (now ≡ old.faults))
 more_written little old middle told calls i d now u v w z r x keeps within kept is all one =
-    told_more little old middle told calls i d now u v w z x keeps within kept all (subst (λ o. IfSome told (λ bytes. RanOne (call_text (stream_answers little middle bytes) (asked (get_or calls i d))) v w middle.can_fail middle.faults now o)) is one)
+    told_more little old middle told calls i d now u v w z x keeps within kept all (subst (λ o. IfSome told (λ bytes. RanOne (stream_answer little middle bytes (question (get_or calls i d))) v w middle.can_fail middle.faults now o)) is one)
 
-fault_is_none : (r : Result (Unit {0}) RunError) (done : ℕ) (e : ParseError) → r ≡ Err (Fault done e) → IsFaultless r → ⊥
-fault_is_none r done e is h = subst IsFaultless is h
+stopped_by : {E : Type 0} (little : E → Bool) (old middle : Seen E) (told : Option (List ℕ)) (calls : List Call) (i : ℕ) (d : Call) (now : ℕ) (u v w : Option (List ℕ)) (s : Stop) → Keeps old middle → i < length calls
+    → IfSome told (λ bytes. Appends u v (text old.ehdr (stream_file little old bytes) (map question (take i calls))) × (middle.faults ≡ old.faults))
+    → IfSome told (λ bytes. RanOne (stream_answer little middle bytes (question (get_or calls i d))) v w middle.can_fail middle.faults now (Err s))
+    → IfSome told (λ bytes. Ran (λ calls. text old.ehdr (stream_file little old bytes) (map question calls)) calls u w old.can_fail old.faults now (Err (stopped_after i s)))
+stopped_by little old middle None calls i d now u v w s keeps within all one = tt
+stopped_by little old middle (Some bytes) calls i d now u v w (stop.Fault e) keeps within all one =
+    let refused = subst (λ count. IsRefused count now old.can_fail ⊥ (kind e)) all.1 (subst (λ can_fail. IsRefused middle.faults now can_fail ⊥ (kind e)) keeps.can_fail one.1) in
+    (within, kept_appends u v w (text old.ehdr (stream_file little old bytes) (map question (take i calls))) all.0 one.0, refused)
+stopped_by little old middle (Some bytes) calls i d now u v w (stop.Write e) keeps within all one = (within, one ∙ all.1)
+
+-- a call that stopped the run behind i others
+pub stopped : {E : Type 0} (little : E → Bool) (old middle : Seen E) (told : Option (List ℕ)) (calls : List Call) (i : ℕ) (d : Call) (now : ℕ) (u v w : Option (List ℕ)) (r : Result (Unit {0}) Stop) (s : Stop) → Keeps old middle → i < length calls → r ≡ Err s
+    → IfSome told (λ bytes. Appends u v (text old.ehdr (stream_file little old bytes) (map question (take i calls))) × (middle.faults ≡ old.faults))
+    → IfSome told (λ bytes. RanOne (stream_answer little middle bytes (question (get_or calls i d))) v w middle.can_fail middle.faults now r)
+    → IfSome told (λ bytes. Ran (λ calls. text old.ehdr (stream_file little old bytes) (map question calls)) calls u w old.can_fail old.faults now (Err (stopped_after i s)))
+stopped little old middle told calls i d now u v w r s keeps within is all one =
+    stopped_by little old middle told calls i d now u v w s keeps within all (subst (λ o. IfSome told (λ bytes. RanOne (stream_answer little middle bytes (question (get_or calls i d))) v w middle.can_fail middle.faults now o)) is one)
+
+still_faultless : (i : ℕ) (s : Stop) → IsFaultlessCall (Err s) → IsFaultless (Err (stopped_after i s))
+still_faultless i (stop.Fault e) h = absurd h
+still_faultless i (stop.Write e) h = tt
 
 -- a call of the list that is at hand makes no fault
-pub faulted : {E : Type 0} (little : E → Bool) (old middle : Seen E) (told : Option (List ℕ)) (calls : List Call) (i : ℕ) (d : Call) (r : Result (Unit {0}) RunError) (done : ℕ) (e : ParseError) → Keeps old middle → i < length calls → r ≡ Err (Fault done e)
-    → IfSome told (λ bytes. IsAtHand little middle bytes (asked (get_or calls i d)) → IsFaultless r) → IfSome told (λ bytes. All (λ call. IsAtHand little old bytes (asked call)) calls → ⊥)
-faulted little old middle None calls i d r done e keeps within is h = tt
-faulted little old middle (Some bytes) calls i d r done e keeps within is h = λ all.
-    let here : IsAtHand little old bytes (asked (get_or calls i d)) = All-get_or (λ call. IsAtHand little old bytes (asked call)) calls i d within all in
-    fault_is_none r done e is (h (hand_later little old middle bytes (asked (get_or calls i d)) keeps here))
+pub faulted : {E : Type 0} (little : E → Bool) (old middle : Seen E) (told : Option (List ℕ)) (calls : List Call) (i : ℕ) (d : Call) (r : Result (Unit {0}) Stop) (s : Stop) → Keeps old middle → i < length calls → r ≡ Err s
+    → IfSome told (λ bytes. IsAtHand little middle bytes (question (get_or calls i d)) → IsFaultlessCall r) → IfSome told (λ bytes. All (λ call. IsAtHand little old bytes (question call)) calls → IsFaultless (Err (stopped_after i s)))
+faulted little old middle None calls i d r s keeps within is h = tt
+faulted little old middle (Some bytes) calls i d r s keeps within is h = λ all.
+    let here : IsAtHand little old bytes (question (get_or calls i d)) = All-get_or (λ call. IsAtHand little old bytes (question call)) calls i d within all in
+    still_faultless i s (subst IsFaultlessCall is (h (hand_later little old middle bytes (question (get_or calls i d)) keeps here)))

@@ -1,23 +1,14 @@
+-- pieces of text: numbers, names, bytes
 pub mod Pieces
+-- the lines of a listing, a file for each subject
 pub mod lines
-pub mod Answers
-pub mod Asked
-pub mod Text
-pub mod BytesAnswers
-pub mod StreamAnswers
-pub mod Run
-pub mod Words
-pub mod Sound
-pub mod SoundGnu
-pub mod SoundSysv
-pub mod Scan
-pub mod SoundFaults
-pub mod SoundCount
-pub mod SoundVerdict
-pub mod CheckedView
-pub mod ChainLengths
-pub mod Resolve
-pub mod NamedSymbols
-pub mod ObjectView
+-- what a listing says of a checked section
 pub mod Verdicts
+-- calls: what they ask, what they write, and what a run of them leaves
+pub mod calls
+-- the call that a word spells
+pub mod Words
+-- the program: its request, what it writes, and its exit status
+pub mod Show
+-- what only implementations and private functions cite
 pub mod inner

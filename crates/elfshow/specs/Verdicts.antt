@@ -4,8 +4,8 @@ use Rattle.std.proofs.Common.{inl, inr}
 use Rattle.elf_parts.specs.GnuFind.{GnuTable}
 use Rattle.elf_parts.specs.Hash.{word_count}
 use Rattle.elf_parts.specs.SysvFind.{SysvTable}
-use Rattle.elfshow.specs.ChainLengths.{chain_lengths}
-use Rattle.elfshow.specs.Sound.{Given}
+use Rattle.elf_check.specs.Indexed.{chain_lengths}
+use Rattle.elf_check.specs.WithSymbols.{WithSymbols}
 use Rattle.elfshow.specs.declared.lines.hashes.Verdict.{Verdict}
 use Rattle.elfshow.specs.declared.lines.hashes.Verdict.TheVariants.{Faulty, Sound}
 use Rattle.elfshow.specs.inner.Decisions.{Decided, decide_gnu, decide_sysv}
@@ -16,9 +16,9 @@ verdict (inl sound) indexed = Sound indexed
 verdict (inr other) indexed = Faulty
 
 -- one symbol for each chain word
-abbrev pub gnu_verdict : Given GnuTable → Verdict
+abbrev pub gnu_verdict : WithSymbols GnuTable → Verdict
 gnu_verdict s = verdict (decide_gnu s) (word_count s.table.chains)
 
 -- one symbol for each value of a chain before its 0
-abbrev pub sysv_verdict : Given SysvTable → Verdict
+abbrev pub sysv_verdict : WithSymbols SysvTable → Verdict
 sysv_verdict s = verdict (decide_sysv s) (chain_lengths s.table (word_count s.table.buckets))

@@ -1,4 +1,2 @@
-pub mod HashSteps
-pub mod SoundProps
 pub mod Decisions
 pub mod RunSteps

@@ -1,13 +1,15 @@
 //! The calls of a listing, and the text that they write.
-ghost use Rattle.std.specs.Prelude.{◌≡◌, ◌≢◌, ℕ, All, List, OnOk, IfOk, IfErr, IfSome, Err, length, map};
+ghost use Rattle.std.specs.Prelude.{◌≡◌, ◌≢◌, ℕ, All, List, IsOk, OnOk, IfOk, IfErr, IfSome, Err, length, map};
 ghost use Rattle.std.specs.Io.KnownBytes.{Appends};
+ghost use Rattle.elf.specs.StreamFile.{stream_file};
+ghost use Rattle.elf.specs.ObjectFile.{object_file};
 ghost use Rattle.elf.specs.Opening.{opened};
-ghost use Rattle.elf.specs.Stream.{Keeps, Seen};
-ghost use Rattle.elfshow.specs.Asked.{asked};
-ghost use Rattle.elfshow.specs.BytesAnswers.{answers_of};
-ghost use Rattle.elfshow.specs.Run.{IsAtHand, IsFaultless, IsLoaded, Ran, StopsWithin};
-ghost use Rattle.elfshow.specs.StreamAnswers.{IsAnswered, TakesNoMemory, stream_answers};
-ghost use Rattle.elfshow.specs.Text.{text};
+ghost use Rattle.elf.specs.ElfStream.{Keeps, Seen};
+ghost use Rattle.elfshow.specs.calls.Question.{question};
+ghost use Rattle.elfshow.specs.calls.Ranges.{TakesNoMemory};
+ghost use Rattle.elfshow.specs.calls.Run.{IsAtHand, IsFaultless, IsLoaded, Ran, StopsWithin, stream_answer};
+ghost use Rattle.elfshow.specs.calls.Text.{text};
+ghost use Rattle.elfshow.specs.inner.RunSteps.{stopped_after};
 ghost use Rattle.elf_parts.specs.declared.parse.ParseError.{ParseError};
 
 use elf::endian::EndianParse;
@@ -75,6 +77,27 @@ pub enum RunError {
     Write { done: usize, error: io::Error },
 }
 
+// What stopped a call of a run.
+#[derive(Drop)]
+pub(crate) enum Stop {
+    // The source of the file failed, or memory ran out.
+    Fault(ParseError),
+    // The writer failed.
+    Write(io::Error),
+}
+
+impl Stop {
+    // Why a run stopped that this stopped after so many whole calls.
+    fn after(self, done: usize) -> RunError
+        ensures { result ≡ stopped_after done self }
+    {
+        match self {
+            Stop::Fault(error) => RunError::Fault { done, error },
+            Stop::Write(error) => RunError::Write { done, error },
+        }
+    }
+}
+
 /// Opens the file that the data hold, and writes the text of the calls, in order. A call that the reader
 /// refuses writes the line `refused`, and the run goes on. The writer is flushed behind each call, so
 /// that `done` counts what reached its end. Takes no memory.
@@ -84,7 +107,8 @@ pub fn run_bytes<E: EndianParse, W: Write>(
     out: &mut W,
 ) -> Result<(), RunError>
     ensures ok { OnOk result (IfOk (opened E.little E.of_byte «data».now) (λ file.
-        Appends (W.contents out.old) (W.contents out.new) (text (answers_of E.little file) (map asked calls.now)))) }
+        Appends (W.contents out.old) (W.contents out.new)
+        (text file.ehdr (object_file E.little file) (map question calls.now)))) }
     ensures refused { IfErr (opened E.little E.of_byte «data».now) (λ e. result ≡ Err (RunError.Open e)) }
     ensures open { (e : ParseError) → result ≡ Err (RunError.Open e) →
         (opened E.little E.of_byte «data».now ≡ Err e) × (out.new ≡ out.old) }
@@ -121,19 +145,17 @@ pub fn run_stream<E: EndianParse, S: StreamSource, A: Allocator + Copy, W: Write
 ) -> Result<(), RunError>
     ensures keeps { Keeps stream.old stream.new }
     ensures ran { IfSome stream.old.content (λ bytes.
-        Ran (λ calls. text (stream_answers E.little stream.old bytes) (map asked calls)) calls.now
+        Ran (λ calls. text stream.old.ehdr (stream_file E.little stream.old bytes) (map question calls)) calls.now
         (W.contents out.old) (W.contents out.new) stream.old.can_fail stream.old.faults stream.new.faults result) }
     ensures no_fault { IfSome stream.old.content (λ bytes.
-        All (λ call. IsAtHand E.little stream.old bytes (asked call)) calls.now → IsFaultless result) }
+        All (λ call. IsAtHand E.little stream.old bytes (question call)) calls.now → IsFaultless result) }
     ensures loaded { OnOk result (IfSome stream.old.content (λ bytes.
-        All (λ call. IsLoaded E.little stream.new bytes (asked call)) calls.now)) }
+        All (λ call. IsLoaded E.little stream.new bytes (question call)) calls.now)) }
 {
     for (done, call) in calls.iter().enumerate() {
         match stream::write_call(stream, *call, out) {
             Ok(()) => {}
-            Err(RunError::Open(error)) => return Err(RunError::Open(error)),
-            Err(RunError::Fault { error, .. }) => return Err(RunError::Fault { done, error }),
-            Err(RunError::Write { error, .. }) => return Err(RunError::Write { done, error }),
+            Err(stop) => return Err(stop.after(done)),
         }
         let flushed = out.flush();
         if let Err(error) = flushed {
@@ -147,7 +169,7 @@ pub fn run_stream<E: EndianParse, S: StreamSource, A: Allocator + Copy, W: Write
 /// hand: so of a list that a run over a stream wrote, these calls, run again over what it left, have no fault.
 pub fn loaded_calls_are_at_hand<E: EndianParse>()
     ensures { (s : Seen E) (bytes : List ℕ) (calls : List Call) →
-        All (λ call. IsLoaded E.little s bytes (asked call)) calls →
-        All (λ call. TakesNoMemory (asked call) × IsAnswered (stream_answers E.little s bytes) (asked call)) calls →
-        All (λ call. IsAtHand E.little s bytes (asked call)) calls }
+        All (λ call. IsLoaded E.little s bytes (question call)) calls →
+        All (λ call. TakesNoMemory (question call) × IsOk (stream_answer E.little s bytes (question call))) calls →
+        All (λ call. IsAtHand E.little s bytes (question call)) calls }
 {}

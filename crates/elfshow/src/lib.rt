@@ -2,10 +2,10 @@
 #![tactic(auto)]
 
 pub mod calls;
-pub mod hashcheck;
 mod lines;
 mod pieces;
 pub mod readers;
-pub mod resolve;
 pub mod show;
 mod words;
+
+pub use elf_check::{hashcheck, resolve};

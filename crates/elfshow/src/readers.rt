@@ -1,13 +1,13 @@
 //! What the listings of both readers have in common.
 ghost use Rattle.std.specs.Prelude.{◌≡◌, ℕ, List, Ok};
+ghost use Rattle.elf.specs.StreamFile.{stream_file};
+ghost use Rattle.elf.specs.ObjectFile.{object_file};
 ghost use Rattle.elf.specs.Opening.{opened};
-ghost use Rattle.elf.specs.Stream.{Seen, headers_of, shown_headers};
-ghost use Rattle.elf.specs.View.{View, with_header};
+ghost use Rattle.elf.specs.ElfStream.{Seen, headers_of, shown_headers};
+ghost use Rattle.elf.specs.ElfBytes.{View, with_header};
 ghost use Rattle.elf_parts.specs.declared.file.FileHeader.{FileHeader};
-ghost use Rattle.elfshow.specs.Asked.{Asked};
-ghost use Rattle.elfshow.specs.BytesAnswers.{answers_of};
-ghost use Rattle.elfshow.specs.StreamAnswers.{stream_answers};
-ghost use Rattle.elfshow.specs.Text.{text};
+ghost use Rattle.elfshow.specs.calls.Question.{Question};
+ghost use Rattle.elfshow.specs.calls.Text.{text};
 
 use elf::endian::EndianParse;
 use elf::readers::list_answers_as_table;
@@ -15,9 +15,10 @@ use elf::readers::list_answers_as_table;
 /// Of a file that is opened the text of every list of calls is the same over what an `ElfBytes` and over what
 /// an `ElfStream` answers, whatever header stands in both.
 pub fn texts_are_the_same<E: EndianParse>()
-    ensures { (bytes : List ℕ) (v : View E) (header : FileHeader E) (s : Seen E) (calls : List Asked) →
+    ensures { (bytes : List ℕ) (v : View E) (header : FileHeader E) (s : Seen E) (calls : List Question) →
         opened E.little E.of_byte bytes ≡ Ok v → shown_headers s ≡ headers_of (with_header v header) →
-        text (answers_of E.little (with_header v header)) calls ≡ text (stream_answers E.little s bytes) calls }
+        text header (object_file E.little (with_header v header)) calls
+        ≡ text s.ehdr (stream_file E.little s bytes) calls }
 {
     list_answers_as_table::<E>();
 }

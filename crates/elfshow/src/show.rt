@@ -1,16 +1,17 @@
 //! The program without its surroundings: what it does with the words of its command line.
-ghost use Rattle.std.specs.Prelude.{◌≡◌, ◌≤◌, IsErr, IsNone, IsSome, is_some, IfOk, IfSome, IsOkAnd, IsSomeAnd, OnOk, Some, map};
+ghost use Rattle.std.specs.Prelude.{◌≡◌, ◌≤◌, IsErr, IsNone, IsSome, is_some, IfOk, IfSome, IsOkAnd};
+ghost use Rattle.std.specs.Prelude.{IsSomeAnd, OnOk, Some, map};
 ghost use Rattle.std.specs.Io.Buffered.{writer_contents, writer_inner};
 ghost use Rattle.std.specs.Io.KnownBytes.{Appends, Keeps};
 ghost use Rattle.elf_parts.specs.Endian.{any_is_little, any_of_byte};
+ghost use Rattle.elf.specs.ObjectFile.{object_file};
 ghost use Rattle.elf.specs.Opening.{opened};
-ghost use Rattle.elfshow.specs.Asked.{asked};
-ghost use Rattle.elfshow.specs.BytesAnswers.{answers_of};
-ghost use Rattle.elfshow.specs.Run.{IsStatusOf, IsUnwritten, RanOver};
+ghost use Rattle.elfshow.specs.calls.Question.{question};
+ghost use Rattle.elfshow.specs.calls.Text.{text};
 ghost use Rattle.elfshow.specs.inner.RunSteps.{IsUnfailing};
-ghost use Rattle.elfshow.specs.Text.{text};
 ghost use Rattle.elfshow.specs.Pieces.{◌⧺◌};
-ghost use Rattle.elfshow.specs.Words.{agreement, calls_of, mode_of, request_of, shown_by, status_of};
+ghost use Rattle.elfshow.specs.Show.{IsStatusOf, IsUnwritten, RanOver, agreement, calls_of, mode_of};
+ghost use Rattle.elfshow.specs.Show.{request_of, shown_by, status_of};
 ghost use Rattle.elfshow.specs.declared.show.Mode.TheVariants.{Both};
 ghost use Rattle.elfshow.specs.declared.show.RequestError.TheVariants.{OutOfMemory};
 
@@ -65,7 +66,7 @@ impl<T: Drop> From<AllocFailed<T>> for RequestError {
 /// only the list of the calls takes.
 pub fn parse_words<'a>(alloc: Global, words: &[&'a str]) -> Result<Request<'a>, RequestError>
     ensures ok { IfOk result (λ request. request_of words.now
-        ≡ Some (request.mode, request.file.now, map asked request.calls.items)) }
+        ≡ Some (request.mode, request.file.now, map question request.calls.items)) }
     ensures usage { result ≡ Err RequestError.Usage → IsNone (request_of words.now) }
     ensures memory { result ≡ Err RequestError.OutOfMemory → IsSome (request_of words.now) }
 {
@@ -98,7 +99,7 @@ fn parse_mode(word: &str) -> Option<Mode>
 }
 
 fn parse_calls<'a>(alloc: Global, words: &[&'a str]) -> Result<Vec<Call<'a>>, RequestError>
-    ensures ok { IfOk result (λ calls. calls_of words.now ≡ Some (map asked calls.items)) }
+    ensures ok { IfOk result (λ calls. calls_of words.now ≡ Some (map question calls.items)) }
     ensures usage { result ≡ Err RequestError.Usage → IsNone (calls_of words.now) }
     ensures memory { result ≡ Err RequestError.OutOfMemory → IsSome (calls_of words.now) }
 {
@@ -138,7 +139,7 @@ pub fn show<W: Write, V: Write>(
     ensures listed { result ≡ 0 → IsSomeAnd (request_of words.now) (λ request.
         IsOkAnd (opened any_is_little any_of_byte «data».now) (λ file.
         Appends (W.contents out.old) (W.contents out.new)
-        (shown_by request.0 (text (answers_of any_is_little file) request.2)))) }
+        (shown_by request.0 (text file.ehdr (object_file any_is_little file) request.2)))) }
     ensures usage { result ≡ 2 → IsNone (request_of words.now) }
     ensures told { IsNone (request_of words.now) → result ≡ 2 }
     ensures no_request { IsNone (request_of words.now) → out.new ≡ out.old }
@@ -162,7 +163,8 @@ pub fn answer_in_memory<W: Write, V: Write>(
 ) -> u8
     ensures listed { result ≡ 0 → IsOkAnd (opened any_is_little any_of_byte «data».now) (λ file.
         Appends (W.contents out.old) (W.contents out.new)
-        (shown_by request.now.mode (text (answers_of any_is_little file) (map asked request.now.calls.items)))) }
+        (shown_by request.now.mode
+        (text file.ehdr (object_file any_is_little file) (map question request.now.calls.items)))) }
     ensures refused { IsErr (opened any_is_little any_of_byte «data».now) → out.new ≡ out.old }
     ensures status { result ≤ 1 }
 {
@@ -182,7 +184,8 @@ pub fn answer<W: Write, V: Write>(
     err: &mut V,
 ) -> u8
     ensures listed { result ≡ 0 → IsOkAnd (opened any_is_little any_of_byte «data».now) (λ file.
-        Appends (W.contents out.old) (W.contents out.new) (text (answers_of any_is_little file) (map asked request.now.calls.items))) }
+        Appends (W.contents out.old) (W.contents out.new)
+        (text file.ehdr (object_file any_is_little file) (map question request.now.calls.items))) }
     ensures refused { IsErr (opened any_is_little any_of_byte «data».now) → out.new ≡ out.old }
     ensures status { result ≤ 1 }
 {
@@ -203,12 +206,13 @@ pub fn answer_stream<S: StreamSource, W: Write, V: Write>(
 ) -> u8
     ensures listed { result ≡ 0 → IfSome (S.content source) (λ bytes.
         IsOkAnd (opened any_is_little any_of_byte bytes) (λ file.
-        Appends (W.contents out.old) (W.contents out.new) (text (answers_of any_is_little file) (map asked request.now.calls.items)))) }
+        Appends (W.contents out.old) (W.contents out.new)
+        (text file.ehdr (object_file any_is_little file) (map question request.now.calls.items)))) }
     ensures refused { IfSome (S.content source) (λ bytes.
         IsErr (opened any_is_little any_of_byte bytes) → out.new ≡ out.old) }
     ensures run { IfSome (S.content source) (λ bytes. IsStatusOf
         (λ run. RanOver (opened any_is_little any_of_byte bytes)
-        (λ file calls. text (answers_of any_is_little file) (map asked calls)) request.now.calls.items
+        (λ file calls. text file.ehdr (object_file any_is_little file) (map question calls)) request.now.calls.items
         (W.contents out.old) (W.contents out.new) (S.can_fail source) run) result) }
     ensures status { result ≤ 1 }
 {
@@ -228,7 +232,7 @@ pub fn run_source<S: StreamSource, W: Write>(
     out: &mut W,
 ) -> Result<(), RunError>
     ensures ran { IfSome (S.content source) (λ bytes. RanOver (opened any_is_little any_of_byte bytes)
-        (λ file calls. text (answers_of any_is_little file) (map asked calls)) calls.now
+        (λ file calls. text file.ehdr (object_file any_is_little file) (map question calls)) calls.now
         (W.contents out.old) (W.contents out.new) (S.can_fail source) result) }
     ensures refused { IfSome (S.content source) (λ bytes.
         IsErr (opened any_is_little any_of_byte bytes) → out.new ≡ out.old) }
@@ -252,7 +256,7 @@ pub fn answer_both<W: Write, V: Write>(
 ) -> u8
     ensures listed { result ≡ 0 → IsOkAnd (opened any_is_little any_of_byte «data».now) (λ file.
         Appends (W.contents out.old) (W.contents out.new)
-        (shown_by Both (text (answers_of any_is_little file) (map asked request.now.calls.items)))) }
+        (shown_by Both (text file.ehdr (object_file any_is_little file) (map question request.now.calls.items)))) }
     ensures refused { IsErr (opened any_is_little any_of_byte «data».now) → out.new ≡ out.old }
     ensures status { result ≤ 1 }
 {
@@ -273,7 +277,7 @@ pub fn run_both<W: Write>(
 ) -> Result<(), RunError>
     ensures ok { OnOk result (IsOkAnd (opened any_is_little any_of_byte «data».now) (λ file.
         Appends (W.contents out.old) (W.contents out.new)
-        (shown_by Both (text (answers_of any_is_little file) (map asked calls.now))))) }
+        (shown_by Both (text file.ehdr (object_file any_is_little file) (map question calls.now))))) }
     ensures stopped { IsUnwritten out.old out.new result }
     ensures refused { IsErr (opened any_is_little any_of_byte «data».now) → out.new ≡ out.old }
 {

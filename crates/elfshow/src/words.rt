@@ -1,8 +1,9 @@
 //! What the words of a command line spell.
 ghost use Rattle.std.specs.Prelude.{◌≡◌, ◌==◌};
 ghost use Rattle.std.specs.Option.{option_map};
-ghost use Rattle.elfshow.specs.Asked.{asked};
-ghost use Rattle.elfshow.specs.Words.{call_of, index_of, indexed_call, is_digit, keyed_call, number_of, plain_call, with_digit};
+ghost use Rattle.elfshow.specs.calls.Question.{question};
+ghost use Rattle.elfshow.specs.Words.{call_of, index_of, indexed_call, is_digit, keyed_call, number_of};
+ghost use Rattle.elfshow.specs.Words.{plain_call, with_digit};
 
 use crate::calls::Call;
 
@@ -11,7 +12,7 @@ const MOST_DIGITS: usize = 20;
 
 /// The call that a word spells.
 pub(crate) fn parse_call(word: &str) -> Option<Call<'_>>
-    ensures { option_map asked result ≡ call_of word.now }
+    ensures { option_map question result ≡ call_of word.now }
 {
     match word.split_once('=') {
         Some((key, value)) => parse_keyed_call(key, value),
@@ -20,7 +21,7 @@ pub(crate) fn parse_call(word: &str) -> Option<Call<'_>>
 }
 
 fn parse_plain_call(word: &str) -> Option<Call<'static>>
-    ensures { option_map asked result ≡ plain_call word.now }
+    ensures { option_map question result ≡ plain_call word.now }
 {
     match word {
         "header" => Some(Call::Header),
@@ -35,7 +36,7 @@ fn parse_plain_call(word: &str) -> Option<Call<'static>>
 }
 
 fn parse_keyed_call<'a>(key: &str, value: &'a str) -> Option<Call<'a>>
-    ensures { option_map asked result ≡ keyed_call key.now value.now }
+    ensures { option_map question result ≡ keyed_call key.now value.now }
 {
     match key {
         "name" => Some(Call::Name(value)),
@@ -44,7 +45,7 @@ fn parse_keyed_call<'a>(key: &str, value: &'a str) -> Option<Call<'a>>
 }
 
 fn parse_indexed_call(key: &str, index: u64) -> Option<Call<'static>>
-    ensures { option_map asked result ≡ indexed_call key.now index }
+    ensures { option_map question result ≡ indexed_call key.now index }
 {
     match key {
         "data" => Some(Call::Data(index)),

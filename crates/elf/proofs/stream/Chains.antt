@@ -5,7 +5,7 @@ use Rattle.elf_parts.specs.Number.{bytes_at, ok_map}
 use Rattle.elf_parts.specs.Record.{◌>>=◌}
 use Rattle.elf_parts.specs.declared.parse.ParseError.{ParseError}
 use Rattle.elf.specs.inner.Loads.{HasReason}
-use Rattle.elf.specs.Stream.{IsAnswer, Kind, kind}
+use Rattle.elf.specs.ElfStream.{IsAnswer, Kind, kind}
 use Rattle.elf.proofs.stream.Pieces.{read_within, read_past}
 use Rattle.elf.proofs.stream.Steps.{refused_so}
 

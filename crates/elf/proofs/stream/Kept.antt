@@ -20,7 +20,7 @@ use Rattle.std.proofs.lemmas.List.Kept.{AllPairs-cons, AllPairs-filter}
 use Rattle.std.proofs.lemmas.Map.Views.{any-filter_same}
 use Rattle.std.proofs.lemmas.List.{get_or_append_left, get_or_push, length_push}
 use Rattle.elf.specs.inner.Piece.{Piece, AreSpread, IsBefore, IsPut, IsOf, IsSound, covers, is_within, piece_of, range_of}
-use Rattle.elf.specs.Stream.{is_held}
+use Rattle.elf.specs.ElfStream.{is_held}
 
 pairs_head : {X : Type 0} (R : X → X → Type 0) (x : X) (xs : List X) → AllPairs R (x ∷ xs) → All (R x) xs
 pairs_head R x xs h = λ j d lt. h zero (suc j) d (omega arith) (omega arith)

@@ -6,11 +6,11 @@ use Rattle.elf_parts.specs.Record.{◌>>=◌}
 use Rattle.elf_parts.specs.declared.compression.CompressionHeader.{CompressionHeader}
 use Rattle.elf_parts.specs.declared.parse.ParseError.{ParseError}
 use Rattle.elf_parts.specs.declared.section.SectionHeader.{SectionHeader}
-use Rattle.elf.specs.Asked.{range_of_section, section_asked}
+use Rattle.elf.specs.Ranges.{range_of_section, section_asked}
 use Rattle.elf.specs.ObjectFile.{ObjectFile}
-use Rattle.elf.specs.Payload.{content, content_of_type, payload}
-use Rattle.elf.specs.Range.{section_range}
-use Rattle.elf.specs.Stream.{Seen, AreHeld, IsAnswer, IsRefused, Leaves, kind}
+use Rattle.elf.specs.Data.{content, content_of_type, payload}
+use Rattle.elf.specs.Headers.{section_range}
+use Rattle.elf.specs.ElfStream.{Seen, AreHeld, IsAnswer, IsRefused, Leaves, kind}
 use Rattle.elf.specs.inner.Loads.{AreThere, HasReason, Loads, LoadsFor}
 use Rattle.elf.proofs.stream.Steps.{not_ok, refused_not, refused_so}
 

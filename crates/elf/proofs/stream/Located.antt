@@ -1,17 +1,18 @@
 -- Tables that were located: the number of their records was read, and then where they lie was found.
 use Rattle.std.proofs.Common.{◌≡◌, ℕ, Bool, List, length, refl, ap, ◌∙◌, Option, Some, None, IfSome}
-use Rattle.std.specs.Prelude.{◌==◌, false, Result, Ok, Err, IsErr, is_err}
+use Rattle.std.specs.Prelude.{◌==◌, false, Result, Ok, Err, IsErr, is_err, IfErr}
 use Rattle.std.specs.Option.{option_map}
 use Rattle.elf_parts.specs.Number.{ok_map}
-use Rattle.elf_parts.specs.Record.{◌>>=◌, size_by}
-use Rattle.elf_parts.specs.Section.{section_header_layout}
-use Rattle.elf_parts.specs.Segment.{program_header_layout}
+use Rattle.elf_parts.specs.Record.{◌>>=◌}
 use Rattle.elf_parts.specs.Table.{table_in}
 use Rattle.elf_parts.specs.declared.file.FileHeader.{FileHeader}
 use Rattle.elf_parts.specs.declared.parse.ParseError.{ParseError}
-use Rattle.elf.specs.Opening.{section_count, section_table, segment_count, segment_table, table_bytes}
-use Rattle.elf.specs.Stream.{IsAnswer, kind}
-use Rattle.elf.specs.inner.HeaderSteps.{range_bytes, range_table}
+use Rattle.elf.specs.Opening.{table_bytes}
+use Rattle.elf.specs.ElfStream.{IsAnswer, kind}
+use Rattle.elf.specs.declared.elf_stream.opening.Declared.{Declared}
+use Rattle.elf.specs.declared.source.StreamSource as source
+use Rattle.elf.specs.inner.HeaderSteps.{IsNoWant, range_bytes, range_table}
+use Rattle.elf.specs.inner.Reads.{HasLength, Reads, ReadsAs, declared_count, declared_table}
 use Rattle.elf.proofs.stream.Chains.{given}
 use Rattle.elf.proofs.stream.Steps.{refused_so}
 
@@ -30,20 +31,25 @@ then_found little h bytes count part n before middle can_fail (Err e) same count
     let is : whole ≡ (part n >>= λ p. Ok (Some (table_in (little h.endianness) h.class p))) = given count n (λ c. part c >>= λ p. Ok (Some (table_in (little h.endianness) h.class p))) counted in
     refused_so (kind e) (IsErr (part n)) (IsErr whole) before middle middle can_fail (λ refused. ap is_err is ∙ bind_err (part n) (λ p. Ok (Some (table_in (little h.endianness) h.class p))) refused) same found
 
-pub sections_located : {E : Type 0} (little : E → Bool) (h : FileHeader E) (told : Option (List ℕ)) (len n before middle : ℕ) (can_fail : Bool) (r : Result (ℕ × ℕ) ParseError)
-    → (h.e_shoff == 0) ≡ false → IfSome told (λ bytes. len ≡ length bytes) → IfSome told (λ bytes. (middle ≡ before) × (section_count little h bytes ≡ Ok n))
-    → ((bytes : List ℕ) (can_fail : Bool) (faults : ℕ) → len ≡ length bytes → IsAnswer (range_bytes bytes) (table_bytes (size_by section_header_layout h.class) h.e_shentsize n h.e_shoff bytes) can_fail faults faults r)
-    → IfSome told (λ bytes. IsAnswer (option_map (range_table little h bytes)) (section_table little h bytes) can_fail before middle (ok_map Some r))
-unfolding section_table
-sections_located little h None len n before middle can_fail r there whole counted found = tt
-sections_located little h (Some bytes) len n before middle can_fail r there whole counted found =
-    rw there (then_found little h bytes (section_count little h bytes) (λ c. table_bytes (size_by section_header_layout h.class) h.e_shentsize c h.e_shoff bytes) n before middle can_fail r counted.0 counted.1 (found bytes can_fail middle whole))
+found_at : {E : Type 0} (little : E → Bool) (h : FileHeader E) (size : ℕ) (table : Declared) (content : Option (List ℕ)) (len n before middle : ℕ) (can_fail : Bool) (r : Result (ℕ × ℕ) ParseError)
+    → (table.offset == 0) ≡ false → IfSome content (λ bytes. len ≡ length bytes) → IfSome content (λ bytes. (middle ≡ before) × (declared_count little h table bytes ≡ Ok n))
+    → ((bytes : List ℕ) (can_fail : Bool) (faults : ℕ) → len ≡ length bytes → IsAnswer (range_bytes bytes) (table_bytes size table.entsize n table.offset bytes) can_fail faults faults r)
+    → IfSome content (λ bytes. IsAnswer (option_map (range_table little h bytes)) (declared_table little h size table bytes) can_fail before middle (ok_map Some r))
+found_at little h size table None len n before middle can_fail r there whole counted found = tt
+found_at little h size table (Some bytes) len n before middle can_fail r there whole counted found =
+    rw there (then_found little h bytes (declared_count little h table bytes) (λ c. table_bytes size table.entsize c table.offset bytes) n before middle can_fail r counted.0 counted.1 (found bytes can_fail middle whole))
 
-pub segments_located : {E : Type 0} (little : E → Bool) (h : FileHeader E) (told : Option (List ℕ)) (len n before middle : ℕ) (can_fail : Bool) (r : Result (ℕ × ℕ) ParseError)
-    → (h.e_phoff == 0) ≡ false → IfSome told (λ bytes. len ≡ length bytes) → IfSome told (λ bytes. (middle ≡ before) × (segment_count little h bytes ≡ Ok n))
-    → ((bytes : List ℕ) (can_fail : Bool) (faults : ℕ) → len ≡ length bytes → IsAnswer (range_bytes bytes) (table_bytes (size_by program_header_layout h.class) h.e_phentsize n h.e_phoff bytes) can_fail faults faults r)
-    → IfSome told (λ bytes. IsAnswer (option_map (range_table little h bytes)) (segment_table little h bytes) can_fail before middle (ok_map Some r))
-unfolding segment_table
-segments_located little h None len n before middle can_fail r there whole counted found = tt
-segments_located little h (Some bytes) len n before middle can_fail r there whole counted found =
-    rw there (then_found little h bytes (segment_count little h bytes) (λ c. table_bytes (size_by program_header_layout h.class) h.e_phentsize c h.e_phoff bytes) n before middle can_fail r counted.0 counted.1 (found bytes can_fail middle whole))
+free_of_want : {A B : Type 0} (f : A → B) (r : Result A ParseError) → IfErr r (λ e. IsNoWant (kind e)) → IfErr (ok_map f r) (λ e. IsNoWant (kind e))
+free_of_want f (Ok a) h = tt
+free_of_want f (Err e) h = h
+
+pub located : {S E : Type 0} (told : source.Ghosts S) (little : E → Bool) (h : FileHeader E) (size : ℕ) (table : Declared) (len n : ℕ) (old middle : S) (r : Result (ℕ × ℕ) ParseError)
+    → (table.offset == 0) ≡ false → HasLength told old len → Reads told (declared_count little h table) old middle (Ok n)
+    → ((bytes : List ℕ) (can_fail : Bool) (faults : ℕ) → len ≡ length bytes → IsAnswer (range_bytes bytes) (table_bytes size table.entsize n table.offset bytes) can_fail faults faults r)
+    → IfErr r (λ e. IsNoWant (kind e)) → ReadsAs told (λ bytes. option_map (range_table little h bytes)) (declared_table little h size table) old middle (ok_map Some r)
+located told little h size table len n old middle r there whole counted found none = record {
+  content = counted.content;
+  nature = counted.nature;
+  answer = found_at little h size table (told.content old) len n (told.faults old) (told.faults middle) (told.can_fail old) r there whole counted.answer found;
+  memory = free_of_want Some r none;
+}

@@ -9,11 +9,11 @@ use Rattle.elf_parts.specs.declared.parse.ParseError.{ParseError}
 use Rattle.elf_parts.specs.declared.section.SectionHeader.{SectionHeader}
 use Rattle.elf_parts.specs.declared.segment.ProgramHeader.{ProgramHeader}
 use Rattle.elf.specs.Answers.{section_dynamic, segment_dynamic}
-use Rattle.elf.specs.Asked.{Linked, VersionPlan, both_sections, if_there, plan_asked, section_asked, segment_asked, whole_section}
-use Rattle.elf.specs.Choice.{entry_size, if_found}
+use Rattle.elf.specs.Ranges.{Linked, VersionPlan, both_sections, if_there, plan_asked, section_asked, segment_asked, whole_section}
+use Rattle.elf.specs.Headers.{entry_size, if_found}
 use Rattle.elf.specs.ObjectFile.{ObjectFile, table_of}
-use Rattle.elf.specs.Payload.{content, payload}
-use Rattle.elf.specs.Range.{section_range, segment_range}
+use Rattle.elf.specs.Data.{content, payload}
+use Rattle.elf.specs.Headers.{section_range, segment_range}
 use Rattle.elf.specs.inner.Loads.{AreThere}
 use Rattle.elf.specs.inner.Plans.{definitions_by, needs_by, versions_by}
 use Rattle.elf.proofs.stream.Lent.{payload_needs}

@@ -11,8 +11,8 @@ use Rattle.elf_parts.specs.declared.parse.ParseError.{ParseError}
 use Rattle.elf_parts.specs.declared.section.SectionHeader.{SectionHeader}
 use Rattle.elf_parts.specs.declared.segment.ProgramHeader.{ProgramHeader}
 use Rattle.elf.specs.Opening.{header_at_front, opened, section_table, segment_table}
-use Rattle.elf.specs.Stream.{IsOfFile, Seen}
-use Rattle.elf.specs.View.{View, section_list, segment_list}
+use Rattle.elf.specs.ElfStream.{IsOfFile, Seen}
+use Rattle.elf.specs.ElfBytes.{View, section_list, segment_list}
 use Rattle.elf.specs.inner.HeaderSteps.{range_records, range_table}
 use Rattle.elf.specs.inner.Opened.{AreTables}
 use Rattle.elf.proofs.stream.Chains.{given}

@@ -8,8 +8,8 @@ use Rattle.elf_parts.specs.Number.{bytes_at, number_at, ok_map}
 use Rattle.elf_parts.specs.Record.{◌>>=◌, Field, Layout, accepted, numbers_at, record_by}
 use Rattle.elf_parts.specs.declared.file.Class.{Class}
 use Rattle.elf_parts.specs.declared.parse.ParseError.{ParseError}
-use Rattle.elf.specs.Stream.{Kind, kind}
-use Rattle.elf.specs.Payload.{at_front}
+use Rattle.elf.specs.ElfStream.{Kind, kind}
+use Rattle.elf.specs.Data.{at_front}
 use Rattle.elf.specs.inner.HeaderSteps.{IsNoWant}
 use Rattle.elf.proofs.stream.Chains.{IsPlain}
 

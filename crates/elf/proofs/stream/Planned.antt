@@ -3,20 +3,22 @@ use Rattle.std.proofs.Common.{◌≡◌, ℕ, Bool, List, Option, Some, None, Re
 use Rattle.std.specs.Prelude.{IsOk, IfSome}
 use Rattle.elf_parts.specs.Number.{ok_map}
 use Rattle.elf_parts.specs.Record.{◌>>=◌, size_by}
-use Rattle.elf_parts.specs.Symver.{Definitions, Needs, Versions, ver_defs, ver_needs, version_index_layout}
+use Rattle.elf_parts.specs.gnu_symver.Lists.{ver_defs, ver_needs}
+use Rattle.elf_parts.specs.gnu_symver.Records.{version_index_layout}
+use Rattle.elf_parts.specs.gnu_symver.Table.{Definitions, Needs, Versions}
 use Rattle.elf_parts.specs.Table.{Table}
 use Rattle.elf_parts.specs.declared.parse.ParseError.{ParseError}
 use Rattle.elf_parts.specs.declared.section.SectionHeader.{SectionHeader}
 use Rattle.elf.specs.Answers.{symbol_version_table}
-use Rattle.elf.specs.Asked.{Linked, VersionPlan, headers_alone, plan_asked, version_plan, version_plan_of, versions_asked, with_link}
-use Rattle.elf.specs.Choice.{entry_size, if_found}
-use Rattle.elf.specs.Listed.{stream_file}
+use Rattle.elf.specs.Ranges.{Linked, VersionPlan, headers_alone, plan_asked, version_plan, version_plan_of, versions_asked, with_link}
+use Rattle.elf.specs.Headers.{entry_size, if_found}
+use Rattle.elf.specs.StreamFile.{stream_file}
 use Rattle.elf.specs.ObjectFile.{ObjectFile, table_of}
-use Rattle.elf.specs.Range.{section_range}
-use Rattle.elf.specs.Same.{AreAlike}
-use Rattle.elf.specs.Stream.{AreHeld, IsAnswer, Leaves, Seen}
+use Rattle.elf.specs.Headers.{section_range}
+use Rattle.elf.specs.Readers.{AreAlike}
+use Rattle.elf.specs.ElfStream.{AreHeld, IsAnswer, Leaves, Seen}
 use Rattle.elf.specs.Versions.{version_definitions, version_needs, version_sections, versions_of}
-use Rattle.elf.specs.declared.elf_bytes.versions.VersionSections.{VersionSections}
+use Rattle.elf.specs.declared.headers.VersionSections.{VersionSections}
 use Rattle.elf.specs.inner.Loads.{Loads}
 use Rattle.elf.specs.inner.Plans.{definitions_by, needs_by, planned_versions, versions_by}
 use Rattle.elf.proofs.Alike.{alike_first, alike_later, alike_map}

@@ -3,9 +3,9 @@ use Rattle.std.proofs.Common.{◌≡◌, ℕ, ◌+◌, ◌<◌, Bool, List, [], 
 use Rattle.std.specs.Prelude.{IsTrue, ◌^◌, Result, Ok, Err, IsErr, IsOk, IfErr, OnOk, OnErr, is_ok, take, drop}
 use Rattle.elf_parts.specs.Number.{bytes_at}
 use Rattle.elf_parts.specs.declared.parse.ParseError.{ParseError}
-use Rattle.elf.specs.Asked.{if_chosen}
+use Rattle.elf.specs.Ranges.{if_chosen}
 use Rattle.elf.specs.inner.Loads.{HasReason, AreLow, AreThere, Loads}
-use Rattle.elf.specs.Stream.{IsAnswer, IsFor, IsNeeded, IsRefused, Kind, is_held, kind, Seen, AreHeld, IsHeld, Keeps, Leaves}
+use Rattle.elf.specs.ElfStream.{IsAnswer, IsFor, IsNeeded, IsRefused, Kind, is_held, kind, Seen, AreHeld, IsHeld, Keeps, Leaves}
 use Rattle.elf.proofs.stream.Pieces.{read_is_within}
 
 pub refused_so : (k : Kind) (P Q : Type 0) (before middle now : ℕ) (can_fail : Bool) → (P → Q) → middle ≡ before → IsRefused middle now can_fail P k → IsRefused before now can_fail Q k

@@ -7,7 +7,7 @@ use Rattle.elf_parts.specs.Record.{◌>>=◌, RecordType, size_of}
 use Rattle.elf_parts.specs.declared.file.FileHeader.{FileHeader}
 use Rattle.elf_parts.specs.Table.{Table, table_in, table_items}
 use Rattle.elf_parts.specs.declared.parse.ParseError.{ParseError}
-use Rattle.elf.specs.Stream.{Kind, Want}
+use Rattle.elf.specs.ElfStream.{Kind, Want}
 
 -- the identification in the first sixteen bytes
 abbrev pub front_ident : {E : Type 0} → (ℕ → Option E) → List ℕ → Result (Ident E) ParseError

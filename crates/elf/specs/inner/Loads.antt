@@ -1,8 +1,9 @@
 -- What the private calls of a stream leave that load ranges and lend nothing.
-use Rattle.std.specs.Prelude.{◌≡◌, ℕ, ◌+◌, ◌^◌, ◌<◌, Bool, List, [], ◌∷◌, Result, Ok, Err, IfSome, IfErr, OnOk, IsOk, IsErr}
+use Rattle.std.specs.Prelude.{◌≡◌, ℕ, ◌+◌, ◌^◌, ◌<◌, Bool, List, [], ◌∷◌, Result, Ok, Err}
+use Rattle.std.specs.Prelude.{IfSome, IfErr, OnOk, IsOk, IsErr}
 use Rattle.elf_parts.specs.Number.{bytes_at}
 use Rattle.elf_parts.specs.declared.parse.ParseError.{ParseError}
-use Rattle.elf.specs.Stream.{Seen, AreHeld, IsFor, IsNeeded, IsRefused, Keeps, Kind, kind}
+use Rattle.elf.specs.ElfStream.{Seen, AreHeld, IsFor, IsNeeded, IsRefused, Keeps, Kind, kind}
 
 -- none of the ranges ends past 64 bits
 abbrev pub AreLow : List (ℕ × ℕ) → Type 0
@@ -20,9 +21,10 @@ HasReason before now can_fail none (Ok _) = now ≡ before
 HasReason before now can_fail none (Err e) = IsRefused before now can_fail none (kind e)
 
 -- The same file, no held range lost, and after an Ok the ranges there and held. A load is refused for a failure of the
--- source, for want of memory, or where one of the ranges is not there; it is accepted where they are there and were held,
--- and touches the source and memory only for one that is there and was not.
-pub record Loads {E : Type 0} (rs : List (ℕ × ℕ)) (old new : Seen E) (r : Result (Unit {0}) ParseError) : Type 0 where
+-- source, for want of memory, or where one of the ranges is not there; it is accepted where they are there and were
+-- held, and touches the source and memory only for one that is there and was not.
+pub record Loads {E : Type 0} (rs : List (ℕ × ℕ))
+    (old new : Seen E) (r : Result (Unit {0}) ParseError) : Type 0 where
   pub keeps : Keeps old new
   pub loaded : OnOk r (AreLow rs × AreHeld new rs)
   pub there : IfSome old.content (λ bytes. OnOk r (AreThere bytes rs))
@@ -31,7 +33,8 @@ pub record Loads {E : Type 0} (rs : List (ℕ × ℕ)) (old new : Seen E) (r : R
   pub untouched : AreHeld old rs → (new ≡ old) × IfErr r (λ e. kind e ≡ Kind.Refusal)
   pub needed : IfSome old.content (λ bytes. IfErr r (λ e. IsFor (IsNeeded bytes new rs) (kind e)))
 
--- The same of a load that is made for an answer: it is refused for a failure, for want, or where the answer is a refusal.
+-- The same of a load that is made for an answer: it is refused for a failure, for want, or where the answer is a
+-- refusal.
 pub record LoadsFor {E Y : Type 0} (rs : List (ℕ × ℕ)) (answer : List ℕ → Result Y ParseError)
     (old new : Seen E) (r : Result (Unit {0}) ParseError) : Type 0 where
   pub keeps : Keeps old new

@@ -1,20 +1,22 @@
--- What every stream keeps: its buffers are the content's bytes, and its tables those of the file that the content holds.
+-- What every stream keeps: its buffers are the content's bytes, and its tables those of the file that the content
+-- holds.
 use Rattle.std.specs.Prelude.{◌≡◌, ℕ, Bool, List, Option, Ok, IfSome, is_some}
 use Rattle.elf_parts.specs.declared.section.SectionHeader.{SectionHeader}
 use Rattle.elf_parts.specs.declared.segment.ProgramHeader.{ProgramHeader}
 use Rattle.elf.specs.Opening.{opened}
-use Rattle.elf.specs.View.{View, section_list, segment_list}
+use Rattle.elf.specs.ElfBytes.{View, section_list, segment_list}
 use Rattle.elf.specs.inner.Piece.{IsSound, Piece}
 
 -- the tables that the opening gives of the bytes
 abbrev pub AreTables :
-    {E : Type 0} → (E → Bool) → (ℕ → Option E) → List ℕ → Bool → List SectionHeader → List ProgramHeader → Type 0
+    {E : Type 0} → (E → Bool) → (ℕ → Option E) →
+    List ℕ → Bool → List SectionHeader → List ProgramHeader → Type 0
 AreTables {E} little of_byte bytes declares_sections sections segments =
     (v : View E) × (opened little of_byte bytes ≡ Ok v) × (declares_sections ≡ is_some v.sections)
     × (sections ≡ section_list v.sections) × (segments ≡ segment_list v.segments)
 
-pub record IsOpened {E : Type 0} (little : E → Bool) (of_byte : ℕ → Option E) (told : Option (List ℕ)) (size : ℕ)
-    (pieces : List Piece) (declares_sections : Bool) (sections : List SectionHeader) (segments : List ProgramHeader) :
-    Type 0 where
+pub record IsOpened {E : Type 0} (little : E → Bool) (of_byte : ℕ → Option E) (told : Option (List ℕ))
+    (size : ℕ) (pieces : List Piece) (declares_sections : Bool)
+    (sections : List SectionHeader) (segments : List ProgramHeader) : Type 0 where
   pub sound : IsSound told size pieces
   pub tables : IfSome told (λ bytes. AreTables little of_byte bytes declares_sections sections segments)

@@ -2,9 +2,10 @@
 use Rattle.std.specs.Prelude.{if◌then◌else◌, Some}
 use Rattle.elf_abi.specs.Values.{sht_gnu_verdef, sht_gnu_verneed, sht_gnu_versym}
 use Rattle.elf_parts.specs.declared.section.SectionHeader.{SectionHeader}
-use Rattle.elf.specs.Choice.{is_of_type}
-use Rattle.elf.specs.Common.{CommonData, CommonPart, Symbols, DynamicSymbols, DynamicEntries, SysvHash, GnuHash, Nothing}
-use Rattle.elf.specs.declared.elf_bytes.versions.VersionSections.{VersionSections}
+use Rattle.elf.specs.Headers.{is_of_type}
+use Rattle.elf.specs.Common.{CommonData, CommonPart, Symbols, DynamicSymbols, DynamicEntries, SysvHash, GnuHash}
+use Rattle.elf.specs.Common.{Nothing}
+use Rattle.elf.specs.declared.headers.VersionSections.{VersionSections}
 
 -- a section of one of the three types of versions, in the place of an earlier one of its type
 abbrev pub with_version_section : VersionSections → SectionHeader → VersionSections

@@ -2,12 +2,13 @@
 -- speak of it.
 use Rattle.std.specs.Prelude.{Option, Result, Ok}
 use Rattle.elf_parts.specs.Record.{◌>>=◌}
-use Rattle.elf_parts.specs.Symver.{Definitions, Needs, Versions, ver_defs, ver_needs}
+use Rattle.elf_parts.specs.gnu_symver.Lists.{ver_defs, ver_needs}
+use Rattle.elf_parts.specs.gnu_symver.Table.{Definitions, Needs, Versions}
 use Rattle.elf_parts.specs.declared.parse.ParseError.{ParseError}
-use Rattle.elf.specs.Asked.{Linked, VersionPlan, version_plan}
-use Rattle.elf.specs.Choice.{if_found}
+use Rattle.elf.specs.Ranges.{Linked, VersionPlan, version_plan}
+use Rattle.elf.specs.Headers.{if_found}
 use Rattle.elf.specs.ObjectFile.{ObjectFile, table_of}
-use Rattle.elf.specs.Range.{section_range}
+use Rattle.elf.specs.Headers.{section_range}
 
 -- the needs, or the definitions, of the one section with the strings of the other
 abbrev pub needs_by : ObjectFile → Linked → Result Needs ParseError

@@ -4,10 +4,10 @@ ghost use Rattle.elf_parts.specs.Number.{ok_map};
 ghost use Rattle.elf_parts.specs.GnuFind.{gnu_view};
 ghost use Rattle.elf_parts.specs.SysvFind.{sysv_view};
 ghost use Rattle.elf.specs.ObjectFile.{object_file};
-ghost use Rattle.elf.specs.View.{view};
+ghost use Rattle.elf.specs.ElfBytes.{view};
 
 use super::ElfBytes;
-use super::sections::section_range;
+use super::data::section_range;
 use elf_abi::abi;
 use elf_parts::dynamic::DynamicTable;
 use elf_parts::endian::EndianParse;
@@ -37,7 +37,8 @@ pub struct CommonElfData<'data, E: EndianParse> {
 }
 
 impl<'data, E: EndianParse> ElfBytes<'data, E> {
-    ghost use Rattle.elf.specs.Common.{common_of_sections, common_part, common_view, find_common_data, gnu_hash_of, sysv_hash_of};
+    ghost use Rattle.elf.specs.Common.{common_of_sections, common_part, common_view, find_common_data, gnu_hash_of};
+    ghost use Rattle.elf.specs.Common.{sysv_hash_of};
     ghost use Rattle.elf.specs.inner.Passes.{with_part};
 
     // The hash section of the gABI.

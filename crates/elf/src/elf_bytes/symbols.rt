@@ -4,10 +4,10 @@ ghost use Rattle.std.specs.Option.{option_map};
 ghost use Rattle.elf_parts.specs.Number.{ok_map};
 ghost use Rattle.elf.specs.Answers.{dynamic_symbol_table, first_symbols, symbol_table, symbols_of, symbols_view};
 ghost use Rattle.elf.specs.ObjectFile.{object_file};
-ghost use Rattle.elf.specs.View.{view};
+ghost use Rattle.elf.specs.ElfBytes.{view};
 
 use super::ElfBytes;
-use super::sections::section_range;
+use super::data::section_range;
 use elf_abi::abi;
 use elf_parts::endian::EndianParse;
 use elf_parts::parse::{ParseAt, ParseError};

@@ -1,76 +1,27 @@
 //! The versions of symbols.
-ghost use Rattle.std.specs.Prelude.{◌≡◌, ◌&&◌, is_some, Some};
+ghost use Rattle.std.specs.Prelude.{◌≡◌};
 ghost use Rattle.std.specs.Option.{option_map};
 ghost use Rattle.elf_parts.specs.Number.{ok_map};
-ghost use Rattle.elf_parts.specs.Symver.{definitions_view, needs_view, versions_view};
+ghost use Rattle.elf_parts.specs.gnu_symver.Table.{definitions_view, needs_view, versions_view};
 ghost use Rattle.elf_parts.specs.Table.{table_view};
 ghost use Rattle.elf.specs.Answers.{symbol_version_table};
-ghost use Rattle.elf.specs.Choice.{if_found};
+ghost use Rattle.elf.specs.Headers.{if_found};
 ghost use Rattle.elf.specs.ObjectFile.{object_file};
-ghost use Rattle.elf.specs.Versions.{linked_strings, version_definitions, version_indexes, version_needs, version_sections, versions_of};
-ghost use Rattle.elf.specs.View.{section_list, view};
+ghost use Rattle.elf.specs.ElfBytes.{view};
+ghost use Rattle.elf.specs.Versions.{linked_strings, version_definitions, version_indexes, version_needs};
+ghost use Rattle.elf.specs.Versions.{versions_of};
 
 use super::ElfBytes;
-use super::sections::section_range;
-use elf_abi::abi;
+use super::data::section_range;
+use super::headers::version_sections;
+use crate::headers::VersionSections;
 use elf_parts::endian::EndianParse;
 use elf_parts::gnu_symver::{
     SymbolVersionTable, VerDefIterator, VerNeedIterator, VersionIndex, VersionIndexTable,
 };
 use elf_parts::parse::{ParseAt, ParseError};
-use elf_parts::section::{SectionHeader, SectionHeaderTable};
+use elf_parts::section::SectionHeader;
 use elf_parts::string_table::StringTable;
-
-// The sections that the versions of symbols stand in.
-#[derive(Copy, Clone)]
-pub(crate) struct VersionSections {
-    pub(crate) indexes: Option<SectionHeader>,
-    pub(crate) needs: Option<SectionHeader>,
-    pub(crate) definitions: Option<SectionHeader>,
-}
-
-impl VersionSections {
-    ghost use Rattle.elf.specs.inner.Passes.{with_version_section};
-
-    // The same with one more section, in the place of an earlier one of its type.
-    pub(crate) fn with(mut self, shdr: SectionHeader) -> Self
-        ensures { result ≡ with_version_section self shdr }
-    {
-        match shdr.sh_type {
-            abi::SHT_GNU_VERSYM => self.indexes = Some(shdr),
-            abi::SHT_GNU_VERNEED => self.needs = Some(shdr),
-            abi::SHT_GNU_VERDEF => self.definitions = Some(shdr),
-            _ => {}
-        }
-        self
-    }
-
-    // Whether there are sections of all three types.
-    pub(crate) fn are_all(&self) -> bool
-        ensures { result ≡ (is_some self.now.indexes && is_some self.now.needs && is_some self.now.definitions) }
-    {
-        self.indexes.is_some() && self.needs.is_some() && self.definitions.is_some()
-    }
-}
-
-// The last sections of the three types, up to the first one by which all of them were seen.
-#[tactic(auto, using(crate::proofs::VersionChoice::found_in_all))]
-fn version_sections<E: EndianParse>(shdrs: SectionHeaderTable<'_, E>) -> VersionSections
-    ensures { result ≡ version_sections (section_list (Some (table_view shdrs.entry))) }
-{
-    let mut found = VersionSections {
-        indexes: None,
-        needs: None,
-        definitions: None,
-    };
-    for shdr in shdrs {
-        found = found.with(shdr);
-        if found.are_all() {
-            return found;
-        }
-    }
-    found
-}
 
 impl<'data, E: EndianParse> ElfBytes<'data, E> {
     // The version indexes of a section.

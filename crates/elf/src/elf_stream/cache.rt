@@ -1,10 +1,12 @@
 //! The parts of a source that are cached.
-ghost use Rattle.std.specs.Prelude.{◌≡◌, [], ◌∷◌, ◌≤◌, ◌<◌, ◌+◌, ◌^◌, length, map, false, not, nat_lt, is_some, IsSome, IsTrue, IfSome, IfNone, OnOk, IfErr, ℕ};
+ghost use Rattle.std.specs.Prelude.{◌≡◌, [], ◌∷◌, ◌≤◌, ◌<◌, ◌+◌, ◌^◌, length, map};
+ghost use Rattle.std.specs.Prelude.{false, not, nat_lt, is_some, IsSome, IsTrue, IfSome, IfNone, OnOk, IfErr, ℕ};
 ghost use Rattle.std.specs.List.{filter, All, AllPairs, Contains};
 ghost use Rattle.std.specs.BTreeMap.{get_by};
 ghost use Rattle.std.specs.Ordering.{nat_cmp};
-ghost use Rattle.elf.specs.inner.Piece.{Piece, AreSpread, IsPartOf, IsPut, covers, end_of, is_within, piece_of, range_of};
-ghost use Rattle.elf.specs.Stream.{is_held};
+ghost use Rattle.elf.specs.inner.Piece.{Piece, AreSpread, IsPartOf, IsPut, covers, end_of, is_within, piece_of};
+ghost use Rattle.elf.specs.inner.Piece.{range_of};
+ghost use Rattle.elf.specs.ElfStream.{is_held};
 ghost use Rattle.elf_parts.specs.declared.parse.ParseError.{ParseError};
 
 use elf_parts::parse::ParseError;
@@ -47,8 +49,8 @@ impl<A: Allocator> Cache<A> {
         self.find(start, end).is_some()
     }
 
-    // The buffer that has the bytes from `start` to `end`. Of the buffers that start at `start` or before it the last one
-    // ends last, so no other can have them.
+    // The buffer that has the bytes from `start` to `end`. Of the buffers that start at `start` or before it the last
+    // one ends last, so no other can have them.
     fn find(&self, start: u64, end: u64) -> Option<(u64, &[u8])>
         ensures held { is_some result ≡ is_held (map range_of self.now) start end }
         ensures covers { IfSome result (λ r. Contains self.now (record { start = r.0; bytes = r.1.now })
@@ -73,8 +75,8 @@ impl<A: Allocator> Cache<A> {
         }
     }
 
-    /// Caches one more buffer, whose range is not cached yet, and drops those that lie within it. Each buffer is dropped at
-    /// most once, so a load costs the logarithm of their number over time.
+    /// Caches one more buffer, whose range is not cached yet, and drops those that lie within it. Each buffer is
+    /// dropped at most once, so a load costs the logarithm of their number over time.
     pub(super) fn put(&mut self, start: u64, bytes: Vec<u8, A>) -> Result<(), ParseError>
     where
         A: Copy,
@@ -95,7 +97,8 @@ impl<A: Allocator> Cache<A> {
 // Drops the buffers that start behind `start` and end at `end` or before it.
 fn take_within<A: Allocator>(buffers: &mut BTreeMap<u64, Vec<u8, A>, A>, start: u64, end: u64)
     requires { AreSpread (λ v. v.items) (filter (λ e. nat_lt start e.0) buffers.old.entries) }
-    ensures { buffers.new.entries ≡ filter (λ e. not (is_within start end (piece_of (λ v. v.items) e))) buffers.old.entries }
+    ensures { buffers.new.entries
+        ≡ filter (λ e. not (is_within start end (piece_of (λ v. v.items) e))) buffers.old.entries }
 {
     while let Some(next) = next_within(buffers, start, end) {
         buffers.remove(&next);
@@ -112,7 +115,8 @@ fn next_within<A: Allocator>(
     ensures one { IfSome result (λ k. IfSome (get_by (nat_cmp k) buffers.now)
         (λ v. IsTrue (is_within start end (piece_of (λ v. v.items) (k, v))))) }
     ensures there { IfSome result (λ k. IsSome (get_by (nat_cmp k) buffers.now)) }
-    ensures none { IfNone result (All (λ e. is_within start end (piece_of (λ v. v.items) e) ≡ false) buffers.now.entries) }
+    ensures none { IfNone result
+        (All (λ e. is_within start end (piece_of (λ v. v.items) e) ≡ false) buffers.now.entries) }
 {
     let (from, bytes) = buffers
         .range((Bound::Excluded(start), Bound::Unbounded))

@@ -7,10 +7,11 @@ ghost use Rattle.std.specs.Option.{option_map};
 ghost use Rattle.elf_parts.specs.Number.{ok_map};
 ghost use Rattle.elf_parts.specs.Table.{table_view};
 ghost use Rattle.elf.specs.Answers.{dynamic, section_dynamic, segment_dynamic};
-ghost use Rattle.elf.specs.Asked.{dynamic_asked, headers_alone, if_there, section_asked, section_dynamic_asked, segment_asked};
-ghost use Rattle.elf.specs.Choice.{first_section_of, first_segment_of, if_found};
-ghost use Rattle.elf.specs.Listed.{stream_file};
-ghost use Rattle.elf.specs.Stream.{AreHeld, Kind, kind};
+ghost use Rattle.elf.specs.Ranges.{dynamic_asked, headers_alone, if_there, section_asked, section_dynamic_asked};
+ghost use Rattle.elf.specs.Ranges.{segment_asked};
+ghost use Rattle.elf.specs.Headers.{first_section_of, first_segment_of, if_found};
+ghost use Rattle.elf.specs.StreamFile.{stream_file};
+ghost use Rattle.elf.specs.ElfStream.{AreHeld, Kind, kind};
 ghost use Rattle.elf.specs.inner.Loads.{AreLow, LoadsFor};
 
 use super::ElfStream;

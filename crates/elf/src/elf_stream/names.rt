@@ -1,40 +1,23 @@
-//! The names of sections, and headers that are chosen.
-ghost use Rattle.std.specs.Prelude.{◌≡◌, ℕ, Ok, None, Some, IfErr, IfSome, [], ◌∷◌, option_copied};
+//! The names of sections.
+ghost use Rattle.std.specs.Prelude.{◌≡◌, IfErr, IfSome, Ok, None, Some, option_copied};
 ghost use Rattle.elf_parts.specs.Number.{ok_map};
 ghost use Rattle.elf_parts.specs.StringTable.{strings_view};
 ghost use Rattle.elf.specs.Answers.{first_named, section_header_by_name};
-ghost use Rattle.elf.specs.Asked.{headers_alone, names_asked, whole_section};
-ghost use Rattle.elf.specs.Choice.{first_section_of, first_segment_of};
-ghost use Rattle.elf.specs.Listed.{listed_at, stream_file};
-ghost use Rattle.elf.specs.Names.{headers_with_names, name_index, name_section};
-ghost use Rattle.elf.specs.Range.{section_range};
-ghost use Rattle.elf.specs.Stream.{AreHeld, Kind, kind};
+ghost use Rattle.elf.specs.Ranges.{headers_alone, names_asked, whole_section};
+ghost use Rattle.elf.specs.ElfStream.{AreHeld, Kind, kind};
 ghost use Rattle.elf.specs.inner.Loads.{AreLow};
+ghost use Rattle.elf.specs.Names.{headers_with_names, name_index, name_section};
+ghost use Rattle.elf.specs.Headers.{section_range};
 
 use super::ElfStream;
-use crate::elf_bytes::sections::has_name;
+use crate::headers::has_name;
 use crate::source::StreamSource;
 use elf_abi::abi;
 use elf_parts::endian::EndianParse;
 use elf_parts::parse::ParseError;
 use elf_parts::section::SectionHeader;
-use elf_parts::segment::ProgramHeader;
 use elf_parts::string_table::StringTable;
 use std::alloc::Allocator;
-
-// The first section header of a type.
-fn first_section_in(shdrs: &[SectionHeader], sh_type: u32) -> Option<&SectionHeader>
-    ensures { option_copied result ≡ first_section_of sh_type shdrs.now }
-{
-    shdrs.iter().find(|shdr| shdr.sh_type == sh_type)
-}
-
-// The first program header of a type.
-fn first_segment_in(phdrs: &[ProgramHeader], p_type: u32) -> Option<&ProgramHeader>
-    ensures { option_copied result ≡ first_segment_of p_type phdrs.now }
-{
-    phdrs.iter().find(|phdr| phdr.p_type == p_type)
-}
 
 // The first section header of a name.
 fn first_named_in<'a>(
@@ -50,32 +33,7 @@ fn first_named_in<'a>(
 impl<E: EndianParse, S: StreamSource, A: Allocator + Copy> ElfStream<E, S, A> {
     ghost use Rattle.std.specs.Borrow.{sem};
     ghost use Rattle.elf.specs.Lending.{Lends};
-    ghost use Rattle.elf.specs.StreamView.{listed_view};
-
-    // A section header by its index.
-    pub(super) fn section_at(&self, index: usize) -> Result<SectionHeader, ParseError>
-        ensures value { result ≡ listed_at self.now.sections index }
-        ensures plain { IfErr result (λ e. kind e ≡ Kind.Refusal) }
-    {
-        self.shdrs
-            .get(index)
-            .copied()
-            .ok_or(ParseError::BadOffset(index as u64))
-    }
-
-    // The first section of a type.
-    pub(super) fn first_section_of(&self, sh_type: u32) -> Option<SectionHeader>
-        ensures { result ≡ first_section_of sh_type self.now.sections }
-    {
-        first_section_in(&self.shdrs, sh_type).copied()
-    }
-
-    // The first segment of a type.
-    pub(super) fn first_segment_of(&self, p_type: u32) -> Option<ProgramHeader>
-        ensures { result ≡ first_segment_of p_type self.now.segments }
-    {
-        first_segment_in(&self.phdrs, p_type).copied()
-    }
+    ghost use Rattle.elf.specs.Names.{listed_view};
 
     // Which section holds the names of the sections.
     fn name_index(&self) -> Result<usize, ParseError>

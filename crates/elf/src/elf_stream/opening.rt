@@ -1,14 +1,16 @@
 //! Reading the headers of a file from a source. Memory is taken only for tables that lie in the source.
 ghost use Rattle.std.specs.Prelude.{◌≡◌, ℕ, ◌≤◌, Bool, List, Ok, IfOk, IfErr, IfSome, length};
 ghost use Rattle.std.specs.Option.{option_map};
-ghost use Rattle.elf.specs.Opening.{first_section, header_at_front, section_count, section_table, segment_count, segment_table, table_bytes};
+ghost use Rattle.elf.specs.Opening.{first_section, header_at_front, section_table, segment_table, table_bytes};
 ghost use Rattle.elf_parts.specs.File.{tail_fields};
 ghost use Rattle.elf_parts.specs.Number.{bytes_at};
 ghost use Rattle.elf_parts.specs.Record.{size_by, size_of};
 ghost use Rattle.elf_parts.specs.Section.{section_header_layout};
 ghost use Rattle.elf_parts.specs.Table.{table_items, table_view};
-ghost use Rattle.elf.specs.Stream.{IsAnswer, kind};
-ghost use Rattle.elf.specs.inner.HeaderSteps.{IsNoWant, front_ident, range_bytes, range_records, range_table, tail_header};
+ghost use Rattle.elf.specs.ElfStream.{IsAnswer, kind};
+ghost use Rattle.elf.specs.inner.HeaderSteps.{IsNoWant, front_ident, range_bytes, range_records, range_table};
+ghost use Rattle.elf.specs.inner.HeaderSteps.{tail_header};
+ghost use Rattle.elf.specs.inner.Reads.{HasLength, Reads, ReadsAs, declared_count, declared_table};
 
 use super::reads::{fetch, read_at};
 use crate::source::StreamSource;
@@ -31,12 +33,8 @@ fn read_array<const N: usize, S: StreamSource>(
     len: u64,
     start: u64,
 ) -> Result<[u8; N], ParseError>
-    requires { IfSome (S.content source.old) (λ bytes. len ≡ length bytes) }
-    ensures content { S.content source.new ≡ S.content source.old }
-    ensures nature { S.can_fail source.new ≡ S.can_fail source.old }
-    ensures answer { IfSome (S.content source.old) (λ bytes. IsAnswer (λ part. part) (bytes_at N bytes start)
-        (S.can_fail source.old) (S.faults source.old) (S.faults source.new) result) }
-    ensures memory { IfErr result (λ e. IsNoWant (kind e)) }
+    requires { HasLength S.StreamSource source.old len }
+    ensures { Reads S.StreamSource (λ bytes. bytes_at N bytes start) source.old source.new result }
 {
     let Some(end) = start.checked_add(N as u64) else {
         return Err(ParseError::IntegerOverflow);
@@ -54,12 +52,8 @@ fn read_ident<E: EndianParse, S: StreamSource>(
     source: &mut S,
     len: u64,
 ) -> Result<(E, Class, u8, u8), ParseError>
-    requires { IfSome (S.content source.old) (λ bytes. len ≡ length bytes) }
-    ensures content { S.content source.new ≡ S.content source.old }
-    ensures nature { S.can_fail source.new ≡ S.can_fail source.old }
-    ensures answer { IfSome (S.content source.old) (λ bytes. IsAnswer (λ ident. ident) (front_ident E.of_byte bytes)
-        (S.can_fail source.old) (S.faults source.old) (S.faults source.new) result) }
-    ensures memory { IfErr result (λ e. IsNoWant (kind e)) }
+    requires { HasLength S.StreamSource source.old len }
+    ensures { Reads S.StreamSource (front_ident E.of_byte) source.old source.new result }
 {
     let front = read_array::<EI_NIDENT, S>(source, len, 0)?;
     parse_ident(&front)
@@ -71,13 +65,9 @@ fn read_tail_of<const N: usize, E: EndianParse, S: StreamSource>(
     len: u64,
     ident: (E, Class, u8, u8),
 ) -> Result<FileHeader<E>, ParseError>
-    requires whole { IfSome (S.content source.old) (λ bytes. len ≡ length bytes) }
+    requires whole { HasLength S.StreamSource source.old len }
     requires size { N ≡ size_of (tail_fields ident.1) }
-    ensures content { S.content source.new ≡ S.content source.old }
-    ensures nature { S.can_fail source.new ≡ S.can_fail source.old }
-    ensures answer { IfSome (S.content source.old) (λ bytes. IsAnswer (λ h. h) (tail_header E.little bytes ident)
-        (S.can_fail source.old) (S.faults source.old) (S.faults source.new) result) }
-    ensures memory { IfErr result (λ e. IsNoWant (kind e)) }
+    ensures { Reads S.StreamSource (λ bytes. tail_header E.little bytes ident) source.old source.new result }
 {
     let tail = read_array::<N, S>(source, len, EI_NIDENT as u64)?;
     FileHeader::parse_tail(ident, &tail)
@@ -89,12 +79,8 @@ fn read_tail<E: EndianParse, S: StreamSource>(
     len: u64,
     ident: (E, Class, u8, u8),
 ) -> Result<FileHeader<E>, ParseError>
-    requires { IfSome (S.content source.old) (λ bytes. len ≡ length bytes) }
-    ensures content { S.content source.new ≡ S.content source.old }
-    ensures nature { S.can_fail source.new ≡ S.can_fail source.old }
-    ensures answer { IfSome (S.content source.old) (λ bytes. IsAnswer (λ h. h) (tail_header E.little bytes ident)
-        (S.can_fail source.old) (S.faults source.old) (S.faults source.new) result) }
-    ensures memory { IfErr result (λ e. IsNoWant (kind e)) }
+    requires { HasLength S.StreamSource source.old len }
+    ensures { Reads S.StreamSource (λ bytes. tail_header E.little bytes ident) source.old source.new result }
 {
     match ident.1 {
         Class::ELF32 => read_tail_of::<ELF32_EHDR_TAILSIZE, E, S>(source, len, ident),
@@ -107,12 +93,8 @@ pub(super) fn read_ehdr<E: EndianParse, S: StreamSource>(
     source: &mut S,
     len: u64,
 ) -> Result<FileHeader<E>, ParseError>
-    requires { IfSome (S.content source.old) (λ bytes. len ≡ length bytes) }
-    ensures content { S.content source.new ≡ S.content source.old }
-    ensures nature { S.can_fail source.new ≡ S.can_fail source.old }
-    ensures answer { IfSome (S.content source.old) (λ bytes. IsAnswer (λ h. h) (header_at_front E.little E.of_byte bytes)
-        (S.can_fail source.old) (S.faults source.old) (S.faults source.new) result) }
-    ensures memory { IfErr result (λ e. IsNoWant (kind e)) }
+    requires { HasLength S.StreamSource source.old len }
+    ensures { Reads S.StreamSource (header_at_front E.little E.of_byte) source.old source.new result }
 {
     let ident = read_ident::<E, S>(source, len)?;
     read_tail(source, len, ident)
@@ -124,13 +106,9 @@ fn read_first_of<const N: usize, E: EndianParse, S: StreamSource>(
     len: u64,
     ehdr: &FileHeader<E>,
 ) -> Result<SectionHeader, ParseError>
-    requires whole { IfSome (S.content source.old) (λ bytes. len ≡ length bytes) }
+    requires whole { HasLength S.StreamSource source.old len }
     requires size { N ≡ size_by section_header_layout ehdr.now.class }
-    ensures content { S.content source.new ≡ S.content source.old }
-    ensures nature { S.can_fail source.new ≡ S.can_fail source.old }
-    ensures answer { IfSome (S.content source.old) (λ bytes. IsAnswer (λ h. h) (first_section E.little ehdr.now bytes)
-        (S.can_fail source.old) (S.faults source.old) (S.faults source.new) result) }
-    ensures memory { IfErr result (λ e. IsNoWant (kind e)) }
+    ensures { Reads S.StreamSource (first_section E.little ehdr.now) source.old source.new result }
 {
     let part = read_array::<N, S>(source, len, ehdr.e_shoff)?;
     let mut offset = 0;
@@ -143,12 +121,8 @@ fn read_first<E: EndianParse, S: StreamSource>(
     len: u64,
     ehdr: &FileHeader<E>,
 ) -> Result<SectionHeader, ParseError>
-    requires { IfSome (S.content source.old) (λ bytes. len ≡ length bytes) }
-    ensures content { S.content source.new ≡ S.content source.old }
-    ensures nature { S.can_fail source.new ≡ S.can_fail source.old }
-    ensures answer { IfSome (S.content source.old) (λ bytes. IsAnswer (λ h. h) (first_section E.little ehdr.now bytes)
-        (S.can_fail source.old) (S.faults source.old) (S.faults source.new) result) }
-    ensures memory { IfErr result (λ e. IsNoWant (kind e)) }
+    requires { HasLength S.StreamSource source.old len }
+    ensures { Reads S.StreamSource (first_section E.little ehdr.now) source.old source.new result }
 {
     match ehdr.class {
         Class::ELF32 => read_first_of::<ELF32_SHDR_SIZE, E, S>(source, len, ehdr),
@@ -156,43 +130,42 @@ fn read_first<E: EndianParse, S: StreamSource>(
     }
 }
 
-fn read_section_count<E: EndianParse, S: StreamSource>(
-    source: &mut S,
-    len: u64,
-    ehdr: &FileHeader<E>,
-) -> Result<u64, ParseError>
-    requires { IfSome (S.content source.old) (λ bytes. len ≡ length bytes) }
-    ensures content { S.content source.new ≡ S.content source.old }
-    ensures nature { S.can_fail source.new ≡ S.can_fail source.old }
-    ensures answer { IfSome (S.content source.old) (λ bytes. IsAnswer (λ n. n) (section_count E.little ehdr.now bytes)
-        (S.can_fail source.old) (S.faults source.old) (S.faults source.new) result) }
-    ensures memory { IfErr result (λ e. IsNoWant (kind e)) }
-{
-    if ehdr.e_shnum == 0 {
-        let first = read_first(source, len, ehdr)?;
-        Ok(first.sh_size)
-    } else {
-        Ok(u64::from(ehdr.e_shnum))
-    }
+// Where the number of a table's records stands where the file header has no room for it: in this word of the first
+// section header.
+#[derive(Copy, Clone)]
+enum CountWord {
+    ShSize,
+    ShInfo,
 }
 
-fn read_segment_count<E: EndianParse, S: StreamSource>(
+// A table as the file header declares it: its offset, the size of a record, the number of the records, and which value
+// in that place says that the number stands in a word of the first section header.
+#[derive(Copy, Clone)]
+struct Declared {
+    offset: u64,
+    entsize: u16,
+    count: u16,
+    extended: u16,
+    word: CountWord,
+}
+
+// Reads how many records a table has.
+fn read_count<E: EndianParse, S: StreamSource>(
     source: &mut S,
     len: u64,
     ehdr: &FileHeader<E>,
+    table: Declared,
 ) -> Result<u64, ParseError>
-    requires { IfSome (S.content source.old) (λ bytes. len ≡ length bytes) }
-    ensures content { S.content source.new ≡ S.content source.old }
-    ensures nature { S.can_fail source.new ≡ S.can_fail source.old }
-    ensures answer { IfSome (S.content source.old) (λ bytes. IsAnswer (λ n. n) (segment_count E.little ehdr.now bytes)
-        (S.can_fail source.old) (S.faults source.old) (S.faults source.new) result) }
-    ensures memory { IfErr result (λ e. IsNoWant (kind e)) }
+    requires { HasLength S.StreamSource source.old len }
+    ensures { Reads S.StreamSource (declared_count E.little ehdr.now table) source.old source.new result }
 {
-    if ehdr.e_phnum == PN_XNUM {
-        let first = read_first(source, len, ehdr)?;
-        Ok(u64::from(first.sh_info))
-    } else {
-        Ok(u64::from(ehdr.e_phnum))
+    if table.count != table.extended {
+        return Ok(u64::from(table.count));
+    }
+    let first = read_first(source, len, ehdr)?;
+    match table.word {
+        CountWord::ShSize => Ok(first.sh_size),
+        CountWord::ShInfo => Ok(u64::from(first.sh_info)),
     }
 }
 
@@ -205,8 +178,9 @@ fn locate_records<P: ParseAt>(
     count: u64,
     offset: u64,
 ) -> Result<(u64, u64), ParseError>
-    ensures answer { (bytes : List ℕ) (can_fail : Bool) (faults : ℕ) → len ≡ length bytes → IsAnswer (range_bytes bytes)
-        (table_bytes (P.reads.size class) entsize count offset bytes) can_fail faults faults result }
+    ensures answer { (bytes : List ℕ) (can_fail : Bool) (faults : ℕ) → len ≡ length bytes →
+        IsAnswer (range_bytes bytes) (table_bytes (P.reads.size class) entsize count offset bytes)
+        can_fail faults faults result }
     ensures within { IfOk result (λ range. (range.0 ≤ range.1) × (range.1 ≤ len)) }
     ensures memory { IfErr result (λ e. IsNoWant (kind e)) }
 {
@@ -223,6 +197,26 @@ fn locate_records<P: ParseAt>(
     Ok((offset, end))
 }
 
+// Where a table lies; none where the file declares none.
+fn locate<P: ParseAt, E: EndianParse, S: StreamSource>(
+    source: &mut S,
+    len: u64,
+    ehdr: &FileHeader<E>,
+    table: Declared,
+) -> Result<Option<(u64, u64)>, ParseError>
+    requires { HasLength S.StreamSource source.old len }
+    ensures reads { ReadsAs S.StreamSource (λ bytes. option_map (range_table E.little ehdr.now bytes))
+        (declared_table E.little ehdr.now (P.reads.size ehdr.now.class) table) source.old source.new result }
+    ensures within { IfOk result (λ found. IfSome found (λ range. (range.0 ≤ range.1) × (range.1 ≤ len))) }
+{
+    if table.offset == 0 {
+        return Ok(None);
+    }
+    let count = read_count(source, len, ehdr, table)?;
+    let range = locate_records::<P>(len, ehdr.class, table.entsize, count, table.offset)?;
+    Ok(Some(range))
+}
+
 /// Where the section headers lie; none where the file declares none.
 #[tactic(auto, unfolding(crate::specs::Opening::section_table))]
 pub(super) fn locate_shdrs<E: EndianParse, S: StreamSource>(
@@ -230,27 +224,19 @@ pub(super) fn locate_shdrs<E: EndianParse, S: StreamSource>(
     len: u64,
     ehdr: &FileHeader<E>,
 ) -> Result<Option<(u64, u64)>, ParseError>
-    requires { IfSome (S.content source.old) (λ bytes. len ≡ length bytes) }
-    ensures content { S.content source.new ≡ S.content source.old }
-    ensures nature { S.can_fail source.new ≡ S.can_fail source.old }
-    ensures answer { IfSome (S.content source.old) (λ bytes. IsAnswer (option_map (range_table E.little ehdr.now bytes))
-        (section_table E.little ehdr.now bytes)
-        (S.can_fail source.old) (S.faults source.old) (S.faults source.new) result) }
+    requires { HasLength S.StreamSource source.old len }
+    ensures reads { ReadsAs S.StreamSource (λ bytes. option_map (range_table E.little ehdr.now bytes))
+        (section_table E.little ehdr.now) source.old source.new result }
     ensures within { IfOk result (λ found. IfSome found (λ range. (range.0 ≤ range.1) × (range.1 ≤ len))) }
-    ensures memory { IfErr result (λ e. IsNoWant (kind e)) }
 {
-    if ehdr.e_shoff == 0 {
-        return Ok(None);
-    }
-    let count = read_section_count(source, len, ehdr)?;
-    let range = locate_records::<SectionHeader>(
-        len,
-        ehdr.class,
-        ehdr.e_shentsize,
-        count,
-        ehdr.e_shoff,
-    )?;
-    Ok(Some(range))
+    let table = Declared {
+        offset: ehdr.e_shoff,
+        entsize: ehdr.e_shentsize,
+        count: ehdr.e_shnum,
+        extended: 0,
+        word: CountWord::ShSize,
+    };
+    locate::<SectionHeader, E, S>(source, len, ehdr, table)
 }
 
 /// Where the program headers lie; none where the file declares none.
@@ -260,27 +246,19 @@ pub(super) fn locate_phdrs<E: EndianParse, S: StreamSource>(
     len: u64,
     ehdr: &FileHeader<E>,
 ) -> Result<Option<(u64, u64)>, ParseError>
-    requires { IfSome (S.content source.old) (λ bytes. len ≡ length bytes) }
-    ensures content { S.content source.new ≡ S.content source.old }
-    ensures nature { S.can_fail source.new ≡ S.can_fail source.old }
-    ensures answer { IfSome (S.content source.old) (λ bytes. IsAnswer (option_map (range_table E.little ehdr.now bytes))
-        (segment_table E.little ehdr.now bytes)
-        (S.can_fail source.old) (S.faults source.old) (S.faults source.new) result) }
+    requires { HasLength S.StreamSource source.old len }
+    ensures reads { ReadsAs S.StreamSource (λ bytes. option_map (range_table E.little ehdr.now bytes))
+        (segment_table E.little ehdr.now) source.old source.new result }
     ensures within { IfOk result (λ found. IfSome found (λ range. (range.0 ≤ range.1) × (range.1 ≤ len))) }
-    ensures memory { IfErr result (λ e. IsNoWant (kind e)) }
 {
-    if ehdr.e_phoff == 0 {
-        return Ok(None);
-    }
-    let count = read_segment_count(source, len, ehdr)?;
-    let range = locate_records::<ProgramHeader>(
-        len,
-        ehdr.class,
-        ehdr.e_phentsize,
-        count,
-        ehdr.e_phoff,
-    )?;
-    Ok(Some(range))
+    let table = Declared {
+        offset: ehdr.e_phoff,
+        entsize: ehdr.e_phentsize,
+        count: ehdr.e_phnum,
+        extended: PN_XNUM,
+        word: CountWord::ShInfo,
+    };
+    locate::<ProgramHeader, E, S>(source, len, ehdr, table)
 }
 
 // The records of a table.

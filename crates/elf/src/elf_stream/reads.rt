@@ -1,6 +1,7 @@
 //! Reading a range of a source whole.
-ghost use Rattle.std.specs.Prelude.{◌≡◌, ◌+◌, ◌-◌, ◌<◌, ◌≤◌, length, take, drop, IfErr, IfOk, IfSome, OnOk};
-ghost use Rattle.elf.specs.Stream.{kind};
+ghost use Rattle.std.specs.Prelude.{◌≡◌, ◌+◌, ◌-◌, ◌<◌, ◌≤◌, length, take, drop, IfErr, IfOk};
+ghost use Rattle.std.specs.Prelude.{IfSome, OnOk};
+ghost use Rattle.elf.specs.ElfStream.{kind};
 ghost use Rattle.elf.specs.inner.HeaderSteps.{IsNoWant};
 ghost use Rattle.elf.specs.inner.Loads.{HasReason};
 
@@ -88,9 +89,7 @@ pub(super) fn fetch<S: StreamSource, A: Allocator + Copy>(
     }
     while bytes.len() < size {
         let read = bytes.len();
-        if bytes.resize(size.min(read + STEP), 0).is_err() {
-            return Err(ParseError::OutOfMemory);
-        }
+        bytes.resize(size.min(read + STEP), 0).unwrap();
         fill(source, &mut bytes[read..], end)?;
     }
     Ok(bytes)

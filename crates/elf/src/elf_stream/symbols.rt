@@ -3,10 +3,11 @@ ghost use Rattle.std.specs.Prelude.{◌≡◌, ℕ, Ok, IfErr, IfSome};
 ghost use Rattle.std.specs.Option.{option_map};
 ghost use Rattle.elf_abi.specs.Values.{sht_dynsym, sht_symtab};
 ghost use Rattle.elf_parts.specs.Number.{ok_map};
-ghost use Rattle.elf.specs.Answers.{dynamic_symbol_table, first_symbols, symbol_sections, symbol_table, symbols_in, symbols_view};
-ghost use Rattle.elf.specs.Asked.{both_sections, headers_alone, symbols_asked};
-ghost use Rattle.elf.specs.Listed.{stream_file};
-ghost use Rattle.elf.specs.Stream.{AreHeld, Kind, kind};
+ghost use Rattle.elf.specs.Answers.{dynamic_symbol_table, first_symbols, symbol_sections, symbol_table, symbols_in};
+ghost use Rattle.elf.specs.Answers.{symbols_view};
+ghost use Rattle.elf.specs.Ranges.{both_sections, headers_alone, symbols_asked};
+ghost use Rattle.elf.specs.StreamFile.{stream_file};
+ghost use Rattle.elf.specs.ElfStream.{AreHeld, Kind, kind};
 ghost use Rattle.elf.specs.inner.Loads.{AreLow, Loads};
 
 use super::ElfStream;

@@ -1,19 +1,18 @@
-//! The versions of symbols of a stream.
-ghost use Rattle.std.specs.Prelude.{◌≡◌, ℕ, Ok, IfErr, IfSome, [], ◌∷◌};
-ghost use Rattle.std.specs.Option.{option_map};
-ghost use Rattle.elf_parts.specs.Number.{ok_map};
-ghost use Rattle.elf_parts.specs.Symver.{definitions_view, needs_view, versions_view};
+//! The versions of symbols.
+ghost use Rattle.std.specs.Prelude.{◌≡◌, IfErr, IfSome, Ok};
 ghost use Rattle.elf.specs.Answers.{symbol_version_table};
-ghost use Rattle.elf.specs.Asked.{both_sections, headers_alone, if_there, plan_asked, version_plan, versions_asked, whole_section, with_link};
-ghost use Rattle.elf.specs.Choice.{if_found};
-ghost use Rattle.elf.specs.Listed.{stream_file};
-ghost use Rattle.elf.specs.Stream.{AreHeld, Kind, kind};
-ghost use Rattle.elf.specs.Versions.{version_sections};
+ghost use Rattle.elf.specs.Ranges.{headers_alone, whole_section, both_sections, if_there, plan_asked, version_plan};
+ghost use Rattle.elf.specs.Ranges.{versions_asked, with_link};
+ghost use Rattle.elf.specs.StreamFile.{stream_file};
+ghost use Rattle.elf.specs.ElfStream.{AreHeld, Kind, kind};
 ghost use Rattle.elf.specs.inner.Loads.{AreLow, Loads};
+ghost use Rattle.elf.specs.Headers.{if_found};
+ghost use Rattle.std.specs.Option.{option_map};
+ghost use Rattle.elf_parts.specs.gnu_symver.Table.{definitions_view, needs_view, versions_view};
 ghost use Rattle.elf.specs.inner.Plans.{definitions_by, needs_by, planned_versions, versions_by};
 
 use super::ElfStream;
-use crate::elf_bytes::versions::VersionSections;
+use super::headers::version_sections;
 use crate::source::StreamSource;
 use elf_parts::endian::EndianParse;
 use elf_parts::gnu_symver::{
@@ -30,25 +29,6 @@ type Linked = (SectionHeader, SectionHeader);
 // The section of version indexes, and those of the needs and of the definitions with the ones that they
 // link to.
 type VersionPlan = (SectionHeader, Option<Linked>, Option<Linked>);
-
-// The last sections of the three types, up to the first one by which all of them were seen.
-#[tactic(auto, using(crate::proofs::VersionChoice::found_in_all))]
-fn version_sections_in(shdrs: &[SectionHeader]) -> VersionSections
-    ensures { result ≡ version_sections shdrs.now }
-{
-    let mut found = VersionSections {
-        indexes: None,
-        needs: None,
-        definitions: None,
-    };
-    for shdr in shdrs {
-        found = found.with(*shdr);
-        if found.are_all() {
-            return found;
-        }
-    }
-    found
-}
 
 impl<E: EndianParse, S: StreamSource, A: Allocator + Copy> ElfStream<E, S, A> {
     ghost use Rattle.std.specs.Borrow.{sem};
@@ -71,7 +51,7 @@ impl<E: EndianParse, S: StreamSource, A: Allocator + Copy> ElfStream<E, S, A> {
         ensures value { result ≡ version_plan (headers_alone E.little self.now) }
         ensures plain { IfErr result (λ e. kind e ≡ Kind.Refusal) }
     {
-        let chosen = version_sections_in(&self.shdrs);
+        let chosen = version_sections(&self.shdrs);
         let Some(shdr) = chosen.indexes else {
             return Ok(None);
         };
@@ -131,7 +111,8 @@ impl<E: EndianParse, S: StreamSource, A: Allocator + Copy> ElfStream<E, S, A> {
         requires low { AreLow (if_there both_sections linked) }
         requires held { AreHeld self.now (if_there both_sections linked) }
         ensures { IfSome self.now.content (λ bytes.
-            if_found (definitions_by (stream_file E.little self.now bytes)) linked ≡ Ok (option_map definitions_view result)) }
+            if_found (definitions_by (stream_file E.little self.now bytes)) linked
+            ≡ Ok (option_map definitions_view result)) }
     {
         let (shdr, linked) = linked?;
         let bytes = self.held_bytes(shdr.sh_offset, shdr.sh_size);

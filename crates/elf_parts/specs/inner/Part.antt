@@ -4,6 +4,7 @@ use Rattle.std.specs.Prelude.{ℕ, zero, suc, ◌+◌, ◌*◌, Bool, List, [], 
 use Rattle.elf_parts.specs.declared.file.Class.{Class}
 use Rattle.elf_parts.specs.declared.file.Class.TheVariants.{ELF32, ELF64}
 use Rattle.elf_parts.specs.declared.parse.ParseError.{ParseError}
+use Rattle.elf_parts.specs.Class.{address_size}
 use Rattle.elf_parts.specs.File.{tail_fields}
 use Rattle.elf_parts.specs.Record.{Field, field}
 use Rattle.elf_parts.specs.inner.Running.{numbers_from, offset_from}
@@ -16,16 +17,11 @@ part_at little fs bytes o = numbers_from little fs bytes o
 unfoldable pub part_end : Bool → List Field → List ℕ → ℕ → ℕ
 part_end little fs bytes o = offset_from little fs bytes o
 
--- the bytes of an address, an offset or a size, which are as wide as the class says
-abbrev pub class_width : Class → ℕ
-class_width ELF32 = 4
-class_width ELF64 = 8
-
--- fields of that width, the first of which has this place
+-- fields of the size of an address, the first of which has this place
 abbrev pub class_fields : Class → ℕ → ℕ → List Field
 class_fields class place zero = []
 class_fields class place (suc count) =
-    field place (class_width class) ∷ class_fields class (place + class_width class) count
+    field place (address_size class) ∷ class_fields class (place + address_size class) count
 
 -- the tail of the file header: e_type to version, the same in both classes, then e_entry to e_shoff, then all others
 abbrev pub kind_fields : List Field
@@ -43,14 +39,14 @@ front_fields class = field 0 4 ∷ field 4 4 ∷ class_fields class 8 3
 
 abbrev pub back_fields : Class → List Field
 back_fields class =
-    field (8 + 3 * class_width class) (class_width class) ∷
-    field (8 + 4 * class_width class) 4 ∷
-    field (12 + 4 * class_width class) 4 ∷
-    class_fields class (16 + 4 * class_width class) 2
+    field (8 + 3 * address_size class) (address_size class) ∷
+    field (8 + 4 * address_size class) 4 ∷
+    field (12 + 4 * address_size class) 4 ∷
+    class_fields class (16 + 4 * address_size class) 2
 
 -- a program header: p_offset to p_memsz, which stand in one order in both classes
 abbrev pub extent_fields : Class → List Field
-extent_fields class = class_fields class (class_width class) 5
+extent_fields class = class_fields class (address_size class) 5
 
 -- numbers as a list
 abbrev pub three : ℕ × ℕ × ℕ → List ℕ

@@ -1,8 +1,10 @@
 //! Linked records, and the one iterator over them that all version iterators stand on.
-ghost use Rattle.std.specs.Prelude.{◌≡◌, ◌≤◌, ◌+◌, ◌-◌, ℕ, length, ⊤};
+ghost use Rattle.std.specs.Prelude.{◌≡◌, ◌≤◌, ◌+◌, ◌-◌, ℕ, List, length, ⊤};
 ghost use Rattle.std.specs.Iterator.{YieldsFirst, item_count};
-ghost use Rattle.elf_parts.specs.Link.{from_next, links_in, links_left, links_view, next_start};
-ghost use Rattle.elf_parts.specs.Table.{table_in};
+ghost use Rattle.elf_parts.specs.Link.{from_next};
+ghost use Rattle.elf_parts.specs.gnu_symver.Links.{links_in, links_left, links_view, next_start};
+ghost use Rattle.elf_parts.specs.gnu_symver.Links.{records_of};
+ghost use Rattle.elf_parts.specs.Table.{Table, table_in};
 
 use crate::endian::EndianParse;
 use crate::file::Class;
@@ -18,6 +20,23 @@ pub trait Linked: ParseAt {
     /// How many bytes behind its start the next record begins; 0 where there is none.
     fn distance(&self) -> u32
         ensures { result ≡ next_distance self.now };
+}
+
+/// An entry of a version section. Behind it its auxiliary entries are linked.
+pub trait VersionEntry: Linked {
+    type Aux: Linked;
+
+    // An entry, from the offset where it begins, with its auxiliary entries.
+    ghost with_aux: { Table → ℕ × Self → Self × List Self.Aux };
+
+    /// The auxiliary entries of this entry, which begins at the offset `start`, in bytes.
+    fn aux<'data, E: EndianParse>(
+        &self,
+        entries: &Links<'data, E, Self>,
+        start: usize,
+    ) -> Links<'data, E, Self::Aux>
+        ensures { (self.now, records_of (links_left Self.Aux.reads.record_at Self.Aux.next_distance result))
+            ≡ with_aux (links_view entries.now) (start, self.now) };
 }
 
 // Where the record `distance` bytes behind `start` begins, if there is one.
@@ -106,7 +125,8 @@ impl<'data, E: EndianParse, R: Linked> Links<'data, E, R> {
 impl<'data, E: EndianParse, R: Linked> Iterator for Links<'data, E, R> {
     type Item = (usize, R);
 
-    ghost next_gives = { λ s r t. YieldsFirst (links_left R.reads.record_at R.next_distance) s r t × (links_view t ≡ links_view s) };
+    ghost next_gives = { λ s r t. YieldsFirst (links_left R.reads.record_at R.next_distance) s r t
+        × (links_view t ≡ links_view s) };
 
     ghost remaining = { item_count (links_left R.reads.record_at R.next_distance) };
 

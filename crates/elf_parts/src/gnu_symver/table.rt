@@ -4,21 +4,27 @@ ghost use Rattle.std.specs.Iterator.{item_count};
 ghost use Rattle.std.specs.Option.{option_map};
 ghost use Rattle.elf_parts.specs.Number.{ok_map};
 ghost use Rattle.elf_parts.specs.StringTable.{strings_view};
-ghost use Rattle.elf_parts.specs.Symver.{defined_version, definition, definition_by, definition_view, definitions_view};
-ghost use Rattle.elf_parts.specs.Symver.{names_left, needed_version, needs_view, raw_names, requirement, requirement_by};
-ghost use Rattle.elf_parts.specs.Symver.{ver_def_aux_left, ver_def_aux_table, ver_def_view, ver_defs_left};
-ghost use Rattle.elf_parts.specs.Symver.{ver_need_aux_left};
-ghost use Rattle.elf_parts.specs.Symver.{ver_needs_left, version_with, versions_view};
-ghost use Rattle.elf_parts.specs.Symver.{GivesRequirement, GivesTexts, HasFewNames, YieldsName};
+ghost use Rattle.elf_parts.specs.gnu_symver.Table.{defined_version, definition, definition_by, definition_view};
+ghost use Rattle.elf_parts.specs.gnu_symver.Table.{definitions_view, index_of, kept};
+ghost use Rattle.elf_parts.specs.gnu_symver.Table.{names_left, needed_version, needs_view, raw_names, requirement};
+ghost use Rattle.elf_parts.specs.gnu_symver.Table.{requirement_of};
+ghost use Rattle.elf_parts.specs.gnu_symver.Lists.{aux_view, ver_def_aux_left, ver_def_view, ver_defs_left};
+ghost use Rattle.elf_parts.specs.gnu_symver.Lists.{ver_need_aux_left};
+ghost use Rattle.elf_parts.specs.gnu_symver.Lists.{ver_needs_left};
+ghost use Rattle.elf_parts.specs.gnu_symver.Table.{version_with, versions_view};
+ghost use Rattle.elf_parts.specs.gnu_symver.Table.{GivesRequirement, GivesTexts, HasFewNames, YieldsName};
 ghost use Rattle.elf_parts.specs.Table.{table_view};
+
+mod indexed;
 
 use super::{
     VerDef, VerDefAuxIterator, VerDefIterator, VerNeed, VerNeedAux, VerNeedAuxIterator,
-    VerNeedIterator, VersionIndexTable,
+    VerNeedIterator, VersionIndex, VersionIndexTable,
 };
 use crate::endian::EndianParse;
 use crate::parse::ParseError;
 use crate::string_table::StringTable;
+pub use indexed::IndexedVersions;
 
 /// The version of a symbol that another file has to have.
 #[derive(Debug, Drop, PartialEq, Eq)]
@@ -51,7 +57,7 @@ impl<'data, E: EndianParse> SymbolNamesIterator<'data, E> {
     #[tactic(auto, using(crate::proofs::Versions::names_few, crate::proofs::Versions::names_counted))]
     pub fn new(records: VerDefAuxIterator<'data, E>, strings: &'data StringTable<'data>) -> Self
         ensures items { names_left result ≡ raw_names (strings_view strings.now) (ver_def_aux_left records.entry) }
-        ensures few { length (names_left result) ≤ length (ver_def_aux_table records.entry).bytes }
+        ensures few { length (names_left result) ≤ length (aux_view records.entry).bytes }
         ensures bound { length (names_left result) < 2 ^ 64 }
     {
         SymbolNamesIterator { records, strings }
@@ -111,7 +117,7 @@ fn first_needed<E: EndianParse>(
 }
 
 // The first definition with this index, and its names.
-#[tactic(auto, unfolding(crate::specs::Symver::defined_version))]
+#[tactic(auto, unfolding(crate::specs::gnu_symver::Table::defined_version))]
 fn first_defined<'data, E: EndianParse>(
     definitions: VerDefIterator<'data, E>,
     index: u16,
@@ -126,22 +132,42 @@ fn first_defined<'data, E: EndianParse>(
     None
 }
 
+// What the records of a needed version say of it, the names as offsets in bytes.
+#[derive(Clone, Copy, Debug)]
+struct Needed {
+    file: u32,
+    name: u32,
+    hash: u32,
+    flags: u16,
+}
+
+// What is kept of a version, the name of its file being at this offset.
+fn kept(file: u32, version: &VerNeedAux) -> Needed
+    ensures { result ≡ kept file version.now }
+{
+    Needed {
+        file,
+        name: version.vna_name,
+        hash: version.vna_hash,
+        flags: version.vna_flags,
+    }
+}
+
 // The file's name and the version's name, with what stands beside them.
 fn read_requirement<'data>(
     strings: StringTable<'data>,
-    need: VerNeed,
-    version: VerNeedAux,
+    needed: Needed,
     hidden: bool,
 ) -> Result<SymbolRequirement<'data>, ParseError>
-    ensures { GivesTexts (requirement_by (strings_view strings.entry) hidden (need, version)) result }
+    ensures { GivesTexts (requirement_of (strings_view strings.entry) hidden needed) result }
 {
-    let file = strings.get(need.vn_file as usize)?;
-    let name = strings.get(version.vna_name as usize)?;
+    let file = strings.get(needed.file as usize)?;
+    let name = strings.get(needed.name as usize)?;
     Ok(SymbolRequirement {
         file,
         name,
-        hash: version.vna_hash,
-        flags: version.vna_flags,
+        hash: needed.hash,
+        flags: needed.flags,
         hidden,
     })
 }
@@ -186,6 +212,13 @@ impl<'data, E: EndianParse> SymbolVersionTable<'data, E> {
         }
     }
 
+    /// The version index of a symbol, counted from 0. Refuses as the table of version indexes does.
+    pub fn get_index(&self, symbol: usize) -> Result<VersionIndex, ParseError>
+        ensures { result ≡ index_of (versions_view self.now) symbol }
+    {
+        self.indexes.get(symbol)
+    }
+
     /// The version that a symbol, counted from 0, needs of another file: `None` where there are no needs,
     /// whatever its version index, and where none has this index. Refuses as the table of version indexes
     /// does, and then as `StringTable::get` does for the file's name and for the version's name.
@@ -202,7 +235,8 @@ impl<'data, E: EndianParse> SymbolVersionTable<'data, E> {
         let Some((need, version)) = first_needed(needs, index.index()) else {
             return Ok(None);
         };
-        Ok(Some(read_requirement(strings, need, version, index.is_hidden())?))
+        let needed = kept(need.vn_file, &version);
+        Ok(Some(read_requirement(strings, needed, index.is_hidden())?))
     }
 
     /// The version that a symbol, counted from 0, is defined with: `None` where there are no definitions,

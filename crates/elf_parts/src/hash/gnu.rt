@@ -1,8 +1,9 @@
 //! GNU hash sections.
-ghost use Rattle.std.specs.Prelude.{◌≡◌, ◌-◌, ◌<◌, ◌≤◌};
-ghost use Rattle.elf_parts.specs.GnuFind.{bloom_bits, bloom_word, find_in_run, gnu_find, gnu_section, gnu_view};
+ghost use Rattle.std.specs.Prelude.{◌≡◌, ◌+◌, ◌-◌, ◌<◌, ◌≤◌, drop, length, take};
+ghost use Rattle.elf_parts.specs.Class.{address_bits};
+ghost use Rattle.elf_parts.specs.GnuFind.{bloom_word, find_in_run, gnu_find, gnu_section, gnu_view};
 ghost use Rattle.elf_parts.specs.GnuFind.{passes, word_decides};
-ghost use Rattle.elf_parts.specs.Hash.{gnu_hash_of, word_count};
+ghost use Rattle.elf_parts.specs.Hash.{gnu_hash_from, gnu_hash_of, word_count};
 ghost use Rattle.elf_parts.specs.Number.{ok_map};
 ghost use Rattle.elf_parts.specs.StringTable.{strings_view};
 ghost use Rattle.elf_parts.specs.Table.{table_in, table_view};
@@ -54,16 +55,40 @@ impl ParseAt for GnuHashHeader {
     }
 }
 
+// The hash gone on with the bytes, one by one.
+fn hash_bytes(start: u32, bytes: &[u8]) -> u32
+    ensures { result ≡ gnu_hash_from start bytes.now }
+{
+    let mut hash = start;
+    for byte in bytes {
+        hash = hash.wrapping_mul(33).wrapping_add(u32::from(*byte));
+    }
+    hash
+}
+
+// The hash gone on with the four bytes from a place on. The four steps are multiplied out, with powers of 33 as
+// factors: done one by one, each would wait for the one before it.
+fn hash_four(hash: u32, bytes: &[u8], place: usize) -> u32
+    requires { place + 4 ≤ length bytes.now }
+    ensures { result ≡ gnu_hash_from hash (take 4 (drop place bytes.now)) }
+{
+    let front = 35_937 * u32::from(bytes[place]) + 1_089 * u32::from(bytes[place + 1]);
+    let back = 33 * u32::from(bytes[place + 2]) + u32::from(bytes[place + 3]);
+    hash.wrapping_mul(1_185_921).wrapping_add(front + back)
+}
+
 /// The hash of a name in a GNU hash section.
 #[tactic(auto, unfolding(crate::specs::Hash::gnu_hash_of))]
 pub fn gnu_hash(name: &[u8]) -> u32
     ensures { result ≡ gnu_hash_of name.now }
 {
     let mut hash = 5381u32;
-    for byte in name {
-        hash = hash.wrapping_mul(33).wrapping_add(u32::from(*byte));
+    let mut place = 0;
+    while 4 <= name.len() - place {
+        hash = hash_four(hash, name, place);
+        place += 4;
     }
-    hash
+    hash_bytes(hash, &name[place..])
 }
 
 /// A GNU hash section: bloom words, by which most names that are not there are passed over, and for each
@@ -83,7 +108,7 @@ pub struct GnuHashTable<'data, E: EndianParse> {
 
 // How many bits a bloom word has.
 fn bloom_bits(class: Class) -> u32
-    ensures bits { result ≡ bloom_bits class }
+    ensures bits { result ≡ address_bits class }
     ensures some { 0 < result }
     ensures most { result ≤ 64 }
 {

@@ -28,7 +28,8 @@ pub fn clones_of_headers<E: EndianParse>()
     ensures file { ClonesExactly ⟦<FileHeader<E> as Clone>⟧.is_clone ⟦<FileHeader<E> as Clone>⟧.is_infallible }
     ensures section { ClonesExactly ⟦<SectionHeader as Clone>⟧.is_clone ⟦<SectionHeader as Clone>⟧.is_infallible }
     ensures program { ClonesExactly ⟦<ProgramHeader as Clone>⟧.is_clone ⟦<ProgramHeader as Clone>⟧.is_infallible }
-    ensures compression { ClonesExactly ⟦<CompressionHeader as Clone>⟧.is_clone ⟦<CompressionHeader as Clone>⟧.is_infallible }
+    ensures compression { ClonesExactly
+        ⟦<CompressionHeader as Clone>⟧.is_clone ⟦<CompressionHeader as Clone>⟧.is_infallible }
     ensures sysv { ClonesExactly ⟦<SysVHashHeader as Clone>⟧.is_clone ⟦<SysVHashHeader as Clone>⟧.is_infallible }
     ensures gnu { ClonesExactly ⟦<GnuHashHeader as Clone>⟧.is_clone ⟦<GnuHashHeader as Clone>⟧.is_infallible }
 {}
@@ -40,7 +41,8 @@ pub fn clones_of_records()
     ensures rela { ClonesExactly ⟦<Rela as Clone>⟧.is_clone ⟦<Rela as Clone>⟧.is_infallible }
     ensures entry { ClonesExactly ⟦<Dyn as Clone>⟧.is_clone ⟦<Dyn as Clone>⟧.is_infallible }
     ensures abi_tag { ClonesExactly ⟦<NoteGnuAbiTag as Clone>⟧.is_clone ⟦<NoteGnuAbiTag as Clone>⟧.is_infallible }
-    ensures build_id { ClonesExactly ⟦<NoteGnuBuildId<'static> as Clone>⟧.is_clone ⟦<NoteGnuBuildId<'static> as Clone>⟧.is_infallible }
+    ensures build_id { ClonesExactly
+        ⟦<NoteGnuBuildId<'static> as Clone>⟧.is_clone ⟦<NoteGnuBuildId<'static> as Clone>⟧.is_infallible }
 {}
 
 /// Tables and the version iterators that can be cloned are cloned as they are, an iterator at the place where
@@ -48,7 +50,8 @@ pub fn clones_of_records()
 pub fn clones_of_tables<E: EndianParse, P: ParseAt>()
     ensures table { ClonesExactly
         ⟦<ParsingTable<'static, E, P> as Clone>⟧.is_clone ⟦<ParsingTable<'static, E, P> as Clone>⟧.is_infallible }
-    ensures strings { ClonesExactly ⟦<StringTable<'static> as Clone>⟧.is_clone ⟦<StringTable<'static> as Clone>⟧.is_infallible }
+    ensures strings { ClonesExactly
+        ⟦<StringTable<'static> as Clone>⟧.is_clone ⟦<StringTable<'static> as Clone>⟧.is_infallible }
     ensures needs { ClonesExactly
         ⟦<VerNeedIterator<'static, E> as Clone>⟧.is_clone ⟦<VerNeedIterator<'static, E> as Clone>⟧.is_infallible }
     ensures definitions { ClonesExactly

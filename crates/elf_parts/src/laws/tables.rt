@@ -87,7 +87,8 @@ pub fn get_succeeds_below_len<E: EndianParse, P: PlainRecord>(
     table: &ParsingTable<'_, E, P>,
     index: usize,
 )
-    ensures { IsOk (table_get P.reads (table_view table.now) index) ↔ (index < table_len P.reads (table_view table.now)) }
+    ensures { IsOk (table_get P.reads (table_view table.now) index)
+        ↔ (index < table_len P.reads (table_view table.now)) }
 {
     let _ = table.len();
 }

@@ -1,8 +1,10 @@
 //! Laws of linked records and of the versions of symbols.
 ghost use Rattle.std.specs.Prelude.{◌≡◌, ◌↔◌, ◌≤◌, ◌+◌, if◌then◌else◌, length, IsTrue, refl};
 ghost use Rattle.elf_abi.specs.Values.{ver_ndx_hidden};
-ghost use Rattle.elf_parts.specs.Link.{AreLongest, links_in, next_start};
-ghost use Rattle.elf_parts.specs.Symver.{ver_def_aux_records, ver_need_aux_records, version_index, version_is_hidden};
+ghost use Rattle.elf_parts.specs.Link.{AreLongest};
+ghost use Rattle.elf_parts.specs.gnu_symver.Links.{links_in, next_start};
+ghost use Rattle.elf_parts.specs.gnu_symver.Lists.{ver_def_aux_records, ver_need_aux_records};
+ghost use Rattle.elf_parts.specs.gnu_symver.Records.{version_index, version_is_hidden};
 ghost use Rattle.elf_parts.specs.Table.{table_in};
 
 use crate::endian::EndianParse;
@@ -49,21 +51,21 @@ pub fn index_and_hidden_bit(version: VersionIndex)
 
 impl PlainRecord for VerNeedAux {
     ghost use Rattle.elf_parts.specs.inner.RecordLaws.{wherever_by};
-    ghost use Rattle.elf_parts.specs.Symver.{ver_need_aux_layout};
+    ghost use Rattle.elf_parts.specs.gnu_symver.Records.{ver_need_aux_layout};
 
     ghost wherever = { wherever_by ver_need_aux_layout refl };
 }
 
 impl PlainRecord for VerDefAux {
     ghost use Rattle.elf_parts.specs.inner.RecordLaws.{wherever_by};
-    ghost use Rattle.elf_parts.specs.Symver.{ver_def_aux_layout};
+    ghost use Rattle.elf_parts.specs.gnu_symver.Records.{ver_def_aux_layout};
 
     ghost wherever = { wherever_by ver_def_aux_layout refl };
 }
 
 impl PlainRecord for VersionIndex {
     ghost use Rattle.elf_parts.specs.inner.RecordLaws.{wherever_by};
-    ghost use Rattle.elf_parts.specs.Symver.{version_index_layout};
+    ghost use Rattle.elf_parts.specs.gnu_symver.Records.{version_index_layout};
 
     ghost wherever = { wherever_by version_index_layout refl };
 }

@@ -11,18 +11,26 @@ ghost use Rattle.elf_parts.specs.Relocation.{rel_layout, rela_layout};
 ghost use Rattle.elf_parts.specs.Section.{section_header_layout};
 ghost use Rattle.elf_parts.specs.Segment.{program_header_layout};
 ghost use Rattle.elf_parts.specs.StringTable.{string_at};
-ghost use Rattle.elf_parts.specs.Structs.{DefinitionsAreChained, NeedsAreChained, NotesFit, abi_tag_struct, compression_header_struct, dyn_struct, gnu_header_struct, note_header_struct, notes_bytes, program_header_struct, rel_struct, rela_struct, section_header_struct, symbol_struct, sysv_header_struct, tail_struct, ver_def_aux_struct, ver_def_struct, ver_need_aux_struct, ver_need_struct, version_index_struct};
+ghost use Rattle.elf_parts.specs.Structs.{DefinitionsAreChained, NeedsAreChained, NotesFit, abi_tag_struct};
+ghost use Rattle.elf_parts.specs.Structs.{compression_header_struct, dyn_struct, gnu_header_struct, note_header_struct};
+ghost use Rattle.elf_parts.specs.Structs.{notes_bytes, program_header_struct, rel_struct, rela_struct};
+ghost use Rattle.elf_parts.specs.Structs.{section_header_struct, symbol_struct, sysv_header_struct, tail_struct};
+ghost use Rattle.elf_parts.specs.Structs.{ver_def_aux_struct, ver_def_struct, ver_need_aux_struct, ver_need_struct};
+ghost use Rattle.elf_parts.specs.Structs.{version_index_struct};
 ghost use Rattle.elf_parts.specs.Symbol.{symbol_layout};
-ghost use Rattle.elf_parts.specs.Symver.{ver_def_aux_layout, ver_def_layout, ver_need_aux_layout, ver_defs, ver_need_layout, ver_needs, version_index_layout};
+ghost use Rattle.elf_parts.specs.gnu_symver.Lists.{ver_defs, ver_needs};
+ghost use Rattle.elf_parts.specs.gnu_symver.Records.{ver_def_aux_layout, ver_def_layout, ver_need_aux_layout};
+ghost use Rattle.elf_parts.specs.gnu_symver.Records.{ver_need_layout, version_index_layout};
 ghost use Rattle.elf_parts.specs.Table.{table_in};
 ghost use Rattle.elf_parts.specs.Word.{u32_layout, u64_layout};
-ghost use Rattle.elf_parts.specs.Written.{Fits, FitsSigned, HasNoNul, IsStruct, PlacesAreSums, bytes_of, complement, strings_of, struct_bytes, word, xword};
+ghost use Rattle.elf_parts.specs.Written.{Fits, FitsSigned, HasNoNul, IsStruct, PlacesAreSums, bytes_of, complement};
+ghost use Rattle.elf_parts.specs.Written.{strings_of, struct_bytes, word, xword};
 ghost use Rattle.elf_parts.specs.declared.file.Class.{Class};
 ghost use Rattle.elf_parts.specs.declared.file.FileHeader.{FileHeader as IsFileHeader};
-ghost use Rattle.elf_parts.specs.declared.gnu_symver.VerDef.{VerDef as IsVerDef};
-ghost use Rattle.elf_parts.specs.declared.gnu_symver.VerDefAux.{VerDefAux as IsVerDefAux};
-ghost use Rattle.elf_parts.specs.declared.gnu_symver.VerNeed.{VerNeed as IsVerNeed};
-ghost use Rattle.elf_parts.specs.declared.gnu_symver.VerNeedAux.{VerNeedAux as IsVerNeedAux};
+ghost use Rattle.elf_parts.specs.declared.gnu_symver.records.VerDef.{VerDef as IsVerDef};
+ghost use Rattle.elf_parts.specs.declared.gnu_symver.records.VerDefAux.{VerDefAux as IsVerDefAux};
+ghost use Rattle.elf_parts.specs.declared.gnu_symver.records.VerNeed.{VerNeed as IsVerNeed};
+ghost use Rattle.elf_parts.specs.declared.gnu_symver.records.VerNeedAux.{VerNeedAux as IsVerNeedAux};
 
 /// A number is read from the bytes that it is written in, which are as many as were asked for.
 #[tactic(auto, using(crate::proofs::ReadBack::number_bytes_of, crate::proofs::ReadBack::length_bytes_of))]
@@ -34,7 +42,8 @@ pub fn numbers_are_read_back()
 /// A signed number is read from the bytes of its two's complement, and these are those of a number that fits.
 #[tactic(auto, using(crate::proofs::ReadBack::signed_number_complement, crate::proofs::ReadBack::complement_lt))]
 pub fn signed_numbers_are_read_back()
-    ensures value { (width : ℕ) (z : ℤ) → 0 < width → FitsSigned width z → signed_number width (complement width z) ≡ z }
+    ensures value { (width : ℕ) (z : ℤ) → 0 < width → FitsSigned width z →
+        signed_number width (complement width z) ≡ z }
     ensures fits { (width : ℕ) (z : ℤ) → 0 < width → FitsSigned width z → complement width z < 256 ^ width }
 {}
 

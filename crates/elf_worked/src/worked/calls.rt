@@ -1,9 +1,11 @@
 //! Whole calls of a listing, from the bytes of small files on.
 ghost use Rattle.std.specs.Prelude.{◌≡◌, [], ◌∷◌, ◌++◌, Ok, codes};
-ghost use Rattle.elfshow.specs.Asked.{Data, DynSyms, Dynamic, Gnu, Name, Notes, Relas, Rels, Seg, SegNotes, Segments, Strings, Symbols, Sysv, Versions};
+ghost use Rattle.elfshow.specs.calls.Question.{Data, DynSyms, Dynamic, Gnu, Name, Notes, Relas, Rels};
+ghost use Rattle.elfshow.specs.calls.Question.{Seg, SegNotes, Segments, Strings, Symbols, Sysv, Versions};
 ghost use Rattle.elf_worked.specs.Files.{compressed_section, in_four, in_two, one_segment, small_file, two_sections};
 ghost use Rattle.elf_worked.specs.Known.{listing};
-ghost use Rattle.elf_worked.specs.Listed.{dynamic_file, gnu_type, gnuu_note, note_section_file, one_need_with, segment_file, symbol_a, symbol_a_with};
+ghost use Rattle.elf_worked.specs.Listed.{dynamic_file, gnu_type, gnuu_note, note_section_file};
+ghost use Rattle.elf_worked.specs.Listed.{one_need_with, segment_file, symbol_a, symbol_a_with};
 ghost use Rattle.elf_worked.specs.Parts.{abi_tag_note};
 
 /// The segments of a file, the bytes of one, and one that there is not.

@@ -1,6 +1,6 @@
 //! Which sections are taken, where there are several.
 ghost use Rattle.std.specs.Prelude.{◌≡◌, [], ◌∷◌, Some, None};
-ghost use Rattle.elf.specs.Choice.{first_section_of, last_section_of};
+ghost use Rattle.elf.specs.Headers.{first_section_of, last_section_of};
 ghost use Rattle.elf.specs.Versions.{version_sections};
 ghost use Rattle.elf_worked.specs.Objects.{definitions_at, indexes_at, needs_at};
 

@@ -8,11 +8,19 @@ ghost use Rattle.elf_parts.specs.Section.{section_header_reads};
 ghost use Rattle.elf_parts.specs.Segment.{program_header_reads};
 ghost use Rattle.elf_parts.specs.Table.{table_in, table_items};
 ghost use Rattle.elf_parts.specs.declared.file.Class.TheVariants.{ELF32, ELF64};
-ghost use Rattle.elf_parts.specs.declared.parse.ParseError.TheVariants.{BadEntsize, BadMagic, BadOffset, IntegerOverflow, SliceReadError, UnsupportedElfEndianness};
+ghost use Rattle.elf_parts.specs.declared.parse.ParseError.TheVariants.{BadEntsize, BadMagic};
+ghost use Rattle.elf_parts.specs.declared.parse.ParseError.TheVariants.{BadOffset, IntegerOverflow};
+ghost use Rattle.elf_parts.specs.declared.parse.ParseError.TheVariants.{SliceReadError, UnsupportedElfEndianness};
 ghost use Rattle.elf.specs.Opening.{opened};
-ghost use Rattle.elf.specs.Range.{section_at};
-ghost use Rattle.elf_worked.specs.Files.{compressed_section, counted_by_info, counted_by_size, elsewhere, header_as_section, header_of_tables, in_eight, in_four, in_two, loaded_segment, names_section, null_section, one_segment, ones, section_with_info, small_file, small_with, two_names, two_sections, two_sections_big, two_with, zeros};
-ghost use Rattle.elf_worked.specs.Known.{names_header, names_in, null_header, opening, small_view, two_table, two_view, two_view_with};
+ghost use Rattle.elf.specs.Headers.{section_at};
+ghost use Rattle.elf_worked.specs.Files.{compressed_section, counted_by_info, counted_by_size, elsewhere};
+ghost use Rattle.elf_worked.specs.Files.{header_as_section, header_of_tables, in_eight, in_four};
+ghost use Rattle.elf_worked.specs.Files.{in_two, loaded_segment, names_section, null_section};
+ghost use Rattle.elf_worked.specs.Files.{one_segment, ones, section_with_info, small_file};
+ghost use Rattle.elf_worked.specs.Files.{small_with, two_names, two_sections, two_sections_big};
+ghost use Rattle.elf_worked.specs.Files.{two_with, zeros};
+ghost use Rattle.elf_worked.specs.Known.{names_header, names_in, null_header, opening};
+ghost use Rattle.elf_worked.specs.Known.{small_view, two_table, two_view, two_view_with};
 
 /// How many bytes the files have.
 pub fn sizes_of_files()

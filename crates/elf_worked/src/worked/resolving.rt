@@ -1,10 +1,11 @@
 //! A name over a list of two objects, and what files are as objects.
 ghost use Rattle.std.specs.Prelude.{◌≡◌, [], ◌∷◌, None, Ok, Err, Some, codes};
 ghost use Rattle.elf_parts.specs.declared.parse.ParseError.TheVariants.{SliceReadError};
-ghost use Rattle.elfshow.specs.NamedSymbols.{chain_from, kept_named, run_from};
-ghost use Rattle.elfshow.specs.Resolve.{ByGnu, BySysv, IsFaultOf, object_of};
-ghost use Rattle.elfshow.specs.declared.hashcheck.HashFault.TheVariants.{Endless};
-ghost use Rattle.elfshow.specs.declared.resolve.ObjectFault.TheVariants.{Faulty, NoSymbols, Read};
+ghost use Rattle.elf_check.specs.NamedSymbols.{chain_from, kept_named, run_from};
+ghost use Rattle.elf_check.specs.Object.{ByGnu, BySysv};
+ghost use Rattle.elf_check.specs.ObjectTable.{IsFaultOf, object_of};
+ghost use Rattle.elf_check.specs.declared.hashcheck.HashFault.TheVariants.{Endless};
+ghost use Rattle.elf_check.specs.declared.resolve.ObjectFault.TheVariants.{Faulty, NoSymbols, Read};
 ghost use Rattle.elf_worked.specs.Files.{counted, in_four, two_sections};
 ghost use Rattle.elf_worked.specs.HashesOfA.{gnu_of_a, sysv_of_a};
 ghost use Rattle.elf_worked.specs.Listed.{gnu_type, symbol_a, symbol_a_with};

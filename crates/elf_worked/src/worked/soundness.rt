@@ -2,15 +2,18 @@
 ghost use Rattle.std.specs.Prelude.{◌≡◌, [], Ok, codes};
 ghost use Rattle.std.specs.Result.{IsOkAnd};
 ghost use Rattle.elf_parts.specs.Number.{ok_map};
-ghost use Rattle.elfshow.specs.SoundFaults.{IsTrueOfGnu, IsTrueOfSysv};
-ghost use Rattle.elfshow.specs.SoundGnu.{SoundGnu};
-ghost use Rattle.elfshow.specs.SoundSysv.{SoundSysv};
+ghost use Rattle.elf_check.specs.Faults.{IsTrueOfGnu, IsTrueOfSysv};
+ghost use Rattle.elf_check.specs.SoundGnu.{SoundGnu};
+ghost use Rattle.elf_check.specs.SoundSysv.{SoundSysv};
 ghost use Rattle.elfshow.specs.Verdicts.{gnu_verdict, sysv_verdict};
-ghost use Rattle.elfshow.specs.declared.hashcheck.HashFault.{HashFault};
-ghost use Rattle.elfshow.specs.declared.hashcheck.HashFault.TheVariants.{Endless, NoBloomBit, NotInRun, PastChains, ShiftTooLarge, Unreadable, WrongBucket, WrongHash};
+ghost use Rattle.elf_check.specs.declared.hashcheck.HashFault.{HashFault};
+ghost use Rattle.elf_check.specs.declared.hashcheck.HashFault.TheVariants.{Endless, NoBloomBit, NotInRun, PastChains};
+ghost use Rattle.elf_check.specs.declared.hashcheck.HashFault.TheVariants.{ShiftTooLarge, Unreadable, WrongBucket};
+ghost use Rattle.elf_check.specs.declared.hashcheck.HashFault.TheVariants.{WrongHash};
 ghost use Rattle.elfshow.specs.lines.Hashes.{verdict_line};
 ghost use Rattle.elf_worked.specs.Files.{in_four};
-ghost use Rattle.elf_worked.specs.SoundSections.{HasGnuFault, HasSysvFault, gnu_bytes, gnu_cut, gnu_with, sysv_bytes, sysv_cut, sysv_with};
+ghost use Rattle.elf_worked.specs.SoundSections.{HasGnuFault, HasSysvFault, gnu_bytes, gnu_cut};
+ghost use Rattle.elf_worked.specs.SoundSections.{gnu_with, sysv_bytes, sysv_cut, sysv_with};
 
 /// The chains 1, 3 and 2, which end in 0: the section is sound, no fault is true of it, and it indexes three symbols.
 pub fn sysv_section_is_sound()

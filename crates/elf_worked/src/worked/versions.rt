@@ -1,11 +1,14 @@
 //! Needs and definitions of versions, and the versions of symbols.
 ghost use Rattle.std.specs.Prelude.{◌≡◌, [], ◌∷◌, ◌++◌, true, false, Ok, Err, Some, None, codes};
-ghost use Rattle.elf_parts.specs.Symver.{definition, requirement, ver_defs, ver_needs, version_index, version_is_hidden};
+ghost use Rattle.elf_parts.specs.gnu_symver.Lists.{ver_defs, ver_needs};
+ghost use Rattle.elf_parts.specs.gnu_symver.Records.{version_index, version_is_hidden};
+ghost use Rattle.elf_parts.specs.gnu_symver.Table.{definition, requirement};
 ghost use Rattle.elf_parts.specs.Table.{table_in};
 ghost use Rattle.elf_parts.specs.declared.file.Class.TheVariants.{ELF32, ELF64};
 ghost use Rattle.elf_parts.specs.declared.parse.ParseError.TheVariants.{SliceReadError, StringTableMissingNul};
 ghost use Rattle.elf_worked.specs.Files.{in_four, in_two, zeros};
-ghost use Rattle.elf_worked.specs.Parts.{base_definition, definitions, first_need, needs, second_definition, second_need, versions};
+ghost use Rattle.elf_worked.specs.Parts.{base_definition, definitions, first_need, needs};
+ghost use Rattle.elf_worked.specs.Parts.{second_definition, second_need, versions};
 
 /// Two files, the first with two versions and the second with none: each record lies where the one before it tells. With a
 /// count of 1 only the first is a need; no count gives more than there are.

@@ -1,8 +1,10 @@
 //! What the words of a command line ask for.
 ghost use Rattle.std.specs.Prelude.{◌≡◌, [], ◌∷◌, ◌++◌, Some, None, codes};
-ghost use Rattle.elfshow.specs.Asked.{Data, DynSyms, Dynamic, Gnu, Header, Name, Notes, Relas, Rels, Sections, Seg, SegNotes, Segments, Strings, Symbols, Sysv, Versions};
+ghost use Rattle.elfshow.specs.calls.Question.{Data, DynSyms, Dynamic, Gnu, Header, Name, Notes, Relas, Rels};
+ghost use Rattle.elfshow.specs.calls.Question.{Sections, Seg, SegNotes, Segments, Strings, Symbols, Sysv, Versions};
 ghost use Rattle.elfshow.specs.Pieces.{newline};
-ghost use Rattle.elfshow.specs.Words.{agreement, call_of, index_of, mode_of, shown_by, status_of};
+ghost use Rattle.elfshow.specs.Show.{agreement, mode_of, shown_by, status_of};
+ghost use Rattle.elfshow.specs.Words.{call_of, index_of};
 ghost use Rattle.elfshow.specs.declared.show.Mode.TheVariants.{Both, Bytes, Stream};
 ghost use Rattle.elfshow.specs.declared.show.RequestError.TheVariants.{OutOfMemory, Usage};
 

@@ -7,10 +7,12 @@ ghost use Rattle.elf_parts.specs.declared.segment.ProgramHeader.{ProgramHeader};
 ghost use Rattle.elf.specs.Names.{name_table};
 ghost use Rattle.elf.specs.ObjectFile.{object_file};
 ghost use Rattle.elf.specs.Opening.{opened};
-ghost use Rattle.elf.specs.View.{section_list, segment_list};
+ghost use Rattle.elf.specs.ElfBytes.{section_list, segment_list};
 ghost use Rattle.elf_worked.specs.Files.{two_names, two_sections};
-ghost use Rattle.elf_worked.specs.Known.{extended_file, extended_header, extended_section, extended_segment, names_header, null_header, two_header_with};
-ghost use Rattle.elf_worked.specs.WrittenFiles.{IsWritten, NamesLie, segments_of, written_sections, written_segments, written_view};
+ghost use Rattle.elf_worked.specs.Known.{extended_file, extended_header, extended_section, extended_segment};
+ghost use Rattle.elf_worked.specs.Known.{names_header, null_header, two_header_with};
+ghost use Rattle.elf_worked.specs.WrittenFiles.{IsWritten, NamesLie, segments_of};
+ghost use Rattle.elf_worked.specs.WrittenFiles.{written_sections, written_segments, written_view};
 
 /// A file that holds a header at its front, and the tables that the header tells of where it says that they lie, is
 /// opened with this header and these tables. Either number of headers may stand in the first section header.

@@ -5,13 +5,14 @@ use Rattle.std.specs.Option.{IsSomeAnd}
 use Rattle.std.proofs.Common.{ap, subst, inl, inr, arith}
 use Rattle.std.proofs.lemmas.Bool.{cases_lt}
 use Rattle.std.proofs.lemmas.Grind.{common_steps}
-use Rattle.elf_parts.specs.GnuFind.{GnuTable, bloom_bits}
+use Rattle.elf_parts.specs.Class.{address_bits}
+use Rattle.elf_parts.specs.GnuFind.{GnuTable}
 use Rattle.elf_parts.specs.Hash.{gnu_hash_of, sysv_hash_of, word_at, word_count}
 use Rattle.elf_parts.specs.SysvFind.{SysvTable}
 use Rattle.elf_parts.specs.Table.{Table}
-use Rattle.elfshow.specs.Sound.{Given, bloom, named, word}
-use Rattle.elfshow.specs.SoundGnu.{HasBothBits, InRun, RunsTo, SoundGnu, SoundWord}
-use Rattle.elfshow.specs.SoundSysv.{Belongs, EndsAt, SoundSysv, value}
+use Rattle.elf_check.specs.SoundGnu.{HasBothBits, InRun, RunsTo, SoundGnu, SoundWord}
+use Rattle.elf_check.specs.SoundSysv.{Belongs, EndsAt, SoundSysv, value}
+use Rattle.elf_check.specs.WithSymbols.{WithSymbols, bloom, named, word}
 use Rattle.std.specs.Int.{bit_at}
 
 -- ---- statements of any kind
@@ -59,7 +60,8 @@ is_some_and : {A : Type 0} {P : A → Type 0} → ((x : A) → Decided (P x)) �
 is_some_and d (Some x) = d x
 is_some_and d None = inr (λ h. absurd h)
 
-if_some : {A : Type 0} {P : A → Type 0} → ((x : A) → Decided (P x)) → (o : Option A) → Decided ((x : A) → o ≡ Some x → P x)
+if_some : {A : Type 0} {P : A → Type 0} → ((x : A) → Decided (P x)) → (o : Option A) →
+    Decided ((x : A) → o ≡ Some x → P x)
 if_some d None = inl (λ x e. cc)
 if_some {P = P} d (Some y) = alike (λ p x e. subst P (cc) p) (λ f. f y refl) (d y)
 
@@ -67,8 +69,10 @@ is_number : (o : Option ℕ) (n : ℕ) → Decided (o ≡ Some n)
 is_number None n = inr (λ e. cc)
 is_number (Some m) n = alike (λ e. ap Some e) (λ e. cc) (equal m n)
 
-one_more : {P : ℕ → Type 0} (n : ℕ) → Decided ((k : ℕ) → k < n → P k) → Decided (P n) → Decided ((k : ℕ) → k < suc n → P k)
-one_more {P = P} n (inl all) (inl last) = inl (λ k h. elim (cases_lt k n) [ inl l ↦ all k l | inr l ↦ subst P (omega (arith, h, l)) last ])
+one_more : {P : ℕ → Type 0} (n : ℕ) → Decided ((k : ℕ) → k < n → P k) → Decided (P n) →
+    Decided ((k : ℕ) → k < suc n → P k)
+one_more {P = P} n (inl all) (inl last) =
+    inl (λ k h. elim (cases_lt k n) [ inl l ↦ all k l | inr l ↦ subst P (omega (arith, h, l)) last ])
 one_more n (inl all) (inr other) = inr (λ f. other (f n (omega arith)))
 one_more n (inr other) last = inr (λ f. other (λ k h. f k (omega (arith, h))))
 
@@ -76,10 +80,15 @@ below : {P : ℕ → Type 0} → ((k : ℕ) → Decided (P k)) → (n : ℕ) →
 below d zero = inl (λ k h. absurd (omega (arith, h)))
 below d (suc n) = one_more n (below d n) (d n)
 
-or_last : {P : ℕ → Type 0} (n : ℕ) → Decided ((k : ℕ) × (k < n) × P k) → Decided (P n) → Decided ((k : ℕ) × (k < suc n) × P k)
+or_last : {P : ℕ → Type 0} (n : ℕ) → Decided ((k : ℕ) × (k < n) × P k) → Decided (P n) →
+    Decided ((k : ℕ) × (k < suc n) × P k)
 or_last n (inl h) last = inl (h.0, omega (arith, h.1), h.2)
 or_last n (inr other) (inl p) = inl (n, omega arith, p)
-or_last {P = P} n (inr other) (inr none) = inr (λ h. elim (cases_lt h.0 n) [ inl l ↦ other (h.0, l, h.2) | inr l ↦ none (subst P (omega (arith, h.1, l)) h.2) ])
+or_last {P = P} n (inr other) (inr none) =
+    inr (λ h. elim (cases_lt h.0 n) [
+      | inl l ↦ other (h.0, l, h.2)
+      | inr l ↦ none (subst P (omega (arith, h.1, l)) h.2)
+    ])
 
 somewhere_below : {P : ℕ → Type 0} → ((k : ℕ) → Decided (P k)) → (n : ℕ) → Decided ((k : ℕ) × (k < n) × P k)
 somewhere_below d zero = inr (λ h. absurd (omega (arith, h.1)))
@@ -96,21 +105,30 @@ module _ (t : GnuTable) where
   has_both_bits : (hash : ℕ) → Decided (HasBothBits t hash)
   has_both_bits hash =
       both (less 0 t.hdr.nbloom)
-      (is_some_and (λ w. both (equal (bit_at w (hash % bloom_bits t.bloom.class)) 1) (equal (bit_at w (hash / 2 ^ t.hdr.nshift % bloom_bits t.bloom.class)) 1)) (bloom t.bloom (hash / bloom_bits t.bloom.class % t.hdr.nbloom)))
+      (is_some_and
+      (λ w. both (equal (bit_at w (hash % address_bits t.bloom.class)) 1)
+      (equal (bit_at w (hash / 2 ^ t.hdr.nshift % address_bits t.bloom.class)) 1))
+      (bloom t.bloom (hash / address_bits t.bloom.class % t.hdr.nbloom)))
 
   runs_to : (k index : ℕ) → Decided (RunsTo t k index)
   runs_to k index =
       all_three (at_most t.hdr.table_start_idx index) (at_most index (t.hdr.table_start_idx + k))
       (alike (λ f j v from inside e. f j inside from v e) (λ f j inside from v e. f j v from inside e)
-      (below (λ j. where_so (at_most index (t.hdr.table_start_idx + j)) (if_some (λ v. equal (v % 2) 0) (word t.chains j))) k))
+      (below
+      (λ j. where_so (at_most index (t.hdr.table_start_idx + j)) (if_some (λ v. equal (v % 2) 0) (word t.chains j)))
+      k))
 
   in_run : (k hash : ℕ) → Decided (InRun t k hash)
-  in_run k hash = both (less 0 (word_count t.buckets)) (is_some_and (runs_to k) (word t.buckets (hash % word_count t.buckets)))
+  in_run k hash =
+      both (less 0 (word_count t.buckets))
+      (is_some_and (runs_to k) (word t.buckets (hash % word_count t.buckets)))
 
-module _ (s : Given GnuTable) where
+module _ (s : WithSymbols GnuTable) where
   sound_word : (k w : ℕ) → Decided (SoundWord s k w)
   sound_word k w =
-      is_some_and (λ found. all_three (equal (w / 2) (gnu_hash_of found.1 / 2)) (has_both_bits s.table (gnu_hash_of found.1)) (in_run s.table k (gnu_hash_of found.1)))
+      is_some_and
+      (λ found. all_three (equal (w / 2) (gnu_hash_of found.1 / 2)) (has_both_bits s.table (gnu_hash_of found.1))
+      (in_run s.table k (gnu_hash_of found.1)))
       (named s.symbols s.strings (s.table.hdr.table_start_idx + k))
 
   pub decide_gnu : Decided (SoundGnu s)
@@ -121,11 +139,12 @@ module _ (s : Given GnuTable) where
 
 -- ---- SysV sections
 
-module _ (s : Given SysvTable) where
+module _ (s : WithSymbols SysvTable) where
   belongs : (bucket index : ℕ) → Decided (Belongs s bucket index)
   belongs bucket index =
       both (less index (word_count s.table.chains))
-      (is_some_and (λ found. equal (sysv_hash_of found.1 % word_count s.table.buckets) bucket) (named s.symbols s.strings index))
+      (is_some_and (λ found. equal (sysv_hash_of found.1 % word_count s.table.buckets) bucket)
+      (named s.symbols s.strings index))
 
   ends_at : (bucket j : ℕ) → Decided (EndsAt s bucket j)
   ends_at bucket j =

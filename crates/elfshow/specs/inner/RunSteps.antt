@@ -1,59 +1,77 @@
 -- What one call of a run leaves; contracts of private functions speak of it.
-use Rattle.std.specs.Prelude.{◌≡◌, ℕ, Bool, List, Option, Result, Ok, Err, IfErr, IfSome, IsOk, OnOk}
+use Rattle.std.specs.Prelude.{◌≡◌, ℕ, Bool, List, Option, Result, Ok, Err, IfSome, IsErr, IsOk, OnOk}
 use Rattle.std.specs.Io.KnownBytes.{Appends}
 use Rattle.elf.specs.Answers.{dynamic_symbol_table, section_data}
 use Rattle.elf.specs.ObjectFile.{ObjectFile}
-use Rattle.elf.specs.Stream.{AreHeld, IsAnswer, IsRefused, Keeps, Kind, Seen, kind}
+use Rattle.elf.specs.ElfStream.{AreHeld, IsAnswer, IsRefused, Keeps, Kind, Seen, kind}
 use Rattle.elf_parts.specs.Number.{ok_map}
 use Rattle.elf_parts.specs.Record.{◌>>=◌}
 use Rattle.elf_parts.specs.declared.section.SectionHeader.{SectionHeader}
-use Rattle.elfshow.specs.Sound.{Given}
-use Rattle.elfshow.specs.SoundVerdict.{section_given}
+use Rattle.elf_check.specs.WithSymbols.{WithSymbols, with_symbols}
 use Rattle.elfshow.specs.declared.lines.hashes.Verdict.{Verdict}
 use Rattle.std.specs.Option.{option_map}
 use Rattle.elf_parts.specs.declared.parse.ParseError.{ParseError}
-use Rattle.elfshow.specs.Asked.{Asked}
-use Rattle.elfshow.specs.Run.{IsAtHand, IsFaultless, IsLoaded}
-use Rattle.elfshow.specs.StreamAnswers.{IsAnswered, call_ranges, stream_answers}
-use Rattle.elfshow.specs.Text.{call_text}
+use Rattle.elfshow.specs.calls.Question.{Question}
+use Rattle.elfshow.specs.calls.Ranges.{call_ranges}
+use Rattle.elfshow.specs.calls.Run.{IsAtHand, IsLoaded, stream_answer}
+use Rattle.elfshow.specs.calls.Text.{or_refused}
 use Rattle.elfshow.specs.declared.calls.RunError.{RunError}
 use Rattle.elfshow.specs.declared.calls.RunError.TheVariants.{Fault, Open, Write}
+use Rattle.elfshow.specs.declared.calls.Stop.{Stop}
+use Rattle.elfshow.specs.declared.calls.Stop.TheVariants as stop
 use Rattle.elfshow.specs.lines.Stand.{refused_line}
 use Rattle.std.specs.Io.KnownBytes.{Keeps as KeepsBytes}
 
--- as Ran, of one call; at a fault nothing was written
-abbrev pub RanOne : List ℕ → Option (List ℕ) → Option (List ℕ) → Bool → ℕ → ℕ → Result (Unit {0}) RunError → Type 0
-RanOne line old new can_fail before now (Ok _) = (now ≡ before) × Appends old new line
-RanOne line old new can_fail before now (Err (Open e)) = ⊥
-RanOne line old new can_fail before now (Err (Fault done e)) = KeepsBytes old new × IsRefused before now can_fail ⊥ (kind e)
-RanOne line old new can_fail before now (Err (Write done e)) = now ≡ before
+-- why a run stopped, by what stopped its call
+abbrev pub stopped_after : ℕ → Stop → RunError
+stopped_after done (stop.Fault e) = Fault done e
+stopped_after done (stop.Write e) = Write done e
+
+-- there was no fault
+abbrev pub IsFaultlessCall : Result (Unit {0}) Stop → Type 0
+IsFaultlessCall (Err (stop.Fault e)) = ⊥
+IsFaultlessCall _ = Unit {0}
+
+-- as Ran, of one call with this answer; at a fault nothing was written
+abbrev pub RanOne : Result (List ℕ) ParseError → Option (List ℕ) → Option (List ℕ) → Bool → ℕ → ℕ →
+    Result (Unit {0}) Stop → Type 0
+RanOne answer old new can_fail before now (Ok _) = (now ≡ before) × Appends old new (or_refused answer)
+RanOne answer old new can_fail before now (Err (stop.Fault e)) =
+    KeepsBytes old new × IsRefused before now can_fail ⊥ (kind e)
+RanOne answer old new can_fail before now (Err (stop.Write e)) = now ≡ before
 
 -- the same file, the text of the call, no fault where it is answered at hand, and at Ok its ranges where it is answered
-pub record RanCall {E : Type 0} (little : E → Bool) (call : Asked) (old new : Seen E) (before after : Option (List ℕ)) (r : Result (Unit {0}) RunError) : Type 0 where
+pub record RanCall {E : Type 0} (little : E → Bool) (call : Question) (old new : Seen E)
+    (before after : Option (List ℕ)) (r : Result (Unit {0}) Stop) : Type 0 where
   pub keeps : Keeps old new
-  pub ran : IfSome old.content (λ bytes. RanOne (call_text (stream_answers little old bytes) call) before after old.can_fail old.faults new.faults r)
-  pub no_fault : IfSome old.content (λ bytes. IsAtHand little old bytes call → IsFaultless r)
+  pub ran : IfSome old.content (λ bytes.
+      RanOne (stream_answer little old bytes call) before after old.can_fail old.faults new.faults r)
+  pub no_fault : IfSome old.content (λ bytes. IsAtHand little old bytes call → IsFaultlessCall r)
   pub loaded : OnOk r (IfSome old.content (λ bytes. IsLoaded little new bytes call))
 
--- of a call that was tried: its text was written; or the stream refuses it, and then nothing was written, and where
--- the content has no answer that text is the line `refused`
-abbrev pub TriedOne : {X : Type 0} → List ℕ → Option (List ℕ) → Option (List ℕ) → Bool → ℕ → ℕ → Result (Result (Unit {0}) X) ParseError → Type 0
-TriedOne line old new can_fail before now (Ok written) = (now ≡ before) × OnOk written (Appends old new line)
-TriedOne line old new can_fail before now (Err e) = (new ≡ old) × IsRefused before now can_fail (line ≡ refused_line) (kind e)
+-- of a call that was tried: its text was written; or the stream refuses it, and then nothing was written, and the
+-- content is refused only where it has no answer
+abbrev pub TriedOne : {X : Type 0} → Result (List ℕ) ParseError → Option (List ℕ) → Option (List ℕ) → Bool → ℕ → ℕ →
+    Result (Result (Unit {0}) X) ParseError → Type 0
+TriedOne answer old new can_fail before now (Ok written) =
+    (now ≡ before) × OnOk written (Appends old new (or_refused answer))
+TriedOne answer old new can_fail before now (Err e) =
+    (new ≡ old) × IsRefused before now can_fail (IsErr answer) (kind e)
 
 -- the same file, the text of the call or a refusal, and no refusal where it is answered at hand; its ranges are held
--- where it is not refused, and the content is not refused where it has an answer
-pub record TriedCall {E X : Type 0} (little : E → Bool) (call : Asked) (old new : Seen E) (before after : Option (List ℕ)) (r : Result (Result (Unit {0}) X) ParseError) : Type 0 where
+-- where it is not refused
+pub record TriedCall {E X : Type 0} (little : E → Bool) (call : Question) (old new : Seen E)
+    (before after : Option (List ℕ)) (r : Result (Result (Unit {0}) X) ParseError) : Type 0 where
   pub keeps : Keeps old new
-  pub tried : IfSome old.content (λ bytes. TriedOne (call_text (stream_answers little old bytes) call) before after old.can_fail old.faults new.faults r)
+  pub tried : IfSome old.content (λ bytes.
+      TriedOne (stream_answer little old bytes call) before after old.can_fail old.faults new.faults r)
   pub accepted : IfSome old.content (λ bytes. IsAtHand little old bytes call → IsOk r)
   pub loaded : OnOk r (AreHeld new (call_ranges little old call))
-  pub answered : IfErr r (λ e. IfSome old.content (λ bytes. kind e ≡ Kind.Refusal → IsAnswered (stream_answers little old bytes) call → ⊥))
 
 -- what was written, as a run tells it
-abbrev pub IsWritten : {A E : Type 0} → Result A E → Result (Unit {0}) RunError → Type 0
+abbrev pub IsWritten : {A E : Type 0} → Result A E → Result (Unit {0}) Stop → Type 0
 IsWritten (Ok _) (Ok _) = Unit {0}
-IsWritten (Err _) (Err (Write done e)) = done ≡ 0
+IsWritten (Err _) (Err (stop.Write e)) = Unit {0}
 IsWritten _ _ = ⊥
 
 -- no writer failed
@@ -63,18 +81,18 @@ IsUnfailing (Fault done e) = Unit {0}
 IsUnfailing (Write done e) = ⊥
 
 -- a refusal of this kind is a fault
-abbrev pub IsFaultOf : Kind → Result (Unit {0}) RunError → Type 0
-IsFaultOf k (Err (Fault done e)) = kind e ≡ k
+abbrev pub IsFaultOf : Kind → Result (Unit {0}) Stop → Type 0
+IsFaultOf k (Err (stop.Fault e)) = kind e ≡ k
 IsFaultOf k _ = ⊥
 
 -- the line `refused` was written
-abbrev pub IsToldRefused : Option (List ℕ) → Option (List ℕ) → Result (Unit {0}) RunError → Type 0
+abbrev pub IsToldRefused : Option (List ℕ) → Option (List ℕ) → Result (Unit {0}) Stop → Type 0
 IsToldRefused old new (Ok _) = Appends old new refused_line
-IsToldRefused old new (Err (Write done e)) = Unit {0}
+IsToldRefused old new (Err (stop.Write e)) = Unit {0}
 IsToldRefused old new _ = ⊥
 
 -- what a refusal leads to: a fault, and nothing is written; or the line `refused`
-abbrev pub LeadsTo : Kind → Option (List ℕ) → Option (List ℕ) → Result (Unit {0}) RunError → Type 0
+abbrev pub LeadsTo : Kind → Option (List ℕ) → Option (List ℕ) → Result (Unit {0}) Stop → Type 0
 LeadsTo Kind.Failure old new r = KeepsBytes old new × IsFaultOf Kind.Failure r
 LeadsTo Kind.Want old new r = KeepsBytes old new × IsFaultOf Kind.Want r
 LeadsTo Kind.Refusal old new r = IsToldRefused old new r
@@ -82,7 +100,8 @@ LeadsTo Kind.Refusal old new r = IsToldRefused old new r
 -- ---- calls that ask a stream more than once
 
 -- the same file, and the answer that the content gives, for which the asked ranges are held, or a refusal
-pub record Gives {E T Y : Type 0} (asked : List (ℕ × ℕ)) (shown : T → Y) (answer : List ℕ → Result Y ParseError) (old new : Seen E) (r : Result T ParseError) : Type 0 where
+pub record Gives {E T Y : Type 0} (asked : List (ℕ × ℕ)) (shown : T → Y) (answer : List ℕ → Result Y ParseError)
+    (old new : Seen E) (r : Result T ParseError) : Type 0 where
   pub keeps : Keeps old new
   pub loaded : OnOk r (AreHeld new asked)
   pub answers : IfSome old.content (λ bytes. IsAnswer shown (answer bytes) old.can_fail old.faults new.faults r)
@@ -92,8 +111,8 @@ abbrev pub section_bytes : ObjectFile → SectionHeader → Result (List ℕ) Pa
 section_bytes file s = ok_map (λ found. found.0) (section_data file s)
 
 -- what a checker says of a section, if there are symbols to check it for; its refusal stands apart from a stream's
-abbrev pub checked_apart : {T : Type 0} → (Given T → Verdict) → (List ℕ → Result T ParseError) → ObjectFile → SectionHeader →
-    Result (Option (Result Verdict ParseError)) ParseError
+abbrev pub checked_apart : {T : Type 0} → (WithSymbols T → Verdict) → (List ℕ → Result T ParseError) →
+    ObjectFile → SectionHeader → Result (Option (Result Verdict ParseError)) ParseError
 checked_apart says cut file s =
     section_bytes file s >>= λ part. dynamic_symbol_table file >>= λ symbols.
-    Ok (option_map (λ found. ok_map says (section_given found.0 found.1 (cut part))) symbols)
+    Ok (option_map (λ found. ok_map says (with_symbols found.0 found.1 (cut part))) symbols)

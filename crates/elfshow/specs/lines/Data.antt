@@ -11,7 +11,8 @@ data_fields bytes = codes "data size=" ⧺ decimal (length bytes) ⧺ codes " he
 abbrev pub compression_fields : Option CompressionHeader → List ℕ
 compression_fields None = []
 compression_fields (Some c) =
-    codes " chtype=" ⧺ decimal c.ch_type ⧺ codes " chsize=" ⧺ decimal c.ch_size ⧺ codes " chalign=" ⧺ decimal c.ch_addralign
+    codes " chtype=" ⧺ decimal c.ch_type ⧺ codes " chsize=" ⧺ decimal c.ch_size
+    ⧺ codes " chalign=" ⧺ decimal c.ch_addralign
 
 -- the line of a section's bytes, and of the compression header that stood before them
 abbrev pub section_data_line : List ℕ → Option CompressionHeader → List ℕ

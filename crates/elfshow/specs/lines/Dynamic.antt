@@ -7,4 +7,5 @@ use Rattle.elfshow.specs.Pieces.{◌⧺◌, newline, hex}
 
 abbrev pub dyn_line : ℕ → Dyn → List ℕ
 dyn_line k entry =
-    codes "dyn " ⧺ decimal k ⧺ codes " tag=" ⧺ signed_decimal entry.d_tag ⧺ codes " value=" ⧺ hex (d_un_view entry) ⧺ newline
+    codes "dyn " ⧺ decimal k ⧺ codes " tag=" ⧺ signed_decimal entry.d_tag
+    ⧺ codes " value=" ⧺ hex (d_un_view entry) ⧺ newline

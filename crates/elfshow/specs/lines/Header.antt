@@ -1,14 +1,9 @@
 -- The line of a file header.
 use Rattle.std.specs.Prelude.{ℕ, Bool, if◌then◌else◌, List, codes}
 use Rattle.std.specs.Fmt.{decimal}
-use Rattle.elf_parts.specs.declared.file.Class.{Class}
-use Rattle.elf_parts.specs.declared.file.Class.TheVariants.{ELF32, ELF64}
+use Rattle.elf_parts.specs.Class.{address_bits}
 use Rattle.elf_parts.specs.declared.file.FileHeader.{FileHeader}
 use Rattle.elfshow.specs.Pieces.{◌⧺◌, newline, hex}
-
-abbrev pub class_bits : Class → ℕ
-class_bits ELF32 = 32
-class_bits ELF64 = 64
 
 abbrev pub order_name : Bool → List ℕ
 order_name little = if little then codes "little" else codes "big"
@@ -16,7 +11,7 @@ order_name little = if little then codes "little" else codes "big"
 -- the fields that the identification tells, and the version
 unfoldable pub ident_fields : {E : Type 0} → Bool → FileHeader E → List ℕ
 ident_fields little h =
-    codes "class=" ⧺ decimal (class_bits h.class) ⧺ codes " order=" ⧺ order_name little
+    codes "class=" ⧺ decimal (address_bits h.class) ⧺ codes " order=" ⧺ order_name little
     ⧺ codes " version=" ⧺ decimal h.version
     ⧺ codes " osabi=" ⧺ decimal h.osabi ⧺ codes " abiversion=" ⧺ decimal h.abiversion
 

@@ -4,7 +4,7 @@ use Rattle.std.specs.Fmt.{decimal}
 use Rattle.std.specs.List.{flat_map}
 use Rattle.std.specs.Str.{is_utf8}
 use denote.Ref.{Bor}
-use Rattle.elf_parts.specs.Symver.{Definition, Requirement, Versions, definition, requirement}
+use Rattle.elf_parts.specs.gnu_symver.Table.{Definition, Requirement, Versions, definition, requirement}
 use Rattle.elf_parts.specs.declared.parse.ParseError.{ParseError}
 use Rattle.elfshow.specs.Pieces.{◌⧺◌, newline, escaped, hex}
 use Rattle.elfshow.specs.lines.Listed.{end_line}

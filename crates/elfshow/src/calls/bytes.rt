@@ -7,16 +7,16 @@ ghost use Rattle.elf_parts.specs.GnuFind.{gnu_section};
 ghost use Rattle.elf_parts.specs.StringTable.{strings_view};
 ghost use Rattle.elf_parts.specs.SysvFind.{sysv_section};
 ghost use Rattle.elf_parts.specs.Table.{table_view};
-ghost use Rattle.elf.specs.Answers.{symbols_view};
-ghost use Rattle.elf.specs.View.{section_list, segment_list, view};
-ghost use Rattle.elfshow.specs.Asked.{Asked, asked};
-ghost use Rattle.elfshow.specs.BytesAnswers.{answers_of, symbols_with_names};
-ghost use Rattle.elfshow.specs.SoundVerdict.{section_given};
+ghost use Rattle.elf.specs.Answers.{dynamic_symbol_table, symbols_view};
+ghost use Rattle.elf.specs.ObjectFile.{object_file};
+ghost use Rattle.elf.specs.ElfBytes.{section_list, segment_list, view};
+ghost use Rattle.elf_check.specs.WithSymbols.{with_symbols};
 ghost use Rattle.elfshow.specs.Verdicts.{gnu_verdict, sysv_verdict};
-ghost use Rattle.elfshow.specs.Text.{call_text, symbol_count, symbols_text, unless_none, unless_refused};
+ghost use Rattle.elfshow.specs.calls.Question.{Question, question};
+ghost use Rattle.elfshow.specs.calls.Text.{call_text, checked_as_gnu, checked_as_sysv, or_refused};
+ghost use Rattle.elfshow.specs.calls.Text.{symbol_count, symbols_text, unless_none};
 
 use crate::calls::Call;
-use crate::hashcheck::{Checked, check_gnu, check_sysv};
 use crate::lines::data::{write_section_data, write_segment_data};
 use crate::lines::dynamic::DynLine;
 use crate::lines::hashes::{Verdict, write_verdict};
@@ -38,6 +38,7 @@ use elf::segment::ProgramHeader;
 use elf::string_table::StringTable;
 use elf::symbol::SymbolTable;
 use elf::{ElfBytes, ParseError};
+use elf_check::hashcheck::{Checked, check_gnu, check_sysv};
 use std::io;
 use std::io::Write;
 
@@ -48,7 +49,7 @@ pub(super) fn write_call<E: EndianParse, W: Write>(
     out: &mut W,
 ) -> io::Result<()>
     ensures { OnOk result (Appends (W.contents out.old) (W.contents out.new)
-        (call_text (answers_of E.little (view file.now)) (asked call.entry))) }
+        (call_text file.now.ehdr (object_file E.little (view file.now)) (question call.entry))) }
 {
     match call {
         Call::Header => write_header(&file.ehdr, out),
@@ -91,7 +92,7 @@ fn program_header<E: EndianParse>(file: &ElfBytes<'_, E>, index: u64) -> Option<
 
 fn write_sections<E: EndianParse, W: Write>(file: &ElfBytes<'_, E>, out: &mut W) -> io::Result<()>
     ensures { OnOk result (Appends (W.contents out.old) (W.contents out.new)
-        (call_text (answers_of E.little (view file.now)) Asked.Sections)) }
+        (call_text file.now.ehdr (object_file E.little (view file.now)) Question.Sections)) }
 {
     match file.section_headers_with_strtab() {
         Ok((Some(sections), names)) => {
@@ -104,7 +105,7 @@ fn write_sections<E: EndianParse, W: Write>(file: &ElfBytes<'_, E>, out: &mut W)
 
 fn write_segments<E: EndianParse, W: Write>(file: &ElfBytes<'_, E>, out: &mut W) -> io::Result<()>
     ensures { OnOk result (Appends (W.contents out.old) (W.contents out.new)
-        (call_text (answers_of E.little (view file.now)) Asked.Segments)) }
+        (call_text file.now.ehdr (object_file E.little (view file.now)) Question.Segments)) }
 {
     match file.segments() {
         Some(segments) => write_records(segments.iter(), &SegmentLine, out),
@@ -118,7 +119,7 @@ fn write_named<E: EndianParse, W: Write>(
     out: &mut W,
 ) -> io::Result<()>
     ensures { OnOk result (Appends (W.contents out.old) (W.contents out.new)
-        (call_text (answers_of E.little (view file.now)) (Asked.Name name.now))) }
+        (call_text file.now.ehdr (object_file E.little (view file.now)) (Question.Name name.now))) }
 {
     match file.section_header_by_name(name) {
         Ok(Some(section)) => write_found(&section, out),
@@ -133,7 +134,7 @@ fn write_data<E: EndianParse, W: Write>(
     out: &mut W,
 ) -> io::Result<()>
     ensures { OnOk result (Appends (W.contents out.old) (W.contents out.new)
-        (call_text (answers_of E.little (view file.now)) (Asked.Data index))) }
+        (call_text file.now.ehdr (object_file E.little (view file.now)) (Question.Data index))) }
 {
     let Some(section) = section_header(file, index) else {
         return write_absent(out);
@@ -150,7 +151,7 @@ fn write_section_strings<E: EndianParse, W: Write>(
     out: &mut W,
 ) -> io::Result<()>
     ensures { OnOk result (Appends (W.contents out.old) (W.contents out.new)
-        (call_text (answers_of E.little (view file.now)) (Asked.Strings index))) }
+        (call_text file.now.ehdr (object_file E.little (view file.now)) (Question.Strings index))) }
 {
     let Some(section) = section_header(file, index) else {
         return write_absent(out);
@@ -167,7 +168,7 @@ fn write_rels<E: EndianParse, W: Write>(
     out: &mut W,
 ) -> io::Result<()>
     ensures { OnOk result (Appends (W.contents out.old) (W.contents out.new)
-        (call_text (answers_of E.little (view file.now)) (Asked.Rels index))) }
+        (call_text file.now.ehdr (object_file E.little (view file.now)) (Question.Rels index))) }
 {
     let Some(section) = section_header(file, index) else {
         return write_absent(out);
@@ -184,7 +185,7 @@ fn write_relas<E: EndianParse, W: Write>(
     out: &mut W,
 ) -> io::Result<()>
     ensures { OnOk result (Appends (W.contents out.old) (W.contents out.new)
-        (call_text (answers_of E.little (view file.now)) (Asked.Relas index))) }
+        (call_text file.now.ehdr (object_file E.little (view file.now)) (Question.Relas index))) }
 {
     let Some(section) = section_header(file, index) else {
         return write_absent(out);
@@ -201,7 +202,7 @@ fn write_seg<E: EndianParse, W: Write>(
     out: &mut W,
 ) -> io::Result<()>
     ensures { OnOk result (Appends (W.contents out.old) (W.contents out.new)
-        (call_text (answers_of E.little (view file.now)) (Asked.Seg index))) }
+        (call_text file.now.ehdr (object_file E.little (view file.now)) (Question.Seg index))) }
 {
     let Some(segment) = program_header(file, index) else {
         return write_absent(out);
@@ -217,8 +218,8 @@ fn write_symbols<E: EndianParse, W: Write>(
     found: Result<Option<(SymbolTable<'_, E>, StringTable<'_>)>, ParseError>,
     out: &mut W,
 ) -> io::Result<()>
-    ensures { OnOk result (Appends (W.contents out.old) (W.contents out.new) (unless_refused (unless_none symbols_text)
-        (ok_map (option_map symbols_with_names) (ok_map (option_map symbols_view) found.entry)))) }
+    ensures { OnOk result (Appends (W.contents out.old) (W.contents out.new)
+        (or_refused (ok_map (unless_none symbols_text) (ok_map (option_map symbols_view) found.entry)))) }
 {
     match found {
         Ok(Some((symbols, strings))) => {
@@ -231,7 +232,7 @@ fn write_symbols<E: EndianParse, W: Write>(
 
 fn write_dynamic<E: EndianParse, W: Write>(file: &ElfBytes<'_, E>, out: &mut W) -> io::Result<()>
     ensures { OnOk result (Appends (W.contents out.old) (W.contents out.new)
-        (call_text (answers_of E.little (view file.now)) Asked.Dynamic)) }
+        (call_text file.now.ehdr (object_file E.little (view file.now)) Question.Dynamic)) }
 {
     match file.dynamic() {
         Ok(Some(entries)) => write_records(entries.iter(), &DynLine, out),
@@ -246,7 +247,7 @@ fn write_section_notes<E: EndianParse, W: Write>(
     out: &mut W,
 ) -> io::Result<()>
     ensures { OnOk result (Appends (W.contents out.old) (W.contents out.new)
-        (call_text (answers_of E.little (view file.now)) (Asked.Notes index))) }
+        (call_text file.now.ehdr (object_file E.little (view file.now)) (Question.Notes index))) }
 {
     let Some(section) = section_header(file, index) else {
         return write_absent(out);
@@ -263,7 +264,7 @@ fn write_segment_notes<E: EndianParse, W: Write>(
     out: &mut W,
 ) -> io::Result<()>
     ensures { OnOk result (Appends (W.contents out.old) (W.contents out.new)
-        (call_text (answers_of E.little (view file.now)) (Asked.SegNotes index))) }
+        (call_text file.now.ehdr (object_file E.little (view file.now)) (Question.SegNotes index))) }
 {
     let Some(phdr) = program_header(file, index) else {
         return write_absent(out);
@@ -276,7 +277,7 @@ fn write_segment_notes<E: EndianParse, W: Write>(
 
 // How many symbols for dynamic linking there are; where no table of them is there are none.
 fn dynamic_symbol_count<E: EndianParse>(file: &ElfBytes<'_, E>) -> Result<usize, ParseError>
-    ensures { result ≡ ok_map symbol_count (answers_of E.little (view file.now)).dynamic_symbols }
+    ensures { result ≡ ok_map symbol_count (dynamic_symbol_table (object_file E.little (view file.now))) }
 {
     match file.dynamic_symbol_table()? {
         Some((symbols, _)) => {
@@ -292,7 +293,7 @@ fn write_symbol_versions<E: EndianParse, W: Write>(
     out: &mut W,
 ) -> io::Result<()>
     ensures { OnOk result (Appends (W.contents out.old) (W.contents out.new)
-        (call_text (answers_of E.little (view file.now)) Asked.Versions)) }
+        (call_text file.now.ehdr (object_file E.little (view file.now)) Question.Versions)) }
 {
     let Ok(symbols) = dynamic_symbol_count(file) else {
         return write_refused(out);
@@ -312,7 +313,7 @@ pub(super) fn sysv_verdict<E: EndianParse>(
     symbols: SymbolTable<'_, E>,
     strings: StringTable<'_>,
 ) -> Result<Verdict, ParseError>
-    ensures { result ≡ ok_map sysv_verdict (section_given (table_view symbols.entry) (strings_view strings.entry)
+    ensures { result ≡ ok_map sysv_verdict (with_symbols (table_view symbols.entry) (strings_view strings.entry)
         (sysv_section (E.little endian) class bytes.now)) }
 {
     match check_sysv(endian, class, bytes, symbols, strings) {
@@ -327,7 +328,7 @@ fn section_sysv_verdict<E: EndianParse>(
     file: &ElfBytes<'_, E>,
     section: &SectionHeader,
 ) -> Result<Option<Verdict>, ParseError>
-    ensures { result ≡ (answers_of E.little (view file.now)).sysv section.now }
+    ensures { result ≡ checked_as_sysv (object_file E.little (view file.now)) section.now }
 {
     let (bytes, _) = file.section_data(section)?;
     let Some((symbols, strings)) = file.dynamic_symbol_table()? else {
@@ -349,7 +350,7 @@ fn write_sysv<E: EndianParse, W: Write>(
     out: &mut W,
 ) -> io::Result<()>
     ensures { OnOk result (Appends (W.contents out.old) (W.contents out.new)
-        (call_text (answers_of E.little (view file.now)) (Asked.Sysv index))) }
+        (call_text file.now.ehdr (object_file E.little (view file.now)) (Question.Sysv index))) }
 {
     let Some(section) = section_header(file, index) else {
         return write_absent(out);
@@ -369,7 +370,7 @@ pub(super) fn gnu_verdict<E: EndianParse>(
     symbols: SymbolTable<'_, E>,
     strings: StringTable<'_>,
 ) -> Result<Verdict, ParseError>
-    ensures { result ≡ ok_map gnu_verdict (section_given (table_view symbols.entry) (strings_view strings.entry)
+    ensures { result ≡ ok_map gnu_verdict (with_symbols (table_view symbols.entry) (strings_view strings.entry)
         (gnu_section (E.little endian) class bytes.now)) }
 {
     match check_gnu(endian, class, bytes, symbols, strings) {
@@ -384,7 +385,7 @@ fn section_gnu_verdict<E: EndianParse>(
     file: &ElfBytes<'_, E>,
     section: &SectionHeader,
 ) -> Result<Option<Verdict>, ParseError>
-    ensures { result ≡ (answers_of E.little (view file.now)).gnu section.now }
+    ensures { result ≡ checked_as_gnu (object_file E.little (view file.now)) section.now }
 {
     let (bytes, _) = file.section_data(section)?;
     let Some((symbols, strings)) = file.dynamic_symbol_table()? else {
@@ -406,7 +407,7 @@ fn write_gnu<E: EndianParse, W: Write>(
     out: &mut W,
 ) -> io::Result<()>
     ensures { OnOk result (Appends (W.contents out.old) (W.contents out.new)
-        (call_text (answers_of E.little (view file.now)) (Asked.Gnu index))) }
+        (call_text file.now.ehdr (object_file E.little (view file.now)) (Question.Gnu index))) }
 {
     let Some(section) = section_header(file, index) else {
         return write_absent(out);

@@ -2,20 +2,22 @@
 ghost use Rattle.std.specs.Prelude.{◌≡◌, ℕ, OnOk, IfSome, slice_get};
 ghost use Rattle.std.specs.Io.KnownBytes.{Appends};
 ghost use Rattle.elf_abi.specs.Values.{sht_dynsym};
-ghost use Rattle.elf.specs.Asked.{headers_alone, section_asked, symbols_asked};
-ghost use Rattle.elf.specs.Listed.{stream_file};
-ghost use Rattle.elf.specs.Stream.{Leaves, kind};
+ghost use Rattle.elf.specs.Answers.{dynamic_symbol_table};
+ghost use Rattle.elf.specs.Ranges.{headers_alone, section_asked, symbols_asked};
+ghost use Rattle.elf.specs.StreamFile.{stream_file};
+ghost use Rattle.elf.specs.ElfStream.{Leaves, kind};
 ghost use Rattle.elf_parts.specs.GnuFind.{gnu_section};
 ghost use Rattle.elf_parts.specs.SysvFind.{sysv_section};
 ghost use Rattle.elf_parts.specs.Number.{ok_map};
-ghost use Rattle.elfshow.specs.Asked.{Asked, asked};
-ghost use Rattle.elfshow.specs.StreamAnswers.{checked_asked, stream_answers};
-ghost use Rattle.elfshow.specs.Text.{symbol_count};
 ghost use Rattle.elfshow.specs.Verdicts.{gnu_verdict, sysv_verdict};
-ghost use Rattle.elfshow.specs.inner.RunSteps.{Gives, IsWritten, LeadsTo, RanCall, TriedCall, checked_apart, section_bytes};
+ghost use Rattle.elfshow.specs.calls.Question.{Question, question};
+ghost use Rattle.elfshow.specs.calls.Ranges.{checked_asked};
+ghost use Rattle.elfshow.specs.calls.Text.{symbol_count};
+ghost use Rattle.elfshow.specs.inner.RunSteps.{Gives, IsWritten, LeadsTo, RanCall, TriedCall, checked_apart};
+ghost use Rattle.elfshow.specs.inner.RunSteps.{section_bytes};
 
 use crate::calls::bytes::{gnu_verdict, sysv_verdict};
-use crate::calls::{Call, RunError};
+use crate::calls::{Call, Stop};
 use crate::lines::data::{write_section_data, write_segment_data};
 use crate::lines::dynamic::DynLine;
 use crate::lines::hashes::{Verdict, write_verdict};
@@ -43,8 +45,9 @@ pub(super) fn write_call<E: EndianParse, S: StreamSource, A: Allocator + Copy, W
     stream: &mut ElfStream<E, S, A>,
     call: Call<'_>,
     out: &mut W,
-) -> Result<(), RunError>
-    ensures { RanCall E.little (asked call.entry) stream.old stream.new (W.contents out.old) (W.contents out.new) result }
+) -> Result<(), Stop>
+    ensures { RanCall E.little (question call.entry) stream.old stream.new
+        (W.contents out.old) (W.contents out.new) result }
 {
     match try_call(stream, call, out) {
         Ok(written) => told(written),
@@ -58,7 +61,8 @@ fn try_call<E: EndianParse, S: StreamSource, A: Allocator + Copy, W: Write>(
     call: Call<'_>,
     out: &mut W,
 ) -> Result<io::Result<()>, ParseError>
-    ensures { TriedCall E.little (asked call.entry) stream.old stream.new (W.contents out.old) (W.contents out.new) result }
+    ensures { TriedCall E.little (question call.entry) stream.old stream.new
+        (W.contents out.old) (W.contents out.new) result }
 {
     match call {
         Call::Header => Ok(write_header(&stream.ehdr, out)),
@@ -82,28 +86,22 @@ fn try_call<E: EndianParse, S: StreamSource, A: Allocator + Copy, W: Write>(
 }
 
 // What was written, as a run tells it.
-fn told(written: io::Result<()>) -> Result<(), RunError>
+fn told(written: io::Result<()>) -> Result<(), Stop>
     ensures { IsWritten written result }
 {
     match written {
         Ok(()) => Ok(()),
-        Err(error) => Err(RunError::Write { done: 0, error }),
+        Err(error) => Err(Stop::Write(error)),
     }
 }
 
 // Stops at a failure of the source and where memory was refused; writes the line `refused` at another refusal.
-fn refuse<W: Write>(error: ParseError, out: &mut W) -> Result<(), RunError>
+fn refuse<W: Write>(error: ParseError, out: &mut W) -> Result<(), Stop>
     ensures { LeadsTo (kind error) (W.contents out.old) (W.contents out.new) result }
 {
     match error {
-        ParseError::IOError(error) => {
-            let error = ParseError::IOError(error);
-            Err(RunError::Fault { done: 0, error })
-        }
-        ParseError::OutOfMemory => {
-            let error = ParseError::OutOfMemory;
-            Err(RunError::Fault { done: 0, error })
-        }
+        ParseError::IOError(error) => Err(Stop::Fault(ParseError::IOError(error))),
+        ParseError::OutOfMemory => Err(Stop::Fault(ParseError::OutOfMemory)),
         _ => told(write_refused(out)),
     }
 }
@@ -132,7 +130,8 @@ fn write_sections<E: EndianParse, S: StreamSource, A: Allocator + Copy, W: Write
     stream: &mut ElfStream<E, S, A>,
     out: &mut W,
 ) -> Result<io::Result<()>, ParseError>
-    ensures { TriedCall E.little Asked.Sections stream.old stream.new (W.contents out.old) (W.contents out.new) result }
+    ensures { TriedCall E.little Question.Sections stream.old stream.new
+        (W.contents out.old) (W.contents out.new) result }
 {
     match stream.section_headers_with_strtab() {
         Ok((sections, names)) => {
@@ -146,7 +145,8 @@ fn write_segments<E: EndianParse, S: StreamSource, A: Allocator + Copy, W: Write
     stream: &mut ElfStream<E, S, A>,
     out: &mut W,
 ) -> Result<io::Result<()>, ParseError>
-    ensures { TriedCall E.little Asked.Segments stream.old stream.new (W.contents out.old) (W.contents out.new) result }
+    ensures { TriedCall E.little Question.Segments stream.old stream.new
+        (W.contents out.old) (W.contents out.new) result }
 {
     Ok(write_slice(stream.segments().as_slice(), &SegmentLine, out))
 }
@@ -156,7 +156,8 @@ fn write_named<E: EndianParse, S: StreamSource, A: Allocator + Copy, W: Write>(
     name: &str,
     out: &mut W,
 ) -> Result<io::Result<()>, ParseError>
-    ensures { TriedCall E.little (Asked.Name name.now) stream.old stream.new (W.contents out.old) (W.contents out.new) result }
+    ensures { TriedCall E.little (Question.Name name.now) stream.old stream.new
+        (W.contents out.old) (W.contents out.new) result }
 {
     match stream.section_header_by_name(name) {
         Ok(Some(section)) => Ok(write_found(section, out)),
@@ -170,7 +171,8 @@ fn write_data<E: EndianParse, S: StreamSource, A: Allocator + Copy, W: Write>(
     index: u64,
     out: &mut W,
 ) -> Result<io::Result<()>, ParseError>
-    ensures { TriedCall E.little (Asked.Data index) stream.old stream.new (W.contents out.old) (W.contents out.new) result }
+    ensures { TriedCall E.little (Question.Data index) stream.old stream.new
+        (W.contents out.old) (W.contents out.new) result }
 {
     let Some(section) = section_header(stream, index) else {
         return Ok(write_absent(out));
@@ -186,7 +188,8 @@ fn write_section_strings<E: EndianParse, S: StreamSource, A: Allocator + Copy, W
     index: u64,
     out: &mut W,
 ) -> Result<io::Result<()>, ParseError>
-    ensures { TriedCall E.little (Asked.Strings index) stream.old stream.new (W.contents out.old) (W.contents out.new) result }
+    ensures { TriedCall E.little (Question.Strings index) stream.old stream.new
+        (W.contents out.old) (W.contents out.new) result }
 {
     let Some(section) = section_header(stream, index) else {
         return Ok(write_absent(out));
@@ -202,7 +205,8 @@ fn write_rels<E: EndianParse, S: StreamSource, A: Allocator + Copy, W: Write>(
     index: u64,
     out: &mut W,
 ) -> Result<io::Result<()>, ParseError>
-    ensures { TriedCall E.little (Asked.Rels index) stream.old stream.new (W.contents out.old) (W.contents out.new) result }
+    ensures { TriedCall E.little (Question.Rels index) stream.old stream.new
+        (W.contents out.old) (W.contents out.new) result }
 {
     let Some(section) = section_header(stream, index) else {
         return Ok(write_absent(out));
@@ -218,7 +222,8 @@ fn write_relas<E: EndianParse, S: StreamSource, A: Allocator + Copy, W: Write>(
     index: u64,
     out: &mut W,
 ) -> Result<io::Result<()>, ParseError>
-    ensures { TriedCall E.little (Asked.Relas index) stream.old stream.new (W.contents out.old) (W.contents out.new) result }
+    ensures { TriedCall E.little (Question.Relas index) stream.old stream.new
+        (W.contents out.old) (W.contents out.new) result }
 {
     let Some(section) = section_header(stream, index) else {
         return Ok(write_absent(out));
@@ -234,7 +239,8 @@ fn write_section_notes<E: EndianParse, S: StreamSource, A: Allocator + Copy, W: 
     index: u64,
     out: &mut W,
 ) -> Result<io::Result<()>, ParseError>
-    ensures { TriedCall E.little (Asked.Notes index) stream.old stream.new (W.contents out.old) (W.contents out.new) result }
+    ensures { TriedCall E.little (Question.Notes index) stream.old stream.new
+        (W.contents out.old) (W.contents out.new) result }
 {
     let Some(section) = section_header(stream, index) else {
         return Ok(write_absent(out));
@@ -250,7 +256,8 @@ fn write_seg<E: EndianParse, S: StreamSource, A: Allocator + Copy, W: Write>(
     index: u64,
     out: &mut W,
 ) -> Result<io::Result<()>, ParseError>
-    ensures { TriedCall E.little (Asked.Seg index) stream.old stream.new (W.contents out.old) (W.contents out.new) result }
+    ensures { TriedCall E.little (Question.Seg index) stream.old stream.new
+        (W.contents out.old) (W.contents out.new) result }
 {
     let Some(segment) = program_header(stream, index) else {
         return Ok(write_absent(out));
@@ -266,7 +273,8 @@ fn write_segment_notes<E: EndianParse, S: StreamSource, A: Allocator + Copy, W: 
     index: u64,
     out: &mut W,
 ) -> Result<io::Result<()>, ParseError>
-    ensures { TriedCall E.little (Asked.SegNotes index) stream.old stream.new (W.contents out.old) (W.contents out.new) result }
+    ensures { TriedCall E.little (Question.SegNotes index) stream.old stream.new
+        (W.contents out.old) (W.contents out.new) result }
 {
     let Some(segment) = program_header(stream, index) else {
         return Ok(write_absent(out));
@@ -281,7 +289,8 @@ fn write_symbols<E: EndianParse, S: StreamSource, A: Allocator + Copy, W: Write>
     stream: &mut ElfStream<E, S, A>,
     out: &mut W,
 ) -> Result<io::Result<()>, ParseError>
-    ensures { TriedCall E.little Asked.Symbols stream.old stream.new (W.contents out.old) (W.contents out.new) result }
+    ensures { TriedCall E.little Question.Symbols stream.old stream.new
+        (W.contents out.old) (W.contents out.new) result }
 {
     match stream.symbol_table() {
         Ok(Some((symbols, strings))) => Ok(write_records(
@@ -298,7 +307,8 @@ fn write_dynsyms<E: EndianParse, S: StreamSource, A: Allocator + Copy, W: Write>
     stream: &mut ElfStream<E, S, A>,
     out: &mut W,
 ) -> Result<io::Result<()>, ParseError>
-    ensures { TriedCall E.little Asked.DynSyms stream.old stream.new (W.contents out.old) (W.contents out.new) result }
+    ensures { TriedCall E.little Question.DynSyms stream.old stream.new
+        (W.contents out.old) (W.contents out.new) result }
 {
     match stream.dynamic_symbol_table() {
         Ok(Some((symbols, strings))) => Ok(write_records(
@@ -315,7 +325,8 @@ fn write_dynamic<E: EndianParse, S: StreamSource, A: Allocator + Copy, W: Write>
     stream: &mut ElfStream<E, S, A>,
     out: &mut W,
 ) -> Result<io::Result<()>, ParseError>
-    ensures { TriedCall E.little Asked.Dynamic stream.old stream.new (W.contents out.old) (W.contents out.new) result }
+    ensures { TriedCall E.little Question.Dynamic stream.old stream.new
+        (W.contents out.old) (W.contents out.new) result }
 {
     match stream.dynamic() {
         Ok(Some(entries)) => Ok(write_records(entries.iter(), &DynLine, out)),
@@ -329,7 +340,8 @@ fn dynamic_symbol_count<E: EndianParse, S: StreamSource, A: Allocator + Copy>(
     stream: &mut ElfStream<E, S, A>,
 ) -> Result<usize, ParseError>
     ensures { Leaves (symbols_asked sht_dynsym (headers_alone E.little stream.old)) (λ count. count)
-        (λ bytes. ok_map symbol_count (stream_answers E.little stream.old bytes).dynamic_symbols) stream.old stream.new result }
+        (λ bytes. ok_map symbol_count (dynamic_symbol_table (stream_file E.little stream.old bytes)))
+        stream.old stream.new result }
 {
     match stream.dynamic_symbol_table() {
         Ok(Some((symbols, _))) => {
@@ -345,7 +357,8 @@ fn write_symbol_versions<E: EndianParse, S: StreamSource, A: Allocator + Copy, W
     stream: &mut ElfStream<E, S, A>,
     out: &mut W,
 ) -> Result<io::Result<()>, ParseError>
-    ensures { TriedCall E.little Asked.Versions stream.old stream.new (W.contents out.old) (W.contents out.new) result }
+    ensures { TriedCall E.little Question.Versions stream.old stream.new
+        (W.contents out.old) (W.contents out.new) result }
 {
     let symbols = match dynamic_symbol_count(stream) {
         Ok(symbols) => symbols,
@@ -384,8 +397,8 @@ fn section_sysv_verdict<E: EndianParse, S: StreamSource, A: Allocator + Copy>(
 ) -> Result<Option<Result<Verdict, ParseError>>, ParseError>
     ensures { Gives (checked_asked (headers_alone E.little stream.old) section.now) (λ verdict. verdict)
         (λ bytes. checked_apart sysv_verdict
-        (sysv_section (E.little stream.old.ehdr.endianness) stream.old.ehdr.class) (stream_file E.little stream.old bytes) section.now)
-        stream.old stream.new result }
+        (sysv_section (E.little stream.old.ehdr.endianness) stream.old.ehdr.class)
+        (stream_file E.little stream.old bytes) section.now) stream.old stream.new result }
 {
     let endian = stream.ehdr.endianness;
     let class = stream.ehdr.class;
@@ -405,7 +418,8 @@ fn write_sysv<E: EndianParse, S: StreamSource, A: Allocator + Copy, W: Write>(
     index: u64,
     out: &mut W,
 ) -> Result<io::Result<()>, ParseError>
-    ensures { TriedCall E.little (Asked.Sysv index) stream.old stream.new (W.contents out.old) (W.contents out.new) result }
+    ensures { TriedCall E.little (Question.Sysv index) stream.old stream.new
+        (W.contents out.old) (W.contents out.new) result }
 {
     let Some(section) = section_header(stream, index) else {
         return Ok(write_absent(out));
@@ -426,8 +440,8 @@ fn section_gnu_verdict<E: EndianParse, S: StreamSource, A: Allocator + Copy>(
 ) -> Result<Option<Result<Verdict, ParseError>>, ParseError>
     ensures { Gives (checked_asked (headers_alone E.little stream.old) section.now) (λ verdict. verdict)
         (λ bytes. checked_apart gnu_verdict
-        (gnu_section (E.little stream.old.ehdr.endianness) stream.old.ehdr.class) (stream_file E.little stream.old bytes) section.now)
-        stream.old stream.new result }
+        (gnu_section (E.little stream.old.ehdr.endianness) stream.old.ehdr.class)
+        (stream_file E.little stream.old bytes) section.now) stream.old stream.new result }
 {
     let endian = stream.ehdr.endianness;
     let class = stream.ehdr.class;
@@ -447,7 +461,8 @@ fn write_gnu<E: EndianParse, S: StreamSource, A: Allocator + Copy, W: Write>(
     index: u64,
     out: &mut W,
 ) -> Result<io::Result<()>, ParseError>
-    ensures { TriedCall E.little (Asked.Gnu index) stream.old stream.new (W.contents out.old) (W.contents out.new) result }
+    ensures { TriedCall E.little (Question.Gnu index) stream.old stream.new
+        (W.contents out.old) (W.contents out.new) result }
 {
     let Some(section) = section_header(stream, index) else {
         return Ok(write_absent(out));

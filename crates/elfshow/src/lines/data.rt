@@ -4,7 +4,8 @@ ghost use Rattle.std.specs.Option.{option_map};
 ghost use Rattle.std.specs.Io.KnownBytes.{Appends};
 ghost use Rattle.elfshow.specs.lines.Data.{compression_fields, data_fields, section_data_line, segment_data_line};
 
-use crate::pieces::write_hex;
+use crate::pieces::Piece::{Bytes, Decimal};
+use crate::pieces::write_pieces;
 use elf::compression::CompressionHeader;
 use std::io;
 use std::io::Write;
@@ -34,9 +35,8 @@ pub(crate) fn write_segment_data<W: Write>(bytes: &[u8], out: &mut W) -> io::Res
 fn write_data_fields<W: Write>(bytes: &[u8], out: &mut W) -> io::Result<()>
     ensures { OnOk result (Appends (W.contents out.old) (W.contents out.new) (data_fields bytes.now)) }
 {
-    let size = bytes.len();
-    write!(out, "data size={size} hex=")?;
-    write_hex(bytes, out)
+    let size = bytes.len() as u64;
+    write_pieces(&[Decimal("data size=", size), Bytes(" hex=", bytes)], out)
 }
 
 fn write_compression_fields<W: Write>(
@@ -54,8 +54,10 @@ fn write_compression_fields<W: Write>(
         ch_size,
         ch_addralign,
     } = *header;
-    write!(
-        out,
-        " chtype={ch_type} chsize={ch_size} chalign={ch_addralign}"
-    )
+    let pieces = [
+        Decimal(" chtype=", ch_type as u64),
+        Decimal(" chsize=", ch_size),
+        Decimal(" chalign=", ch_addralign),
+    ];
+    write_pieces(&pieces, out)
 }

@@ -4,6 +4,8 @@ ghost use Rattle.std.specs.Io.KnownBytes.{Appends};
 ghost use Rattle.elfshow.specs.lines.Dynamic.{dyn_line};
 
 use crate::lines::listed::Line;
+use crate::pieces::Piece::{Decimal, Hex, Signed, Word};
+use crate::pieces::write_pieces;
 use elf::dynamic::Dyn;
 use std::io;
 use std::io::Write;
@@ -18,8 +20,12 @@ impl Line for DynLine {
     ghost line = { λ by. dyn_line };
 
     fn write_line<W: Write>(&self, k: u64, entry: &Dyn, out: &mut W) -> io::Result<()> {
-        let tag = entry.d_tag;
-        let value = entry.d_val();
-        writeln!(out, "dyn {k} tag={tag} value=0x{value:x}")
+        let pieces = [
+            Decimal("dyn ", k),
+            Signed(" tag=", entry.d_tag),
+            Hex(" value=", entry.d_val()),
+            Word("\n"),
+        ];
+        write_pieces(&pieces, out)
     }
 }

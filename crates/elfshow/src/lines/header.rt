@@ -1,8 +1,12 @@
 //! The line of a file header.
 ghost use Rattle.std.specs.Prelude.{◌≡◌, OnOk};
 ghost use Rattle.std.specs.Io.KnownBytes.{Appends};
-ghost use Rattle.elfshow.specs.lines.Header.{class_bits, file_fields, header_line, ident_fields, order_name, size_fields};
+ghost use Rattle.elf_parts.specs.Class.{address_bits};
+ghost use Rattle.elfshow.specs.lines.Header.{file_fields, header_line};
+ghost use Rattle.elfshow.specs.lines.Header.{ident_fields, order_name, size_fields};
 
+use crate::pieces::Piece::{Decimal, Hex, Word};
+use crate::pieces::write_pieces;
 use elf::endian::EndianParse;
 use elf::file::{Class, FileHeader};
 use std::io;
@@ -13,7 +17,8 @@ pub(crate) fn write_header<E: EndianParse, W: Write>(
     ehdr: &FileHeader<E>,
     out: &mut W,
 ) -> io::Result<()>
-    ensures { OnOk result (Appends (W.contents out.old) (W.contents out.new) (header_line (E.little ehdr.now.endianness) ehdr.now)) }
+    ensures { OnOk result (Appends (W.contents out.old) (W.contents out.new)
+        (header_line (E.little ehdr.now.endianness) ehdr.now)) }
 {
     write!(out, "header ")?;
     write_ident_fields(ehdr, out)?;
@@ -24,7 +29,8 @@ pub(crate) fn write_header<E: EndianParse, W: Write>(
 
 #[tactic(auto, unfolding(crate::specs::lines::Header::ident_fields))]
 fn write_ident_fields<E: EndianParse, W: Write>(ehdr: &FileHeader<E>, out: &mut W) -> io::Result<()>
-    ensures { OnOk result (Appends (W.contents out.old) (W.contents out.new) (ident_fields (E.little ehdr.now.endianness) ehdr.now)) }
+    ensures { OnOk result (Appends (W.contents out.old) (W.contents out.new)
+        (ident_fields (E.little ehdr.now.endianness) ehdr.now)) }
 {
     let FileHeader {
         class,
@@ -36,14 +42,19 @@ fn write_ident_fields<E: EndianParse, W: Write>(ehdr: &FileHeader<E>, out: &mut 
     } = *ehdr;
     let bits = class_bits(class);
     let order = order_name(endianness.is_little());
-    write!(
-        out,
-        "class={bits} order={order} version={version} osabi={osabi} abiversion={abiversion}"
-    )
+    let pieces = [
+        Decimal("class=", bits as u64),
+        Word(" order="),
+        Word(order),
+        Decimal(" version=", version as u64),
+        Decimal(" osabi=", osabi as u64),
+        Decimal(" abiversion=", abiversion as u64),
+    ];
+    write_pieces(&pieces, out)
 }
 
 fn class_bits(class: Class) -> u8
-    ensures { result ≡ class_bits class }
+    ensures { result ≡ address_bits class }
 {
     match class {
         Class::ELF32 => 32,
@@ -70,10 +81,15 @@ fn write_file_fields<E: EndianParse, W: Write>(ehdr: &FileHeader<E>, out: &mut W
         e_flags,
         ..
     } = *ehdr;
-    write!(
-        out,
-        " type={e_type} machine={e_machine} entry=0x{e_entry:x} phoff={e_phoff} shoff={e_shoff} flags=0x{e_flags:x}"
-    )
+    let pieces = [
+        Decimal(" type=", e_type as u64),
+        Decimal(" machine=", e_machine as u64),
+        Hex(" entry=", e_entry),
+        Decimal(" phoff=", e_phoff),
+        Decimal(" shoff=", e_shoff),
+        Hex(" flags=", e_flags as u64),
+    ];
+    write_pieces(&pieces, out)
 }
 
 #[tactic(auto, unfolding(crate::specs::lines::Header::size_fields))]
@@ -89,8 +105,13 @@ fn write_size_fields<E: EndianParse, W: Write>(ehdr: &FileHeader<E>, out: &mut W
         e_shstrndx,
         ..
     } = *ehdr;
-    write!(
-        out,
-        " ehsize={e_ehsize} phentsize={e_phentsize} phnum={e_phnum} shentsize={e_shentsize} shnum={e_shnum} shstrndx={e_shstrndx}"
-    )
+    let pieces = [
+        Decimal(" ehsize=", e_ehsize as u64),
+        Decimal(" phentsize=", e_phentsize as u64),
+        Decimal(" phnum=", e_phnum as u64),
+        Decimal(" shentsize=", e_shentsize as u64),
+        Decimal(" shnum=", e_shnum as u64),
+        Decimal(" shstrndx=", e_shstrndx as u64),
+    ];
+    write_pieces(&pieces, out)
 }

@@ -6,7 +6,8 @@ ghost use Rattle.elfshow.specs.lines.Listed.{listed};
 ghost use Rattle.elfshow.specs.lines.Notes.{content_line, note_line};
 
 use crate::lines::listed::{Line, write_list};
-use crate::pieces::{write_escaped, write_hex};
+use crate::pieces::Piece::{Bytes, Decimal, Escaped, Word};
+use crate::pieces::write_pieces;
 use elf::endian::EndianParse;
 use elf::note::{Note, NoteAny, NoteGnuAbiTag, NoteIterator};
 use std::io;
@@ -42,30 +43,33 @@ fn write_abi_tag<W: Write>(tag: &NoteGnuAbiTag, out: &mut W) -> io::Result<()>
         minor,
         subminor,
     } = *tag;
-    writeln!(
-        out,
-        "abitag os={os} major={major} minor={minor} subminor={subminor}"
-    )
+    let pieces = [
+        Decimal("abitag os=", os as u64),
+        Decimal(" major=", major as u64),
+        Decimal(" minor=", minor as u64),
+        Decimal(" subminor=", subminor as u64),
+        Word("\n"),
+    ];
+    write_pieces(&pieces, out)
 }
 
 fn write_build_id<W: Write>(id: &[u8], out: &mut W) -> io::Result<()>
     ensures { OnOk result (Appends (W.contents out.old) (W.contents out.new) (content_line (BuildId id.now))) }
 {
-    write!(out, "buildid hex=")?;
-    write_hex(id, out)?;
-    writeln!(out)
+    write_pieces(&[Bytes("buildid hex=", id), Word("\n")], out)
 }
 
 fn write_other<W: Write>(note: &NoteAny<'_>, out: &mut W) -> io::Result<()>
     ensures { OnOk result (Appends (W.contents out.old) (W.contents out.new)
         (content_line (Other note.now.n_type note.now.name.now note.now.desc.now))) }
 {
-    let n_type = note.n_type;
-    write!(out, "note type={n_type} name=")?;
-    write_escaped(note.name, out)?;
-    write!(out, " desc=")?;
-    write_hex(note.desc, out)?;
-    writeln!(out)
+    let pieces = [
+        Decimal("note type=", note.n_type),
+        Escaped(" name=", note.name),
+        Bytes(" desc=", note.desc),
+        Word("\n"),
+    ];
+    write_pieces(&pieces, out)
 }
 
 /// The lines of notes.
@@ -74,7 +78,8 @@ pub(crate) fn write_notes<E: EndianParse, W: Write>(
     out: &mut W,
 ) -> io::Result<()>
     requires { length (notes_left notes) < 2 ^ 64 }
-    ensures { OnOk result (Appends (W.contents out.old) (W.contents out.new) (listed note_line (notes_left notes.entry))) }
+    ensures { OnOk result (Appends (W.contents out.old) (W.contents out.new)
+        (listed note_line (notes_left notes.entry))) }
 {
     write_list(notes, &NoteLine { lent: PhantomData }, out)
 }

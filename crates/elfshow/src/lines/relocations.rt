@@ -4,6 +4,8 @@ ghost use Rattle.std.specs.Io.KnownBytes.{Appends};
 ghost use Rattle.elfshow.specs.lines.Relocations.{rel_line, rela_line};
 
 use crate::lines::listed::Line;
+use crate::pieces::Piece::{Decimal, Hex, Signed, Word};
+use crate::pieces::write_pieces;
 use elf::relocation::{Rel, Rela};
 use std::io;
 use std::io::Write;
@@ -23,10 +25,14 @@ impl Line for RelLine {
             r_sym,
             r_type,
         } = *rel;
-        writeln!(
-            out,
-            "rel {k} offset=0x{r_offset:x} sym={r_sym} type={r_type}"
-        )
+        let pieces = [
+            Decimal("rel ", k),
+            Hex(" offset=", r_offset),
+            Decimal(" sym=", r_sym as u64),
+            Decimal(" type=", r_type as u64),
+            Word("\n"),
+        ];
+        write_pieces(&pieces, out)
     }
 }
 
@@ -46,9 +52,14 @@ impl Line for RelaLine {
             r_type,
             r_addend,
         } = *rela;
-        writeln!(
-            out,
-            "rela {k} offset=0x{r_offset:x} sym={r_sym} type={r_type} addend={r_addend}"
-        )
+        let pieces = [
+            Decimal("rela ", k),
+            Hex(" offset=", r_offset),
+            Decimal(" sym=", r_sym as u64),
+            Decimal(" type=", r_type as u64),
+            Signed(" addend=", r_addend),
+            Word("\n"),
+        ];
+        write_pieces(&pieces, out)
     }
 }

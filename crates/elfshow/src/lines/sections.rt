@@ -6,7 +6,9 @@ ghost use Rattle.elf_parts.specs.StringTable.{strings_view};
 ghost use Rattle.elfshow.specs.lines.Sections.{found_line, place_fields, reading_fields, section_fields, section_line};
 
 use crate::lines::listed::Line;
-use crate::lines::name::write_name;
+use crate::lines::name::name_piece;
+use crate::pieces::Piece::{Decimal, Hex, Word};
+use crate::pieces::write_pieces;
 use elf::section::SectionHeader;
 use elf::string_table::StringTable;
 use std::io;
@@ -24,9 +26,8 @@ impl Line for SectionLine<'_> {
     ghost line = { λ by. section_line (option_map strings_view by.names) };
 
     fn write_line<W: Write>(&self, k: u64, section: &SectionHeader, out: &mut W) -> io::Result<()> {
-        write!(out, "section {k} ")?;
-        write_name(self.names, section.sh_name, out)?;
-        write!(out, " ")?;
+        let name = name_piece(self.names, section.sh_name);
+        write_pieces(&[Decimal("section ", k), name, Word(" ")], out)?;
         write_section_fields(section, out)?;
         writeln!(out)
     }
@@ -53,10 +54,15 @@ fn write_place_fields<W: Write>(section: &SectionHeader, out: &mut W) -> io::Res
         sh_size,
         ..
     } = *section;
-    write!(
-        out,
-        "nameoff={sh_name} type={sh_type} flags=0x{sh_flags:x} addr=0x{sh_addr:x} offset={sh_offset} size={sh_size}"
-    )
+    let pieces = [
+        Decimal("nameoff=", sh_name as u64),
+        Decimal(" type=", sh_type as u64),
+        Hex(" flags=", sh_flags),
+        Hex(" addr=", sh_addr),
+        Decimal(" offset=", sh_offset),
+        Decimal(" size=", sh_size),
+    ];
+    write_pieces(&pieces, out)
 }
 
 #[tactic(auto, unfolding(crate::specs::lines::Sections::reading_fields))]
@@ -70,10 +76,13 @@ fn write_reading_fields<W: Write>(section: &SectionHeader, out: &mut W) -> io::R
         sh_entsize,
         ..
     } = *section;
-    write!(
-        out,
-        " link={sh_link} info={sh_info} align={sh_addralign} entsize={sh_entsize}"
-    )
+    let pieces = [
+        Decimal(" link=", sh_link as u64),
+        Decimal(" info=", sh_info as u64),
+        Decimal(" align=", sh_addralign),
+        Decimal(" entsize=", sh_entsize),
+    ];
+    write_pieces(&pieces, out)
 }
 
 /// The line of a section that was looked up.

@@ -4,6 +4,8 @@ ghost use Rattle.std.specs.Io.KnownBytes.{Appends};
 ghost use Rattle.elfshow.specs.lines.Segments.{segment_line, segment_places, segment_sizes};
 
 use crate::lines::listed::Line;
+use crate::pieces::Piece::{Decimal, Hex};
+use crate::pieces::write_pieces;
 use elf::segment::ProgramHeader;
 use std::io;
 use std::io::Write;
@@ -18,7 +20,7 @@ impl Line for SegmentLine {
     ghost line = { λ by. segment_line };
 
     fn write_line<W: Write>(&self, k: u64, segment: &ProgramHeader, out: &mut W) -> io::Result<()> {
-        write!(out, "segment {k}")?;
+        write_pieces(&[Decimal("segment ", k)], out)?;
         write_segment_places(segment, out)?;
         write_segment_sizes(segment, out)?;
         writeln!(out)
@@ -37,10 +39,14 @@ fn write_segment_places<W: Write>(segment: &ProgramHeader, out: &mut W) -> io::R
         p_paddr,
         ..
     } = *segment;
-    write!(
-        out,
-        " type={p_type} flags=0x{p_flags:x} offset={p_offset} vaddr=0x{p_vaddr:x} paddr=0x{p_paddr:x}"
-    )
+    let pieces = [
+        Decimal(" type=", p_type as u64),
+        Hex(" flags=", p_flags as u64),
+        Decimal(" offset=", p_offset),
+        Hex(" vaddr=", p_vaddr),
+        Hex(" paddr=", p_paddr),
+    ];
+    write_pieces(&pieces, out)
 }
 
 #[tactic(auto, unfolding(crate::specs::lines::Segments::segment_sizes))]
@@ -53,5 +59,10 @@ fn write_segment_sizes<W: Write>(segment: &ProgramHeader, out: &mut W) -> io::Re
         p_align,
         ..
     } = *segment;
-    write!(out, " filesz={p_filesz} memsz={p_memsz} align={p_align}")
+    let pieces = [
+        Decimal(" filesz=", p_filesz),
+        Decimal(" memsz=", p_memsz),
+        Decimal(" align=", p_align),
+    ];
+    write_pieces(&pieces, out)
 }

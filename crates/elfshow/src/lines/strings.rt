@@ -6,7 +6,8 @@ ghost use Rattle.elfshow.specs.lines.Listed.{listed};
 ghost use Rattle.elfshow.specs.lines.Strings.{string_line, strings_of};
 
 use crate::lines::listed::write_end;
-use crate::pieces::write_escaped;
+use crate::pieces::Piece::{Decimal, Escaped, Word};
+use crate::pieces::write_pieces;
 use elf::string_table::StringTable;
 use std::io;
 use std::io::Write;
@@ -29,7 +30,10 @@ pub(crate) fn write_strings<W: Write>(strings: StringTable<'_>, out: &mut W) -> 
 fn write_string<W: Write>(offset: usize, string: &[u8], out: &mut W) -> io::Result<()>
     ensures { OnOk result (Appends (W.contents out.old) (W.contents out.new) (string_line 0 (offset, string.now))) }
 {
-    write!(out, "string {offset} name=")?;
-    write_escaped(string, out)?;
-    writeln!(out)
+    let pieces = [
+        Decimal("string ", offset as u64),
+        Escaped(" name=", string),
+        Word("\n"),
+    ];
+    write_pieces(&pieces, out)
 }

@@ -1,11 +1,15 @@
 //! The lines of symbols.
-ghost use Rattle.std.specs.Prelude.{OnOk};
+ghost use Rattle.std.specs.Prelude.{codes, OnOk};
+ghost use Rattle.std.specs.Fmt.{decimal};
 ghost use Rattle.std.specs.Io.KnownBytes.{Appends};
 ghost use Rattle.elf_parts.specs.StringTable.{strings_view};
+ghost use Rattle.elfshow.specs.Pieces.{◌⧺◌, newline, piece_text};
 ghost use Rattle.elfshow.specs.lines.Symbols.{symbol_fields, symbol_line};
 
 use crate::lines::listed::Line;
-use crate::lines::name::write_name_in;
+use crate::lines::name::name_piece_in;
+use crate::pieces::Piece::{self, Decimal, Hex, Word};
+use crate::pieces::write_pieces;
 use elf::string_table::StringTable;
 use elf::symbol::Symbol;
 use std::io;
@@ -23,25 +27,25 @@ impl Line for SymbolLine<'_> {
     ghost line = { λ by. symbol_line (strings_view by.strings) };
 
     fn write_line<W: Write>(&self, k: u64, symbol: &Symbol, out: &mut W) -> io::Result<()> {
-        write!(out, "symbol {k} ")?;
-        write_name_in(self.strings, symbol.st_name, out)?;
-        write_symbol_fields(symbol, out)?;
-        writeln!(out)
+        write_symbol(k, name_piece_in(self.strings, symbol.st_name), symbol, out)
     }
 }
 
 #[tactic(auto, unfolding(crate::specs::lines::Symbols::symbol_fields))]
-fn write_symbol_fields<W: Write>(symbol: &Symbol, out: &mut W) -> io::Result<()>
-    ensures { OnOk result (Appends (W.contents out.old) (W.contents out.new) (symbol_fields symbol.now)) }
+fn write_symbol<W: Write>(k: u64, name: Piece<'_>, symbol: &Symbol, out: &mut W) -> io::Result<()>
+    ensures { OnOk result (Appends (W.contents out.old) (W.contents out.new)
+        (codes "symbol " ⧺ decimal k ⧺ piece_text name.entry ⧺ symbol_fields symbol.now ⧺ newline)) }
 {
-    let value = symbol.st_value;
-    let size = symbol.st_size;
-    let bind = symbol.st_bind();
-    let symtype = symbol.st_symtype();
-    let vis = symbol.st_vis();
-    let shndx = symbol.st_shndx;
-    write!(
-        out,
-        " value=0x{value:x} size={size} bind={bind} type={symtype} other={vis} shndx={shndx}"
-    )
+    let pieces = [
+        Decimal("symbol ", k),
+        name,
+        Hex(" value=", symbol.st_value),
+        Decimal(" size=", symbol.st_size),
+        Decimal(" bind=", symbol.st_bind() as u64),
+        Decimal(" type=", symbol.st_symtype() as u64),
+        Decimal(" other=", symbol.st_vis() as u64),
+        Decimal(" shndx=", symbol.st_shndx as u64),
+        Word("\n"),
+    ];
+    write_pieces(&pieces, out)
 }

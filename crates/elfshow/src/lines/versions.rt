@@ -2,8 +2,9 @@
 ghost use Rattle.std.specs.Prelude.{OnOk, Ok, Some};
 ghost use Rattle.std.specs.Option.{option_map};
 ghost use Rattle.std.specs.Io.KnownBytes.{Appends};
-ghost use Rattle.elf_parts.specs.Symver.{definition, definition_view, names_left, requirement, versions_view};
-ghost use Rattle.elfshow.specs.lines.Versions.{def_field, need_field, needed_texts, text_shown, version_fields, version_line, version_name, version_names, versions_listed};
+ghost use Rattle.elf_parts.specs.gnu_symver.Table.{definition, definition_view, names_left, requirement, versions_view};
+ghost use Rattle.elfshow.specs.lines.Versions.{def_field, need_field, needed_texts, text_shown, version_fields};
+ghost use Rattle.elfshow.specs.lines.Versions.{version_line, version_name, version_names, versions_listed};
 
 use crate::lines::listed::write_end;
 use crate::pieces::write_escaped;
@@ -61,8 +62,8 @@ fn write_need<E: EndianParse, W: Write>(
 }
 
 fn write_needed<W: Write>(needed: &SymbolRequirement<'_>, out: &mut W) -> io::Result<()>
-    ensures { OnOk result (Appends (W.contents out.old) (W.contents out.new) (needed_texts needed.now.file.now needed.now.name.now
-        needed.now.hash needed.now.flags needed.now.hidden)) }
+    ensures { OnOk result (Appends (W.contents out.old) (W.contents out.new)
+        (needed_texts needed.now.file.now needed.now.name.now needed.now.hash needed.now.flags needed.now.hidden)) }
 {
     write!(out, "need file=")?;
     write_escaped(needed.file.as_bytes(), out)?;
@@ -106,7 +107,8 @@ fn write_found_def<E: EndianParse, W: Write>(
     found: SymbolDefinition<'_, E>,
     out: &mut W,
 ) -> io::Result<()>
-    ensures { OnOk result (Appends (W.contents out.old) (W.contents out.new) (def_field (Ok (Some (definition_view found.entry))))) }
+    ensures { OnOk result (Appends (W.contents out.old) (W.contents out.new)
+        (def_field (Ok (Some (definition_view found.entry))))) }
 {
     write!(out, "def")?;
     write_version_fields(found.hash, found.flags, found.hidden, out)?;

@@ -3,7 +3,7 @@ use Rattle.elf_parts.specs.Section.{section_header_reads}
 use Rattle.elf_parts.specs.SysvFind.{first_decided}
 use Rattle.elf_parts.specs.Table.{items_left}
 use Rattle.elf.specs.ObjectFile.{object_file}
-use Rattle.elf.specs.View.{view}
+use Rattle.elf.specs.ElfBytes.{view}
 use Rattle.elf_uses.specs.BuildId.{section_id, sections_id}
 use Rattle.elf_uses.proofs.build_id.sections_id.Given as goal
 

@@ -1,4 +1,4 @@
-use Rattle.elfshow.specs.ObjectView.{object_view}
+use Rattle.elf_check.specs.CheckedTable.{object_view}
 use Rattle.elf_uses.specs.Resolver.{UndefinedBefore}
 use Rattle.elf_uses.proofs.resolver.definition.Given as goal
 

@@ -1,5 +1,5 @@
 use Rattle.std.proofs.Common.{◌≡◌, ◌+◌, length}
-use Rattle.elf_parts.specs.Symver.{names_left}
+use Rattle.elf_parts.specs.gnu_symver.Table.{names_left}
 use Rattle.elf_worked.proofs.callers.count_names.Given as goal
 
 -- what is counted and what is left are all the names

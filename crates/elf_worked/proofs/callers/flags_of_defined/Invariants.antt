@@ -1,6 +1,6 @@
 use Rattle.std.proofs.Common.{◌≡◌, ◌==◌}
 use Rattle.std.specs.List.{find}
-use Rattle.elf_parts.specs.Symver.{ver_defs_left}
+use Rattle.elf_parts.specs.gnu_symver.Lists.{ver_defs_left}
 use Rattle.elf_worked.proofs.callers.flags_of_defined.Given as goal
 
 -- none of the definitions so far has the index

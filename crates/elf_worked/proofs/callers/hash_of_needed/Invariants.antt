@@ -1,6 +1,6 @@
 use Rattle.std.proofs.Common.{◌≡◌, ◌==◌}
 use Rattle.std.specs.List.{find}
-use Rattle.elf_parts.specs.Symver.{ver_need_aux_left}
+use Rattle.elf_parts.specs.gnu_symver.Lists.{ver_need_aux_left}
 use Rattle.elf_worked.proofs.callers.hash_of_needed.Given as goal
 
 -- none of the versions so far has the index

@@ -1,4 +1,4 @@
-use Rattle.elf.specs.View.{with_header}
+use Rattle.elf.specs.ElfBytes.{with_header}
 use Rattle.elfshow.proofs.SameTexts.{text_of_both}
 use Rattle.elfshow.proofs.readers.texts_are_the_same.Goals as goal
 

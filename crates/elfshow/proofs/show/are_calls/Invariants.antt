@@ -1,6 +1,6 @@
 use Rattle.std.proofs.Common.{◌≡◌, drop}
 use Rattle.std.specs.Prelude.{is_some}
-use Rattle.elfshow.specs.Words.{calls_of}
+use Rattle.elfshow.specs.Show.{calls_of}
 use Rattle.elfshow.proofs.show.are_calls.Given as goal
 
 -- the words so far spell calls, so that all do where those that are left do

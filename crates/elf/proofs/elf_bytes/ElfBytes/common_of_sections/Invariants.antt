@@ -1,7 +1,7 @@
 use Rattle.std.proofs.Common.{◌≡◌}
 use Rattle.elf.specs.Common.{common_of_sections, common_view}
 use Rattle.elf.specs.ObjectFile.{object_file}
-use Rattle.elf.specs.View.{view}
+use Rattle.elf.specs.ElfBytes.{view}
 use Rattle.elf.proofs.CommonPass.{common_in}
 use Rattle.elf.proofs.Left.{sections_left}
 use Rattle.elf.proofs.elf_bytes.ElfBytes.common_of_sections.Given as goal

@@ -5,9 +5,9 @@ use Rattle.std.proofs.lemmas.Result.{err_from_is_err_and}
 use Rattle.elf_parts.specs.Record.{◌>>=◌}
 use Rattle.elf_parts.specs.Table.{table_view}
 use Rattle.elf.specs.Answers.{segment_dynamic}
-use Rattle.elf.specs.Asked.{segment_asked}
-use Rattle.elf.specs.Choice.{first_segment_of, if_found}
-use Rattle.elf.specs.Listed.{stream_file}
+use Rattle.elf.specs.Ranges.{segment_asked}
+use Rattle.elf.specs.Headers.{first_segment_of, if_found}
+use Rattle.elf.specs.StreamFile.{stream_file}
 use Rattle.elf.proofs.stream.Needs.{ok_inside, segment_needs}
 use Rattle.elf.proofs.stream.Steps.{chosen_refused}
 use Rattle.elf.proofs.elf_stream.ElfStream.first_segment_dynamic.Goals as goal

@@ -4,9 +4,9 @@ use Rattle.std.specs.Option.{option_map}
 use Rattle.std.proofs.lemmas.Result.{err_from_is_err_and}
 use Rattle.elf_parts.specs.Record.{◌>>=◌}
 use Rattle.elf.specs.Answers.{symbol_sections, symbols_in, symbols_view}
-use Rattle.elf.specs.Asked.{both_sections, headers_alone}
-use Rattle.elf.specs.Choice.{if_found}
-use Rattle.elf.specs.Listed.{stream_file}
+use Rattle.elf.specs.Ranges.{both_sections, headers_alone}
+use Rattle.elf.specs.Headers.{if_found}
+use Rattle.elf.specs.StreamFile.{stream_file}
 use Rattle.elf.proofs.stream.Needs.{both_need, ok_inside}
 use Rattle.elf.proofs.stream.Steps.{chosen_refused}
 use Rattle.elf.proofs.elf_stream.ElfStream.first_symbols.Goals as goal

@@ -1,7 +1,7 @@
 use Rattle.std.proofs.Common.{rules, ◌≡◌, ◌==◌, true}
-use Rattle.elf.specs.Asked.{section_asked}
-use Rattle.elf.specs.Listed.{stream_file}
-use Rattle.elf.specs.Payload.{content_of_type}
+use Rattle.elf.specs.Ranges.{section_asked}
+use Rattle.elf.specs.StreamFile.{stream_file}
+use Rattle.elf.specs.Data.{content_of_type}
 use Rattle.elf.proofs.stream.Lent.{content_needs, loads_for, loads_if}
 use Rattle.elf.proofs.elf_stream.ElfStream.load_content.Goals as goal
 

@@ -2,8 +2,8 @@ use Rattle.std.proofs.Common.{rules, ◌≡◌, ◌==◌, true}
 use Rattle.elf_parts.specs.Dynamic.{dyn_layout}
 use Rattle.elf_parts.specs.Record.{size_by}
 use Rattle.elf.specs.Answers.{section_dynamic}
-use Rattle.elf.specs.Asked.{section_asked}
-use Rattle.elf.specs.Listed.{stream_file}
+use Rattle.elf.specs.Ranges.{section_asked}
+use Rattle.elf.specs.StreamFile.{stream_file}
 use Rattle.elf.proofs.stream.Lent.{loads_for, loads_if}
 use Rattle.elf.proofs.stream.Needs.{dynamic_needs}
 use Rattle.elf.proofs.elf_stream.ElfStream.load_dynamic.Goals as goal

@@ -1,6 +1,6 @@
 use Rattle.std.proofs.Common.{[], ◌∷◌, ◌++◌}
 use Rattle.std.proofs.lemmas.Result.{err_from_is_err_and}
-use Rattle.elf.specs.Asked.{both_sections, if_there, range_of_section}
+use Rattle.elf.specs.Ranges.{both_sections, if_there, range_of_section}
 use Rattle.elf.proofs.stream.Steps.{loads_stop, loads_then}
 use Rattle.elf.proofs.elf_stream.ElfStream.load_plan.Goals as goal
 

@@ -2,8 +2,8 @@ use Rattle.std.proofs.Common.{◌≡◌, refl}
 use Rattle.std.specs.Prelude.{Ok, Some}
 use Rattle.std.specs.Option.{option_map}
 use Rattle.std.proofs.lemmas.Result.{err_from_is_err_and}
-use Rattle.elf_parts.specs.Symver.{versions_view}
-use Rattle.elf.specs.Asked.{headers_alone, version_plan}
+use Rattle.elf_parts.specs.gnu_symver.Table.{versions_view}
+use Rattle.elf.specs.Ranges.{headers_alone, version_plan}
 use Rattle.elf.proofs.stream.Planned.{plan_refused}
 use Rattle.elf.proofs.elf_stream.ElfStream.planned_versions.Goals as goal
 

@@ -1,9 +1,9 @@
 use Rattle.std.proofs.lemmas.Result.{err_from_is_err_and}
 use Rattle.std.proofs.Common.{refl}
 use Rattle.elf.specs.Answers.{section_data}
-use Rattle.elf.specs.Asked.{section_asked}
-use Rattle.elf.specs.Listed.{stream_file}
-use Rattle.elf.specs.Payload.{payload_view}
+use Rattle.elf.specs.Ranges.{section_asked}
+use Rattle.elf.specs.StreamFile.{stream_file}
+use Rattle.elf.specs.Data.{payload_view}
 use Rattle.elf.proofs.stream.Lent.{payload_needs}
 use Rattle.elf.proofs.stream.Steps.{leaves_refused}
 use Rattle.elf.proofs.elf_stream.ElfStream.section_data.Goals as goal

@@ -2,9 +2,9 @@ use Rattle.std.proofs.lemmas.Result.{err_from_is_err_and}
 use Rattle.std.proofs.Common.{refl}
 use Rattle.elf_parts.specs.Note.{notes_in, notes_left}
 use Rattle.elf.specs.Answers.{section_data_as_notes}
-use Rattle.elf.specs.Asked.{typed_section_asked}
-use Rattle.elf.specs.Listed.{stream_file}
-use Rattle.elf.specs.Payload.{content_of_type}
+use Rattle.elf.specs.Ranges.{typed_section_asked}
+use Rattle.elf.specs.StreamFile.{stream_file}
+use Rattle.elf.specs.Data.{content_of_type}
 use Rattle.elf.proofs.stream.Lent.{leaves_refused_for, ok_of_map}
 use Rattle.elf.proofs.elf_stream.ElfStream.section_data_as_notes.Goals as goal
 

@@ -4,8 +4,8 @@ use Rattle.std.specs.Option.{option_map}
 use Rattle.elf_parts.specs.Number.{ok_map}
 use Rattle.elf_parts.specs.Table.{table_view}
 use Rattle.elf.specs.Answers.{section_dynamic}
-use Rattle.elf.specs.Asked.{headers_alone, section_dynamic_asked}
-use Rattle.elf.specs.Listed.{stream_file}
+use Rattle.elf.specs.Ranges.{headers_alone, section_dynamic_asked}
+use Rattle.elf.specs.StreamFile.{stream_file}
 use Rattle.elf.proofs.stream.Lent.{leaves_refused_for, ok_of_map}
 use Rattle.elf.proofs.elf_stream.ElfStream.section_dynamic.Goals as goal
 

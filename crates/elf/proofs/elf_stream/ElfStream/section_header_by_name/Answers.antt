@@ -3,10 +3,10 @@ use Rattle.std.specs.Prelude.{Ok, Some, option_copied}
 use Rattle.std.proofs.lemmas.Result.{err_from_is_err_and}
 use Rattle.elf_parts.specs.Number.{ok_map}
 use Rattle.elf_parts.specs.Record.{◌>>=◌}
-use Rattle.elf.specs.Asked.{headers_alone, whole_section}
-use Rattle.elf.specs.Choice.{if_found}
+use Rattle.elf.specs.Ranges.{headers_alone, whole_section}
+use Rattle.elf.specs.Headers.{if_found}
 use Rattle.elf.specs.Names.{name_section, name_table}
-use Rattle.elf.specs.Range.{section_range}
+use Rattle.elf.specs.Headers.{section_range}
 use Rattle.elf.specs.Answers.{first_named}
 use Rattle.elf.proofs.stream.Needs.{names_need}
 use Rattle.elf.proofs.stream.Steps.{chosen_refused}

@@ -3,11 +3,11 @@ use Rattle.std.specs.Prelude.{Ok, Some}
 use Rattle.std.proofs.lemmas.Result.{err_from_is_err_and}
 use Rattle.elf_parts.specs.Number.{ok_map}
 use Rattle.elf_parts.specs.Record.{◌>>=◌}
-use Rattle.elf.specs.Asked.{headers_alone, whole_section}
-use Rattle.elf.specs.Choice.{if_found}
+use Rattle.elf.specs.Ranges.{headers_alone, whole_section}
+use Rattle.elf.specs.Headers.{if_found}
 use Rattle.elf.specs.Names.{name_section, name_table}
-use Rattle.elf.specs.Range.{section_range}
-use Rattle.elf.specs.StreamView.{listed_view}
+use Rattle.elf.specs.Headers.{section_range}
+use Rattle.elf.specs.Names.{listed_view}
 use Rattle.elf.proofs.stream.Needs.{names_need}
 use Rattle.elf.proofs.stream.Steps.{chosen_refused}
 use Rattle.elf.proofs.elf_stream.ElfStream.section_headers_with_strtab.Goals as goal

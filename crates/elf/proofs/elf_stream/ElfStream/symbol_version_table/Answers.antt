@@ -1,9 +1,9 @@
 use Rattle.std.proofs.Common.{refl, sym}
 use Rattle.std.specs.Option.{option_map}
-use Rattle.elf_parts.specs.Symver.{versions_view}
+use Rattle.elf_parts.specs.gnu_symver.Table.{versions_view}
 use Rattle.elf.specs.Answers.{symbol_version_table}
-use Rattle.elf.specs.Asked.{headers_alone, versions_asked}
-use Rattle.elf.specs.Listed.{stream_file}
+use Rattle.elf.specs.Ranges.{headers_alone, versions_asked}
+use Rattle.elf.specs.StreamFile.{stream_file}
 use Rattle.elf.specs.inner.Plans.{planned_versions}
 use Rattle.elf.proofs.stream.Planned.{leaves_alike, versions_planned}
 use Rattle.elf.proofs.elf_stream.ElfStream.symbol_version_table.Goals as goal

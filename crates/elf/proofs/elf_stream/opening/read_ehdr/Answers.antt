@@ -4,21 +4,25 @@ use Rattle.elf_parts.specs.File.{ident_of}
 use Rattle.elf_parts.specs.Number.{bytes_at}
 use Rattle.elf_parts.specs.Record.{◌>>=◌}
 use Rattle.elf.specs.inner.HeaderSteps.{front_ident, tail_header}
-use Rattle.elf.proofs.stream.Chains.{answer_stop, answer_then, bind_assoc, told_alike}
+use Rattle.elf.proofs.stream.Chains.{bind_assoc, told_alike}
+use Rattle.elf.proofs.stream.Reads.{reads_stop, reads_then}
 use Rattle.elf.proofs.elf_stream.opening.read_ehdr.Goals as goal
 
-pub returns-in_err-ident-clause-answer : goal.returns-in_err-ident-clause-answer
+pub returns-in_err-ident : goal.returns-in_err-ident
 unfolding header_at_front
-returns-in_err-ident-clause-answer g c =
+returns-in_err-ident g c =
+    let little = g.E.EndianParse.little in
+    let of_byte = g.E.EndianParse.of_byte in
     let p = err_from_is_err_and c.from_residual.result c.from_residual.ensures.1 in
-    answer_stop (g.S.StreamSource.content c.args.source.now) (header_at_front g.E.EndianParse.little g.E.EndianParse.of_byte) (front_ident g.E.EndianParse.of_byte) (tail_header g.E.EndianParse.little) (λ h. h) (λ h. h) _ _ _ p.0 _
-    (told_alike (g.S.StreamSource.content c.args.source.now) (header_at_front g.E.EndianParse.little g.E.EndianParse.of_byte) (λ bytes. front_ident g.E.EndianParse.of_byte bytes >>= tail_header g.E.EndianParse.little bytes)
-    (λ bytes. bind_assoc (bytes_at 16 bytes 0) (ident_of g.E.EndianParse.of_byte) (tail_header g.E.EndianParse.little bytes))) p.1 (rw p.2 c.in_err-ident.ensures.answer)
+    reads_stop g.S.StreamSource (header_at_front little of_byte) (front_ident of_byte) (tail_header little) c.args.source.now _ p.0 _
+    (told_alike (g.S.StreamSource.content c.args.source.now) (header_at_front little of_byte) (λ bytes. front_ident of_byte bytes >>= tail_header little bytes)
+    (λ bytes. bind_assoc (bytes_at 16 bytes 0) (ident_of of_byte) (tail_header little bytes))) p.1 (rw p.2 c.in_err-ident.ensures)
 
-pub returns-clause-answer : goal.returns-clause-answer
+pub returns : goal.returns
 unfolding header_at_front
-returns-clause-answer g c =
-    answer_then (g.S.StreamSource.content c.args.source.now) (header_at_front g.E.EndianParse.little g.E.EndianParse.of_byte) (front_ident g.E.EndianParse.of_byte) (tail_header g.E.EndianParse.little) (λ h. h) (λ h. h) _ _ _ _ c.in_ok-ident.ident c.read_tail.result
-    (told_alike (g.S.StreamSource.content c.args.source.now) (header_at_front g.E.EndianParse.little g.E.EndianParse.of_byte) (λ bytes. front_ident g.E.EndianParse.of_byte bytes >>= tail_header g.E.EndianParse.little bytes)
-    (λ bytes. bind_assoc (bytes_at 16 bytes 0) (ident_of g.E.EndianParse.of_byte) (tail_header g.E.EndianParse.little bytes))) c.in_ok-ident.ensures.answer
-    (rw (c.in_ok-ident.ensures.content, c.in_ok-ident.ensures.nature) at c.read_tail.ensures.answer)
+returns g c =
+    let little = g.E.EndianParse.little in
+    let of_byte = g.E.EndianParse.of_byte in
+    reads_then g.S.StreamSource (header_at_front little of_byte) (front_ident of_byte) (tail_header little) c.args.source.now _ _ c.in_ok-ident.ident c.read_tail.result
+    (told_alike (g.S.StreamSource.content c.args.source.now) (header_at_front little of_byte) (λ bytes. front_ident of_byte bytes >>= tail_header little bytes)
+    (λ bytes. bind_assoc (bytes_at 16 bytes 0) (ident_of of_byte) (tail_header little bytes))) c.in_ok-ident.ensures c.read_tail.ensures

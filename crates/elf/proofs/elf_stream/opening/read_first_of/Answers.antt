@@ -1,34 +1,28 @@
-use Rattle.std.proofs.Common.{ℕ, List, Bool, refl, arith}
+use Rattle.std.proofs.Common.{Bool, refl, arith}
 use Rattle.std.proofs.lemmas.Result.{err_from_is_err_and}
 use Rattle.elf.specs.Opening.{first_section}
 use Rattle.elf_parts.specs.Number.{bytes_at}
 use Rattle.elf_parts.specs.Record.{record_by}
 use Rattle.elf_parts.specs.inner.RecordLaws.{wherever_by}
 use Rattle.elf_parts.specs.Section.{section_header_layout, section_header_reads}
-use Rattle.elf.proofs.stream.Chains.{answer_stop, answer_then, answer_plain}
 use Rattle.elf.proofs.stream.Parts.{in_part}
-use Rattle.elf.proofs.stream.Plain.{plain_no_want, plain_record_by}
+use Rattle.elf.proofs.stream.Plain.{plain_record_by}
+use Rattle.elf.proofs.stream.Reads.{reads_known, reads_stop}
 use Rattle.elf.proofs.elf_stream.opening.read_first_of.Goals as goal
 
-pub returns-in_err-part-clause-answer : goal.returns-in_err-part-clause-answer
-returns-in_err-part-clause-answer g c =
+pub returns-in_err-part : goal.returns-in_err-part
+returns-in_err-part g c =
     let p = err_from_is_err_and c.from_residual.result c.from_residual.ensures.1 in
     let little : Bool = g.E.EndianParse.little c.args.ehdr.now.endianness in
-    answer_stop (g.S.StreamSource.content c.args.source.now) (first_section g.E.EndianParse.little c.args.ehdr.now) (λ bytes. bytes_at _ bytes c.args.ehdr.now.e_shoff) (λ _ part. record_by section_header_layout little c.args.ehdr.now.class part 0) (λ (x : List ℕ). x) (λ h. h) _ _ _ p.0 _
+    reads_stop g.S.StreamSource (first_section g.E.EndianParse.little c.args.ehdr.now) (λ bytes. bytes_at _ bytes c.args.ehdr.now.e_shoff) (λ _ part. record_by section_header_layout little c.args.ehdr.now.class part 0) c.args.source.now _ p.0 _
     (in_part section_header_reads (wherever_by section_header_layout refl)
     (g.S.StreamSource.content c.args.source.now) c.args.len _ little c.args.ehdr.now.class c.args.ehdr.now.e_shoff c.requires.whole (omega arith) c.requires.size)
-    p.1 (rw p.2 c.in_err-part.ensures.answer)
+    p.1 (rw p.2 c.in_err-part.ensures)
 
-pub returns-clause-answer : goal.returns-clause-answer
-returns-clause-answer g c =
+pub returns : goal.returns
+returns g c =
     let little : Bool = g.E.EndianParse.little c.args.ehdr.now.endianness in
-    answer_then (g.S.StreamSource.content c.args.source.now) (first_section g.E.EndianParse.little c.args.ehdr.now) (λ bytes. bytes_at _ bytes c.args.ehdr.now.e_shoff) (λ _ part. record_by section_header_layout little c.args.ehdr.now.class part 0) (λ (x : List ℕ). x) (λ h. h) _ _ _ _ c.in_ok-part.part c.parse_at.result
+    reads_known g.S.StreamSource (first_section g.E.EndianParse.little c.args.ehdr.now) (λ bytes. bytes_at _ bytes c.args.ehdr.now.e_shoff) (λ part. record_by section_header_layout little c.args.ehdr.now.class part 0) c.args.source.now _ c.in_ok-part.part c.parse_at.result
     (in_part section_header_reads (wherever_by section_header_layout refl)
     (g.S.StreamSource.content c.args.source.now) c.args.len _ little c.args.ehdr.now.class c.args.ehdr.now.e_shoff c.requires.whole (omega arith) c.requires.size)
-    c.in_ok-part.ensures.answer
-    (answer_plain (g.S.StreamSource.content c.args.source.now) (record_by section_header_layout little c.args.ehdr.now.class c.in_ok-part.part 0) _ _ c.parse_at.result c.parse_at.ensures.value (plain_record_by section_header_layout little c.args.ehdr.now.class c.in_ok-part.part 0))
-
-pub returns-clause-memory : goal.returns-clause-memory
-returns-clause-memory g c =
-    let little : Bool = g.E.EndianParse.little c.args.ehdr.now.endianness in
-    plain_no_want c.parse_at.result (record_by section_header_layout little c.args.ehdr.now.class c.in_ok-part.part 0) c.parse_at.ensures.value (plain_record_by section_header_layout little c.args.ehdr.now.class c.in_ok-part.part 0)
+    c.in_ok-part.ensures c.parse_at.ensures.value (plain_record_by section_header_layout little c.args.ehdr.now.class c.in_ok-part.part 0)

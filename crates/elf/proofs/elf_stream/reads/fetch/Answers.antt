@@ -17,6 +17,7 @@ loop-bytes-preserved g c =
     let front : take n whole ≡ c.loop-bytes.bytes.items = rw (c.deref_mut.ensures.value, c.resize.ensures.items, ok) (kept_front c.loop-bytes.bytes.items _ n c.min.result (search rules) (search rules)) in
     record {
       in_range = search rules;
+      room = search rules;
       content = search rules;
       nature = search rules;
       filled = rw back (IsFilled-step _ c.loop-bytes.bytes.items whole part n k _ _ _ _ _ _ (search rules) front (search rules) (search rules) same

@@ -1,5 +1,6 @@
 use Rattle.std.proofs.Common.{◌≡◌}
-use Rattle.elf_parts.specs.Symver.{defined_version, ver_defs_left}
+use Rattle.elf_parts.specs.gnu_symver.Lists.{ver_defs_left}
+use Rattle.elf_parts.specs.gnu_symver.Table.{defined_version}
 use Rattle.elf_parts.proofs.gnu_symver.table.first_defined.Given as goal
 
 -- none of the definitions so far has the index

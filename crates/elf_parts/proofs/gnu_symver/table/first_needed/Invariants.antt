@@ -1,5 +1,6 @@
 use Rattle.std.proofs.Common.{◌≡◌}
-use Rattle.elf_parts.specs.Symver.{needed_version, ver_needs_left}
+use Rattle.elf_parts.specs.gnu_symver.Lists.{ver_needs_left}
+use Rattle.elf_parts.specs.gnu_symver.Table.{needed_version}
 use Rattle.elf_parts.proofs.gnu_symver.table.first_needed.Given as goal
 
 -- none of the needs so far has a version with the index

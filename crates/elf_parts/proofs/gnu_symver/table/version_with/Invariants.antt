@@ -1,5 +1,6 @@
 use Rattle.std.proofs.Common.{◌≡◌}
-use Rattle.elf_parts.specs.Symver.{ver_need_aux_left, version_with}
+use Rattle.elf_parts.specs.gnu_symver.Lists.{ver_need_aux_left}
+use Rattle.elf_parts.specs.gnu_symver.Table.{version_with}
 use Rattle.elf_parts.proofs.gnu_symver.table.version_with.Given as goal
 
 -- none of the versions so far has the index

@@ -1,14 +1,14 @@
 use Rattle.std.proofs.Common.{refl}
 use Rattle.elf.specs.Opening.{header_at_front, section_table, segment_table}
-use Rattle.elf.specs.Payload.{payload}
+use Rattle.elf.specs.Data.{payload}
 use Rattle.elf_parts.specs.File.{ident_of}
 use Rattle.elf_parts.specs.GnuFind.{gnu_section}
 use Rattle.elf_parts.specs.Hash.{word_at}
 use Rattle.elf_parts.specs.Number.{bytes_at, number_at}
 use Rattle.elf_parts.specs.Record.{numbers_at}
 use Rattle.elf_parts.specs.SysvFind.{sysv_section}
-use Rattle.elfshow.specs.ChainLengths.{chain_lengths}
-use Rattle.elfshow.specs.Sound.{word}
+use Rattle.elf_check.specs.Indexed.{chain_lengths}
+use Rattle.elf_check.specs.WithSymbols.{word}
 use Rattle.std.specs.Fmt.{digits}
 use Rattle.std.proofs.Common.{ap, ℕ, List, [], ◌++◌, Result, Ok}
 use Rattle.elf_parts.specs.declared.parse.ParseError.{ParseError}

@@ -1,6 +1,6 @@
 use Rattle.std.proofs.Common.{refl}
 use Rattle.elf.specs.Opening.{header_at_front, section_table, segment_table}
-use Rattle.elf.specs.Payload.{payload}
+use Rattle.elf.specs.Data.{payload}
 use Rattle.elf_parts.specs.File.{ident_of}
 use Rattle.elf_parts.specs.Number.{bytes_at, number_at}
 use Rattle.elf_parts.specs.Record.{numbers_at}

@@ -2,7 +2,7 @@ use Rattle.std.proofs.Common.{refl}
 use Rattle.elf_parts.specs.Number.{bytes_at, number_at}
 use Rattle.elf_parts.specs.Record.{numbers_at}
 use Rattle.elf.specs.Common.{common_of_sections}
-use Rattle.elf.specs.Payload.{payload}
+use Rattle.elf.specs.Data.{payload}
 use Rattle.elf_parts.specs.SysvFind.{sysv_section}
 use Rattle.elf_parts.specs.GnuFind.{gnu_section}
 use Rattle.elf_worked.proofs.worked.common.common_data_found.Goals as goal

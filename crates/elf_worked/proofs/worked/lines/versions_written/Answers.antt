@@ -1,9 +1,9 @@
 use Rattle.std.proofs.Common.{refl}
-use Rattle.elf_parts.specs.Link.{links_in}
+use Rattle.elf_parts.specs.gnu_symver.Links.{links_in}
 use Rattle.elf_parts.specs.Number.{bytes_at, number_at}
 use Rattle.elf_parts.specs.Record.{numbers_at}
 use Rattle.elf_parts.specs.StringTable.{string_at}
-use Rattle.elf_parts.specs.Symver.{defined_version, needed_version}
+use Rattle.elf_parts.specs.gnu_symver.Table.{defined_version, needed_version}
 use lib.Utf8.{encode}
 use Rattle.std.specs.Fmt.{digits}
 use Rattle.std.specs.Str.{chars, is_utf8}

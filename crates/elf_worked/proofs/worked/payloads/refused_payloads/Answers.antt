@@ -1,7 +1,7 @@
 use Rattle.std.proofs.Common.{refl}
 use Rattle.elf_parts.specs.Number.{bytes_at, number_at}
 use Rattle.elf_parts.specs.Record.{numbers_at}
-use Rattle.elf.specs.Payload.{payload}
+use Rattle.elf.specs.Data.{payload}
 use Rattle.elf_worked.proofs.worked.payloads.refused_payloads.Goals as goal
 
 pub returns-clause-end : goal.returns-clause-end

@@ -3,7 +3,7 @@ use Rattle.elf_parts.specs.Hash.{named_symbol, word_at}
 use Rattle.elf_parts.specs.Number.{bytes_at, number_at}
 use Rattle.elf_parts.specs.Record.{numbers_at}
 use Rattle.elf_parts.specs.StringTable.{string_at}
-use Rattle.elfshow.specs.Sound.{named, word}
+use Rattle.elf_check.specs.WithSymbols.{named, word}
 use Rattle.elf_worked.proofs.worked.resolving.names_listed.Goals as goal
 
 pub returns-clause-chain : goal.returns-clause-chain

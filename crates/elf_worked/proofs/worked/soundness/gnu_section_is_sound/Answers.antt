@@ -3,7 +3,7 @@ use Rattle.std.specs.Fmt.{digits}
 use Rattle.elf_parts.specs.Number.{bytes_at, number_at}
 use Rattle.elf_parts.specs.Record.{numbers_at}
 use Rattle.elf_parts.specs.GnuFind.{gnu_section}
-use Rattle.elfshow.proofs.GnuVerdicts.{true_fault}
+use Rattle.elf_check.proofs.GnuVerdicts.{true_fault}
 use Rattle.elfshow.specs.inner.Decisions.{decide_gnu}
 use Rattle.std.specs.Prelude.{Ok}
 use Rattle.elf_worked.specs.SoundSections.{gnu_with}

@@ -4,9 +4,9 @@ use Rattle.elf_parts.specs.Hash.{word_at}
 use Rattle.elf_parts.specs.Number.{bytes_at, number_at}
 use Rattle.elf_parts.specs.Record.{numbers_at}
 use Rattle.elf_parts.specs.SysvFind.{sysv_section}
-use Rattle.elfshow.proofs.SysvVerdicts.{true_fault}
-use Rattle.elfshow.specs.ChainLengths.{chain_lengths}
-use Rattle.elfshow.specs.Sound.{word}
+use Rattle.elf_check.proofs.SysvVerdicts.{true_fault}
+use Rattle.elf_check.specs.Indexed.{chain_lengths}
+use Rattle.elf_check.specs.WithSymbols.{word}
 use Rattle.elfshow.specs.inner.Decisions.{decide_sysv}
 use Rattle.std.specs.Prelude.{Ok}
 use Rattle.elf_worked.specs.Files.{in_four}

@@ -1,9 +1,9 @@
 use Rattle.std.proofs.Common.{refl}
 use Rattle.elf_parts.specs.Number.{bytes_at, number_at}
 use Rattle.elf_parts.specs.Record.{numbers_at}
-use Rattle.elf_parts.specs.Link.{links_in}
+use Rattle.elf_parts.specs.gnu_symver.Links.{links_in}
 use Rattle.elf_parts.specs.StringTable.{string_at}
-use Rattle.elf_parts.specs.Symver.{needed_version, defined_version}
+use Rattle.elf_parts.specs.gnu_symver.Table.{defined_version, needed_version}
 use Rattle.elf_worked.proofs.worked.versions.needed_files.Goals as goal
 
 pub returns-clause-both : goal.returns-clause-both

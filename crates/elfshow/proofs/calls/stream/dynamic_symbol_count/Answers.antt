@@ -1,11 +1,9 @@
-use Rattle.std.proofs.Common.{◌∙◌}
 use Rattle.std.specs.Option.{option_map}
 use Rattle.elf.specs.Answers.{dynamic_symbol_table, symbols_view}
-use Rattle.elf.specs.Asked.{headers_alone, symbols_asked}
-use Rattle.elf.specs.Listed.{stream_file}
+use Rattle.elf.specs.Ranges.{headers_alone, symbols_asked}
+use Rattle.elf.specs.StreamFile.{stream_file}
 use Rattle.elf_parts.specs.Number.{ok_map}
-use Rattle.elfshow.specs.BytesAnswers.{symbols_with_names}
-use Rattle.elfshow.specs.Text.{symbol_count}
+use Rattle.elfshow.specs.calls.Text.{symbol_count}
 use Rattle.elfshow.proofs.StreamRuns.{leaves_made, ok_of_map}
 use Rattle.elfshow.proofs.calls.stream.dynamic_symbol_count.Goals as goal
 
@@ -15,6 +13,6 @@ returns-in-Err g c =
     let old = c.args.stream.now in
     let file = stream_file little old in
     leaves_made old c.dynamic_symbol_table.follows.lender-at-none (symbols_asked 11 (headers_alone little old)) (option_map symbols_view) (λ bytes. dynamic_symbol_table (file bytes)) (λ count. count)
-    (λ bytes. ok_map symbol_count (ok_map (option_map symbols_with_names) (dynamic_symbol_table (file bytes)))) c.dynamic_symbol_table.result c.in-Err.error
-    (λ bytes. ok_of_map symbol_count (ok_map (option_map symbols_with_names) (dynamic_symbol_table (file bytes))) ∙ ok_of_map (option_map symbols_with_names) (dynamic_symbol_table (file bytes)))
+    (λ bytes. ok_map symbol_count (dynamic_symbol_table (file bytes))) c.dynamic_symbol_table.result c.in-Err.error
+    (λ bytes. ok_of_map symbol_count (dynamic_symbol_table (file bytes)))
     c.in-Err.is c.dynamic_symbol_table.follows.holds-at-none

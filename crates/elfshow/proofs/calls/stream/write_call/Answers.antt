@@ -1,11 +1,11 @@
-use Rattle.elfshow.specs.Asked.{asked}
+use Rattle.elfshow.specs.calls.Question.{question}
 use Rattle.elfshow.proofs.StreamRuns.{tried_refused, tried_written}
 use Rattle.elfshow.proofs.calls.stream.write_call.Goals as goal
 
 pub returns-in-Ok : goal.returns-in-Ok
 returns-in-Ok g c =
-    tried_written g.E.EndianParse.little (asked c.args.call) c.args.stream.now c.try_call.new.stream _ _ c.try_call.result c.in-Ok.written c.told.result c.try_call.ensures c.in-Ok.is c.told.ensures
+    tried_written g.E.EndianParse.little (question c.args.call) c.args.stream.now c.try_call.new.stream _ _ c.try_call.result c.in-Ok.written c.told.result c.try_call.ensures c.in-Ok.is c.told.ensures
 
 pub returns-in-Err : goal.returns-in-Err
 returns-in-Err g c =
-    tried_refused g.E.EndianParse.little (asked c.args.call) c.args.stream.now c.try_call.new.stream _ _ _ c.try_call.result c.in-Err.error c.refuse.result c.try_call.ensures c.in-Err.is c.refuse.ensures
+    tried_refused g.E.EndianParse.little (question c.args.call) c.args.stream.now c.try_call.new.stream _ _ _ c.try_call.result c.in-Err.error c.refuse.result c.try_call.ensures c.in-Err.is c.refuse.ensures

@@ -1,21 +1,20 @@
 use Rattle.std.proofs.Common.{ℕ, List, ap, subst, sym, ◌∙◌}
-use Rattle.std.specs.Prelude.{IsOk}
+use Rattle.std.specs.Prelude.{IsErr}
 use Rattle.std.specs.Option.{option_map}
 use Rattle.elf.specs.Answers.{dynamic_symbol_table, section_data}
-use Rattle.elf.specs.Asked.{headers_alone}
-use Rattle.elf.specs.Listed.{stream_file}
+use Rattle.elf.specs.Ranges.{headers_alone}
+use Rattle.elf.specs.StreamFile.{stream_file}
 use Rattle.elf_parts.specs.GnuFind.{gnu_section}
 use Rattle.elf_parts.specs.Number.{ok_map}
 use Rattle.elf_parts.specs.declared.section.SectionHeader.{SectionHeader}
-use Rattle.elfshow.specs.Asked.{Gnu}
-use Rattle.elfshow.specs.BytesAnswers.{checked_for, checked_section}
-use Rattle.elfshow.specs.SoundVerdict.{section_given}
-use Rattle.elfshow.specs.StreamAnswers.{OfThere, checked_asked}
-use Rattle.elfshow.specs.Text.{unless_absent, unless_none, unless_refused}
+use Rattle.elfshow.specs.calls.Question.{Gnu}
+use Rattle.elf_check.specs.WithSymbols.{with_symbols}
+use Rattle.elfshow.specs.calls.Ranges.{checked_asked}
+use Rattle.elfshow.specs.calls.Text.{checked_for, checked_section, unless_absent, unless_none}
 use Rattle.elfshow.specs.Verdicts.{gnu_verdict}
 use Rattle.elfshow.specs.inner.RunSteps.{checked_apart}
 use Rattle.elfshow.specs.lines.Hashes.{verdict_line}
-use Rattle.elfshow.proofs.StreamRuns.{apart_refused, call_refused_given, ok_or_err, refused_text}
+use Rattle.elfshow.proofs.StreamRuns.{apart_refused, call_refused_given, outer_refused}
 use Rattle.elfshow.proofs.calls.stream.write_gnu.Goals as goal
 
 pub returns-in-Err : goal.returns-in-Err
@@ -27,11 +26,9 @@ returns-in-Err g c =
     let cut = gnu_section (little old.ehdr.endianness) old.ehdr.class in
     let says = λ (bytes : List ℕ) (s : SectionHeader). checked_section gnu_verdict cut (file bytes) s in
     let there = sym c.section_header.ensures ∙ c.in-Some.is in
-    let refuses = λ (bytes : List ℕ). apart_refused (section_data (file bytes) section) (λ found. found.0) (dynamic_symbol_table (file bytes)) (λ part symbols. option_map (λ found. ok_map gnu_verdict (section_given found.0 found.1 (cut part))) symbols) (λ part symbols. checked_for gnu_verdict (cut part) symbols) in
+    let refuses = λ (bytes : List ℕ). apart_refused (section_data (file bytes) section) (λ found. found.0) (dynamic_symbol_table (file bytes)) (λ part symbols. option_map (λ found. ok_map gnu_verdict (with_symbols found.0 found.1 (cut part))) symbols) (λ part symbols. checked_for gnu_verdict (cut part) symbols) in
     call_refused_given little (Gnu c.args.index) old c.section_gnu_verdict.new.stream (checked_asked (headers_alone little old) section) (λ verdict. verdict) (λ bytes. checked_apart gnu_verdict cut (file bytes) section) c.section_gnu_verdict.result c.in-Err.error _
-    (λ bytes refused. ap (unless_absent (λ s. unless_refused (unless_none verdict_line) (says bytes s))) there
-    ∙ refused_text (unless_none verdict_line) (says bytes section)
-    (refuses bytes refused))
+    (λ bytes refused. subst IsErr (sym (ap (unless_absent (λ s. ok_map (unless_none verdict_line) (says bytes s))) there))
+    (outer_refused (unless_none verdict_line) (says bytes section) (refuses bytes refused)))
     (λ bytes ready. ready.0)
-    (λ bytes ready refused. ok_or_err (says bytes section) (subst (λ o. OfThere (λ s. IsOk (says bytes s)) o) there ready) (refuses bytes refused))
     c.section_gnu_verdict.ensures c.in-Err.is

@@ -1,11 +1,11 @@
 use Rattle.std.specs.Prelude.{option_copied}
 use Rattle.elf.specs.Answers.{section_header_by_name}
-use Rattle.elf.specs.Asked.{headers_alone, names_asked}
-use Rattle.elf.specs.Listed.{stream_file}
-use Rattle.elfshow.specs.Asked.{Name}
-use Rattle.elfshow.specs.Text.{unless_none}
+use Rattle.elf.specs.Ranges.{headers_alone, names_asked}
+use Rattle.elf.specs.StreamFile.{stream_file}
+use Rattle.elfshow.specs.calls.Question.{Name}
 use Rattle.elfshow.specs.lines.Sections.{found_line}
-use Rattle.elfshow.proofs.StreamRuns.{call_refused, refused_text}
+use Rattle.elfshow.specs.calls.Text.{unless_none}
+use Rattle.elfshow.proofs.StreamRuns.{call_refused, outer_refused}
 use Rattle.elfshow.proofs.calls.stream.write_named.Goals as goal
 
 pub returns-in-Err : goal.returns-in-Err
@@ -14,7 +14,6 @@ returns-in-Err g c =
     let old = c.args.stream.now in
     let file = stream_file little old in
     call_refused little (Name c.args.name.now) old c.section_header_by_name.follows.lender-at-none (names_asked (headers_alone little old)) option_copied (λ bytes. section_header_by_name (file bytes) c.args.name.now) c.section_header_by_name.result c.in-Err.error _
-    (λ bytes refused. refused_text (unless_none found_line) (section_header_by_name (file bytes) c.args.name.now) refused)
+    (λ bytes refused. outer_refused (unless_none found_line) (section_header_by_name (file bytes) c.args.name.now) refused)
     (λ held. held)
-    (λ bytes ready. ready)
     c.section_header_by_name.follows.holds-at-none c.in-Err.is

@@ -1,11 +1,11 @@
-use Rattle.elf.specs.Asked.{headers_alone, names_asked}
-use Rattle.elf.specs.Listed.{stream_file}
+use Rattle.elf.specs.Ranges.{headers_alone, names_asked}
+use Rattle.elf.specs.StreamFile.{stream_file}
 use Rattle.elf.specs.Names.{headers_with_names, name_table}
-use Rattle.elf.specs.StreamView.{listed_view}
-use Rattle.elfshow.specs.Asked.{Sections}
+use Rattle.elf.specs.Names.{listed_view}
+use Rattle.elfshow.specs.calls.Question.{Sections}
 use Rattle.elfshow.specs.lines.Listed.{listed}
 use Rattle.elfshow.specs.lines.Sections.{section_line}
-use Rattle.elfshow.proofs.StreamRuns.{call_refused, inner_refused, outer_ok, refused_text}
+use Rattle.elfshow.proofs.StreamRuns.{call_refused, inner_refused, outer_refused}
 use Rattle.elfshow.proofs.calls.stream.write_sections.Goals as goal
 
 pub returns-in-Err : goal.returns-in-Err
@@ -14,7 +14,6 @@ returns-in-Err g c =
     let old = c.args.stream.now in
     let file = stream_file little old in
     call_refused little Sections old c.section_headers_with_strtab.follows.lender-at-none (names_asked (headers_alone little old)) listed_view (λ bytes. headers_with_names (file bytes)) c.section_headers_with_strtab.result c.in-Err.error _
-    (λ bytes refused. refused_text (λ names. listed (section_line names) old.sections) (name_table (file bytes)) (inner_refused (λ names. (old.sections, names)) (name_table (file bytes)) refused))
+    (λ bytes refused. outer_refused (λ names. listed (section_line names) old.sections) (name_table (file bytes)) (inner_refused (λ names. (old.sections, names)) (name_table (file bytes)) refused))
     (λ held. held)
-    (λ bytes ready. outer_ok (λ names. (old.sections, names)) (name_table (file bytes)) ready)
     c.section_headers_with_strtab.follows.holds-at-none c.in-Err.is

@@ -3,18 +3,17 @@ use Rattle.std.specs.Prelude.{OnOk}
 use Rattle.std.specs.Option.{option_map}
 use Rattle.std.proofs.lemmas.Option.{IfSome_then}
 use Rattle.elf.specs.Answers.{dynamic_symbol_table, symbol_version_table}
-use Rattle.elf.specs.Asked.{headers_alone, symbols_asked, versions_asked}
-use Rattle.elf.specs.Listed.{stream_file}
-use Rattle.elf.specs.Stream.{AreHeld, IsAnswer}
+use Rattle.elf.specs.Ranges.{headers_alone, symbols_asked, versions_asked}
+use Rattle.elf.specs.StreamFile.{stream_file}
+use Rattle.elf.specs.ElfStream.{AreHeld, IsAnswer}
 use Rattle.elf_parts.specs.Number.{ok_map}
-use Rattle.elf_parts.specs.Symver.{versions_view}
-use Rattle.elfshow.specs.Asked.{Versions}
-use Rattle.elfshow.specs.BytesAnswers.{symbols_with_names}
-use Rattle.elfshow.specs.StreamAnswers.{call_ranges}
+use Rattle.elf_parts.specs.gnu_symver.Table.{versions_view}
+use Rattle.elfshow.specs.calls.Question.{Versions}
+use Rattle.elfshow.specs.calls.Ranges.{call_ranges}
+use Rattle.elfshow.specs.calls.Text.{symbol_count, unless_none}
 use Rattle.elfshow.specs.inner.RunSteps.{Gives}
-use Rattle.elfshow.specs.Text.{symbol_count, unless_none, unless_refused}
 use Rattle.elfshow.specs.lines.Versions.{versions_listed}
-use Rattle.elfshow.proofs.StreamRuns.{behind_refused, both_refused, both_told, call_refused, call_written, gives_answer, gives_of, gives_same, held_back, held_both, held_front, inner_refused, leaves_later, outer_ok, refused_text, still_held}
+use Rattle.elfshow.proofs.StreamRuns.{behind_refused, both_refused, both_told, call_refused, call_written, first_refused, gives_answer, gives_of, gives_same, held_back, held_both, held_front, inner_refused, leaves_later, still_held}
 use Rattle.elfshow.proofs.calls.stream.write_symbol_versions.Goals as goal
 
 pub returns-in-Err : goal.returns-in-Err
@@ -22,12 +21,11 @@ returns-in-Err g c =
     let little = g.E.EndianParse.little in
     let old = c.args.stream.now in
     let file = stream_file little old in
-    let symbols = λ (bytes : List ℕ). ok_map (option_map symbols_with_names) (dynamic_symbol_table (file bytes)) in
+    let symbols = λ (bytes : List ℕ). dynamic_symbol_table (file bytes) in
     let versions = λ (bytes : List ℕ). symbol_version_table (file bytes) in
     call_refused little Versions old c.dynamic_symbol_count.new.stream (symbols_asked 11 (headers_alone little old)) (λ count. count) (λ bytes. ok_map symbol_count (symbols bytes)) c.dynamic_symbol_count.result c.in-Err.error _
-    (λ bytes refused. refused_text (λ found. unless_refused (unless_none (versions_listed (symbol_count found))) (versions bytes)) (symbols bytes) (inner_refused symbol_count (symbols bytes) refused))
+    (λ bytes refused. first_refused (symbols bytes) (λ found. ok_map (unless_none (versions_listed (symbol_count found))) (versions bytes)) (inner_refused symbol_count (symbols bytes) refused))
     (λ held. held_front old (symbols_asked 11 (headers_alone little old)) (versions_asked (headers_alone little old)) held)
-    (λ bytes ready. outer_ok symbol_count (symbols bytes) ready.0)
     c.dynamic_symbol_count.ensures c.in-Err.is
 
 pub returns-in-Err-symbol_version_table : goal.returns-in-Err-symbol_version_table
@@ -37,14 +35,13 @@ returns-in-Err-symbol_version_table g c =
     let middle = c.dynamic_symbol_count.new.stream in
     let new = c.symbol_version_table.follows.lender-at-none in
     let file = stream_file little old in
-    let symbols = λ (bytes : List ℕ). ok_map (option_map symbols_with_names) (dynamic_symbol_table (file bytes)) in
+    let symbols = λ (bytes : List ℕ). dynamic_symbol_table (file bytes) in
     let counted = gives_of old middle (symbols_asked 11 (headers_alone little old)) (λ count. count) (λ bytes. ok_map symbol_count (symbols bytes)) c.dynamic_symbol_count.result c.dynamic_symbol_count.ensures in
     let same = gives_same old middle (symbols_asked 11 (headers_alone little old)) (λ count. count) (λ bytes. ok_map symbol_count (symbols bytes)) c.dynamic_symbol_count.result c.in-Ok.symbols c.in-Ok.is counted in
     let leaves = leaves_later little old middle new versions_asked (option_map versions_view) symbol_version_table c.symbol_version_table.result c.dynamic_symbol_count.ensures.keeps same c.symbol_version_table.follows.holds-at-none in
     behind_refused little Versions old new (versions_asked (headers_alone little old)) (option_map versions_view) (λ bytes. symbol_version_table (file bytes)) c.symbol_version_table.result c.in-Err-symbol_version_table.error _
     (λ bytes refused. both_refused (λ found. unless_none (versions_listed (symbol_count found))) (symbols bytes) (symbol_version_table (file bytes)) refused)
     (λ held. held_back old (symbols_asked 11 (headers_alone little old)) (versions_asked (headers_alone little old)) held)
-    (λ bytes ready. ready.1)
     leaves c.in-Err-symbol_version_table.is
 
 pub returns-in-Ok-Some : goal.returns-in-Ok-Some
@@ -54,7 +51,7 @@ returns-in-Ok-Some g c =
     let middle = c.dynamic_symbol_count.new.stream in
     let new = c.symbol_version_table.follows.lender-at-none in
     let file = stream_file little old in
-    let symbols = λ (bytes : List ℕ). ok_map (option_map symbols_with_names) (dynamic_symbol_table (file bytes)) in
+    let symbols = λ (bytes : List ℕ). dynamic_symbol_table (file bytes) in
     let versions = λ (bytes : List ℕ). symbol_version_table (file bytes) in
     let counted = gives_of old middle (symbols_asked 11 (headers_alone little old)) (λ count. count) (λ bytes. ok_map symbol_count (symbols bytes)) c.dynamic_symbol_count.result c.dynamic_symbol_count.ensures in
     let same = gives_same old middle (symbols_asked 11 (headers_alone little old)) (λ count. count) (λ bytes. ok_map symbol_count (symbols bytes)) c.dynamic_symbol_count.result c.in-Ok.symbols c.in-Ok.is counted in

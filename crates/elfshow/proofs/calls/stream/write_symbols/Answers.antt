@@ -1,12 +1,10 @@
 use Rattle.std.specs.Option.{option_map}
 use Rattle.elf.specs.Answers.{symbol_table, symbols_view}
-use Rattle.elf.specs.Asked.{headers_alone, symbols_asked}
-use Rattle.elf.specs.Listed.{stream_file}
-use Rattle.elf_parts.specs.Number.{ok_map}
-use Rattle.elfshow.specs.Asked.{Symbols}
-use Rattle.elfshow.specs.BytesAnswers.{symbols_with_names}
-use Rattle.elfshow.specs.Text.{symbols_text, unless_none}
-use Rattle.elfshow.proofs.StreamRuns.{call_refused, inner_ok, outer_refused, refused_text}
+use Rattle.elf.specs.Ranges.{headers_alone, symbols_asked}
+use Rattle.elf.specs.StreamFile.{stream_file}
+use Rattle.elfshow.specs.calls.Question.{Symbols}
+use Rattle.elfshow.specs.calls.Text.{symbols_text, unless_none}
+use Rattle.elfshow.proofs.StreamRuns.{call_refused, outer_refused}
 use Rattle.elfshow.proofs.calls.stream.write_symbols.Goals as goal
 
 pub returns-in-Err : goal.returns-in-Err
@@ -15,7 +13,6 @@ returns-in-Err g c =
     let old = c.args.stream.now in
     let file = stream_file little old in
     call_refused little Symbols old c.symbol_table.follows.lender-at-none (symbols_asked 2 (headers_alone little old)) (option_map symbols_view) (λ bytes. symbol_table (file bytes)) c.symbol_table.result c.in-Err.error _
-    (λ bytes refused. refused_text (unless_none symbols_text) (ok_map (option_map symbols_with_names) (symbol_table (file bytes))) (outer_refused (option_map symbols_with_names) (symbol_table (file bytes)) refused))
+    (λ bytes refused. outer_refused (unless_none symbols_text) (symbol_table (file bytes)) refused)
     (λ held. held)
-    (λ bytes ready. inner_ok (option_map symbols_with_names) (symbol_table (file bytes)) ready)
     c.symbol_table.follows.holds-at-none c.in-Err.is

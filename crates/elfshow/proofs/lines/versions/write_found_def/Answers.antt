@@ -1,6 +1,6 @@
 use Rattle.std.proofs.Common.{◌++◌}
 use Rattle.std.specs.Prelude.{codes}
-use Rattle.elf_parts.specs.Symver.{names_left}
+use Rattle.elf_parts.specs.gnu_symver.Table.{names_left}
 use Rattle.elfshow.specs.lines.Versions.{version_fields, version_names}
 use Rattle.elfshow.proofs.Writing.{appends_last, appends_more}
 use Rattle.elfshow.proofs.lines.versions.write_found_def.Goals as goal

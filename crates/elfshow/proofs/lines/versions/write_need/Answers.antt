@@ -1,7 +1,7 @@
 use Rattle.std.proofs.Common.{rules, ◌≡◌, Ok, Err, Some, subst, sym, ap, ◌∙◌}
 use Rattle.std.specs.Prelude.{OnOk}
 use Rattle.std.specs.Io.KnownBytes.{Appends}
-use Rattle.elf_parts.specs.Symver.{requirement, versions_view}
+use Rattle.elf_parts.specs.gnu_symver.Table.{requirement, versions_view}
 use Rattle.elfshow.proofs.VersionTexts.{need_is_shown, need_shown}
 use Rattle.elfshow.proofs.lines.versions.write_need.Goals as goal
 

@@ -1,5 +1,5 @@
 use Rattle.std.proofs.Common.{◌++◌, subst, ap, ◌∙◌}
-use Rattle.elf_parts.specs.Symver.{names_left}
+use Rattle.elf_parts.specs.gnu_symver.Table.{names_left}
 use Rattle.elfshow.specs.lines.Versions.{text_shown, version_name, version_names}
 use Rattle.elfshow.proofs.VersionTexts.{shown_is_text}
 use Rattle.elfshow.proofs.Writing.{Leaves, leaves_less}

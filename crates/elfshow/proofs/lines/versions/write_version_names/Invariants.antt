@@ -1,4 +1,4 @@
-use Rattle.elf_parts.specs.Symver.{names_left}
+use Rattle.elf_parts.specs.gnu_symver.Table.{names_left}
 use Rattle.elfshow.specs.lines.Versions.{version_names}
 use Rattle.elfshow.proofs.Writing.{Leaves}
 use Rattle.elfshow.proofs.lines.versions.write_version_names.Given as goal

@@ -1,5 +1,5 @@
 use Rattle.std.specs.Io.KnownBytes.{Appends}
-use Rattle.elf_parts.specs.Symver.{versions_view}
+use Rattle.elf_parts.specs.gnu_symver.Table.{versions_view}
 use Rattle.elfshow.specs.lines.Versions.{version_lines}
 use Rattle.elfshow.proofs.lines.versions.write_versions.Given as goal
 

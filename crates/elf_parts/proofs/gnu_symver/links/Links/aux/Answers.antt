@@ -1,6 +1,6 @@
 -- An offset past the data, also one past 64 bits, names no record.
 use Rattle.std.proofs.Common.{◌≡◌, ◌+◌, ◌∙◌, length, min, arith}
-use Rattle.elf_parts.specs.Link.{links_view}
+use Rattle.elf_parts.specs.gnu_symver.Links.{links_view}
 use Rattle.elf_parts.proofs.LinkedRecords.{links_clipped}
 use Rattle.elf_parts.proofs.gnu_symver.links.Links.aux.Goals as goal
 

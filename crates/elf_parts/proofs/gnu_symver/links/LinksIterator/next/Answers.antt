@@ -1,6 +1,7 @@
 -- A record that is read is the first that was left; behind a refusal nothing is left.
 use Rattle.std.proofs.Common.{◌≡◌, ◌≤◌, ◌-◌, length, ap, sym, refl, arith, ◌∙◌, ◌∷◌, ℕ}
-use Rattle.elf_parts.specs.Link.{from_next, links_in, links_view, next_start}
+use Rattle.elf_parts.specs.Link.{from_next}
+use Rattle.elf_parts.specs.gnu_symver.Links.{links_in, links_view, next_start}
 use Rattle.elf_parts.proofs.LinkedRecords.{links_none, links_refused, links_read}
 use Rattle.elf_parts.proofs.gnu_symver.links.LinksIterator.next.Goals as goal
 

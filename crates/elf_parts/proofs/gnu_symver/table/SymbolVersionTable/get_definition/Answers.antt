@@ -1,8 +1,9 @@
 -- A definition has no more names than its count of two bytes says.
 use Rattle.std.proofs.Common.{◌≡◌, ap, sym, ◌∙◌, length, arith}
 use Rattle.std.proofs.lemmas.List.{length-map}
-use Rattle.elf_parts.specs.Link.{links_view}
-use Rattle.elf_parts.specs.Symver.{Definition, names_left, ver_def_aux_left}
+use Rattle.elf_parts.specs.gnu_symver.Links.{links_view}
+use Rattle.elf_parts.specs.gnu_symver.Lists.{ver_def_aux_left}
+use Rattle.elf_parts.specs.gnu_symver.Table.{Definition, names_left}
 use Rattle.elf_parts.proofs.Versions.{defined_few}
 use Rattle.elf_parts.proofs.gnu_symver.table.SymbolVersionTable.get_definition.Goals as goal
 

@@ -1,0 +1,118 @@
+"""Running programs, and telling what a run costs."""
+import hashlib
+import os
+import re
+import shutil
+import subprocess
+
+HERE = os.path.dirname(os.path.realpath(__file__))
+TOP = os.path.dirname(HERE)
+PROGRAM = os.path.join(TOP, "elfshow")
+BUILT = os.path.join(TOP, "crates", "elfshow_cli", "out", "elfshow_cli")
+RUNS = 7
+# How often our library program checks a section in one run, as it goes over the symbols.
+CHECKS = 20
+# No more runs where they have taken so long together.
+SECONDS = 6
+
+
+def built():
+    """The program, which has to be there before it is timed."""
+    subprocess.run([PROGRAM], stderr=subprocess.DEVNULL)
+    return BUILT
+
+
+def build_library_times(folder):
+    """The program that calls the library, beside a copy of the crates that it stands on with what their checks kept."""
+    with open(os.path.join(HERE, "library_times", "uses.txt")) as file:
+        own = file.read()
+    with open(os.path.join(TOP, "crates.txt")) as file:
+        lines = [line for line in file.read().splitlines() if ":" in line and not line.startswith("#")]
+    needs = {line.split(":")[0]: line.split(":")[1].split() for line in lines}
+    wanted, found = own.split(":")[1].split(), []
+    while wanted:
+        crate = wanted.pop()
+        if crate in needs and crate not in found:
+            found.append(crate)
+            wanted += needs[crate]
+    program = os.path.join(folder, "crates", "library_times")
+    os.makedirs(os.path.join(program, "src"))
+    with open(os.path.join(folder, "crates.txt"), "w") as file:
+        file.write("".join(f"{crate}: {' '.join(needs[crate])}\n" for crate in found) + own)
+    for crate in found:
+        shutil.copytree(os.path.join(TOP, "crates", crate), os.path.join(folder, "crates", crate), symlinks=True)
+    shutil.copy(os.path.join(HERE, "library_times", "main.rt.txt"), os.path.join(program, "src", "main.rt"))
+    subprocess.run(["rt", "run"], cwd=program, stdout=subprocess.DEVNULL)
+    return os.path.join(program, "out", "library_times")
+
+
+def processor_seconds(command):
+    """What one run takes of the processors; its text goes nowhere."""
+    pid = os.posix_spawn(command[0], command, os.environ, file_actions=[(os.POSIX_SPAWN_OPEN, 1, "/dev/null", os.O_WRONLY, 0)])
+    _, status, usage = os.wait4(pid, 0)
+    if status != 0:
+        raise SystemExit(f"{' '.join(command)[:200]}: status {status}")
+    return usage.ru_utime + usage.ru_stime
+
+
+def least_seconds(commands):
+    """The least that each command takes of some runs, by turns."""
+    least = [float("inf")] * len(commands)
+    total = 0
+    for _ in range(RUNS):
+        for number, command in enumerate(commands):
+            seconds = processor_seconds(command)
+            least[number] = min(least[number], seconds)
+            total += seconds
+        if total > SECONDS:
+            break
+    return least
+
+
+def told_nanoseconds(commands):
+    """What each program tells of its own work: what it found, and the least nanoseconds of some runs, by turns."""
+    told = [[] for _ in commands]
+    for _ in range(RUNS):
+        for command, runs in zip(commands, told):
+            runs.append(subprocess.run(command, capture_output=True, check=True, text=True).stdout.split())
+    return [(runs[0][0], min(int(run[1]) for run in runs)) for runs in told]
+
+
+def checked(command):
+    """What checks of a hash section tell: the symbols indexed and read, and the least nanoseconds of a check and of a pass
+    over the symbols."""
+    runs = [subprocess.run(command, capture_output=True, check=True, text=True).stdout.split() for _ in range(RUNS)]
+    check, once = (min(int(run[k]) for run in runs) / CHECKS for k in (2, 3))
+    indexed = runs[0][0].removeprefix("Some(").removesuffix(")")
+    return indexed, runs[0][1], check, once
+
+
+def text_of(command):
+    """A name for the text that a run writes."""
+    digest = hashlib.sha256()
+    with subprocess.Popen(command, stdout=subprocess.PIPE) as running:
+        while part := running.stdout.read(1 << 20):
+            digest.update(part)
+    return digest.hexdigest()
+
+
+def kibibytes_at_most(command):
+    """The memory of a run at its highest, by GNU time; None where that is not there."""
+    if not shutil.which("time"):
+        return None
+    told = subprocess.run(["time", "-f", "%M"] + command, stdout=subprocess.DEVNULL, stderr=subprocess.PIPE, text=True)
+    return int(told.stderr.split()[-1])
+
+
+def source_read(command, path):
+    """How many reads of a file a run makes, and the bytes that they gave, by strace; None where that is not there."""
+    if not shutil.which("strace"):
+        return None
+    told = subprocess.run(
+        ["strace", "-f", "-e", "trace=read,readv,pread64", "-P", path] + command,
+        stdout=subprocess.DEVNULL,
+        stderr=subprocess.PIPE,
+        text=True,
+    )
+    given = [int(each) for each in re.findall(r"^[^\n]*read[^\n]* = (\d+)$", told.stderr, re.MULTILINE)]
+    return len(given), sum(given)

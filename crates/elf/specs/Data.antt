@@ -1,0 +1,51 @@
+-- The bytes that a section stands for (gABI, chapter "Sections", "Section Compression").
+use Rattle.std.specs.Prelude.{ℕ, ◌==◌, if◌then◌else◌, bit_and, List, [], drop, Option, Some, None, Result}
+use Rattle.std.specs.Prelude.{Ok, Err}
+use Rattle.elf_abi.specs.Values.{shf_compressed, sht_nobits}
+use Rattle.elf_parts.specs.Compression.{compression_header_layout}
+use Rattle.elf_parts.specs.Number.{ok_map}
+use Rattle.elf_parts.specs.Record.{◌>>=◌, record_by, size_by}
+use Rattle.elf_parts.specs.declared.compression.CompressionHeader.{CompressionHeader}
+use Rattle.elf_parts.specs.declared.parse.ParseError.{ParseError}
+use Rattle.elf_parts.specs.declared.parse.ParseError.TheVariants.{UnexpectedSectionType}
+use Rattle.elf_parts.specs.declared.section.SectionHeader.{SectionHeader}
+use Rattle.elf.specs.ObjectFile.{ObjectFile}
+use Rattle.elf.specs.Headers.{section_range}
+use denote.Ref.{Bor}
+
+-- the record at the front of some bytes, and what follows it
+abbrev pub at_front : {A : Type 0}
+    → ℕ → (List ℕ → ℕ → Result A ParseError) → List ℕ → Result (List ℕ × A) ParseError
+at_front size gives bytes = gives bytes 0 >>= λ x. Ok (drop size bytes, x)
+
+-- a compression header at the front of some bytes, and what follows it
+abbrev pub compressed : ObjectFile → List ℕ → Result (List ℕ × CompressionHeader) ParseError
+compressed file part =
+    let header = record_by compression_header_layout file.little file.class in
+    at_front (size_by compression_header_layout file.class) header part
+
+-- a section of type SHT_NOBITS has no bytes, and its range is not looked at; else its range, and where its
+-- flags have SHF_COMPRESSED the header at the front of that, and what follows it
+unfoldable pub payload : ObjectFile → SectionHeader → Result (List ℕ × Option CompressionHeader) ParseError
+payload file s =
+    if s.sh_type == sht_nobits then Ok ([], None)
+    else section_range file.bytes s >>= λ part.
+    if bit_and s.sh_flags shf_compressed == 0 then Ok (part, None)
+    else ok_map (λ found. (found.0, Some found.1)) (compressed file part)
+
+-- the bytes in which strings or records of a section are looked for
+abbrev pub content : ObjectFile → SectionHeader → Result (List ℕ) ParseError
+content file s = ok_map (λ found. found.0) (payload file s)
+
+-- the same of a section that has to be of a type
+abbrev pub content_of_type : ℕ → ObjectFile → SectionHeader → Result (List ℕ) ParseError
+content_of_type t file s =
+    if s.sh_type == t then content file s else Err (UnexpectedSectionType (s.sh_type, t))
+
+-- what bytes that are lent show, with a record that stands before them
+abbrev pub front_view : {A : Type 0} → Bor (List ℕ) × A → List ℕ × A
+front_view found = (found.0.now, found.1)
+
+-- what the bytes of a section and their header show
+abbrev pub payload_view : Bor (List ℕ) × Option CompressionHeader → List ℕ × Option CompressionHeader
+payload_view found = (found.0.now, found.1)

@@ -1,0 +1,52 @@
+-- Section i of a file, the bytes that a header gives a range of (gABI, chapters "Sections" and "Program Header"), and
+-- which section or segment is taken, where a method looks for one of a type.
+use Rattle.std.specs.Prelude.{ℕ, List, Option, Some, None, Result, Err, ◌==◌, if◌then◌else◌, Bool, filter, Ok}
+use Rattle.std.specs.List.{find, last_or}
+use Rattle.elf_parts.specs.Number.{bytes_at, ok_map}
+use Rattle.elf_parts.specs.Section.{section_header_reads}
+use Rattle.elf_parts.specs.Table.{Table, table_get}
+use Rattle.elf_parts.specs.declared.parse.ParseError.{ParseError}
+use Rattle.elf_parts.specs.declared.parse.ParseError.TheVariants.{BadOffset, BadEntsize}
+use Rattle.elf_parts.specs.declared.section.SectionHeader.{SectionHeader}
+use Rattle.elf_parts.specs.declared.segment.ProgramHeader.{ProgramHeader}
+
+-- ---- a header, and its bytes
+
+-- section header i of a table, or why it cannot be had; where no table is declared there is none
+abbrev pub section_at : Option Table → ℕ → Result SectionHeader ParseError
+section_at None i = Err (BadOffset i)
+section_at (Some t) i = table_get section_header_reads t i
+
+-- the bytes of a section: sh_size of them from sh_offset on
+abbrev pub section_range : List ℕ → SectionHeader → Result (List ℕ) ParseError
+section_range bytes s = bytes_at s.sh_size bytes s.sh_offset
+
+-- the bytes of a segment in the file: p_filesz of them from p_offset on
+abbrev pub segment_range : List ℕ → ProgramHeader → Result (List ℕ) ParseError
+segment_range bytes p = bytes_at p.p_filesz bytes p.p_offset
+
+-- ---- the first and the last of a type
+
+-- what is answered of a header, where there is one
+abbrev pub if_found : {A B : Type 0} → (A → Result B ParseError) → Option A → Result (Option B) ParseError
+if_found answer None = Ok None
+if_found answer (Some header) = ok_map Some (answer header)
+
+abbrev pub is_of_type : ℕ → SectionHeader → Bool
+is_of_type t s = s.sh_type == t
+
+-- the first section of a type
+abbrev pub first_section_of : ℕ → List SectionHeader → Option SectionHeader
+first_section_of t sections = find (is_of_type t) sections
+
+-- the last section of a type
+abbrev pub last_section_of : ℕ → List SectionHeader → Option SectionHeader
+last_section_of t sections = last_or None (filter (is_of_type t) sections)
+
+-- the first segment of a type
+abbrev pub first_segment_of : ℕ → List ProgramHeader → Option ProgramHeader
+first_segment_of t segments = find (λ p. p.p_type == t) segments
+
+-- the size of an entry that a section header gives, where it is that of a record
+abbrev pub entry_size : ℕ → SectionHeader → Result ℕ ParseError
+entry_size size s = if s.sh_entsize == size then Ok size else Err (BadEntsize (s.sh_entsize, size))

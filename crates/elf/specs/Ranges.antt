@@ -1,0 +1,111 @@
+-- The ranges that a call of a stream asks for, each by its start and its size: the whole ranges of the headers whose
+-- bytes its answer is cut from.
+use Rattle.std.specs.Prelude.{ℕ, Bool, ◌==◌, if◌then◌else◌, List, [], ◌∷◌, ◌++◌, Option, Some}
+use Rattle.std.specs.Prelude.{None, Result, Ok, Err}
+use Rattle.elf_abi.specs.Values.{pt_dynamic, pt_note, sht_dynamic, sht_nobits}
+use Rattle.elf_parts.specs.Dynamic.{dyn_layout}
+use Rattle.elf_parts.specs.Record.{◌>>=◌, size_by}
+use Rattle.elf_parts.specs.gnu_symver.Records.{version_index_layout}
+use Rattle.elf_parts.specs.declared.parse.ParseError.{ParseError}
+use Rattle.elf_parts.specs.declared.section.SectionHeader.{SectionHeader}
+use Rattle.elf_parts.specs.declared.segment.ProgramHeader.{ProgramHeader}
+use Rattle.elf.specs.Answers.{symbol_sections}
+use Rattle.elf.specs.Headers.{entry_size, first_section_of, first_segment_of, if_found}
+use Rattle.elf.specs.StreamFile.{stream_file}
+use Rattle.elf.specs.Names.{name_section}
+use Rattle.elf.specs.ObjectFile.{ObjectFile}
+use Rattle.elf.specs.ElfStream.{Seen}
+use Rattle.elf.specs.Versions.{version_sections}
+use Rattle.elf.specs.declared.headers.VersionSections.{VersionSections}
+
+abbrev pub range_of_section : SectionHeader → ℕ × ℕ
+range_of_section s = (s.sh_offset, s.sh_size)
+
+abbrev pub range_of_segment : ProgramHeader → ℕ × ℕ
+range_of_segment p = (p.p_offset, p.p_filesz)
+
+-- section_data: a section of type SHT_NOBITS has no bytes
+abbrev pub section_asked : SectionHeader → List (ℕ × ℕ)
+section_asked s = if s.sh_type == sht_nobits then [] else range_of_section s ∷ []
+
+-- its typed views: a section of another type is refused before it is read
+abbrev pub typed_section_asked : ℕ → SectionHeader → List (ℕ × ℕ)
+typed_section_asked t s = if s.sh_type == t then section_asked s else []
+
+-- segment_data
+abbrev pub segment_asked : ProgramHeader → List (ℕ × ℕ)
+segment_asked p = range_of_segment p ∷ []
+
+-- segment_data_as_notes: a segment of another type than PT_NOTE is refused before it is read
+abbrev pub segment_notes_asked : ProgramHeader → List (ℕ × ℕ)
+segment_notes_asked p = if p.p_type == pt_note then segment_asked p else []
+
+-- ---- of calls that choose their headers, which takes the headers alone and no byte of the file
+
+-- a stream over no bytes
+abbrev pub headers_alone : {E : Type 0} → (E → Bool) → Seen E → ObjectFile
+headers_alone little s = stream_file little s []
+
+-- the ranges for a header that there may not be
+abbrev pub if_there : {A : Type 0} → (A → List (ℕ × ℕ)) → Option A → List (ℕ × ℕ)
+if_there asked None = []
+if_there asked (Some header) = asked header
+
+-- the same of a choice that may be refused
+abbrev pub if_chosen : {A : Type 0} → (A → List (ℕ × ℕ)) → Result (Option A) ParseError → List (ℕ × ℕ)
+if_chosen asked (Ok chosen) = if_there asked chosen
+if_chosen asked (Err e) = []
+
+-- the whole range of a section, and the ranges of two
+abbrev pub whole_section : SectionHeader → List (ℕ × ℕ)
+whole_section s = range_of_section s ∷ []
+
+abbrev pub both_sections : SectionHeader × SectionHeader → List (ℕ × ℕ)
+both_sections pair = range_of_section pair.0 ∷ range_of_section pair.1 ∷ []
+
+-- section_headers_with_strtab and section_header_by_name
+abbrev pub names_asked : ObjectFile → List (ℕ × ℕ)
+names_asked file = if_chosen whole_section (name_section file)
+
+-- symbol_table (SHT_SYMTAB) and dynamic_symbol_table (SHT_DYNSYM)
+abbrev pub symbols_asked : ℕ → ObjectFile → List (ℕ × ℕ)
+symbols_asked t file = if_chosen both_sections (symbol_sections t file)
+
+-- the dynamic entries of a section: where its entry size is not that of an entry it is refused before it is read
+abbrev pub section_dynamic_asked : ObjectFile → SectionHeader → List (ℕ × ℕ)
+section_dynamic_asked file s = if s.sh_entsize == size_by dyn_layout file.class then section_asked s else []
+
+-- dynamic
+abbrev pub dynamic_asked : ObjectFile → List (ℕ × ℕ)
+dynamic_asked file =
+    if file.has_sections then if_there (section_dynamic_asked file) (first_section_of sht_dynamic file.sections)
+    else if_there segment_asked (first_segment_of pt_dynamic file.segments)
+
+-- a section, and the one that it links to
+abbrev pub Linked : Type 0
+Linked = SectionHeader × SectionHeader
+
+abbrev pub with_link : ObjectFile → SectionHeader → Result Linked ParseError
+with_link file s = file.section_at s.sh_link >>= λ linked. Ok (s, linked)
+
+-- the section of version indexes, and those of the needs and of the definitions with the ones that they link to
+abbrev pub VersionPlan : Type 0
+VersionPlan = SectionHeader × Option Linked × Option Linked
+
+abbrev pub version_plan_of : ObjectFile → VersionSections → SectionHeader → Result VersionPlan ParseError
+version_plan_of file chosen s =
+    entry_size (size_by version_index_layout file.class) s >>= λ _.
+    if_found (with_link file) chosen.needs >>= λ needs.
+    if_found (with_link file) chosen.definitions >>= λ definitions.
+    Ok (s, needs, definitions)
+
+abbrev pub version_plan : ObjectFile → Result (Option VersionPlan) ParseError
+version_plan file =
+    let chosen = version_sections file.sections in if_found (version_plan_of file chosen) chosen.indexes
+
+abbrev pub plan_asked : VersionPlan → List (ℕ × ℕ)
+plan_asked plan = range_of_section plan.0 ∷ (if_there both_sections plan.1 ++ if_there both_sections plan.2)
+
+-- symbol_version_table
+abbrev pub versions_asked : ObjectFile → List (ℕ × ℕ)
+versions_asked file = if_chosen plan_asked (version_plan file)

@@ -1,0 +1,149 @@
+-- Two readers of a file answer the same; and calls of an `ElfStream` one after the other, with headers put into `ehdr`
+-- between them, beside what `ElfBytes` answers to the same calls with the same headers.
+use Rattle.std.specs.Prelude.{◌≡◌, ℕ, List, Result, Bool, [], ◌∷◌, Option, Ok, Err, IsErr}
+use Rattle.std.specs.Result.{result_ok}
+use Rattle.elf_abi.specs.Values.{sht_dynsym, sht_note, sht_rel, sht_rela, sht_strtab, sht_symtab}
+use Rattle.elf_parts.specs.declared.parse.ParseError.{ParseError}
+use Rattle.elf_parts.specs.declared.section.SectionHeader.{SectionHeader}
+use Rattle.elf_parts.specs.declared.segment.ProgramHeader.{ProgramHeader}
+use Rattle.elf_parts.specs.Note.{NoteContent}
+use Rattle.elf_parts.specs.gnu_symver.Table.{Versions}
+use Rattle.elf_parts.specs.Table.{Table}
+use Rattle.elf_parts.specs.declared.compression.CompressionHeader.{CompressionHeader}
+use Rattle.elf_parts.specs.declared.file.FileHeader.{FileHeader}
+use Rattle.elf_parts.specs.declared.relocation.Rel.{Rel}
+use Rattle.elf_parts.specs.declared.relocation.Rela.{Rela}
+use Rattle.elf.specs.Answers.{dynamic, dynamic_symbol_table, section_data}
+use Rattle.elf.specs.Answers.{section_data_as_notes, section_data_as_relas, section_data_as_rels}
+use Rattle.elf.specs.Answers.{section_data_as_strtab, section_header_by_name, segment_data}
+use Rattle.elf.specs.Answers.{segment_data_as_notes, symbol_table, symbol_version_table}
+use Rattle.elf.specs.Names.{name_table, headers_with_names}
+use Rattle.elf.specs.ObjectFile.{ObjectFile, object_file}
+use Rattle.elf.specs.Answers as methods
+use Rattle.elf.specs.Ranges.{dynamic_asked, headers_alone, names_asked, section_asked, segment_asked}
+use Rattle.elf.specs.Ranges.{segment_notes_asked, symbols_asked, typed_section_asked, versions_asked}
+use Rattle.elf.specs.StreamFile.{stream_file}
+use Rattle.elf.specs.ElfStream.{Kind, Leaves, Seen, kind}
+use Rattle.elf.specs.ElfBytes.{View, with_header}
+
+-- ---- two object files
+
+-- the same value, or both are refused, for whatever reason
+abbrev pub AreAlike : {A : Type 0} → Result A ParseError → Result A ParseError → Type 0
+AreAlike one other = result_ok one ≡ result_ok other
+
+-- the same headers, and of each method alike answers
+pub record SameAnswers (one other : ObjectFile) : Type 0 where
+  pub segments : one.segments ≡ other.segments
+  pub section_headers : one.sections ≡ other.sections
+  pub section_names : AreAlike (name_table one) (name_table other)
+  pub section_header_by_name : (name : List ℕ) →
+      AreAlike (section_header_by_name one name) (section_header_by_name other name)
+  pub section_data : (s : SectionHeader) → AreAlike (section_data one s) (section_data other s)
+  pub section_data_as_strtab : (s : SectionHeader) →
+      AreAlike (section_data_as_strtab one s) (section_data_as_strtab other s)
+  pub section_data_as_rels : (s : SectionHeader) →
+      AreAlike (section_data_as_rels one s) (section_data_as_rels other s)
+  pub section_data_as_relas : (s : SectionHeader) →
+      AreAlike (section_data_as_relas one s) (section_data_as_relas other s)
+  pub section_data_as_notes : (s : SectionHeader) →
+      AreAlike (section_data_as_notes one s) (section_data_as_notes other s)
+  pub segment_data : (p : ProgramHeader) → AreAlike (segment_data one p) (segment_data other p)
+  pub segment_data_as_notes : (p : ProgramHeader) →
+      AreAlike (segment_data_as_notes one p) (segment_data_as_notes other p)
+  pub symbol_table : AreAlike (symbol_table one) (symbol_table other)
+  pub dynamic_symbol_table : AreAlike (dynamic_symbol_table one) (dynamic_symbol_table other)
+  pub dynamic : AreAlike (dynamic one) (dynamic other)
+  pub symbol_version_table : AreAlike (symbol_version_table one) (symbol_version_table other)
+
+-- ---- a list of calls
+
+-- a method that both readers have, with its arguments
+pub data Method : Type 0 where
+  SectionHeadersWithStrtab : Method
+  SectionHeaderByName : List ℕ → Method
+  SectionData : SectionHeader → Method
+  SectionDataAsStrtab : SectionHeader → Method
+  SectionDataAsRels : SectionHeader → Method
+  SectionDataAsRelas : SectionHeader → Method
+  SectionDataAsNotes : SectionHeader → Method
+  SegmentData : ProgramHeader → Method
+  SegmentDataAsNotes : ProgramHeader → Method
+  SymbolTable : Method
+  DynamicSymbolTable : Method
+  Dynamic : Method
+  SymbolVersionTable : Method
+
+-- what its result shows
+abbrev pub Shown : Method → Type 0
+Shown SectionHeadersWithStrtab = List SectionHeader × Option (List ℕ)
+Shown (SectionHeaderByName name) = Option SectionHeader
+Shown (SectionData s) = List ℕ × Option CompressionHeader
+Shown (SectionDataAsStrtab s) = List ℕ
+Shown (SectionDataAsRels s) = List Rel
+Shown (SectionDataAsRelas s) = List Rela
+Shown (SectionDataAsNotes s) = List NoteContent
+Shown (SegmentData p) = List ℕ
+Shown (SegmentDataAsNotes p) = List NoteContent
+Shown SymbolTable = Option (Table × List ℕ)
+Shown DynamicSymbolTable = Option (Table × List ℕ)
+Shown Dynamic = Option Table
+Shown SymbolVersionTable = Option Versions
+
+-- its answer about an object file
+abbrev pub answer : (m : Method) → ObjectFile → Result (Shown m) ParseError
+answer SectionHeadersWithStrtab file = headers_with_names file
+answer (SectionHeaderByName name) file = methods.section_header_by_name file name
+answer (SectionData s) file = methods.section_data file s
+answer (SectionDataAsStrtab s) file = methods.section_data_as_strtab file s
+answer (SectionDataAsRels s) file = methods.section_data_as_rels file s
+answer (SectionDataAsRelas s) file = methods.section_data_as_relas file s
+answer (SectionDataAsNotes s) file = methods.section_data_as_notes file s
+answer (SegmentData p) file = methods.segment_data file p
+answer (SegmentDataAsNotes p) file = methods.segment_data_as_notes file p
+answer SymbolTable file = methods.symbol_table file
+answer DynamicSymbolTable file = methods.dynamic_symbol_table file
+answer Dynamic file = methods.dynamic file
+answer SymbolVersionTable file = methods.symbol_version_table file
+
+-- the ranges that a stream is asked for
+abbrev pub asked : Method → ObjectFile → List (ℕ × ℕ)
+asked SectionHeadersWithStrtab file = names_asked file
+asked (SectionHeaderByName name) file = names_asked file
+asked (SectionData s) file = section_asked s
+asked (SectionDataAsStrtab s) file = typed_section_asked sht_strtab s
+asked (SectionDataAsRels s) file = typed_section_asked sht_rel s
+asked (SectionDataAsRelas s) file = typed_section_asked sht_rela s
+asked (SectionDataAsNotes s) file = typed_section_asked sht_note s
+asked (SegmentData p) file = segment_asked p
+asked (SegmentDataAsNotes p) file = segment_notes_asked p
+asked SymbolTable file = symbols_asked sht_symtab file
+asked DynamicSymbolTable file = symbols_asked sht_dynsym file
+asked Dynamic file = dynamic_asked file
+asked SymbolVersionTable file = versions_asked file
+
+-- a call of a stream: the header that stands in it, the method, what its result shows, and the stream afterwards
+pub record Call (E : Type 0) : Type 0 where
+  pub header : FileHeader E
+  pub method : Method
+  pub result : Result (Shown method) ParseError
+  pub new : Seen E
+
+-- the calls are made one after the other, each with its header put into `ehdr`, and each does what its contract says
+abbrev pub AreMade : {E : Type 0} → (E → Bool) → Seen E → List (Call E) → Type 0
+AreMade little s [] = Unit {0}
+AreMade little s (call ∷ calls) =
+    let old = record s { ehdr = call.header } in
+    Leaves (asked call.method (headers_alone little old)) (λ x. x)
+    (λ bytes. answer call.method (stream_file little old bytes)) old call.new call.result
+    × AreMade little call.new calls
+
+-- the same value; or where the content is refused the other refuses too, and else the source failed or memory was
+-- refused
+abbrev pub IsSame : {A : Type 0} → Result A ParseError → Result A ParseError → Type 0
+IsSame other (Ok x) = other ≡ Ok x
+IsSame other (Err e) = kind e ≡ Kind.Refusal → IsErr other
+
+-- what `ElfBytes` answers to the call, over the file that was opened, with the header of the call
+abbrev pub IsAnsweredAlike : {E : Type 0} → (E → Bool) → View E → Call E → Type 0
+IsAnsweredAlike little v call = IsSame (answer call.method (object_file little (with_header v call.header))) call.result

@@ -1,0 +1,28 @@
+-- An object file whose headers stand in lists, as a stream has them.
+use Rattle.std.specs.Prelude.{ℕ, Bool, List, Result, ok_or, slice_get}
+use Rattle.elf_parts.specs.declared.parse.ParseError.{ParseError}
+use Rattle.elf_parts.specs.declared.parse.ParseError.TheVariants.{BadOffset}
+use Rattle.elf_parts.specs.declared.section.SectionHeader.{SectionHeader}
+use Rattle.elf.specs.ObjectFile.{ObjectFile}
+use Rattle.elf.specs.ElfStream.{Headers, Seen, shown_headers}
+
+-- member i of the list, or that there is none
+abbrev pub listed_at : List SectionHeader → ℕ → Result SectionHeader ParseError
+listed_at sections i = ok_or (slice_get sections i) (BadOffset i)
+
+-- these headers over these bytes
+abbrev pub listed_file : {E : Type 0} → (E → Bool) → Headers E → List ℕ → ObjectFile
+listed_file little h bytes = record {
+  little = little h.ehdr.endianness;
+  class = h.ehdr.class;
+  e_shstrndx = h.ehdr.e_shstrndx;
+  bytes = bytes;
+  has_sections = h.declares_sections;
+  sections = h.sections;
+  section_at = listed_at h.sections;
+  segments = h.segments;
+}
+
+-- what a stream is to its answers, over these bytes
+abbrev pub stream_file : {E : Type 0} → (E → Bool) → Seen E → List ℕ → ObjectFile
+stream_file little s bytes = listed_file little (shown_headers s) bytes

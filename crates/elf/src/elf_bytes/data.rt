@@ -1,0 +1,141 @@
+//! The bytes of sections.
+ghost use Rattle.std.specs.Prelude.{◌≡◌, ◌≤◌, ◌<◌, ◌^◌, IfOk, length};
+ghost use Rattle.elf_parts.specs.Note.{notes_left};
+ghost use Rattle.elf_parts.specs.Number.{ok_map};
+ghost use Rattle.elf_parts.specs.StringTable.{strings_view};
+ghost use Rattle.elf.specs.Answers.{relas_left, rels_left, section_data, section_data_as_notes};
+ghost use Rattle.elf.specs.Answers.{section_data_as_relas, section_data_as_rels, section_data_as_strtab};
+ghost use Rattle.elf.specs.ObjectFile.{object_file};
+ghost use Rattle.elf.specs.Data.{content_of_type, payload_view};
+ghost use Rattle.elf.specs.Headers.{section_range};
+ghost use Rattle.elf.specs.ElfBytes.{view};
+
+use super::{ElfBytes, get_bytes};
+use crate::leading::leading_record;
+use elf_abi::abi;
+use elf_parts::compression::CompressionHeader;
+use elf_parts::endian::EndianParse;
+use elf_parts::note::NoteIterator;
+use elf_parts::parse::ParseError;
+use elf_parts::relocation::{RelIterator, RelaIterator};
+use elf_parts::section::SectionHeader;
+use elf_parts::string_table::StringTable;
+
+// The bytes that a section header gives a range of.
+pub(super) fn section_range<'data>(
+    shdr: &SectionHeader,
+    data: &'data [u8],
+) -> Result<&'data [u8], ParseError>
+    ensures value { ok_map (λ bytes. bytes.now) result ≡ section_range «data».now shdr.now }
+    ensures within { IfOk result (λ bytes. length bytes.now ≤ length «data».now) }
+{
+    get_bytes(data, shdr.sh_offset as usize, shdr.sh_size as usize)
+}
+
+impl<'data, E: EndianParse> ElfBytes<'data, E> {
+    /// The bytes of a section; of a compressed one its header and what follows that (gABI, chapter
+    /// "Sections"). A section of type `SHT_NOBITS` has none, whatever its range. Refuses where the range
+    /// does not lie in the file or the compression header cannot be read.
+    #[tactic(auto, unfolding(crate::specs::Data::payload))]
+    pub fn section_data(
+        &self,
+        shdr: &SectionHeader,
+    ) -> Result<(&'data [u8], Option<CompressionHeader>), ParseError>
+        ensures value { ok_map payload_view result ≡ section_data (object_file E.little (view self.now)) shdr.now }
+        ensures within { IfOk result (λ found. length found.0.now ≤ length (view self.now).bytes) }
+    {
+        if shdr.sh_type == abi::SHT_NOBITS {
+            return Ok((&[], None));
+        }
+        let part = section_range(shdr, self.data)?;
+        if shdr.sh_flags & abi::SHF_COMPRESSED as u64 == 0 {
+            return Ok((part, None));
+        }
+        let (rest, header) = leading_record::<E, CompressionHeader>(
+            self.ehdr.endianness,
+            self.ehdr.class,
+            part,
+        )?;
+        Ok((rest, Some(header)))
+    }
+
+    // The bytes of a section that has to be of a type.
+    pub(super) fn content_of_type(
+        &self,
+        shdr: &SectionHeader,
+        sh_type: u32,
+    ) -> Result<&'data [u8], ParseError>
+        ensures value { ok_map (λ bytes. bytes.now) result
+            ≡ content_of_type sh_type (object_file E.little (view self.now)) shdr.now }
+        ensures within { IfOk result (λ bytes. length bytes.now ≤ length (view self.now).bytes) }
+    {
+        if shdr.sh_type != sh_type {
+            return Err(ParseError::UnexpectedSectionType((shdr.sh_type, sh_type)));
+        }
+        let (bytes, _) = self.section_data(shdr)?;
+        Ok(bytes)
+    }
+
+    /// The strings of a section of type `SHT_STRTAB`. Refuses another type with `UnexpectedSectionType`,
+    /// and else as `section_data` does.
+    pub fn section_data_as_strtab(
+        &self,
+        shdr: &SectionHeader,
+    ) -> Result<StringTable<'data>, ParseError>
+        ensures { ok_map strings_view result
+            ≡ section_data_as_strtab (object_file E.little (view self.now)) shdr.now }
+    {
+        let bytes = self.content_of_type(shdr, abi::SHT_STRTAB)?;
+        Ok(StringTable::new(bytes))
+    }
+
+    /// The relocations of a section of type `SHT_REL`, in order, up to the first that is refused. Refuses
+    /// another type with `UnexpectedSectionType`, and else as `section_data` does.
+    pub fn section_data_as_rels(
+        &self,
+        shdr: &SectionHeader,
+    ) -> Result<RelIterator<'data, E>, ParseError>
+        ensures items { ok_map rels_left result
+            ≡ section_data_as_rels (object_file E.little (view self.now)) shdr.now }
+        ensures few { IfOk result (λ rels. length (rels_left rels) ≤ length (view self.now).bytes) }
+        ensures bound { IfOk result (λ rels. length (rels_left rels) < 2 ^ 64) }
+    {
+        let bytes = self.content_of_type(shdr, abi::SHT_REL)?;
+        Ok(RelIterator::new(self.ehdr.endianness, self.ehdr.class, bytes))
+    }
+
+    /// The relocations of a section of type `SHT_RELA`, in order, up to the first that is refused. Refuses
+    /// another type with `UnexpectedSectionType`, and else as `section_data` does.
+    pub fn section_data_as_relas(
+        &self,
+        shdr: &SectionHeader,
+    ) -> Result<RelaIterator<'data, E>, ParseError>
+        ensures items { ok_map relas_left result
+            ≡ section_data_as_relas (object_file E.little (view self.now)) shdr.now }
+        ensures few { IfOk result (λ relas. length (relas_left relas) ≤ length (view self.now).bytes) }
+        ensures bound { IfOk result (λ relas. length (relas_left relas) < 2 ^ 64) }
+    {
+        let bytes = self.content_of_type(shdr, abi::SHT_RELA)?;
+        Ok(RelaIterator::new(self.ehdr.endianness, self.ehdr.class, bytes))
+    }
+
+    /// The notes of a section of type `SHT_NOTE`, whose alignment is `sh_addralign`, up to the first that
+    /// does not fit. Refuses another type with `UnexpectedSectionType`, and else as `section_data` does.
+    pub fn section_data_as_notes(
+        &self,
+        shdr: &SectionHeader,
+    ) -> Result<NoteIterator<'data, E>, ParseError>
+        ensures items { ok_map notes_left result
+            ≡ section_data_as_notes (object_file E.little (view self.now)) shdr.now }
+        ensures few { IfOk result (λ notes. length (notes_left notes) ≤ length (view self.now).bytes) }
+        ensures bound { IfOk result (λ notes. length (notes_left notes) < 2 ^ 64) }
+    {
+        let bytes = self.content_of_type(shdr, abi::SHT_NOTE)?;
+        Ok(NoteIterator::new(
+            self.ehdr.endianness,
+            self.ehdr.class,
+            shdr.sh_addralign as usize,
+            bytes,
+        ))
+    }
+}

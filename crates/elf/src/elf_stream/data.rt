@@ -1,0 +1,231 @@
+//! The bytes of sections.
+ghost use Rattle.std.specs.Prelude.{◌≡◌, ◌≤◌, ◌<◌, ◌^◌, IfErr, IfOk, IfSome, OnOk, length};
+ghost use Rattle.elf_abi.specs.Values.{sht_note, sht_rel, sht_rela, sht_strtab};
+ghost use Rattle.elf_parts.specs.Note.{notes_left};
+ghost use Rattle.elf_parts.specs.Number.{ok_map};
+ghost use Rattle.elf_parts.specs.StringTable.{strings_view};
+ghost use Rattle.elf_parts.specs.Table.{items_left, table_items};
+ghost use Rattle.elf.specs.Answers.{relas_left, rels_left, section_data, section_data_as_notes};
+ghost use Rattle.elf.specs.Answers.{section_data_as_relas, section_data_as_rels, section_data_as_strtab};
+ghost use Rattle.elf.specs.Ranges.{section_asked, typed_section_asked};
+ghost use Rattle.elf.specs.StreamFile.{stream_file};
+ghost use Rattle.elf.specs.ObjectFile.{table_of};
+ghost use Rattle.elf.specs.Data.{content, content_of_type, payload, payload_view};
+ghost use Rattle.elf.specs.ElfStream.{AreHeld, Kind, kind};
+ghost use Rattle.elf.specs.inner.Loads.{AreLow, Loads, LoadsFor};
+
+use super::ElfStream;
+use crate::leading::leading_record;
+use crate::source::StreamSource;
+use elf_abi::abi;
+use elf_parts::compression::CompressionHeader;
+use elf_parts::endian::EndianParse;
+use elf_parts::note::NoteIterator;
+use elf_parts::parse::{ParseAt, ParseError, ParsingIterator};
+use elf_parts::relocation::{Rel, RelIterator, Rela, RelaIterator};
+use elf_parts::section::SectionHeader;
+use elf_parts::string_table::StringTable;
+use std::alloc::Allocator;
+
+impl<E: EndianParse, S: StreamSource, A: Allocator + Copy> ElfStream<E, S, A> {
+    ghost use Rattle.std.specs.Borrow.{sem};
+    ghost use Rattle.elf.specs.Lending.{Lends};
+
+    // Loads the range of a section that has bytes.
+    pub(super) fn load_payload(&mut self, shdr: &SectionHeader) -> Result<(), ParseError>
+        ensures { Loads (section_asked shdr.now) self.old self.new result }
+    {
+        if shdr.sh_type == abi::SHT_NOBITS {
+            return Ok(());
+        }
+        self.load_section(shdr)
+    }
+
+    // The bytes of a section, which are held where it has any.
+    #[tactic(auto, unfolding(crate::specs::Data::payload))]
+    pub(super) fn lend_payload(
+        &self,
+        shdr: &SectionHeader,
+    ) -> Result<(&[u8], Option<CompressionHeader>), ParseError>
+        requires low { AreLow (section_asked shdr.now) }
+        requires held { AreHeld self.now (section_asked shdr.now) }
+        ensures value { IfSome self.now.content (λ bytes.
+            ok_map payload_view result ≡ payload (stream_file E.little self.now bytes) shdr.now) }
+        ensures within { IfOk result (λ found.
+            IfSome self.now.content (λ bytes. length found.0.now ≤ length bytes)) }
+        ensures plain { IfErr result (λ e. kind e ≡ Kind.Refusal) }
+    {
+        if shdr.sh_type == abi::SHT_NOBITS {
+            return Ok((&[], None));
+        }
+        let part = self.held_bytes(shdr.sh_offset, shdr.sh_size);
+        if shdr.sh_flags & abi::SHF_COMPRESSED as u64 == 0 {
+            return Ok((part, None));
+        }
+        let (rest, header) = leading_record::<E, CompressionHeader>(
+            self.ehdr.endianness,
+            self.ehdr.class,
+            part,
+        )?;
+        Ok((rest, Some(header)))
+    }
+
+    /// The bytes of a section; of a compressed one its header and what follows that (gABI, chapter
+    /// "Sections"). A section of type `SHT_NOBITS` has none, whatever its range. Refuses where the range
+    /// does not lie in the file or the compression header cannot be read.
+    pub fn section_data(
+        &mut self,
+        shdr: &SectionHeader,
+    ) -> Result<(&[u8], Option<CompressionHeader>), ParseError>
+        ensures* leaves { sem 𝓛 (Lends E.row S.row A.row E.EndianParse S.StreamSource A.Allocator self.entry
+            (λ _. section_asked shdr.now) payload_view (λ file. section_data file shdr.now) result) }
+    {
+        self.load_payload(shdr)?;
+        self.lend_payload(shdr)
+    }
+
+    // Loads the range of a section that has to be of a type.
+    fn load_content(&mut self, shdr: &SectionHeader, sh_type: u32) -> Result<(), ParseError>
+        ensures loads { LoadsFor (typed_section_asked sh_type shdr.now)
+            (λ bytes. content_of_type sh_type (stream_file E.little self.old bytes) shdr.now)
+            self.old self.new result }
+        ensures of_type { OnOk result (shdr.now.sh_type ≡ sh_type) }
+        ensures loaded { OnOk result (AreLow (section_asked shdr.now) × AreHeld self.new (section_asked shdr.now)) }
+    {
+        if shdr.sh_type != sh_type {
+            return Err(ParseError::UnexpectedSectionType((shdr.sh_type, sh_type)));
+        }
+        self.load_payload(shdr)
+    }
+
+    // The bytes of a section without its compression header, which are held.
+    fn lend_content(&self, shdr: &SectionHeader) -> Result<&[u8], ParseError>
+        requires low { AreLow (section_asked shdr.now) }
+        requires held { AreHeld self.now (section_asked shdr.now) }
+        ensures value { IfSome self.now.content (λ bytes. ok_map (λ part. part.now) result
+            ≡ content (stream_file E.little self.now bytes) shdr.now) }
+        ensures within { IfOk result (λ part. IfSome self.now.content (λ bytes. length part.now ≤ length bytes)) }
+        ensures plain { IfErr result (λ e. kind e ≡ Kind.Refusal) }
+    {
+        let (bytes, _) = self.lend_payload(shdr)?;
+        Ok(bytes)
+    }
+
+    // The strings of a section, whose bytes are held.
+    fn lend_strtab(&self, shdr: &SectionHeader) -> Result<StringTable<'_>, ParseError>
+        requires of_type { shdr.now.sh_type ≡ sht_strtab }
+        requires low { AreLow (section_asked shdr.now) }
+        requires held { AreHeld self.now (section_asked shdr.now) }
+        ensures value { IfSome self.now.content (λ bytes.
+            ok_map strings_view result ≡ section_data_as_strtab (stream_file E.little self.now bytes) shdr.now) }
+        ensures plain { IfErr result (λ e. kind e ≡ Kind.Refusal) }
+    {
+        let bytes = self.lend_content(shdr)?;
+        Ok(StringTable::new(bytes))
+    }
+
+    /// The strings of a section of type `SHT_STRTAB`. Refuses another type with `UnexpectedSectionType`,
+    /// and else as `section_data` does.
+    pub fn section_data_as_strtab(
+        &mut self,
+        shdr: &SectionHeader,
+    ) -> Result<StringTable<'_>, ParseError>
+        ensures* leaves { sem 𝓛 (Lends E.row S.row A.row E.EndianParse S.StreamSource A.Allocator self.entry
+            (λ _. typed_section_asked sht_strtab shdr.now) strings_view
+            (λ file. section_data_as_strtab file shdr.now) result) }
+    {
+        self.load_content(shdr, abi::SHT_STRTAB)?;
+        self.lend_strtab(shdr)
+    }
+
+    // The records of a section, whose bytes are held.
+    fn lend_records<P: ParseAt>(
+        &self,
+        shdr: &SectionHeader,
+    ) -> Result<ParsingIterator<'_, E, P>, ParseError>
+        requires low { AreLow (section_asked shdr.now) }
+        requires held { AreHeld self.now (section_asked shdr.now) }
+        ensures value { IfSome self.now.content (λ bytes. ok_map (items_left P.reads) result
+            ≡ ok_map (λ part. table_items P.reads (table_of (stream_file E.little self.now bytes) part))
+            (content (stream_file E.little self.now bytes) shdr.now)) }
+        ensures plain { IfErr result (λ e. kind e ≡ Kind.Refusal) }
+        ensures few { IfOk result (λ records.
+            IfSome self.now.content (λ bytes. length (items_left P.reads records) ≤ length bytes)) }
+        ensures bound { IfOk result (λ records. length (items_left P.reads records) < 2 ^ 64) }
+    {
+        let bytes = self.lend_content(shdr)?;
+        Ok(ParsingIterator::new(self.ehdr.endianness, self.ehdr.class, bytes))
+    }
+
+    /// The relocations of a section of type `SHT_REL`, in order, up to the first that is refused. Refuses
+    /// another type with `UnexpectedSectionType`, and else as `section_data` does.
+    pub fn section_data_as_rels(
+        &mut self,
+        shdr: &SectionHeader,
+    ) -> Result<RelIterator<'_, E>, ParseError>
+        ensures* leaves { sem 𝓛 (Lends E.row S.row A.row E.EndianParse S.StreamSource A.Allocator self.entry
+            (λ _. typed_section_asked sht_rel shdr.now) rels_left
+            (λ file. section_data_as_rels file shdr.now) result) }
+        ensures few { IfOk result (λ rels.
+            IfSome self.old.content (λ bytes. length (rels_left rels) ≤ length bytes)) }
+        ensures bound { IfOk result (λ rels. length (rels_left rels) < 2 ^ 64) }
+    {
+        self.load_content(shdr, abi::SHT_REL)?;
+        self.lend_records::<Rel>(shdr)
+    }
+
+    /// The relocations of a section of type `SHT_RELA`, in order, up to the first that is refused. Refuses
+    /// another type with `UnexpectedSectionType`, and else as `section_data` does.
+    pub fn section_data_as_relas(
+        &mut self,
+        shdr: &SectionHeader,
+    ) -> Result<RelaIterator<'_, E>, ParseError>
+        ensures* leaves { sem 𝓛 (Lends E.row S.row A.row E.EndianParse S.StreamSource A.Allocator self.entry
+            (λ _. typed_section_asked sht_rela shdr.now) relas_left
+            (λ file. section_data_as_relas file shdr.now) result) }
+        ensures few { IfOk result (λ relas.
+            IfSome self.old.content (λ bytes. length (relas_left relas) ≤ length bytes)) }
+        ensures bound { IfOk result (λ relas. length (relas_left relas) < 2 ^ 64) }
+    {
+        self.load_content(shdr, abi::SHT_RELA)?;
+        self.lend_records::<Rela>(shdr)
+    }
+
+    // The notes of a section, whose bytes are held.
+    fn lend_notes(&self, shdr: &SectionHeader) -> Result<NoteIterator<'_, E>, ParseError>
+        requires of_type { shdr.now.sh_type ≡ sht_note }
+        requires low { AreLow (section_asked shdr.now) }
+        requires held { AreHeld self.now (section_asked shdr.now) }
+        ensures value { IfSome self.now.content (λ bytes.
+            ok_map notes_left result ≡ section_data_as_notes (stream_file E.little self.now bytes) shdr.now) }
+        ensures plain { IfErr result (λ e. kind e ≡ Kind.Refusal) }
+        ensures few { IfOk result (λ notes.
+            IfSome self.now.content (λ bytes. length (notes_left notes) ≤ length bytes)) }
+        ensures bound { IfOk result (λ notes. length (notes_left notes) < 2 ^ 64) }
+    {
+        let bytes = self.lend_content(shdr)?;
+        Ok(NoteIterator::new(
+            self.ehdr.endianness,
+            self.ehdr.class,
+            shdr.sh_addralign as usize,
+            bytes,
+        ))
+    }
+
+    /// The notes of a section of type `SHT_NOTE`, whose alignment is `sh_addralign`, up to the first that
+    /// does not fit. Refuses another type with `UnexpectedSectionType`, and else as `section_data` does.
+    pub fn section_data_as_notes(
+        &mut self,
+        shdr: &SectionHeader,
+    ) -> Result<NoteIterator<'_, E>, ParseError>
+        ensures* leaves { sem 𝓛 (Lends E.row S.row A.row E.EndianParse S.StreamSource A.Allocator self.entry
+            (λ _. typed_section_asked sht_note shdr.now) notes_left
+            (λ file. section_data_as_notes file shdr.now) result) }
+        ensures few { IfOk result (λ notes.
+            IfSome self.old.content (λ bytes. length (notes_left notes) ≤ length bytes)) }
+        ensures bound { IfOk result (λ notes. length (notes_left notes) < 2 ^ 64) }
+    {
+        self.load_content(shdr, abi::SHT_NOTE)?;
+        self.lend_notes(shdr)
+    }
+}

@@ -1,0 +1,81 @@
+//! The bytes of segments.
+ghost use Rattle.std.specs.Prelude.{◌≡◌, ◌≤◌, ◌<◌, ◌^◌, IfOk, IfSome, Ok, length};
+ghost use Rattle.elf_abi.specs.Values.{pt_note};
+ghost use Rattle.elf_parts.specs.Note.{notes_left};
+ghost use Rattle.elf.specs.Answers.{segment_data, segment_data_as_notes};
+ghost use Rattle.elf.specs.Ranges.{segment_asked, segment_notes_asked};
+ghost use Rattle.elf.specs.StreamFile.{stream_file};
+ghost use Rattle.elf.specs.ElfStream.{AreHeld};
+ghost use Rattle.elf.specs.inner.Loads.{AreLow};
+
+use super::ElfStream;
+use crate::source::StreamSource;
+use elf_abi::abi;
+use elf_parts::endian::EndianParse;
+use elf_parts::note::NoteIterator;
+use elf_parts::parse::ParseError;
+use elf_parts::segment::ProgramHeader;
+use std::alloc::Allocator;
+
+impl<E: EndianParse, S: StreamSource, A: Allocator + Copy> ElfStream<E, S, A> {
+    ghost use Rattle.std.specs.Borrow.{sem};
+    ghost use Rattle.elf.specs.Lending.{Lends};
+
+    // The bytes of a segment, which are held.
+    pub(super) fn lend_segment(&self, phdr: &ProgramHeader) -> &[u8]
+        requires low { AreLow (segment_asked phdr.now) }
+        requires held { AreHeld self.now (segment_asked phdr.now) }
+        ensures within { IfSome self.now.content (λ bytes. length result.now ≤ length bytes) }
+        ensures value { IfSome self.now.content (λ bytes.
+            segment_data (stream_file E.little self.now bytes) phdr.now ≡ Ok result.now) }
+    {
+        self.held_bytes(phdr.p_offset, phdr.p_filesz)
+    }
+
+    /// The bytes of a segment in the file. Refuses where its range does not lie in the file.
+    pub fn segment_data(&mut self, phdr: &ProgramHeader) -> Result<&[u8], ParseError>
+        ensures* leaves { sem 𝓛 (Lends E.row S.row A.row E.EndianParse S.StreamSource A.Allocator self.entry
+            (λ _. segment_asked phdr.now) (λ part. part.now) (λ file. segment_data file phdr.now) result) }
+    {
+        self.load_segment(phdr)?;
+        Ok(self.lend_segment(phdr))
+    }
+
+    // The notes of a segment, whose bytes are held.
+    fn lend_segment_notes(&self, phdr: &ProgramHeader) -> NoteIterator<'_, E>
+        requires of_type { phdr.now.p_type ≡ pt_note }
+        requires low { AreLow (segment_asked phdr.now) }
+        requires held { AreHeld self.now (segment_asked phdr.now) }
+        ensures value { IfSome self.now.content (λ bytes.
+            segment_data_as_notes (stream_file E.little self.now bytes) phdr.now ≡ Ok (notes_left result)) }
+        ensures few { IfSome self.now.content (λ bytes. length (notes_left result) ≤ length bytes) }
+        ensures bound { length (notes_left result) < 2 ^ 64 }
+    {
+        let bytes = self.lend_segment(phdr);
+        NoteIterator::new(
+            self.ehdr.endianness,
+            self.ehdr.class,
+            phdr.p_align as usize,
+            bytes,
+        )
+    }
+
+    /// The notes of a segment of type `PT_NOTE`, whose alignment is `p_align`, up to the first that does
+    /// not fit. Refuses another type with `UnexpectedSegmentType`, and else as `segment_data` does.
+    pub fn segment_data_as_notes(
+        &mut self,
+        phdr: &ProgramHeader,
+    ) -> Result<NoteIterator<'_, E>, ParseError>
+        ensures* leaves { sem 𝓛 (Lends E.row S.row A.row E.EndianParse S.StreamSource A.Allocator self.entry
+            (λ _. segment_notes_asked phdr.now) notes_left (λ file. segment_data_as_notes file phdr.now) result) }
+        ensures few { IfOk result (λ notes.
+            IfSome self.old.content (λ bytes. length (notes_left notes) ≤ length bytes)) }
+        ensures bound { IfOk result (λ notes. length (notes_left notes) < 2 ^ 64) }
+    {
+        if phdr.p_type != abi::PT_NOTE {
+            return Err(ParseError::UnexpectedSegmentType((phdr.p_type, abi::PT_NOTE)));
+        }
+        self.load_segment(phdr)?;
+        Ok(self.lend_segment_notes(phdr))
+    }
+}

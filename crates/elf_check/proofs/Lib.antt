@@ -1,0 +1,11 @@
+pub mod Reading
+pub mod HashFinds
+pub mod GnuScan
+pub mod GnuVerdicts
+pub mod Intervals
+pub mod SysvScan
+pub mod SysvCount
+pub mod NamedLists
+pub mod AllNamed
+pub mod Bindings
+pub mod SysvVerdicts

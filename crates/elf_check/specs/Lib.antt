@@ -1,0 +1,29 @@
+-- what is checked: a hash table with its symbols
+pub mod WithSymbols
+-- when it is sound, by the gABI and by GNU
+pub mod SoundSysv
+pub mod SoundGnu
+-- which symbols it indexes, how many, and which of them have a name
+pub mod Indexed
+-- what each fault says
+pub mod Faults
+-- what a checker says, and how many symbols it reads
+pub mod Verdict
+pub mod Reads
+-- an object: a table of either kind
+pub mod Object
+-- what a checked table shows
+pub mod CheckedTable
+-- all symbols of a name, in order
+pub mod NamedSymbols
+-- which object of a list has a name
+pub mod Resolve
+-- which object a file is
+pub mod ObjectTable
+-- an object with the versions of its symbols, and what a reference binds to
+pub mod VersionedView
+pub mod Binding
+-- which object with versions a file is, and what a symbol of a file asks for
+pub mod BindingObjects
+-- what only implementations and private functions cite
+pub mod inner

@@ -1,0 +1,72 @@
+//! Binding a reference to a symbol where symbols have versions, as a dynamic linker does: the first object of an
+//! ordered list with a definition that serves the reference.
+//!
+//! An object takes part by its checked hash table and by the versions of its symbols. Nothing is allocated.
+
+mod choice;
+mod definitions;
+mod objects;
+mod versions;
+
+use crate::resolve::AnyChecked;
+pub use choice::bind;
+pub use definitions::is_definition;
+use elf_parts::endian::EndianParse;
+use elf_parts::gnu_symver::SymbolVersionTable;
+pub use objects::{reference, versioned_object};
+use thiserror::Error;
+pub use versions::version_of;
+
+/// A version of a symbol: its name, and the SysV hash of the name as a file states it.
+#[derive(Debug, Clone, Copy)]
+pub struct Version<'a> {
+    pub name: &'a str,
+    pub hash: u32,
+}
+
+/// What a reference asks for.
+#[derive(Debug, Clone, Copy)]
+pub enum Wanted<'a> {
+    /// No version.
+    Any,
+    /// A definition of this version, or one that has no version.
+    Compatible(Version<'a>),
+    /// A definition of this version, as `dlvsym` asks for it.
+    Only(Version<'a>),
+}
+
+// When a definition of an object with versions serves.
+#[derive(Debug, Clone, Copy)]
+pub(crate) enum Rule<'a> {
+    // It has this version, or none and is not hidden.
+    Versioned(Version<'a>),
+    // It has this version.
+    Exact(Version<'a>),
+    // It has no version, or the first one of its file.
+    Base,
+    // It is not hidden.
+    Shown,
+}
+
+/// The version of a symbol, by its index from 0 on, cannot be read.
+#[derive(Debug, Clone, Copy, PartialEq, Eq, Error)]
+#[error("version of symbol {symbol} cannot be read")]
+pub struct Unreadable {
+    pub symbol: usize,
+}
+
+/// An object, counted from 0, has a definition of which it cannot be known whether it serves: the version of this
+/// symbol cannot be read.
+#[derive(Debug, Clone, Copy, PartialEq, Eq, Error)]
+#[error("object {object}: version of symbol {symbol} cannot be read")]
+pub struct BindingFault {
+    pub object: usize,
+    pub symbol: usize,
+}
+
+/// An object of a look-up with versions: its checked table, and the versions of its symbols if it has any.
+#[derive(Debug, Drop)]
+pub struct VersionedObject<'data, E: EndianParse> {
+    pub table: AnyChecked<'data, E>,
+    pub versions: Option<SymbolVersionTable<'data, E>>,
+}

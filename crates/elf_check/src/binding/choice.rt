@@ -1,0 +1,105 @@
+//! The symbol that a reference binds to, in an object and in a list of objects.
+ghost use Rattle.std.specs.Prelude.{◌≡◌};
+ghost use Rattle.elf_parts.specs.gnu_symver.Table.{versions_view};
+ghost use Rattle.std.specs.Option.{option_map};
+ghost use Rattle.elf_check.specs.Binding.{IsBinding, first_serving, serves_in};
+ghost use Rattle.elf_check.specs.VersionedView.{versioned_view};
+ghost use Rattle.elf_check.specs.NamedSymbols.{named_left};
+
+use crate::binding::versions::serves;
+use crate::binding::{BindingFault, Rule, Unreadable, VersionedObject, Wanted, is_definition};
+use crate::hashcheck::NamedSymbols;
+use elf_parts::endian::EndianParse;
+use elf_parts::gnu_symver::SymbolVersionTable;
+use elf_parts::symbol::Symbol;
+
+// Whether a definition serves; all of a file without versions do.
+fn serves_in<E: EndianParse>(
+    versions: Option<&SymbolVersionTable<'_, E>>,
+    rule: &Rule<'_>,
+    symbol: usize,
+) -> Result<bool, Unreadable>
+    ensures { result ≡ serves_in (option_map (λ table. versions_view table.now) versions.entry) rule.now symbol }
+{
+    match versions {
+        Some(versions) => serves(versions, rule, symbol),
+        None => Ok(true),
+    }
+}
+
+// The first of these symbols that is a definition and serves.
+fn first_serving<E: EndianParse>(
+    versions: Option<&SymbolVersionTable<'_, E>>,
+    rule: &Rule<'_>,
+    named: NamedSymbols<'_, '_, E>,
+) -> Result<Option<(usize, Symbol)>, Unreadable>
+    ensures { result ≡ first_serving (serves_in (option_map (λ table. versions_view table.now) versions.entry) rule.now)
+        (named_left named.entry) }
+{
+    for (index, symbol) in named {
+        if is_definition(&symbol) && serves_in(versions, rule, index)? {
+            return Ok(Some((index, symbol)));
+        }
+    }
+    Ok(None)
+}
+
+impl<'data, E: EndianParse> VersionedObject<'data, E> {
+    ghost use Rattle.elf_check.specs.Binding.{IsChosen, IsFirstServing};
+
+    // The first symbol of the name that serves.
+    fn first_serving(
+        &self,
+        name: &[u8],
+        rule: Rule<'_>,
+    ) -> Result<Option<(usize, Symbol)>, Unreadable>
+        ensures { IsFirstServing (versioned_view self.now) name.now rule.entry result }
+    {
+        first_serving(self.versions.as_ref(), &rule, self.table.find_all(name))
+    }
+
+    /// The symbol of the name that a reference binds to in this object, with its index. A reference that asks for no
+    /// version takes a base definition, or else the first that is not hidden. None where no definition of the name
+    /// serves. Refuses where the version of one that comes earlier cannot be read.
+    pub fn find(
+        &self,
+        name: &[u8],
+        wanted: &Wanted<'_>,
+    ) -> Result<Option<(usize, Symbol)>, Unreadable>
+        ensures { IsChosen (versioned_view self.now) name.now wanted.now result }
+    {
+        match wanted {
+            Wanted::Compatible(version) => self.first_serving(name, Rule::Versioned(*version)),
+            Wanted::Only(version) => self.first_serving(name, Rule::Exact(*version)),
+            Wanted::Any => match self.first_serving(name, Rule::Base)? {
+                Some(found) => Ok(Some(found)),
+                None => self.first_serving(name, Rule::Shown),
+            },
+        }
+    }
+}
+
+/// The first object in the list with a symbol of the name that serves the reference, by its place from 0 on, with
+/// the index of the symbol and the symbol. None where no object has one. Refuses at the first object of which this
+/// cannot be known.
+pub fn bind<E: EndianParse>(
+    objects: &[VersionedObject<'_, E>],
+    name: &[u8],
+    wanted: &Wanted<'_>,
+) -> Result<Option<(usize, usize, Symbol)>, BindingFault>
+    ensures { IsBinding versioned_view objects.now name.now wanted.now result }
+{
+    for (object, candidate) in objects.iter().enumerate() {
+        match candidate.find(name, wanted) {
+            Ok(Some((index, symbol))) => return Ok(Some((object, index, symbol))),
+            Ok(None) => {}
+            Err(fault) => {
+                return Err(BindingFault {
+                    object,
+                    symbol: fault.symbol,
+                });
+            }
+        }
+    }
+    Ok(None)
+}

@@ -1,0 +1,165 @@
+//! All symbols of a name that a checked section indexes.
+ghost use Rattle.std.specs.Prelude.{◌≡◌, ◌-◌};
+ghost use Rattle.std.specs.Iterator.{YieldsFirst, item_count};
+ghost use Rattle.elf_parts.specs.StringTable.{strings_view};
+ghost use Rattle.elf_parts.specs.Table.{table_view};
+ghost use Rattle.elf_check.specs.NamedSymbols.{index_behind, indices_from, indices_left, kept_named, named_left};
+ghost use Rattle.elf_check.specs.NamedSymbols.{symbol_named, unless_last, unless_zero};
+ghost use Rattle.elf_check.specs.WithSymbols.{word};
+
+use crate::hashcheck::words::{U32Table, word_count, word_of};
+use elf_parts::endian::EndianParse;
+use elf_parts::laws::find::words_read_below_count;
+use elf_parts::string_table::StringTable;
+use elf_parts::symbol::{Symbol, SymbolTable};
+
+// What leads from one index to the next.
+#[derive(Copy, Clone, Debug)]
+pub(crate) enum Links {
+    // The chain word of an index is the next index, or 0.
+    Chain,
+    // The next index follows. The chain words begin with that of the index `first`, and bit 0 ends a run.
+    Run { first: u32 },
+}
+
+// The indices of a chain or a run, from one on: at most `left`.
+#[derive(Debug, Drop)]
+pub(crate) struct Walk<'data, E: EndianParse> {
+    links: Links,
+    chains: U32Table<'data, E>,
+    next: Option<usize>,
+    left: usize,
+}
+
+// The index behind an index of a chain.
+fn behind_in_chain<E: EndianParse>(chains: &U32Table<'_, E>, index: usize) -> Option<usize>
+    ensures { result ≡ unless_zero (word (table_view chains.now) index) }
+{
+    let next = word_of(chains, index)?;
+    if next == 0 { None } else { Some(next as usize) }
+}
+
+// The index behind an index of a run.
+fn behind_in_run<E: EndianParse>(
+    chains: &U32Table<'_, E>,
+    first: u32,
+    index: usize,
+) -> Option<usize>
+    ensures { result ≡ unless_last index (word (table_view chains.now) (index - first)) }
+{
+    // A word that can be read lies below the count, which is less than 2^62: so the next index is a number of 64 bits.
+    words_read_below_count(chains);
+    word_count(chains);
+    let place = index.saturating_sub(first as usize);
+    let word = word_of(chains, place)?;
+    if word % 2 == 1 { None } else { Some(index + 1) }
+}
+
+impl<'data, E: EndianParse> Walk<'data, E> {
+    pub(crate) fn new(
+        links: Links,
+        chains: U32Table<'data, E>,
+        next: Option<usize>,
+        left: usize,
+    ) -> Self
+        ensures { indices_left result ≡ indices_from (index_behind (table_view chains.entry) links) left next }
+    {
+        Walk {
+            links,
+            chains,
+            next,
+            left,
+        }
+    }
+
+    fn behind(&self, index: usize) -> Option<usize>
+        ensures { result ≡ index_behind (table_view self.now.chains) self.now.links index }
+    {
+        match self.links {
+            Links::Chain => behind_in_chain(&self.chains, index),
+            Links::Run { first } => behind_in_run(&self.chains, first, index),
+        }
+    }
+}
+
+impl<'data, E: EndianParse> Iterator for Walk<'data, E> {
+    type Item = usize;
+
+    ghost next_gives = { YieldsFirst indices_left };
+
+    ghost remaining = { item_count indices_left };
+
+    #[tactic(auto, using(crate::proofs::NamedLists::walk_steps))]
+    fn next(&mut self) -> Option<usize> {
+        if self.left == 0 {
+            return None;
+        }
+        let index = self.next?;
+        self.left -= 1;
+        self.next = self.behind(index);
+        Some(index)
+    }
+}
+
+/// The symbols of a name that a checked section indexes, each with its index, in the order in which a look-up meets
+/// them. After its first `None` it gives `None`. Nothing is allocated.
+#[derive(Debug, Drop)]
+pub struct NamedSymbols<'a, 'data, E: EndianParse> {
+    walk: Walk<'data, E>,
+    symtab: SymbolTable<'data, E>,
+    strtab: StringTable<'data>,
+    name: &'a [u8],
+}
+
+impl<'a, 'data, E: EndianParse> NamedSymbols<'a, 'data, E> {
+    pub(crate) fn new(
+        walk: Walk<'data, E>,
+        symtab: SymbolTable<'data, E>,
+        strtab: StringTable<'data>,
+        name: &'a [u8],
+    ) -> Self
+        ensures { named_left result
+            ≡ kept_named (table_view symtab.entry) (strings_view strtab.entry) name.now (indices_left walk.entry) }
+    {
+        NamedSymbols {
+            walk,
+            symtab,
+            strtab,
+            name,
+        }
+    }
+
+    // The symbol of an index, where it has the name.
+    #[tactic(auto, unfolding(crate::specs::WithSymbols::named, elf_parts::specs::Hash::named_symbol))]
+    fn symbol_named(&self, index: usize) -> Option<(usize, Symbol)>
+        ensures { let s = self.now in
+            result ≡ symbol_named (table_view s.symtab) (strings_view s.strtab) s.name.now index }
+    {
+        let symbol = self.symtab.get(index).ok()?;
+        let name = self.strtab.get_raw(symbol.st_name as usize).ok()?;
+        if name == self.name {
+            Some((index, symbol))
+        } else {
+            None
+        }
+    }
+}
+
+impl<'a, 'data, E: EndianParse> Iterator for NamedSymbols<'a, 'data, E> {
+    type Item = (usize, Symbol);
+
+    ghost next_gives = { YieldsFirst named_left };
+
+    ghost remaining = { item_count named_left };
+
+    fn next(&mut self) -> Option<(usize, Symbol)> {
+        for _ in 0..self.walk.left {
+            let index = self.walk.next()?;
+            let found = self.symbol_named(index);
+            if found.is_some() {
+                return found;
+            }
+        }
+        None
+    }
+}

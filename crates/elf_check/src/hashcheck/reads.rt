@@ -1,0 +1,50 @@
+//! The count of the symbols that a checker reads.
+ghost use Rattle.std.specs.Option.{option_map};
+ghost use Rattle.std.specs.Prelude.{◌≡◌};
+ghost use Rattle.elf_parts.specs.StringTable.{strings_view};
+ghost use Rattle.elf_parts.specs.Table.{table_view};
+ghost use Rattle.elf_check.specs.Reads.{counted, read_count};
+ghost use Rattle.elf_check.specs.WithSymbols.{name_at};
+
+use elf_parts::endian::EndianParse;
+use elf_parts::string_table::StringTable;
+use elf_parts::symbol::SymbolTable;
+
+/// How many symbols a checker has read, accepted or refused. The count stops at 2^64 - 1.
+#[derive(Copy, Clone, Debug, Default, PartialEq, Eq)]
+pub struct Reads {
+    count: u64,
+}
+
+impl Reads {
+    /// No symbol was read.
+    pub fn new() -> Self
+        ensures { read_count result ≡ 0 }
+    {
+        Reads { count: 0 }
+    }
+
+    /// How many symbols were read.
+    pub fn count(&self) -> u64
+        ensures { result ≡ read_count self.now }
+    {
+        self.count
+    }
+
+    // Reads a symbol, and gives its name where both can be read.
+    #[tactic(auto, unfolding(crate::specs::WithSymbols::named, elf_parts::specs::Hash::named_symbol))]
+    pub(crate) fn name_at<'data, E: EndianParse>(
+        &mut self,
+        symtab: &SymbolTable<'data, E>,
+        strtab: &StringTable<'data>,
+        index: usize,
+    ) -> Option<&'data [u8]>
+        ensures name { option_map (λ name. name.now) result
+            ≡ name_at (table_view symtab.now) (strings_view strtab.now) index }
+        ensures count { read_count self.new ≡ counted (read_count self.old) 1 }
+    {
+        self.count = self.count.saturating_add(1);
+        let symbol = symtab.get(index).ok()?;
+        strtab.get_raw(symbol.st_name as usize).ok()
+    }
+}

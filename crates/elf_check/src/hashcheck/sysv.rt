@@ -1,0 +1,79 @@
+//! SysV sections that are sound.
+ghost use Rattle.std.specs.Prelude.{◌≡◌};
+ghost use Rattle.elf_parts.specs.Hash.{word_count};
+ghost use Rattle.elf_parts.specs.SysvFind.{sysv_view};
+ghost use Rattle.elf_check.specs.Indexed.{IndexedSysv, IsFirstNamed, IsNumberOf, chain_lengths};
+ghost use Rattle.elf_check.specs.NamedSymbols.{AreAllNamed, named_left};
+ghost use Rattle.elf_check.specs.Object.{Object};
+ghost use Rattle.elf_check.specs.SoundSysv.{SoundSysv};
+ghost use Rattle.elf_check.specs.WithSymbols.{sysv_with};
+ghost use Rattle.elf_check.specs.inner.SoundProps.{SoundSysv-prop, SysvReads, SysvReads-prop};
+
+mod check;
+
+use crate::hashcheck::named::{Links, NamedSymbols, Walk};
+use crate::hashcheck::words::word_count;
+pub use check::{check_sysv, check_sysv_counted};
+use elf_parts::endian::EndianParse;
+use elf_parts::hash::SysVHashTable;
+use elf_parts::string_table::StringTable;
+use elf_parts::symbol::{Symbol, SymbolTable};
+
+/// A SysV hash section that is sound for its symbols.
+#[derive(Debug, Drop)]
+pub struct CheckedSysvHash<'data, E: EndianParse> {
+    table: SysVHashTable<'data, E>,
+    symtab: SymbolTable<'data, E>,
+    strtab: StringTable<'data>,
+    indexed: usize,
+    ghost sound: { SoundSysv (sysv_with table symtab strtab) } by { SoundSysv-prop (sysv_with table symtab strtab) },
+    ghost readable: { SysvReads (sysv_view table) } by { SysvReads-prop (sysv_view table) },
+    ghost counted: { indexed ≡ chain_lengths (sysv_view table) (word_count (sysv_view table).buckets) },
+}
+
+impl<'data, E: EndianParse> CheckedSysvHash<'data, E> {
+    ghost use Rattle.elf_check.specs.CheckedTable.{checked_sysv_view, sysv_indexed};
+    ghost use Rattle.elf_check.specs.NamedSymbols.{chain_from, indices_left};
+
+    /// The index and the symbol of a name, the first in its chain; none where no indexed symbol has the
+    /// name.
+    pub fn find(&self, name: &[u8]) -> Option<(usize, Symbol)>
+        ensures { IsFirstNamed (checked_sysv_view self.now) name.now result }
+    {
+        match self.table.find(name, &self.symtab, &self.strtab) {
+            Ok(found) => found,
+            Err(_) => None,
+        }
+    }
+
+    // The indices of a chain, from the index that `find` gives on, where it gives one.
+    fn chain_from(&self, found: Option<(usize, Symbol)>) -> Walk<'data, E>
+        ensures { indices_left result ≡ chain_from (checked_sysv_view self.now).table found }
+    {
+        let chains = self.table.chains();
+        let left = word_count(&chains);
+        match found {
+            Some((index, _)) => Walk::new(Links::Chain, chains, Some(index), left),
+            None => Walk::new(Links::Chain, chains, None, 0),
+        }
+    }
+
+    /// All symbols of a name that the section indexes, each with its index: the first is the one that `find` gives, and
+    /// they come in the order of their chain.
+    pub fn find_all<'a>(&self, name: &'a [u8]) -> NamedSymbols<'a, 'data, E>
+        ensures { AreAllNamed (Object.BySysv (checked_sysv_view self.now)) name.now (named_left result) }
+    {
+        let walk = self.chain_from(self.find(name));
+        NamedSymbols::new(walk, self.symtab, self.strtab, name)
+    }
+
+    /// How many symbols the section indexes.
+    pub fn indexed(&self) -> usize
+        ensures count { result ≡ sysv_indexed self.now }
+        ensures lengths { let table = (checked_sysv_view self.now).table in
+            result ≡ chain_lengths table (word_count table.buckets) }
+        ensures members { IsNumberOf result (IndexedSysv (checked_sysv_view self.now).table) }
+    {
+        self.indexed
+    }
+}

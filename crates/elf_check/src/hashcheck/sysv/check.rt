@@ -1,0 +1,149 @@
+//! The check of a SysV section.
+//!
+//! A chain whose names all belong to its own bucket shares no index with an earlier one, so all chains that
+//! end have no more indices than there are chain words. A chain that does not end is left after as many.
+ghost use Rattle.std.specs.Prelude.{◌≡◌, ◌+◌, ◌*◌, ◌<◌, ◌≤◌, ◌^◌, IfErr, IfOk, MatchResult};
+ghost use Rattle.elf_parts.specs.Hash.{word_count};
+ghost use Rattle.elf_parts.specs.StringTable.{strings_view};
+ghost use Rattle.elf_parts.specs.SysvFind.{sysv_section, sysv_view};
+ghost use Rattle.elf_parts.specs.Table.{table_view};
+ghost use Rattle.elf_check.specs.CheckedTable.{checked_sysv_view, sysv_indexed};
+ghost use Rattle.elf_check.specs.Faults.{IsTrueOfSysv};
+ghost use Rattle.elf_check.specs.Indexed.{chain_lengths};
+ghost use Rattle.elf_check.specs.Reads.{counted, read_count, symbols_of};
+ghost use Rattle.elf_check.specs.SoundSysv.{EndsAt, SoundSysv};
+ghost use Rattle.elf_check.specs.Verdict.{GivesVerdict, OnFaulty, OnSound, sysv_chain_count};
+ghost use Rattle.elf_check.specs.WithSymbols.{sysv_with, with_symbols};
+
+use crate::hashcheck::sysv::CheckedSysvHash;
+use crate::hashcheck::words::{word_below, word_count};
+use crate::hashcheck::{Checked, HashFault, Reads};
+use elf_parts::endian::EndianParse;
+use elf_parts::file::Class;
+use elf_parts::hash::{SysVHashTable, sysv_hash};
+use elf_parts::laws::find::sysv_words_can_be_read;
+use elf_parts::parse::ParseError;
+use elf_parts::string_table::StringTable;
+use elf_parts::symbol::SymbolTable;
+
+// How many indices the chain of a bucket has before its 0, or what it lacks.
+fn chain_length<'data, E: EndianParse>(
+    table: &SysVHashTable<'data, E>,
+    bucket: usize,
+    symtab: &SymbolTable<'data, E>,
+    strtab: &StringTable<'data>,
+    reads: &mut Reads,
+) -> Result<usize, HashFault>
+    requires { bucket < word_count (sysv_view table.now).buckets }
+    ensures verdict { let s = sysv_with table.now symtab.now strtab.now in
+        MatchResult result (EndsAt s bucket) (IsTrueOfSysv s) }
+    ensures at_most { read_count reads.new ≤ read_count reads.old + word_count (sysv_view table.now).chains }
+    ensures exact { IfOk result (λ length. read_count reads.new ≡ counted (read_count reads.old) length) }
+    ensures never_less { read_count reads.old ≤ read_count reads.new }
+    ensures at_fault { IfErr result (λ fault.
+        counted (read_count reads.old) (symbols_of fault) ≤ read_count reads.new) }
+    ensures short { word_count (sysv_view table.now).chains < 2 ^ 62 }
+{
+    let buckets = table.buckets();
+    let chains = table.chains();
+    let nbucket = word_count(&buckets);
+    let nchain = word_count(&chains);
+    let mut index = word_below(&buckets, bucket);
+    for place in 0..nchain {
+        if index == 0 {
+            return Ok(place);
+        }
+        if index >= nchain {
+            return Err(HashFault::PastChains { bucket, index });
+        }
+        let Some(name) = reads.name_at(symtab, strtab, index) else {
+            return Err(HashFault::Unreadable { index });
+        };
+        if sysv_hash(name) as usize % nbucket != bucket {
+            return Err(HashFault::WrongBucket { bucket, index });
+        }
+        index = word_below(&chains, index);
+    }
+    if index == 0 {
+        Ok(nchain)
+    } else {
+        Err(HashFault::Endless { bucket })
+    }
+}
+
+// How many indices all chains have before their 0, or what the section lacks.
+fn first_fault<'data, E: EndianParse>(
+    table: &SysVHashTable<'data, E>,
+    symtab: &SymbolTable<'data, E>,
+    strtab: &StringTable<'data>,
+    reads: &mut Reads,
+) -> Result<usize, HashFault>
+    ensures verdict { let s = sysv_with table.now symtab.now strtab.now in
+        MatchResult result
+        (λ indexed. SoundSysv s × (indexed ≡ chain_lengths s.table (word_count s.table.buckets)))
+        (λ fault. (¬ SoundSysv s) × IsTrueOfSysv s fault) }
+    ensures at_most { read_count reads.new ≤ read_count reads.old + 2 * word_count (sysv_view table.now).chains }
+    ensures at_least { IfOk result (λ indexed. counted (read_count reads.old) indexed ≤ read_count reads.new) }
+    ensures never_less { read_count reads.old ≤ read_count reads.new }
+    ensures at_fault { IfErr result (λ fault.
+        counted (read_count reads.old) (symbols_of fault) ≤ read_count reads.new) }
+{
+    let mut indexed = 0;
+    for bucket in 0..word_count(&table.buckets()) {
+        match chain_length(table, bucket, symtab, strtab, reads) {
+            Ok(length) => indexed += length,
+            Err(fault) => return Err(fault),
+        }
+    }
+    Ok(indexed)
+}
+
+/// Whether a SysV section is sound for its symbols, with the symbols that were read added to the count: at
+/// most two for each chain word, at least those that a sound section indexes, or one where a fault names a symbol.
+/// Refuses exactly where `SysVHashTable::new` does.
+pub fn check_sysv_counted<'data, E: EndianParse>(
+    endian: E,
+    class: Class,
+    section: &'data [u8],
+    symtab: SymbolTable<'data, E>,
+    strtab: StringTable<'data>,
+    reads: &mut Reads,
+) -> Result<Checked<CheckedSysvHash<'data, E>>, ParseError>
+    ensures verdict { let cut = sysv_section (E.little endian) class section.now in
+        let checked = with_symbols (table_view symtab.entry) (strings_view strtab.entry) cut in
+        GivesVerdict checked_sysv_view SoundSysv IsTrueOfSysv checked result }
+    ensures at_most { let cut = sysv_section (E.little endian) class section.now in
+        read_count reads.new ≤ read_count reads.old + 2 * sysv_chain_count cut }
+    ensures at_least { OnSound result (λ checked.
+        counted (read_count reads.old) (sysv_indexed checked) ≤ read_count reads.new) }
+    ensures never_less { read_count reads.old ≤ read_count reads.new }
+    ensures at_fault { OnFaulty result (λ fault.
+        counted (read_count reads.old) (symbols_of fault) ≤ read_count reads.new) }
+{
+    let table = SysVHashTable::new(endian, class, section)?;
+    sysv_words_can_be_read(section);
+    match first_fault(&table, &symtab, &strtab, reads) {
+        Err(fault) => Ok(Checked::Faulty(fault)),
+        Ok(indexed) => Ok(Checked::Sound(CheckedSysvHash {
+            table,
+            symtab,
+            strtab,
+            indexed,
+        })),
+    }
+}
+
+/// Whether a SysV section is sound for its symbols. Refuses exactly where `SysVHashTable::new` does.
+pub fn check_sysv<'data, E: EndianParse>(
+    endian: E,
+    class: Class,
+    section: &'data [u8],
+    symtab: SymbolTable<'data, E>,
+    strtab: StringTable<'data>,
+) -> Result<Checked<CheckedSysvHash<'data, E>>, ParseError>
+    ensures { let cut = sysv_section (E.little endian) class section.now in
+        let checked = with_symbols (table_view symtab.entry) (strings_view strtab.entry) cut in
+        GivesVerdict checked_sysv_view SoundSysv IsTrueOfSysv checked result }
+{
+    check_sysv_counted(endian, class, section, symtab, strtab, &mut Reads::new())
+}

@@ -1,0 +1,35 @@
+//! Resolving a name over an ordered list of objects, as a dynamic linker does: the first one that has it answers.
+//!
+//! An object takes part by its checked hash table, so no look-up is refused and none is wrong. Nothing is allocated.
+ghost use Rattle.std.specs.Prelude.{◌≡◌};
+ghost use Rattle.elf_check.specs.declared.resolve.ObjectFault.TheVariants.{Read as IsRead};
+
+mod objects;
+
+use crate::hashcheck::HashFault;
+pub use crate::hashcheck::{AnyChecked, HashKind};
+use elf_parts::parse::ParseError;
+pub use objects::{object_table, resolve};
+use thiserror::Error;
+
+/// Why a file that has a hash section gives no checked table.
+#[derive(Debug, Drop, Error)]
+pub enum ObjectFault {
+    /// The bytes of the section, the dynamic symbols or the table in those bytes cannot be had.
+    #[error("{0}")]
+    Read(ParseError),
+    /// There is no table of dynamic symbols.
+    #[error("no dynamic symbol table")]
+    NoSymbols,
+    /// The section is not sound for the dynamic symbols.
+    #[error("hash section is not sound: {0:?}")]
+    Faulty(HashFault),
+}
+
+impl From<ParseError> for ObjectFault {
+    ghost from_gives = { λ error fault. fault ≡ IsRead error };
+
+    fn from(error: ParseError) -> ObjectFault {
+        ObjectFault::Read(error)
+    }
+}

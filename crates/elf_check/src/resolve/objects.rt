@@ -1,0 +1,110 @@
+//! The checked table of a file, and the look-up of a name over such tables.
+ghost use Rattle.std.specs.Prelude.{◌≡◌, Some};
+ghost use Rattle.elf_parts.specs.Number.{ok_map};
+ghost use Rattle.elf_parts.specs.Table.{table_view};
+ghost use Rattle.elf.specs.Headers.{first_section_of};
+ghost use Rattle.elf.specs.ObjectFile.{object_file};
+ghost use Rattle.elf.specs.ElfBytes.{section_list, view};
+ghost use Rattle.elf_check.specs.CheckedTable.{object_view};
+ghost use Rattle.elf_check.specs.ObjectTable.{GivesObjectTable, GivesTable, object_of, parts_view, section_object};
+ghost use Rattle.elf_check.specs.ObjectTable.{section_parts};
+ghost use Rattle.elf_check.specs.Resolve.{IsResolved};
+
+use crate::hashcheck::{AnyChecked, Checked, HashSection, check_any};
+use crate::resolve::ObjectFault;
+use elf::endian::EndianParse;
+use elf::section::{SectionHeader, SectionHeaderTable};
+use elf::string_table::StringTable;
+use elf::symbol::{Symbol, SymbolTable};
+use elf::{ElfBytes, abi};
+
+// The bytes of a section, and the dynamic symbols with their strings.
+type SectionParts<'data, E> = (&'data [u8], (SymbolTable<'data, E>, StringTable<'data>));
+
+// The first section header of a type.
+fn first_section_in<E: EndianParse>(
+    sections: SectionHeaderTable<'_, E>,
+    sh_type: u32,
+) -> Option<SectionHeader>
+    ensures { result ≡ first_section_of sh_type (section_list (Some (table_view sections.entry))) }
+{
+    for section in sections {
+        if section.sh_type == sh_type {
+            return Some(section);
+        }
+    }
+    None
+}
+
+// The first section of a type, if the file has one.
+fn first_section_of<E: EndianParse>(file: &ElfBytes<'_, E>, sh_type: u32) -> Option<SectionHeader>
+    ensures { result ≡ first_section_of sh_type (section_list (view file.now).sections) }
+{
+    let sections = file.section_headers()?;
+    first_section_in(sections, sh_type)
+}
+
+// What a section is checked with.
+fn section_parts<'data, E: EndianParse>(
+    file: &ElfBytes<'data, E>,
+    section: &SectionHeader,
+) -> Result<SectionParts<'data, E>, ObjectFault>
+    ensures { ok_map parts_view result ≡ section_parts (object_file E.little (view file.now)) section.now }
+{
+    let (bytes, _) = file.section_data(section)?;
+    match file.dynamic_symbol_table()? {
+        Some(symbols) => Ok((bytes, symbols)),
+        None => Err(ObjectFault::NoSymbols),
+    }
+}
+
+// The checked table of a section of a kind.
+fn section_table<'data, E: EndianParse>(
+    file: &ElfBytes<'data, E>,
+    kind: HashSection,
+    section: &SectionHeader,
+) -> Result<AnyChecked<'data, E>, ObjectFault>
+    ensures { GivesTable object_view (section_object kind (object_file E.little (view file.now)) section.now) result }
+{
+    let (bytes, (symbols, strings)) = section_parts(file, section)?;
+    let ehdr = &file.ehdr;
+    match check_any(kind, ehdr.endianness, ehdr.class, bytes, symbols, strings) {
+        Ok(Checked::Sound(table)) => Ok(table),
+        Ok(Checked::Faulty(fault)) => Err(ObjectFault::Faulty(fault)),
+        Err(error) => Err(ObjectFault::Read(error)),
+    }
+}
+
+/// The checked table of a file over its dynamic symbols: that of the first section of type `SHT_GNU_HASH`, or
+/// where there is none of the first of type `SHT_HASH`. None where there is neither. Refuses at the first of these
+/// that fails: the bytes of the section, the dynamic symbols, the table in the bytes, its soundness.
+pub fn object_table<'data, E: EndianParse>(
+    file: &ElfBytes<'data, E>,
+) -> Result<Option<AnyChecked<'data, E>>, ObjectFault>
+    ensures { GivesObjectTable object_view (object_of (object_file E.little (view file.now))) result }
+{
+    if let Some(section) = first_section_of(file, abi::SHT_GNU_HASH) {
+        return Ok(Some(section_table(file, HashSection::Gnu, &section)?));
+    }
+    if let Some(section) = first_section_of(file, abi::SHT_HASH) {
+        return Ok(Some(section_table(file, HashSection::Sysv, &section)?));
+    }
+    Ok(None)
+}
+
+#[tactic(auto, using(std::proofs::lemmas::Grind::elements))]
+/// The first object in the list that has the name, by its place from 0 on, with the index and the symbol that its
+/// `find` gives. None where no object has the name.
+pub fn resolve<E: EndianParse>(
+    objects: &[AnyChecked<'_, E>],
+    name: &[u8],
+) -> Option<(usize, usize, Symbol)>
+    ensures { IsResolved object_view objects.now name.now result }
+{
+    for (place, object) in objects.iter().enumerate() {
+        if let Some((index, symbol)) = object.find(name) {
+            return Some((place, index, symbol));
+        }
+    }
+    None
+}

@@ -1,0 +1,117 @@
+//! The entries of the version sections and their auxiliary entries, one after the other.
+ghost use Rattle.std.specs.Prelude.{◌≡◌, ◌≤◌, length};
+ghost use Rattle.std.specs.Iterator.{YieldsFirst, YieldsFirstBy, item_count};
+ghost use Rattle.elf_parts.specs.Table.{table_in};
+ghost use Rattle.elf_parts.specs.gnu_symver.Lists.{aux_left, aux_records, aux_view};
+ghost use Rattle.elf_parts.specs.gnu_symver.Lists.{entries_in, entries_left, entry_view};
+
+use super::links::{Linked, Links, VersionEntry};
+use super::records::{VerDef, VerDefAux, VerNeed, VerNeedAux};
+use crate::endian::EndianParse;
+use crate::file::Class;
+
+/// The auxiliary entries of one entry, one after the other: at most the count, up to the one whose next field
+/// is 0, and up to one that is refused. After its first `None` it gives `None`.
+#[derive(Debug, Drop)]
+pub struct AuxIterator<'data, E: EndianParse, A: Linked> {
+    links: Links<'data, E, A>,
+}
+
+/// The versions that are needed of one file.
+pub type VerNeedAuxIterator<'data, E> = AuxIterator<'data, E, VerNeedAux>;
+
+/// The names of one version.
+pub type VerDefAuxIterator<'data, E> = AuxIterator<'data, E, VerDefAux>;
+
+impl<'data, E: EndianParse, A: Linked> AuxIterator<'data, E, A> {
+    /// The entries that are linked from the one at `starting_offset` on, in bytes, at most `count`.
+    #[tactic(auto, using(crate::proofs::LinkedRecords::map_bounds))]
+    pub fn new(
+        endian: E,
+        class: Class,
+        count: u16,
+        starting_offset: usize,
+        data: &'data [u8],
+    ) -> Self
+        ensures items { aux_left A.reads.record_at A.next_distance result
+            ≡ aux_records A.reads.record_at A.next_distance (table_in (E.little endian) class «data».now) count
+            starting_offset }
+        ensures view { aux_view result ≡ table_in (E.little endian) class «data».now }
+        ensures few { length (aux_left A.reads.record_at A.next_distance result) ≤ length «data».now }
+        ensures most { length (aux_left A.reads.record_at A.next_distance result) ≤ count }
+    {
+        AuxIterator {
+            links: Links::new(
+                endian.is_little(),
+                class,
+                count as u64,
+                starting_offset,
+                data,
+            ),
+        }
+    }
+}
+
+impl<'data, E: EndianParse, A: Linked> Iterator for AuxIterator<'data, E, A> {
+    type Item = A;
+
+    ghost next_gives = { YieldsFirst (aux_left A.reads.record_at A.next_distance) };
+
+    ghost remaining = { item_count (aux_left A.reads.record_at A.next_distance) };
+
+    fn next(&mut self) -> Option<A> {
+        let (_, record) = self.links.next()?;
+        Some(record)
+    }
+}
+
+/// The entries of a version section, one after the other, each with its auxiliary entries: at most the count,
+/// up to the one whose next field is 0, and up to one that is refused. After its first `None` it gives `None`.
+#[derive(Debug)]
+#[derive_where(Clone, Copy)]
+pub struct EntryIterator<'data, E: EndianParse, V: VersionEntry> {
+    links: Links<'data, E, V>,
+}
+
+/// The needs, each with the versions that are needed.
+pub type VerNeedIterator<'data, E> = EntryIterator<'data, E, VerNeed>;
+
+/// The definitions, each with its names.
+pub type VerDefIterator<'data, E> = EntryIterator<'data, E, VerDef>;
+
+impl<'data, E: EndianParse, V: VersionEntry> EntryIterator<'data, E, V> {
+    /// The entries that are linked from the one at `starting_offset` on, in bytes, at most `count`.
+    #[tactic(auto, using(crate::proofs::LinkedRecords::map_bounds))]
+    pub fn new(
+        endian: E,
+        class: Class,
+        count: u64,
+        starting_offset: usize,
+        data: &'data [u8],
+    ) -> Self
+        ensures items { entries_left V.reads.record_at V.next_distance V.with_aux result
+            ≡ entries_in V.reads.record_at V.next_distance V.with_aux (table_in (E.little endian) class «data».now)
+            count starting_offset }
+        ensures few { length (entries_left V.reads.record_at V.next_distance V.with_aux result) ≤ length «data».now }
+        ensures most { length (entries_left V.reads.record_at V.next_distance V.with_aux result) ≤ count }
+    {
+        EntryIterator {
+            links: Links::new(endian.is_little(), class, count, starting_offset, data),
+        }
+    }
+}
+
+impl<'data, E: EndianParse, V: VersionEntry> Iterator for EntryIterator<'data, E, V> {
+    type Item = (V, AuxIterator<'data, E, V::Aux>);
+
+    ghost next_gives = { YieldsFirstBy (entry_view V.Aux.reads.record_at V.Aux.next_distance)
+        (entries_left V.reads.record_at V.next_distance V.with_aux) };
+
+    ghost remaining = { item_count (entries_left V.reads.record_at V.next_distance V.with_aux) };
+
+    fn next(&mut self) -> Option<(V, AuxIterator<'data, E, V::Aux>)> {
+        let (start, entry) = self.links.next()?;
+        let links = entry.aux(&self.links, start);
+        Some((entry, AuxIterator { links }))
+    }
+}

@@ -1,0 +1,285 @@
+//! The records of the version sections.
+ghost use Rattle.std.specs.Prelude.{◌≡◌, ◌==◌};
+ghost use Rattle.elf_abi.specs.Values.{ver_ndx_global, ver_ndx_local};
+ghost use Rattle.elf_parts.specs.gnu_symver.Records.{version_index, version_is_hidden};
+
+use super::links::{Linked, Links, VersionEntry};
+use crate::endian::EndianParse;
+use crate::file::Class;
+use crate::parse::{ParseAt, ParseError, ParsingTable};
+use elf_abi::abi;
+
+/// A need: a file, and how many versions are needed of it. `vn_file` is the offset of its name, in bytes.
+#[derive(Debug, Drop, PartialEq, Eq)]
+pub struct VerNeed {
+    pub vn_cnt: u16,
+    pub vn_file: u32,
+    vn_aux: u32,
+    vn_next: u32,
+}
+
+impl ParseAt for VerNeed {
+    ghost use Rattle.elf_parts.specs.gnu_symver.Records.{ver_need_reads};
+
+    ghost reads = { ver_need_reads };
+
+    #[tactic(auto, unfolding(crate::specs::Record::numbers_at, crate::specs::Record::numbers_end))]
+    fn parse_at<E: EndianParse>(
+        endian: E,
+        _class: Class,
+        offset: &mut usize,
+        data: &[u8],
+    ) -> Result<Self, ParseError> {
+        let version = endian.parse_u16_at(offset, data)?;
+        if version != abi::VER_NEED_CURRENT {
+            return Err(ParseError::UnsupportedVersion((
+                version as u64,
+                abi::VER_NEED_CURRENT as u64,
+            )));
+        }
+        Ok(VerNeed {
+            vn_cnt: endian.parse_u16_at(offset, data)?,
+            vn_file: endian.parse_u32_at(offset, data)?,
+            vn_aux: endian.parse_u32_at(offset, data)?,
+            vn_next: endian.parse_u32_at(offset, data)?,
+        })
+    }
+
+    fn size_for(_class: Class) -> usize {
+        16
+    }
+}
+
+impl Linked for VerNeed {
+    ghost next_distance = { λ x. x.vn_next };
+
+    fn distance(&self) -> u32 {
+        self.vn_next
+    }
+}
+
+impl VersionEntry for VerNeed {
+    ghost use Rattle.elf_parts.specs.gnu_symver.Lists.{ver_need_with_aux};
+
+    type Aux = VerNeedAux;
+
+    ghost with_aux = { ver_need_with_aux };
+
+    fn aux<'data, E: EndianParse>(
+        &self,
+        entries: &Links<'data, E, VerNeed>,
+        start: usize,
+    ) -> Links<'data, E, VerNeedAux> {
+        entries.aux(start, self.vn_cnt, self.vn_aux)
+    }
+}
+
+/// A version that is needed of a file. `vna_other` is its version index, `vna_name` the offset of its name, in
+/// bytes.
+#[derive(Debug, Drop, PartialEq, Eq)]
+pub struct VerNeedAux {
+    pub vna_hash: u32,
+    pub vna_flags: u16,
+    pub vna_other: u16,
+    pub vna_name: u32,
+    vna_next: u32,
+}
+
+impl ParseAt for VerNeedAux {
+    ghost use Rattle.elf_parts.specs.gnu_symver.Records.{ver_need_aux_reads};
+
+    ghost reads = { ver_need_aux_reads };
+
+    #[tactic(auto, unfolding(crate::specs::Record::numbers_at, crate::specs::Record::numbers_end))]
+    fn parse_at<E: EndianParse>(
+        endian: E,
+        _class: Class,
+        offset: &mut usize,
+        data: &[u8],
+    ) -> Result<Self, ParseError> {
+        Ok(VerNeedAux {
+            vna_hash: endian.parse_u32_at(offset, data)?,
+            vna_flags: endian.parse_u16_at(offset, data)?,
+            vna_other: endian.parse_u16_at(offset, data)?,
+            vna_name: endian.parse_u32_at(offset, data)?,
+            vna_next: endian.parse_u32_at(offset, data)?,
+        })
+    }
+
+    fn size_for(_class: Class) -> usize {
+        16
+    }
+}
+
+impl Linked for VerNeedAux {
+    ghost next_distance = { λ x. x.vna_next };
+
+    fn distance(&self) -> u32 {
+        self.vna_next
+    }
+}
+
+/// A version that is defined. `vd_ndx` is its version index, `vd_cnt` how many names it has.
+#[derive(Debug, Drop, PartialEq, Eq)]
+pub struct VerDef {
+    pub vd_flags: u16,
+    pub vd_ndx: u16,
+    pub vd_cnt: u16,
+    pub vd_hash: u32,
+    vd_aux: u32,
+    vd_next: u32,
+}
+
+impl ParseAt for VerDef {
+    ghost use Rattle.elf_parts.specs.gnu_symver.Records.{ver_def_reads};
+
+    ghost reads = { ver_def_reads };
+
+    #[tactic(auto, unfolding(crate::specs::Record::numbers_at, crate::specs::Record::numbers_end))]
+    fn parse_at<E: EndianParse>(
+        endian: E,
+        _class: Class,
+        offset: &mut usize,
+        data: &[u8],
+    ) -> Result<Self, ParseError> {
+        let version = endian.parse_u16_at(offset, data)?;
+        if version != abi::VER_DEF_CURRENT {
+            return Err(ParseError::UnsupportedVersion((
+                version as u64,
+                abi::VER_DEF_CURRENT as u64,
+            )));
+        }
+        Ok(VerDef {
+            vd_flags: endian.parse_u16_at(offset, data)?,
+            vd_ndx: endian.parse_u16_at(offset, data)?,
+            vd_cnt: endian.parse_u16_at(offset, data)?,
+            vd_hash: endian.parse_u32_at(offset, data)?,
+            vd_aux: endian.parse_u32_at(offset, data)?,
+            vd_next: endian.parse_u32_at(offset, data)?,
+        })
+    }
+
+    fn size_for(_class: Class) -> usize {
+        20
+    }
+}
+
+impl Linked for VerDef {
+    ghost next_distance = { λ x. x.vd_next };
+
+    fn distance(&self) -> u32 {
+        self.vd_next
+    }
+}
+
+impl VersionEntry for VerDef {
+    ghost use Rattle.elf_parts.specs.gnu_symver.Lists.{ver_def_with_aux};
+
+    type Aux = VerDefAux;
+
+    ghost with_aux = { ver_def_with_aux };
+
+    fn aux<'data, E: EndianParse>(
+        &self,
+        entries: &Links<'data, E, VerDef>,
+        start: usize,
+    ) -> Links<'data, E, VerDefAux> {
+        entries.aux(start, self.vd_cnt, self.vd_aux)
+    }
+}
+
+/// A name of a version that is defined: its own, or that of one that it builds on. `vda_name` is its offset, in
+/// bytes.
+#[derive(Debug, Drop, PartialEq, Eq)]
+pub struct VerDefAux {
+    pub vda_name: u32,
+    vda_next: u32,
+}
+
+impl ParseAt for VerDefAux {
+    ghost use Rattle.elf_parts.specs.gnu_symver.Records.{ver_def_aux_reads};
+
+    ghost reads = { ver_def_aux_reads };
+
+    #[tactic(auto, unfolding(crate::specs::Record::numbers_at, crate::specs::Record::numbers_end))]
+    fn parse_at<E: EndianParse>(
+        endian: E,
+        _class: Class,
+        offset: &mut usize,
+        data: &[u8],
+    ) -> Result<Self, ParseError> {
+        Ok(VerDefAux {
+            vda_name: endian.parse_u32_at(offset, data)?,
+            vda_next: endian.parse_u32_at(offset, data)?,
+        })
+    }
+
+    fn size_for(_class: Class) -> usize {
+        8
+    }
+}
+
+impl Linked for VerDefAux {
+    ghost next_distance = { λ x. x.vda_next };
+
+    fn distance(&self) -> u32 {
+        self.vda_next
+    }
+}
+
+/// The version of a symbol: the low 15 bits are its version index, bit 15 hides it.
+#[derive(Debug, Drop, PartialEq, Eq)]
+pub struct VersionIndex(pub u16);
+
+/// The version indexes of symbols, in the order of the symbols.
+pub type VersionIndexTable<'data, E> = ParsingTable<'data, E, VersionIndex>;
+
+impl ParseAt for VersionIndex {
+    ghost use Rattle.elf_parts.specs.gnu_symver.Records.{version_index_reads};
+
+    ghost reads = { version_index_reads };
+
+    #[tactic(auto, unfolding(crate::specs::Record::numbers_at, crate::specs::Record::numbers_end))]
+    fn parse_at<E: EndianParse>(
+        endian: E,
+        _class: Class,
+        offset: &mut usize,
+        data: &[u8],
+    ) -> Result<Self, ParseError> {
+        Ok(VersionIndex(endian.parse_u16_at(offset, data)?))
+    }
+
+    fn size_for(_class: Class) -> usize {
+        2
+    }
+}
+
+impl VersionIndex {
+    /// The index, without the bit that hides it.
+    pub fn index(&self) -> u16
+        ensures { result ≡ version_index self.now }
+    {
+        self.0 & abi::VER_NDX_VERSION
+    }
+
+    /// Whether the symbol is local: its index is 0.
+    pub fn is_local(&self) -> bool
+        ensures { result ≡ (version_index self.now == ver_ndx_local) }
+    {
+        self.index() == abi::VER_NDX_LOCAL
+    }
+
+    /// Whether the symbol is global and has no version of its own: its index is 1.
+    pub fn is_global(&self) -> bool
+        ensures { result ≡ (version_index self.now == ver_ndx_global) }
+    {
+        self.index() == abi::VER_NDX_GLOBAL
+    }
+
+    /// Whether the version is hidden.
+    pub fn is_hidden(&self) -> bool
+        ensures { result ≡ version_is_hidden self.now }
+    {
+        self.0 & abi::VER_NDX_HIDDEN != 0
+    }
+}

@@ -1,7 +1,0 @@
-use Rattle.elfshow.specs.ObjectView.{object_view}
-use Rattle.elfshow.specs.Resolve.{NoneBefore}
-use Rattle.elfshow.proofs.resolve.objects.resolve.Given as goal
-
--- no object so far has the name
-abbrev pub invariant-loop-place : goal.invariant-loop-place
-invariant-loop-place g l = NoneBefore object_view l.objects l.name l.place
