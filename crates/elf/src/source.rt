@@ -1,4 +1,4 @@
-//! The sources that a stream reads.
+//! The sources that an `ElfStream` reads from.
 ghost use Rattle.std.specs.Prelude.{◌≡◌, ℕ, Bool, true, false, ◌≤◌, List, length, take, None, Some};
 ghost use Rattle.std.specs.Prelude.{IfOk, IfSome, OnOk};
 ghost use Rattle.std.specs.declared.option.Option.{Option};
@@ -8,21 +8,24 @@ use std::fs::File;
 use std::io;
 use std::io::{Read, Seek, SeekFrom};
 
-/// A source of bytes. It is told where its content is known, and untold else.
+/// A source of bytes that can be read from any position. Its content is known or unknown to the contracts.
+///
+/// An error of any call counts as a failure of the source. Over known content the count of failures rises exactly
+/// if the call returns an error, and only a source that can fail returns one.
 pub trait StreamSource: Drop {
-    /// The bytes, where they are known.
+    /// The bytes of the source, if they are known.
     ghost content: { Self → Option (List ℕ) };
 
-    /// Where the next read begins.
+    /// The position of the next read, in bytes.
     ghost position: { Self → ℕ };
 
-    /// How often the source failed.
+    /// The count of failures so far.
     ghost faults: { Self → ℕ };
 
-    /// Whether it can fail at all.
+    /// Whether the source can fail at all.
     ghost can_fail: { Self → Bool };
 
-    /// Moves to the end, and returns the length.
+    /// Moves to the end, and returns the length of the source in bytes, or the error of the source.
     fn seek_end(&mut self) -> Result<u64, io::Error>
         ensures content { content self.new ≡ content self.old }
         ensures nature { can_fail self.new ≡ can_fail self.old }
@@ -30,7 +33,7 @@ pub trait StreamSource: Drop {
         ensures cause { IfSome (content self.old)
             (λ _. HasCause (faults self.old) (faults self.new) (can_fail self.old) result) };
 
-    /// Moves to a position.
+    /// Moves to a position, in bytes from the start, or returns the error of the source.
     fn seek_start(&mut self, pos: u64) -> Result<(), io::Error>
         ensures content { content self.new ≡ content self.old }
         ensures nature { can_fail self.new ≡ can_fail self.old }
@@ -38,7 +41,8 @@ pub trait StreamSource: Drop {
         ensures cause { IfSome (content self.old)
             (λ _. HasCause (faults self.old) (faults self.new) (can_fail self.old) result) };
 
-    /// Reads some bytes into the front of the buffer: none only at the end, or where there is no room.
+    /// Reads the next bytes into the front of the buffer, and returns how many, or the error of the source. It may
+    /// read fewer than fit; it reads none only at the end of the source or into an empty buffer.
     fn read(&mut self, buf: &mut [u8]) -> Result<usize, io::Error>
         ensures count { IfOk result (λ n. n ≤ length buf.old) }
         ensures content { content self.new ≡ content self.old }
@@ -49,7 +53,7 @@ pub trait StreamSource: Drop {
             (λ _. HasCause (faults self.old) (faults self.new) (can_fail self.old) result) };
 }
 
-/// A source over bytes in memory. It cannot fail.
+/// A source over bytes in memory. Its content is known, and it cannot fail.
 #[derive(Debug, Drop)]
 pub struct MemSource<'a> {
     bytes: &'a [u8],
@@ -59,7 +63,7 @@ pub struct MemSource<'a> {
 impl<'a> MemSource<'a> {
     ghost use Rattle.elf.specs.Source.{mem_bytes, mem_position};
 
-    /// The source of these bytes, at their start.
+    /// The source of these bytes, positioned at their start.
     pub fn new(bytes: &'a [u8]) -> Self
         ensures bytes { mem_bytes result ≡ bytes.now }
         ensures position { mem_position result ≡ 0 }
@@ -101,7 +105,7 @@ impl<'a> StreamSource for MemSource<'a> {
     }
 }
 
-/// A source over a file. Nothing is known of what it holds.
+/// A source over a file. Its content is unknown, since a file may change, and it can fail.
 #[derive(Debug, Drop)]
 pub struct FileSource {
     file: File,

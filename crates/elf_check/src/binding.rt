@@ -1,7 +1,7 @@
-//! Binding a reference to a symbol where symbols have versions, as a dynamic linker does: the first object of an
-//! ordered list with a definition that serves the reference.
+//! Finds the symbol to which a reference binds if symbols have versions, as a dynamic linker does: the first object
+//! of an ordered list with a definition that serves the reference (GNU symbol versioning).
 //!
-//! An object takes part by its checked hash table and by the versions of its symbols. Nothing is allocated.
+//! An object is given by its checked hash table and by the versions of its symbols. Nothing is allocated.
 
 mod choice;
 mod definitions;
@@ -24,14 +24,14 @@ pub struct Version<'a> {
     pub hash: u32,
 }
 
-/// What a reference asks for.
+/// What a reference requests.
 #[derive(Debug, Clone, Copy)]
 pub enum Wanted<'a> {
     /// No version.
     Any,
-    /// A definition of this version, or one that has no version.
+    /// A definition of this version, hidden or not, or one that has no version and is not hidden.
     Compatible(Version<'a>),
-    /// A definition of this version, as `dlvsym` asks for it.
+    /// A definition of this version only, as `dlvsym` requests it.
     Only(Version<'a>),
 }
 
@@ -48,15 +48,15 @@ pub(crate) enum Rule<'a> {
     Shown,
 }
 
-/// The version of a symbol, by its index from 0 on, cannot be read.
+/// The version of this symbol, counted from 0, cannot be read.
 #[derive(Debug, Clone, Copy, PartialEq, Eq, Error)]
 #[error("version of symbol {symbol} cannot be read")]
 pub struct Unreadable {
     pub symbol: usize,
 }
 
-/// An object, counted from 0, has a definition of which it cannot be known whether it serves: the version of this
-/// symbol cannot be read.
+/// It cannot be known whether this object, counted from 0, has a definition that serves: the version of this symbol
+/// of it cannot be read.
 #[derive(Debug, Clone, Copy, PartialEq, Eq, Error)]
 #[error("object {object}: version of symbol {symbol} cannot be read")]
 pub struct BindingFault {
@@ -64,7 +64,7 @@ pub struct BindingFault {
     pub symbol: usize,
 }
 
-/// An object of a look-up with versions: its checked table, and the versions of its symbols if it has any.
+/// An object in a look-up with versions: its checked hash table, and the versions of its symbols, if it has any.
 #[derive(Debug, Drop)]
 pub struct VersionedObject<'data, E: EndianParse> {
     pub table: AnyChecked<'data, E>,

@@ -1,7 +1,7 @@
-//! Whether a hash section is sound for its symbols, and look-ups that then cannot fail.
+//! Checks whether a hash section is sound for its symbols.
 //!
-//! On a section that a checker accepts, a look-up is refused nothing, and finds a symbol exactly where one
-//! of the indexed symbols has the name. Nothing is allocated.
+//! On a section that a checker accepts, a look-up never returns an error, and finds a symbol exactly if an indexed
+//! symbol has the name. Nothing is allocated.
 
 mod any;
 mod gnu;
@@ -17,28 +17,28 @@ pub use named::NamedSymbols;
 pub use reads::Reads;
 pub use sysv::{CheckedSysvHash, check_sysv, check_sysv_counted};
 
-/// What a section lacks that is not sound. An index is that of a symbol, a bucket is counted from 0.
+/// Why a section is not sound. An index is the index of a symbol; buckets are counted from 0.
 #[derive(Copy, Clone, Debug, PartialEq, Eq)]
 pub enum HashFault {
-    /// SysV: the chain of a bucket has no 0 within as many steps as there are chain words.
+    /// SysV: the chain of the bucket has no 0 within as many steps as there are chain words.
     Endless { bucket: usize },
-    /// SysV: the chain of a bucket leads to an index that has no chain word.
+    /// SysV: the chain of the bucket leads to this index, which has no chain word.
     PastChains { bucket: usize, index: usize },
-    /// The symbol or its name cannot be read.
+    /// The symbol of a chain (SysV) or of a chain word (GNU), or its name, cannot be read.
     Unreadable { index: usize },
-    /// SysV: the chain of a bucket leads to a symbol whose name belongs to another bucket.
+    /// SysV: the chain of the bucket leads to this symbol, whose name belongs to another bucket.
     WrongBucket { bucket: usize, index: usize },
     /// GNU: the shift is 32 or more.
     ShiftTooLarge,
-    /// GNU: the chain word is not the hash of the name, apart from bit 0.
+    /// GNU: the chain word is not the hash of the symbol's name, apart from bit 0.
     WrongHash { index: usize },
-    /// GNU: a bloom bit of the name is not set.
+    /// GNU: a bloom bit of the symbol's name is not set, or there are no bloom words.
     NoBloomBit { index: usize },
-    /// GNU: the chain word does not lie in the run of the name's bucket.
+    /// GNU: the chain word does not lie in the run of the bucket of the symbol's name.
     NotInRun { index: usize },
 }
 
-/// A checked section, or a fault of it.
+/// The result of a check: a checked table, or a fault of the section.
 #[derive(Debug, Drop)]
 pub enum Checked<T: Drop> {
     Sound(T),

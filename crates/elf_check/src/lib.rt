@@ -1,5 +1,5 @@
-//! Whether a hash section of an ELF file is sound for its symbols, and the look-up of a name over a list of objects
-//! whose hash sections are.
+//! The checker of hash sections (`hashcheck`), and look-ups of a name over a list of objects with checked sections:
+//! by name alone (`resolve`), and by name and version (`binding`).
 #![tactic(auto)]
 
 pub mod binding;

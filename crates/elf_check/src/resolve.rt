@@ -1,6 +1,8 @@
-//! Resolving a name over an ordered list of objects, as a dynamic linker does: the first one that has it answers.
+//! Looks a name up in an ordered list of objects, as a dynamic linker does: the first object that has the name
+//! decides.
 //!
-//! An object takes part by its checked hash table, so no look-up is refused and none is wrong. Nothing is allocated.
+//! An object is given by its checked hash table, so a look-up returns no error and misses no indexed symbol.
+//! Nothing is allocated.
 ghost use Rattle.std.specs.Prelude.{◌≡◌};
 ghost use Rattle.elf_check.specs.declared.resolve.ObjectFault.TheVariants.{Read as IsRead};
 
@@ -12,13 +14,13 @@ use elf_parts::parse::ParseError;
 pub use objects::{object_table, resolve};
 use thiserror::Error;
 
-/// Why a file that has a hash section gives no checked table.
+/// Why a file with a hash section has no checked table.
 #[derive(Debug, Drop, Error)]
 pub enum ObjectFault {
-    /// The bytes of the section, the dynamic symbols or the table in those bytes cannot be had.
+    /// The bytes of the section, the dynamic symbols, or the table in these bytes cannot be read.
     #[error("{0}")]
     Read(ParseError),
-    /// There is no table of dynamic symbols.
+    /// The file has no dynamic symbol table.
     #[error("no dynamic symbol table")]
     NoSymbols,
     /// The section is not sound for the dynamic symbols.

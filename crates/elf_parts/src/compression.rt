@@ -3,7 +3,7 @@ use crate::endian::EndianParse;
 use crate::file::Class;
 use crate::parse::{ParseAt, ParseError};
 
-/// The header of a compressed section as a 32-bit file holds it.
+/// The C structure of the header of a compressed section in a 32-bit file.
 #[derive(Debug, Drop)]
 #[repr(C)]
 pub struct Elf32_Chdr {
@@ -12,7 +12,7 @@ pub struct Elf32_Chdr {
     pub ch_addralign: u32,
 }
 
-/// The header of a compressed section as a 64-bit file holds it.
+/// The C structure of the header of a compressed section in a 64-bit file.
 #[derive(Debug, Drop)]
 #[repr(C)]
 pub struct Elf64_Chdr {
@@ -22,8 +22,8 @@ pub struct Elf64_Chdr {
     pub ch_addralign: u64,
 }
 
-/// The header in front of the bytes of a compressed section, of either class: how they are compressed (one
-/// of `ELFCOMPRESS_*`), and the size in bytes and the alignment of what they hold.
+/// The header at the front of a compressed section, of either class. `ch_type` is the algorithm (`ELFCOMPRESS_*`),
+/// `ch_size` the size of the uncompressed data in bytes, `ch_addralign` their alignment.
 #[derive(Clone, Debug, Drop, PartialEq, Eq)]
 pub struct CompressionHeader {
     pub ch_type: u32,

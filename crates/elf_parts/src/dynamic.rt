@@ -1,4 +1,4 @@
-//! Dynamic entries, which tell the linker at run time what it needs (gABI, chapter "Dynamic Section").
+//! Dynamic entries, by which a file tells the dynamic linker what it needs (gABI, chapter "Dynamic Section").
 ghost use Rattle.std.specs.Prelude.{◌≡◌, [], ◌∷◌};
 ghost use Rattle.elf_parts.specs.Dynamic.{d_un_view, dyn_entry};
 
@@ -9,7 +9,7 @@ use crate::parse::{ParseAt, ParseError, ParsingTable};
 /// A table of dynamic entries.
 pub type DynamicTable<'data, E> = ParsingTable<'data, E, Dyn>;
 
-/// A dynamic entry as a 32-bit file holds it.
+/// The C structure of a dynamic entry in a 32-bit file.
 #[derive(Debug, Drop)]
 #[repr(C)]
 pub struct Elf32_Dyn {
@@ -17,7 +17,7 @@ pub struct Elf32_Dyn {
     pub d_un: u32,
 }
 
-/// A dynamic entry as a 64-bit file holds it.
+/// The C structure of a dynamic entry in a 64-bit file.
 #[derive(Debug, Drop)]
 #[repr(C)]
 pub struct Elf64_Dyn {
@@ -25,8 +25,8 @@ pub struct Elf64_Dyn {
     pub d_un: u64,
 }
 
-/// A dynamic entry of either class. Its tag, one of `DT_*`, tells whether the number behind it is a value
-/// or an address.
+/// A dynamic entry of either class. Its tag (`DT_*`, a signed number) says whether its other number is a value or
+/// an address.
 #[derive(Clone, Debug, Drop, PartialEq, Eq)]
 pub struct Dyn {
     pub d_tag: i64,
@@ -34,14 +34,14 @@ pub struct Dyn {
 }
 
 impl Dyn {
-    /// The number behind the tag, where it is a value.
+    /// The number of the entry, where its tag says that it is a value.
     pub fn d_val(&self) -> u64
         ensures { result ≡ d_un_view self.now }
     {
         self.d_un
     }
 
-    /// The number behind the tag, where it is an address.
+    /// The number of the entry, where its tag says that it is an address. It is the same number as `d_val`.
     pub fn d_ptr(&self) -> u64
         ensures { result ≡ d_un_view self.now }
     {

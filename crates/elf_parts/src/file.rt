@@ -10,14 +10,14 @@ use crate::parse::{ParseError, parse_by_class};
 use elf_abi::abi;
 use std::alloc::AllocError;
 
-/// Whether the file's addresses and offsets have 32 or 64 bits.
+/// Whether the addresses and offsets of a file have 32 or 64 bits.
 #[derive(Debug, Copy, Clone, PartialEq, Eq)]
 pub enum Class {
     ELF32,
     ELF64,
 }
 
-/// The file header as a 32-bit file holds it.
+/// The C structure of a file header in a 32-bit file.
 #[derive(Debug, Drop)]
 #[repr(C)]
 pub struct Elf32_Ehdr {
@@ -37,7 +37,7 @@ pub struct Elf32_Ehdr {
     pub e_shstrndx: u16,
 }
 
-/// The file header as a 64-bit file holds it.
+/// The C structure of a file header in a 64-bit file.
 #[derive(Debug, Drop)]
 #[repr(C)]
 pub struct Elf64_Ehdr {
@@ -57,11 +57,11 @@ pub struct Elf64_Ehdr {
     pub e_shstrndx: u16,
 }
 
-/// The file header of either class. Offsets and sizes are in bytes, counts in entries.
+/// A file header of either class. Offsets and sizes are in bytes, counts are in entries.
 #[derive(Copy, Debug, PartialEq, Eq)]
 pub struct FileHeader<E: EndianParse> {
     pub class: Class,
-    /// The order of the bytes of the file's numbers.
+    /// The byte order of the file's numbers.
     pub endianness: E,
     pub version: u32,
     pub osabi: u8,
@@ -80,10 +80,10 @@ pub struct FileHeader<E: EndianParse> {
     pub e_shstrndx: u16,
 }
 
-/// How many bytes of a 32-bit file header follow its identification.
+/// The size of the tail of a 32-bit file header in bytes: all but the identification.
 pub const ELF32_EHDR_TAILSIZE: usize = 36;
 
-/// How many bytes of a 64-bit file header follow its identification.
+/// The size of the tail of a 64-bit file header in bytes: all but the identification.
 pub const ELF64_EHDR_TAILSIZE: usize = 48;
 
 // A byte of the identification.
@@ -130,10 +130,12 @@ fn parse_class(class_byte: u8) -> Result<Class, ParseError>
     }
 }
 
-/// Reads the identification at the front of the data: the order of the file's numbers, its class, its
-/// ABI and the version of that ABI. Nine bytes are enough. Refuses, in this order, a wrong magic number,
-/// a version other than 1, an unknown class, and an order that `E` does not have; data that end before
-/// a byte that is looked at give `SliceReadError((0, 16))`.
+/// Reads the identification at the front of the data. Returns the byte order, the class, the ABI and the version of
+/// the ABI. Nine bytes are enough.
+///
+/// Errors, in order: `BadMagic`, `UnsupportedVersion((found, 1))`, `UnsupportedElfClass`,
+/// `UnsupportedElfEndianness`. If the data end before a byte that is looked at, the error is `SliceReadError((0,
+/// 16))`.
 #[tactic(auto, unfolding(crate::specs::File::ident_of))]
 pub fn parse_ident<E: EndianParse>(data: &[u8]) -> Result<(E, Class, u8, u8), ParseError>
     ensures { result ≡ ident_of E.of_byte «data».now }
@@ -159,8 +161,9 @@ impl<E: EndianParse> Clone for FileHeader<E> {
 }
 
 impl<E: EndianParse> FileHeader<E> {
-    /// Reads the tail of the header, the bytes behind the identification. Data that end within the tail
-    /// are refused at the first field that does not fit; bytes behind it do no harm.
+    /// Reads the tail of the header, the bytes behind the identification, at the front of the data: 36 bytes
+    /// (ELF32) or 48 (ELF64). If the data are shorter, the error is `SliceReadError((start, end))` of the first
+    /// field that does not fit. Further bytes are ignored.
     pub fn parse_tail(ident: (E, Class, u8, u8), data: &[u8]) -> Result<FileHeader<E>, ParseError>
         ensures { result ≡ header_with_tail E.little ident «data».now }
     {

@@ -1,5 +1,5 @@
-//! The versions of symbols (GNU symbol versioning): which versions of other files an object needs, which ones
-//! it defines, and the version of each symbol.
+//! The versions of symbols (GNU symbol versioning): the versions that a file needs of other files, the versions
+//! that it defines, and the version of each symbol.
 
 pub(crate) mod links;
 mod lists;

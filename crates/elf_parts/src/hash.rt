@@ -1,4 +1,4 @@
-//! Hash sections, by which symbols are found by their names: SysV's (gABI, chapter "Hash Table") and GNU's.
+//! Hash sections, which find symbols by name: SysV (gABI, chapter "Hash Table") and GNU.
 ghost use Rattle.std.specs.Prelude.{◌≡◌, ◌+◌, ◌<◌, ◌^◌, ◌≤◌, OnOk, length};
 ghost use Rattle.elf_parts.specs.Hash.{named_symbol, word_at, word_count};
 ghost use Rattle.elf_parts.specs.Number.{bytes_at, ok_map};

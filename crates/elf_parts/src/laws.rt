@@ -1,5 +1,6 @@
-//! Laws of the parts, for proofs that stand on them, by subject. Each is the contract of a function that
-//! does nothing, or that asks a table for its length and so learns that its bytes are fewer than 2^64.
+//! Laws: theorems for the proofs of callers, by subject. Each is the contract of a function that does nothing, or
+//! that only calls `len`, from which the proof learns that the bytes are fewer than 2^64. A caller uses a law by
+//! calling the function.
 pub mod clones;
 pub mod defaults;
 pub mod equality;

@@ -1,4 +1,5 @@
-//! The parts that every view of an ELF file stands on: numbers, records, tables and strings.
+//! The parts of an ELF file, over bytes: numbers, records, tables, strings, notes, versions and hash sections. The
+//! readers of whole files are built on them.
 #![tactic(auto)]
 
 pub mod compression;

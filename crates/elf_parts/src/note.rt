@@ -15,15 +15,15 @@ use std::str::from_utf8;
 /// A note.
 #[derive(Debug, Drop, PartialEq, Eq)]
 pub enum Note<'data> {
-    /// The oldest system that a program runs on.
+    /// The ABI tag: name `GNU`, type 1.
     GnuAbiTag(NoteGnuAbiTag),
-    /// What tells a build from all others.
+    /// The build id: name `GNU`, type 3.
     GnuBuildId(NoteGnuBuildId<'data>),
     /// Any other note.
     Unknown(NoteAny<'data>),
 }
 
-/// The oldest system that a program runs on.
+/// The oldest version of an operating system that a program runs on.
 #[derive(Debug, Clone, Copy, PartialEq, Eq)]
 pub struct NoteGnuAbiTag {
     pub os: u32,
@@ -32,11 +32,11 @@ pub struct NoteGnuAbiTag {
     pub subminor: u32,
 }
 
-/// The bytes that tell a build from all others.
+/// The bytes of a build id, which tells one build from all others.
 #[derive(Debug, Clone, Copy, PartialEq, Eq)]
 pub struct NoteGnuBuildId<'data>(pub &'data [u8]);
 
-/// A note as it lies in the data.
+/// A note of another kind, as it is in the data. The name includes the 0 bytes at its end.
 #[derive(Debug, Drop, PartialEq, Eq)]
 pub struct NoteAny<'data> {
     pub n_type: u64,
@@ -45,7 +45,8 @@ pub struct NoteAny<'data> {
 }
 
 impl NoteAny<'_> {
-    /// The name as text, without the 0 bytes at its end. Refuses a name that is not UTF-8 with `Utf8Error`.
+    /// Returns the name as text, without the 0 bytes at its end. If the name is not UTF-8, the error is `Utf8Error`
+    /// with its first fault.
     pub fn name_str(&self) -> Result<&str, ParseError>
         ensures { GivesNameText self.now.name.now result }
     {
@@ -165,8 +166,7 @@ fn note_at<'data>(
     Ok((note, next))
 }
 
-/// The notes of the data, one after the other, up to the first that does not fit. After its first `None`
-/// it gives `None`.
+/// An iterator over notes, up to the first that does not fit. After its first `None` it keeps returning `None`.
 #[derive(Debug, Drop)]
 pub struct NoteIterator<'data, E: EndianParse> {
     little: bool,
@@ -177,8 +177,9 @@ pub struct NoteIterator<'data, E: EndianParse> {
 }
 
 impl<'data, E: EndianParse> NoteIterator<'data, E> {
-    /// The notes of the data, each of whose parts begins at a multiple of the alignment, in bytes from the
-    /// start of the data. With an alignment of 0 there are none.
+    /// The notes of the data, of which there are at most as many as bytes. The descriptor of a note, and the next
+    /// note, begin at multiples of `align`, counted in bytes from the start of the data. If `align` is 0, there are
+    /// no notes. Both classes have the same notes.
     #[tactic(auto, using(crate::proofs::NoteLists::notes_few))]
     pub fn new(endian: E, _class: Class, align: usize, data: &'data [u8]) -> Self
         ensures items { notes_left result ≡ notes_in (E.little endian) align «data».now }

@@ -1,4 +1,4 @@
-//! Why bytes are refused, records that are read from them, and tables of such records.
+//! The error type of the library, records that are read at an offset, and tables of records.
 ghost use Rattle.std.specs.Prelude.{◌≡◌, if◌then◌else◌, ◌==◌};
 ghost use Rattle.elf_parts.specs.Class.{address_size};
 ghost use Rattle.elf_parts.specs.Number.{moved_by, number_at};
@@ -18,58 +18,61 @@ mod words;
 pub(crate) use table::read_record;
 pub use table::{ParsingIterator, ParsingTable};
 
-/// Why bytes are refused. A pair is what was found and what was expected, or a start and an end.
+/// An error of the library. A pair of numbers is (found, expected), or (start, end) of a range of bytes whose end
+/// is not included.
 #[derive(Debug, Drop, Error)]
 pub enum ParseError {
-    /// The first four bytes are not those of an ELF file.
+    /// The first four bytes are not 7f 45 4c 46. Holds these four bytes.
     #[error("Invalid Magic Bytes: [{:X}, {:X}, {:X}, {:X}]", .0[0], .0[1], .0[2], .0[3])]
     BadMagic([u8; 4]),
-    /// The class byte stands for no class.
+    /// The class byte is neither 1 nor 2.
     #[error("Unsupported ELF Class: {0}")]
     UnsupportedElfClass(u8),
-    /// The order byte stands for no order that the reader has.
+    /// The type of byte orders has no order for this order byte.
     #[error("Unsupported ELF Endianness: {0}")]
     UnsupportedElfEndianness(u8),
-    /// A version is not the one that there is: found, expected.
+    /// The version of the identification, of a `VerDef` or of a `VerNeed` is not 1: (found, 1).
     #[error("Unsupported ELF Version field found: {} expected: {}", .0.0, .0.1)]
     UnsupportedVersion((u64, u64)),
-    /// An index or an offset into a table is past its end.
+    /// An index or an offset that lies past the end of its table; the index of a section header that does not
+    /// exist; or, from an `ElfStream`, the end of a range that lies past the end of the source.
     #[error("Bad offset: {0:#X}")]
     BadOffset(u64),
-    /// No 0 byte ends the string at this offset.
+    /// No 0 byte ends the string at this offset, in bytes.
     #[error("Could not find terminating NUL byte starting at offset: {0:#X}")]
     StringTableMissingNul(u64),
-    /// An entry size in bytes is not the record's: found, expected.
+    /// An entry size in a header is not the size of the record, in bytes: (found, expected).
     #[error("Invalid entsize. Expected: {:#X}, Found: {:#X}", .0.1, .0.0)]
     BadEntsize((u64, u64)),
-    /// A section is of another type than was asked for: found, expected.
+    /// A section header has another type than the method reads: (found, expected).
     #[error("Could not interpret section of type {} as type {}", .0.0, .0.1)]
     UnexpectedSectionType((u32, u32)),
-    /// A segment is of another type than was asked for: found, expected.
+    /// A program header has another type than the method reads: (found, expected).
     #[error("Could not interpret section of type {} as type {}", .0.0, .0.1)]
     UnexpectedSegmentType((u32, u32)),
-    /// An alignment cannot be used. No call answers it: an iterator of notes ends instead.
+    /// Never returned; the Rust crate has it. An iterator over notes with an unusable alignment ends instead.
     #[error("Could not interpret section with unexpected alignment of {0}")]
     UnexpectedAlignment(usize),
     /// The bytes from start to end, end not included, do not lie in the data.
     #[error("Could not read bytes in range [{:#X}, {:#X})", .0.0, .0.1)]
     SliceReadError((usize, usize)),
-    /// An offset, a size or an end passes 64 bits.
+    /// An offset, a size or an end does not fit 64 bits. Also returned by a look-up in a GNU hash section that
+    /// needs the second bloom bit, if the shift is 32 or more.
     #[error("Integer overflow detected")]
     IntegerOverflow,
-    /// Bytes that were asked for as text are not UTF-8.
+    /// Bytes that were requested as text are not UTF-8.
     #[error(transparent)]
     Utf8Error(std::str::Utf8Error),
-    /// Kept from the Rust crate; no call answers it.
+    /// Never returned; the Rust crate has it.
     #[error(transparent)]
     TryFromSliceError(std::array::TryFromSliceError),
-    /// Kept from the Rust crate; no call answers it.
+    /// Never returned; the Rust crate has it.
     #[error(transparent)]
     TryFromIntError(std::num::TryFromIntError),
-    /// The source of a file failed.
+    /// The source of an `ElfStream` failed.
     #[error(transparent)]
     IOError(std::io::Error),
-    /// Memory was refused.
+    /// An allocation of an `ElfStream` failed.
     #[error("Out of memory")]
     OutOfMemory,
 }
@@ -108,14 +111,20 @@ impl From<std::io::Error> for ParseError {
 
 /// A record that can be read at an offset.
 ///
-/// The laws: a record has at least one byte, and how many depends on the class alone; the answer and the
-/// offset afterwards are fixed by order, class, offset and data; a read that succeeds lies in the data and
-/// moves the offset by the size, and its value depends on those bytes, the order and the class alone.
+/// The laws: a record has at least one byte, and its size depends only on the class. The result and the offset
+/// afterwards are determined by the byte order, the class, the offset and the data. A read that succeeds lies
+/// within the data and moves the offset by the size, and its value depends only on those bytes, the order and the
+/// class.
 pub trait ParseAt: Sized {
     // How a record is read: its size, what is read at an offset, and the laws of these.
     ghost reads: { RecordType Self };
 
-    /// Reads the record at the offset, in bytes, and moves the offset behind it.
+    /// Returns the record at `offset`, in bytes, and moves `offset` behind it.
+    ///
+    /// A record with a field table returns the error of the first field that has one: `IntegerOverflow` if the end
+    /// of the field does not fit 64 bits, `SliceReadError((start, end))` if the field does not lie in the data, or
+    /// `UnsupportedVersion((found, 1))` for the version of a `VerDef` or `VerNeed`. The error leaves `offset` at
+    /// that field, or behind the version.
     fn parse_at<E: EndianParse>(
         endian: E,
         class: Class,
@@ -125,11 +134,12 @@ pub trait ParseAt: Sized {
         ensures value { result ≡ reads.record_at (E.little endian) class «data».now offset.old }
         ensures moved { offset.new ≡ reads.offset_after (E.little endian) class «data».now offset.old };
 
-    /// How many bytes a record has.
+    /// The size of a record in bytes.
     fn size_for(class: Class) -> usize
         ensures { result ≡ reads.size class };
 
-    /// The entry size that a file gives, in bytes, where it is that of the record; else `BadEntsize`.
+    /// Returns the entry size that a header states, in bytes, if it is the size of the record. Otherwise returns
+    /// `BadEntsize((entsize, size))`.
     fn validate_entsize(class: Class, entsize: usize) -> Result<usize, ParseError>
         ensures { result ≡ (if entsize == reads.size class then Ok entsize
             else Err (ParseError.BadEntsize (entsize, reads.size class))) }

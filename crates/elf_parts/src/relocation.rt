@@ -6,13 +6,13 @@ use crate::endian::EndianParse;
 use crate::file::Class;
 use crate::parse::{ParseAt, ParseError, ParsingIterator};
 
-/// The relocations of a section without addends.
+/// An iterator over relocations without addends.
 pub type RelIterator<'data, E> = ParsingIterator<'data, E, Rel>;
 
-/// The relocations of a section with addends.
+/// An iterator over relocations with addends.
 pub type RelaIterator<'data, E> = ParsingIterator<'data, E, Rela>;
 
-/// A relocation without an addend as a 32-bit file holds it.
+/// The C structure of a relocation without an addend in a 32-bit file.
 #[derive(Debug, Drop)]
 #[repr(C)]
 pub struct Elf32_Rel {
@@ -20,7 +20,7 @@ pub struct Elf32_Rel {
     pub r_info: u32,
 }
 
-/// A relocation without an addend as a 64-bit file holds it.
+/// The C structure of a relocation without an addend in a 64-bit file.
 #[derive(Debug, Drop)]
 #[repr(C)]
 pub struct Elf64_Rel {
@@ -28,7 +28,7 @@ pub struct Elf64_Rel {
     pub r_info: u64,
 }
 
-/// A relocation with an addend as a 32-bit file holds it.
+/// The C structure of a relocation with an addend in a 32-bit file.
 #[derive(Debug, Drop)]
 #[repr(C)]
 pub struct Elf32_Rela {
@@ -37,7 +37,7 @@ pub struct Elf32_Rela {
     pub r_addend: i32,
 }
 
-/// A relocation with an addend as a 64-bit file holds it.
+/// The C structure of a relocation with an addend in a 64-bit file.
 #[derive(Debug, Drop)]
 #[repr(C)]
 pub struct Elf64_Rela {
@@ -46,7 +46,8 @@ pub struct Elf64_Rela {
     pub r_addend: i64,
 }
 
-/// A relocation without an addend, of either class: where, the index of the symbol, and how.
+/// A relocation without an addend, of either class. `r_offset` is the place that is changed, `r_sym` the index of
+/// the symbol, `r_type` the kind of change. In the file `r_sym` and `r_type` are the two parts of `r_info`.
 #[derive(Clone, Debug, Drop, PartialEq, Eq)]
 pub struct Rel {
     pub r_offset: u64,
@@ -54,7 +55,7 @@ pub struct Rel {
     pub r_type: u32,
 }
 
-/// A relocation with an addend, of either class: where, the index of the symbol, how, and what is added.
+/// A relocation with an addend, of either class: as `Rel`, and `r_addend` is added.
 #[derive(Clone, Debug, Drop, PartialEq, Eq)]
 pub struct Rela {
     pub r_offset: u64,

@@ -11,7 +11,7 @@ use crate::parse::{ParseAt, ParseError, ParsingTable, parse_by_class};
 /// A table of section headers.
 pub type SectionHeaderTable<'data, E> = ParsingTable<'data, E, SectionHeader>;
 
-/// A section header as a 32-bit file holds it.
+/// The C structure of a section header in a 32-bit file.
 #[derive(Debug, Drop)]
 #[repr(C)]
 pub struct Elf32_Shdr {
@@ -27,7 +27,7 @@ pub struct Elf32_Shdr {
     pub sh_entsize: u32,
 }
 
-/// A section header as a 64-bit file holds it.
+/// The C structure of a section header in a 64-bit file.
 #[derive(Debug, Drop)]
 #[repr(C)]
 pub struct Elf64_Shdr {
@@ -43,7 +43,8 @@ pub struct Elf64_Shdr {
     pub sh_entsize: u64,
 }
 
-/// A section header of either class. Offsets and sizes are in bytes.
+/// A section header of either class. Offsets and sizes are in bytes. `sh_name` is an offset into the table of
+/// section names.
 #[derive(Copy, Clone, Debug, PartialEq, Eq)]
 pub struct SectionHeader {
     pub sh_name: u32,

@@ -11,7 +11,7 @@ use crate::parse::{ParseAt, ParseError, ParsingTable, parse_by_class};
 /// A table of program headers.
 pub type SegmentTable<'data, E> = ParsingTable<'data, E, ProgramHeader>;
 
-/// A program header as a 32-bit file holds it.
+/// The C structure of a program header in a 32-bit file.
 #[derive(Debug, Drop)]
 #[repr(C)]
 pub struct Elf32_Phdr {
@@ -25,7 +25,7 @@ pub struct Elf32_Phdr {
     pub p_align: u32,
 }
 
-/// A program header as a 64-bit file holds it.
+/// The C structure of a program header in a 64-bit file.
 #[derive(Debug, Drop)]
 #[repr(C)]
 pub struct Elf64_Phdr {

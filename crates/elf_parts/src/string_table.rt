@@ -48,23 +48,25 @@ fn first_nul(bytes: &[u8]) -> Option<usize>
     Some(start + count)
 }
 
-/// Strings, each ended by a 0 byte and named by the offset of its first byte. The default has none.
+/// A table of strings. Each ends in a 0 byte and is named by the offset of its first byte. The default table has no
+/// bytes.
 #[derive(Clone, Copy, Debug, Default)]
 pub struct StringTable<'data> {
     data: &'data [u8],
 }
 
 impl<'data> StringTable<'data> {
-    /// The strings that the data hold.
+    /// The table whose strings lie in the data.
     pub fn new(data: &'data [u8]) -> Self
         ensures { strings_view result ≡ «data».now }
     {
         StringTable { data }
     }
 
-    /// The bytes of the string at an offset in bytes, without the 0 byte that ends it. Refuses with
-    /// `BadOffset(offset)` where the table is empty or the offset lies behind it, and with
-    /// `StringTableMissingNul(offset)` where no 0 byte follows.
+    /// Returns the bytes of the string at `offset`, in bytes, without the 0 byte that ends it.
+    ///
+    /// Errors, in order: `BadOffset(offset)` if the table has no bytes or the offset lies past its end;
+    /// `StringTableMissingNul(offset)` if no 0 byte follows.
     #[tactic(auto, unfolding(crate::specs::StringTable::string_at))]
     pub fn get_raw(&self, offset: usize) -> Result<&'data [u8], ParseError>
         ensures { ok_map (λ bytes. bytes.now) result ≡ string_at (strings_view self.now) offset }
@@ -80,8 +82,10 @@ impl<'data> StringTable<'data> {
         Ok(start.split_at(end).0)
     }
 
-    /// The string at an offset in bytes, as text. Refuses as `get_raw` does, and with `Utf8Error` where the
-    /// bytes are not UTF-8.
+    /// Returns the string at `offset`, in bytes, as text.
+    ///
+    /// Errors, in order: those of `get_raw`; `Utf8Error`, with the first fault, if the bytes of the string are not
+    /// UTF-8.
     pub fn get(&self, offset: usize) -> Result<&'data str, ParseError>
         ensures { GivesText (string_at (strings_view self.now) offset) result }
     {

@@ -11,7 +11,7 @@ use elf_abi::abi;
 /// A table of symbols.
 pub type SymbolTable<'data, E> = ParsingTable<'data, E, Symbol>;
 
-/// A symbol as a 32-bit file holds it.
+/// The C structure of a symbol in a 32-bit file.
 #[derive(Debug, Drop)]
 #[repr(C)]
 pub struct Elf32_Sym {
@@ -23,7 +23,7 @@ pub struct Elf32_Sym {
     pub st_shndx: u16,
 }
 
-/// A symbol as a 64-bit file holds it.
+/// The C structure of a symbol in a 64-bit file.
 #[derive(Debug, Drop)]
 #[repr(C)]
 pub struct Elf64_Sym {
@@ -35,7 +35,7 @@ pub struct Elf64_Sym {
     pub st_size: u64,
 }
 
-/// A symbol of either class. Its name is an offset into a string table, its size is in bytes.
+/// A symbol of either class. `st_name` is an offset into a string table, `st_size` is in bytes.
 #[derive(Clone, Debug, Drop, PartialEq, Eq)]
 pub struct Symbol {
     pub st_name: u32,
@@ -49,28 +49,28 @@ pub struct Symbol {
 }
 
 impl Symbol {
-    /// Whether no section defines the symbol.
+    /// Whether the symbol is undefined: `st_shndx` is `SHN_UNDEF` (0).
     pub fn is_undefined(&self) -> bool
         ensures { result ≡ (self.now.st_shndx == shn_undef) }
     {
         self.st_shndx == abi::SHN_UNDEF
     }
 
-    /// What the symbol names: one of `STT_*`.
+    /// The type (`STT_*`): the lower four bits of `st_info`.
     pub fn st_symtype(&self) -> u8
         ensures { result ≡ symbol_type self.now }
     {
         self.st_info & 0xf
     }
 
-    /// How far the symbol binds: one of `STB_*`.
+    /// The binding (`STB_*`): the upper four bits of `st_info`.
     pub fn st_bind(&self) -> u8
         ensures { result ≡ symbol_binding self.now }
     {
         self.st_info >> 4
     }
 
-    /// Who sees the symbol: one of `STV_*`.
+    /// The visibility (`STV_*`): the lowest two bits of `st_other`.
     pub fn st_vis(&self) -> u8
         ensures { result ≡ symbol_visibility self.now }
     {

@@ -1,4 +1,4 @@
-//! The symbol that a reference binds to, in an object and in a list of objects.
+//! Finds the symbol to which a reference binds, in one object and in a list of objects.
 ghost use Rattle.std.specs.Prelude.{◌≡◌};
 ghost use Rattle.elf_parts.specs.gnu_symver.Table.{versions_view};
 ghost use Rattle.std.specs.Option.{option_map};
@@ -58,9 +58,12 @@ impl<'data, E: EndianParse> VersionedObject<'data, E> {
         first_serving(self.versions.as_ref(), &rule, self.table.find_all(name))
     }
 
-    /// The symbol of the name that a reference binds to in this object, with its index. A reference that asks for no
-    /// version takes a base definition, or else the first that is not hidden. None where no definition of the name
-    /// serves. Refuses where the version of one that comes earlier cannot be read.
+    /// Returns the symbol of the name to which a reference binds in this object, with its index: the first
+    /// definition, in the order of `find_all`, that serves the reference. A reference without a version takes a
+    /// definition with version index 0, 1 or 2, or else the first one that is not hidden. Returns `None` if no
+    /// definition of the name serves.
+    ///
+    /// The error is `Unreadable` for the first definition on the way whose version cannot be read.
     pub fn find(
         &self,
         name: &[u8],
@@ -79,9 +82,11 @@ impl<'data, E: EndianParse> VersionedObject<'data, E> {
     }
 }
 
-/// The first object in the list with a symbol of the name that serves the reference, by its place from 0 on, with
-/// the index of the symbol and the symbol. None where no object has one. Refuses at the first object of which this
-/// cannot be known.
+/// Returns the first object in the list with a definition of the name that serves the reference: its place, counted
+/// from 0, with the index and the symbol that its `find` returns. Returns `None` exactly if no object has one.
+///
+/// The error is that of the first object whose `find` returns an error, if no object before it has a definition
+/// that serves.
 pub fn bind<E: EndianParse>(
     objects: &[VersionedObject<'_, E>],
     name: &[u8],

@@ -1,4 +1,4 @@
-//! The object of a look-up with versions that a file is, and what a symbol of a file asks for.
+//! The object that a file is in a look-up with versions, and what an undefined symbol of a file requests.
 ghost use Rattle.elf.specs.ObjectFile.{object_file};
 ghost use Rattle.elf.specs.ElfBytes.{view};
 ghost use Rattle.std.specs.Option.{option_map};
@@ -12,8 +12,10 @@ use elf::ElfBytes;
 use elf::endian::EndianParse;
 use elf::gnu_symver::SymbolVersionTable;
 
-/// The object that a file is: its checked table, and the versions of its symbols where it has version indexes. None
-/// where it has no hash section. Refuses as `object_table` does, and then as `ElfBytes::symbol_version_table` does.
+/// Returns the checked hash table of a file with the versions of its symbols, if it has version indexes. Returns
+/// `None` exactly if the file has no hash section.
+///
+/// Errors, in order: those of `object_table`; `Read` with that of `ElfBytes::symbol_version_table`.
 pub fn versioned_object<'data, E: EndianParse>(
     file: &ElfBytes<'data, E>,
 ) -> Result<Option<VersionedObject<'data, E>>, ObjectFault>
@@ -28,8 +30,8 @@ pub fn versioned_object<'data, E: EndianParse>(
     }
 }
 
-/// What an undefined symbol, counted from 0, asks for: the version that it has in its file, if it has one. Refuses as
-/// `version_of` does.
+/// Returns what an undefined symbol, counted from 0, requests: the version that it has in its file, as
+/// `Compatible`, or `Any` if it has none. The error is that of `version_of`.
 pub fn reference<'a, E: EndianParse>(
     versions: Option<&'a SymbolVersionTable<'_, E>>,
     symbol: usize,

@@ -61,9 +61,12 @@ fn needed_as<'a, E: EndianParse>(
     }
 }
 
-/// The version of a symbol, counted from 0, in its file: that of the definition with its version index, or where
-/// there is none of the need with it. None where the symbol has no version but the file's own. Refuses where the
-/// version index or a name cannot be read, and a definition without names.
+/// Returns the version of a symbol, counted from 0, in its file: the first name and the hash of the definition with
+/// the symbol's version index, or if there is no such definition of the need with it. Returns `None` if the
+/// definition is the one of the file itself (`VER_FLG_BASE`), or if there is neither.
+///
+/// The error is `Unreadable` if the version index or a name cannot be read (of a need also the name of its file),
+/// or if the definition has no names.
 pub fn version_of<'a, E: EndianParse>(
     versions: &'a SymbolVersionTable<'_, E>,
     symbol: usize,

@@ -16,34 +16,34 @@ use elf_parts::parse::ParseError;
 use elf_parts::string_table::StringTable;
 use elf_parts::symbol::{Symbol, SymbolTable};
 
-/// Which hash section it is.
+/// A kind of hash section.
 #[derive(Copy, Clone, Debug, PartialEq, Eq)]
 pub enum HashSection {
-    /// That of the gABI, of type `SHT_HASH`.
+    /// The one of the gABI, of type `SHT_HASH`.
     Sysv,
-    /// That of GNU, of type `SHT_GNU_HASH`.
+    /// The one of GNU, of type `SHT_GNU_HASH`.
     Gnu,
 }
 
-/// One of the two kinds of hash section.
+/// A table of either kind of hash section.
 // The two are type parameters, since an enum that lends bytes may not hold a struct with a ghost field by its name.
 #[derive(Debug, Drop)]
 pub enum HashKind<S: Drop, G: Drop> {
-    /// A hash section of the gABI.
+    /// A table of a gABI hash section.
     Sysv(S),
-    /// A hash section of GNU.
+    /// A table of a GNU hash section.
     Gnu(G),
 }
 
-/// A hash section that is sound for its symbols.
+/// The table of a hash section of either kind that is sound for its symbols.
 pub type AnyChecked<'data, E> = HashKind<CheckedSysvHash<'data, E>, CheckedGnuHash<'data, E>>;
 
 impl<'data, E: EndianParse> HashKind<CheckedSysvHash<'data, E>, CheckedGnuHash<'data, E>> {
     ghost use Rattle.elf_check.specs.NamedSymbols.{AreAllNamed, named_left};
     ghost use Rattle.elf_check.specs.Object.{Indexed, IsFound, indexed_count};
 
-    /// The index and the symbol of a name: of a GNU section the least of the indexed ones, of a SysV section
-    /// the first in its chain. None where no indexed symbol has the name.
+    /// Returns the index and the symbol of a name: of a GNU section the least such index, of a SysV section the
+    /// first along its chain. Returns `None` exactly if no indexed symbol has the name.
     pub fn find(&self, name: &[u8]) -> Option<(usize, Symbol)>
         ensures { IsFound (object_view self.now) name.now result }
     {
@@ -53,8 +53,8 @@ impl<'data, E: EndianParse> HashKind<CheckedSysvHash<'data, E>, CheckedGnuHash<'
         }
     }
 
-    /// All symbols of a name that the section indexes, each with its index: the first is the one that `find` gives. Of
-    /// a GNU section they come in the order of their indices, of a SysV section in the order of their chain.
+    /// All indexed symbols with a name, each once with its index: of a GNU section in the order of their indexes,
+    /// of a SysV section in the order of their chain. The first is the one that `find` returns.
     pub fn find_all<'a>(&self, name: &'a [u8]) -> NamedSymbols<'a, 'data, E>
         ensures { AreAllNamed (object_view self.now) name.now (named_left result) }
     {
@@ -64,7 +64,7 @@ impl<'data, E: EndianParse> HashKind<CheckedSysvHash<'data, E>, CheckedGnuHash<'
         }
     }
 
-    /// How many symbols the section indexes.
+    /// The number of symbols that the section indexes.
     pub fn indexed(&self) -> usize
         ensures count { result ≡ indexed_count (object_view self.now) }
         ensures members { IsNumberOf result (Indexed (object_view self.now)) }
@@ -76,8 +76,8 @@ impl<'data, E: EndianParse> HashKind<CheckedSysvHash<'data, E>, CheckedGnuHash<'
     }
 }
 
-/// Whether a section of a kind is sound for its symbols: `check_sysv` or `check_gnu`. Refuses exactly where the table's
-/// `new` does.
+/// Checks a section of either kind as `check_sysv` or `check_gnu` does. Returns an error exactly if `new` of the
+/// table does, and that error.
 pub fn check_any<'data, E: EndianParse>(
     kind: HashSection,
     endian: E,

@@ -19,7 +19,7 @@ use elf_parts::hash::GnuHashTable;
 use elf_parts::string_table::StringTable;
 use elf_parts::symbol::{Symbol, SymbolTable};
 
-/// A GNU hash section that is sound for its symbols.
+/// The table of a GNU hash section that is sound for its symbols.
 #[derive(Debug, Drop)]
 pub struct CheckedGnuHash<'data, E: EndianParse> {
     table: GnuHashTable<'data, E>,
@@ -35,8 +35,7 @@ impl<'data, E: EndianParse> CheckedGnuHash<'data, E> {
     ghost use Rattle.elf_check.specs.CheckedTable.{checked_gnu_view, gnu_indexed};
     ghost use Rattle.elf_check.specs.NamedSymbols.{indices_left, run_from};
 
-    /// The index and the symbol of a name, the least of the indexed ones; none where no indexed symbol has
-    /// the name.
+    /// Returns the least index with the name and its symbol, or `None` exactly if no indexed symbol has the name.
     pub fn find(&self, name: &[u8]) -> Option<(usize, Symbol)>
         ensures { IsLeastNamed (checked_gnu_view self.now) name.now result }
     {
@@ -62,8 +61,8 @@ impl<'data, E: EndianParse> CheckedGnuHash<'data, E> {
         Walk::new(links, chains, Some(index), left)
     }
 
-    /// All symbols of a name that the section indexes, each with its index: the first is the one that `find` gives, and
-    /// they come in the order of their indices.
+    /// All indexed symbols with a name, each once with its index, in the order of their indexes. The first is the
+    /// one that `find` returns.
     pub fn find_all<'a>(&self, name: &'a [u8]) -> NamedSymbols<'a, 'data, E>
         ensures { AreAllNamed (Object.ByGnu (checked_gnu_view self.now)) name.now (named_left result) }
     {
@@ -71,7 +70,7 @@ impl<'data, E: EndianParse> CheckedGnuHash<'data, E> {
         NamedSymbols::new(walk, self.symtab, self.strtab, name)
     }
 
-    /// How many symbols the section indexes.
+    /// The number of symbols that the section indexes: one for each chain word.
     pub fn indexed(&self) -> usize
         ensures count { result ≡ gnu_indexed self.now }
         ensures words { result ≡ word_count (checked_gnu_view self.now).table.chains }

@@ -1,5 +1,5 @@
-//! Laws of sound sections, for proofs that stand on them. Each is the contract of a function that does
-//! nothing.
+//! Laws of sound sections: theorems for the proofs of callers. Each is the contract of a function that computes
+//! nothing; a caller uses the law by calling it.
 ghost use Rattle.std.specs.Option.{IsSomeAnd};
 ghost use Rattle.std.specs.Prelude.{◌≡◌, ◌↔◌, ◌<◌, ◌≤◌, Bool, List, ℕ, Ok, Some};
 ghost use Rattle.std.specs.Result.{IsOkAnd};
@@ -14,8 +14,8 @@ ghost use Rattle.elf_check.specs.WithSymbols.{WithSymbols};
 
 use elf_parts::laws::find::{gnu_words_can_be_read, sysv_words_can_be_read};
 
-/// On a sound GNU section the plain look-up, with the header as `new` left it, is refused nothing and gives
-/// the least index of the name, or none exactly where no indexed symbol has it.
+/// On a sound GNU section `GnuHashTable::find`, with `hdr` as `new` left it, returns no error. It returns the least
+/// index with the name, or `None` exactly if no indexed symbol has it.
 pub fn gnu_find_on_sound(section: &[u8])
     ensures { (little : Bool) (class : Class) (s : WithSymbols GnuTable) (name : List ℕ) →
         gnu_section little class section.now ≡ Ok s.table → SoundGnu s →
@@ -24,8 +24,8 @@ pub fn gnu_find_on_sound(section: &[u8])
     gnu_words_can_be_read(section);
 }
 
-/// On a sound SysV section the plain look-up is refused nothing and gives the first index of the name in
-/// its chain, or none exactly where no indexed symbol has it.
+/// On a sound SysV section `SysVHashTable::find` returns no error. It returns the first index with the name along
+/// its chain, or `None` exactly if no indexed symbol has it.
 pub fn sysv_find_on_sound(section: &[u8])
     ensures { (little : Bool) (class : Class) (s : WithSymbols SysvTable) (name : List ℕ) →
         sysv_section little class section.now ≡ Ok s.table → SoundSysv s →
@@ -34,8 +34,8 @@ pub fn sysv_find_on_sound(section: &[u8])
     sysv_words_can_be_read(section);
 }
 
-/// A SysV section is sound exactly where each bucket's chain has some 0, at most as far on as there are
-/// chain words, and each value before it belongs to the bucket.
+/// A SysV section is sound exactly if the chain of each bucket has a 0, after at most as many indexes as there are
+/// chain words, and each index before that 0 belongs to the bucket.
 pub fn sound_sysv_needs_some_end()
     ensures { (s : WithSymbols SysvTable) → SoundSysv s ↔ ((bucket : ℕ) → bucket < word_count s.table.buckets →
         (j : ℕ) × (j ≤ word_count s.table.chains) × (value s.table bucket j ≡ Some 0)

@@ -101,8 +101,8 @@ impl<'data, E: EndianParse> Iterator for Walk<'data, E> {
     }
 }
 
-/// The symbols of a name that a checked section indexes, each with its index, in the order in which a look-up meets
-/// them. After its first `None` it gives `None`. Nothing is allocated.
+/// An iterator over the indexed symbols with a name, each with its index, in the order in which a look-up meets
+/// them. After its first `None` it keeps returning `None`. Nothing is allocated.
 #[derive(Debug, Drop)]
 pub struct NamedSymbols<'a, 'data, E: EndianParse> {
     walk: Walk<'data, E>,

@@ -10,21 +10,21 @@ use elf_parts::endian::EndianParse;
 use elf_parts::string_table::StringTable;
 use elf_parts::symbol::SymbolTable;
 
-/// How many symbols a checker has read, accepted or refused. The count stops at 2^64 - 1.
+/// The number of symbols that a checker has read, whether the read succeeded or not. It stops at 2^64 - 1.
 #[derive(Copy, Clone, Debug, Default, PartialEq, Eq)]
 pub struct Reads {
     count: u64,
 }
 
 impl Reads {
-    /// No symbol was read.
+    /// A count of 0.
     pub fn new() -> Self
         ensures { read_count result ≡ 0 }
     {
         Reads { count: 0 }
     }
 
-    /// How many symbols were read.
+    /// The number of symbols that were read.
     pub fn count(&self) -> u64
         ensures { result ≡ read_count self.now }
     {

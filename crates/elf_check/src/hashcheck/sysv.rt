@@ -19,7 +19,7 @@ use elf_parts::hash::SysVHashTable;
 use elf_parts::string_table::StringTable;
 use elf_parts::symbol::{Symbol, SymbolTable};
 
-/// A SysV hash section that is sound for its symbols.
+/// The table of a SysV hash section that is sound for its symbols.
 #[derive(Debug, Drop)]
 pub struct CheckedSysvHash<'data, E: EndianParse> {
     table: SysVHashTable<'data, E>,
@@ -35,8 +35,8 @@ impl<'data, E: EndianParse> CheckedSysvHash<'data, E> {
     ghost use Rattle.elf_check.specs.CheckedTable.{checked_sysv_view, sysv_indexed};
     ghost use Rattle.elf_check.specs.NamedSymbols.{chain_from, indices_left};
 
-    /// The index and the symbol of a name, the first in its chain; none where no indexed symbol has the
-    /// name.
+    /// Returns the index and the symbol of a name, the first along its chain, or `None` exactly if no indexed
+    /// symbol has the name.
     pub fn find(&self, name: &[u8]) -> Option<(usize, Symbol)>
         ensures { IsFirstNamed (checked_sysv_view self.now) name.now result }
     {
@@ -58,8 +58,8 @@ impl<'data, E: EndianParse> CheckedSysvHash<'data, E> {
         }
     }
 
-    /// All symbols of a name that the section indexes, each with its index: the first is the one that `find` gives, and
-    /// they come in the order of their chain.
+    /// All indexed symbols with a name, each once with its index, in the order of their chain. The first is the one
+    /// that `find` returns.
     pub fn find_all<'a>(&self, name: &'a [u8]) -> NamedSymbols<'a, 'data, E>
         ensures { AreAllNamed (Object.BySysv (checked_sysv_view self.now)) name.now (named_left result) }
     {
@@ -67,7 +67,7 @@ impl<'data, E: EndianParse> CheckedSysvHash<'data, E> {
         NamedSymbols::new(walk, self.symtab, self.strtab, name)
     }
 
-    /// How many symbols the section indexes.
+    /// The number of symbols that the section indexes: the sum of the lengths of its chains.
     pub fn indexed(&self) -> usize
         ensures count { result ≡ sysv_indexed self.now }
         ensures lengths { let table = (checked_sysv_view self.now).table in

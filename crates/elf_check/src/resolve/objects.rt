@@ -1,4 +1,4 @@
-//! The checked table of a file, and the look-up of a name over such tables.
+//! The checked hash table of a file, and the look-up of a name over such tables.
 ghost use Rattle.std.specs.Prelude.{◌≡◌, Some};
 ghost use Rattle.elf_parts.specs.Number.{ok_map};
 ghost use Rattle.elf_parts.specs.Table.{table_view};
@@ -75,9 +75,13 @@ fn section_table<'data, E: EndianParse>(
     }
 }
 
-/// The checked table of a file over its dynamic symbols: that of the first section of type `SHT_GNU_HASH`, or
-/// where there is none of the first of type `SHT_HASH`. None where there is neither. Refuses at the first of these
-/// that fails: the bytes of the section, the dynamic symbols, the table in the bytes, its soundness.
+/// Returns the checked hash table of a file over its dynamic symbols: that of the first section of type
+/// `SHT_GNU_HASH`, or if there is none that of the first of type `SHT_HASH`. Returns `None` exactly if the file has
+/// neither.
+///
+/// Errors, in order: `Read` if the bytes of the section cannot be read; `Read` if the dynamic symbols cannot be
+/// read; `NoSymbols` if there are none; `Read` if `new` of the table returns an error; `Faulty` with a fault that
+/// is true of the section.
 pub fn object_table<'data, E: EndianParse>(
     file: &ElfBytes<'data, E>,
 ) -> Result<Option<AnyChecked<'data, E>>, ObjectFault>
@@ -93,8 +97,8 @@ pub fn object_table<'data, E: EndianParse>(
 }
 
 #[tactic(auto, using(std::proofs::lemmas::Grind::elements))]
-/// The first object in the list that has the name, by its place from 0 on, with the index and the symbol that its
-/// `find` gives. None where no object has the name.
+/// Returns the place of the first object in the list that has the name, counted from 0, with the index and the
+/// symbol that its `find` returns. Returns `None` exactly if no object has the name.
 pub fn resolve<E: EndianParse>(
     objects: &[AnyChecked<'_, E>],
     name: &[u8],

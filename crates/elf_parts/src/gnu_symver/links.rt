@@ -1,4 +1,4 @@
-//! Linked records, and the one iterator over them that all version iterators stand on.
+//! Linked records, and the one iterator over them on which all version iterators are built.
 ghost use Rattle.std.specs.Prelude.{◌≡◌, ◌≤◌, ◌+◌, ◌-◌, ℕ, List, length, ⊤};
 ghost use Rattle.std.specs.Iterator.{YieldsFirst, item_count};
 ghost use Rattle.elf_parts.specs.Link.{from_next};
@@ -12,24 +12,24 @@ use crate::parse::{ParseAt, read_record};
 use std::alloc::AllocError;
 use std::marker::PhantomData;
 
-/// A record that tells how far behind its own start the next one begins.
+/// A record that states the distance from its own start to the start of the next record.
 pub trait Linked: ParseAt {
     // How many bytes behind its start the next record begins; 0 where there is none.
     ghost next_distance: { Self → ℕ };
 
-    /// How many bytes behind its start the next record begins; 0 where there is none.
+    /// The distance to the next record, in bytes; 0 if this record is the last one.
     fn distance(&self) -> u32
         ensures { result ≡ next_distance self.now };
 }
 
-/// An entry of a version section. Behind it its auxiliary entries are linked.
+/// An entry of a version section: a record to which auxiliary entries are linked.
 pub trait VersionEntry: Linked {
     type Aux: Linked;
 
     // An entry, from the offset where it begins, with its auxiliary entries.
     ghost with_aux: { Table → ℕ × Self → Self × List Self.Aux };
 
-    /// The auxiliary entries of this entry, which begins at the offset `start`, in bytes.
+    /// The auxiliary entries of this entry, whose own start is the offset `start`, in bytes.
     fn aux<'data, E: EndianParse>(
         &self,
         entries: &Links<'data, E, Self>,
@@ -49,7 +49,7 @@ fn next_start(start: usize, distance: u32) -> Option<usize>
     start.checked_add(distance as usize)
 }
 
-/// Linked records, one after the other, each with the offset where it begins.
+/// An iterator over linked records, each with the offset of its start, in bytes.
 #[derive(Debug)]
 #[derive_where(Copy)]
 pub struct Links<'data, E: EndianParse, R: Linked> {
@@ -74,7 +74,8 @@ impl<'data, E: EndianParse, R: Linked> Clone for Links<'data, E, R> {
 }
 
 impl<'data, E: EndianParse, R: Linked> Links<'data, E, R> {
-    /// The records that are linked from the one at `offset` on, at most `count`.
+    /// The records that are linked from the one at `offset`, in bytes: at most `count`, and at most as many as the
+    /// data have bytes.
     #[tactic(auto, using(crate::proofs::LinkedRecords::count_bounds))]
     pub fn new(little: bool, class: Class, count: u64, offset: usize, data: &'data [u8]) -> Self
         ensures items { links_left R.reads.record_at R.next_distance result
@@ -94,7 +95,7 @@ impl<'data, E: EndianParse, R: Linked> Links<'data, E, R> {
         }
     }
 
-    /// The records of another type that are linked from the one `distance` bytes behind `start` on.
+    /// The records of another type that are linked from the one `distance` bytes behind `start`: at most `count`.
     pub fn aux<A: Linked>(&self, start: usize, count: u16, distance: u32) -> Links<'data, E, A>
         ensures { links_left A.reads.record_at A.next_distance result
             ≡ links_in A.reads.record_at A.next_distance (links_view self.now) count (start + distance) }

@@ -1,4 +1,4 @@
-//! The entries of the version sections and their auxiliary entries, one after the other.
+//! Iterators over the entries of the version sections and over their auxiliary entries (GNU symbol versioning).
 ghost use Rattle.std.specs.Prelude.{◌≡◌, ◌≤◌, length};
 ghost use Rattle.std.specs.Iterator.{YieldsFirst, YieldsFirstBy, item_count};
 ghost use Rattle.elf_parts.specs.Table.{table_in};
@@ -10,8 +10,8 @@ use super::records::{VerDef, VerDefAux, VerNeed, VerNeedAux};
 use crate::endian::EndianParse;
 use crate::file::Class;
 
-/// The auxiliary entries of one entry, one after the other: at most the count, up to the one whose next field
-/// is 0, and up to one that is refused. After its first `None` it gives `None`.
+/// An iterator over the auxiliary entries of one entry: at most the count, up to the one whose next field is 0, and
+/// up to the first that cannot be read. After its first `None` it keeps returning `None`.
 #[derive(Debug, Drop)]
 pub struct AuxIterator<'data, E: EndianParse, A: Linked> {
     links: Links<'data, E, A>,
@@ -24,7 +24,8 @@ pub type VerNeedAuxIterator<'data, E> = AuxIterator<'data, E, VerNeedAux>;
 pub type VerDefAuxIterator<'data, E> = AuxIterator<'data, E, VerDefAux>;
 
 impl<'data, E: EndianParse, A: Linked> AuxIterator<'data, E, A> {
-    /// The entries that are linked from the one at `starting_offset` on, in bytes, at most `count`.
+    /// The entries that are linked from the one at `starting_offset`, in bytes: at most `count`, and at most as
+    /// many as the data have bytes.
     #[tactic(auto, using(crate::proofs::LinkedRecords::map_bounds))]
     pub fn new(
         endian: E,
@@ -65,22 +66,24 @@ impl<'data, E: EndianParse, A: Linked> Iterator for AuxIterator<'data, E, A> {
     }
 }
 
-/// The entries of a version section, one after the other, each with its auxiliary entries: at most the count,
-/// up to the one whose next field is 0, and up to one that is refused. After its first `None` it gives `None`.
+/// An iterator over the entries of a version section, each with its auxiliary entries: at most the count, up to the
+/// one whose next field is 0, and up to the first that cannot be read. After its first `None` it keeps returning
+/// `None`.
 #[derive(Debug)]
 #[derive_where(Clone, Copy)]
 pub struct EntryIterator<'data, E: EndianParse, V: VersionEntry> {
     links: Links<'data, E, V>,
 }
 
-/// The needs, each with the versions that are needed.
+/// The needs, each with the versions that are needed of its file.
 pub type VerNeedIterator<'data, E> = EntryIterator<'data, E, VerNeed>;
 
 /// The definitions, each with its names.
 pub type VerDefIterator<'data, E> = EntryIterator<'data, E, VerDef>;
 
 impl<'data, E: EndianParse, V: VersionEntry> EntryIterator<'data, E, V> {
-    /// The entries that are linked from the one at `starting_offset` on, in bytes, at most `count`.
+    /// The entries that are linked from the one at `starting_offset`, in bytes: at most `count`, and at most as
+    /// many as the data have bytes.
     #[tactic(auto, using(crate::proofs::LinkedRecords::map_bounds))]
     pub fn new(
         endian: E,

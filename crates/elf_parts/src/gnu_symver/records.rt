@@ -1,4 +1,4 @@
-//! The records of the version sections.
+//! The records of the version sections (GNU symbol versioning). They are the same in both classes.
 ghost use Rattle.std.specs.Prelude.{◌≡◌, ◌==◌};
 ghost use Rattle.elf_abi.specs.Values.{ver_ndx_global, ver_ndx_local};
 ghost use Rattle.elf_parts.specs.gnu_symver.Records.{version_index, version_is_hidden};
@@ -9,7 +9,8 @@ use crate::file::Class;
 use crate::parse::{ParseAt, ParseError, ParsingTable};
 use elf_abi::abi;
 
-/// A need: a file, and how many versions are needed of it. `vn_file` is the offset of its name, in bytes.
+/// A need: a file of which versions are needed. `vn_cnt` is the number of its auxiliary entries, `vn_file` the
+/// offset of the file's name in the linked strings, in bytes. A version field other than 1 is `UnsupportedVersion`.
 #[derive(Debug, Drop, PartialEq, Eq)]
 pub struct VerNeed {
     pub vn_cnt: u16,
@@ -74,8 +75,8 @@ impl VersionEntry for VerNeed {
     }
 }
 
-/// A version that is needed of a file. `vna_other` is its version index, `vna_name` the offset of its name, in
-/// bytes.
+/// A version that is needed of a file. `vna_other` is its version index, `vna_name` the offset of its name in the
+/// linked strings, in bytes, and `vna_hash` the SysV hash of the name as the file states it.
 #[derive(Debug, Drop, PartialEq, Eq)]
 pub struct VerNeedAux {
     pub vna_hash: u32,
@@ -119,7 +120,8 @@ impl Linked for VerNeedAux {
     }
 }
 
-/// A version that is defined. `vd_ndx` is its version index, `vd_cnt` how many names it has.
+/// A definition of a version. `vd_ndx` is its version index, `vd_cnt` the number of its names, and `vd_hash` the
+/// SysV hash of its name as the file states it. A version field other than 1 is `UnsupportedVersion`.
 #[derive(Debug, Drop, PartialEq, Eq)]
 pub struct VerDef {
     pub vd_flags: u16,
@@ -188,8 +190,8 @@ impl VersionEntry for VerDef {
     }
 }
 
-/// A name of a version that is defined: its own, or that of one that it builds on. `vda_name` is its offset, in
-/// bytes.
+/// A name of a definition: its own, or that of a version on which it builds. `vda_name` is the offset of the name
+/// in the linked strings, in bytes.
 #[derive(Debug, Drop, PartialEq, Eq)]
 pub struct VerDefAux {
     pub vda_name: u32,
@@ -227,11 +229,11 @@ impl Linked for VerDefAux {
     }
 }
 
-/// The version of a symbol: the low 15 bits are its version index, bit 15 hides it.
+/// The version index of a symbol: the lower 15 bits are the index, bit 15 says that it is hidden.
 #[derive(Debug, Drop, PartialEq, Eq)]
 pub struct VersionIndex(pub u16);
 
-/// The version indexes of symbols, in the order of the symbols.
+/// The version indexes of the dynamic symbols, in the order of the symbols.
 pub type VersionIndexTable<'data, E> = ParsingTable<'data, E, VersionIndex>;
 
 impl ParseAt for VersionIndex {
@@ -255,28 +257,28 @@ impl ParseAt for VersionIndex {
 }
 
 impl VersionIndex {
-    /// The index, without the bit that hides it.
+    /// The index: the lower 15 bits.
     pub fn index(&self) -> u16
         ensures { result ≡ version_index self.now }
     {
         self.0 & abi::VER_NDX_VERSION
     }
 
-    /// Whether the symbol is local: its index is 0.
+    /// Whether the index is 0 (`VER_NDX_LOCAL`): the symbol is local.
     pub fn is_local(&self) -> bool
         ensures { result ≡ (version_index self.now == ver_ndx_local) }
     {
         self.index() == abi::VER_NDX_LOCAL
     }
 
-    /// Whether the symbol is global and has no version of its own: its index is 1.
+    /// Whether the index is 1 (`VER_NDX_GLOBAL`): the symbol is global and has no version of its own.
     pub fn is_global(&self) -> bool
         ensures { result ≡ (version_index self.now == ver_ndx_global) }
     {
         self.index() == abi::VER_NDX_GLOBAL
     }
 
-    /// Whether the version is hidden.
+    /// Whether bit 15 is set: the version is hidden.
     pub fn is_hidden(&self) -> bool
         ensures { result ≡ version_is_hidden self.now }
     {

@@ -1,4 +1,4 @@
-//! The versions of the symbols of a file.
+//! The versions of the symbols of a file (GNU symbol versioning).
 ghost use Rattle.std.specs.Prelude.{◌≡◌, ◌==◌, ◌<◌, ◌≤◌, ◌^◌, length, map};
 ghost use Rattle.std.specs.Iterator.{item_count};
 ghost use Rattle.std.specs.Option.{option_map};
@@ -26,7 +26,8 @@ use crate::parse::ParseError;
 use crate::string_table::StringTable;
 pub use indexed::IndexedVersions;
 
-/// The version of a symbol that another file has to have.
+/// The version of a symbol that another file must have: the name of that file, the name, the hash and the flags of
+/// the version, and whether the symbol's version index is hidden.
 #[derive(Debug, Drop, PartialEq, Eq)]
 pub struct SymbolRequirement<'data> {
     pub file: &'data str,
@@ -36,7 +37,8 @@ pub struct SymbolRequirement<'data> {
     pub hidden: bool,
 }
 
-/// The version that a symbol is defined with.
+/// The version with which a symbol is defined: its hash, its flags and its names, and whether the symbol's version
+/// index is hidden.
 #[derive(Debug, Drop)]
 pub struct SymbolDefinition<'data, E: EndianParse> {
     pub hash: u32,
@@ -45,7 +47,8 @@ pub struct SymbolDefinition<'data, E: EndianParse> {
     pub hidden: bool,
 }
 
-/// The names of a version, read one by one; a name that is refused does not end it.
+/// An iterator over the names of a version. Each is text, or an error of `StringTable::get`, which does not end the
+/// iterator. After its first `None` it keeps returning `None`.
 #[derive(Debug, Drop)]
 pub struct SymbolNamesIterator<'data, E: EndianParse> {
     records: VerDefAuxIterator<'data, E>,
@@ -53,7 +56,8 @@ pub struct SymbolNamesIterator<'data, E: EndianParse> {
 }
 
 impl<'data, E: EndianParse> SymbolNamesIterator<'data, E> {
-    /// The names that these records name in these strings: no more than the records' data has bytes.
+    /// The names in these strings at the offsets in these records. There are at most as many as the records' data
+    /// have bytes.
     #[tactic(auto, using(crate::proofs::Versions::names_few, crate::proofs::Versions::names_counted))]
     pub fn new(records: VerDefAuxIterator<'data, E>, strings: &'data StringTable<'data>) -> Self
         ensures items { names_left result ≡ raw_names (strings_view strings.now) (ver_def_aux_left records.entry) }
@@ -77,7 +81,8 @@ impl<'data, E: EndianParse> Iterator for SymbolNamesIterator<'data, E> {
     }
 }
 
-/// The versions of the symbols of a file.
+/// The versions of the symbols of a file. A look-up walks over the needs, or over the definitions, up to the first
+/// one with the symbol's version index; `IndexedVersions` needs no walk.
 #[derive(Debug, Drop)]
 pub struct SymbolVersionTable<'data, E: EndianParse> {
     indexes: VersionIndexTable<'data, E>,
@@ -192,8 +197,7 @@ fn read_definition<'data, E: EndianParse>(
 }
 
 impl<'data, E: EndianParse> SymbolVersionTable<'data, E> {
-    /// The versions by the indexes of the symbols, the needs with their strings and the definitions with
-    /// theirs.
+    /// The table of these version indexes, the needs with their strings, and the definitions with theirs.
     pub fn new(
         version_ids: VersionIndexTable<'data, E>,
         verneeds: Option<(VerNeedIterator<'data, E>, StringTable<'data>)>,
@@ -212,16 +216,18 @@ impl<'data, E: EndianParse> SymbolVersionTable<'data, E> {
         }
     }
 
-    /// The version index of a symbol, counted from 0. Refuses as the table of version indexes does.
+    /// Returns the version index of a symbol, counted from 0, or the error of `ParsingTable::get`.
     pub fn get_index(&self, symbol: usize) -> Result<VersionIndex, ParseError>
         ensures { result ≡ index_of (versions_view self.now) symbol }
     {
         self.indexes.get(symbol)
     }
 
-    /// The version that a symbol, counted from 0, needs of another file: `None` where there are no needs,
-    /// whatever its version index, and where none has this index. Refuses as the table of version indexes
-    /// does, and then as `StringTable::get` does for the file's name and for the version's name.
+    /// Returns the version that a symbol, counted from 0, needs of another file. Returns `None` if there are no
+    /// needs, whatever the symbol's version index is, or if no needed version has this index.
+    ///
+    /// Errors, in order: that of `get_index`; that of `StringTable::get` for the name of the file; the same for the
+    /// name of the version.
     pub fn get_requirement(
         &self,
         symbol: usize,
@@ -239,9 +245,9 @@ impl<'data, E: EndianParse> SymbolVersionTable<'data, E> {
         Ok(Some(read_requirement(strings, needed, index.is_hidden())?))
     }
 
-    /// The version that a symbol, counted from 0, is defined with: `None` where there are no definitions,
-    /// whatever its version index, and where none has this index. Refuses as the table of version indexes
-    /// does. The names are read when they are asked for.
+    /// Returns the version with which a symbol, counted from 0, is defined. Returns `None` if there are no
+    /// definitions, whatever the symbol's version index is, or if no definition has this index. The only error is
+    /// that of `get_index`: names are read by the iterator, of which there are fewer than 2^16.
     pub fn get_definition(
         &self,
         symbol: usize,

@@ -13,7 +13,7 @@ use crate::parse::{ParseAt, ParseError, ParsingTable};
 use crate::string_table::StringTable;
 use crate::symbol::{Symbol, SymbolTable};
 
-/// The header of a SysV hash section: how many buckets and how many chain words follow it.
+/// The header of a SysV hash section: the number of buckets and the number of chain words.
 #[derive(Clone, Debug, Drop, PartialEq, Eq)]
 pub struct SysVHashHeader {
     pub nbucket: u32,
@@ -51,7 +51,7 @@ fn fold_top(hash: u32) -> u32
     (hash ^ (top >> 24)) & 0x0fff_ffff
 }
 
-/// The hash of a name in a SysV hash section.
+/// The hash of a name in a SysV hash section (gABI, chapter "Hash Table"): 32 bits, of which the upper four are 0.
 #[tactic(auto, using(crate::proofs::Hashing::hash_steps), unfolding(crate::specs::Hash::sysv_hash_of))]
 pub fn sysv_hash(name: &[u8]) -> u32
     ensures { result ≡ sysv_hash_of name.now }
@@ -63,7 +63,7 @@ pub fn sysv_hash(name: &[u8]) -> u32
     hash
 }
 
-/// A SysV hash section: for each bucket the indices of symbols, one after the other.
+/// A SysV hash section: for each bucket a chain of symbol indexes.
 #[derive(Debug, Drop)]
 pub struct SysVHashTable<'data, E: EndianParse> {
     buckets: U32Table<'data, E>,
@@ -71,8 +71,10 @@ pub struct SysVHashTable<'data, E: EndianParse> {
 }
 
 impl<'data, E: EndianParse> SysVHashTable<'data, E> {
-    /// The table that a section holds. Refuses as the header at the front does, and then the buckets and
-    /// the chain words where they do not lie in the data.
+    /// Reads the header at the front of the section, and finds the buckets and the chain words behind it.
+    ///
+    /// Errors, in order: `SliceReadError((start, end))` of the first number of the header that does not lie in the
+    /// data; the same of the buckets; the same of the chain words.
     #[tactic(auto, unfolding(crate::specs::SysvFind::sysv_section))]
     pub fn new(endian: E, class: Class, data: &'data [u8]) -> Result<Self, ParseError>
         ensures { ok_map sysv_view result ≡ sysv_section (E.little endian) class «data».now }
@@ -88,22 +90,26 @@ impl<'data, E: EndianParse> SysVHashTable<'data, E> {
         })
     }
 
-    /// The words of the buckets: each is the first index of the bucket's chain, or 0.
+    /// The words of the buckets. Each is the first symbol index of the bucket's chain, or 0 if the chain is empty.
     pub fn buckets(&self) -> ParsingTable<'data, E, u32>
         ensures { table_view result ≡ (sysv_view self.now).buckets }
     {
         self.buckets
     }
 
-    /// The chain words: that of an index is the next index of its chain, or 0.
+    /// The chain words. The one at a symbol index is the next index of its chain, or 0 if there is none.
     pub fn chains(&self) -> ParsingTable<'data, E, u32>
         ensures { table_view result ≡ (sysv_view self.now).chains }
     {
         self.chains
     }
 
-    /// The index and the symbol of a name, the first along the chain of its bucket; none where no chain
-    /// word leads to one. Refuses as the first read on the way does that is refused.
+    /// Returns the index and the symbol of a name: the first one along the chain of its bucket. Returns `None` if
+    /// there are no buckets, or if the chain ends, or is followed for as many symbols as there are chain words,
+    /// without one of this name.
+    ///
+    /// The error is that of the first read on the way that fails: `ParsingTable::get` for the symbol,
+    /// `StringTable::get_raw` for its name, or `ParsingTable::get` for the chain word.
     #[tactic(auto, unfolding(crate::specs::SysvFind::sysv_find))]
     pub fn find(
         &self,

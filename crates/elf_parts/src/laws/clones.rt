@@ -1,4 +1,4 @@
-//! Laws of clones: the clone of a value is the same value, and `clone` needs no memory.
+//! Laws of clones: the clone of a value is the same value, and cloning it cannot fail.
 ghost use Rattle.elf_parts.specs.Clones.{ClonesExactly};
 
 use crate::compression::CompressionHeader;
@@ -15,7 +15,7 @@ use crate::segment::ProgramHeader;
 use crate::string_table::StringTable;
 use crate::symbol::Symbol;
 
-/// Classes and orders are cloned as they are.
+/// The clone of a class or of a byte order is the same value, and cloning it cannot fail.
 pub fn clones_of_kinds()
     ensures class { ClonesExactly ⟦<Class as Clone>⟧.is_clone ⟦<Class as Clone>⟧.is_infallible }
     ensures either { ClonesExactly ⟦<AnyEndian as Clone>⟧.is_clone ⟦<AnyEndian as Clone>⟧.is_infallible }
@@ -23,7 +23,8 @@ pub fn clones_of_kinds()
     ensures big { ClonesExactly ⟦<BigEndian as Clone>⟧.is_clone ⟦<BigEndian as Clone>⟧.is_infallible }
 {}
 
-/// File headers, section headers and program headers are cloned as they are.
+/// The same of file headers, section headers, program headers, compression headers and the headers of hash
+/// sections.
 pub fn clones_of_headers<E: EndianParse>()
     ensures file { ClonesExactly ⟦<FileHeader<E> as Clone>⟧.is_clone ⟦<FileHeader<E> as Clone>⟧.is_infallible }
     ensures section { ClonesExactly ⟦<SectionHeader as Clone>⟧.is_clone ⟦<SectionHeader as Clone>⟧.is_infallible }
@@ -34,7 +35,7 @@ pub fn clones_of_headers<E: EndianParse>()
     ensures gnu { ClonesExactly ⟦<GnuHashHeader as Clone>⟧.is_clone ⟦<GnuHashHeader as Clone>⟧.is_infallible }
 {}
 
-/// Symbols, relocations, dynamic entries and what notes hold are cloned as they are.
+/// The same of symbols, relocations, dynamic entries, ABI tags and build ids.
 pub fn clones_of_records()
     ensures symbol { ClonesExactly ⟦<Symbol as Clone>⟧.is_clone ⟦<Symbol as Clone>⟧.is_infallible }
     ensures rel { ClonesExactly ⟦<Rel as Clone>⟧.is_clone ⟦<Rel as Clone>⟧.is_infallible }
@@ -45,8 +46,8 @@ pub fn clones_of_records()
         ⟦<NoteGnuBuildId<'static> as Clone>⟧.is_clone ⟦<NoteGnuBuildId<'static> as Clone>⟧.is_infallible }
 {}
 
-/// Tables and the version iterators that can be cloned are cloned as they are, an iterator at the place where
-/// it stands.
+/// The same of tables, string tables and the two version iterators that can be cloned. A cloned iterator continues
+/// at the same place.
 pub fn clones_of_tables<E: EndianParse, P: ParseAt>()
     ensures table { ClonesExactly
         ⟦<ParsingTable<'static, E, P> as Clone>⟧.is_clone ⟦<ParsingTable<'static, E, P> as Clone>⟧.is_infallible }

@@ -7,8 +7,7 @@ ghost use Rattle.elf_parts.specs.declared.string_table.StringTable.{StringTable}
 use crate::endian::{AnyEndian, BigEndian, LittleEndian};
 use crate::string_table::StringTable;
 
-/// The default table of strings holds no byte, and the default order is the little one, where a type has
-/// both.
+/// The default string table has no bytes, and the default of `AnyEndian` is `Little`.
 pub fn defaults()
     ensures strings { (s : StringTable) → ⟦<StringTable<'static> as Default>⟧.is_default s → strings_view s ≡ [] }
     ensures order { (e : AnyEndian) → ⟦<AnyEndian as Default>⟧.is_default e → e ≡ AnyEndian.Little }

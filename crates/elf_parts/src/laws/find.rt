@@ -1,5 +1,4 @@
-//! Laws of hash sections and of look-ups by them. Each is the contract of a function that does nothing, or that
-//! asks for a length and so learns that the bytes are fewer than 2^64.
+//! Laws of hash sections and of look-ups in them.
 ghost use Rattle.std.specs.Prelude.{◌≡◌, Bool, List, ℕ, Ok, Some, refl};
 ghost use Rattle.elf_parts.specs.GnuFind.{GnuTable, ReadsBloom, gnu_find, gnu_section};
 ghost use Rattle.elf_parts.specs.Hash.{IsNamed, ReadsBelowCount};
@@ -27,26 +26,29 @@ impl PlainRecord for GnuHashHeader {
     ghost wherever = { wherever_by gnu_header_layout refl };
 }
 
-/// A symbol that a SysV look-up gives is that of its index, and has the name that was asked for.
+/// If a look-up in a SysV section returns a symbol, this is the symbol at the returned index, and it has the
+/// requested name.
 pub fn sysv_find_gives_named()
     ensures { (t : SysvTable) (symbols : Table) (strings name : List ℕ) (found : ℕ × Symbol) →
         sysv_find t symbols strings name ≡ Ok (Some found) → IsNamed symbols strings name found }
 {}
 
-/// A symbol that a GNU look-up gives is that of its index, and has the name that was asked for.
+/// If a look-up in a GNU section returns a symbol, this is the symbol at the returned index, and it has the
+/// requested name.
 pub fn gnu_find_gives_named()
     ensures { (t : GnuTable) (symbols : Table) (strings name : List ℕ) (found : ℕ × Symbol) →
         gnu_find t symbols strings name ≡ Ok (Some found) → IsNamed symbols strings name found }
 {}
 
-/// Exactly the words below their count can be read.
+/// `get` of a table of words succeeds exactly for the indexes below the number of words.
 pub fn words_read_below_count<E: EndianParse>(words: &ParsingTable<'_, E, u32>)
     ensures { ReadsBelowCount (table_view words.now) }
 {
     let _ = words.len();
 }
 
-/// Of a SysV section's table exactly the words below their counts can be read.
+/// In a table that `SysVHashTable::new` made, the buckets and the chain words can be read exactly below their
+/// counts.
 pub fn sysv_words_can_be_read(section: &[u8])
     ensures { (little : Bool) (class : Class) (t : SysvTable) → sysv_section little class section.now ≡ Ok t →
         ReadsBelowCount t.buckets × ReadsBelowCount t.chains }
@@ -54,8 +56,8 @@ pub fn sysv_words_can_be_read(section: &[u8])
     let _ = section.len();
 }
 
-/// Of a GNU section's table exactly the words of the buckets and the chain words below their counts can be
-/// read, and the bloom words that its header counts.
+/// In a table that `GnuHashTable::new` made, the buckets and the chain words can be read exactly below their
+/// counts, and each bloom word that the header counts can be read.
 pub fn gnu_words_can_be_read(section: &[u8])
     ensures { (little : Bool) (class : Class) (t : GnuTable) → gnu_section little class section.now ≡ Ok t →
         ReadsBelowCount t.buckets × ReadsBelowCount t.chains × ReadsBloom t }

@@ -7,12 +7,14 @@ use crate::endian::EndianParse;
 use crate::laws::tables::PlainRecord;
 use crate::note::{Note, NoteAny, NoteGnuAbiTag, NoteGnuBuildId};
 
-/// The notes of some bytes are the longest list of notes each of which begins where the one before it says.
+/// The notes of some bytes are the longest list in which the first note begins at 0 and each other note begins
+/// where the one before it says.
 pub fn notes_are_the_longest_list<E: EndianParse>(endian: E, align: usize, data: &[u8])
     ensures { AreAllNotes (E.little endian) align «data».now (note_links (E.little endian) align «data».now 0) }
 {}
 
-/// Where a part of a note begins is the least multiple of the alignment.
+/// A descriptor, and the next note, begin at the least multiple of the alignment that is not below the end of what
+/// precedes it. The alignment is not 0.
 pub fn parts_begin_at_the_least_multiple(align: usize, offset: usize)
     ensures { 0 < align → IsLeastMultiple align offset (next_multiple_of offset align) }
 {}
@@ -24,24 +26,25 @@ impl PlainRecord for NoteGnuAbiTag {
     ghost wherever = { wherever_by abi_tag_layout refl };
 }
 
-/// Two ABI tags are equal exactly where all their fields are.
+/// Two ABI tags are equal exactly if all their fields are.
 pub fn equal_abi_tags(a: &NoteGnuAbiTag, b: &NoteGnuAbiTag)
     ensures { IsTrue (⟦<NoteGnuAbiTag as PartialEq>⟧.eq a.now b.now) ↔ (a.now ≡ b.now) }
 {}
 
-/// Two build ids are equal exactly where they have the same bytes.
+/// Two build ids are equal exactly if they have the same bytes.
 pub fn equal_build_ids(a: &NoteGnuBuildId<'_>, b: &NoteGnuBuildId<'_>)
     ensures { IsTrue (⟦<NoteGnuBuildId<'static> as PartialEq>⟧.eq a.now b.now) ↔ (a.now.0.now ≡ b.now.0.now) }
 {}
 
-/// Two other notes are equal exactly where their types are, and the bytes of their names and descriptors.
+/// Two notes of other kinds are equal exactly if their types, the bytes of their names and the bytes of their
+/// descriptors are.
 pub fn equal_other_notes(a: &NoteAny<'_>, b: &NoteAny<'_>)
     ensures { IsTrue (⟦<NoteAny<'static> as PartialEq>⟧.eq a.now b.now)
         ↔ ((a.now.n_type ≡ b.now.n_type) × (a.now.name.now ≡ b.now.name.now) × (a.now.desc.now ≡ b.now.desc.now)) }
 {}
 
-/// Two notes are equal exactly where they say the same: the same tag, the same build id, or the same type, name
-/// and descriptor.
+/// Two notes are equal exactly if they have the same content: the same ABI tag, the same build id, or the same
+/// type, name and descriptor.
 pub fn equal_notes(a: &Note<'_>, b: &Note<'_>)
     ensures { IsTrue (⟦<Note<'static> as PartialEq>⟧.eq a.now b.now) ↔ (note_view a.now ≡ note_view b.now) }
 {}

@@ -2,7 +2,7 @@
 ghost use Rattle.std.specs.Prelude.{◌≡◌, true, false, reverse};
 ghost use Rattle.elf_parts.specs.Number.{number};
 
-/// A number in big order is the number of the reversed bytes in little order.
+/// The number that bytes spell in big order is the number that the reversed bytes spell in little order.
 #[tactic(auto, using(crate::proofs::Numbers::big_number_reversed))]
 pub fn big_is_little_reversed(bytes: &[u8])
     ensures { number false bytes.now ≡ number true (reverse bytes.now) }

@@ -1,4 +1,4 @@
-//! Laws of tables: which indexes `get` answers, and what `iter` gives.
+//! Laws of tables: at which indexes `get` succeeds, and which records `iter` yields.
 ghost use Rattle.std.specs.Prelude.{◌≡◌, ◌↔◌, ◌<◌, ◌≤◌, length, slice_get, IsOk, refl};
 ghost use Rattle.std.specs.Result.{result_ok};
 ghost use Rattle.elf_parts.specs.Record.{ReadsWherever};
@@ -13,8 +13,7 @@ use crate::section::SectionHeader;
 use crate::segment::ProgramHeader;
 use crate::symbol::Symbol;
 
-/// A record that is read wherever its bytes lie in the data, since none of its fields has to have a
-/// certain value.
+/// A record that can be read wherever its bytes lie in the data, because no field must have a certain value.
 pub trait PlainRecord: ParseAt {
     ghost wherever: { ReadsWherever Self.reads.size Self.reads.record_at };
 }
@@ -82,7 +81,7 @@ impl PlainRecord for CompressionHeader {
     ghost wherever = { wherever_by compression_header_layout refl };
 }
 
-/// Of a plain record `get` succeeds exactly below `len`.
+/// For a plain record, `get(index)` succeeds exactly if `index` is below `len`.
 pub fn get_succeeds_below_len<E: EndianParse, P: PlainRecord>(
     table: &ParsingTable<'_, E, P>,
     index: usize,
@@ -93,8 +92,7 @@ pub fn get_succeeds_below_len<E: EndianParse, P: PlainRecord>(
     let _ = table.len();
 }
 
-/// The records that `iter` gives are what `get` gives at 0, 1 and so on, and there are as many as come
-/// before the first refusal: at their number, `get` refuses.
+/// Item `index` of `iter` is what `get(index)` returns. At the number of items `get` returns an error.
 pub fn iter_gives_what_get_gives<E: EndianParse, P: ParseAt>(
     table: &ParsingTable<'_, E, P>,
     index: usize,
@@ -106,14 +104,15 @@ pub fn iter_gives_what_get_gives<E: EndianParse, P: ParseAt>(
     let _ = table.len();
 }
 
-/// Of a plain record `iter` gives as many as `len` tells.
+/// For a plain record, `iter` yields `len` records.
 pub fn iter_gives_len_records<E: EndianParse, P: PlainRecord>(table: &ParsingTable<'_, E, P>)
     ensures { length (table_items P.reads (table_view table.now)) ≡ table_len P.reads (table_view table.now) }
 {
     let _ = table.len();
 }
 
-/// Of a plain record `iter` gives at each place what `get` gives there, and has no place where `get` refuses.
+/// For a plain record and every index, item `index` of `iter` is what `get(index)` returns, and there is no such
+/// item exactly if `get(index)` returns an error.
 pub fn iter_gives_whatever_get_gives<E: EndianParse, P: PlainRecord>(
     table: &ParsingTable<'_, E, P>,
     index: usize,

@@ -13,8 +13,8 @@ use crate::gnu_symver::links::Linked;
 use crate::gnu_symver::{SymbolRequirement, VerDef, VerDefAux, VerNeed, VerNeedAux, VersionIndex};
 use crate::laws::tables::PlainRecord;
 
-/// The records that a version iterator goes over are the longest list of records that are linked, and no
-/// more than the data has bytes.
+/// The records that a version iterator yields are the longest list of linked records, and there are at most as many
+/// as the data have bytes.
 pub fn linked_records_are_the_longest_list<E: EndianParse, R: Linked>(
     endian: E,
     class: Class,
@@ -29,7 +29,7 @@ pub fn linked_records_are_the_longest_list<E: EndianParse, R: Linked>(
         length (links_in R.reads.record_at R.next_distance t count start) ≤ length «data».now }
 {}
 
-/// A need has no more versions than its `vn_cnt` says, and a definition no more names than its `vd_cnt`.
+/// There are at most `count` versions of a need, and at most `count` names of a definition.
 #[tactic(auto, using(crate::proofs::LinkedRecords::map_bounds, crate::proofs::LinkedRecords::count_bounds))]
 pub fn aux_records_are_few<E: EndianParse>(
     endian: E,
@@ -44,7 +44,7 @@ pub fn aux_records_are_few<E: EndianParse>(
         length (ver_def_aux_records t count start) ≤ count }
 {}
 
-/// The number of a version index is its index, plus 0x8000 where the version is hidden.
+/// The number in a `VersionIndex` is its index, plus 0x8000 if it is hidden.
 pub fn index_and_hidden_bit(version: VersionIndex)
     ensures { version.0 ≡ version_index version + (if version_is_hidden version then ver_ndx_hidden else 0) }
 {}
@@ -70,32 +70,32 @@ impl PlainRecord for VersionIndex {
     ghost wherever = { wherever_by version_index_layout refl };
 }
 
-/// Two needs are equal exactly where all their fields are.
+/// Two needs are equal exactly if all their fields are.
 pub fn equal_ver_needs(a: &VerNeed, b: &VerNeed)
     ensures { IsTrue (⟦<VerNeed as PartialEq>⟧.eq a.now b.now) ↔ (a.now ≡ b.now) }
 {}
 
-/// Two needed versions are equal exactly where all their fields are.
+/// Two needed versions are equal exactly if all their fields are.
 pub fn equal_ver_need_auxs(a: &VerNeedAux, b: &VerNeedAux)
     ensures { IsTrue (⟦<VerNeedAux as PartialEq>⟧.eq a.now b.now) ↔ (a.now ≡ b.now) }
 {}
 
-/// Two definitions are equal exactly where all their fields are.
+/// Two definitions are equal exactly if all their fields are.
 pub fn equal_ver_defs(a: &VerDef, b: &VerDef)
     ensures { IsTrue (⟦<VerDef as PartialEq>⟧.eq a.now b.now) ↔ (a.now ≡ b.now) }
 {}
 
-/// Two names of definitions are equal exactly where all their fields are.
+/// Two names of definitions are equal exactly if all their fields are.
 pub fn equal_ver_def_auxs(a: &VerDefAux, b: &VerDefAux)
     ensures { IsTrue (⟦<VerDefAux as PartialEq>⟧.eq a.now b.now) ↔ (a.now ≡ b.now) }
 {}
 
-/// Two version indexes are equal exactly where their numbers are.
+/// Two version indexes are equal exactly if their numbers are.
 pub fn equal_version_indexes(a: &VersionIndex, b: &VersionIndex)
     ensures { IsTrue (⟦<VersionIndex as PartialEq>⟧.eq a.now b.now) ↔ (a.now ≡ b.now) }
 {}
 
-/// Two requirements are equal exactly where their names have the same bytes and all their other fields are equal.
+/// Two requirements are equal exactly if their names have the same bytes and all their other fields are equal.
 pub fn equal_requirements(a: &SymbolRequirement<'_>, b: &SymbolRequirement<'_>)
     ensures { IsTrue (⟦<SymbolRequirement<'static> as PartialEq>⟧.eq a.now b.now)
         ↔ ((a.now.file.now ≡ b.now.file.now) × (a.now.name.now ≡ b.now.name.now) × (a.now.hash ≡ b.now.hash)

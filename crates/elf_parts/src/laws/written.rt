@@ -1,4 +1,4 @@
-//! Laws of what is written: it is read back.
+//! Laws of what is written: reading it gives it back.
 ghost use Rattle.std.specs.Prelude.{◌≡◌, ◌+◌, ◌<◌, ◌^◌, ◌∷◌, ◌++◌, [], ℕ, ℤ, Bool, List, Ok, length};
 ghost use Rattle.elf_parts.specs.Number.{number, signed_number};
 ghost use Rattle.elf_parts.specs.Compression.{compression_header_layout};
@@ -32,14 +32,14 @@ ghost use Rattle.elf_parts.specs.declared.gnu_symver.records.VerDefAux.{VerDefAu
 ghost use Rattle.elf_parts.specs.declared.gnu_symver.records.VerNeed.{VerNeed as IsVerNeed};
 ghost use Rattle.elf_parts.specs.declared.gnu_symver.records.VerNeedAux.{VerNeedAux as IsVerNeedAux};
 
-/// A number is read from the bytes that it is written in, which are as many as were asked for.
+/// A number that fits the width is read from its bytes in either order, and these bytes are as many as the width.
 #[tactic(auto, using(crate::proofs::ReadBack::number_bytes_of, crate::proofs::ReadBack::length_bytes_of))]
 pub fn numbers_are_read_back()
     ensures value { (little : Bool) (width n : ℕ) → n < 256 ^ width → number little (bytes_of little width n) ≡ n }
     ensures width { (little : Bool) (width n : ℕ) → length (bytes_of little width n) ≡ width }
 {}
 
-/// A signed number is read from the bytes of its two's complement, and these are those of a number that fits.
+/// A signed number that fits the width is read from its two's complement, which fits the width too.
 #[tactic(auto, using(crate::proofs::ReadBack::signed_number_complement, crate::proofs::ReadBack::complement_lt))]
 pub fn signed_numbers_are_read_back()
     ensures value { (width : ℕ) (z : ℤ) → 0 < width → FitsSigned width z →
@@ -47,116 +47,116 @@ pub fn signed_numbers_are_read_back()
     ensures fits { (width : ℕ) (z : ℤ) → 0 < width → FitsSigned width z → complement width z < 256 ^ width }
 {}
 
-// ---- structures: of each type of records, that it is read back from the bytes of its C struct, in both classes and
-// orders, wherever these lie; that the struct has the size of the record; that a table of structs is the table of these
-// records and of no more; that equal bytes are of equal records; and that each place in its field table is the sum of
-// the widths before it
+// ---- structures
 
-/// The same of section headers.
+/// A section header whose fields fit is read from the bytes of its C structure, in both classes and byte orders,
+/// wherever they lie below 2^64. The structure has the size of the record; a table of structures is read as exactly
+/// these records; equal bytes are of equal records; and each place in the field table is the sum of the widths
+/// before it.
 #[tactic(auto, using(crate::proofs::ReadStructs::section_header_is_struct))]
 pub fn section_headers_are_read_back()
     ensures { IsStruct section_header_layout section_header_struct }
 {}
 
-/// The same of program headers.
+/// The same of program headers, as `section_headers_are_read_back` says it of section headers.
 #[tactic(auto, using(crate::proofs::ReadStructs::program_header_is_struct))]
 pub fn program_headers_are_read_back()
     ensures { IsStruct program_header_layout program_header_struct }
 {}
 
-/// The same of symbols.
+/// The same of symbols, as `section_headers_are_read_back` says it of section headers.
 #[tactic(auto, using(crate::proofs::ReadStructs::symbol_is_struct))]
 pub fn symbols_are_read_back()
     ensures { IsStruct symbol_layout symbol_struct }
 {}
 
-/// The same of relocations without an addend.
+/// The same of relocations without an addend, as `section_headers_are_read_back` says it of section headers.
 #[tactic(auto, using(crate::proofs::ReadStructs::rel_is_struct))]
 pub fn rels_are_read_back()
     ensures { IsStruct rel_layout rel_struct }
 {}
 
-/// The same of relocations with an addend.
+/// The same of relocations with an addend, as `section_headers_are_read_back` says it of section headers.
 #[tactic(auto, using(crate::proofs::ReadStructs::rela_is_struct))]
 pub fn relas_are_read_back()
     ensures { IsStruct rela_layout rela_struct }
 {}
 
-/// The same of dynamic entries.
+/// The same of dynamic entries, as `section_headers_are_read_back` says it of section headers.
 #[tactic(auto, using(crate::proofs::ReadStructs::dyn_is_struct))]
 pub fn dynamic_entries_are_read_back()
     ensures { IsStruct dyn_layout dyn_struct }
 {}
 
-/// The same of headers of notes.
+/// The same of headers of notes, as `section_headers_are_read_back` says it of section headers.
 #[tactic(auto, using(crate::proofs::ReadStructs::note_header_is_struct))]
 pub fn note_headers_are_read_back()
     ensures { IsStruct note_header_layout (λ _. note_header_struct) }
 {}
 
-/// The same of ABI tags.
+/// The same of ABI tags, as `section_headers_are_read_back` says it of section headers.
 #[tactic(auto, using(crate::proofs::ReadStructs::abi_tag_is_struct))]
 pub fn abi_tags_are_read_back()
     ensures { IsStruct abi_tag_layout (λ _. abi_tag_struct) }
 {}
 
-/// The same of needs.
+/// The same of needs, as `section_headers_are_read_back` says it of section headers.
 #[tactic(auto, using(crate::proofs::ReadStructs::ver_need_is_struct))]
 pub fn ver_needs_are_read_back()
     ensures { IsStruct ver_need_layout (λ _. ver_need_struct) }
 {}
 
-/// The same of needed versions.
+/// The same of needed versions, as `section_headers_are_read_back` says it of section headers.
 #[tactic(auto, using(crate::proofs::ReadStructs::ver_need_aux_is_struct))]
 pub fn ver_need_auxs_are_read_back()
     ensures { IsStruct ver_need_aux_layout (λ _. ver_need_aux_struct) }
 {}
 
-/// The same of definitions of versions.
+/// The same of definitions of versions, as `section_headers_are_read_back` says it of section headers.
 #[tactic(auto, using(crate::proofs::ReadStructs::ver_def_is_struct))]
 pub fn ver_defs_are_read_back()
     ensures { IsStruct ver_def_layout (λ _. ver_def_struct) }
 {}
 
-/// The same of names of definitions.
+/// The same of names of definitions, as `section_headers_are_read_back` says it of section headers.
 #[tactic(auto, using(crate::proofs::ReadStructs::ver_def_aux_is_struct))]
 pub fn ver_def_auxs_are_read_back()
     ensures { IsStruct ver_def_aux_layout (λ _. ver_def_aux_struct) }
 {}
 
-/// The same of version indexes.
+/// The same of version indexes, as `section_headers_are_read_back` says it of section headers.
 #[tactic(auto, using(crate::proofs::ReadStructs::version_index_is_struct))]
 pub fn version_indexes_are_read_back()
     ensures { IsStruct version_index_layout (λ _. version_index_struct) }
 {}
 
-/// The same of headers of SysV hash sections.
+/// The same of headers of SysV hash sections, as `section_headers_are_read_back` says it of section headers.
 #[tactic(auto, using(crate::proofs::ReadStructs::sysv_header_is_struct))]
 pub fn sysv_headers_are_read_back()
     ensures { IsStruct sysv_header_layout (λ _. sysv_header_struct) }
 {}
 
-/// The same of headers of GNU hash sections.
+/// The same of headers of GNU hash sections, as `section_headers_are_read_back` says it of section headers.
 #[tactic(auto, using(crate::proofs::ReadStructs::gnu_header_is_struct))]
 pub fn gnu_headers_are_read_back()
     ensures { IsStruct gnu_header_layout (λ _. gnu_header_struct) }
 {}
 
-/// The same of compression headers, whatever stands in the reserved word.
+/// The same of compression headers, whatever the reserved word is.
 #[tactic(auto, using(crate::proofs::ReadStructs::compression_header_is_struct))]
 pub fn compression_headers_are_read_back()
     ensures { (reserved : ℕ) → IsStruct compression_header_layout (compression_header_struct reserved) }
 {}
 
-/// The same of words of four and of eight bytes, as they stand in hash sections.
+/// The same of words of four and of eight bytes, as hash sections have them.
 #[tactic(auto, using(crate::proofs::ReadStructs::u32_is_struct, crate::proofs::ReadStructs::u64_is_struct))]
 pub fn words_are_read_back()
     ensures four { IsStruct u32_layout (λ _ n. word n ∷ []) }
     ensures eight { IsStruct u64_layout (λ _ n. xword n ∷ []) }
 {}
 
-/// The tail of a file header, at the front of its bytes, is read as that header; it has the size of its fields, and its
-/// places are sums.
+/// The tail of a file header whose fields fit, at the front of the bytes, is read as that header. It has the size
+/// of its fields, and each place in the field table is the sum of the widths before it.
 #[tactic(auto, using(crate::proofs::ReadStructs::tail_read_back, crate::proofs::ReadStructs::tail_long))]
 pub fn tails_are_read_back<E>()
     ensures value { (little : E → Bool) (x : IsFileHeader E) (behind : List ℕ) → Fits (tail_struct x.class x) →
@@ -169,8 +169,8 @@ pub fn tails_are_read_back<E>()
 
 // ---- strings
 
-/// In a string table of names, each with a 0 byte behind it, at the offset of a name stands that name; and at an
-/// offset within it stands the rest of it. Only this rest may have no 0 byte: a name with one is cut there.
+/// In a string table of names, each followed by a 0 byte, the offset of a name reads as the name, and an offset
+/// within it as the rest of it. Only what is read must have no 0 byte: a string ends at its first.
 #[tactic(auto, using(crate::proofs::ReadStrings::name_read_back))]
 pub fn names_are_read_back()
     ensures { (before behind : List (List ℕ)) (head text rest : List ℕ) → HasNoNul text →
@@ -180,8 +180,8 @@ pub fn names_are_read_back()
 
 // ---- notes
 
-/// Notes that were laid out by the gABI's rule, each with its header, name, padding, descriptor and padding, are these
-/// notes and no more, for every alignment but 0. The premise keeps the offsets within 64 bits.
+/// Notes whose numbers fit, laid out by the gABI's rule (header, name, padding, descriptor, padding), are read as
+/// exactly these notes, for every alignment but 0. The bytes are fewer than 2^64.
 #[tactic(auto, using(crate::proofs::ReadNotes::notes_read_back))]
 pub fn notes_are_read_back()
     ensures { (little : Bool) (align : ℕ) (notes : List NoteContent) → 0 < align → NotesFit notes →
@@ -191,8 +191,8 @@ pub fn notes_are_read_back()
 
 // ---- needs and definitions
 
-/// Needs that were linked by their distances are these needs, each with its versions, wherever they lie in the bytes.
-/// The premise keeps the offsets within 64 bits.
+/// Needs that are linked by their distances, wherever they lie in the bytes, are read as these needs, each with its
+/// versions. The bytes are fewer than 2^64.
 #[tactic(auto, using(crate::proofs::ReadChains::needs_read_back))]
 pub fn needs_are_read_back()
     ensures { (little : Bool) (class : Class) (bytes : List ℕ) → length bytes < 2 ^ 64 →
@@ -200,8 +200,8 @@ pub fn needs_are_read_back()
         ver_needs (table_in little class bytes) (length needs) start ≡ needs }
 {}
 
-/// Definitions that were linked by their distances are these definitions, each with its names, wherever they lie in the
-/// bytes. The premise keeps the offsets within 64 bits.
+/// Definitions that are linked by their distances, wherever they lie in the bytes, are read as these definitions,
+/// each with its names. The bytes are fewer than 2^64.
 #[tactic(auto, using(crate::proofs::ReadChains::definitions_read_back))]
 pub fn definitions_are_read_back()
     ensures { (little : Bool) (class : Class) (bytes : List ℕ) → length bytes < 2 ^ 64 →

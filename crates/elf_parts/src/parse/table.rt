@@ -1,4 +1,4 @@
-//! Tables of records, and iterators over them.
+//! Tables of records, and iterators over them (gABI, chapters "Sections" and "Program Header").
 ghost use Rattle.std.specs.Prelude.{◌≡◌, ◌==◌, ◌<◌, ◌≤◌, ◌+◌, ◌^◌, length, OnOk, ⊤};
 ghost use Rattle.std.specs.Iterator.{YieldsFirst, item_count};
 ghost use Rattle.elf_parts.specs.Table.{items_left, table_in, table_get, table_items, table_len, table_view};
@@ -27,8 +27,8 @@ pub(crate) fn read_record<P: ParseAt>(
     }
 }
 
-/// Records of one type that lie one behind the other. Nothing is copied: a record is read when it is
-/// asked for.
+/// A table of records of one type, each directly behind the one before it. It borrows the bytes, copies none of
+/// them, and reads a record when it is requested.
 // The order is kept as a bool, which is all that the reading of a record depends on.
 #[derive(Debug)]
 #[derive_where(Copy)]
@@ -40,8 +40,8 @@ pub struct ParsingTable<'data, E: EndianParse, P: ParseAt> {
     records: PhantomData<P>,
 }
 
-/// The records of a table, one after the other, up to the first that is refused. After its first `None`
-/// it gives `None`.
+/// The records of a table in order, up to the first that cannot be read. After its first `None` it keeps returning
+/// `None`.
 #[derive(Debug, Drop)]
 pub struct ParsingIterator<'data, E: EndianParse, P: ParseAt> {
     little: bool,
@@ -53,7 +53,7 @@ pub struct ParsingIterator<'data, E: EndianParse, P: ParseAt> {
 }
 
 impl<'data, E: EndianParse, P: ParseAt> ParsingIterator<'data, E, P> {
-    /// The records of the data, in order.
+    /// The records in `data`, in order from its start: at most as many as `data` has bytes.
     pub fn new(endian: E, class: Class, data: &'data [u8]) -> Self
         ensures items { items_left P.reads result
             ≡ table_items P.reads (table_in (E.little endian) class «data».now) }
@@ -111,7 +111,7 @@ impl<'data, E: EndianParse, P: ParseAt> Clone for ParsingTable<'data, E, P> {
 }
 
 impl<'data, E: EndianParse, P: ParseAt> ParsingTable<'data, E, P> {
-    /// The records that the data hold.
+    /// The table whose records begin at the start of `data`.
     pub fn new(endian: E, class: Class, data: &'data [u8]) -> Self
         ensures { table_view result ≡ table_in (E.little endian) class «data».now }
     {
@@ -124,7 +124,7 @@ impl<'data, E: EndianParse, P: ParseAt> ParsingTable<'data, E, P> {
         }
     }
 
-    /// The records in order, up to the first that is refused.
+    /// The records in order, up to the first that cannot be read: at most as many as the table has bytes.
     pub fn iter(&self) -> ParsingIterator<'data, E, P>
         ensures items { items_left P.reads result ≡ table_items P.reads (table_view self.now) }
         ensures few { length (items_left P.reads result) ≤ length (table_view self.now).bytes }
@@ -133,7 +133,7 @@ impl<'data, E: EndianParse, P: ParseAt> ParsingTable<'data, E, P> {
         ParsingIterator::starting(self.little, self.class, self.data)
     }
 
-    /// How many records the table holds.
+    /// How many records fit: the table's bytes divided by the size of a record, rounded down.
     pub fn len(&self) -> usize
         ensures count { result ≡ table_len P.reads (table_view self.now) }
         ensures short { length (table_view self.now).bytes < 2 ^ 64 }
@@ -141,16 +141,18 @@ impl<'data, E: EndianParse, P: ParseAt> ParsingTable<'data, E, P> {
         self.data.len() / P::size_for(self.class)
     }
 
-    /// Whether the table holds no record.
+    /// Whether `len` is 0.
     pub fn is_empty(&self) -> bool
         ensures { result ≡ (table_len P.reads (table_view self.now) == 0) }
     {
         self.len() == 0
     }
 
-    /// The record at an index, counted from 0. Refuses with `BadOffset(index)` where the table is empty
-    /// or the record would begin behind its bytes, with `IntegerOverflow` where the place of the record
-    /// passes 64 bits, and else as the record's own read does.
+    /// Returns the record at `index`, counted from 0.
+    ///
+    /// Errors, in order: `BadOffset(index)` if the table has no bytes; `IntegerOverflow` if the offset of the
+    /// record does not fit 64 bits; `BadOffset(index)` if the offset lies past the end of the table; then the error
+    /// of the record's own read, as `SliceReadError((start, end))` of a field that does not lie in the table.
     pub fn get(&self, index: usize) -> Result<P, ParseError>
         ensures { result ≡ table_get P.reads (table_view self.now) index }
     {

@@ -1,4 +1,4 @@
-//! Numbers of four and of eight bytes as records, so that a table can hold them.
+//! Numbers of four and eight bytes as records, for tables of words.
 use crate::endian::EndianParse;
 use crate::file::Class;
 use crate::parse::{ParseAt, ParseError};

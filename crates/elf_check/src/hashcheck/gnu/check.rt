@@ -143,9 +143,10 @@ fn first_fault<'data, E: EndianParse>(
     None
 }
 
-/// Whether a GNU section is sound for its symbols, with the symbols that were read added to the count: at most
-/// one for each chain word, at least those that a sound section indexes, or one where a fault names a symbol.
-/// Refuses exactly where `GnuHashTable::new` does.
+/// Checks as `check_gnu` does, and adds the number of symbols that it reads to `reads`.
+///
+/// It adds at most one for each chain word; for a sound section at least the number of indexed symbols; and at
+/// least one at a fault that names a symbol which was read.
 pub fn check_gnu_counted<'data, E: EndianParse>(
     endian: E,
     class: Class,
@@ -181,7 +182,8 @@ pub fn check_gnu_counted<'data, E: EndianParse>(
     }
 }
 
-/// Whether a GNU section is sound for its symbols. Refuses exactly where `GnuHashTable::new` does.
+/// Checks whether a GNU hash section is sound for its symbols. Returns its table, or a fault that is true of it.
+/// Returns an error exactly if `GnuHashTable::new` does, and that error.
 pub fn check_gnu<'data, E: EndianParse>(
     endian: E,
     class: Class,

@@ -1,7 +1,8 @@
 //! The check of a SysV section.
 //!
-//! A chain whose names all belong to its own bucket shares no index with an earlier one, so all chains that
-//! end have no more indices than there are chain words. A chain that does not end is left after as many.
+//! A chain whose names all belong to its own bucket shares no index with an earlier one. So all chains that end
+//! have together at most as many indexes as there are chain words. A chain that does not end is left after that
+//! many.
 ghost use Rattle.std.specs.Prelude.{◌≡◌, ◌+◌, ◌*◌, ◌<◌, ◌≤◌, ◌^◌, IfErr, IfOk, MatchResult};
 ghost use Rattle.elf_parts.specs.Hash.{word_count};
 ghost use Rattle.elf_parts.specs.StringTable.{strings_view};
@@ -98,9 +99,10 @@ fn first_fault<'data, E: EndianParse>(
     Ok(indexed)
 }
 
-/// Whether a SysV section is sound for its symbols, with the symbols that were read added to the count: at
-/// most two for each chain word, at least those that a sound section indexes, or one where a fault names a symbol.
-/// Refuses exactly where `SysVHashTable::new` does.
+/// Checks as `check_sysv` does, and adds the number of symbols that it reads to `reads`.
+///
+/// It adds at most two for each chain word; for a sound section at least the number of indexed symbols; and at
+/// least one at a fault that names a symbol which was read.
 pub fn check_sysv_counted<'data, E: EndianParse>(
     endian: E,
     class: Class,
@@ -133,7 +135,8 @@ pub fn check_sysv_counted<'data, E: EndianParse>(
     }
 }
 
-/// Whether a SysV section is sound for its symbols. Refuses exactly where `SysVHashTable::new` does.
+/// Checks whether a SysV hash section is sound for its symbols. Returns its table, or a fault that is true of it.
+/// Returns an error exactly if `SysVHashTable::new` does, and that error.
 pub fn check_sysv<'data, E: EndianParse>(
     endian: E,
     class: Class,

@@ -1,4 +1,4 @@
-//! The versions of the symbols of a file by their version indexes.
+//! The versions of the symbols of a file, looked up by version index without a walk.
 ghost use Rattle.std.specs.Prelude.{◌≡◌, ◌==◌, ◌≤◌, ◌^◌, ℕ, length, if◌then◌else◌, IfOk, OnOk, None, Some};
 ghost use Rattle.std.specs.Option.{option_map, option_or};
 ghost use Rattle.elf_parts.specs.gnu_symver.Indexed.{AreDefined, AreNeeded, slot};
@@ -18,9 +18,9 @@ use crate::parse::ParseError;
 use std::alloc::{AllocError, Allocator};
 use std::marker::Model;
 
-/// The versions of the symbols of a file, with the first need and the first definition of each version index in
-/// tables. So a version is found without a walk, and those of all symbols cost what the symbols, the needs and the
-/// definitions cost once. Each table has at most 65,536 places.
+/// The versions of the symbols of a file, with the first need and the first definition of each version index in two
+/// tables. A look-up needs no walk, so the versions of all symbols cost the number of symbols plus needs plus
+/// definitions. Each table has at most 65,536 places.
 #[derive(Debug, Drop)]
 pub struct IndexedVersions<'a, 'data, E: EndianParse, A: Allocator> {
     versions: &'a SymbolVersionTable<'data, E>,
@@ -109,9 +109,8 @@ fn index_definitions<'data, E: EndianParse, A: Allocator>(
 }
 
 impl<'a, 'data, E: EndianParse, A: Allocator + Copy> IndexedVersions<'a, 'data, E, A> {
-    /// The versions, with tables of what they need and define. Walks the needs and then the definitions, each once.
-    /// Refuses if there is no memory for the tables, which have a place for each version index up to the greatest that
-    /// a record has.
+    /// Builds both tables: walks over the needs once and then over the definitions once. A table has a place for
+    /// each version index up to the greatest in its records. If an allocation fails, the error is `AllocError`.
     pub fn new(alloc: A, versions: &'a SymbolVersionTable<'data, E>) -> Result<Self, AllocError>
         ensures { IfOk result (λ indexed. indexed ≡ versions_view versions.now) }
     {
@@ -142,7 +141,7 @@ fn slot<T: Copy>(slots: &[Option<T>], index: u16) -> Option<T>
 }
 
 impl<'a, 'data, E: EndianParse, A: Allocator> IndexedVersions<'a, 'data, E, A> {
-    /// As `SymbolVersionTable::get_requirement`, without a walk.
+    /// Returns what `SymbolVersionTable::get_requirement` returns, value or error, without a walk.
     pub fn get_requirement(
         &self,
         symbol: usize,
@@ -159,7 +158,7 @@ impl<'a, 'data, E: EndianParse, A: Allocator> IndexedVersions<'a, 'data, E, A> {
         Ok(Some(read_requirement(strings, needed, index.is_hidden())?))
     }
 
-    /// As `SymbolVersionTable::get_definition`, without a walk.
+    /// Returns what `SymbolVersionTable::get_definition` returns, value or error, without a walk.
     pub fn get_definition(
         &self,
         symbol: usize,
