@@ -46,8 +46,8 @@ pub struct Elf64_Rela {
     pub r_addend: i64,
 }
 
-/// A relocation without an addend, of either class. `r_offset` is the place that is changed, `r_sym` the index of
-/// the symbol, `r_type` the kind of change. In the file `r_sym` and `r_type` are the two parts of `r_info`.
+/// A relocation without an addend, of either class. `r_offset` is the place to change, `r_sym` the index of the
+/// symbol and `r_type` the kind of relocation; these two are the parts of `r_info`.
 #[derive(Clone, Debug, Drop, PartialEq, Eq)]
 pub struct Rel {
     pub r_offset: u64,

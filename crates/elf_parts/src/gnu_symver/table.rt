@@ -247,7 +247,7 @@ impl<'data, E: EndianParse> SymbolVersionTable<'data, E> {
 
     /// Returns the version with which a symbol, counted from 0, is defined. Returns `None` if there are no
     /// definitions, whatever the symbol's version index is, or if no definition has this index. The only error is
-    /// that of `get_index`: names are read by the iterator, of which there are fewer than 2^16.
+    /// that of `get_index`: the names, fewer than 2^16, are read by the iterator in the result.
     pub fn get_definition(
         &self,
         symbol: usize,
