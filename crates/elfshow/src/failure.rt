@@ -85,8 +85,8 @@ impl Failure {
 }
 
 /// Writes the line of a failure to standard error, and returns the exit status. A failed write is ignored.
-pub fn report<V: Write>(failure: Failure, err: &mut V) -> u8
-    ensures { result ≡ status_of failure }
+pub fn report<V: Write>(failure: &Failure, err: &mut V) -> u8
+    ensures { result ≡ status_of failure.now }
 {
     let _ = writeln!(err, "{failure}");
     failure.status()

@@ -149,7 +149,7 @@ pub fn show<F: FileSystem, W: Write + Drop, V: Write>(
 {
     match list(alloc, words, files, out) {
         Ok(()) => 0,
-        Err(failure) => report(failure, err),
+        Err(failure) => report(&failure, err),
     }
 }
 

@@ -18,7 +18,7 @@ fn main(rt: HostRuntime) -> ExitCode {
     let mut err = rt.stderr();
     let status = match run(&rt, &mut err) {
         Ok(status) => status,
-        Err(failure) => report(failure, &mut err),
+        Err(failure) => report(&failure, &mut err),
     };
     ExitCode::from(status)
 }
