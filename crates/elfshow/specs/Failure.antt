@@ -37,3 +37,12 @@ run_of (Err (failure.File e)) = None
 run_of (Err (failure.Open e)) = Some (Err (run.Open e))
 run_of (Err (failure.Fault done e)) = Some (Err (run.Fault done e))
 run_of (Err (failure.Write done e)) = Some (Err (run.Write done e))
+
+-- it is of a file: that cannot be opened or read, or a run over which stopped
+abbrev pub IsOfFile : Failure → Type 0
+IsOfFile failure.Usage = ⊥
+IsOfFile failure.OutOfMemory = ⊥
+IsOfFile (failure.File e) = Unit {0}
+IsOfFile (failure.Open e) = Unit {0}
+IsOfFile (failure.Fault done e) = Unit {0}
+IsOfFile (failure.Write done e) = Unit {0}

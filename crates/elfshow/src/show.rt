@@ -8,7 +8,7 @@ ghost use Rattle.elf.specs.ObjectFile.{object_file};
 ghost use Rattle.elf.specs.Opening.{opened};
 ghost use Rattle.elfshow.specs.calls.Question.{question};
 ghost use Rattle.elfshow.specs.calls.Text.{text};
-ghost use Rattle.elfshow.specs.Failure.{run_of, status_of};
+ghost use Rattle.elfshow.specs.Failure.{IsOfFile, run_of, status_of};
 ghost use Rattle.elfshow.specs.inner.RunSteps.{IsUnfailing};
 ghost use Rattle.elfshow.specs.Pieces.{◌⧺◌};
 ghost use Rattle.elfshow.specs.Show.{IsUnwritten, RanOver, agreement, calls_of, mode_of, request_of, shown_by};
@@ -202,7 +202,7 @@ pub fn answer<F: FileSystem, W: Write>(
         (λ file calls. text file.ehdr (object_file any_is_little file) (map question calls)) request.now.calls.items
         (W.contents out.old) (W.contents out.new) (F.can_fail files.now request.now.file.now) run)) }
     ensures unwritten { request.now.mode ≡ Both → IfSome (run_of result) (IsUnwritten out.old out.new) }
-    ensures status { IfErr result (λ failure. status_of failure ≡ 1) }
+    ensures cause { IfErr result IsOfFile }
 {
     let calls = request.calls.as_slice();
     match request.mode {
