@@ -1,8 +1,9 @@
 //! What the program `elfshow` answers to words of a command line.
 use crate::words::Words;
 use elf_rows::RowError;
+use elfshow::file_system::MemFile;
 use elfshow::show::show;
-use std::io::Write;
+use std::io::{BufWriter, Write};
 use std::str::SplitWhitespace;
 use std::{fs, io};
 
@@ -27,14 +28,13 @@ fn show_case(rt: &HostRuntime, case: &str) -> Result<(), RowError> {
 fn show_answer(rt: &HostRuntime, row: &mut Words<'_>) -> io::Result<()> {
     let data = row.file(rt);
     let words = case_words(rt, row.rest())?;
+    let files = MemFile {
+        alloc: rt.alloc(),
+        bytes: data.as_slice(),
+    };
+    let mut out = BufWriter::new(rt.alloc(), rt.stdout())?;
     let mut err = Vec::new(rt.alloc());
-    let status = show(
-        rt.alloc(),
-        words.as_slice(),
-        data.as_slice(),
-        &mut rt.stdout(),
-        &mut err,
-    );
+    let status = show(rt.alloc(), words.as_slice(), &files, &mut out, &mut err);
     println!(rt; "status {status}")?;
     rt.stdout().write_all(err.as_slice())
 }

@@ -5,8 +5,10 @@ use elf::ParseError;
 use elf::endian::{AnyEndian, LittleEndian};
 use elf_worked::order::FileOrder;
 use elfshow::calls::{Call, RunError, run_bytes};
+use elfshow::file_system::MemFile;
 use elfshow::show::show;
 use std::alloc::AllocError;
+use std::io::BufWriter;
 use std::test::Fail;
 
 #[test]
@@ -70,14 +72,14 @@ fn many_calls_are_run(rt: HostRuntime) -> Result<(), Fail> {
 fn many_words_are_shown(rt: HostRuntime) -> Result<(), Fail> {
     let first = vec![in rt.alloc(); "bytes", "F"]?;
     let words = with_pairs(first, ["header", "sections"])?;
-    let (mut out, mut err) = (Vec::new(rt.alloc()), Vec::new(rt.alloc()));
-    let status = show(
-        rt.alloc(),
-        words.as_slice(),
-        &HEADER_ALONE,
-        &mut out,
-        &mut err,
-    );
-    assert!(rt; status == 0 && err.is_empty() && is_pairs(out.as_slice()));
+    let files = MemFile {
+        alloc: rt.alloc(),
+        bytes: &HEADER_ALONE,
+    };
+    let mut out = BufWriter::new(rt.alloc(), Vec::new(rt.alloc()))?;
+    let mut err = Vec::new(rt.alloc());
+    let status = show(rt.alloc(), words.as_slice(), &files, &mut out, &mut err);
+    let text = out.get_ref().as_slice();
+    assert!(rt; status == 0 && err.is_empty() && is_pairs(text));
     Ok(())
 }

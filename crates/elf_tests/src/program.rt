@@ -1,17 +1,21 @@
 //! What the program does with the words of its command line.
+ghost use Rattle.std.specs.Prelude.{None, false};
+
 use crate::files::HEADER_ALONE;
 use crate::memory::all_memory;
 use crate::texts::{HEADER_LINE, USAGE_LINE};
 use crate::writers::{Counting, Faulty, Line, Narrow};
-use elfshow::calls::Call;
-use elfshow::show::{
-    RequestError, answer, parse_words, show, tell_request_error, tell_stopped, tell_usage,
-};
+use elf::{MemSource, ParseError};
+use elfshow::calls::{Call, RunError};
+use elfshow::failure::{Failure, report};
+use elfshow::file_system::{FileSystem, MemFile};
+use elfshow::show::{RequestError, answer, parse_words, show};
 use std::alloc::{AllocError, AllocFailed};
-use std::io::Write;
+use std::io;
+use std::io::{BufWriter, Write};
 use std::process::Abort;
 
-/// Asserts which status the program answers and what it writes, where its output has so much room.
+/// Asserts which status the program returns and what it writes, where its output has so much room.
 fn assert_run<W: Write>(
     rt: &(impl Abort + AllocGlobal),
     words: &[&str],
@@ -19,11 +23,14 @@ fn assert_run<W: Write>(
     room: usize,
     err: &mut W,
     want: (u8, &str),
-) {
-    let mut out = Narrow::new(rt.alloc(), room, 4096);
-    let status = show(rt.alloc(), words, data, &mut out, err);
-    let is_text = out.held.as_slice() == want.1.as_bytes();
+) -> io::Result<()> {
+    let alloc = rt.alloc();
+    let mut out = BufWriter::new(alloc, Narrow::new(alloc, room, 4096))?;
+    let files = MemFile { alloc, bytes: data };
+    let status = show(alloc, words, &files, &mut out, err);
+    let is_text = out.get_ref().held.as_slice() == want.1.as_bytes();
     assert!(rt; status == want.0 && is_text, "{status} for {words:?}");
+    Ok(())
 }
 
 /// Asserts the same and its message; with a standard error that takes nothing it answers the same.
@@ -34,18 +41,18 @@ fn assert_shows(
     room: usize,
     want: (u8, &str),
     message: &str,
-) {
+) -> io::Result<()> {
     let mut err = Vec::new(rt.alloc());
-    assert_run(rt, words, data, room, &mut err, want);
+    assert_run(rt, words, data, room, &mut err, want)?;
     assert!(rt; err.as_slice() == message.as_bytes(), "{words:?}");
     let mut deaf = Narrow::new(rt.alloc(), 5, 4096);
-    assert_run(rt, words, data, room, &mut deaf, want);
+    assert_run(rt, words, data, room, &mut deaf, want)
 }
 
 #[test]
-fn a_message_that_is_not_taken_changes_nothing(rt: HostRuntime) {
+fn a_message_that_is_not_taken_changes_nothing(rt: HostRuntime) -> io::Result<()> {
     let words = ["bytes", "F", "header"];
-    assert_shows(&rt, &words[..2], &HEADER_ALONE, 4096, (2, ""), USAGE_LINE);
+    assert_shows(&rt, &words[..2], &HEADER_ALONE, 4096, (2, ""), USAGE_LINE)?;
     assert_shows(
         &rt,
         &words,
@@ -53,11 +60,11 @@ fn a_message_that_is_not_taken_changes_nothing(rt: HostRuntime) {
         4096,
         (1, ""),
         "elfshow: open: Could not read bytes in range [0x0, 0x10)\n",
-    );
+    )
 }
 
 #[test]
-fn a_full_output_is_told(rt: HostRuntime) {
+fn a_full_output_is_told(rt: HostRuntime) -> io::Result<()> {
     let words = ["bytes", "F", "header", "sections"];
     assert_shows(
         &rt,
@@ -66,7 +73,7 @@ fn a_full_output_is_told(rt: HostRuntime) {
         0,
         (1, ""),
         "elfshow: stopped after 0 calls: no storage space\n",
-    );
+    )?;
     assert_shows(
         &rt,
         &words,
@@ -74,17 +81,50 @@ fn a_full_output_is_told(rt: HostRuntime) {
         HEADER_LINE.len(),
         (1, HEADER_LINE),
         "elfshow: stopped after 1 calls: no storage space\n",
+    )
+}
+
+/// Asserts the line and the status of a failure; with a standard error that takes nothing the status is the same.
+fn assert_reports(rt: &(impl Abort + AllocGlobal), failure: Failure, want: (u8, &str)) {
+    let mut err = Vec::new(rt.alloc());
+    let status = report(&failure, &mut err);
+    assert!(rt;
+        status == want.0 && err.as_slice() == want.1.as_bytes(),
+        "{failure}"
     );
+    let mut deaf = Narrow::new(rt.alloc(), 0, 1);
+    assert!(rt; report(&failure, &mut deaf) == want.0, "{failure}");
 }
 
 #[test]
-fn refused_memory_is_told(rt: HostRuntime) {
-    let mut err = Vec::new(rt.alloc());
-    let status = tell_request_error(RequestError::OutOfMemory, &mut err);
-    let want = b"elfshow: stopped after 0 calls: Out of memory\n";
-    assert!(rt; status == 1 && err.as_slice() == want.as_slice());
-    let mut deaf = Narrow::new(rt.alloc(), 0, 1);
-    assert!(rt; tell_request_error(RequestError::OutOfMemory, &mut deaf) == 1);
+fn each_failure_has_its_line(rt: HostRuntime) {
+    let wrong_words = Failure::from(RequestError::Usage);
+    assert_reports(&rt, wrong_words, (2, USAGE_LINE));
+    let without_memory = "elfshow: stopped after 0 calls: Out of memory\n";
+    let refused_request = Failure::from(RequestError::OutOfMemory);
+    assert_reports(&rt, refused_request, (1, without_memory));
+    assert_reports(&rt, Failure::from(AllocError), (1, without_memory));
+    let missing = Failure::File(io::Error::from(io::ErrorKind::NotFound));
+    assert_reports(&rt, missing, (1, "elfshow: file: entity not found\n"));
+}
+
+#[test]
+fn each_stopped_run_has_its_line(rt: HostRuntime) {
+    let refused = RunError::Open(ParseError::UnsupportedElfClass(9));
+    let line = "elfshow: open: Unsupported ELF Class: 9\n";
+    assert_reports(&rt, Failure::from(refused), (1, line));
+    let without_memory = RunError::Fault {
+        done: 7,
+        error: ParseError::OutOfMemory,
+    };
+    let line = "elfshow: stopped after 7 calls: Out of memory\n";
+    assert_reports(&rt, Failure::from(without_memory), (1, line));
+    let full = RunError::Write {
+        done: 3,
+        error: io::Error::from(io::ErrorKind::StorageFull),
+    };
+    let line = "elfshow: stopped after 3 calls: no storage space\n";
+    assert_reports(&rt, Failure::from(full), (1, line));
 }
 
 #[test]
@@ -97,18 +137,17 @@ fn a_refused_push_is_want_of_memory(rt: HostRuntime) {
 
 // `rt try --test` has an allocator of its own, which does not run out: there this test fails.
 #[test]
-fn nothing_is_written_without_memory(rt: HostRuntime) -> Result<(), AllocError> {
+fn nothing_is_written_without_memory(rt: HostRuntime) -> io::Result<()> {
     let alloc = rt.alloc();
-    let mut out = Counting::new();
+    let mut out = BufWriter::with_capacity(alloc, 0, Counting::new())?;
     let mut err = Line::new();
-    let blocks = all_memory(alloc)?;
-    let status = show(
+    let files = MemFile {
         alloc,
-        &["bytes", "F", "header"],
-        &HEADER_ALONE,
-        &mut out,
-        &mut err,
-    );
+        bytes: &HEADER_ALONE,
+    };
+    let words = ["bytes", "F", "header"];
+    let blocks = all_memory(alloc)?;
+    let status = show(alloc, &words, &files, &mut out, &mut err);
     let wrong = [
         &["other", "F", "header"][..],
         &["bytes", "F"],
@@ -119,7 +158,7 @@ fn nothing_is_written_without_memory(rt: HostRuntime) -> Result<(), AllocError> 
         assert!(rt; refused == Some(RequestError::Usage));
     }
     drop(blocks);
-    assert!(rt; status == 1 && out.writes == 0);
+    assert!(rt; status == 1 && out.get_ref().writes == 0);
     let want = "elfshow: stopped after 0 calls: Out of memory\n";
     assert!(rt; err.text() == want.as_bytes());
     Ok(())
@@ -127,42 +166,77 @@ fn nothing_is_written_without_memory(rt: HostRuntime) -> Result<(), AllocError> 
 
 #[test]
 fn words_make_a_request(rt: HostRuntime) {
+    let alloc = rt.alloc();
     let words = ["bytes", "F", "sections", "header", "sections"];
-    match parse_words(rt.alloc(), &words) {
+    match parse_words(alloc, &words) {
         Ok(request) => {
             let want = [Call::Sections, Call::Header, Call::Sections];
             assert!(rt; request.file == "F" && request.calls.as_slice() == want.as_slice());
-            let (mut out, mut err) = (Vec::new(rt.alloc()), Vec::new(rt.alloc()));
-            let status = answer(&request, &HEADER_ALONE, &mut out, &mut err);
-            assert!(rt; status == 0 && err.is_empty());
+            let files = MemFile {
+                alloc,
+                bytes: &HEADER_ALONE,
+            };
+            let mut out = Vec::new(alloc);
+            assert!(rt; answer(alloc, &request, &files, &mut out).is_ok());
             assert!(rt; out.starts_with(b"end 0\nheader class=64 "));
         }
         Err(_) => assert!(rt; false, "refused"),
     }
-    let refused = parse_words(rt.alloc(), &words[..2]).err();
+    let refused = parse_words(alloc, &words[..2]).err();
     assert!(rt; refused == Some(RequestError::Usage), "{refused:?}");
 }
 
-#[test]
-fn messages_stand_alone(rt: HostRuntime) {
-    let mut err = Vec::new(rt.alloc());
-    assert!(rt; tell_usage(&mut err) == 2 && tell_stopped(7, "no more", &mut err) == 1);
-    let stopped = err.strip_prefix(USAGE_LINE.as_bytes());
-    let want = b"elfshow: stopped after 7 calls: no more\n";
-    assert!(rt; stopped == Some(want.as_slice()));
+/// Files of which none is there.
+struct NoFiles;
+
+impl FileSystem for NoFiles {
+    type Source = MemSource<'static>;
+
+    ghost content = { λ _ _. None };
+
+    ghost can_fail = { λ _ _. false };
+
+    fn open(&self, _path: &str) -> io::Result<MemSource<'static>> {
+        Err(io::Error::from(io::ErrorKind::NotFound))
+    }
+
+    fn read(&self, _path: &str) -> io::Result<Vec<u8>> {
+        Err(io::Error::from(io::ErrorKind::NotFound))
+    }
 }
 
 #[test]
-fn a_failed_flush_is_told_in_each_mode(rt: HostRuntime) {
+fn a_missing_file_is_told_in_each_mode(rt: HostRuntime) -> io::Result<()> {
+    let alloc = rt.alloc();
     for mode in ["bytes", "stream", "both"] {
-        let mut out = Faulty::at_flush(rt.alloc());
-        let mut err = Vec::new(rt.alloc());
+        let mut out = BufWriter::new(alloc, Counting::new())?;
+        let mut err = Vec::new(alloc);
+        let words = [mode, "F", "header"];
+        let status = show(alloc, &words, &NoFiles, &mut out, &mut err);
+        assert!(rt; status == 1 && out.get_ref().writes == 0, "{mode}");
+        let want = b"elfshow: file: entity not found\n";
+        assert!(rt; err.as_slice() == want.as_slice(), "{mode}");
+    }
+    Ok(())
+}
+
+#[test]
+fn a_failed_flush_is_told_in_each_mode(rt: HostRuntime) -> io::Result<()> {
+    let alloc = rt.alloc();
+    let files = MemFile {
+        alloc,
+        bytes: &HEADER_ALONE,
+    };
+    for mode in ["bytes", "stream", "both"] {
+        let mut out = BufWriter::new(alloc, Faulty::at_flush(alloc))?;
+        let mut err = Vec::new(alloc);
         let words = [mode, "F", "header", "sections"];
-        let status = show(rt.alloc(), &words, &HEADER_ALONE, &mut out, &mut err);
+        let status = show(alloc, &words, &files, &mut out, &mut err);
         assert!(rt; status == 1, "{mode}");
         assert!(rt;
             err.starts_with(b"elfshow: stopped after 0 calls: "),
             "{mode}"
         );
     }
+    Ok(())
 }

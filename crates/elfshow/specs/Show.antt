@@ -1,5 +1,5 @@
 -- What the program does: the request that its words are, the arguments behind its name; what a run leaves that opens
--- its file; what is written; and the exit status.
+-- its file; and what is written.
 use Rattle.std.specs.Prelude.{◌≡◌, ℕ, ◌<◌, Bool, if◌then◌else◌, List, [], ◌∷◌, codes, length, take, Option, Some, None}
 use Rattle.std.specs.Prelude.{Result, Ok, Err, IsErr, IsOk, IsOkAnd}
 use Rattle.std.specs.Io.KnownBytes.{Appends, Keeps}
@@ -15,8 +15,6 @@ use Rattle.elfshow.specs.declared.calls.RunError.{RunError}
 use Rattle.elfshow.specs.declared.calls.RunError.TheVariants.{Fault, Open, Write}
 use Rattle.elfshow.specs.declared.show.Mode.{Mode}
 use Rattle.elfshow.specs.declared.show.Mode.TheVariants.{Both, Bytes, Stream}
-use Rattle.elfshow.specs.declared.show.RequestError.{RequestError}
-use Rattle.elfshow.specs.declared.show.RequestError.TheVariants.{Usage, OutOfMemory}
 
 -- ---- requests
 
@@ -43,11 +41,6 @@ request_of (mode ∷ file ∷ call ∷ calls) =
     option_and_then (λ m. option_map (λ all. (m, file.now, all)) (calls_of (call ∷ calls))) (mode_of mode.now)
 request_of _ = None
 
--- the exit status of words that ask for nothing
-abbrev pub status_of : RequestError → ℕ
-status_of Usage = 2
-status_of OutOfMemory = 1
-
 -- ---- runs
 
 -- As Ran, of a run that opens its file, over a source whose content is told: where the file is not opened nothing was
@@ -61,15 +54,6 @@ RanOver opening texts calls old new can_fail (Err (Fault done e)) =
     (done < length calls) × IsOkAnd opening (λ file. Appends old new (texts file (take done calls)))
     × MayRefuse can_fail (Unit {0}) ⊥ (kind e)
 RanOver opening texts calls old new can_fail (Err (Write done e)) = (done < length calls) × IsOk opening
-
--- the exit status of a run
-abbrev pub exit_status : Result (Unit {0}) RunError → ℕ
-exit_status (Ok _) = 0
-exit_status (Err e) = 1
-
--- it is the exit status of some run of which this holds
-abbrev pub IsStatusOf : (Result (Unit {0}) RunError → Type 0) → ℕ → Type 0
-IsStatusOf Left status = (r : Result (Unit {0}) RunError) × (status ≡ exit_status r) × Left r
 
 -- a run that stopped left this as it was, unless a writer failed
 abbrev pub IsUnwritten : {A : Type 0} → A → A → Result (Unit {0}) RunError → Type 0

@@ -2,6 +2,8 @@
 #![tactic(auto)]
 
 pub mod calls;
+pub mod failure;
+pub mod file_system;
 mod lines;
 mod pieces;
 pub mod readers;

@@ -1,32 +1,31 @@
 //! The program without its surroundings: what it does with the words of its command line.
-ghost use Rattle.std.specs.Prelude.{◌≡◌, ◌≤◌, IsErr, IsNone, IsSome, is_some, IfOk, IfSome, IsOkAnd};
+ghost use Rattle.std.specs.Prelude.{◌≡◌, ◌≤◌, Err, IsErr, IsNone, IsSome, is_some, IfErr, IfOk, IfSome, IsOkAnd};
 ghost use Rattle.std.specs.Prelude.{IsSomeAnd, OnOk, Some, map};
 ghost use Rattle.std.specs.Io.Buffered.{writer_contents, writer_inner};
-ghost use Rattle.std.specs.Io.KnownBytes.{Appends, Keeps};
+ghost use Rattle.std.specs.Io.KnownBytes.{Appends};
 ghost use Rattle.elf_parts.specs.Endian.{any_is_little, any_of_byte};
 ghost use Rattle.elf.specs.ObjectFile.{object_file};
 ghost use Rattle.elf.specs.Opening.{opened};
 ghost use Rattle.elfshow.specs.calls.Question.{question};
 ghost use Rattle.elfshow.specs.calls.Text.{text};
+ghost use Rattle.elfshow.specs.Failure.{IsOfFile, run_of, status_of};
 ghost use Rattle.elfshow.specs.inner.RunSteps.{IsUnfailing};
 ghost use Rattle.elfshow.specs.Pieces.{◌⧺◌};
-ghost use Rattle.elfshow.specs.Show.{IsStatusOf, IsUnwritten, RanOver, agreement, calls_of, mode_of};
-ghost use Rattle.elfshow.specs.Show.{request_of, shown_by, status_of};
-ghost use Rattle.elfshow.specs.declared.show.Mode.TheVariants.{Both};
+ghost use Rattle.elfshow.specs.Show.{IsUnwritten, RanOver, agreement, calls_of, mode_of, request_of, shown_by};
+ghost use Rattle.elfshow.specs.declared.failure.Failure.TheVariants.{Usage};
+ghost use Rattle.elfshow.specs.declared.show.Mode.TheVariants.{Both, Stream};
 ghost use Rattle.elfshow.specs.declared.show.RequestError.TheVariants.{OutOfMemory};
 
 use crate::calls::{Call, RunError, run_bytes, run_stream};
+use crate::failure::{Failure, report};
+use crate::file_system::FileSystem;
 use crate::readers::texts_are_the_same;
 use crate::words::parse_call;
 use elf::endian::AnyEndian;
 use elf::{ElfStream, MemSource, ParseError, StreamSource};
 use std::alloc::{AllocFailed, Global};
-use std::fmt::Display;
 use std::io;
 use std::io::{BufWriter, Write};
-
-/// The line that tells how the program is called.
-const USAGE: &str = "usage: elfshow bytes|stream|both FILE CALL...";
 
 /// Which reader a listing is made by.
 #[derive(Clone, Copy, Debug, PartialEq, Eq)]
@@ -126,100 +125,101 @@ fn are_calls(words: &[&str]) -> bool
     true
 }
 
-/// Does what the program does with these words, the arguments behind its name, where the file that they
-/// name holds the data. Answers the exit status: 0; 1 where the file is refused or a run stopped; 2 for
-/// words that ask for nothing. A message that `err` does not take is passed over.
-pub fn show<W: Write, V: Write>(
+/// Does what the program does with these words, the arguments behind its name: writes the text of the calls that
+/// they ask for, through a buffer that it empties, or the message of a failure to `err`. Returns the exit status:
+/// 0; 1 where the file cannot be had, is refused, or a run stopped; 2 for words that ask for nothing. A message that
+/// `err` does not take is passed over.
+pub fn show<F: FileSystem, W: Write + Drop, V: Write>(
     alloc: Global,
     words: &[&str],
-    data: &[u8],
-    out: &mut W,
+    files: &F,
+    out: &mut BufWriter<W>,
     err: &mut V,
 ) -> u8
     ensures listed { result ≡ 0 → IsSomeAnd (request_of words.now) (λ request.
-        IsOkAnd (opened any_is_little any_of_byte «data».now) (λ file.
-        Appends (W.contents out.old) (W.contents out.new)
-        (shown_by request.0 (text file.ehdr (object_file any_is_little file) request.2)))) }
+        IfSome (F.content files.now request.1) (λ bytes. IsOkAnd (opened any_is_little any_of_byte bytes) (λ file.
+        Appends (writer_contents W.contents out.old) (W.contents (writer_inner out.new))
+        (shown_by request.0 (text file.ehdr (object_file any_is_little file) request.2))))) }
     ensures usage { result ≡ 2 → IsNone (request_of words.now) }
     ensures told { IsNone (request_of words.now) → result ≡ 2 }
     ensures no_request { IsNone (request_of words.now) → out.new ≡ out.old }
-    ensures refused { IsErr (opened any_is_little any_of_byte «data».now) → out.new ≡ out.old }
+    ensures refused { IfSome (request_of words.now) (λ request. IfSome (F.content files.now request.1) (λ bytes.
+        IsErr (opened any_is_little any_of_byte bytes) → out.new ≡ out.old)) }
     ensures status { result ≤ 2 }
 {
-    match parse_words(alloc, words) {
-        Ok(request) => answer_in_memory(alloc, &request, data, out, err),
-        Err(error) => tell_request_error(error, err),
-    }
-}
-
-/// Answers a request whose file holds the data, by the reader or the readers that it asks for, and answers
-/// the exit status.
-pub fn answer_in_memory<W: Write, V: Write>(
-    alloc: Global,
-    request: &Request<'_>,
-    data: &[u8],
-    out: &mut W,
-    err: &mut V,
-) -> u8
-    ensures listed { result ≡ 0 → IsOkAnd (opened any_is_little any_of_byte «data».now) (λ file.
-        Appends (W.contents out.old) (W.contents out.new)
-        (shown_by request.now.mode
-        (text file.ehdr (object_file any_is_little file) (map question request.now.calls.items)))) }
-    ensures refused { IsErr (opened any_is_little any_of_byte «data».now) → out.new ≡ out.old }
-    ensures status { result ≤ 1 }
-{
-    match request.mode {
-        Mode::Bytes => answer(request, data, out, err),
-        Mode::Stream => answer_stream(alloc, request, MemSource::new(data), out, err),
-        Mode::Both => answer_both(alloc, request, data, out, err),
-    }
-}
-
-/// Runs the calls of a request over the bytes of its file, tells how the run stopped if it did, and
-/// answers the exit status.
-pub fn answer<W: Write, V: Write>(
-    request: &Request<'_>,
-    data: &[u8],
-    out: &mut W,
-    err: &mut V,
-) -> u8
-    ensures listed { result ≡ 0 → IsOkAnd (opened any_is_little any_of_byte «data».now) (λ file.
-        Appends (W.contents out.old) (W.contents out.new)
-        (text file.ehdr (object_file any_is_little file) (map question request.now.calls.items))) }
-    ensures refused { IsErr (opened any_is_little any_of_byte «data».now) → out.new ≡ out.old }
-    ensures status { result ≤ 1 }
-{
-    match run_bytes::<AnyEndian, W>(data, request.calls.as_slice(), out) {
+    match list(alloc, words, files, out) {
         Ok(()) => 0,
-        Err(error) => tell_run(error, err),
+        Err(failure) => report(&failure, err),
     }
 }
 
-/// Runs the calls of a request over a source, tells how the run stopped if it did, and answers the exit
-/// status: that of a run that left what `run_source` leaves. Which one it was only `run_source` tells.
-pub fn answer_stream<S: StreamSource, W: Write, V: Write>(
+// Writes the text of the calls that the words ask for, and empties the buffer.
+#[tactic(auto, using(crate::proofs::Writing::emptied_buffer))]
+fn list<F: FileSystem, W: Write + Drop>(
+    alloc: Global,
+    words: &[&str],
+    files: &F,
+    out: &mut BufWriter<W>,
+) -> Result<(), Failure>
+    ensures listed { OnOk result (IsSomeAnd (request_of words.now) (λ request.
+        IfSome (F.content files.now request.1) (λ bytes. IsOkAnd (opened any_is_little any_of_byte bytes) (λ file.
+        Appends (writer_contents W.contents out.old) (W.contents (writer_inner out.new))
+        (shown_by request.0 (text file.ehdr (object_file any_is_little file) request.2)))))) }
+    ensures usage { IfErr result (λ failure. status_of failure ≡ 2 → IsNone (request_of words.now)) }
+    ensures told { IsNone (request_of words.now) → result ≡ Err Usage }
+    ensures no_request { IsNone (request_of words.now) → out.new ≡ out.old }
+    ensures refused { IfSome (request_of words.now) (λ request. IfSome (F.content files.now request.1) (λ bytes.
+        IsErr (opened any_is_little any_of_byte bytes) → (out.new ≡ out.old) × IsErr result)) }
+{
+    let request = parse_words(alloc, words)?;
+    answer(alloc, &request, files, out)?;
+    match out.flush() {
+        Ok(()) => Ok(()),
+        Err(error) => Err(Failure::Write {
+            done: request.calls.len(),
+            error,
+        }),
+    }
+}
+
+/// Writes the text of the calls of a request by the reader or the readers that it asks for. Fails where the file cannot
+/// be opened or read, and as the run of the calls does.
+pub fn answer<F: FileSystem, W: Write>(
     alloc: Global,
     request: &Request<'_>,
-    source: S,
+    files: &F,
     out: &mut W,
-    err: &mut V,
-) -> u8
-    ensures listed { result ≡ 0 → IfSome (S.content source) (λ bytes.
+) -> Result<(), Failure>
+    ensures listed { OnOk result (IfSome (F.content files.now request.now.file.now) (λ bytes.
         IsOkAnd (opened any_is_little any_of_byte bytes) (λ file.
         Appends (W.contents out.old) (W.contents out.new)
-        (text file.ehdr (object_file any_is_little file) (map question request.now.calls.items)))) }
-    ensures refused { IfSome (S.content source) (λ bytes.
-        IsErr (opened any_is_little any_of_byte bytes) → out.new ≡ out.old) }
-    ensures run { IfSome (S.content source) (λ bytes. IsStatusOf
-        (λ run. RanOver (opened any_is_little any_of_byte bytes)
+        (shown_by request.now.mode
+        (text file.ehdr (object_file any_is_little file) (map question request.now.calls.items)))))) }
+    ensures refused { IfSome (F.content files.now request.now.file.now) (λ bytes.
+        IsErr (opened any_is_little any_of_byte bytes) → (out.new ≡ out.old) × IsErr result) }
+    ensures run { request.now.mode ≡ Stream → IfSome (F.content files.now request.now.file.now) (λ bytes.
+        IfSome (run_of result) (λ run. RanOver (opened any_is_little any_of_byte bytes)
         (λ file calls. text file.ehdr (object_file any_is_little file) (map question calls)) request.now.calls.items
-        (W.contents out.old) (W.contents out.new) (S.can_fail source) run) result) }
-    ensures status { result ≤ 1 }
+        (W.contents out.old) (W.contents out.new) (F.can_fail files.now request.now.file.now) run)) }
+    ensures unwritten { request.now.mode ≡ Both → IfSome (run_of result) (IsUnwritten out.old out.new) }
+    ensures cause { IfErr result IsOfFile }
 {
-    match run_source(alloc, source, request.calls.as_slice(), out) {
-        Ok(()) => 0,
-        Err(error) => tell_run(error, err),
+    let calls = request.calls.as_slice();
+    match request.mode {
+        Mode::Bytes => {
+            let data = files.read(request.file).map_err(Failure::File)?;
+            run_bytes::<AnyEndian, W>(data.as_slice(), calls, out)?;
+        }
+        Mode::Stream => {
+            let source = files.open(request.file).map_err(Failure::File)?;
+            run_source(alloc, source, calls, out)?;
+        }
+        Mode::Both => {
+            let data = files.read(request.file).map_err(Failure::File)?;
+            run_both(alloc, data.as_slice(), calls, out)?;
+        }
     }
+    Ok(())
 }
 
 /// Opens the file that a source holds, and writes the text of the calls, in order, as `run_stream` does. Where
@@ -241,28 +241,6 @@ pub fn run_source<S: StreamSource, W: Write>(
     match ElfStream::<AnyEndian, S, Global>::open_stream(alloc, source) {
         Ok(mut stream) => run_stream(&mut stream, calls, out),
         Err(error) => Err(RunError::Open(error)),
-    }
-}
-
-/// Runs the calls of a request by both readers, in memory, and writes the text of the one and whether that
-/// of the other is the same. Tells how a run stopped if one did, and writes nothing then; answers the exit
-/// status.
-pub fn answer_both<W: Write, V: Write>(
-    alloc: Global,
-    request: &Request<'_>,
-    data: &[u8],
-    out: &mut W,
-    err: &mut V,
-) -> u8
-    ensures listed { result ≡ 0 → IsOkAnd (opened any_is_little any_of_byte «data».now) (λ file.
-        Appends (W.contents out.old) (W.contents out.new)
-        (shown_by Both (text file.ehdr (object_file any_is_little file) (map question request.now.calls.items)))) }
-    ensures refused { IsErr (opened any_is_little any_of_byte «data».now) → out.new ≡ out.old }
-    ensures status { result ≤ 1 }
-{
-    match run_both(alloc, data, request.calls.as_slice(), out) {
-        Ok(()) => 0,
-        Err(error) => tell_run(error, err),
     }
 }
 
@@ -320,78 +298,4 @@ fn write_both<W: Write>(one: &[u8], other: &[u8], out: &mut W) -> io::Result<()>
         writeln!(out, "readers differ")?;
     }
     out.flush()
-}
-
-/// Empties the buffer in front of a writer, behind a run of so many calls that ended with this status, and
-/// answers the status: 0 only where all that the buffer showed has reached the writer.
-#[tactic(auto, using(crate::proofs::Writing::emptied_buffer))]
-pub fn empty_buffer<W: Write + Drop, V: Write>(
-    status: u8,
-    done: usize,
-    out: &mut BufWriter<W>,
-    err: &mut V,
-) -> u8
-    ensures same { result ≡ 0 → status ≡ 0 }
-    ensures reached { result ≡ 0 → Keeps (writer_contents W.contents out.old) (W.contents (writer_inner out.new)) }
-    ensures within { status ≤ 1 → result ≤ 1 }
-{
-    if status != 0 {
-        return status;
-    }
-    match out.flush() {
-        Ok(()) => 0,
-        Err(error) => tell_stopped(done, error, err),
-    }
-}
-
-// Tells why a run stopped, and answers the exit status.
-fn tell_run<V: Write>(error: RunError, err: &mut V) -> u8
-    ensures { result ≡ 1 }
-{
-    match error {
-        RunError::Open(error) => tell_open(error, err),
-        RunError::Fault { done, error } => tell_stopped(done, error, err),
-        RunError::Write { done, error } => tell_stopped(done, error, err),
-    }
-}
-
-// Tells that the file was refused, and answers the exit status.
-fn tell_open<V: Write>(error: ParseError, err: &mut V) -> u8
-    ensures { result ≡ 1 }
-{
-    let _ = writeln!(err, "elfshow: open: {error}");
-    1
-}
-
-/// Tells why the words ask for nothing, and answers the exit status.
-pub fn tell_request_error<V: Write>(error: RequestError, err: &mut V) -> u8
-    ensures { result ≡ status_of error }
-{
-    match error {
-        RequestError::Usage => tell_usage(err),
-        RequestError::OutOfMemory => tell_no_memory(err),
-    }
-}
-
-/// Tells how the program is called, and answers the exit status.
-pub fn tell_usage<V: Write>(err: &mut V) -> u8
-    ensures { result ≡ 2 }
-{
-    let _ = writeln!(err, "{USAGE}");
-    2
-}
-
-/// Tells that memory was refused before the first call, and answers the exit status.
-pub fn tell_no_memory<V: Write>(err: &mut V) -> u8
-    ensures { result ≡ 1 }
-{
-    tell_stopped(0, ParseError::OutOfMemory, err)
-}
-
-/// Tells that a run stopped behind so many calls, and answers the exit status.
-pub fn tell_stopped<D: Display + Drop, V: Write>(done: usize, error: D, err: &mut V) -> u8
-    ensures { result ≡ 1 }
-{
-    let _ = writeln!(err, "elfshow: stopped after {done} calls: {error}");
-    1
 }

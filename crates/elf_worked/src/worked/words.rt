@@ -3,10 +3,11 @@ ghost use Rattle.std.specs.Prelude.{◌≡◌, [], ◌∷◌, ◌++◌, Some, No
 ghost use Rattle.elfshow.specs.calls.Question.{Data, DynSyms, Dynamic, Gnu, Header, Name, Notes, Relas, Rels};
 ghost use Rattle.elfshow.specs.calls.Question.{Sections, Seg, SegNotes, Segments, Strings, Symbols, Sysv, Versions};
 ghost use Rattle.elfshow.specs.Pieces.{newline};
-ghost use Rattle.elfshow.specs.Show.{agreement, mode_of, shown_by, status_of};
+ghost use Rattle.elfshow.specs.Failure.{status_of};
+ghost use Rattle.elfshow.specs.Show.{agreement, mode_of, shown_by};
 ghost use Rattle.elfshow.specs.Words.{call_of, index_of};
 ghost use Rattle.elfshow.specs.declared.show.Mode.TheVariants.{Both, Bytes, Stream};
-ghost use Rattle.elfshow.specs.declared.show.RequestError.TheVariants.{OutOfMemory, Usage};
+ghost use Rattle.elfshow.specs.declared.failure.Failure.TheVariants.{OutOfMemory, Usage};
 
 /// The seven calls without a value. A capital letter, a space or a value makes another word.
 pub fn plain_words()

@@ -1,0 +1,58 @@
+//! The files of the operating system. Nothing is known of what they hold.
+ghost use Rattle.std.specs.Prelude.{None, true};
+
+use elf::FileSource;
+use elfshow::file_system::FileSystem;
+use std::fs::File;
+use std::io;
+use std::io::Read;
+
+// Standard input is read through its own handle, since the system may refuse to open it anew.
+const STANDARD_INPUT: &str = "/dev/stdin";
+
+/// The files of the operating system.
+#[derive(Drop)]
+pub struct SystemFiles<'a> {
+    rt: &'a HostRuntime,
+}
+
+impl<'a> SystemFiles<'a> {
+    /// The files that this runtime opens.
+    pub fn new(rt: &'a HostRuntime) -> Self {
+        SystemFiles { rt }
+    }
+}
+
+impl FileSystem for SystemFiles<'_> {
+    type Source = FileSource;
+
+    ghost content = { λ _ _. None };
+
+    ghost can_fail = { λ _ _. true };
+
+    fn open(&self, path: &str) -> io::Result<FileSource> {
+        let file = File::open(self.rt, path)?;
+        Ok(FileSource::new(file))
+    }
+
+    fn read(&self, path: &str) -> io::Result<Vec<u8>> {
+        if path == STANDARD_INPUT {
+            return read_standard_input(self.rt);
+        }
+        read_file(self.rt, path)
+    }
+}
+
+fn read_standard_input(rt: &HostRuntime) -> io::Result<Vec<u8>> {
+    let mut data = Vec::new(rt.alloc());
+    rt.stdin().read_to_end(&mut data)?;
+    Ok(data)
+}
+
+// Reads a file into room of the length that the system gives, which grows where the file is longer.
+fn read_file(rt: &HostRuntime, path: &str) -> io::Result<Vec<u8>> {
+    let mut file = File::open(rt, path)?;
+    let mut data = Vec::with_capacity(rt.alloc(), file.metadata()?.len() as usize)?;
+    file.read_to_end(&mut data)?;
+    Ok(data)
+}
