@@ -12,7 +12,8 @@ use Rattle.elf_parts.specs.declared.parse.ParseError.{ParseError}
 use Rattle.elf_parts.specs.declared.section.SectionHeader.{SectionHeader}
 use Rattle.elf_parts.specs.declared.segment.ProgramHeader.{ProgramHeader}
 use Rattle.elf_parts.specs.declared.compression.CompressionHeader.{CompressionHeader}
-use Rattle.elf.specs.Answers.{dynamic, dynamic_symbol_table, section_data, section_data_as_notes, section_data_as_relas, section_data_as_rels, section_data_as_strtab, section_header_by_name, segment_data, segment_data_as_notes, symbol_table, symbol_version_table}
+use Rattle.elf.specs.Answers.{dynamic, dynamic_symbol_table, section_data_as_notes, section_data_as_relas, section_data_as_rels, section_data_as_strtab, section_header_by_name, segment_data, segment_data_as_notes, symbol_table, symbol_version_table}
+use Rattle.elf.specs.Data.{section_data}
 use Rattle.elf.specs.Names.{name_table}
 use Rattle.elf.specs.StreamFile.{stream_file}
 use Rattle.elf.specs.ObjectFile.{ObjectFile, object_file}
@@ -27,7 +28,7 @@ use Rattle.elfshow.specs.declared.lines.hashes.Verdict.{Verdict}
 use Rattle.elfshow.specs.lines.Data.{section_data_line, segment_data_line}
 use Rattle.elfshow.specs.lines.Dynamic.{dyn_line}
 use Rattle.elfshow.specs.lines.Hashes.{verdict_line}
-use Rattle.elfshow.specs.lines.Listed.{listed}
+use Rattle.elfshow.specs.lines.Counted.{counted}
 use Rattle.elfshow.specs.lines.Notes.{note_line}
 use Rattle.elfshow.specs.lines.Relocations.{rel_line, rela_line}
 use Rattle.elfshow.specs.lines.Sections.{found_line, section_line}
@@ -102,17 +103,17 @@ module _ {E : Type 0} (h : FileHeader E) (one other : ObjectFile) (little : one.
   call_alike : (call : Question) → AreAlike (call_answer h one call) (call_answer h other call)
   call_alike Header = rw little refl
   call_alike Sections =
-      ap (λ sections. result_ok (ok_map (λ names. listed (section_line names) sections) (name_table one))) same.section_headers
-      ∙ alike_map (λ names. listed (section_line names) other.sections) (name_table one) (name_table other) same.section_names
+      ap (λ sections. result_ok (ok_map (λ names. counted (section_line names) sections) (name_table one))) same.section_headers
+      ∙ alike_map (λ names. counted (section_line names) other.sections) (name_table one) (name_table other) same.section_names
   call_alike Segments = rw same.segments refl
   call_alike (Name name) = alike_map (unless_none found_line) (section_header_by_name one name) (section_header_by_name other name) (same.section_header_by_name name)
   call_alike (Data i) = section_alike i _ _ (λ s. alike_map (λ found. section_data_line found.0 found.1) (section_data one s) (section_data other s) (same.section_data s))
-  call_alike (Strings i) = section_alike i _ _ (λ s. alike_map (λ bytes. listed string_line (strings_of bytes)) (section_data_as_strtab one s) (section_data_as_strtab other s) (same.section_data_as_strtab s))
-  call_alike (Rels i) = section_alike i _ _ (λ s. alike_map (listed rel_line) (section_data_as_rels one s) (section_data_as_rels other s) (same.section_data_as_rels s))
-  call_alike (Relas i) = section_alike i _ _ (λ s. alike_map (listed rela_line) (section_data_as_relas one s) (section_data_as_relas other s) (same.section_data_as_relas s))
-  call_alike (Notes i) = section_alike i _ _ (λ s. alike_map (listed note_line) (section_data_as_notes one s) (section_data_as_notes other s) (same.section_data_as_notes s))
+  call_alike (Strings i) = section_alike i _ _ (λ s. alike_map (λ bytes. counted string_line (strings_of bytes)) (section_data_as_strtab one s) (section_data_as_strtab other s) (same.section_data_as_strtab s))
+  call_alike (Rels i) = section_alike i _ _ (λ s. alike_map (counted rel_line) (section_data_as_rels one s) (section_data_as_rels other s) (same.section_data_as_rels s))
+  call_alike (Relas i) = section_alike i _ _ (λ s. alike_map (counted rela_line) (section_data_as_relas one s) (section_data_as_relas other s) (same.section_data_as_relas s))
+  call_alike (Notes i) = section_alike i _ _ (λ s. alike_map (counted note_line) (section_data_as_notes one s) (section_data_as_notes other s) (same.section_data_as_notes s))
   call_alike (Seg j) = segment_alike j _ _ (λ p. alike_map segment_data_line (segment_data one p) (segment_data other p) (same.segment_data p))
-  call_alike (SegNotes j) = segment_alike j _ _ (λ p. alike_map (listed note_line) (segment_data_as_notes one p) (segment_data_as_notes other p) (same.segment_data_as_notes p))
+  call_alike (SegNotes j) = segment_alike j _ _ (λ p. alike_map (counted note_line) (segment_data_as_notes one p) (segment_data_as_notes other p) (same.segment_data_as_notes p))
   call_alike Symbols = alike_map (unless_none symbols_text) (symbol_table one) (symbol_table other) same.symbol_table
   call_alike DynSyms = alike_map (unless_none symbols_text) (dynamic_symbol_table one) (dynamic_symbol_table other) same.dynamic_symbol_table
   call_alike Dynamic = alike_map (unless_none dynamic_text) (dynamic one) (dynamic other) same.dynamic

@@ -12,7 +12,8 @@ use Rattle.elf_parts.specs.declared.file.FileHeader.{FileHeader}
 use Rattle.elf_parts.specs.declared.parse.ParseError.{ParseError}
 use Rattle.elf_parts.specs.declared.section.SectionHeader.{SectionHeader}
 use Rattle.elf_parts.specs.declared.segment.ProgramHeader.{ProgramHeader}
-use Rattle.elf.specs.Answers.{dynamic, dynamic_symbol_table, section_data, section_data_as_notes}
+use Rattle.elf.specs.Answers.{dynamic, dynamic_symbol_table, section_data_as_notes}
+use Rattle.elf.specs.Data.{section_data}
 use Rattle.elf.specs.Answers.{section_data_as_relas, section_data_as_rels, section_data_as_strtab}
 use Rattle.elf.specs.Answers.{section_header_by_name, segment_data, segment_data_as_notes, symbol_table}
 use Rattle.elf.specs.Answers.{symbol_version_table}
@@ -27,12 +28,12 @@ use Rattle.elfshow.specs.lines.Data.{section_data_line, segment_data_line}
 use Rattle.elfshow.specs.lines.Dynamic.{dyn_line}
 use Rattle.elfshow.specs.lines.Hashes.{verdict_line}
 use Rattle.elfshow.specs.lines.Header.{header_line}
-use Rattle.elfshow.specs.lines.Listed.{listed}
+use Rattle.elfshow.specs.lines.Counted.{counted}
 use Rattle.elfshow.specs.lines.Notes.{note_line}
 use Rattle.elfshow.specs.lines.Relocations.{rel_line, rela_line}
 use Rattle.elfshow.specs.lines.Sections.{found_line, section_line}
 use Rattle.elfshow.specs.lines.Segments.{segment_line}
-use Rattle.elfshow.specs.lines.Stand.{absent_line, none_line, refused_line}
+use Rattle.elfshow.specs.lines.NoAnswer.{absent_line, none_line, refused_line}
 use Rattle.elfshow.specs.lines.Strings.{string_line, strings_of}
 use Rattle.elfshow.specs.lines.Symbols.{symbol_line}
 use Rattle.elfshow.specs.lines.Versions.{versions_listed}
@@ -53,7 +54,7 @@ unless_absent answer None = Ok absent_line
 
 -- the symbols of a table, with the bytes of their names
 abbrev pub symbols_text : Table × List ℕ → List ℕ
-symbols_text (symbols, names) = listed (symbol_line names) (table_items symbol_reads symbols)
+symbols_text (symbols, names) = counted (symbol_line names) (table_items symbol_reads symbols)
 
 -- how many symbols there are, if any
 abbrev pub symbol_count : Option (Table × List ℕ) → ℕ
@@ -62,7 +63,7 @@ symbol_count (Some (symbols, names)) = length (table_items symbol_reads symbols)
 
 -- the dynamic entries of a table
 abbrev pub dynamic_text : Table → List ℕ
-dynamic_text entries = listed dyn_line (table_items dyn_reads entries)
+dynamic_text entries = counted dyn_line (table_items dyn_reads entries)
 
 -- ---- what a checker says of a section
 
@@ -98,17 +99,17 @@ module _ {E : Type 0} (header : FileHeader E) (file : ObjectFile) where
   -- the text that a call writes, or why it is refused
   abbrev pub call_answer : Question → Result (List ℕ) ParseError
   call_answer Header = Ok (header_line file.little header)
-  call_answer Sections = ok_map (λ names. listed (section_line names) file.sections) (name_table file)
-  call_answer Segments = Ok (listed segment_line file.segments)
+  call_answer Sections = ok_map (λ names. counted (section_line names) file.sections) (name_table file)
+  call_answer Segments = Ok (counted segment_line file.segments)
   call_answer (Name name) = ok_map (unless_none found_line) (section_header_by_name file name)
   call_answer (Data i) = of_section i (λ s. ok_map (λ found. section_data_line found.0 found.1) (section_data file s))
   call_answer (Strings i) =
-      of_section i (λ s. ok_map (λ bytes. listed string_line (strings_of bytes)) (section_data_as_strtab file s))
-  call_answer (Rels i) = of_section i (λ s. ok_map (listed rel_line) (section_data_as_rels file s))
-  call_answer (Relas i) = of_section i (λ s. ok_map (listed rela_line) (section_data_as_relas file s))
-  call_answer (Notes i) = of_section i (λ s. ok_map (listed note_line) (section_data_as_notes file s))
+      of_section i (λ s. ok_map (λ bytes. counted string_line (strings_of bytes)) (section_data_as_strtab file s))
+  call_answer (Rels i) = of_section i (λ s. ok_map (counted rel_line) (section_data_as_rels file s))
+  call_answer (Relas i) = of_section i (λ s. ok_map (counted rela_line) (section_data_as_relas file s))
+  call_answer (Notes i) = of_section i (λ s. ok_map (counted note_line) (section_data_as_notes file s))
   call_answer (Seg j) = of_segment j (λ p. ok_map segment_data_line (segment_data file p))
-  call_answer (SegNotes j) = of_segment j (λ p. ok_map (listed note_line) (segment_data_as_notes file p))
+  call_answer (SegNotes j) = of_segment j (λ p. ok_map (counted note_line) (segment_data_as_notes file p))
   call_answer Symbols = ok_map (unless_none symbols_text) (symbol_table file)
   call_answer DynSyms = ok_map (unless_none symbols_text) (dynamic_symbol_table file)
   call_answer Dynamic = ok_map (unless_none dynamic_text) (dynamic file)

@@ -1,7 +1,8 @@
 -- What one call of a run leaves; contracts of private functions speak of it.
 use Rattle.std.specs.Prelude.{◌≡◌, ℕ, Bool, List, Option, Result, Ok, Err, IfSome, IsErr, IsOk, OnOk}
 use Rattle.std.specs.Io.KnownBytes.{Appends}
-use Rattle.elf.specs.Answers.{dynamic_symbol_table, section_data}
+use Rattle.elf.specs.Answers.{dynamic_symbol_table}
+use Rattle.elf.specs.Data.{section_data}
 use Rattle.elf.specs.ObjectFile.{ObjectFile}
 use Rattle.elf.specs.ElfStream.{AreHeld, IsAnswer, IsRefused, Keeps, Kind, Seen, kind}
 use Rattle.elf_parts.specs.Number.{ok_map}
@@ -19,7 +20,7 @@ use Rattle.elfshow.specs.declared.calls.RunError.{RunError}
 use Rattle.elfshow.specs.declared.calls.RunError.TheVariants.{Fault, Open, Write}
 use Rattle.elfshow.specs.declared.calls.Stop.{Stop}
 use Rattle.elfshow.specs.declared.calls.Stop.TheVariants as stop
-use Rattle.elfshow.specs.lines.Stand.{refused_line}
+use Rattle.elfshow.specs.lines.NoAnswer.{refused_line}
 use Rattle.std.specs.Io.KnownBytes.{Keeps as KeepsBytes}
 
 -- why a run stopped, by what stopped its call

@@ -1,7 +1,8 @@
 use Rattle.std.proofs.Common.{ℕ, List, ap, subst, sym, ◌∙◌}
 use Rattle.std.specs.Prelude.{IsErr}
 use Rattle.std.specs.Option.{option_map}
-use Rattle.elf.specs.Answers.{dynamic_symbol_table, section_data}
+use Rattle.elf.specs.Answers.{dynamic_symbol_table}
+use Rattle.elf.specs.Data.{section_data}
 use Rattle.elf.specs.Ranges.{headers_alone}
 use Rattle.elf.specs.StreamFile.{stream_file}
 use Rattle.elf_parts.specs.SysvFind.{sysv_section}
