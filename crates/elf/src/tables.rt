@@ -18,7 +18,7 @@ pub(crate) enum CountWord {
 impl CountWord {
     /// The number in that word.
     pub(crate) fn count_in(self, first: &SectionHeader) -> u64
-        ensures { result ≡ count_word self.entry first.now }
+        ensures { result ≡ count_word self first.now }
     {
         match self {
             CountWord::ShSize => first.sh_size,

@@ -6,7 +6,7 @@ use Rattle.std.specs.Prelude.{◌^◌, ◌==◌, nat_le, nat_lt, length, take, d
 use Rattle.elf_parts.specs.File.{byte_in, class_of, ident_of, magic_in, order_of, version_in}
 use Rattle.elf_parts.specs.Number.{bytes_at, number_at, ok_map}
 use Rattle.elf_parts.specs.Record.{◌>>=◌, Field, Layout, accepted, numbers_at, record_by, size_by}
-use Rattle.elf_parts.specs.Section.{section_header_layout}
+use Rattle.elf_parts.specs.Section.{section_header_layout, section_header_reads}
 use Rattle.elf_parts.specs.Table.{Table, item_at}
 use Rattle.elf_parts.specs.declared.file.Class.{Class}
 use Rattle.elf_parts.specs.declared.parse.ParseError.{ParseError}
@@ -111,7 +111,7 @@ plain_item gives size bytes i plain =
 plain_section_at : (o : Option Table) (i : ℕ) → IsPlain (section_at o i)
 plain_section_at None i = plain_err (BadOffset i) refl
 plain_section_at (Some t) i =
-    plain_item _ (size_by section_header_layout t.class) t.bytes i (plain_record_by section_header_layout t.little t.class t.bytes)
+    plain_item (section_header_reads.record_at t.little t.class) (size_by section_header_layout t.class) t.bytes i (plain_record_by section_header_layout t.little t.class t.bytes)
 
 pub section_at_refused : (o : Option Table) (i : ℕ) (r : Result SectionHeader ParseError) → r ≡ section_at o i → IfErr r (λ e. kind e ≡ Kind.Refusal)
 section_at_refused o i (Ok s) is = tt

@@ -1,7 +1,8 @@
 //! Headers by their index, and the first or last ones of a type.
 ghost use Rattle.std.specs.Prelude.{◌≡◌, Some};
 ghost use Rattle.elf_parts.specs.Table.{table_view};
-ghost use Rattle.elf.specs.ElfBytes.{section_list, view};
+ghost use Rattle.elf.specs.ElfBytes.{section_list, segment_list};
+ghost use Rattle.elf.specs.Headers.{first_section_of, first_segment_of};
 ghost use Rattle.elf.specs.Versions.{version_sections};
 
 use super::ElfBytes;
@@ -10,7 +11,37 @@ use elf_parts::endian::EndianParse;
 use elf_parts::file::Class;
 use elf_parts::parse::ParseError;
 use elf_parts::section::{SectionHeader, SectionHeaderTable};
-use elf_parts::segment::ProgramHeader;
+use elf_parts::segment::{ProgramHeader, SegmentTable};
+
+// The first section header of a type.
+fn first_section_in<E: EndianParse>(
+    shdrs: SectionHeaderTable<'_, E>,
+    sh_type: u32,
+) -> Option<SectionHeader>
+    ensures { result ≡ first_section_of sh_type (section_list (Some (table_view shdrs.entry))) }
+{
+    for shdr in shdrs {
+        if shdr.sh_type == sh_type {
+            return Some(shdr);
+        }
+    }
+    None
+}
+
+// The first program header of a type.
+fn first_segment_in<E: EndianParse>(
+    phdrs: SegmentTable<'_, E>,
+    p_type: u32,
+) -> Option<ProgramHeader>
+    ensures { result ≡ first_segment_of p_type (segment_list (Some (table_view phdrs.entry))) }
+{
+    for phdr in phdrs {
+        if phdr.p_type == p_type {
+            return Some(phdr);
+        }
+    }
+    None
+}
 
 // The last sections of the three types of versions, up to the first one by which all of them were seen.
 #[tactic(auto, using(crate::proofs::VersionChoice::found_in_all))]
@@ -53,13 +84,14 @@ impl<'data, E: EndianParse> Headers for ElfBytes<'data, E> {
     }
 
     fn first_section_of(&self, sh_type: u32) -> Option<SectionHeader> {
-        self.shdrs?.iter().find(|shdr| shdr.sh_type == sh_type)
+        first_section_in(self.shdrs?, sh_type)
     }
 
     fn first_segment_of(&self, p_type: u32) -> Option<ProgramHeader> {
-        self.phdrs?.iter().find(|phdr| phdr.p_type == p_type)
+        first_segment_in(self.phdrs?, p_type)
     }
 
+    #[tactic(auto, unfolding(crate::specs::Versions::version_sections))]
     fn version_sections(&self) -> VersionSections {
         match self.shdrs {
             Some(shdrs) => version_sections(shdrs),

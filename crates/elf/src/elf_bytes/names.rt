@@ -1,10 +1,12 @@
 //! The names of sections.
-ghost use Rattle.std.specs.Prelude.{◌≡◌};
+ghost use Rattle.std.specs.Prelude.{◌≡◌, Some};
 ghost use Rattle.elf_parts.specs.Number.{ok_map};
-ghost use Rattle.elf.specs.Answers.{section_header_by_name};
+ghost use Rattle.elf_parts.specs.StringTable.{strings_view};
+ghost use Rattle.elf_parts.specs.Table.{table_view};
+ghost use Rattle.elf.specs.Answers.{first_named, section_header_by_name};
 ghost use Rattle.elf.specs.Names.{beside, name_table, named_view};
 ghost use Rattle.elf.specs.ObjectFile.{object_file};
-ghost use Rattle.elf.specs.ElfBytes.{view};
+ghost use Rattle.elf.specs.ElfBytes.{section_list, view};
 
 use super::ElfBytes;
 use super::data::section_range;
@@ -13,6 +15,23 @@ use elf_parts::endian::EndianParse;
 use elf_parts::parse::ParseError;
 use elf_parts::section::{SectionHeader, SectionHeaderTable};
 use elf_parts::string_table::StringTable;
+
+// The first section header of a name.
+fn first_named_in<E: EndianParse>(
+    shdrs: SectionHeaderTable<'_, E>,
+    names: &StringTable<'_>,
+    name: &str,
+) -> Option<SectionHeader>
+    ensures { result
+        ≡ first_named (section_list (Some (table_view shdrs.entry))) name.now (Some (strings_view names.now)) }
+{
+    for shdr in shdrs {
+        if has_name(names, name, &shdr) {
+            return Some(shdr);
+        }
+    }
+    None
+}
 
 impl<'data, E: EndianParse> ElfBytes<'data, E> {
     /// The section headers and the table of their names, where the file declares them. Refuses where
@@ -46,6 +65,6 @@ impl<'data, E: EndianParse> ElfBytes<'data, E> {
         let (Some(shdrs), Some(names)) = self.section_headers_with_strtab()? else {
             return Ok(None);
         };
-        Ok(shdrs.iter().find(|shdr| has_name(&names, name, shdr)))
+        Ok(first_named_in(shdrs, &names, name))
     }
 }

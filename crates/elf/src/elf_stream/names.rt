@@ -1,6 +1,7 @@
 //! The names of sections.
 ghost use Rattle.std.specs.Prelude.{◌≡◌, IfSome, Ok, None, Some, option_copied};
 ghost use Rattle.elf_parts.specs.Number.{ok_map};
+ghost use Rattle.elf_parts.specs.StringTable.{strings_view};
 ghost use Rattle.elf.specs.Answers.{first_named, section_header_by_name};
 ghost use Rattle.elf.specs.Ranges.{names_asked, whole_section};
 ghost use Rattle.elf.specs.ElfStream.{AreHeld};
@@ -16,6 +17,17 @@ use elf_parts::parse::ParseError;
 use elf_parts::section::SectionHeader;
 use elf_parts::string_table::StringTable;
 use std::alloc::Allocator;
+
+// The first section header of a name.
+fn first_named_in<'a>(
+    shdrs: &'a [SectionHeader],
+    names: &StringTable<'_>,
+    name: &str,
+) -> Option<&'a SectionHeader>
+    ensures { option_copied result ≡ first_named shdrs.now name.now (Some (strings_view names.now)) }
+{
+    shdrs.iter().find(|shdr| has_name(names, name, *shdr))
+}
 
 impl<E: EndianParse, S: StreamSource, A: Allocator + Copy> ElfStream<E, S, A> {
     ghost use Rattle.std.specs.Borrow.{sem};
@@ -67,9 +79,7 @@ impl<E: EndianParse, S: StreamSource, A: Allocator + Copy> ElfStream<E, S, A> {
     {
         let bytes = self.held_bytes(names.sh_offset, names.sh_size);
         let strings = StringTable::new(bytes);
-        self.shdrs
-            .iter()
-            .find(|shdr| has_name(&strings, name, *shdr))
+        first_named_in(&self.shdrs, &strings, name)
     }
 
     /// The first section whose name has the bytes of `name`, where the file declares section headers and
