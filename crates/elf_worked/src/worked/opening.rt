@@ -1,5 +1,18 @@
 //! Files as they are opened: headers, tables and names.
-#![tactic(auto, unfolding(elf_parts::specs::Number::bytes_at, elf_parts::specs::Number::number_at, elf_parts::specs::Record::numbers_at, elf_parts::specs::File::ident_of, elf::specs::Opening::header_at_front, elf::specs::Opening::section_table, elf::specs::Opening::segment_table, elf::specs::Names::name_section, elf::specs::Names::name_table))]
+#![tactic(
+    auto,
+    unfolding(
+        elf_parts::specs::Number::bytes_at,
+        elf_parts::specs::Number::number_at,
+        elf_parts::specs::Record::numbers_at,
+        elf_parts::specs::File::ident_of,
+        elf::specs::Opening::header_at_front,
+        elf::specs::Opening::section_table,
+        elf::specs::Opening::segment_table,
+        elf::specs::Names::name_section,
+        elf::specs::Names::name_table
+    )
+)]
 
 ghost use Rattle.std.specs.Prelude.{◌≡◌, [], ◌∷◌, ◌++◌, true, false, None, Some, Ok, Err, length, take};
 ghost use Rattle.elf_parts.specs.Number.{ok_map};
@@ -113,9 +126,11 @@ pub fn segment_tables()
 pub fn refusals_of_tables()
     ensures number { opening (header_of_tables (in_eight 64 ++ in_eight 64) (zeros 4) (zeros 6))
         ≡ Err (SliceReadError (64, 68)) }
-    ensures entry_size { opening (header_of_tables (in_eight 64 ++ in_eight 64) (zeros 4) (zeros 2 ++ in_two 1 ++ zeros 2))
+    ensures entry_size { opening (header_of_tables (in_eight 64 ++ in_eight 64) (zeros 4)
+        (zeros 2 ++ in_two 1 ++ zeros 2))
         ≡ Err (BadEntsize (0, 64)) }
-    ensures place { opening (header_of_tables (in_eight 64 ++ in_eight 64) (zeros 4) (in_two 64 ++ in_two 1 ++ zeros 2))
+    ensures place { opening (header_of_tables (in_eight 64 ++ in_eight 64) (zeros 4)
+        (in_two 64 ++ in_two 1 ++ zeros 2))
         ≡ Err (SliceReadError (64, 128)) }
     ensures segments { opening (header_of_tables (in_eight 64 ++ zeros 8) (zeros 4) (zeros 2 ++ in_two 1 ++ zeros 2))
         ≡ Err (BadEntsize (0, 56)) }

@@ -8,7 +8,9 @@ use Rattle.elf.specs.ElfStream.{AreHeld, IsAnswer, IsRefused, Keeps, Kind, Seen,
 use Rattle.elf_parts.specs.Number.{ok_map}
 use Rattle.elf_parts.specs.Record.{◌>>=◌}
 use Rattle.elf_parts.specs.declared.section.SectionHeader.{SectionHeader}
-use Rattle.elf_check.specs.WithSymbols.{WithSymbols, with_symbols}
+use Rattle.elf_check.specs.Object.{object_in}
+use Rattle.elf_check.specs.declared.hashcheck.any.HashSection.{HashSection}
+use Rattle.elfshow.specs.Verdicts.{verdict_of}
 use Rattle.elfshow.specs.declared.lines.hashes.Verdict.{Verdict}
 use Rattle.std.specs.Option.{option_map}
 use Rattle.elf_parts.specs.declared.parse.ParseError.{ParseError}
@@ -112,8 +114,8 @@ abbrev pub section_bytes : ObjectFile → SectionHeader → Result (List ℕ) Pa
 section_bytes file s = ok_map (λ found. found.0) (section_data file s)
 
 -- what a checker says of a section, if there are symbols to check it for; its refusal stands apart from a stream's
-abbrev pub checked_apart : {T : Type 0} → (WithSymbols T → Verdict) → (List ℕ → Result T ParseError) →
-    ObjectFile → SectionHeader → Result (Option (Result Verdict ParseError)) ParseError
-checked_apart says cut file s =
+abbrev pub checked_apart : HashSection → ObjectFile → SectionHeader →
+    Result (Option (Result Verdict ParseError)) ParseError
+checked_apart kind file s =
     section_bytes file s >>= λ part. dynamic_symbol_table file >>= λ symbols.
-    Ok (option_map (λ found. ok_map says (with_symbols found.0 found.1 (cut part))) symbols)
+    Ok (option_map (λ found. ok_map verdict_of (object_in kind file.little file.class part found.0 found.1)) symbols)

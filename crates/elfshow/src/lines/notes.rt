@@ -2,7 +2,7 @@
 ghost use Rattle.std.specs.Prelude.{OnOk, length, ◌<◌, ◌^◌};
 ghost use Rattle.std.specs.Io.KnownBytes.{Appends};
 ghost use Rattle.elf_parts.specs.Note.{AbiTag, BuildId, Other, note_view, notes_left};
-ghost use Rattle.elfshow.specs.lines.Counted.{counted};
+ghost use Rattle.elfshow.specs.lines.Counted.{counted_lines};
 ghost use Rattle.elfshow.specs.lines.Notes.{content_line, note_line};
 
 use crate::lines::counted::{Line, write_list};
@@ -79,7 +79,7 @@ pub(crate) fn write_notes<E: EndianParse, W: Write>(
 ) -> io::Result<()>
     requires { length (notes_left notes) < 2 ^ 64 }
     ensures { OnOk result (Appends (W.contents out.old) (W.contents out.new)
-        (counted note_line (notes_left notes.entry))) }
+        (counted_lines note_line (notes_left notes.entry))) }
 {
     write_list(notes, &NoteLine { lent: PhantomData }, out)
 }

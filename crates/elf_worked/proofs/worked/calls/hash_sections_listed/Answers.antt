@@ -12,7 +12,7 @@ use Rattle.elf_check.specs.WithSymbols.{word}
 use Rattle.std.specs.Fmt.{digits}
 use Rattle.std.proofs.Common.{ap, ℕ, List, [], ◌++◌, Result, Ok}
 use Rattle.elf_parts.specs.declared.parse.ParseError.{ParseError}
-use Rattle.elfshow.specs.inner.Decisions.{decide_gnu, decide_sysv}
+use Rattle.elf_check.specs.inner.Decisions.{decide_gnu, decide_sysv}
 use Rattle.elf_worked.proofs.Below.{told_faulty, told_sound}
 use Rattle.elf_worked.proofs.HashesOfA.{gnu_of_a_sound, sysv_of_a_cyclic, sysv_of_a_sound}
 use Rattle.elf_worked.specs.HashesOfA.{gnu_of_a, sysv_of_a}
