@@ -128,10 +128,7 @@ impl<'data, E: EndianParse> ElfBytes<'data, E> {
     /// Opens a file: reads its header and finds its two tables (gABI, chapters "ELF Header", "Sections"
     /// and "Program Header"). Refuses at the first of these that is not as it must be: the
     /// identification, the tail of the header, the section headers, the program headers.
-    #[tactic(
-        auto,
-        unfolding(crate::specs::Opening::section_table, crate::specs::Opening::segment_table)
-    )]
+    #[tactic(auto, unfolding(crate::specs::Opening::section_table, crate::specs::Opening::segment_table))]
     pub fn minimal_parse(data: &'data [u8]) -> Result<Self, ParseError>
         ensures { ok_map view result ≡ opened E.little E.of_byte «data».now }
     {

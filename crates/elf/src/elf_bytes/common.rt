@@ -43,7 +43,10 @@ impl<'data, E: EndianParse> ElfBytes<'data, E> {
     ghost use Rattle.elf.specs.inner.Passes.{with_part};
 
     // The hash section of the gABI.
-    fn sysv_hash_table_of(&self, shdr: &SectionHeader) -> Result<SysVHashTable<'data, E>, ParseError>
+    fn sysv_hash_table_of(
+        &self,
+        shdr: &SectionHeader,
+    ) -> Result<SysVHashTable<'data, E>, ParseError>
         ensures { ok_map sysv_view result ≡ sysv_hash_table_of (object_file E.little (view self.now)) shdr.now }
     {
         let bytes = section_range(shdr, self.data)?;

@@ -25,7 +25,11 @@ use std::alloc::Allocator;
 
 // The section of version indexes, and those of the needs and of the definitions with the ones that they
 // link to.
-type VersionPlan = (SectionHeader, Option<LinkedSections>, Option<LinkedSections>);
+type VersionPlan = (
+    SectionHeader,
+    Option<LinkedSections>,
+    Option<LinkedSections>,
+);
 
 impl<E: EndianParse, S: StreamSource, A: Allocator + Copy> ElfStream<E, S, A> {
     ghost use Rattle.std.specs.Borrow.{sem};

@@ -1,14 +1,5 @@
 //! Identifications, records of both classes, and the tail of a header.
-#![tactic(
-    auto,
-    unfolding(
-        elf_parts::specs::Number::bytes_at,
-        elf_parts::specs::Number::number_at,
-        elf_parts::specs::Record::numbers_at,
-        elf_parts::specs::Record::numbers_end,
-        elf_parts::specs::File::ident_of
-    )
-)]
+#![tactic(auto, unfolding(elf_parts::specs::Number::bytes_at, elf_parts::specs::Number::number_at, elf_parts::specs::Record::numbers_at, elf_parts::specs::Record::numbers_end, elf_parts::specs::File::ident_of))]
 
 ghost use Rattle.std.specs.Prelude.{◌≡◌, ◌-◌, ◌^◌, [], ◌∷◌, ◌++◌, true, false, Ok, Err, take};
 ghost use Rattle.elf_parts.specs.File.{header_with_tail, ident_of};

@@ -1,18 +1,5 @@
 //! Files as they are opened: headers, tables and names.
-#![tactic(
-    auto,
-    unfolding(
-        elf_parts::specs::Number::bytes_at,
-        elf_parts::specs::Number::number_at,
-        elf_parts::specs::Record::numbers_at,
-        elf_parts::specs::File::ident_of,
-        elf::specs::Opening::header_at_front,
-        elf::specs::Opening::section_table,
-        elf::specs::Opening::segment_table,
-        elf::specs::Names::name_section,
-        elf::specs::Names::name_table
-    )
-)]
+#![tactic(auto, unfolding(elf_parts::specs::Number::bytes_at, elf_parts::specs::Number::number_at, elf_parts::specs::Record::numbers_at, elf_parts::specs::File::ident_of, elf::specs::Opening::header_at_front, elf::specs::Opening::section_table, elf::specs::Opening::segment_table, elf::specs::Names::name_section, elf::specs::Names::name_table))]
 
 ghost use Rattle.std.specs.Prelude.{◌≡◌, [], ◌∷◌, ◌++◌, true, false, None, Some, Ok, Err, length, take};
 ghost use Rattle.elf_parts.specs.Number.{ok_map};

@@ -11,11 +11,14 @@ pub fn section_data_found()
     ensures plain { section_data small_object (section_of 1 0 0x3c 4) ≡ Ok (0x3c ∷ 0x3d ∷ 0x3e ∷ 0x3f ∷ [], None) }
     ensures other_flags { section_data small_object (section_of 1 0x7ff 0x3e 2) ≡ Ok (0x3e ∷ 0x3f ∷ [], None) }
     ensures compressed { section_data small_object (section_of 1 0x802 0x10 14)
-        ≡ Ok (0x1c ∷ 0x1d ∷ [], Some (record {
-          ch_type = 0x13121110;
-          ch_size = 0x17161514;
-          ch_addralign = 0x1b1a1918;
-        })) }
+        ≡ Ok (
+          0x1c ∷ 0x1d ∷ [],
+          Some (record {
+            ch_type = 0x13121110;
+            ch_size = 0x17161514;
+            ch_addralign = 0x1b1a1918;
+          }),
+        ) }
     ensures nobits { section_data small_object (section_of 8 0x800 (2 ^ 64 - 1) 5) ≡ Ok ([], None) }
 {}
 

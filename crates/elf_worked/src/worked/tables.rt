@@ -1,12 +1,5 @@
 //! Tables of records that a user may read.
-#![tactic(
-    auto,
-    unfolding(
-        elf_parts::specs::Number::bytes_at,
-        elf_parts::specs::Number::number_at,
-        elf_parts::specs::Record::numbers_at
-    )
-)]
+#![tactic(auto, unfolding(elf_parts::specs::Number::bytes_at, elf_parts::specs::Number::number_at, elf_parts::specs::Record::numbers_at))]
 
 ghost use Rattle.std.specs.Prelude.{◌≡◌, ◌-◌, ◌^◌, [], ◌∷◌, true, false, Ok, Err};
 ghost use Rattle.elf_parts.specs.Number.{number_at};

@@ -11,16 +11,16 @@ ghost use Rattle.elfshow.specs.calls.Text.{call_text, checked_as, or_refused, sy
 ghost use Rattle.elfshow.specs.calls.Text.{unless_none};
 
 use crate::calls::Call;
+use crate::lines::counted::{write_end, write_records};
 use crate::lines::data::{write_section_data, write_segment_data};
 use crate::lines::dynamic::DynLine;
 use crate::lines::hashes::{Verdict, hash_verdict, write_verdict};
 use crate::lines::header::write_header;
-use crate::lines::counted::{write_end, write_records};
+use crate::lines::no_answer::{write_absent, write_none, write_refused};
 use crate::lines::notes::write_notes;
 use crate::lines::relocations::{RelLine, RelaLine};
 use crate::lines::sections::{SectionLine, write_found};
 use crate::lines::segments::SegmentLine;
-use crate::lines::no_answer::{write_absent, write_none, write_refused};
 use crate::lines::strings::write_strings;
 use crate::lines::symbols::SymbolLine;
 use crate::lines::versions::write_versions;

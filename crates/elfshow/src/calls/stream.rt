@@ -14,16 +14,16 @@ ghost use Rattle.elfshow.specs.inner.RunSteps.{Gives, IsWritten, LeadsTo, RanCal
 ghost use Rattle.elfshow.specs.inner.RunSteps.{section_bytes};
 
 use crate::calls::{Call, Stop};
+use crate::lines::counted::{write_records, write_slice};
 use crate::lines::data::{write_section_data, write_segment_data};
 use crate::lines::dynamic::DynLine;
 use crate::lines::hashes::{Verdict, hash_verdict, write_verdict};
 use crate::lines::header::write_header;
-use crate::lines::counted::{write_records, write_slice};
+use crate::lines::no_answer::{write_absent, write_none, write_refused};
 use crate::lines::notes::write_notes;
 use crate::lines::relocations::{RelLine, RelaLine};
 use crate::lines::sections::{SectionLine, write_found};
 use crate::lines::segments::SegmentLine;
-use crate::lines::no_answer::{write_absent, write_none, write_refused};
 use crate::lines::strings::write_strings;
 use crate::lines::symbols::SymbolLine;
 use crate::lines::versions::write_versions;
