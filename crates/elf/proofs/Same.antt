@@ -20,7 +20,7 @@ use Rattle.elf.specs.StreamFile.{listed_at, listed_file, stream_file}
 use Rattle.elf.specs.Names.{name_index, name_section, name_table}
 use Rattle.elf.specs.ObjectFile.{ObjectFile, object_file, table_of}
 use Rattle.elf.specs.Opening.{header_at_front, opened, section_count, section_table, segment_table, table_bytes}
-use Rattle.elf.specs.Data.{payload}
+use Rattle.elf.specs.Data.{section_data}
 use Rattle.elf.specs.Headers.{section_at, section_range}
 use Rattle.elf.specs.Readers.{AreAlike, SameAnswers}
 use Rattle.elf.specs.ElfStream.{Seen, headers_of, shown_headers}
@@ -111,7 +111,7 @@ module _ (file : ObjectFile) (gives : ℕ → Result SectionHeader ParseError) (
       alike_found (versions_of file chosen) (versions_of (with_sections_at file gives) chosen) chosen.indexes (versions_of_alike chosen)
 
   pub same_answers : SameAnswers file (with_sections_at file gives)
-  unfolding payload
+  unfolding section_data
   same_answers = record {
     segments = refl;
     section_headers = refl;

@@ -6,11 +6,8 @@ use Rattle.elf.specs.Answers.{symbol_version_table}
 use Rattle.elf.specs.Headers.{is_of_type}
 use Rattle.elf.specs.ObjectFile.{ObjectFile}
 use Rattle.elf.specs.Versions.{up_to, version_sections}
-use Rattle.elf.specs.inner.Passes.{with_version_section}
+use Rattle.elf.specs.inner.Passes.{no_version_sections, with_version_section}
 use Rattle.elf.specs.declared.headers.VersionSections.{VersionSections}
-
-abbrev pub no_version_sections : VersionSections
-no_version_sections = record { indexes = None; needs = None; definitions = None }
 
 abbrev pub are_all : VersionSections → Bool
 are_all found = is_some found.indexes && is_some found.needs && is_some found.definitions
@@ -98,7 +95,3 @@ found_as_last found (s ∷ rest) =
 pub found_in_all : (sections : List SectionHeader) → found_in no_version_sections sections ≡ version_sections sections
 unfolding version_sections
 found_in_all sections = found_as_last no_version_sections sections
-
-pub versions_of_none : (file : ObjectFile) → file.sections ≡ [] → symbol_version_table file ≡ Ok None
-unfolding version_sections
-versions_of_none file none = rw none refl

@@ -5,14 +5,13 @@ use Rattle.elf_abi.specs.Values.{pt_dynamic, pt_note, sht_dynamic, sht_dynsym, s
 use Rattle.elf_abi.specs.Values.{sht_rela, sht_strtab, sht_symtab}
 use Rattle.elf_parts.specs.Dynamic.{dyn_layout}
 use Rattle.elf_parts.specs.Note.{NoteContent, notes_in}
-use Rattle.elf_parts.specs.Number.{ok_map}
+use Rattle.elf_parts.specs.Number.{bytes_at, ok_map}
 use Rattle.elf_parts.specs.Record.{◌>>=◌, size_by}
 use Rattle.elf_parts.specs.Relocation.{rel_reads, rela_reads}
 use Rattle.elf_parts.specs.Symbol.{symbol_layout}
 use Rattle.elf_parts.specs.StringTable.{strings_view}
 use Rattle.elf_parts.specs.gnu_symver.Table.{Versions}
 use Rattle.elf_parts.specs.Table.{Table, items_left, table_view}
-use Rattle.elf_parts.specs.declared.compression.CompressionHeader.{CompressionHeader}
 use Rattle.elf_parts.specs.declared.parse.ParseError.{ParseError}
 use Rattle.elf_parts.specs.declared.parse.ParseError.TheVariants.{UnexpectedSegmentType}
 use Rattle.elf_parts.specs.declared.parse.table.ParsingIterator.{ParsingIterator}
@@ -25,8 +24,8 @@ use Rattle.elf_parts.specs.declared.string_table.StringTable.{StringTable}
 use Rattle.elf.specs.Headers.{entry_size, if_found, first_section_of, first_segment_of}
 use Rattle.elf.specs.Names.{has_name, name_table}
 use Rattle.elf.specs.ObjectFile.{ObjectFile, records_of, table_of}
-use Rattle.elf.specs.Data.{content, content_of_type, payload}
-use Rattle.elf.specs.Headers.{section_range, segment_range}
+use Rattle.elf.specs.Data.{content, content_of_type}
+use Rattle.elf.specs.Headers.{section_range}
 use Rattle.elf.specs.Versions.{version_sections, versions_of}
 
 -- ---- parts of answers
@@ -70,6 +69,10 @@ rels_left rels = items_left rel_reads rels
 abbrev pub relas_left : {E : Type 0} → ParsingIterator E Rela → List Rela
 relas_left relas = items_left rela_reads relas
 
+-- the bytes of a segment in the file: p_filesz of them from p_offset on
+abbrev pub segment_data : ObjectFile → ProgramHeader → Result (List ℕ) ParseError
+segment_data file p = bytes_at p.p_filesz file.bytes p.p_offset
+
 -- the dynamic entries of a section
 abbrev pub section_dynamic : ObjectFile → SectionHeader → Result Table ParseError
 section_dynamic file s =
@@ -77,15 +80,12 @@ section_dynamic file s =
 
 -- the dynamic entries of a segment
 abbrev pub segment_dynamic : ObjectFile → ProgramHeader → Result Table ParseError
-segment_dynamic file p = ok_map (table_of file) (segment_range file.bytes p)
+segment_dynamic file p = ok_map (table_of file) (segment_data file p)
 
 -- ---- methods
 
 abbrev pub section_header_by_name : ObjectFile → List ℕ → Result (Option SectionHeader) ParseError
 section_header_by_name file name = ok_map (first_named file.sections name) (name_table file)
-
-abbrev pub section_data : ObjectFile → SectionHeader → Result (List ℕ × Option CompressionHeader) ParseError
-section_data file s = payload file s
 
 abbrev pub section_data_as_strtab : ObjectFile → SectionHeader → Result (List ℕ) ParseError
 section_data_as_strtab file s = content_of_type sht_strtab file s
@@ -99,9 +99,6 @@ section_data_as_relas file s = ok_map (records_of rela_reads file) (content_of_t
 -- the alignment is sh_addralign
 abbrev pub section_data_as_notes : ObjectFile → SectionHeader → Result (List NoteContent) ParseError
 section_data_as_notes file s = ok_map (notes_in file.little s.sh_addralign) (content_of_type sht_note file s)
-
-abbrev pub segment_data : ObjectFile → ProgramHeader → Result (List ℕ) ParseError
-segment_data file p = segment_range file.bytes p
 
 -- the alignment is p_align
 abbrev pub segment_data_as_notes : ObjectFile → ProgramHeader → Result (List NoteContent) ParseError

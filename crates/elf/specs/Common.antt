@@ -28,11 +28,12 @@ pub data CommonPart : Type 0 where
   GnuHash : GnuTable → CommonPart
   Nothing : CommonPart
 
-abbrev pub sysv_hash_of : ObjectFile → SectionHeader → Result SysvTable ParseError
-sysv_hash_of file s = section_range file.bytes s >>= sysv_section file.little file.class
+-- the hash table of a section
+abbrev pub sysv_hash_table_of : ObjectFile → SectionHeader → Result SysvTable ParseError
+sysv_hash_table_of file s = section_range file.bytes s >>= sysv_section file.little file.class
 
-abbrev pub gnu_hash_of : ObjectFile → SectionHeader → Result GnuTable ParseError
-gnu_hash_of file s = section_range file.bytes s >>= gnu_section file.little file.class
+abbrev pub gnu_hash_table_of : ObjectFile → SectionHeader → Result GnuTable ParseError
+gnu_hash_table_of file s = section_range file.bytes s >>= gnu_section file.little file.class
 
 -- by the type of the section: SHT_SYMTAB, SHT_DYNSYM, SHT_DYNAMIC, SHT_HASH or SHT_GNU_HASH
 abbrev pub common_part : ObjectFile → SectionHeader → Result CommonPart ParseError
@@ -40,8 +41,8 @@ common_part file s =
     if s.sh_type == sht_symtab then ok_map Symbols (symbols_of file s)
     else if s.sh_type == sht_dynsym then ok_map DynamicSymbols (symbols_of file s)
     else if s.sh_type == sht_dynamic then ok_map DynamicEntries (section_dynamic file s)
-    else if s.sh_type == sht_hash then ok_map SysvHash (sysv_hash_of file s)
-    else if s.sh_type == sht_gnu_hash then ok_map GnuHash (gnu_hash_of file s)
+    else if s.sh_type == sht_hash then ok_map SysvHash (sysv_hash_table_of file s)
+    else if s.sh_type == sht_gnu_hash then ok_map GnuHash (gnu_hash_table_of file s)
     else Ok Nothing
 
 -- what is in all of the results, or the first refusal

@@ -26,8 +26,8 @@ compressed file part =
 
 -- a section of type SHT_NOBITS has no bytes, and its range is not looked at; else its range, and where its
 -- flags have SHF_COMPRESSED the header at the front of that, and what follows it
-unfoldable pub payload : ObjectFile → SectionHeader → Result (List ℕ × Option CompressionHeader) ParseError
-payload file s =
+unfoldable pub section_data : ObjectFile → SectionHeader → Result (List ℕ × Option CompressionHeader) ParseError
+section_data file s =
     if s.sh_type == sht_nobits then Ok ([], None)
     else section_range file.bytes s >>= λ part.
     if bit_and s.sh_flags shf_compressed == 0 then Ok (part, None)
@@ -35,17 +35,13 @@ payload file s =
 
 -- the bytes in which strings or records of a section are looked for
 abbrev pub content : ObjectFile → SectionHeader → Result (List ℕ) ParseError
-content file s = ok_map (λ found. found.0) (payload file s)
+content file s = ok_map (λ found. found.0) (section_data file s)
 
 -- the same of a section that has to be of a type
 abbrev pub content_of_type : ℕ → ObjectFile → SectionHeader → Result (List ℕ) ParseError
 content_of_type t file s =
     if s.sh_type == t then content file s else Err (UnexpectedSectionType (s.sh_type, t))
 
--- what bytes that are lent show, with a record that stands before them
-abbrev pub front_view : {A : Type 0} → Bor (List ℕ) × A → List ℕ × A
-front_view found = (found.0.now, found.1)
-
--- what the bytes of a section and their header show
-abbrev pub payload_view : Bor (List ℕ) × Option CompressionHeader → List ℕ × Option CompressionHeader
-payload_view found = (found.0.now, found.1)
+-- what borrowed bytes show, with the header in front of them
+abbrev pub data_view : {A : Type 0} → Bor (List ℕ) × A → List ℕ × A
+data_view found = (found.0.now, found.1)

@@ -1,5 +1,5 @@
--- Section i of a file, the bytes that a header gives a range of (gABI, chapters "Sections" and "Program Header"), and
--- which section or segment is taken, where a method looks for one of a type.
+-- Section i of a file and the bytes of its range (gABI, chapter "Sections"), and which section or segment is taken,
+-- where a method looks for one of a type (gABI, chapters "Sections" and "Program Header").
 use Rattle.std.specs.Prelude.{ℕ, List, Option, Some, None, Result, Err, ◌==◌, if◌then◌else◌, Bool, filter, Ok}
 use Rattle.std.specs.List.{find, last_or}
 use Rattle.elf_parts.specs.Number.{bytes_at, ok_map}
@@ -20,10 +20,6 @@ section_at (Some t) i = table_get section_header_reads t i
 -- the bytes of a section: sh_size of them from sh_offset on
 abbrev pub section_range : List ℕ → SectionHeader → Result (List ℕ) ParseError
 section_range bytes s = bytes_at s.sh_size bytes s.sh_offset
-
--- the bytes of a segment in the file: p_filesz of them from p_offset on
-abbrev pub segment_range : List ℕ → ProgramHeader → Result (List ℕ) ParseError
-segment_range bytes p = bytes_at p.p_filesz bytes p.p_offset
 
 -- ---- the first and the last of a type
 

@@ -82,15 +82,15 @@ dynamic_asked file =
     else if_there segment_asked (first_segment_of pt_dynamic file.segments)
 
 -- a section, and the one that it links to
-abbrev pub Linked : Type 0
-Linked = SectionHeader × SectionHeader
+abbrev pub LinkedSections : Type 0
+LinkedSections = SectionHeader × SectionHeader
 
-abbrev pub with_link : ObjectFile → SectionHeader → Result Linked ParseError
+abbrev pub with_link : ObjectFile → SectionHeader → Result LinkedSections ParseError
 with_link file s = file.section_at s.sh_link >>= λ linked. Ok (s, linked)
 
 -- the section of version indexes, and those of the needs and of the definitions with the ones that they link to
 abbrev pub VersionPlan : Type 0
-VersionPlan = SectionHeader × Option Linked × Option Linked
+VersionPlan = SectionHeader × Option LinkedSections × Option LinkedSections
 
 abbrev pub version_plan_of : ObjectFile → VersionSections → SectionHeader → Result VersionPlan ParseError
 version_plan_of file chosen s =

@@ -13,13 +13,15 @@ use Rattle.elf_parts.specs.declared.compression.CompressionHeader.{CompressionHe
 use Rattle.elf_parts.specs.declared.file.FileHeader.{FileHeader}
 use Rattle.elf_parts.specs.declared.relocation.Rel.{Rel}
 use Rattle.elf_parts.specs.declared.relocation.Rela.{Rela}
-use Rattle.elf.specs.Answers.{dynamic, dynamic_symbol_table, section_data}
+use Rattle.elf.specs.Answers.{dynamic, dynamic_symbol_table}
+use Rattle.elf.specs.Data.{section_data}
 use Rattle.elf.specs.Answers.{section_data_as_notes, section_data_as_relas, section_data_as_rels}
 use Rattle.elf.specs.Answers.{section_data_as_strtab, section_header_by_name, segment_data}
 use Rattle.elf.specs.Answers.{segment_data_as_notes, symbol_table, symbol_version_table}
 use Rattle.elf.specs.Names.{name_table, headers_with_names}
 use Rattle.elf.specs.ObjectFile.{ObjectFile, object_file}
 use Rattle.elf.specs.Answers as methods
+use Rattle.elf.specs.Data as contents
 use Rattle.elf.specs.Ranges.{dynamic_asked, headers_alone, names_asked, section_asked, segment_asked}
 use Rattle.elf.specs.Ranges.{segment_notes_asked, symbols_asked, typed_section_asked, versions_asked}
 use Rattle.elf.specs.StreamFile.{stream_file}
@@ -94,7 +96,7 @@ Shown SymbolVersionTable = Option Versions
 abbrev pub answer : (m : Method) → ObjectFile → Result (Shown m) ParseError
 answer SectionHeadersWithStrtab file = headers_with_names file
 answer (SectionHeaderByName name) file = methods.section_header_by_name file name
-answer (SectionData s) file = methods.section_data file s
+answer (SectionData s) file = contents.section_data file s
 answer (SectionDataAsStrtab s) file = methods.section_data_as_strtab file s
 answer (SectionDataAsRels s) file = methods.section_data_as_rels file s
 answer (SectionDataAsRelas s) file = methods.section_data_as_relas file s

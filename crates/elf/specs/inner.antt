@@ -1,5 +1,6 @@
 pub mod Passes
 pub mod Plans
+pub mod Tables
 pub mod Piece
 pub mod Opened
 pub mod Loads

@@ -3,16 +3,17 @@ ghost use Rattle.std.specs.Prelude.{◌≡◌, ◌≤◌, IfOk, length};
 ghost use Rattle.std.specs.Option.{option_map};
 ghost use Rattle.elf_parts.specs.Number.{bytes_at, ok_map};
 ghost use Rattle.elf_parts.specs.Table.{table_view};
-ghost use Rattle.elf.specs.Opening.{first_section, header_at_front, opened, section_count, section_table};
-ghost use Rattle.elf.specs.Opening.{segment_count, segment_table, table_bytes};
+ghost use Rattle.elf.specs.Opening.{first_section, header_at_front, opened, table_bytes};
+ghost use Rattle.elf.specs.inner.Tables.{declared_count, declared_table};
 ghost use Rattle.elf.specs.ElfBytes.{view};
 
+use crate::tables::DeclaredTable;
 use elf_abi::abi;
 use elf_parts::endian::EndianParse;
 use elf_parts::file::{Class, ELF32_EHDR_TAILSIZE, ELF64_EHDR_TAILSIZE, FileHeader, parse_ident};
-use elf_parts::parse::{ParseAt, ParseError};
+use elf_parts::parse::{ParseAt, ParseError, ParsingTable};
 use elf_parts::section::{SectionHeader, SectionHeaderTable};
-use elf_parts::segment::{ProgramHeader, SegmentTable};
+use elf_parts::segment::SegmentTable;
 
 mod common;
 mod data;
@@ -74,26 +75,19 @@ fn first_section<E: EndianParse>(
     SectionHeader::parse_at(ehdr.endianness, ehdr.class, &mut offset, data)
 }
 
-fn section_count<E: EndianParse>(ehdr: &FileHeader<E>, data: &[u8]) -> Result<usize, ParseError>
-    ensures { result ≡ section_count E.little ehdr.now «data».now }
+// How many records a table has.
+fn record_count<E: EndianParse>(
+    ehdr: &FileHeader<E>,
+    data: &[u8],
+    table: DeclaredTable,
+) -> Result<usize, ParseError>
+    ensures { result ≡ declared_count E.little ehdr.now table «data».now }
 {
-    if ehdr.e_shnum == 0 {
-        let first = first_section(ehdr, data)?;
-        Ok(first.sh_size as usize)
-    } else {
-        Ok(ehdr.e_shnum as usize)
+    if table.count != table.extended {
+        return Ok(table.count as usize);
     }
-}
-
-fn segment_count<E: EndianParse>(ehdr: &FileHeader<E>, data: &[u8]) -> Result<usize, ParseError>
-    ensures { result ≡ segment_count E.little ehdr.now «data».now }
-{
-    if ehdr.e_phnum == abi::PN_XNUM {
-        let first = first_section(ehdr, data)?;
-        Ok(first.sh_info as usize)
-    } else {
-        Ok(ehdr.e_phnum as usize)
-    }
+    let first = first_section(ehdr, data)?;
+    Ok(table.word.count_in(&first) as usize)
 }
 
 // The bytes of so many records at an offset, whose size the file header gives as entsize.
@@ -113,58 +107,34 @@ fn table_bytes<'data, P: ParseAt>(
     get_bytes(data, offset as usize, length)
 }
 
-#[tactic(auto, unfolding(crate::specs::Opening::section_table))]
-fn find_shdrs<'data, E: EndianParse>(
+// A table of headers; none where the file declares none.
+fn find_table<'data, E: EndianParse, P: ParseAt>(
     ehdr: &FileHeader<E>,
     data: &'data [u8],
-) -> Result<Option<SectionHeaderTable<'data, E>>, ParseError>
-    ensures { ok_map (option_map table_view) result ≡ section_table E.little ehdr.now «data».now }
+    table: DeclaredTable,
+) -> Result<Option<ParsingTable<'data, E, P>>, ParseError>
+    ensures { ok_map (option_map table_view) result
+        ≡ declared_table E.little ehdr.now (P.reads.size ehdr.now.class) table «data».now }
 {
-    if ehdr.e_shoff == 0 {
+    if table.offset == 0 {
         return Ok(None);
     }
-    let count = section_count(ehdr, data)?;
-    let bytes = table_bytes::<SectionHeader>(
-        ehdr.class,
-        ehdr.e_shentsize,
-        count,
-        ehdr.e_shoff,
-        data,
-    )?;
-    Ok(Some(SectionHeaderTable::new(ehdr.endianness, ehdr.class, bytes)))
-}
-
-#[tactic(auto, unfolding(crate::specs::Opening::segment_table))]
-fn find_phdrs<'data, E: EndianParse>(
-    ehdr: &FileHeader<E>,
-    data: &'data [u8],
-) -> Result<Option<SegmentTable<'data, E>>, ParseError>
-    ensures { ok_map (option_map table_view) result ≡ segment_table E.little ehdr.now «data».now }
-{
-    if ehdr.e_phoff == 0 {
-        return Ok(None);
-    }
-    let count = segment_count(ehdr, data)?;
-    let bytes = table_bytes::<ProgramHeader>(
-        ehdr.class,
-        ehdr.e_phentsize,
-        count,
-        ehdr.e_phoff,
-        data,
-    )?;
-    Ok(Some(SegmentTable::new(ehdr.endianness, ehdr.class, bytes)))
+    let count = record_count(ehdr, data, table)?;
+    let bytes = table_bytes::<P>(ehdr.class, table.entsize, count, table.offset, data)?;
+    Ok(Some(ParsingTable::new(ehdr.endianness, ehdr.class, bytes)))
 }
 
 impl<'data, E: EndianParse> ElfBytes<'data, E> {
     /// Opens a file: reads its header and finds its two tables (gABI, chapters "ELF Header", "Sections"
     /// and "Program Header"). Refuses at the first of these that is not as it must be: the
     /// identification, the tail of the header, the section headers, the program headers.
+    #[tactic(auto, unfolding(crate::specs::Opening::section_table, crate::specs::Opening::segment_table))]
     pub fn minimal_parse(data: &'data [u8]) -> Result<Self, ParseError>
         ensures { ok_map view result ≡ opened E.little E.of_byte «data».now }
     {
         let ehdr = parse_ehdr(data)?;
-        let shdrs = find_shdrs(&ehdr, data)?;
-        let phdrs = find_phdrs(&ehdr, data)?;
+        let shdrs = find_table(&ehdr, data, DeclaredTable::of_sections(&ehdr))?;
+        let phdrs = find_table(&ehdr, data, DeclaredTable::of_segments(&ehdr))?;
         Ok(ElfBytes {
             ehdr,
             data,

@@ -1,11 +1,106 @@
 //! What both readers choose among the headers of a file.
-ghost use Rattle.std.specs.Prelude.{◌≡◌, ◌&&◌, is_some};
+ghost use Rattle.std.specs.Prelude.{◌≡◌, ◌&&◌, IfErr, is_some};
 ghost use Rattle.elf_parts.specs.StringTable.{strings_view};
-ghost use Rattle.elf.specs.Names.{has_name};
+ghost use Rattle.elf.specs.Answers.{symbol_sections, with_linked};
+ghost use Rattle.elf.specs.ElfStream.{Kind, kind};
+ghost use Rattle.elf.specs.Headers.{first_section_of, first_segment_of};
+ghost use Rattle.elf.specs.Names.{has_name, name_index, name_section};
+ghost use Rattle.elf.specs.ObjectFile.{ObjectFile};
+ghost use Rattle.elf.specs.Versions.{version_sections};
 
 use elf_abi::abi;
+use elf_parts::file::Class;
+use elf_parts::parse::{ParseAt, ParseError};
 use elf_parts::section::SectionHeader;
+use elf_parts::segment::ProgramHeader;
 use elf_parts::string_table::StringTable;
+use elf_parts::symbol::Symbol;
+
+/// A section, and the one that it links to.
+pub(crate) type LinkedSections = (SectionHeader, SectionHeader);
+
+/// The headers of a file, wherever its reader keeps them. To choose among them takes no byte of the file: neither a
+/// source nor memory is needed.
+pub(crate) trait Headers {
+    // The object file that they are the headers of.
+    ghost file: { Self → ObjectFile };
+
+    /// The class of the file header as it stands.
+    fn class(&self) -> Class
+        ensures { result ≡ (file self.now).class };
+
+    /// Its `e_shstrndx`.
+    fn e_shstrndx(&self) -> u16
+        ensures { result ≡ (file self.now).e_shstrndx };
+
+    /// Whether the file declares a table of section headers.
+    fn declares_sections(&self) -> bool
+        ensures { result ≡ (file self.now).has_sections };
+
+    /// A section header by its index.
+    fn section_at(&self, index: usize) -> Result<SectionHeader, ParseError>
+        ensures value { result ≡ (file self.now).section_at index }
+        ensures plain { IfErr result (λ e. kind e ≡ Kind.Refusal) };
+
+    /// The first section of a type.
+    fn first_section_of(&self, sh_type: u32) -> Option<SectionHeader>
+        ensures { result ≡ first_section_of sh_type (file self.now).sections };
+
+    /// The first segment of a type.
+    fn first_segment_of(&self, p_type: u32) -> Option<ProgramHeader>
+        ensures { result ≡ first_segment_of p_type (file self.now).segments };
+
+    /// The last sections of the three types of versions, up to the first one by which all of them were seen.
+    fn version_sections(&self) -> VersionSections
+        ensures { result ≡ version_sections (file self.now).sections };
+
+    /// Which section holds the names of the sections.
+    fn name_index(&self) -> Result<usize, ParseError>
+        ensures value { result ≡ name_index (file self.now) }
+        ensures plain { IfErr result (λ e. kind e ≡ Kind.Refusal) }
+    {
+        if self.e_shstrndx() == abi::SHN_XINDEX {
+            let first = self.section_at(0)?;
+            Ok(first.sh_link as usize)
+        } else {
+            Ok(self.e_shstrndx() as usize)
+        }
+    }
+
+    /// The section that holds them; none where the file declares none.
+    #[tactic(auto, unfolding(crate::specs::Names::name_section))]
+    fn name_section(&self) -> Result<Option<SectionHeader>, ParseError>
+        ensures value { result ≡ name_section (file self.now) }
+        ensures plain { IfErr result (λ e. kind e ≡ Kind.Refusal) }
+    {
+        if !self.declares_sections() || self.e_shstrndx() == abi::SHN_UNDEF {
+            return Ok(None);
+        }
+        let index = self.name_index()?;
+        self.section_at(index).map(Some)
+    }
+
+    /// A section of symbols, with the section of their strings, which it links to.
+    fn with_linked(&self, shdr: &SectionHeader) -> Result<LinkedSections, ParseError>
+        ensures value { result ≡ with_linked (file self.now) shdr.now }
+        ensures plain { IfErr result (λ e. kind e ≡ Kind.Refusal) }
+    {
+        let linked = self.section_at(shdr.sh_link as usize)?;
+        Symbol::validate_entsize(self.class(), shdr.sh_entsize as usize)?;
+        Ok((*shdr, linked))
+    }
+
+    /// The first section of a type of symbols, with the section that it links to.
+    fn symbol_sections(&self, sh_type: u32) -> Result<Option<LinkedSections>, ParseError>
+        ensures value { result ≡ symbol_sections sh_type (file self.now) }
+        ensures plain { IfErr result (λ e. kind e ≡ Kind.Refusal) }
+    {
+        match self.first_section_of(sh_type) {
+            Some(shdr) => self.with_linked(&shdr).map(Some),
+            None => Ok(None),
+        }
+    }
+}
 
 // The sections that the versions of symbols stand in.
 #[derive(Copy, Clone)]
@@ -16,7 +111,18 @@ pub(crate) struct VersionSections {
 }
 
 impl VersionSections {
-    ghost use Rattle.elf.specs.inner.Passes.{with_version_section};
+    ghost use Rattle.elf.specs.inner.Passes.{no_version_sections, with_version_section};
+
+    // None of them yet.
+    pub(crate) fn none() -> Self
+        ensures { result ≡ no_version_sections }
+    {
+        VersionSections {
+            indexes: None,
+            needs: None,
+            definitions: None,
+        }
+    }
 
     // The same with one more section, in the place of an earlier one of its type.
     pub(crate) fn with(mut self, shdr: SectionHeader) -> Self

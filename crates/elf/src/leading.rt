@@ -1,7 +1,7 @@
 //! A record at the front of some bytes.
 ghost use Rattle.std.specs.Prelude.{◌≡◌, ◌≤◌, IfOk, length};
 ghost use Rattle.elf_parts.specs.Number.{ok_map};
-ghost use Rattle.elf.specs.Data.{at_front, front_view};
+ghost use Rattle.elf.specs.Data.{at_front, data_view};
 
 use elf_parts::endian::EndianParse;
 use elf_parts::file::Class;
@@ -13,7 +13,7 @@ pub(crate) fn leading_record<'data, E: EndianParse, P: ParseAt + Drop>(
     class: Class,
     data: &'data [u8],
 ) -> Result<(&'data [u8], P), ParseError>
-    ensures value { ok_map front_view result
+    ensures value { ok_map data_view result
         ≡ at_front (P.reads.size class) (P.reads.record_at (E.little endian) class) «data».now }
     ensures within { IfOk result (λ found. length found.0.now ≤ length «data».now) }
 {

@@ -15,6 +15,7 @@ mod headers;
 mod leading;
 pub mod readers;
 mod source;
+mod tables;
 
 pub use elf_bytes::{CommonElfData, ElfBytes};
 pub use elf_stream::ElfStream;

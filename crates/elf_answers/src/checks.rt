@@ -14,8 +14,8 @@ use std::io;
 use std::str::SplitWhitespace;
 
 /// `check KIND ORDER CLASS SECTION SYMBOLS STRINGS LEAST MOST NAME..`: how many symbols the section indexes and what it
-/// finds for each name where it is sound, what it lacks where it is not, or why it is refused; and whether from LEAST to
-/// MOST symbols were read for it.
+/// finds for each name where it is sound, what it lacks where it is not, or why it is refused; and whether from LEAST
+/// to MOST symbols were read for it.
 /// `verdict ..`: the same without what the section lacks, where that is several things.
 pub(crate) fn show_check(
     rt: &HostRuntime,
@@ -46,8 +46,8 @@ pub(crate) fn show_check(
     show_reads(rt, reads?, least, most)
 }
 
-/// `all KIND ORDER CLASS SECTION SYMBOLS STRINGS NAME..`: the index and the value of each indexed symbol of each name, in
-/// the order in which they are found, where the section is sound.
+/// `all KIND ORDER CLASS SECTION SYMBOLS STRINGS NAME..`: the index and the value of each indexed symbol of each name,
+/// in the order in which they are found, where the section is sound.
 pub(crate) fn show_all(rt: &HostRuntime, words: &mut Words<'_>) -> io::Result<()> {
     let kind = words.word();
     let order = words.order();

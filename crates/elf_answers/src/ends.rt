@@ -17,8 +17,9 @@ use elf_parts::note::NoteIterator;
 use std::io;
 
 /// `ends KIND ORDER CLASS COUNT BYTES`: whether the iterator over the bytes from each place on gives no more items than
-/// bytes, and no more linked records than the count, and then `None` three times. Of notes the count is the alignment, of
-/// records of a table it is not looked at. Linked records are also looked for at the greatest offset, where there is none.
+/// bytes, and no more linked records than the count, and then `None` three times. Of notes the count is the alignment,
+/// of records of a table it is not looked at. Linked records are also looked for at the greatest offset, where there is
+/// none.
 pub(crate) fn show_ends(rt: &HostRuntime, words: &mut Words<'_>) -> io::Result<()> {
     let kind = words.word();
     let order = words.order();

@@ -10,7 +10,8 @@ use Rattle.elf_parts.specs.declared.parse.table.ParsingTable.{ParsingTable}
 use Rattle.elf_parts.specs.declared.section.SectionHeader.{SectionHeader}
 use Rattle.elf_parts.specs.declared.string_table.StringTable.{StringTable}
 use Rattle.elf_parts.specs.declared.symbol.Symbol.{Symbol}
-use Rattle.elf.specs.Answers.{dynamic_symbol_table, section_data, symbols_view}
+use Rattle.elf.specs.Answers.{dynamic_symbol_table, symbols_view}
+use Rattle.elf.specs.Data.{section_data}
 use Rattle.elf.specs.Headers.{first_section_of}
 use Rattle.elf.specs.ObjectFile.{ObjectFile}
 use Rattle.elf_check.specs.Object.{IsSound, IsTrueOf, Object, object_in}

@@ -2,3 +2,5 @@
 pub mod SoundProps
 -- where the run of a chain word begins
 pub mod GnuRun
+-- whether a hash section is sound, decided
+pub mod Decisions

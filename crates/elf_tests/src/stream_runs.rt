@@ -34,8 +34,9 @@ fn done_of(stopped: &Result<(), RunError>, all: usize) -> Option<usize> {
     }
 }
 
-/// Runs calls over a source that fails behind so many of its calls: the whole text is written, or a fault tells how many
-/// calls were done and just their text is written. Tells whether there was a fault, and none where the opening failed.
+/// Runs calls over a source that fails behind so many of its calls: the whole text is written, or a fault tells how
+/// many calls were done and just their text is written. Tells whether there was a fault, and none where the opening
+/// failed.
 fn faults_behind(
     rt: &(impl Abort + AllocGlobal),
     data: &[u8],

@@ -528,7 +528,8 @@ const BEYOND_NAMES: SectionHeader = SectionHeader {
 
 type Counted<'a> = ElfStream<AnyEndian, Metered<'a>, Global>;
 
-/// Asserts the bytes of a section, and tells how many calls of the source there were for them and how many bytes it gave.
+/// Asserts the bytes of a section, and tells how many calls of the source there were for them and how many bytes it
+/// gave.
 fn taken_for(
     rt: &(impl Abort + AllocGlobal),
     stream: &mut Counted<'_>,
@@ -786,8 +787,8 @@ fn is_starved(
     Ok(first == Answer::Starved)
 }
 
-/// How many of the opening and the calls with no header are refused while no memory is left. To take all memory and give it
-/// back costs a tenth of a second and more, so not all calls are tried.
+/// How many of the opening and the calls with no header are refused while no memory is left. To take all memory and
+/// give it back costs a tenth of a second and more, so not all calls are tried.
 fn starved_calls(rt: &(impl Abort + AllocGlobal), bytes: &[u8]) -> Result<usize, Fail> {
     let file = ElfBytes::minimal_parse(bytes)?;
     let calls_left = Cell::new(u64::MAX);

@@ -25,9 +25,11 @@ use Rattle.elf_uses.specs.declared.resolver.TablesError.TheVariants.{Fault, Memo
 abbrev pub library : {E : Type 0} → (E → Bool) → ElfBytes E → Option (Result Object ObjectFault)
 library little file = object_of (object_file little (view file))
 
-module _ {E : Type 0} {order : EndianGhosts E} {default : DefaultGhosts E} {equal : PartialEqGhosts E} (little : E → Bool) where
+module _ {E : Type 0} {order : EndianGhosts E} {default : DefaultGhosts E} {equal : PartialEqGhosts E}
+    (little : E → Bool) where
   -- the table is that of the library
-  abbrev pub IsTable : ElfBytes E → HashKind (CheckedSysvHash E order default equal) (CheckedGnuHash E order default equal) → Type 0
+  abbrev pub IsTable : ElfBytes E →
+      HashKind (CheckedSysvHash E order default equal) (CheckedGnuHash E order default equal) → Type 0
   IsTable file table = IsSomeAnd (library little file) (λ object. IsTableOf object_view object table)
 
   -- table k is that of library k, and there are no others
@@ -35,7 +37,8 @@ module _ {E : Type 0} {order : EndianGhosts E} {default : DefaultGhosts E} {equa
       List (HashKind (CheckedSysvHash E order default equal) (CheckedGnuHash E order default equal)) → Type 0
   AreTables files tables =
       (length tables ≡ length files)
-      × ((k : ℕ) → k < length files → IfSome (slice_get files k) (λ file. IsSomeAnd (slice_get tables k) (IsTable file)))
+      × ((k : ℕ) → k < length files →
+      IfSome (slice_get files k) (λ file. IsSomeAnd (slice_get tables k) (IsTable file)))
 
 module _ {E : Type 0} (little : E → Bool) where
   -- the library has a sound hash section
@@ -72,4 +75,5 @@ module _ {C : Type 0} (view : C → Object) (tables : List C) (name : List ℕ) 
   -- the least place whose object defines the name, with what is found there; or that no object defines it
   abbrev pub IsDefinition : Option (ℕ × ℕ × Symbol) → Type 0
   IsDefinition None = UndefinedBefore (length tables)
-  IsDefinition (Some found) = At view tables name found.0 (λ object. Defines name object (found.1, found.2)) × UndefinedBefore found.0
+  IsDefinition (Some found) =
+      At view tables name found.0 (λ object. Defines name object (found.1, found.2)) × UndefinedBefore found.0

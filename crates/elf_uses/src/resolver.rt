@@ -53,8 +53,8 @@ pub fn tables<'data, E: EndianParse>(
     Ok(tables)
 }
 
-/// The first library that defines the name, with the index of its symbol and the symbol. A library that has the name as an
-/// undefined symbol is passed over, as those are that do not have it.
+/// The first library that defines the name, with the index of its symbol and the symbol. A library that has the name as
+/// an undefined symbol is passed over, as those are that do not have it.
 pub fn definition<E: EndianParse>(
     tables: &[AnyChecked<'_, E>],
     name: &[u8],

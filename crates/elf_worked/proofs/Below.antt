@@ -2,7 +2,7 @@
 use Rattle.std.proofs.Common.{◌≡◌, ◌≢◌, ℕ, zero, suc, ◌<◌, ◌++◌, codes, Some, refl, inl, inr, arith}
 use Rattle.std.specs.Fmt.{decimal}
 use Rattle.elfshow.specs.Verdicts.{verdict}
-use Rattle.elfshow.specs.inner.Decisions.{Decided}
+use Rattle.elf_check.specs.inner.Decisions.{Decided}
 use Rattle.elfshow.specs.lines.Hashes.{verdict_line}
 
 pub below_one : (P : ℕ → Type 0) → P 0 → (i : ℕ) → i < 1 → P i

@@ -28,7 +28,8 @@ pub even_byte_some : (class : Class) → 1 ≤ even_byte_size class
 even_byte_some class = lit≤ tt
 
 -- what is read is the number of the byte there
-read_number : (little : Bool) (class : Class) (bytes : List ℕ) (o : ℕ) (x : EvenByte) → even_byte_at little class bytes o ≡ Ok x → (n : ℕ) × (number_at little 1 bytes o ≡ Ok n) × (even_byte n ≡ x)
+read_number : (little : Bool) (class : Class) (bytes : List ℕ) (o : ℕ) (x : EvenByte) →
+    even_byte_at little class bytes o ≡ Ok x → (n : ℕ) × (number_at little 1 bytes o ≡ Ok n) × (even_byte n ≡ x)
 read_number little class bytes o x e = ok_map-ok even_byte (number_at little 1 bytes o) x (grind (arith, common_steps))
 
 pub even_byte_within : ReadsWithin even_byte_size even_byte_at even_byte_end

@@ -64,5 +64,7 @@ short_chain name = sysv_index (word 1 ++ word 1 ++ word 2 ++ word 0) name
 -- header when it is asked
 unfoldable pub gnu_finds : ℕ → ℕ → ℕ → List ℕ → Result (Option ℕ) ParseError
 gnu_finds shift nbloom first name =
-    index_of (gnu_section true ELF32 (word 1 ++ word 1 ++ word 1 ++ word shift ++ (0x40 ∷ 0 ∷ 1 ∷ 0 ∷ []) ++ word 1 ++ (7 ∷ 0xb6 ∷ 2 ∷ 0 ∷ [])) >>= λ t.
-    gnu_find (record t { hdr = record t.hdr { nbloom = nbloom; table_start_idx = first } }) (table_in true ELF32 (symbol 0 ++ symbol 6)) strings name)
+    index_of (gnu_section true ELF32 (word 1 ++ word 1 ++ word 1 ++ word shift
+    ++ (0x40 ∷ 0 ∷ 1 ∷ 0 ∷ []) ++ word 1 ++ (7 ∷ 0xb6 ∷ 2 ∷ 0 ∷ [])) >>= λ t.
+    gnu_find (record t { hdr = record t.hdr { nbloom = nbloom; table_start_idx = first } })
+    (table_in true ELF32 (symbol 0 ++ symbol 6)) strings name)

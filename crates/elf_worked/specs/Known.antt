@@ -73,7 +73,12 @@ two_table = table_in true ELF32 (null_section (zeros 4) ++ names_section (in_fou
 
 -- what it shows, and with another e_shstrndx in the standing header
 abbrev pub two_view_with : ℕ → View AnyEndian
-two_view_with shstrndx = record { ehdr = two_header_with shstrndx; bytes = two_sections; sections = Some two_table; segments = None }
+two_view_with shstrndx = record {
+  ehdr = two_header_with shstrndx;
+  bytes = two_sections;
+  sections = Some two_table;
+  segments = None;
+}
 
 abbrev pub two_view : View AnyEndian
 two_view = two_view_with 1

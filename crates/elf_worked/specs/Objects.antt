@@ -10,7 +10,14 @@ use Rattle.elf_worked.specs.Files.{counted}
 
 -- a symbol with this st_info and this st_other
 abbrev pub symbol_with : ℕ → ℕ → Symbol
-symbol_with info other = record { st_name = 0; st_value = 0; st_size = 0; st_info = info; st_other = other; st_shndx = 0 }
+symbol_with info other = record {
+  st_name = 0;
+  st_value = 0;
+  st_size = 0;
+  st_info = info;
+  st_other = other;
+  st_shndx = 0;
+}
 
 -- a section of this type, with these flags, of so many bytes from the offset on
 abbrev pub section_of : ℕ → ℕ → ℕ → ℕ → SectionHeader
@@ -29,7 +36,10 @@ section_of type flags offset size = record {
 
 -- the same that links to a section and has records of a size
 abbrev pub linked_section_of : ℕ → ℕ → ℕ → ℕ → ℕ → SectionHeader
-linked_section_of type offset size link entsize = record (section_of type 0 offset size) { sh_link = link; sh_entsize = entsize }
+linked_section_of type offset size link entsize = record (section_of type 0 offset size) {
+  sh_link = link;
+  sh_entsize = entsize;
+}
 
 -- sections of version indexes, of needs and of definitions, at different offsets
 abbrev pub indexes_at : ℕ → SectionHeader

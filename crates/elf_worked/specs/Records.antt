@@ -12,11 +12,17 @@ word_reads = by_layout word_layout refl
 
 -- three bytes: a number of one, and a number of two behind it
 abbrev pub three_byte_layout : Layout (ℕ × ℕ)
-three_byte_layout = record { fields = λ _. field 0 1 ∷ field 1 2 ∷ []; make = λ _ n. (slice_index n 0, slice_index n 1) }
+three_byte_layout = record {
+  fields = λ _. field 0 1 ∷ field 1 2 ∷ [];
+  make = λ _ n. (slice_index n 0, slice_index n 1);
+}
 
 abbrev pub three_byte_reads : RecordType (ℕ × ℕ)
 three_byte_reads = by_layout three_byte_layout refl
 
 -- two numbers of two bytes, the first of which has to be 1
 abbrev pub versioned_layout : Layout (ℕ × ℕ)
-versioned_layout = record { fields = λ _. version_field 0 2 1 ∷ field 2 2 ∷ []; make = λ _ n. (slice_index n 0, slice_index n 1) }
+versioned_layout = record {
+  fields = λ _. version_field 0 2 1 ∷ field 2 2 ∷ [];
+  make = λ _ n. (slice_index n 0, slice_index n 1);
+}

@@ -3,7 +3,7 @@ use Rattle.std.proofs.Common.{refl, map, ◌≡◌, ℕ, ◌+◌, List, [], ◌�
 use Rattle.std.proofs.lemmas.List.{append-nil, length-map}
 use Rattle.std.specs.Result.{OnOk}
 use Rattle.std.specs.Iterator.{Drains, YieldsFirst, YieldsFirstBy}
-use Rattle.elfshow.specs.lines.Listed.{end_line, listed, numbered}
+use Rattle.elfshow.specs.lines.Counted.{end_line, counted_lines, numbered}
 
 pub numbered_more : {X : Type 0} (line : ℕ → X → List ℕ) (k : ℕ) (xs : List X) (x : X) → numbered line k (xs ++ x ∷ []) ≡ numbered line k xs ++ line (k + length xs) x
 numbered_more line k [] x = let here : k ≡ k + 0 = omega arith in append-nil (line k x) ∙ ap (λ n. line n x) here
@@ -32,10 +32,10 @@ numbered_by : {A B : Type 0} (view : A → B) (line : ℕ → B → List ℕ) (k
 numbered_by view line k [] = refl
 numbered_by view line k (x ∷ xs) = ap (λ (t : List ℕ). line k (view x) ++ t) (numbered_by view line (k + 1) xs)
 
-pub listed_by : {A B : Type 0} (view : A → B) (line : ℕ → B → List ℕ) (xs : List A) → listed (λ n x. line n (view x)) xs ≡ listed line (map view xs)
-listed_by view line xs = ap (λ n. numbered (λ n x. line n (view x)) 0 xs ++ end_line n) (sym (length-map xs view)) ∙ ap (λ (t : List ℕ). t ++ end_line (length (map view xs))) (numbered_by view line 0 xs)
+pub counted_by : {A B : Type 0} (view : A → B) (line : ℕ → B → List ℕ) (xs : List A) → counted_lines (λ n x. line n (view x)) xs ≡ counted_lines line (map view xs)
+counted_by view line xs = ap (λ n. numbered (λ n x. line n (view x)) 0 xs ++ end_line n) (sym (length-map xs view)) ∙ ap (λ (t : List ℕ). t ++ end_line (length (map view xs))) (numbered_by view line 0 xs)
 
 -- so the text of the items that it gave is the text of that list
-pub given_by : {S A B T E : Type 0} (view : A → B) (rest : S → List B) (line : ℕ → B → List ℕ) (s : S) (P : List ℕ → Type 0) (r : Result T E) → OnOk r ((xs : List A) × Drains (YieldsFirstBy view rest) s xs × P (listed (λ n x. line n (view x)) xs)) → OnOk r (P (listed line (rest s)))
-given_by view rest line s P (Ok x) (xs, drains, holds) = subst P (listed_by view line xs ∙ ap (λ ys. listed line ys) (drained_by view rest s xs drains)) holds
+pub given_by : {S A B T E : Type 0} (view : A → B) (rest : S → List B) (line : ℕ → B → List ℕ) (s : S) (P : List ℕ → Type 0) (r : Result T E) → OnOk r ((xs : List A) × Drains (YieldsFirstBy view rest) s xs × P (counted_lines (λ n x. line n (view x)) xs)) → OnOk r (P (counted_lines line (rest s)))
+given_by view rest line s P (Ok x) (xs, drains, holds) = subst P (counted_by view line xs ∙ ap (λ ys. counted_lines line ys) (drained_by view rest s xs drains)) holds
 given_by view rest line s P (Err e) h = tt

@@ -3,31 +3,32 @@ use Rattle.std.proofs.Common.{◌≡◌, ℕ, Bool, List, [], ◌∷◌, ◌++�
 use Rattle.std.specs.Prelude.{slice_get}
 use Rattle.std.specs.Option.{option_map}
 use Rattle.std.specs.Result.{result_ok}
-use Rattle.elf_parts.specs.GnuFind.{gnu_section}
 use Rattle.elf_parts.specs.Number.{ok_map}
 use Rattle.elf_parts.specs.Record.{◌>>=◌}
-use Rattle.elf_parts.specs.SysvFind.{sysv_section}
+use Rattle.elf_parts.specs.Table.{Table}
+use Rattle.elf_parts.specs.declared.file.Class.{Class}
 use Rattle.elf_parts.specs.declared.file.FileHeader.{FileHeader}
 use Rattle.elf_parts.specs.declared.parse.ParseError.{ParseError}
 use Rattle.elf_parts.specs.declared.section.SectionHeader.{SectionHeader}
 use Rattle.elf_parts.specs.declared.segment.ProgramHeader.{ProgramHeader}
 use Rattle.elf_parts.specs.declared.compression.CompressionHeader.{CompressionHeader}
-use Rattle.elf.specs.Answers.{dynamic, dynamic_symbol_table, section_data, section_data_as_notes, section_data_as_relas, section_data_as_rels, section_data_as_strtab, section_header_by_name, segment_data, segment_data_as_notes, symbol_table, symbol_version_table}
+use Rattle.elf.specs.Answers.{dynamic, dynamic_symbol_table, section_data_as_notes, section_data_as_relas, section_data_as_rels, section_data_as_strtab, section_header_by_name, segment_data, segment_data_as_notes, symbol_table, symbol_version_table}
+use Rattle.elf.specs.Data.{section_data}
 use Rattle.elf.specs.Names.{name_table}
 use Rattle.elf.specs.StreamFile.{stream_file}
 use Rattle.elf.specs.ObjectFile.{ObjectFile, object_file}
 use Rattle.elf.specs.Readers.{AreAlike, SameAnswers}
 use Rattle.elf.specs.ElfStream.{Seen, headers_of, shown_headers}
 use Rattle.elf.specs.ElfBytes.{View}
-use Rattle.elf_check.specs.WithSymbols.{WithSymbols}
-use Rattle.elfshow.specs.Verdicts.{gnu_verdict, sysv_verdict}
-use Rattle.elfshow.specs.calls.Question.{Question, Header, Sections, Segments, Name, Data, Strings, Rels, Relas, Notes, Seg, SegNotes, Symbols, DynSyms, Dynamic, Versions, Sysv, Gnu}
-use Rattle.elfshow.specs.calls.Text.{call_answer, call_text, checked_as_gnu, checked_as_sysv, checked_for, checked_section, dynamic_text, of_section, of_segment, or_refused, symbol_count, symbols_text, text, unless_absent, unless_none}
+use Rattle.elf_check.specs.Object.{object_in}
+use Rattle.elf_check.specs.declared.hashcheck.any.HashSection.{HashSection}
+use Rattle.elfshow.specs.calls.Question.{Question, Header, Sections, Segments, Name, Data, Strings, Rels, Relas, Notes, Seg, SegNotes, Symbols, DynSyms, Dynamic, Versions, Hash}
+use Rattle.elfshow.specs.calls.Text.{call_answer, call_text, checked_as, checked_for, dynamic_text, of_section, of_segment, or_refused, symbol_count, symbols_text, text, unless_absent, unless_none}
 use Rattle.elfshow.specs.declared.lines.hashes.Verdict.{Verdict}
 use Rattle.elfshow.specs.lines.Data.{section_data_line, segment_data_line}
 use Rattle.elfshow.specs.lines.Dynamic.{dyn_line}
 use Rattle.elfshow.specs.lines.Hashes.{verdict_line}
-use Rattle.elfshow.specs.lines.Listed.{listed}
+use Rattle.elfshow.specs.lines.Counted.{counted_lines}
 use Rattle.elfshow.specs.lines.Notes.{note_line}
 use Rattle.elfshow.specs.lines.Relocations.{rel_line, rela_line}
 use Rattle.elfshow.specs.lines.Sections.{found_line, section_line}
@@ -72,13 +73,25 @@ absent_alike one other (Some x) h = h x
 
 -- ---- a checked section
 
-module _ {T : Type 0} (says : WithSymbols T → Verdict) (cut : List ℕ → Result T ParseError) (one other : ObjectFile) (same : SameAnswers one other) (s : SectionHeader) where
-  checked_alike : AreAlike (checked_section says cut one s) (checked_section says cut other s)
-  checked_alike =
-      let behind : ObjectFile → List ℕ × Option CompressionHeader → Result (Option Verdict) ParseError = λ file found. dynamic_symbol_table file >>= λ symbols. checked_for says (cut found.0) symbols in
+-- as tables of this order and class
+abbrev checked_with : HashSection → Bool → Class → ObjectFile → SectionHeader → Result (Option Verdict) ParseError
+checked_with kind little class file s =
+    section_data file s >>= λ found. dynamic_symbol_table file >>= λ symbols. checked_for (object_in kind little class found.0) symbols
+
+module _ (kind : HashSection) (one other : ObjectFile) (same : SameAnswers one other) (s : SectionHeader) where
+  with_alike : (little : Bool) (class : Class) → AreAlike (checked_with kind little class one s) (checked_with kind little class other s)
+  with_alike little class =
+      let answer : List ℕ × Option CompressionHeader → Option (Table × List ℕ) → Result (Option Verdict) ParseError = λ found symbols. checked_for (object_in kind little class found.0) symbols in
+      let behind : ObjectFile → List ℕ × Option CompressionHeader → Result (Option Verdict) ParseError = λ file found. dynamic_symbol_table file >>= answer found in
       alike_first (section_data one s) (section_data other s) (behind one) (same.section_data s)
       ∙ alike_later (section_data other s) (behind one) (behind other)
-      (λ found. alike_first (dynamic_symbol_table one) (dynamic_symbol_table other) (λ symbols. checked_for says (cut found.0) symbols) same.dynamic_symbol_table)
+      (λ found. alike_first (dynamic_symbol_table one) (dynamic_symbol_table other) (answer found) same.dynamic_symbol_table)
+
+  checked_alike : one.little ≡ other.little → one.class ≡ other.class → AreAlike (checked_as kind one s) (checked_as kind other s)
+  checked_alike little class =
+      with_alike one.little one.class
+      ∙ ap (λ order. result_ok (checked_with kind order one.class other s)) little
+      ∙ ap (λ width. result_ok (checked_with kind other.little width other s)) class
 
 -- ---- the text of a call
 
@@ -89,38 +102,27 @@ module _ {E : Type 0} (h : FileHeader E) (one other : ObjectFile) (little : one.
   segment_alike : (j : ℕ) (a b : ProgramHeader → Result (List ℕ) ParseError) → ((p : ProgramHeader) → AreAlike (a p) (b p)) → AreAlike (of_segment h one j a) (of_segment h other j b)
   segment_alike j a b each = ap (λ segments. result_ok (unless_absent a (slice_get segments j))) same.segments ∙ absent_alike a b (slice_get other.segments j) each
 
-  sysv_alike : (s : SectionHeader) → AreAlike (checked_as_sysv one s) (checked_as_sysv other s)
-  sysv_alike s =
-      checked_alike sysv_verdict (sysv_section one.little one.class) one other same s
-      ∙ ap (λ cut. result_ok (checked_section sysv_verdict cut other s)) (rw (little, class) refl)
-
-  gnu_alike : (s : SectionHeader) → AreAlike (checked_as_gnu one s) (checked_as_gnu other s)
-  gnu_alike s =
-      checked_alike gnu_verdict (gnu_section one.little one.class) one other same s
-      ∙ ap (λ cut. result_ok (checked_section gnu_verdict cut other s)) (rw (little, class) refl)
-
   call_alike : (call : Question) → AreAlike (call_answer h one call) (call_answer h other call)
   call_alike Header = rw little refl
   call_alike Sections =
-      ap (λ sections. result_ok (ok_map (λ names. listed (section_line names) sections) (name_table one))) same.section_headers
-      ∙ alike_map (λ names. listed (section_line names) other.sections) (name_table one) (name_table other) same.section_names
+      ap (λ sections. result_ok (ok_map (λ names. counted_lines (section_line names) sections) (name_table one))) same.section_headers
+      ∙ alike_map (λ names. counted_lines (section_line names) other.sections) (name_table one) (name_table other) same.section_names
   call_alike Segments = rw same.segments refl
   call_alike (Name name) = alike_map (unless_none found_line) (section_header_by_name one name) (section_header_by_name other name) (same.section_header_by_name name)
   call_alike (Data i) = section_alike i _ _ (λ s. alike_map (λ found. section_data_line found.0 found.1) (section_data one s) (section_data other s) (same.section_data s))
-  call_alike (Strings i) = section_alike i _ _ (λ s. alike_map (λ bytes. listed string_line (strings_of bytes)) (section_data_as_strtab one s) (section_data_as_strtab other s) (same.section_data_as_strtab s))
-  call_alike (Rels i) = section_alike i _ _ (λ s. alike_map (listed rel_line) (section_data_as_rels one s) (section_data_as_rels other s) (same.section_data_as_rels s))
-  call_alike (Relas i) = section_alike i _ _ (λ s. alike_map (listed rela_line) (section_data_as_relas one s) (section_data_as_relas other s) (same.section_data_as_relas s))
-  call_alike (Notes i) = section_alike i _ _ (λ s. alike_map (listed note_line) (section_data_as_notes one s) (section_data_as_notes other s) (same.section_data_as_notes s))
+  call_alike (Strings i) = section_alike i _ _ (λ s. alike_map (λ bytes. counted_lines string_line (strings_of bytes)) (section_data_as_strtab one s) (section_data_as_strtab other s) (same.section_data_as_strtab s))
+  call_alike (Rels i) = section_alike i _ _ (λ s. alike_map (counted_lines rel_line) (section_data_as_rels one s) (section_data_as_rels other s) (same.section_data_as_rels s))
+  call_alike (Relas i) = section_alike i _ _ (λ s. alike_map (counted_lines rela_line) (section_data_as_relas one s) (section_data_as_relas other s) (same.section_data_as_relas s))
+  call_alike (Notes i) = section_alike i _ _ (λ s. alike_map (counted_lines note_line) (section_data_as_notes one s) (section_data_as_notes other s) (same.section_data_as_notes s))
   call_alike (Seg j) = segment_alike j _ _ (λ p. alike_map segment_data_line (segment_data one p) (segment_data other p) (same.segment_data p))
-  call_alike (SegNotes j) = segment_alike j _ _ (λ p. alike_map (listed note_line) (segment_data_as_notes one p) (segment_data_as_notes other p) (same.segment_data_as_notes p))
+  call_alike (SegNotes j) = segment_alike j _ _ (λ p. alike_map (counted_lines note_line) (segment_data_as_notes one p) (segment_data_as_notes other p) (same.segment_data_as_notes p))
   call_alike Symbols = alike_map (unless_none symbols_text) (symbol_table one) (symbol_table other) same.symbol_table
   call_alike DynSyms = alike_map (unless_none symbols_text) (dynamic_symbol_table one) (dynamic_symbol_table other) same.dynamic_symbol_table
   call_alike Dynamic = alike_map (unless_none dynamic_text) (dynamic one) (dynamic other) same.dynamic
   call_alike Versions =
       alike_both (λ symbols. unless_none (versions_listed (symbol_count symbols))) (dynamic_symbol_table one) (dynamic_symbol_table other) (symbol_version_table one) (symbol_version_table other)
       same.dynamic_symbol_table same.symbol_version_table
-  call_alike (Sysv i) = section_alike i _ _ (λ s. alike_map (unless_none verdict_line) (checked_as_sysv one s) (checked_as_sysv other s) (sysv_alike s))
-  call_alike (Gnu i) = section_alike i _ _ (λ s. alike_map (unless_none verdict_line) (checked_as_gnu one s) (checked_as_gnu other s) (gnu_alike s))
+  call_alike (Hash kind i) = section_alike i _ _ (λ s. alike_map (unless_none verdict_line) (checked_as kind one s) (checked_as kind other s) (checked_alike kind one other same s little class))
 
   call_same : (call : Question) → call_text h one call ≡ call_text h other call
   call_same call = text_alike (call_answer h one call) (call_answer h other call) (call_alike call)

@@ -8,7 +8,7 @@ use Rattle.std.proofs.lemmas.List.Quantifiers.{position-Some}
 use Rattle.elf_parts.specs.StringTable.{string_at}
 use Rattle.elf_parts.specs.declared.parse.ParseError.{ParseError}
 use Rattle.elf_parts.specs.declared.parse.ParseError.TheVariants.{BadOffset, StringTableMissingNul}
-use Rattle.elfshow.specs.lines.Listed.{end_line, numbered}
+use Rattle.elfshow.specs.lines.Counted.{end_line, numbered}
 use Rattle.elfshow.specs.lines.Strings.{string_line, strings_from}
 
 -- what two tests let through

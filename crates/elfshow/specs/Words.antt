@@ -4,8 +4,9 @@ use Rattle.std.specs.Prelude.{List, [], ◌∷◌, length, codes, Option, Some, 
 use Rattle.std.specs.List.{after_first, before_first, position_or_len}
 use Rattle.std.specs.Option.{option_and_then}
 use Rattle.std.specs.Str.{bytes_eq}
+use Rattle.elf_check.specs.declared.hashcheck.any.HashSection.TheVariants.{Gnu, Sysv}
 use Rattle.elfshow.specs.calls.Question.{Question, Header, Sections, Segments, Name, Data, Strings, Rels, Relas}
-use Rattle.elfshow.specs.calls.Question.{Notes, Seg, SegNotes, Symbols, DynSyms, Dynamic, Versions, Sysv, Gnu}
+use Rattle.elfshow.specs.calls.Question.{Notes, Seg, SegNotes, Symbols, DynSyms, Dynamic, Versions, Hash}
 
 -- ---- numbers
 
@@ -54,8 +55,8 @@ indexed_call key i =
     else if bytes_eq key (codes "notes") then Some (Notes i)
     else if bytes_eq key (codes "seg") then Some (Seg i)
     else if bytes_eq key (codes "segnotes") then Some (SegNotes i)
-    else if bytes_eq key (codes "sysv") then Some (Sysv i)
-    else if bytes_eq key (codes "gnu") then Some (Gnu i)
+    else if bytes_eq key (codes "sysv") then Some (Hash Sysv i)
+    else if bytes_eq key (codes "gnu") then Some (Hash Gnu i)
     else None
 
 abbrev pub keyed_call : List ℕ → List ℕ → Option Question

@@ -1,2 +1,1 @@
-pub mod Decisions
 pub mod RunSteps

@@ -1,6 +1,6 @@
 pub mod Header
-pub mod Listed
-pub mod Stand
+pub mod Counted
+pub mod NoAnswer
 pub mod Name
 pub mod Sections
 pub mod Segments

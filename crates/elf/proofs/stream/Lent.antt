@@ -8,7 +8,7 @@ use Rattle.elf_parts.specs.declared.parse.ParseError.{ParseError}
 use Rattle.elf_parts.specs.declared.section.SectionHeader.{SectionHeader}
 use Rattle.elf.specs.Ranges.{range_of_section, section_asked}
 use Rattle.elf.specs.ObjectFile.{ObjectFile}
-use Rattle.elf.specs.Data.{content, content_of_type, payload}
+use Rattle.elf.specs.Data.{content, content_of_type, section_data}
 use Rattle.elf.specs.Headers.{section_range}
 use Rattle.elf.specs.ElfStream.{Seen, AreHeld, IsAnswer, IsRefused, Leaves, kind}
 use Rattle.elf.specs.inner.Loads.{AreThere, HasReason, Loads, LoadsFor}
@@ -79,9 +79,9 @@ payload_needs_by : {A : Type 0} (bytes : List ℕ) (s : SectionHeader) (is_empty
 payload_needs_by bytes s true none f h = tt
 payload_needs_by bytes s false none f h = (ok_first (section_range bytes s) f h, tt)
 
-pub payload_needs : (file : ObjectFile) (s : SectionHeader) → IsOk (payload file s) → AreThere file.bytes (section_asked s)
-unfolding payload
-payload_needs file s h = payload_needs_by file.bytes s (s.sh_type == 8) _ _ h
+pub section_data_needs : (file : ObjectFile) (s : SectionHeader) → IsOk (section_data file s) → AreThere file.bytes (section_asked s)
+unfolding section_data
+section_data_needs file s h = payload_needs_by file.bytes s (s.sh_type == 8) _ _ h
 
 not_refused : (A : Type 0) {E : Type 0} (e : E) → IsOk {T = A} (Err e) → ⊥
 not_refused A e h = cc
@@ -92,4 +92,4 @@ of_type_needs {A} P false x e so h = absurd (not_refused A e h)
 
 pub content_needs : (t : ℕ) (file : ObjectFile) (s : SectionHeader) → IsOk (content_of_type t file s) → AreThere file.bytes (section_asked s)
 content_needs t file s h =
-    of_type_needs (AreThere file.bytes (section_asked s)) (s.sh_type == t) (content file s) _ (λ ok. payload_needs file s (sym (ok_of_map (λ (found : List ℕ × Option CompressionHeader). found.0) (payload file s)) ∙ ok)) h
+    of_type_needs (AreThere file.bytes (section_asked s)) (s.sh_type == t) (content file s) _ (λ ok. section_data_needs file s (sym (ok_of_map (λ (found : List ℕ × Option CompressionHeader). found.0) (section_data file s)) ∙ ok)) h

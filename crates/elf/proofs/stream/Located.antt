@@ -9,10 +9,11 @@ use Rattle.elf_parts.specs.declared.file.FileHeader.{FileHeader}
 use Rattle.elf_parts.specs.declared.parse.ParseError.{ParseError}
 use Rattle.elf.specs.Opening.{table_bytes}
 use Rattle.elf.specs.ElfStream.{IsAnswer, kind}
-use Rattle.elf.specs.declared.elf_stream.opening.Declared.{Declared}
+use Rattle.elf.specs.declared.tables.DeclaredTable.{DeclaredTable}
 use Rattle.elf.specs.declared.source.StreamSource as source
 use Rattle.elf.specs.inner.HeaderSteps.{IsNoWant, range_bytes, range_table}
-use Rattle.elf.specs.inner.Reads.{HasLength, Reads, ReadsAs, declared_count, declared_table}
+use Rattle.elf.specs.inner.Reads.{HasLength, Reads, ReadsAs}
+use Rattle.elf.specs.inner.Tables.{declared_count, declared_table}
 use Rattle.elf.proofs.stream.Chains.{given}
 use Rattle.elf.proofs.stream.Steps.{refused_so}
 
@@ -31,7 +32,7 @@ then_found little h bytes count part n before middle can_fail (Err e) same count
     let is : whole ≡ (part n >>= λ p. Ok (Some (table_in (little h.endianness) h.class p))) = given count n (λ c. part c >>= λ p. Ok (Some (table_in (little h.endianness) h.class p))) counted in
     refused_so (kind e) (IsErr (part n)) (IsErr whole) before middle middle can_fail (λ refused. ap is_err is ∙ bind_err (part n) (λ p. Ok (Some (table_in (little h.endianness) h.class p))) refused) same found
 
-found_at : {E : Type 0} (little : E → Bool) (h : FileHeader E) (size : ℕ) (table : Declared) (content : Option (List ℕ)) (len n before middle : ℕ) (can_fail : Bool) (r : Result (ℕ × ℕ) ParseError)
+found_at : {E : Type 0} (little : E → Bool) (h : FileHeader E) (size : ℕ) (table : DeclaredTable) (content : Option (List ℕ)) (len n before middle : ℕ) (can_fail : Bool) (r : Result (ℕ × ℕ) ParseError)
     → (table.offset == 0) ≡ false → IfSome content (λ bytes. len ≡ length bytes) → IfSome content (λ bytes. (middle ≡ before) × (declared_count little h table bytes ≡ Ok n))
     → ((bytes : List ℕ) (can_fail : Bool) (faults : ℕ) → len ≡ length bytes → IsAnswer (range_bytes bytes) (table_bytes size table.entsize n table.offset bytes) can_fail faults faults r)
     → IfSome content (λ bytes. IsAnswer (option_map (range_table little h bytes)) (declared_table little h size table bytes) can_fail before middle (ok_map Some r))
@@ -43,7 +44,7 @@ free_of_want : {A B : Type 0} (f : A → B) (r : Result A ParseError) → IfErr 
 free_of_want f (Ok a) h = tt
 free_of_want f (Err e) h = h
 
-pub located : {S E : Type 0} (told : source.Ghosts S) (little : E → Bool) (h : FileHeader E) (size : ℕ) (table : Declared) (len n : ℕ) (old middle : S) (r : Result (ℕ × ℕ) ParseError)
+pub located : {S E : Type 0} (told : source.Ghosts S) (little : E → Bool) (h : FileHeader E) (size : ℕ) (table : DeclaredTable) (len n : ℕ) (old middle : S) (r : Result (ℕ × ℕ) ParseError)
     → (table.offset == 0) ≡ false → HasLength told old len → Reads told (declared_count little h table) old middle (Ok n)
     → ((bytes : List ℕ) (can_fail : Bool) (faults : ℕ) → len ≡ length bytes → IsAnswer (range_bytes bytes) (table_bytes size table.entsize n table.offset bytes) can_fail faults faults r)
     → IfErr r (λ e. IsNoWant (kind e)) → ReadsAs told (λ bytes. option_map (range_table little h bytes)) (declared_table little h size table) old middle (ok_map Some r)

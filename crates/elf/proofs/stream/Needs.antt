@@ -8,15 +8,15 @@ use Rattle.elf_parts.specs.declared.compression.CompressionHeader.{CompressionHe
 use Rattle.elf_parts.specs.declared.parse.ParseError.{ParseError}
 use Rattle.elf_parts.specs.declared.section.SectionHeader.{SectionHeader}
 use Rattle.elf_parts.specs.declared.segment.ProgramHeader.{ProgramHeader}
-use Rattle.elf.specs.Answers.{section_dynamic, segment_dynamic}
-use Rattle.elf.specs.Ranges.{Linked, VersionPlan, both_sections, if_there, plan_asked, section_asked, segment_asked, whole_section}
+use Rattle.elf.specs.Answers.{section_dynamic, segment_data, segment_dynamic}
+use Rattle.elf.specs.Ranges.{LinkedSections, VersionPlan, both_sections, if_there, plan_asked, section_asked, segment_asked, whole_section}
 use Rattle.elf.specs.Headers.{entry_size, if_found}
 use Rattle.elf.specs.ObjectFile.{ObjectFile, table_of}
-use Rattle.elf.specs.Data.{content, payload}
-use Rattle.elf.specs.Headers.{section_range, segment_range}
+use Rattle.elf.specs.Data.{content, section_data}
+use Rattle.elf.specs.Headers.{section_range}
 use Rattle.elf.specs.inner.Loads.{AreThere}
 use Rattle.elf.specs.inner.Plans.{definitions_by, needs_by, versions_by}
-use Rattle.elf.proofs.stream.Lent.{payload_needs}
+use Rattle.elf.proofs.stream.Lent.{section_data_needs}
 use Rattle.elf.proofs.stream.Steps.{there_append}
 
 ok_first : {A B E : Type 0} (x : Result A E) (f : A → Result B E) → IsOk (x >>= f) → IsOk x
@@ -34,24 +34,24 @@ ok_inside f (Err e) h = cc
 pub dynamic_needs : (file : ObjectFile) (s : SectionHeader) → IsOk (section_dynamic file s) → AreThere file.bytes (section_asked s)
 dynamic_needs file s h =
     let behind = ok_later (entry_size (size_by dyn_layout file.class) s) (λ _. ok_map (table_of file) (content file s)) h in
-    payload_needs file s (ok_inside (λ (found : List ℕ × Option CompressionHeader). found.0) (payload file s) (ok_inside (table_of file) (content file s) behind.1))
+    section_data_needs file s (ok_inside (λ (found : List ℕ × Option CompressionHeader). found.0) (section_data file s) (ok_inside (table_of file) (content file s) behind.1))
 
 -- of a segment of dynamic entries
 pub segment_needs : (file : ObjectFile) (p : ProgramHeader) → IsOk (segment_dynamic file p) → AreThere file.bytes (segment_asked p)
-segment_needs file p h = (ok_inside (table_of file) (segment_range file.bytes p) h, tt)
+segment_needs file p h = (ok_inside (table_of file) (segment_data file p) h, tt)
 
 -- of the names of sections, where they are chosen
 pub names_need : {A : Type 0} (bytes : List ℕ) (s : SectionHeader) (f : Option (List ℕ) → A) → IsOk (ok_map f (if_found (section_range bytes) (Some s))) → AreThere bytes (whole_section s)
 names_need bytes s f h = (ok_inside Some (section_range bytes s) (ok_inside f (ok_map Some (section_range bytes s)) h), tt)
 
 -- of a section, and of the one that it links to
-pub both_need : {A : Type 0} (bytes : List ℕ) (pair : Linked) (made : List ℕ → List ℕ → Result A ParseError) → IsOk (section_range bytes pair.0 >>= λ part. section_range bytes pair.1 >>= λ strings. made part strings)
+pub both_need : {A : Type 0} (bytes : List ℕ) (pair : LinkedSections) (made : List ℕ → List ℕ → Result A ParseError) → IsOk (section_range bytes pair.0 >>= λ part. section_range bytes pair.1 >>= λ strings. made part strings)
     → AreThere bytes (both_sections pair)
 both_need bytes pair made h =
     let behind = ok_later (section_range bytes pair.0) (λ part. section_range bytes pair.1 >>= λ strings. made part strings) h in
     (ok_first (section_range bytes pair.0) _ h, (ok_first (section_range bytes pair.1) _ behind.1, tt))
 
-if_needs : {A : Type 0} (bytes : List ℕ) (answer : Linked → Result A ParseError) (o : Option Linked) → ((pair : Linked) → IsOk (answer pair) → AreThere bytes (both_sections pair)) → IsOk (if_found answer o) → AreThere bytes (if_there both_sections o)
+if_needs : {A : Type 0} (bytes : List ℕ) (answer : LinkedSections → Result A ParseError) (o : Option LinkedSections) → ((pair : LinkedSections) → IsOk (answer pair) → AreThere bytes (both_sections pair)) → IsOk (if_found answer o) → AreThere bytes (if_there both_sections o)
 if_needs bytes answer None each h = tt
 if_needs bytes answer (Some pair) each h = each pair (ok_inside Some (answer pair) h)
 

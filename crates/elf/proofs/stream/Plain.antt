@@ -1,15 +1,19 @@
 -- What reads bytes alone is refused for no source and no memory.
-use Rattle.std.proofs.Common.{◌≡◌, ℕ, ◌+◌, Bool, true, false, List, [], ◌∷◌, refl, sym, subst, Option, Some, None}
+use Rattle.std.proofs.Common.{◌≡◌, ℕ, ◌+◌, ◌*◌, Bool, true, false, List, [], ◌∷◌, refl, sym, subst, Option, Some, None}
 use Rattle.elf_parts.specs.declared.file.Class.TheVariants.{ELF32, ELF64}
-use Rattle.elf_parts.specs.declared.parse.ParseError.TheVariants.{IntegerOverflow, SliceReadError, UnsupportedElfClass}
+use Rattle.elf_parts.specs.declared.parse.ParseError.TheVariants.{BadOffset, IntegerOverflow, SliceReadError, UnsupportedElfClass}
 use Rattle.std.specs.Prelude.{◌^◌, ◌==◌, nat_le, nat_lt, length, take, drop, Result, Ok, Err, IfErr, ok_or, if◌then◌else◌}
 use Rattle.elf_parts.specs.File.{byte_in, class_of, ident_of, magic_in, order_of, version_in}
 use Rattle.elf_parts.specs.Number.{bytes_at, number_at, ok_map}
-use Rattle.elf_parts.specs.Record.{◌>>=◌, Field, Layout, accepted, numbers_at, record_by}
+use Rattle.elf_parts.specs.Record.{◌>>=◌, Field, Layout, accepted, numbers_at, record_by, size_by}
+use Rattle.elf_parts.specs.Section.{section_header_layout, section_header_reads}
+use Rattle.elf_parts.specs.Table.{Table, item_at}
 use Rattle.elf_parts.specs.declared.file.Class.{Class}
 use Rattle.elf_parts.specs.declared.parse.ParseError.{ParseError}
+use Rattle.elf_parts.specs.declared.section.SectionHeader.{SectionHeader}
 use Rattle.elf.specs.ElfStream.{Kind, kind}
 use Rattle.elf.specs.Data.{at_front}
+use Rattle.elf.specs.Headers.{section_at}
 use Rattle.elf.specs.inner.HeaderSteps.{IsNoWant}
 use Rattle.elf.proofs.stream.Chains.{IsPlain}
 
@@ -96,3 +100,19 @@ plain_no_want (Err e) x is plain = no_want e (plain_kind e x is plain)
 
 pub plain_front : {A : Type 0} (size : ℕ) (gives : List ℕ → ℕ → Result A ParseError) (bytes : List ℕ) → IsPlain (gives bytes 0) → IsPlain (at_front size gives bytes)
 plain_front size gives bytes plain = plain_bind (gives bytes 0) _ plain (λ x. plain_ok)
+
+-- section header i of a table
+plain_item : {A : Type 0} (gives : List ℕ → ℕ → Result A ParseError) (size : ℕ) (bytes : List ℕ) (i : ℕ) → ((o : ℕ) → IsPlain (gives bytes o)) → IsPlain (item_at gives size bytes i)
+plain_item gives size bytes i plain =
+    plain_if (length bytes == 0) (Err (BadOffset i)) _ (plain_err (BadOffset i) refl)
+    (plain_if (nat_le (2 ^ 64) (i * size)) (Err IntegerOverflow) _ (plain_err IntegerOverflow refl)
+    (plain_if (nat_lt (length bytes) (i * size)) (Err (BadOffset i)) (gives bytes (i * size)) (plain_err (BadOffset i) refl) (plain (i * size))))
+
+plain_section_at : (o : Option Table) (i : ℕ) → IsPlain (section_at o i)
+plain_section_at None i = plain_err (BadOffset i) refl
+plain_section_at (Some t) i =
+    plain_item (section_header_reads.record_at t.little t.class) (size_by section_header_layout t.class) t.bytes i (plain_record_by section_header_layout t.little t.class t.bytes)
+
+pub section_at_refused : (o : Option Table) (i : ℕ) (r : Result SectionHeader ParseError) → r ≡ section_at o i → IfErr r (λ e. kind e ≡ Kind.Refusal)
+section_at_refused o i (Ok s) is = tt
+section_at_refused o i (Err e) is = plain_kind e (section_at o i) is (plain_section_at o i)

@@ -10,7 +10,7 @@ use Rattle.elf_parts.specs.Table.{Table}
 use Rattle.elf_parts.specs.declared.parse.ParseError.{ParseError}
 use Rattle.elf_parts.specs.declared.section.SectionHeader.{SectionHeader}
 use Rattle.elf.specs.Answers.{symbol_version_table}
-use Rattle.elf.specs.Ranges.{Linked, VersionPlan, headers_alone, plan_asked, version_plan, version_plan_of, versions_asked, with_link}
+use Rattle.elf.specs.Ranges.{LinkedSections, VersionPlan, headers_alone, plan_asked, version_plan, version_plan_of, versions_asked, with_link}
 use Rattle.elf.specs.Headers.{entry_size, if_found}
 use Rattle.elf.specs.StreamFile.{stream_file}
 use Rattle.elf.specs.ObjectFile.{ObjectFile, table_of}
@@ -20,7 +20,7 @@ use Rattle.elf.specs.ElfStream.{AreHeld, IsAnswer, Leaves, Seen}
 use Rattle.elf.specs.Versions.{version_definitions, version_needs, version_sections, versions_of}
 use Rattle.elf.specs.declared.headers.VersionSections.{VersionSections}
 use Rattle.elf.specs.inner.Loads.{Loads}
-use Rattle.elf.specs.inner.Plans.{definitions_by, needs_by, planned_versions, versions_by}
+use Rattle.elf.specs.inner.Plans.{definitions_by, needs_by, versions_by_plan, versions_by}
 use Rattle.elf.proofs.Alike.{alike_first, alike_later, alike_map}
 use Rattle.elf.proofs.stream.Needs.{ok_inside, plan_needs}
 use Rattle.elf.proofs.stream.Steps.{chosen_refused}
@@ -32,7 +32,7 @@ refused_later (Err d) e = refl
 -- a range before or after the section that is linked to
 link_first : {A : Type 0} (s : SectionHeader) (linked : Result SectionHeader ParseError) (range : SectionHeader → Result (List ℕ) ParseError) (made : SectionHeader → List ℕ → List ℕ → A)
     → AreAlike (ok_map Some (range s >>= λ x. (linked >>= range) >>= λ y. Ok (made s x y)))
-    ((ok_map Some (linked >>= λ l. Ok (s, l))) >>= if_found (λ (pair : Linked). range pair.0 >>= λ x. range pair.1 >>= λ y. Ok (made pair.0 x y)))
+    ((ok_map Some (linked >>= λ l. Ok (s, l))) >>= if_found (λ (pair : LinkedSections). range pair.0 >>= λ x. range pair.1 >>= λ y. Ok (made pair.0 x y)))
 link_first s (Ok l) range made = refl
 link_first s (Err e) range made = alike_map Some (range s >>= λ x. Err e) (Err e) (refused_later (range s) e)
 
@@ -92,7 +92,7 @@ planned_from file chosen (Some s) =
     (if_found (needs_by file)) (if_found (definitions_by file)) made
     (needs_planned file chosen.needs) (definitions_planned file chosen.definitions))
 
-pub versions_planned : (file : ObjectFile) → AreAlike (symbol_version_table file) (planned_versions file)
+pub versions_planned : (file : ObjectFile) → AreAlike (symbol_version_table file) (versions_by_plan file)
 versions_planned file = let chosen = version_sections file.sections in planned_from file chosen chosen.indexes
 
 -- ---- what a call leaves, by an answer that is alike
@@ -137,7 +137,7 @@ leaves_alike old new rs shown one other r same h = record {
 
 -- the load of a plan was refused
 pub plan_refused : {E T : Type 0} (little : E → Bool) (old new : Seen E) (shown : T → Option Versions) (plan : VersionPlan) (e : ParseError) (r : Result T ParseError) → r ≡ Err e
-    → version_plan (headers_alone little old) ≡ Ok (Some plan) → Loads (plan_asked plan) old new (Err e) → Leaves (versions_asked (headers_alone little old)) shown (λ bytes. planned_versions (stream_file little old bytes)) old new r
+    → version_plan (headers_alone little old) ≡ Ok (Some plan) → Loads (plan_asked plan) old new (Err e) → Leaves (versions_asked (headers_alone little old)) shown (λ bytes. versions_by_plan (stream_file little old bytes)) old new r
 plan_refused little old new shown plan e r is chosen loads =
     chosen_refused old new plan_asked shown (λ choice bytes. choice >>= if_found (versions_by (stream_file little old bytes))) (version_plan (headers_alone little old)) plan e r is chosen
     (λ bytes ok. plan_needs (stream_file little old bytes) plan (ok_inside Some (versions_by (stream_file little old bytes) plan) ok)) loads

@@ -5,18 +5,18 @@ use Rattle.elf_parts.specs.Record.{◌>>=◌}
 use Rattle.elf_parts.specs.gnu_symver.Lists.{ver_defs, ver_needs}
 use Rattle.elf_parts.specs.gnu_symver.Table.{Definitions, Needs, Versions}
 use Rattle.elf_parts.specs.declared.parse.ParseError.{ParseError}
-use Rattle.elf.specs.Ranges.{Linked, VersionPlan, version_plan}
+use Rattle.elf.specs.Ranges.{LinkedSections, VersionPlan, version_plan}
 use Rattle.elf.specs.Headers.{if_found}
 use Rattle.elf.specs.ObjectFile.{ObjectFile, table_of}
 use Rattle.elf.specs.Headers.{section_range}
 
 -- the needs, or the definitions, of the one section with the strings of the other
-abbrev pub needs_by : ObjectFile → Linked → Result Needs ParseError
+abbrev pub needs_by : ObjectFile → LinkedSections → Result Needs ParseError
 needs_by file linked =
     section_range file.bytes linked.0 >>= λ needs. section_range file.bytes linked.1 >>= λ strings.
     Ok (record { list = ver_needs (table_of file needs) linked.0.sh_info 0; strings = strings })
 
-abbrev pub definitions_by : ObjectFile → Linked → Result Definitions ParseError
+abbrev pub definitions_by : ObjectFile → LinkedSections → Result Definitions ParseError
 definitions_by file linked =
     section_range file.bytes linked.0 >>= λ definitions. section_range file.bytes linked.1 >>= λ strings.
     Ok (record { list = ver_defs (table_of file definitions) linked.0.sh_info 0; strings = strings })
@@ -29,5 +29,5 @@ versions_by file plan =
     Ok (record { indexes = table_of file part; needs = needs; definitions = definitions })
 
 -- the versions of the sections that are chosen, if any are
-abbrev pub planned_versions : ObjectFile → Result (Option Versions) ParseError
-planned_versions file = version_plan file >>= if_found (versions_by file)
+abbrev pub versions_by_plan : ObjectFile → Result (Option Versions) ParseError
+versions_by_plan file = version_plan file >>= if_found (versions_by file)

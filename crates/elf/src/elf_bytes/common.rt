@@ -8,6 +8,7 @@ ghost use Rattle.elf.specs.ElfBytes.{view};
 
 use super::ElfBytes;
 use super::data::section_range;
+use crate::headers::Headers;
 use elf_abi::abi;
 use elf_parts::dynamic::DynamicTable;
 use elf_parts::endian::EndianParse;
@@ -37,21 +38,24 @@ pub struct CommonElfData<'data, E: EndianParse> {
 }
 
 impl<'data, E: EndianParse> ElfBytes<'data, E> {
-    ghost use Rattle.elf.specs.Common.{common_of_sections, common_part, common_view, find_common_data, gnu_hash_of};
-    ghost use Rattle.elf.specs.Common.{sysv_hash_of};
+    ghost use Rattle.elf.specs.Common.{common_of_sections, common_part, common_view, find_common_data};
+    ghost use Rattle.elf.specs.Common.{gnu_hash_table_of, sysv_hash_table_of};
     ghost use Rattle.elf.specs.inner.Passes.{with_part};
 
     // The hash section of the gABI.
-    fn sysv_hash_of(&self, shdr: &SectionHeader) -> Result<SysVHashTable<'data, E>, ParseError>
-        ensures { ok_map sysv_view result ≡ sysv_hash_of (object_file E.little (view self.now)) shdr.now }
+    fn sysv_hash_table_of(
+        &self,
+        shdr: &SectionHeader,
+    ) -> Result<SysVHashTable<'data, E>, ParseError>
+        ensures { ok_map sysv_view result ≡ sysv_hash_table_of (object_file E.little (view self.now)) shdr.now }
     {
         let bytes = section_range(shdr, self.data)?;
         SysVHashTable::new(self.ehdr.endianness, self.ehdr.class, bytes)
     }
 
     // The hash section of GNU.
-    fn gnu_hash_of(&self, shdr: &SectionHeader) -> Result<GnuHashTable<'data, E>, ParseError>
-        ensures { ok_map gnu_view result ≡ gnu_hash_of (object_file E.little (view self.now)) shdr.now }
+    fn gnu_hash_table_of(&self, shdr: &SectionHeader) -> Result<GnuHashTable<'data, E>, ParseError>
+        ensures { ok_map gnu_view result ≡ gnu_hash_table_of (object_file E.little (view self.now)) shdr.now }
     {
         let bytes = section_range(shdr, self.data)?;
         GnuHashTable::new(self.ehdr.endianness, self.ehdr.class, bytes)
@@ -79,8 +83,8 @@ impl<'data, E: EndianParse> ElfBytes<'data, E> {
                 found.dynsyms_strs = Some(strings);
             }
             abi::SHT_DYNAMIC => found.dynamic = Some(self.section_dynamic(shdr)?),
-            abi::SHT_HASH => found.sysv_hash = Some(self.sysv_hash_of(shdr)?),
-            abi::SHT_GNU_HASH => found.gnu_hash = Some(self.gnu_hash_of(shdr)?),
+            abi::SHT_HASH => found.sysv_hash = Some(self.sysv_hash_table_of(shdr)?),
+            abi::SHT_GNU_HASH => found.gnu_hash = Some(self.gnu_hash_table_of(shdr)?),
             _ => {}
         }
         Ok(found)

@@ -3,10 +3,10 @@ ghost use Rattle.std.specs.Prelude.{◌≡◌, ◌≤◌, ◌<◌, ◌^◌, IfOk
 ghost use Rattle.elf_parts.specs.Note.{notes_left};
 ghost use Rattle.elf_parts.specs.Number.{ok_map};
 ghost use Rattle.elf_parts.specs.StringTable.{strings_view};
-ghost use Rattle.elf.specs.Answers.{relas_left, rels_left, section_data, section_data_as_notes};
+ghost use Rattle.elf.specs.Answers.{relas_left, rels_left, section_data_as_notes};
+ghost use Rattle.elf.specs.Data.{content_of_type, section_data, data_view};
 ghost use Rattle.elf.specs.Answers.{section_data_as_relas, section_data_as_rels, section_data_as_strtab};
 ghost use Rattle.elf.specs.ObjectFile.{object_file};
-ghost use Rattle.elf.specs.Data.{content_of_type, payload_view};
 ghost use Rattle.elf.specs.Headers.{section_range};
 ghost use Rattle.elf.specs.ElfBytes.{view};
 
@@ -36,12 +36,12 @@ impl<'data, E: EndianParse> ElfBytes<'data, E> {
     /// The bytes of a section; of a compressed one its header and what follows that (gABI, chapter
     /// "Sections"). A section of type `SHT_NOBITS` has none, whatever its range. Refuses where the range
     /// does not lie in the file or the compression header cannot be read.
-    #[tactic(auto, unfolding(crate::specs::Data::payload))]
+    #[tactic(auto, unfolding(crate::specs::Data::section_data))]
     pub fn section_data(
         &self,
         shdr: &SectionHeader,
     ) -> Result<(&'data [u8], Option<CompressionHeader>), ParseError>
-        ensures value { ok_map payload_view result ≡ section_data (object_file E.little (view self.now)) shdr.now }
+        ensures value { ok_map data_view result ≡ section_data (object_file E.little (view self.now)) shdr.now }
         ensures within { IfOk result (λ found. length found.0.now ≤ length (view self.now).bytes) }
     {
         if shdr.sh_type == abi::SHT_NOBITS {

@@ -8,7 +8,7 @@ ghost use Rattle.elf.specs.ObjectFile.{object_file};
 ghost use Rattle.elf.specs.ElfBytes.{view};
 
 use super::ElfBytes;
-use super::segments::segment_range;
+use crate::headers::Headers;
 use elf_abi::abi;
 use elf_parts::dynamic::{Dyn, DynamicTable};
 use elf_parts::endian::EndianParse;
@@ -36,7 +36,7 @@ impl<'data, E: EndianParse> ElfBytes<'data, E> {
     ) -> Result<DynamicTable<'data, E>, ParseError>
         ensures { ok_map table_view result ≡ segment_dynamic (object_file E.little (view self.now)) phdr.now }
     {
-        let bytes = segment_range(phdr, self.data)?;
+        let bytes = self.segment_data(phdr)?;
         Ok(DynamicTable::new(self.ehdr.endianness, self.ehdr.class, bytes))
     }
 
@@ -47,7 +47,7 @@ impl<'data, E: EndianParse> ElfBytes<'data, E> {
     pub fn dynamic(&self) -> Result<Option<DynamicTable<'data, E>>, ParseError>
         ensures { ok_map (option_map table_view) result ≡ dynamic (object_file E.little (view self.now)) }
     {
-        if self.shdrs.is_some() {
+        if self.declares_sections() {
             match self.first_section_of(abi::SHT_DYNAMIC) {
                 Some(shdr) => self.section_dynamic(&shdr).map(Some),
                 None => Ok(None),

@@ -1,14 +1,14 @@
 //! Headers by their index, and the first or last ones of a type.
 ghost use Rattle.std.specs.Prelude.{◌≡◌, Some};
 ghost use Rattle.elf_parts.specs.Table.{table_view};
+ghost use Rattle.elf.specs.ElfBytes.{section_list, segment_list};
 ghost use Rattle.elf.specs.Headers.{first_section_of, first_segment_of};
-ghost use Rattle.elf.specs.Headers.{section_at};
-ghost use Rattle.elf.specs.ElfBytes.{section_list, segment_list, view};
 ghost use Rattle.elf.specs.Versions.{version_sections};
 
 use super::ElfBytes;
-use crate::headers::VersionSections;
+use crate::headers::{Headers, VersionSections};
 use elf_parts::endian::EndianParse;
+use elf_parts::file::Class;
 use elf_parts::parse::ParseError;
 use elf_parts::section::{SectionHeader, SectionHeaderTable};
 use elf_parts::segment::{ProgramHeader, SegmentTable};
@@ -43,16 +43,12 @@ fn first_segment_in<E: EndianParse>(
     None
 }
 
-// The last sections of the three types, up to the first one by which all of them were seen.
+// The last sections of the three types of versions, up to the first one by which all of them were seen.
 #[tactic(auto, using(crate::proofs::VersionChoice::found_in_all))]
-pub(super) fn version_sections<E: EndianParse>(shdrs: SectionHeaderTable<'_, E>) -> VersionSections
+fn version_sections<E: EndianParse>(shdrs: SectionHeaderTable<'_, E>) -> VersionSections
     ensures { result ≡ version_sections (section_list (Some (table_view shdrs.entry))) }
 {
-    let mut found = VersionSections {
-        indexes: None,
-        needs: None,
-        definitions: None,
-    };
+    let mut found = VersionSections::none();
     for shdr in shdrs {
         found = found.with(shdr);
         if found.are_all() {
@@ -62,30 +58,44 @@ pub(super) fn version_sections<E: EndianParse>(shdrs: SectionHeaderTable<'_, E>)
     found
 }
 
-impl<'data, E: EndianParse> ElfBytes<'data, E> {
-    // A section header by its index.
-    pub(super) fn section_at(&self, index: usize) -> Result<SectionHeader, ParseError>
-        ensures { result ≡ section_at (view self.now).sections index }
-    {
+impl<'data, E: EndianParse> Headers for ElfBytes<'data, E> {
+    ghost use Rattle.elf.specs.ElfBytes.{view};
+    ghost use Rattle.elf.specs.ObjectFile.{object_file};
+
+    ghost file = { λ s. object_file E.little (view s) };
+
+    fn class(&self) -> Class {
+        self.ehdr.class
+    }
+
+    fn e_shstrndx(&self) -> u16 {
+        self.ehdr.e_shstrndx
+    }
+
+    fn declares_sections(&self) -> bool {
+        self.shdrs.is_some()
+    }
+
+    fn section_at(&self, index: usize) -> Result<SectionHeader, ParseError> {
         match self.shdrs {
             Some(shdrs) => shdrs.get(index),
             None => Err(ParseError::BadOffset(index as u64)),
         }
     }
 
-    // The first section of a type.
-    pub(super) fn first_section_of(&self, sh_type: u32) -> Option<SectionHeader>
-        ensures { result ≡ first_section_of sh_type (section_list (view self.now).sections) }
-    {
-        let shdrs = self.shdrs?;
-        first_section_in(shdrs, sh_type)
+    fn first_section_of(&self, sh_type: u32) -> Option<SectionHeader> {
+        first_section_in(self.shdrs?, sh_type)
     }
 
-    // The first segment of a type.
-    pub(super) fn first_segment_of(&self, p_type: u32) -> Option<ProgramHeader>
-        ensures { result ≡ first_segment_of p_type (segment_list (view self.now).segments) }
-    {
-        let phdrs = self.phdrs?;
-        first_segment_in(phdrs, p_type)
+    fn first_segment_of(&self, p_type: u32) -> Option<ProgramHeader> {
+        first_segment_in(self.phdrs?, p_type)
+    }
+
+    #[tactic(auto, unfolding(crate::specs::Versions::version_sections))]
+    fn version_sections(&self) -> VersionSections {
+        match self.shdrs {
+            Some(shdrs) => version_sections(shdrs),
+            None => VersionSections::none(),
+        }
     }
 }

@@ -4,14 +4,13 @@ ghost use Rattle.elf_parts.specs.Number.{ok_map};
 ghost use Rattle.elf_parts.specs.StringTable.{strings_view};
 ghost use Rattle.elf_parts.specs.Table.{table_view};
 ghost use Rattle.elf.specs.Answers.{first_named, section_header_by_name};
-ghost use Rattle.elf.specs.Names.{beside, name_index, name_section, name_table, named_view};
+ghost use Rattle.elf.specs.Names.{beside, name_table, named_view};
 ghost use Rattle.elf.specs.ObjectFile.{object_file};
 ghost use Rattle.elf.specs.ElfBytes.{section_list, view};
 
 use super::ElfBytes;
 use super::data::section_range;
-use crate::headers::has_name;
-use elf_abi::abi;
+use crate::headers::{Headers, has_name};
 use elf_parts::endian::EndianParse;
 use elf_parts::parse::ParseError;
 use elf_parts::section::{SectionHeader, SectionHeaderTable};
@@ -35,30 +34,6 @@ fn first_named_in<E: EndianParse>(
 }
 
 impl<'data, E: EndianParse> ElfBytes<'data, E> {
-    // Which section holds the names of the sections.
-    fn name_index(&self) -> Result<usize, ParseError>
-        ensures { result ≡ name_index (object_file E.little (view self.now)) }
-    {
-        if self.ehdr.e_shstrndx == abi::SHN_XINDEX {
-            let first = self.section_at(0)?;
-            Ok(first.sh_link as usize)
-        } else {
-            Ok(self.ehdr.e_shstrndx as usize)
-        }
-    }
-
-    // The section that holds them.
-    #[tactic(auto, unfolding(crate::specs::Names::name_section))]
-    fn name_section(&self) -> Result<Option<SectionHeader>, ParseError>
-        ensures { result ≡ name_section (object_file E.little (view self.now)) }
-    {
-        if self.shdrs.is_none() || self.ehdr.e_shstrndx == abi::SHN_UNDEF {
-            return Ok(None);
-        }
-        let index = self.name_index()?;
-        self.section_at(index).map(Some)
-    }
-
     /// The section headers and the table of their names, where the file declares them. Refuses where
     /// the section that holds the names cannot be read or its range does not lie in the file.
     #[tactic(auto, unfolding(crate::specs::Names::name_table))]

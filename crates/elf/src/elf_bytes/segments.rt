@@ -4,7 +4,6 @@ ghost use Rattle.elf_parts.specs.Note.{notes_left};
 ghost use Rattle.elf_parts.specs.Number.{ok_map};
 ghost use Rattle.elf.specs.Answers.{segment_data, segment_data_as_notes};
 ghost use Rattle.elf.specs.ObjectFile.{object_file};
-ghost use Rattle.elf.specs.Headers.{segment_range};
 ghost use Rattle.elf.specs.ElfBytes.{view};
 
 use super::{ElfBytes, get_bytes};
@@ -14,24 +13,14 @@ use elf_parts::note::NoteIterator;
 use elf_parts::parse::ParseError;
 use elf_parts::segment::ProgramHeader;
 
-// The bytes that a program header gives a range of.
-pub(super) fn segment_range<'data>(
-    phdr: &ProgramHeader,
-    data: &'data [u8],
-) -> Result<&'data [u8], ParseError>
-    ensures value { ok_map (λ bytes. bytes.now) result ≡ segment_range «data».now phdr.now }
-    ensures within { IfOk result (λ bytes. length bytes.now ≤ length «data».now) }
-{
-    get_bytes(data, phdr.p_offset as usize, phdr.p_filesz as usize)
-}
-
 impl<'data, E: EndianParse> ElfBytes<'data, E> {
     /// The bytes of a segment in the file. Refuses where its range does not lie in the file.
     pub fn segment_data(&self, phdr: &ProgramHeader) -> Result<&'data [u8], ParseError>
-        ensures { ok_map (λ bytes. bytes.now) result
+        ensures value { ok_map (λ bytes. bytes.now) result
             ≡ segment_data (object_file E.little (view self.now)) phdr.now }
+        ensures within { IfOk result (λ bytes. length bytes.now ≤ length (view self.now).bytes) }
     {
-        segment_range(phdr, self.data)
+        get_bytes(self.data, phdr.p_offset as usize, phdr.p_filesz as usize)
     }
 
     /// The notes of a segment of type `PT_NOTE`, whose alignment is `p_align`, up to the first that does
@@ -48,7 +37,7 @@ impl<'data, E: EndianParse> ElfBytes<'data, E> {
         if phdr.p_type != abi::PT_NOTE {
             return Err(ParseError::UnexpectedSegmentType((phdr.p_type, abi::PT_NOTE)));
         }
-        let bytes = segment_range(phdr, self.data)?;
+        let bytes = self.segment_data(phdr)?;
         Ok(NoteIterator::new(
             self.ehdr.endianness,
             self.ehdr.class,

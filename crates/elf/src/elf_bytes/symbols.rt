@@ -2,20 +2,37 @@
 ghost use Rattle.std.specs.Prelude.{◌≡◌};
 ghost use Rattle.std.specs.Option.{option_map};
 ghost use Rattle.elf_parts.specs.Number.{ok_map};
-ghost use Rattle.elf.specs.Answers.{dynamic_symbol_table, first_symbols, symbol_table, symbols_of, symbols_view};
+ghost use Rattle.elf.specs.Answers.{dynamic_symbol_table, first_symbols, symbol_table, symbols_in, symbols_of};
+ghost use Rattle.elf.specs.Answers.{symbols_view};
 ghost use Rattle.elf.specs.ObjectFile.{object_file};
 ghost use Rattle.elf.specs.ElfBytes.{view};
 
 use super::ElfBytes;
 use super::data::section_range;
+use crate::headers::{Headers, LinkedSections};
 use elf_abi::abi;
 use elf_parts::endian::EndianParse;
-use elf_parts::parse::{ParseAt, ParseError};
+use elf_parts::parse::ParseError;
 use elf_parts::section::SectionHeader;
 use elf_parts::string_table::StringTable;
-use elf_parts::symbol::{Symbol, SymbolTable};
+use elf_parts::symbol::SymbolTable;
 
 impl<'data, E: EndianParse> ElfBytes<'data, E> {
+    // The symbols of the one section, and the strings of the other.
+    fn symbols_in(
+        &self,
+        sections: &LinkedSections,
+    ) -> Result<(SymbolTable<'data, E>, StringTable<'data>), ParseError>
+        ensures { ok_map symbols_view result ≡ symbols_in (object_file E.little (view self.now)) sections.now }
+    {
+        let symbols = section_range(&sections.0, self.data)?;
+        let strings = section_range(&sections.1, self.data)?;
+        Ok((
+            SymbolTable::new(self.ehdr.endianness, self.ehdr.class, symbols),
+            StringTable::new(strings),
+        ))
+    }
+
     // The symbols of a section, and the strings of the section that it links to.
     pub(super) fn symbols_of(
         &self,
@@ -23,14 +40,8 @@ impl<'data, E: EndianParse> ElfBytes<'data, E> {
     ) -> Result<(SymbolTable<'data, E>, StringTable<'data>), ParseError>
         ensures { ok_map symbols_view result ≡ symbols_of (object_file E.little (view self.now)) shdr.now }
     {
-        let linked = self.section_at(shdr.sh_link as usize)?;
-        Symbol::validate_entsize(self.ehdr.class, shdr.sh_entsize as usize)?;
-        let symbols = section_range(shdr, self.data)?;
-        let strings = section_range(&linked, self.data)?;
-        Ok((
-            SymbolTable::new(self.ehdr.endianness, self.ehdr.class, symbols),
-            StringTable::new(strings),
-        ))
+        let sections = self.with_linked(shdr)?;
+        self.symbols_in(&sections)
     }
 
     // The symbols of the first section of a type, with their strings.
@@ -41,8 +52,8 @@ impl<'data, E: EndianParse> ElfBytes<'data, E> {
         ensures { ok_map (option_map symbols_view) result
             ≡ first_symbols sh_type (object_file E.little (view self.now)) }
     {
-        match self.first_section_of(sh_type) {
-            Some(shdr) => self.symbols_of(&shdr).map(Some),
+        match self.symbol_sections(sh_type)? {
+            Some(sections) => self.symbols_in(&sections).map(Some),
             None => Ok(None),
         }
     }

@@ -13,8 +13,7 @@ ghost use Rattle.elf.specs.Versions.{versions_of};
 
 use super::ElfBytes;
 use super::data::section_range;
-use super::headers::version_sections;
-use crate::headers::VersionSections;
+use crate::headers::{Headers, VersionSections};
 use elf_parts::endian::EndianParse;
 use elf_parts::gnu_symver::{
     SymbolVersionTable, VerDefIterator, VerNeedIterator, VersionIndex, VersionIndexTable,
@@ -130,15 +129,11 @@ impl<'data, E: EndianParse> ElfBytes<'data, E> {
     /// sections of the types `SHT_GNU_VERSYM`, `SHT_GNU_VERNEED` and `SHT_GNU_VERDEF` up to the first
     /// section by which all three were seen. Refuses where the entry size of the indexes is not 2, where
     /// one of the ranges does not lie in the file, and where a section that is linked to cannot be had.
-    #[tactic(auto, using(crate::proofs::VersionChoice::versions_of_none))]
     pub fn symbol_version_table(&self) -> Result<Option<SymbolVersionTable<'data, E>>, ParseError>
         ensures { ok_map (option_map versions_view) result
             ≡ symbol_version_table (object_file E.little (view self.now)) }
     {
-        let Some(shdrs) = self.shdrs else {
-            return Ok(None);
-        };
-        let chosen = version_sections(shdrs);
+        let chosen = self.version_sections();
         match chosen.indexes {
             Some(shdr) => self.versions_of(chosen, &shdr).map(Some),
             None => Ok(None),

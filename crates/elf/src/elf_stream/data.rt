@@ -5,12 +5,12 @@ ghost use Rattle.elf_parts.specs.Note.{notes_left};
 ghost use Rattle.elf_parts.specs.Number.{ok_map};
 ghost use Rattle.elf_parts.specs.StringTable.{strings_view};
 ghost use Rattle.elf_parts.specs.Table.{items_left, table_items};
-ghost use Rattle.elf.specs.Answers.{relas_left, rels_left, section_data, section_data_as_notes};
+ghost use Rattle.elf.specs.Answers.{relas_left, rels_left, section_data_as_notes};
+ghost use Rattle.elf.specs.Data.{content, content_of_type, section_data, data_view};
 ghost use Rattle.elf.specs.Answers.{section_data_as_relas, section_data_as_rels, section_data_as_strtab};
 ghost use Rattle.elf.specs.Ranges.{section_asked, typed_section_asked};
 ghost use Rattle.elf.specs.StreamFile.{stream_file};
 ghost use Rattle.elf.specs.ObjectFile.{table_of};
-ghost use Rattle.elf.specs.Data.{content, content_of_type, payload, payload_view};
 ghost use Rattle.elf.specs.ElfStream.{AreHeld, Kind, kind};
 ghost use Rattle.elf.specs.inner.Loads.{AreLow, Loads, LoadsFor};
 
@@ -32,7 +32,7 @@ impl<E: EndianParse, S: StreamSource, A: Allocator + Copy> ElfStream<E, S, A> {
     ghost use Rattle.elf.specs.Lending.{Lends};
 
     // Loads the range of a section that has bytes.
-    pub(super) fn load_payload(&mut self, shdr: &SectionHeader) -> Result<(), ParseError>
+    pub(super) fn load_section_data(&mut self, shdr: &SectionHeader) -> Result<(), ParseError>
         ensures { Loads (section_asked shdr.now) self.old self.new result }
     {
         if shdr.sh_type == abi::SHT_NOBITS {
@@ -42,15 +42,15 @@ impl<E: EndianParse, S: StreamSource, A: Allocator + Copy> ElfStream<E, S, A> {
     }
 
     // The bytes of a section, which are held where it has any.
-    #[tactic(auto, unfolding(crate::specs::Data::payload))]
-    pub(super) fn lend_payload(
+    #[tactic(auto, unfolding(crate::specs::Data::section_data))]
+    pub(super) fn lend_section_data(
         &self,
         shdr: &SectionHeader,
     ) -> Result<(&[u8], Option<CompressionHeader>), ParseError>
         requires low { AreLow (section_asked shdr.now) }
         requires held { AreHeld self.now (section_asked shdr.now) }
         ensures value { IfSome self.now.content (λ bytes.
-            ok_map payload_view result ≡ payload (stream_file E.little self.now bytes) shdr.now) }
+            ok_map data_view result ≡ section_data (stream_file E.little self.now bytes) shdr.now) }
         ensures within { IfOk result (λ found.
             IfSome self.now.content (λ bytes. length found.0.now ≤ length bytes)) }
         ensures plain { IfErr result (λ e. kind e ≡ Kind.Refusal) }
@@ -78,10 +78,10 @@ impl<E: EndianParse, S: StreamSource, A: Allocator + Copy> ElfStream<E, S, A> {
         shdr: &SectionHeader,
     ) -> Result<(&[u8], Option<CompressionHeader>), ParseError>
         ensures* leaves { sem 𝓛 (Lends E.row S.row A.row E.EndianParse S.StreamSource A.Allocator self.entry
-            (λ _. section_asked shdr.now) payload_view (λ file. section_data file shdr.now) result) }
+            (λ _. section_asked shdr.now) data_view (λ file. section_data file shdr.now) result) }
     {
-        self.load_payload(shdr)?;
-        self.lend_payload(shdr)
+        self.load_section_data(shdr)?;
+        self.lend_section_data(shdr)
     }
 
     // Loads the range of a section that has to be of a type.
@@ -95,7 +95,7 @@ impl<E: EndianParse, S: StreamSource, A: Allocator + Copy> ElfStream<E, S, A> {
         if shdr.sh_type != sh_type {
             return Err(ParseError::UnexpectedSectionType((shdr.sh_type, sh_type)));
         }
-        self.load_payload(shdr)
+        self.load_section_data(shdr)
     }
 
     // The bytes of a section without its compression header, which are held.
@@ -107,7 +107,7 @@ impl<E: EndianParse, S: StreamSource, A: Allocator + Copy> ElfStream<E, S, A> {
         ensures within { IfOk result (λ part. IfSome self.now.content (λ bytes. length part.now ≤ length bytes)) }
         ensures plain { IfErr result (λ e. kind e ≡ Kind.Refusal) }
     {
-        let (bytes, _) = self.lend_payload(shdr)?;
+        let (bytes, _) = self.lend_section_data(shdr)?;
         Ok(bytes)
     }
 

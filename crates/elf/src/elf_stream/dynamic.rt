@@ -15,6 +15,7 @@ ghost use Rattle.elf.specs.ElfStream.{AreHeld, Kind, kind};
 ghost use Rattle.elf.specs.inner.Loads.{AreLow, LoadsFor};
 
 use super::ElfStream;
+use crate::headers::Headers;
 use crate::source::StreamSource;
 use elf_abi::abi;
 use elf_parts::dynamic::{Dyn, DynamicTable};
@@ -36,7 +37,7 @@ impl<E: EndianParse, S: StreamSource, A: Allocator + Copy> ElfStream<E, S, A> {
         ensures loaded { OnOk result (AreLow (section_asked shdr.now) × AreHeld self.new (section_asked shdr.now)) }
     {
         Dyn::validate_entsize(self.ehdr.class, shdr.sh_entsize as usize)?;
-        self.load_payload(shdr)
+        self.load_section_data(shdr)
     }
 
     // The dynamic entries of a section, whose bytes are held.
@@ -48,7 +49,7 @@ impl<E: EndianParse, S: StreamSource, A: Allocator + Copy> ElfStream<E, S, A> {
             ≡ ok_map Some (section_dynamic (stream_file E.little self.now bytes) shdr.now)) }
         ensures plain { IfErr result (λ e. kind e ≡ Kind.Refusal) }
     {
-        let (bytes, _) = self.lend_payload(shdr)?;
+        let (bytes, _) = self.lend_section_data(shdr)?;
         Ok(Some(DynamicTable::new(self.ehdr.endianness, self.ehdr.class, bytes)))
     }
 

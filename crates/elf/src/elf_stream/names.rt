@@ -1,18 +1,17 @@
 //! The names of sections.
-ghost use Rattle.std.specs.Prelude.{◌≡◌, IfErr, IfSome, Ok, None, Some, option_copied};
+ghost use Rattle.std.specs.Prelude.{◌≡◌, IfSome, Ok, None, Some, option_copied};
 ghost use Rattle.elf_parts.specs.Number.{ok_map};
 ghost use Rattle.elf_parts.specs.StringTable.{strings_view};
 ghost use Rattle.elf.specs.Answers.{first_named, section_header_by_name};
-ghost use Rattle.elf.specs.Ranges.{headers_alone, names_asked, whole_section};
-ghost use Rattle.elf.specs.ElfStream.{AreHeld, Kind, kind};
+ghost use Rattle.elf.specs.Ranges.{names_asked, whole_section};
+ghost use Rattle.elf.specs.ElfStream.{AreHeld};
 ghost use Rattle.elf.specs.inner.Loads.{AreLow};
-ghost use Rattle.elf.specs.Names.{headers_with_names, name_index, name_section};
+ghost use Rattle.elf.specs.Names.{headers_with_names};
 ghost use Rattle.elf.specs.Headers.{section_range};
 
 use super::ElfStream;
-use crate::headers::has_name;
+use crate::headers::{Headers, has_name};
 use crate::source::StreamSource;
-use elf_abi::abi;
 use elf_parts::endian::EndianParse;
 use elf_parts::parse::ParseError;
 use elf_parts::section::SectionHeader;
@@ -34,32 +33,6 @@ impl<E: EndianParse, S: StreamSource, A: Allocator + Copy> ElfStream<E, S, A> {
     ghost use Rattle.std.specs.Borrow.{sem};
     ghost use Rattle.elf.specs.Lending.{Lends};
     ghost use Rattle.elf.specs.Names.{listed_view};
-
-    // Which section holds the names of the sections.
-    fn name_index(&self) -> Result<usize, ParseError>
-        ensures value { result ≡ name_index (headers_alone E.little self.now) }
-        ensures plain { IfErr result (λ e. kind e ≡ Kind.Refusal) }
-    {
-        if self.ehdr.e_shstrndx == abi::SHN_XINDEX {
-            let first = self.section_at(0)?;
-            Ok(first.sh_link as usize)
-        } else {
-            Ok(self.ehdr.e_shstrndx as usize)
-        }
-    }
-
-    // The section that holds them.
-    #[tactic(auto, unfolding(crate::specs::Names::name_section))]
-    fn name_section(&self) -> Result<Option<SectionHeader>, ParseError>
-        ensures value { result ≡ name_section (headers_alone E.little self.now) }
-        ensures plain { IfErr result (λ e. kind e ≡ Kind.Refusal) }
-    {
-        if !self.declares_sections || self.ehdr.e_shstrndx == abi::SHN_UNDEF {
-            return Ok(None);
-        }
-        let index = self.name_index()?;
-        self.section_at(index).map(Some)
-    }
 
     // The headers, where there are no names.
     fn lend_unnamed(&self) -> (&Vec<SectionHeader, A>, Option<StringTable<'_>>)

@@ -10,11 +10,13 @@ ghost use Rattle.elf_parts.specs.Table.{table_items, table_view};
 ghost use Rattle.elf.specs.ElfStream.{IsAnswer, kind};
 ghost use Rattle.elf.specs.inner.HeaderSteps.{IsNoWant, front_ident, range_bytes, range_records, range_table};
 ghost use Rattle.elf.specs.inner.HeaderSteps.{tail_header};
-ghost use Rattle.elf.specs.inner.Reads.{HasLength, Reads, ReadsAs, declared_count, declared_table};
+ghost use Rattle.elf.specs.inner.Reads.{HasLength, Reads, ReadsAs};
+ghost use Rattle.elf.specs.inner.Tables.{declared_count, declared_table};
 
 use super::reads::{fetch, read_at};
 use crate::source::StreamSource;
-use elf_abi::abi::{EI_NIDENT, PN_XNUM};
+use crate::tables::DeclaredTable;
+use elf_abi::abi::EI_NIDENT;
 use elf_parts::endian::EndianParse;
 use elf_parts::file::{Class, ELF32_EHDR_TAILSIZE, ELF64_EHDR_TAILSIZE, FileHeader, parse_ident};
 use elf_parts::parse::{ParseAt, ParseError, ParsingTable};
@@ -130,31 +132,12 @@ fn read_first<E: EndianParse, S: StreamSource>(
     }
 }
 
-// Where the number of a table's records stands where the file header has no room for it: in this word of the first
-// section header.
-#[derive(Copy, Clone)]
-enum CountWord {
-    ShSize,
-    ShInfo,
-}
-
-// A table as the file header declares it: its offset, the size of a record, the number of the records, and which value
-// in that place says that the number stands in a word of the first section header.
-#[derive(Copy, Clone)]
-struct Declared {
-    offset: u64,
-    entsize: u16,
-    count: u16,
-    extended: u16,
-    word: CountWord,
-}
-
 // Reads how many records a table has.
 fn read_count<E: EndianParse, S: StreamSource>(
     source: &mut S,
     len: u64,
     ehdr: &FileHeader<E>,
-    table: Declared,
+    table: DeclaredTable,
 ) -> Result<u64, ParseError>
     requires { HasLength S.StreamSource source.old len }
     ensures { Reads S.StreamSource (declared_count E.little ehdr.now table) source.old source.new result }
@@ -163,10 +146,7 @@ fn read_count<E: EndianParse, S: StreamSource>(
         return Ok(u64::from(table.count));
     }
     let first = read_first(source, len, ehdr)?;
-    match table.word {
-        CountWord::ShSize => Ok(first.sh_size),
-        CountWord::ShInfo => Ok(u64::from(first.sh_info)),
-    }
+    Ok(table.word.count_in(&first))
 }
 
 // Where so many records lie from `offset` on, whose size the file header gives as entsize: their start and their end in
@@ -202,7 +182,7 @@ fn locate<P: ParseAt, E: EndianParse, S: StreamSource>(
     source: &mut S,
     len: u64,
     ehdr: &FileHeader<E>,
-    table: Declared,
+    table: DeclaredTable,
 ) -> Result<Option<(u64, u64)>, ParseError>
     requires { HasLength S.StreamSource source.old len }
     ensures reads { ReadsAs S.StreamSource (λ bytes. option_map (range_table E.little ehdr.now bytes))
@@ -229,14 +209,7 @@ pub(super) fn locate_shdrs<E: EndianParse, S: StreamSource>(
         (section_table E.little ehdr.now) source.old source.new result }
     ensures within { IfOk result (λ found. IfSome found (λ range. (range.0 ≤ range.1) × (range.1 ≤ len))) }
 {
-    let table = Declared {
-        offset: ehdr.e_shoff,
-        entsize: ehdr.e_shentsize,
-        count: ehdr.e_shnum,
-        extended: 0,
-        word: CountWord::ShSize,
-    };
-    locate::<SectionHeader, E, S>(source, len, ehdr, table)
+    locate::<SectionHeader, E, S>(source, len, ehdr, DeclaredTable::of_sections(ehdr))
 }
 
 /// Where the program headers lie; none where the file declares none.
@@ -251,14 +224,7 @@ pub(super) fn locate_phdrs<E: EndianParse, S: StreamSource>(
         (segment_table E.little ehdr.now) source.old source.new result }
     ensures within { IfOk result (λ found. IfSome found (λ range. (range.0 ≤ range.1) × (range.1 ≤ len))) }
 {
-    let table = Declared {
-        offset: ehdr.e_phoff,
-        entsize: ehdr.e_phentsize,
-        count: ehdr.e_phnum,
-        extended: PN_XNUM,
-        word: CountWord::ShInfo,
-    };
-    locate::<ProgramHeader, E, S>(source, len, ehdr, table)
+    locate::<ProgramHeader, E, S>(source, len, ehdr, DeclaredTable::of_segments(ehdr))
 }
 
 // The records of a table.

@@ -1,44 +1,28 @@
 //! The symbols of a stream, with their strings.
-ghost use Rattle.std.specs.Prelude.{◌≡◌, ℕ, Ok, IfErr, IfSome};
+ghost use Rattle.std.specs.Prelude.{◌≡◌, Ok, IfSome};
 ghost use Rattle.std.specs.Option.{option_map};
 ghost use Rattle.elf_abi.specs.Values.{sht_dynsym, sht_symtab};
 ghost use Rattle.elf_parts.specs.Number.{ok_map};
-ghost use Rattle.elf.specs.Answers.{dynamic_symbol_table, first_symbols, symbol_sections, symbol_table, symbols_in};
-ghost use Rattle.elf.specs.Answers.{symbols_view};
-ghost use Rattle.elf.specs.Ranges.{both_sections, headers_alone, symbols_asked};
+ghost use Rattle.elf.specs.Answers.{dynamic_symbol_table, first_symbols, symbol_table, symbols_in, symbols_view};
+ghost use Rattle.elf.specs.Ranges.{both_sections, symbols_asked};
 ghost use Rattle.elf.specs.StreamFile.{stream_file};
-ghost use Rattle.elf.specs.ElfStream.{AreHeld, Kind, kind};
+ghost use Rattle.elf.specs.ElfStream.{AreHeld};
 ghost use Rattle.elf.specs.inner.Loads.{AreLow, Loads};
 
 use super::ElfStream;
+use crate::headers::Headers;
 use crate::source::StreamSource;
 use elf_abi::abi;
 use elf_parts::endian::EndianParse;
-use elf_parts::parse::{ParseAt, ParseError};
+use elf_parts::parse::ParseError;
 use elf_parts::section::SectionHeader;
 use elf_parts::string_table::StringTable;
-use elf_parts::symbol::{Symbol, SymbolTable};
+use elf_parts::symbol::SymbolTable;
 use std::alloc::Allocator;
 
 impl<E: EndianParse, S: StreamSource, A: Allocator + Copy> ElfStream<E, S, A> {
     ghost use Rattle.std.specs.Borrow.{sem};
     ghost use Rattle.elf.specs.Lending.{Lends};
-
-    // The first section of a type of symbols, with the section that it links to.
-    fn symbol_sections(
-        &self,
-        sh_type: u32,
-    ) -> Result<Option<(SectionHeader, SectionHeader)>, ParseError>
-        ensures value { result ≡ symbol_sections sh_type (headers_alone E.little self.now) }
-        ensures plain { IfErr result (λ e. kind e ≡ Kind.Refusal) }
-    {
-        let Some(shdr) = self.first_section_of(sh_type) else {
-            return Ok(None);
-        };
-        let linked = self.section_at(shdr.sh_link as usize)?;
-        Symbol::validate_entsize(self.ehdr.class, shdr.sh_entsize as usize)?;
-        Ok(Some((shdr, linked)))
-    }
 
     // Loads the ranges of two sections.
     pub(super) fn load_both(

@@ -9,10 +9,10 @@ ghost use Rattle.elf.specs.inner.Loads.{AreLow, Loads};
 ghost use Rattle.elf.specs.Headers.{if_found};
 ghost use Rattle.std.specs.Option.{option_map};
 ghost use Rattle.elf_parts.specs.gnu_symver.Table.{definitions_view, needs_view, versions_view};
-ghost use Rattle.elf.specs.inner.Plans.{definitions_by, needs_by, planned_versions, versions_by};
+ghost use Rattle.elf.specs.inner.Plans.{definitions_by, needs_by, versions_by_plan, versions_by};
 
 use super::ElfStream;
-use super::headers::version_sections;
+use crate::headers::{Headers, LinkedSections};
 use crate::source::StreamSource;
 use elf_parts::endian::EndianParse;
 use elf_parts::gnu_symver::{
@@ -23,19 +23,20 @@ use elf_parts::section::SectionHeader;
 use elf_parts::string_table::StringTable;
 use std::alloc::Allocator;
 
-// A section, and the one that it links to.
-type Linked = (SectionHeader, SectionHeader);
-
 // The section of version indexes, and those of the needs and of the definitions with the ones that they
 // link to.
-type VersionPlan = (SectionHeader, Option<Linked>, Option<Linked>);
+type VersionPlan = (
+    SectionHeader,
+    Option<LinkedSections>,
+    Option<LinkedSections>,
+);
 
 impl<E: EndianParse, S: StreamSource, A: Allocator + Copy> ElfStream<E, S, A> {
     ghost use Rattle.std.specs.Borrow.{sem};
     ghost use Rattle.elf.specs.Lending.{Lends};
 
     // A section with the one that it links to, where there is one.
-    fn link_if(&self, shdr: Option<SectionHeader>) -> Result<Option<Linked>, ParseError>
+    fn link_if(&self, shdr: Option<SectionHeader>) -> Result<Option<LinkedSections>, ParseError>
         ensures value { result ≡ if_found (with_link (headers_alone E.little self.now)) shdr }
         ensures plain { IfErr result (λ e. kind e ≡ Kind.Refusal) }
     {
@@ -51,7 +52,7 @@ impl<E: EndianParse, S: StreamSource, A: Allocator + Copy> ElfStream<E, S, A> {
         ensures value { result ≡ version_plan (headers_alone E.little self.now) }
         ensures plain { IfErr result (λ e. kind e ≡ Kind.Refusal) }
     {
-        let chosen = version_sections(&self.shdrs);
+        let chosen = self.version_sections();
         let Some(shdr) = chosen.indexes else {
             return Ok(None);
         };
@@ -62,7 +63,7 @@ impl<E: EndianParse, S: StreamSource, A: Allocator + Copy> ElfStream<E, S, A> {
     }
 
     // Loads the ranges of two sections, where there are any.
-    fn load_both_if(&mut self, linked: Option<Linked>) -> Result<(), ParseError>
+    fn load_both_if(&mut self, linked: Option<LinkedSections>) -> Result<(), ParseError>
         ensures { Loads (if_there both_sections linked) self.old self.new result }
     {
         match linked {
@@ -83,7 +84,7 @@ impl<E: EndianParse, S: StreamSource, A: Allocator + Copy> ElfStream<E, S, A> {
     // The needs of a section with their strings, where there is one; the ranges are held.
     fn lend_needs(
         &self,
-        linked: Option<Linked>,
+        linked: Option<LinkedSections>,
     ) -> Option<(VerNeedIterator<'_, E>, StringTable<'_>)>
         requires low { AreLow (if_there both_sections linked) }
         requires held { AreHeld self.now (if_there both_sections linked) }
@@ -106,7 +107,7 @@ impl<E: EndianParse, S: StreamSource, A: Allocator + Copy> ElfStream<E, S, A> {
     // The definitions of a section with their strings, where there is one; the ranges are held.
     fn lend_definitions(
         &self,
-        linked: Option<Linked>,
+        linked: Option<LinkedSections>,
     ) -> Option<(VerDefIterator<'_, E>, StringTable<'_>)>
         requires low { AreLow (if_there both_sections linked) }
         requires held { AreHeld self.now (if_there both_sections linked) }
@@ -146,9 +147,9 @@ impl<E: EndianParse, S: StreamSource, A: Allocator + Copy> ElfStream<E, S, A> {
     }
 
     // The versions of the sections that are chosen, if any are.
-    fn planned_versions(&mut self) -> Result<Option<SymbolVersionTable<'_, E>>, ParseError>
+    fn versions_by_plan(&mut self) -> Result<Option<SymbolVersionTable<'_, E>>, ParseError>
         ensures* leaves { sem 𝓛 (Lends E.row S.row A.row E.EndianParse S.StreamSource A.Allocator self.entry
-            versions_asked (option_map versions_view) planned_versions result) }
+            versions_asked (option_map versions_view) versions_by_plan result) }
     {
         let Some(plan) = self.version_plan()? else {
             return Ok(None);
@@ -165,6 +166,6 @@ impl<E: EndianParse, S: StreamSource, A: Allocator + Copy> ElfStream<E, S, A> {
         ensures* leaves { sem 𝓛 (Lends E.row S.row A.row E.EndianParse S.StreamSource A.Allocator self.entry
             versions_asked (option_map versions_view) symbol_version_table result) }
     {
-        self.planned_versions()
+        self.versions_by_plan()
     }
 }

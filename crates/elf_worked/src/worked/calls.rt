@@ -1,7 +1,8 @@
 //! Whole calls of a listing, from the bytes of small files on.
 ghost use Rattle.std.specs.Prelude.{◌≡◌, [], ◌∷◌, ◌++◌, Ok, codes};
-ghost use Rattle.elfshow.specs.calls.Question.{Data, DynSyms, Dynamic, Gnu, Name, Notes, Relas, Rels};
-ghost use Rattle.elfshow.specs.calls.Question.{Seg, SegNotes, Segments, Strings, Symbols, Sysv, Versions};
+ghost use Rattle.elf_check.specs.declared.hashcheck.any.HashSection.TheVariants.{Gnu, Sysv};
+ghost use Rattle.elfshow.specs.calls.Question.{Data, DynSyms, Dynamic, Hash, Name, Notes, Relas, Rels};
+ghost use Rattle.elfshow.specs.calls.Question.{Seg, SegNotes, Segments, Strings, Symbols, Versions};
 ghost use Rattle.elf_worked.specs.Files.{compressed_section, in_four, in_two, one_segment, small_file, two_sections};
 ghost use Rattle.elf_worked.specs.Known.{listing};
 ghost use Rattle.elf_worked.specs.Listed.{dynamic_file, gnu_type, gnuu_note, note_section_file};
@@ -114,9 +115,10 @@ pub fn versions_listed()
 
 /// Both hash sections of a file, a section that holds no table, and one that there is not.
 pub fn hash_sections_listed()
-    ensures sysv { listing symbol_a (Sysv 4 ∷ []) ≡ Ok (codes "sound indexed=1\n") }
-    ensures gnu { listing symbol_a (Gnu 3 ∷ []) ≡ Ok (codes "sound indexed=1\n") }
-    ensures faulty { listing (symbol_a_with gnu_type 1) (Sysv 4 ∷ []) ≡ Ok (codes "faulty\n") }
-    ensures refused { listing symbol_a (Gnu 0 ∷ Gnu 4 ∷ Sysv 5 ∷ []) ≡ Ok (codes "refused\nrefused\nabsent\n") }
-    ensures no_symbols { listing compressed_section (Sysv 0 ∷ Gnu 0 ∷ []) ≡ Ok (codes "none\nnone\n") }
+    ensures sysv { listing symbol_a (Hash Sysv 4 ∷ []) ≡ Ok (codes "sound indexed=1\n") }
+    ensures gnu { listing symbol_a (Hash Gnu 3 ∷ []) ≡ Ok (codes "sound indexed=1\n") }
+    ensures faulty { listing (symbol_a_with gnu_type 1) (Hash Sysv 4 ∷ []) ≡ Ok (codes "faulty\n") }
+    ensures refused { listing symbol_a (Hash Gnu 0 ∷ Hash Gnu 4 ∷ Hash Sysv 5 ∷ [])
+        ≡ Ok (codes "refused\nrefused\nabsent\n") }
+    ensures no_symbols { listing compressed_section (Hash Sysv 0 ∷ Hash Gnu 0 ∷ []) ≡ Ok (codes "none\nnone\n") }
 {}

@@ -7,11 +7,13 @@ ghost use Rattle.elf.specs.Common.{find_common_data};
 ghost use Rattle.elf_worked.specs.Files.{counted, zeros};
 ghost use Rattle.elf_worked.specs.Objects.{linked_section_of, object_with, section_of, segment_of};
 
-/// A file of the bytes 00 to 3f with two tables of symbols, of which the last is taken, one of dynamic linking, all with
-/// the four strings at 20, and entries in a segment of type PT_DYNAMIC.
+/// A file of the bytes 00 to 3f with two tables of symbols, of which the last is taken, one of dynamic linking, all
+/// with the four strings at 20, and entries in a segment of type PT_DYNAMIC.
 pub fn common_data_found()
-    ensures of_sections { find_common_data (object_with counted (section_of 0 0 0 0 ∷ linked_section_of 2 0 16 2 16 ∷ section_of 3 0 0x20 4
-        ∷ linked_section_of 11 0x10 16 2 16 ∷ linked_section_of 2 0x30 16 2 16 ∷ []) (segment_of 1 0 8 ∷ segment_of 2 0x38 8 ∷ []))
+    ensures of_sections { find_common_data (object_with counted
+        (section_of 0 0 0 0 ∷ linked_section_of 2 0 16 2 16 ∷ section_of 3 0 0x20 4
+        ∷ linked_section_of 11 0x10 16 2 16 ∷ linked_section_of 2 0x30 16 2 16 ∷ [])
+        (segment_of 1 0 8 ∷ segment_of 2 0x38 8 ∷ []))
         ≡ Ok (record {
           symtab = Some (table_in true ELF32 (drop 0x30 counted));
           symtab_strs = Some (0x20 ∷ 0x21 ∷ 0x22 ∷ 0x23 ∷ []);
@@ -34,7 +36,8 @@ pub fn common_data_found()
 
 /// Hash sections of no words, of both kinds, and dynamic entries of a section, before which no segment is looked at.
 pub fn hashes_found()
-    ensures { find_common_data (object_with (zeros 16) (section_of 5 0 0 8 ∷ section_of 0x6ffffff6 0 0 16 ∷ linked_section_of 6 8 8 0 8 ∷ [])
+    ensures { find_common_data (object_with (zeros 16)
+        (section_of 5 0 0 8 ∷ section_of 0x6ffffff6 0 0 16 ∷ linked_section_of 6 8 8 0 8 ∷ [])
         (segment_of 2 100 8 ∷ [])) ≡ Ok (record {
           symtab = None;
           symtab_strs = None;
@@ -53,8 +56,10 @@ pub fn hashes_found()
 
 /// The first refusal of a section refuses all: a link to a section that there is not, and entries of another size.
 pub fn common_data_refused()
-    ensures link { find_common_data (object_with counted (linked_section_of 2 0 16 9 16 ∷ linked_section_of 2 0 16 0 24 ∷ []) [])
+    ensures link { find_common_data (object_with counted
+        (linked_section_of 2 0 16 9 16 ∷ linked_section_of 2 0 16 0 24 ∷ []) [])
         ≡ Err (BadOffset 9) }
-    ensures entry_size { find_common_data (object_with counted (linked_section_of 2 0 16 0 24 ∷ linked_section_of 2 0 16 9 16 ∷ []) [])
+    ensures entry_size { find_common_data (object_with counted
+        (linked_section_of 2 0 16 0 24 ∷ linked_section_of 2 0 16 9 16 ∷ []) [])
         ≡ Err (BadEntsize (24, 16)) }
 {}

@@ -7,23 +7,23 @@ ghost use Rattle.elfshow.specs.Verdicts.{verdict};
 ghost use Rattle.elfshow.specs.lines.Data.{section_data_line, segment_data_line};
 ghost use Rattle.elfshow.specs.lines.Dynamic.{dyn_line};
 ghost use Rattle.elfshow.specs.lines.Hashes.{verdict_line};
-ghost use Rattle.elfshow.specs.lines.Listed.{listed};
+ghost use Rattle.elfshow.specs.lines.Counted.{counted_lines};
 ghost use Rattle.elfshow.specs.lines.Notes.{note_line};
 ghost use Rattle.elfshow.specs.lines.Relocations.{rel_line, rela_line};
 ghost use Rattle.elfshow.specs.lines.Sections.{found_line};
 ghost use Rattle.elfshow.specs.lines.Segments.{segment_line};
-ghost use Rattle.elfshow.specs.lines.Stand.{absent_line, none_line, refused_line};
+ghost use Rattle.elfshow.specs.lines.NoAnswer.{absent_line, none_line, refused_line};
 ghost use Rattle.elfshow.specs.lines.Strings.{string_line, strings_of};
 ghost use Rattle.elfshow.specs.lines.Symbols.{symbol_line};
 ghost use Rattle.elfshow.specs.lines.Versions.{version_line, versions_listed};
 ghost use Rattle.elf_worked.specs.Parts.{versions};
 
-/// The lines that stand in the place of an answer, and a list of nothing.
+/// The lines in the place of an answer, and a list of nothing.
 pub fn lines_without_an_answer()
     ensures refused { refused_line ≡ codes "refused\n" }
     ensures absent { absent_line ≡ codes "absent\n" }
     ensures none { none_line ≡ codes "none\n" }
-    ensures empty { listed segment_line [] ≡ codes "end 0\n" }
+    ensures empty { counted_lines segment_line [] ≡ codes "end 0\n" }
 {}
 
 /// A segment: its flags and addresses in hexadecimal, all else in decimal.
@@ -67,10 +67,10 @@ pub fn data_written()
 
 /// Strings by their offsets, up to the first that no 0 byte ends.
 pub fn strings_written()
-    ensures two { listed string_line (strings_of (0 ∷ 0x61 ∷ 0x20 ∷ 0 ∷ 0x62 ∷ []))
+    ensures two { counted_lines string_line (strings_of (0 ∷ 0x61 ∷ 0x20 ∷ 0 ∷ 0x62 ∷ []))
         ≡ codes "string 0 name=\nstring 1 name=a\\x20\nend 2\n" }
-    ensures none { listed string_line (strings_of []) ≡ codes "end 0\n" }
-    ensures last { listed string_line (strings_of (0x61 ∷ 0 ∷ [])) ≡ codes "string 0 name=a\nend 1\n" }
+    ensures none { counted_lines string_line (strings_of []) ≡ codes "end 0\n" }
+    ensures last { counted_lines string_line (strings_of (0x61 ∷ 0 ∷ [])) ≡ codes "string 0 name=a\nend 1\n" }
 {}
 
 /// Relocations: an addend has its sign.

@@ -113,9 +113,11 @@ pub fn segment_tables()
 pub fn refusals_of_tables()
     ensures number { opening (header_of_tables (in_eight 64 ++ in_eight 64) (zeros 4) (zeros 6))
         ≡ Err (SliceReadError (64, 68)) }
-    ensures entry_size { opening (header_of_tables (in_eight 64 ++ in_eight 64) (zeros 4) (zeros 2 ++ in_two 1 ++ zeros 2))
+    ensures entry_size { opening (header_of_tables (in_eight 64 ++ in_eight 64) (zeros 4)
+        (zeros 2 ++ in_two 1 ++ zeros 2))
         ≡ Err (BadEntsize (0, 64)) }
-    ensures place { opening (header_of_tables (in_eight 64 ++ in_eight 64) (zeros 4) (in_two 64 ++ in_two 1 ++ zeros 2))
+    ensures place { opening (header_of_tables (in_eight 64 ++ in_eight 64) (zeros 4)
+        (in_two 64 ++ in_two 1 ++ zeros 2))
         ≡ Err (SliceReadError (64, 128)) }
     ensures segments { opening (header_of_tables (in_eight 64 ++ zeros 8) (zeros 4) (zeros 2 ++ in_two 1 ++ zeros 2))
         ≡ Err (BadEntsize (0, 56)) }

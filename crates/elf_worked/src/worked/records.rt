@@ -1,4 +1,5 @@
-//! Symbols, relocations, dynamic entries, compression headers and the headers of hash sections in the bytes 00, 01 and so on.
+//! Symbols, relocations, dynamic entries, compression headers and the headers of hash sections in the bytes 00, 01 and
+//! so on.
 ghost use Rattle.std.specs.Prelude.{◌≡◌, [], ◌∷◌, ◌++◌, true, false, pos, negsuc, Ok, Err, take};
 ghost use Rattle.elf_parts.specs.Compression.{compression_header_layout};
 ghost use Rattle.elf_parts.specs.Dynamic.{dyn_layout};
@@ -65,8 +66,10 @@ pub fn parts_of_symbols()
 /// In 32 bits the type of a relocation is the lowest byte of r_info and the symbol stands in the others; in 64 bits
 /// each has one half.
 pub fn relocations()
-    ensures little_32 { record_by rel_layout true ELF32 counted 0 ≡ Ok (record { r_offset = 0x03020100; r_sym = 0x070605; r_type = 0x04 }) }
-    ensures big_32 { record_by rel_layout false ELF32 counted 0 ≡ Ok (record { r_offset = 0x00010203; r_sym = 0x040506; r_type = 0x07 }) }
+    ensures little_32 { record_by rel_layout true ELF32 counted 0
+        ≡ Ok (record { r_offset = 0x03020100; r_sym = 0x070605; r_type = 0x04 }) }
+    ensures big_32 { record_by rel_layout false ELF32 counted 0
+        ≡ Ok (record { r_offset = 0x00010203; r_sym = 0x040506; r_type = 0x07 }) }
     ensures little_64 { record_by rel_layout true ELF64 counted 0
         ≡ Ok (record { r_offset = 0x0706050403020100; r_sym = 0x0f0e0d0c; r_type = 0x0b0a0908 }) }
     ensures big_64 { record_by rel_layout false ELF64 counted 0
@@ -91,11 +94,16 @@ pub fn relocations_with_addends()
 
 /// A tag, which is signed, and a number behind it, of four bytes each in 32 bits and of eight in 64 bits.
 pub fn dynamic_entries()
-    ensures little_32 { record_by dyn_layout true ELF32 counted 0 ≡ Ok (record { d_tag = pos 0x03020100; d_un = 0x07060504 }) }
-    ensures little_64 { record_by dyn_layout true ELF64 counted 0 ≡ Ok (record { d_tag = pos 0x0706050403020100; d_un = 0x0f0e0d0c0b0a0908 }) }
-    ensures big_64 { record_by dyn_layout false ELF64 counted 0 ≡ Ok (record { d_tag = pos 0x0001020304050607; d_un = 0x08090a0b0c0d0e0f }) }
-    ensures negative_32 { record_by dyn_layout true ELF32 ((0xfe ∷ ones 3) ++ ones 4) 0 ≡ Ok (record { d_tag = negsuc 1; d_un = 0xffffffff }) }
-    ensures negative_64 { record_by dyn_layout true ELF64 ((0xfe ∷ ones 7) ++ in_eight 5) 0 ≡ Ok (record { d_tag = negsuc 1; d_un = 5 }) }
+    ensures little_32 { record_by dyn_layout true ELF32 counted 0
+        ≡ Ok (record { d_tag = pos 0x03020100; d_un = 0x07060504 }) }
+    ensures little_64 { record_by dyn_layout true ELF64 counted 0
+        ≡ Ok (record { d_tag = pos 0x0706050403020100; d_un = 0x0f0e0d0c0b0a0908 }) }
+    ensures big_64 { record_by dyn_layout false ELF64 counted 0
+        ≡ Ok (record { d_tag = pos 0x0001020304050607; d_un = 0x08090a0b0c0d0e0f }) }
+    ensures negative_32 { record_by dyn_layout true ELF32 ((0xfe ∷ ones 3) ++ ones 4) 0
+        ≡ Ok (record { d_tag = negsuc 1; d_un = 0xffffffff }) }
+    ensures negative_64 { record_by dyn_layout true ELF64 ((0xfe ∷ ones 7) ++ in_eight 5) 0
+        ≡ Ok (record { d_tag = negsuc 1; d_un = 5 }) }
 {}
 
 /// In 64 bits a reserved word stands behind the type and is not kept.
@@ -111,7 +119,8 @@ pub fn compression_headers()
 
 /// The two words in front of the buckets, and the four in front of the bloom filter.
 pub fn hash_headers()
-    ensures sysv { record_by sysv_header_layout true ELF64 counted 0 ≡ Ok (record { nbucket = 0x03020100; nchain = 0x07060504 }) }
+    ensures sysv { record_by sysv_header_layout true ELF64 counted 0
+        ≡ Ok (record { nbucket = 0x03020100; nchain = 0x07060504 }) }
     ensures gnu { record_by gnu_header_layout true ELF64 counted 0
         ≡ Ok (record { nbucket = 0x03020100; table_start_idx = 0x07060504; nbloom = 0x0b0a0908; nshift = 0x0f0e0d0c }) }
 {}

@@ -37,7 +37,8 @@ pub fn of_no_bytes()
 /// refused, so is the text, for the same reason.
 pub fn text_asked()
     ensures accepted { (answer : Result (Bor (List ℕ)) ParseError) →
-        GivesText (string_at (0x00 ∷ 0x45 ∷ 0x4c ∷ 0x46 ∷ 0x00 ∷ []) 1) answer → IsOkAnd answer (λ text. text.now ≡ codes "ELF") }
+        GivesText (string_at (0x00 ∷ 0x45 ∷ 0x4c ∷ 0x46 ∷ 0x00 ∷ []) 1) answer →
+        IsOkAnd answer (λ text. text.now ≡ codes "ELF") }
     ensures refused { (answer : Result (Bor (List ℕ)) ParseError) →
         GivesText (string_at (0x00 ∷ 0x45 ∷ 0x4c ∷ 0x46 ∷ []) 1) answer → answer ≡ Err (StringTableMissingNul 1) }
 {}
@@ -48,5 +49,6 @@ pub fn broken_text_asked()
     ensures string { string_at (0x00 ∷ 0xc3 ∷ 0x28 ∷ 0x00 ∷ []) 1 ≡ Ok (0xc3 ∷ 0x28 ∷ []) }
     ensures no_text { ¬ IsUtf8 (0xc3 ∷ 0x28 ∷ []) }
     ensures answered { (answer : Result (Bor (List ℕ)) ParseError) →
-        GivesText (string_at (0x00 ∷ 0xc3 ∷ 0x28 ∷ 0x00 ∷ []) 1) answer → IsErrAnd answer (λ e. (fault : Fault) × (e ≡ Utf8Error fault)) }
+        GivesText (string_at (0x00 ∷ 0xc3 ∷ 0x28 ∷ 0x00 ∷ []) 1) answer →
+        IsErrAnd answer (λ e. (fault : Fault) × (e ≡ Utf8Error fault)) }
 {}

@@ -10,8 +10,8 @@ ghost use Rattle.elf_worked.specs.Files.{in_four, in_two, zeros};
 ghost use Rattle.elf_worked.specs.Parts.{base_definition, definitions, first_need, needs};
 ghost use Rattle.elf_worked.specs.Parts.{second_definition, second_need, versions};
 
-/// Two files, the first with two versions and the second with none: each record lies where the one before it tells. With a
-/// count of 1 only the first is a need; no count gives more than there are.
+/// Two files, the first with two versions and the second with none: each record lies where the one before it tells.
+/// With a count of 1 only the first is a need; no count gives more than there are.
 pub fn needed_files()
     ensures both { ver_needs (table_in true ELF64 needs) 2 0 ≡ first_need ∷ second_need ∷ [] }
     ensures one { ver_needs (table_in true ELF32 needs) 1 0 ≡ first_need ∷ [] }
@@ -41,16 +41,18 @@ pub fn indexes()
 /// Symbols 1 and 2 need the versions "v" and "w" of the file "f", the second hidden; symbols 0 and 3 need none. There
 /// is no symbol 5.
 pub fn required()
-    ensures first { requirement versions 1 ≡ Ok (Some (record { file = Ok (codes "f"); name = Ok (codes "v"); hash = 7; flags = 0; hidden = false })) }
-    ensures hidden { requirement versions 2 ≡ Ok (Some (record { file = Ok (codes "f"); name = Ok (codes "w"); hash = 8; flags = 2; hidden = true })) }
+    ensures first { requirement versions 1
+        ≡ Ok (Some (record { file = Ok (codes "f"); name = Ok (codes "v"); hash = 7; flags = 0; hidden = false })) }
+    ensures hidden { requirement versions 2
+        ≡ Ok (Some (record { file = Ok (codes "f"); name = Ok (codes "w"); hash = 8; flags = 2; hidden = true })) }
     ensures local { requirement versions 0 ≡ Ok None }
     ensures defined { requirement versions 3 ≡ Ok None }
     ensures none { requirement versions 5 ≡ Err (SliceReadError (10, 12)) }
     ensures no_needs { requirement (record versions { needs = None }) 9 ≡ Ok None }
 {}
 
-/// Symbol 3 is defined with the version of the index 5, whose names are "x" and "f", and symbol 4 with the base version,
-/// whose name would begin where the strings end.
+/// Symbol 3 is defined with the version of the index 5, whose names are "x" and "f", and symbol 4 with the base
+/// version, whose name would begin where the strings end.
 pub fn defined()
     ensures two_names { definition versions 3
         ≡ Ok (Some (record { hash = 6; flags = 0; names = Ok (codes "x") ∷ Ok (codes "f") ∷ []; hidden = false })) }

@@ -1,7 +1,8 @@
 //! What the words of a command line ask for.
 ghost use Rattle.std.specs.Prelude.{◌≡◌, [], ◌∷◌, ◌++◌, Some, None, codes};
-ghost use Rattle.elfshow.specs.calls.Question.{Data, DynSyms, Dynamic, Gnu, Header, Name, Notes, Relas, Rels};
-ghost use Rattle.elfshow.specs.calls.Question.{Sections, Seg, SegNotes, Segments, Strings, Symbols, Sysv, Versions};
+ghost use Rattle.elf_check.specs.declared.hashcheck.any.HashSection.TheVariants.{Gnu, Sysv};
+ghost use Rattle.elfshow.specs.calls.Question.{Data, DynSyms, Dynamic, Hash, Header, Name, Notes, Relas, Rels};
+ghost use Rattle.elfshow.specs.calls.Question.{Sections, Seg, SegNotes, Segments, Strings, Symbols, Versions};
 ghost use Rattle.elfshow.specs.Pieces.{newline};
 ghost use Rattle.elfshow.specs.Failure.{status_of};
 ghost use Rattle.elfshow.specs.Show.{agreement, mode_of, shown_by};
@@ -33,8 +34,8 @@ pub fn words_with_a_number()
     ensures notes { call_of (codes "notes=7") ≡ Some (Notes 7) }
     ensures seg { call_of (codes "seg=7") ≡ Some (Seg 7) }
     ensures segnotes { call_of (codes "segnotes=7") ≡ Some (SegNotes 7) }
-    ensures sysv { call_of (codes "sysv=7") ≡ Some (Sysv 7) }
-    ensures gnu { call_of (codes "gnu=7") ≡ Some (Gnu 7) }
+    ensures sysv { call_of (codes "sysv=7") ≡ Some (Hash Sysv 7) }
+    ensures gnu { call_of (codes "gnu=7") ≡ Some (Hash Gnu 7) }
     ensures no_number { call_of (codes "data=") ≡ None }
     ensures other_key { call_of (codes "dat=7") ≡ None }
     ensures two_equals { call_of (codes "data=7=") ≡ None }

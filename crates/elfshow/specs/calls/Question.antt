@@ -1,5 +1,8 @@
--- The question of a call: the call itself, with bytes in place of references.
+-- The question of a call: the call itself, with bytes in place of references, and one question for both kinds of hash
+-- section.
 use Rattle.std.specs.Prelude.{ℕ, List}
+use Rattle.elf_check.specs.declared.hashcheck.any.HashSection.{HashSection}
+use Rattle.elf_check.specs.declared.hashcheck.any.HashSection.TheVariants.{Gnu, Sysv}
 use Rattle.elfshow.specs.declared.calls.Call.{Call}
 use Rattle.elfshow.specs.declared.calls.Call.TheVariants as call
 
@@ -19,8 +22,7 @@ pub data Question : Type 0 where
   DynSyms : Question
   Dynamic : Question
   Versions : Question
-  Sysv : ℕ → Question
-  Gnu : ℕ → Question
+  Hash : HashSection → ℕ → Question
 
 abbrev pub question : Call → Question
 question call.Header = Header
@@ -38,5 +40,5 @@ question call.Symbols = Symbols
 question call.DynSyms = DynSyms
 question call.Dynamic = Dynamic
 question call.Versions = Versions
-question (call.Sysv i) = Sysv i
-question (call.Gnu i) = Gnu i
+question (call.Sysv i) = Hash Sysv i
+question (call.Gnu i) = Hash Gnu i

@@ -7,7 +7,7 @@ use Rattle.elf.specs.ObjectFile.{ObjectFile}
 use Rattle.elf.specs.ElfStream.{Seen}
 use Rattle.elf_parts.specs.declared.section.SectionHeader.{SectionHeader}
 use Rattle.elfshow.specs.calls.Question.{Question, Header, Sections, Segments, Name, Data, Strings, Rels, Relas}
-use Rattle.elfshow.specs.calls.Question.{Notes, Seg, SegNotes, Symbols, DynSyms, Dynamic, Versions, Sysv, Gnu}
+use Rattle.elfshow.specs.calls.Question.{Notes, Seg, SegNotes, Symbols, DynSyms, Dynamic, Versions, Hash}
 
 -- of a hash section, and of the symbols that it is checked for
 abbrev pub checked_asked : ObjectFile → SectionHeader → List (ℕ × ℕ)
@@ -30,8 +30,7 @@ ranges_of file Symbols = symbols_asked sht_symtab file
 ranges_of file DynSyms = symbols_asked sht_dynsym file
 ranges_of file Dynamic = dynamic_asked file
 ranges_of file Versions = symbols_asked sht_dynsym file ++ versions_asked file
-ranges_of file (Sysv i) = if_there (checked_asked file) (slice_get file.sections i)
-ranges_of file (Gnu i) = if_there (checked_asked file) (slice_get file.sections i)
+ranges_of file (Hash kind i) = if_there (checked_asked file) (slice_get file.sections i)
 
 -- those of a call of a stream, by a type of orders of which some are little
 abbrev pub call_ranges : {E : Type 0} → (E → Bool) → Seen E → Question → List (ℕ × ℕ)
@@ -39,6 +38,5 @@ call_ranges little s call = ranges_of (headers_alone little s) call
 
 -- the call takes no memory beyond that of its ranges: `sysv` and `gnu` take a copy of a section
 abbrev pub TakesNoMemory : Question → Type 0
-TakesNoMemory (Sysv i) = ⊥
-TakesNoMemory (Gnu i) = ⊥
+TakesNoMemory (Hash kind i) = ⊥
 TakesNoMemory _ = Unit {0}

@@ -2,37 +2,37 @@
 use Rattle.std.specs.Prelude.{ℕ, List, length, Option, Some, None, Result, Ok, Err, slice_get}
 use Rattle.std.specs.List.{flat_map}
 use Rattle.elf_parts.specs.Dynamic.{dyn_reads}
-use Rattle.elf_parts.specs.GnuFind.{gnu_section}
 use Rattle.elf_parts.specs.Number.{ok_map}
 use Rattle.elf_parts.specs.Record.{◌>>=◌}
 use Rattle.elf_parts.specs.Symbol.{symbol_reads}
-use Rattle.elf_parts.specs.SysvFind.{sysv_section}
 use Rattle.elf_parts.specs.Table.{Table, table_items}
 use Rattle.elf_parts.specs.declared.file.FileHeader.{FileHeader}
 use Rattle.elf_parts.specs.declared.parse.ParseError.{ParseError}
 use Rattle.elf_parts.specs.declared.section.SectionHeader.{SectionHeader}
 use Rattle.elf_parts.specs.declared.segment.ProgramHeader.{ProgramHeader}
-use Rattle.elf.specs.Answers.{dynamic, dynamic_symbol_table, section_data, section_data_as_notes}
+use Rattle.elf.specs.Answers.{dynamic, dynamic_symbol_table, section_data_as_notes}
+use Rattle.elf.specs.Data.{section_data}
 use Rattle.elf.specs.Answers.{section_data_as_relas, section_data_as_rels, section_data_as_strtab}
 use Rattle.elf.specs.Answers.{section_header_by_name, segment_data, segment_data_as_notes, symbol_table}
 use Rattle.elf.specs.Answers.{symbol_version_table}
 use Rattle.elf.specs.Names.{name_table}
 use Rattle.elf.specs.ObjectFile.{ObjectFile}
-use Rattle.elf_check.specs.WithSymbols.{WithSymbols, with_symbols}
-use Rattle.elfshow.specs.Verdicts.{gnu_verdict, sysv_verdict}
+use Rattle.elf_check.specs.Object.{Object, object_in}
+use Rattle.elf_check.specs.declared.hashcheck.any.HashSection.{HashSection}
+use Rattle.elfshow.specs.Verdicts.{verdict_of}
 use Rattle.elfshow.specs.calls.Question.{Question, Header, Sections, Segments, Name, Data, Strings, Rels, Relas}
-use Rattle.elfshow.specs.calls.Question.{Notes, Seg, SegNotes, Symbols, DynSyms, Dynamic, Versions, Sysv, Gnu}
+use Rattle.elfshow.specs.calls.Question.{Notes, Seg, SegNotes, Symbols, DynSyms, Dynamic, Versions, Hash}
 use Rattle.elfshow.specs.declared.lines.hashes.Verdict.{Verdict}
 use Rattle.elfshow.specs.lines.Data.{section_data_line, segment_data_line}
 use Rattle.elfshow.specs.lines.Dynamic.{dyn_line}
 use Rattle.elfshow.specs.lines.Hashes.{verdict_line}
 use Rattle.elfshow.specs.lines.Header.{header_line}
-use Rattle.elfshow.specs.lines.Listed.{listed}
+use Rattle.elfshow.specs.lines.Counted.{counted_lines}
 use Rattle.elfshow.specs.lines.Notes.{note_line}
 use Rattle.elfshow.specs.lines.Relocations.{rel_line, rela_line}
 use Rattle.elfshow.specs.lines.Sections.{found_line, section_line}
 use Rattle.elfshow.specs.lines.Segments.{segment_line}
-use Rattle.elfshow.specs.lines.Stand.{absent_line, none_line, refused_line}
+use Rattle.elfshow.specs.lines.NoAnswer.{absent_line, none_line, refused_line}
 use Rattle.elfshow.specs.lines.Strings.{string_line, strings_of}
 use Rattle.elfshow.specs.lines.Symbols.{symbol_line}
 use Rattle.elfshow.specs.lines.Versions.{versions_listed}
@@ -53,7 +53,7 @@ unless_absent answer None = Ok absent_line
 
 -- the symbols of a table, with the bytes of their names
 abbrev pub symbols_text : Table × List ℕ → List ℕ
-symbols_text (symbols, names) = listed (symbol_line names) (table_items symbol_reads symbols)
+symbols_text (symbols, names) = counted_lines (symbol_line names) (table_items symbol_reads symbols)
 
 -- how many symbols there are, if any
 abbrev pub symbol_count : Option (Table × List ℕ) → ℕ
@@ -62,27 +62,21 @@ symbol_count (Some (symbols, names)) = length (table_items symbol_reads symbols)
 
 -- the dynamic entries of a table
 abbrev pub dynamic_text : Table → List ℕ
-dynamic_text entries = listed dyn_line (table_items dyn_reads entries)
+dynamic_text entries = counted_lines dyn_line (table_items dyn_reads entries)
 
 -- ---- what a checker says of a section
 
--- of a hash table, for symbols and their names, if there are any
-abbrev pub checked_for : {T : Type 0} → (WithSymbols T → Verdict) → Result T ParseError → Option (Table × List ℕ) →
+-- of a hash section, by what it is with symbols and their names, if there are any
+abbrev pub checked_for : (Table → List ℕ → Result Object ParseError) → Option (Table × List ℕ) →
     Result (Option Verdict) ParseError
-checked_for says table None = Ok None
-checked_for says table (Some (symbols, names)) = ok_map (λ given. Some (says given)) (with_symbols symbols names table)
+checked_for object_of None = Ok None
+checked_for object_of (Some (symbols, names)) = ok_map (λ object. Some (verdict_of object)) (object_of symbols names)
 
--- of the bytes of a section, whatever its type, as a hash section, for the symbols of dynamic linking
-abbrev pub checked_section : {T : Type 0} → (WithSymbols T → Verdict) → (List ℕ → Result T ParseError) →
-    ObjectFile → SectionHeader → Result (Option Verdict) ParseError
-checked_section says cut file s =
-    section_data file s >>= λ found. dynamic_symbol_table file >>= λ symbols. checked_for says (cut found.0) symbols
-
-abbrev pub checked_as_sysv : ObjectFile → SectionHeader → Result (Option Verdict) ParseError
-checked_as_sysv file s = checked_section sysv_verdict (sysv_section file.little file.class) file s
-
-abbrev pub checked_as_gnu : ObjectFile → SectionHeader → Result (Option Verdict) ParseError
-checked_as_gnu file s = checked_section gnu_verdict (gnu_section file.little file.class) file s
+-- of the bytes of a section, whatever its type, as a hash section of a kind, for the symbols of dynamic linking
+abbrev pub checked_as : HashSection → ObjectFile → SectionHeader → Result (Option Verdict) ParseError
+checked_as kind file s =
+    section_data file s >>= λ found. dynamic_symbol_table file >>= λ symbols.
+    checked_for (object_in kind file.little file.class found.0) symbols
 
 -- ---- calls
 
@@ -98,25 +92,24 @@ module _ {E : Type 0} (header : FileHeader E) (file : ObjectFile) where
   -- the text that a call writes, or why it is refused
   abbrev pub call_answer : Question → Result (List ℕ) ParseError
   call_answer Header = Ok (header_line file.little header)
-  call_answer Sections = ok_map (λ names. listed (section_line names) file.sections) (name_table file)
-  call_answer Segments = Ok (listed segment_line file.segments)
+  call_answer Sections = ok_map (λ names. counted_lines (section_line names) file.sections) (name_table file)
+  call_answer Segments = Ok (counted_lines segment_line file.segments)
   call_answer (Name name) = ok_map (unless_none found_line) (section_header_by_name file name)
   call_answer (Data i) = of_section i (λ s. ok_map (λ found. section_data_line found.0 found.1) (section_data file s))
   call_answer (Strings i) =
-      of_section i (λ s. ok_map (λ bytes. listed string_line (strings_of bytes)) (section_data_as_strtab file s))
-  call_answer (Rels i) = of_section i (λ s. ok_map (listed rel_line) (section_data_as_rels file s))
-  call_answer (Relas i) = of_section i (λ s. ok_map (listed rela_line) (section_data_as_relas file s))
-  call_answer (Notes i) = of_section i (λ s. ok_map (listed note_line) (section_data_as_notes file s))
+      of_section i (λ s. ok_map (λ bytes. counted_lines string_line (strings_of bytes)) (section_data_as_strtab file s))
+  call_answer (Rels i) = of_section i (λ s. ok_map (counted_lines rel_line) (section_data_as_rels file s))
+  call_answer (Relas i) = of_section i (λ s. ok_map (counted_lines rela_line) (section_data_as_relas file s))
+  call_answer (Notes i) = of_section i (λ s. ok_map (counted_lines note_line) (section_data_as_notes file s))
   call_answer (Seg j) = of_segment j (λ p. ok_map segment_data_line (segment_data file p))
-  call_answer (SegNotes j) = of_segment j (λ p. ok_map (listed note_line) (segment_data_as_notes file p))
+  call_answer (SegNotes j) = of_segment j (λ p. ok_map (counted_lines note_line) (segment_data_as_notes file p))
   call_answer Symbols = ok_map (unless_none symbols_text) (symbol_table file)
   call_answer DynSyms = ok_map (unless_none symbols_text) (dynamic_symbol_table file)
   call_answer Dynamic = ok_map (unless_none dynamic_text) (dynamic file)
   call_answer Versions =
       dynamic_symbol_table file >>= λ symbols.
       ok_map (unless_none (versions_listed (symbol_count symbols))) (symbol_version_table file)
-  call_answer (Sysv i) = of_section i (λ s. ok_map (unless_none verdict_line) (checked_as_sysv file s))
-  call_answer (Gnu i) = of_section i (λ s. ok_map (unless_none verdict_line) (checked_as_gnu file s))
+  call_answer (Hash kind i) = of_section i (λ s. ok_map (unless_none verdict_line) (checked_as kind file s))
 
 -- the text, or where the call is refused the line that says so
 abbrev pub or_refused : Result (List ℕ) ParseError → List ℕ

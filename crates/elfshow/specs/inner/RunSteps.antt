@@ -1,13 +1,16 @@
 -- What one call of a run leaves; contracts of private functions speak of it.
 use Rattle.std.specs.Prelude.{◌≡◌, ℕ, Bool, List, Option, Result, Ok, Err, IfSome, IsErr, IsOk, OnOk}
 use Rattle.std.specs.Io.KnownBytes.{Appends}
-use Rattle.elf.specs.Answers.{dynamic_symbol_table, section_data}
+use Rattle.elf.specs.Answers.{dynamic_symbol_table}
+use Rattle.elf.specs.Data.{section_data}
 use Rattle.elf.specs.ObjectFile.{ObjectFile}
 use Rattle.elf.specs.ElfStream.{AreHeld, IsAnswer, IsRefused, Keeps, Kind, Seen, kind}
 use Rattle.elf_parts.specs.Number.{ok_map}
 use Rattle.elf_parts.specs.Record.{◌>>=◌}
 use Rattle.elf_parts.specs.declared.section.SectionHeader.{SectionHeader}
-use Rattle.elf_check.specs.WithSymbols.{WithSymbols, with_symbols}
+use Rattle.elf_check.specs.Object.{object_in}
+use Rattle.elf_check.specs.declared.hashcheck.any.HashSection.{HashSection}
+use Rattle.elfshow.specs.Verdicts.{verdict_of}
 use Rattle.elfshow.specs.declared.lines.hashes.Verdict.{Verdict}
 use Rattle.std.specs.Option.{option_map}
 use Rattle.elf_parts.specs.declared.parse.ParseError.{ParseError}
@@ -19,7 +22,7 @@ use Rattle.elfshow.specs.declared.calls.RunError.{RunError}
 use Rattle.elfshow.specs.declared.calls.RunError.TheVariants.{Fault, Open, Write}
 use Rattle.elfshow.specs.declared.calls.Stop.{Stop}
 use Rattle.elfshow.specs.declared.calls.Stop.TheVariants as stop
-use Rattle.elfshow.specs.lines.Stand.{refused_line}
+use Rattle.elfshow.specs.lines.NoAnswer.{refused_line}
 use Rattle.std.specs.Io.KnownBytes.{Keeps as KeepsBytes}
 
 -- why a run stopped, by what stopped its call
@@ -111,8 +114,8 @@ abbrev pub section_bytes : ObjectFile → SectionHeader → Result (List ℕ) Pa
 section_bytes file s = ok_map (λ found. found.0) (section_data file s)
 
 -- what a checker says of a section, if there are symbols to check it for; its refusal stands apart from a stream's
-abbrev pub checked_apart : {T : Type 0} → (WithSymbols T → Verdict) → (List ℕ → Result T ParseError) →
-    ObjectFile → SectionHeader → Result (Option (Result Verdict ParseError)) ParseError
-checked_apart says cut file s =
+abbrev pub checked_apart : HashSection → ObjectFile → SectionHeader →
+    Result (Option (Result Verdict ParseError)) ParseError
+checked_apart kind file s =
     section_bytes file s >>= λ part. dynamic_symbol_table file >>= λ symbols.
-    Ok (option_map (λ found. ok_map says (with_symbols found.0 found.1 (cut part))) symbols)
+    Ok (option_map (λ found. ok_map verdict_of (object_in kind file.little file.class part found.0 found.1)) symbols)

@@ -7,7 +7,7 @@ use denote.Ref.{Bor}
 use Rattle.elf_parts.specs.gnu_symver.Table.{Definition, Requirement, Versions, definition, requirement}
 use Rattle.elf_parts.specs.declared.parse.ParseError.{ParseError}
 use Rattle.elfshow.specs.Pieces.{◌⧺◌, newline, escaped, hex}
-use Rattle.elfshow.specs.lines.Listed.{end_line}
+use Rattle.elfshow.specs.lines.Counted.{end_line}
 
 -- a raw name that can be read, and that is text
 abbrev pub text_of : Result (List ℕ) ParseError → Option (List ℕ)

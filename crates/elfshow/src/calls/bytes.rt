@@ -3,42 +3,35 @@ ghost use Rattle.std.specs.Prelude.{◌≡◌, OnOk, slice_get};
 ghost use Rattle.std.specs.Option.{option_map};
 ghost use Rattle.std.specs.Io.KnownBytes.{Appends};
 ghost use Rattle.elf_parts.specs.Number.{ok_map};
-ghost use Rattle.elf_parts.specs.GnuFind.{gnu_section};
-ghost use Rattle.elf_parts.specs.StringTable.{strings_view};
-ghost use Rattle.elf_parts.specs.SysvFind.{sysv_section};
-ghost use Rattle.elf_parts.specs.Table.{table_view};
 ghost use Rattle.elf.specs.Answers.{dynamic_symbol_table, symbols_view};
 ghost use Rattle.elf.specs.ObjectFile.{object_file};
 ghost use Rattle.elf.specs.ElfBytes.{section_list, segment_list, view};
-ghost use Rattle.elf_check.specs.WithSymbols.{with_symbols};
-ghost use Rattle.elfshow.specs.Verdicts.{gnu_verdict, sysv_verdict};
 ghost use Rattle.elfshow.specs.calls.Question.{Question, question};
-ghost use Rattle.elfshow.specs.calls.Text.{call_text, checked_as_gnu, checked_as_sysv, or_refused};
-ghost use Rattle.elfshow.specs.calls.Text.{symbol_count, symbols_text, unless_none};
+ghost use Rattle.elfshow.specs.calls.Text.{call_text, checked_as, or_refused, symbol_count, symbols_text};
+ghost use Rattle.elfshow.specs.calls.Text.{unless_none};
 
 use crate::calls::Call;
+use crate::lines::counted::{write_end, write_records};
 use crate::lines::data::{write_section_data, write_segment_data};
 use crate::lines::dynamic::DynLine;
-use crate::lines::hashes::{Verdict, write_verdict};
+use crate::lines::hashes::{Verdict, hash_verdict, write_verdict};
 use crate::lines::header::write_header;
-use crate::lines::listed::{write_end, write_records};
+use crate::lines::no_answer::{write_absent, write_none, write_refused};
 use crate::lines::notes::write_notes;
 use crate::lines::relocations::{RelLine, RelaLine};
 use crate::lines::sections::{SectionLine, write_found};
 use crate::lines::segments::SegmentLine;
-use crate::lines::stand::{write_absent, write_none, write_refused};
 use crate::lines::strings::write_strings;
 use crate::lines::symbols::SymbolLine;
 use crate::lines::versions::write_versions;
 use elf::endian::EndianParse;
-use elf::file::Class;
 use elf::laws::tables::{iter_gives_len_records, iter_gives_whatever_get_gives};
 use elf::section::SectionHeader;
 use elf::segment::ProgramHeader;
 use elf::string_table::StringTable;
 use elf::symbol::SymbolTable;
 use elf::{ElfBytes, ParseError};
-use elf_check::hashcheck::{Checked, check_gnu, check_sysv};
+use elf_check::hashcheck::HashSection;
 use std::io;
 use std::io::Write;
 
@@ -67,8 +60,8 @@ pub(super) fn write_call<E: EndianParse, W: Write>(
         Call::DynSyms => write_symbols(file.dynamic_symbol_table(), out),
         Call::Dynamic => write_dynamic(file, out),
         Call::Versions => write_symbol_versions(file, out),
-        Call::Sysv(index) => write_sysv(file, index, out),
-        Call::Gnu(index) => write_gnu(file, index, out),
+        Call::Sysv(index) => write_hash(file, HashSection::Sysv, index, out),
+        Call::Gnu(index) => write_hash(file, HashSection::Gnu, index, out),
     }
 }
 
@@ -305,114 +298,36 @@ fn write_symbol_versions<E: EndianParse, W: Write>(
     }
 }
 
-// What the checker says of bytes as a SysV hash section.
-pub(super) fn sysv_verdict<E: EndianParse>(
-    endian: E,
-    class: Class,
-    bytes: &[u8],
-    symbols: SymbolTable<'_, E>,
-    strings: StringTable<'_>,
-) -> Result<Verdict, ParseError>
-    ensures { result ≡ ok_map sysv_verdict (with_symbols (table_view symbols.entry) (strings_view strings.entry)
-        (sysv_section (E.little endian) class bytes.now)) }
-{
-    match check_sysv(endian, class, bytes, symbols, strings) {
-        Ok(Checked::Sound(checked)) => Ok(Verdict::Sound(checked.indexed())),
-        Ok(Checked::Faulty(_)) => Ok(Verdict::Faulty),
-        Err(error) => Err(error),
-    }
-}
-
-// The same of a section of the file, for its symbols for dynamic linking, if there are any.
-fn section_sysv_verdict<E: EndianParse>(
+// What the checker says of a section as a hash section, for the symbols for dynamic linking, if there are any.
+fn section_verdict<E: EndianParse>(
     file: &ElfBytes<'_, E>,
+    kind: HashSection,
     section: &SectionHeader,
 ) -> Result<Option<Verdict>, ParseError>
-    ensures { result ≡ checked_as_sysv (object_file E.little (view file.now)) section.now }
+    ensures { result ≡ checked_as kind (object_file E.little (view file.now)) section.now }
 {
     let (bytes, _) = file.section_data(section)?;
     let Some((symbols, strings)) = file.dynamic_symbol_table()? else {
         return Ok(None);
     };
-    let verdict = sysv_verdict(
-        file.ehdr.endianness,
-        file.ehdr.class,
-        bytes,
-        symbols,
-        strings,
-    )?;
+    let ehdr = &file.ehdr;
+    let verdict = hash_verdict(kind, ehdr.endianness, ehdr.class, bytes, symbols, strings)?;
     Ok(Some(verdict))
 }
 
-fn write_sysv<E: EndianParse, W: Write>(
+fn write_hash<E: EndianParse, W: Write>(
     file: &ElfBytes<'_, E>,
+    kind: HashSection,
     index: u64,
     out: &mut W,
 ) -> io::Result<()>
     ensures { OnOk result (Appends (W.contents out.old) (W.contents out.new)
-        (call_text file.now.ehdr (object_file E.little (view file.now)) (Question.Sysv index))) }
+        (call_text file.now.ehdr (object_file E.little (view file.now)) (Question.Hash kind index))) }
 {
     let Some(section) = section_header(file, index) else {
         return write_absent(out);
     };
-    match section_sysv_verdict(file, &section) {
-        Ok(Some(verdict)) => write_verdict(verdict, out),
-        Ok(None) => write_none(out),
-        Err(_) => write_refused(out),
-    }
-}
-
-// What the checker says of bytes as a GNU hash section.
-pub(super) fn gnu_verdict<E: EndianParse>(
-    endian: E,
-    class: Class,
-    bytes: &[u8],
-    symbols: SymbolTable<'_, E>,
-    strings: StringTable<'_>,
-) -> Result<Verdict, ParseError>
-    ensures { result ≡ ok_map gnu_verdict (with_symbols (table_view symbols.entry) (strings_view strings.entry)
-        (gnu_section (E.little endian) class bytes.now)) }
-{
-    match check_gnu(endian, class, bytes, symbols, strings) {
-        Ok(Checked::Sound(checked)) => Ok(Verdict::Sound(checked.indexed())),
-        Ok(Checked::Faulty(_)) => Ok(Verdict::Faulty),
-        Err(error) => Err(error),
-    }
-}
-
-// The same of a section of the file, for its symbols for dynamic linking, if there are any.
-fn section_gnu_verdict<E: EndianParse>(
-    file: &ElfBytes<'_, E>,
-    section: &SectionHeader,
-) -> Result<Option<Verdict>, ParseError>
-    ensures { result ≡ checked_as_gnu (object_file E.little (view file.now)) section.now }
-{
-    let (bytes, _) = file.section_data(section)?;
-    let Some((symbols, strings)) = file.dynamic_symbol_table()? else {
-        return Ok(None);
-    };
-    let verdict = gnu_verdict(
-        file.ehdr.endianness,
-        file.ehdr.class,
-        bytes,
-        symbols,
-        strings,
-    )?;
-    Ok(Some(verdict))
-}
-
-fn write_gnu<E: EndianParse, W: Write>(
-    file: &ElfBytes<'_, E>,
-    index: u64,
-    out: &mut W,
-) -> io::Result<()>
-    ensures { OnOk result (Appends (W.contents out.old) (W.contents out.new)
-        (call_text file.now.ehdr (object_file E.little (view file.now)) (Question.Gnu index))) }
-{
-    let Some(section) = section_header(file, index) else {
-        return write_absent(out);
-    };
-    match section_gnu_verdict(file, &section) {
+    match section_verdict(file, kind, &section) {
         Ok(Some(verdict)) => write_verdict(verdict, out),
         Ok(None) => write_none(out),
         Err(_) => write_refused(out),

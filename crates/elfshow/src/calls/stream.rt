@@ -6,28 +6,24 @@ ghost use Rattle.elf.specs.Answers.{dynamic_symbol_table};
 ghost use Rattle.elf.specs.Ranges.{headers_alone, section_asked, symbols_asked};
 ghost use Rattle.elf.specs.StreamFile.{stream_file};
 ghost use Rattle.elf.specs.ElfStream.{Leaves, kind};
-ghost use Rattle.elf_parts.specs.GnuFind.{gnu_section};
-ghost use Rattle.elf_parts.specs.SysvFind.{sysv_section};
 ghost use Rattle.elf_parts.specs.Number.{ok_map};
-ghost use Rattle.elfshow.specs.Verdicts.{gnu_verdict, sysv_verdict};
 ghost use Rattle.elfshow.specs.calls.Question.{Question, question};
 ghost use Rattle.elfshow.specs.calls.Ranges.{checked_asked};
 ghost use Rattle.elfshow.specs.calls.Text.{symbol_count};
 ghost use Rattle.elfshow.specs.inner.RunSteps.{Gives, IsWritten, LeadsTo, RanCall, TriedCall, checked_apart};
 ghost use Rattle.elfshow.specs.inner.RunSteps.{section_bytes};
 
-use crate::calls::bytes::{gnu_verdict, sysv_verdict};
 use crate::calls::{Call, Stop};
+use crate::lines::counted::{write_records, write_slice};
 use crate::lines::data::{write_section_data, write_segment_data};
 use crate::lines::dynamic::DynLine;
-use crate::lines::hashes::{Verdict, write_verdict};
+use crate::lines::hashes::{Verdict, hash_verdict, write_verdict};
 use crate::lines::header::write_header;
-use crate::lines::listed::{write_records, write_slice};
+use crate::lines::no_answer::{write_absent, write_none, write_refused};
 use crate::lines::notes::write_notes;
 use crate::lines::relocations::{RelLine, RelaLine};
 use crate::lines::sections::{SectionLine, write_found};
 use crate::lines::segments::SegmentLine;
-use crate::lines::stand::{write_absent, write_none, write_refused};
 use crate::lines::strings::write_strings;
 use crate::lines::symbols::SymbolLine;
 use crate::lines::versions::write_versions;
@@ -36,6 +32,7 @@ use elf::laws::tables::iter_gives_len_records;
 use elf::section::SectionHeader;
 use elf::segment::ProgramHeader;
 use elf::{ElfStream, ParseError, StreamSource};
+use elf_check::hashcheck::HashSection;
 use std::alloc::Allocator;
 use std::io;
 use std::io::Write;
@@ -80,8 +77,8 @@ fn try_call<E: EndianParse, S: StreamSource, A: Allocator + Copy, W: Write>(
         Call::DynSyms => write_dynsyms(stream, out),
         Call::Dynamic => write_dynamic(stream, out),
         Call::Versions => write_symbol_versions(stream, out),
-        Call::Sysv(index) => write_sysv(stream, index, out),
-        Call::Gnu(index) => write_gnu(stream, index, out),
+        Call::Sysv(index) => write_hash(stream, HashSection::Sysv, index, out),
+        Call::Gnu(index) => write_hash(stream, HashSection::Gnu, index, out),
     }
 }
 
@@ -389,23 +386,23 @@ fn section_copy<E: EndianParse, S: StreamSource, A: Allocator + Copy>(
     }
 }
 
-// What the checker says of a section as a SysV hash section, for the symbols for dynamic linking, if there are
-// any. Its refusal stands apart from one of the stream.
-fn section_sysv_verdict<E: EndianParse, S: StreamSource, A: Allocator + Copy>(
+// What the checker says of a section as a hash section, for the symbols for dynamic linking, if there are any. Its
+// refusal stands apart from one of the stream.
+fn section_verdict<E: EndianParse, S: StreamSource, A: Allocator + Copy>(
     stream: &mut ElfStream<E, S, A>,
+    kind: HashSection,
     section: &SectionHeader,
 ) -> Result<Option<Result<Verdict, ParseError>>, ParseError>
     ensures { Gives (checked_asked (headers_alone E.little stream.old) section.now) (λ verdict. verdict)
-        (λ bytes. checked_apart sysv_verdict
-        (sysv_section (E.little stream.old.ehdr.endianness) stream.old.ehdr.class)
-        (stream_file E.little stream.old bytes) section.now) stream.old stream.new result }
+        (λ bytes. checked_apart kind (stream_file E.little stream.old bytes) section.now)
+        stream.old stream.new result }
 {
     let endian = stream.ehdr.endianness;
     let class = stream.ehdr.class;
     let bytes = section_copy(stream, section)?;
     match stream.dynamic_symbol_table() {
         Ok(Some((symbols, strings))) => {
-            let verdict = sysv_verdict(endian, class, bytes.as_slice(), symbols, strings);
+            let verdict = hash_verdict(kind, endian, class, bytes.as_slice(), symbols, strings);
             Ok(Some(verdict))
         }
         Ok(None) => Ok(None),
@@ -413,61 +410,19 @@ fn section_sysv_verdict<E: EndianParse, S: StreamSource, A: Allocator + Copy>(
     }
 }
 
-fn write_sysv<E: EndianParse, S: StreamSource, A: Allocator + Copy, W: Write>(
+fn write_hash<E: EndianParse, S: StreamSource, A: Allocator + Copy, W: Write>(
     stream: &mut ElfStream<E, S, A>,
+    kind: HashSection,
     index: u64,
     out: &mut W,
 ) -> Result<io::Result<()>, ParseError>
-    ensures { TriedCall E.little (Question.Sysv index) stream.old stream.new
+    ensures { TriedCall E.little (Question.Hash kind index) stream.old stream.new
         (W.contents out.old) (W.contents out.new) result }
 {
     let Some(section) = section_header(stream, index) else {
         return Ok(write_absent(out));
     };
-    match section_sysv_verdict(stream, &section) {
-        Ok(Some(Ok(verdict))) => Ok(write_verdict(verdict, out)),
-        Ok(Some(Err(_))) => Ok(write_refused(out)),
-        Ok(None) => Ok(write_none(out)),
-        Err(error) => Err(error),
-    }
-}
-
-// What the checker says of a section as a GNU hash section, for the symbols for dynamic linking, if there are
-// any. Its refusal stands apart from one of the stream.
-fn section_gnu_verdict<E: EndianParse, S: StreamSource, A: Allocator + Copy>(
-    stream: &mut ElfStream<E, S, A>,
-    section: &SectionHeader,
-) -> Result<Option<Result<Verdict, ParseError>>, ParseError>
-    ensures { Gives (checked_asked (headers_alone E.little stream.old) section.now) (λ verdict. verdict)
-        (λ bytes. checked_apart gnu_verdict
-        (gnu_section (E.little stream.old.ehdr.endianness) stream.old.ehdr.class)
-        (stream_file E.little stream.old bytes) section.now) stream.old stream.new result }
-{
-    let endian = stream.ehdr.endianness;
-    let class = stream.ehdr.class;
-    let bytes = section_copy(stream, section)?;
-    match stream.dynamic_symbol_table() {
-        Ok(Some((symbols, strings))) => {
-            let verdict = gnu_verdict(endian, class, bytes.as_slice(), symbols, strings);
-            Ok(Some(verdict))
-        }
-        Ok(None) => Ok(None),
-        Err(error) => Err(error),
-    }
-}
-
-fn write_gnu<E: EndianParse, S: StreamSource, A: Allocator + Copy, W: Write>(
-    stream: &mut ElfStream<E, S, A>,
-    index: u64,
-    out: &mut W,
-) -> Result<io::Result<()>, ParseError>
-    ensures { TriedCall E.little (Question.Gnu index) stream.old stream.new
-        (W.contents out.old) (W.contents out.new) result }
-{
-    let Some(section) = section_header(stream, index) else {
-        return Ok(write_absent(out));
-    };
-    match section_gnu_verdict(stream, &section) {
+    match section_verdict(stream, kind, &section) {
         Ok(Some(Ok(verdict))) => Ok(write_verdict(verdict, out)),
         Ok(Some(Err(_))) => Ok(write_refused(out)),
         Ok(None) => Ok(write_none(out)),

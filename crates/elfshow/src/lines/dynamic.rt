@@ -3,7 +3,7 @@ ghost use Rattle.std.specs.Prelude.{OnOk};
 ghost use Rattle.std.specs.Io.KnownBytes.{Appends};
 ghost use Rattle.elfshow.specs.lines.Dynamic.{dyn_line};
 
-use crate::lines::listed::Line;
+use crate::lines::counted::Line;
 use crate::pieces::Piece::{Decimal, Hex, Signed, Word};
 use crate::pieces::write_pieces;
 use elf::dynamic::Dyn;

@@ -1,8 +1,19 @@
-//! The line of what a checker says of a hash section.
-ghost use Rattle.std.specs.Prelude.{OnOk};
+//! What a checker says of a hash section, and its line.
+ghost use Rattle.std.specs.Prelude.{◌≡◌, OnOk};
 ghost use Rattle.std.specs.Io.KnownBytes.{Appends};
+ghost use Rattle.elf_parts.specs.Number.{ok_map};
+ghost use Rattle.elf_parts.specs.StringTable.{strings_view};
+ghost use Rattle.elf_parts.specs.Table.{table_view};
+ghost use Rattle.elf_check.specs.Object.{object_in};
+ghost use Rattle.elfshow.specs.Verdicts.{verdict_of};
 ghost use Rattle.elfshow.specs.lines.Hashes.{verdict_line};
 
+use elf::ParseError;
+use elf::endian::EndianParse;
+use elf::file::Class;
+use elf::string_table::StringTable;
+use elf::symbol::SymbolTable;
+use elf_check::hashcheck::{Checked, HashSection, check_any};
 use std::io;
 use std::io::Write;
 
@@ -12,6 +23,25 @@ pub(crate) enum Verdict {
     Faulty,
     /// So many symbols are indexed.
     Sound(usize),
+}
+
+/// What the checker says of bytes as a hash section, for these symbols. Refuses where the bytes hold no table.
+pub(crate) fn hash_verdict<E: EndianParse>(
+    kind: HashSection,
+    endian: E,
+    class: Class,
+    bytes: &[u8],
+    symbols: SymbolTable<'_, E>,
+    strings: StringTable<'_>,
+) -> Result<Verdict, ParseError>
+    ensures { result ≡ ok_map verdict_of (object_in kind (E.little endian) class bytes.now
+        (table_view symbols.entry) (strings_view strings.entry)) }
+{
+    match check_any(kind, endian, class, bytes, symbols, strings) {
+        Ok(Checked::Sound(checked)) => Ok(Verdict::Sound(checked.indexed())),
+        Ok(Checked::Faulty(_)) => Ok(Verdict::Faulty),
+        Err(error) => Err(error),
+    }
 }
 
 /// The line of a verdict.

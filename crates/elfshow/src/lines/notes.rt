@@ -2,10 +2,10 @@
 ghost use Rattle.std.specs.Prelude.{OnOk, length, ◌<◌, ◌^◌};
 ghost use Rattle.std.specs.Io.KnownBytes.{Appends};
 ghost use Rattle.elf_parts.specs.Note.{AbiTag, BuildId, Other, note_view, notes_left};
-ghost use Rattle.elfshow.specs.lines.Listed.{listed};
+ghost use Rattle.elfshow.specs.lines.Counted.{counted_lines};
 ghost use Rattle.elfshow.specs.lines.Notes.{content_line, note_line};
 
-use crate::lines::listed::{Line, write_list};
+use crate::lines::counted::{Line, write_list};
 use crate::pieces::Piece::{Bytes, Decimal, Escaped, Word};
 use crate::pieces::write_pieces;
 use elf::endian::EndianParse;
@@ -79,7 +79,7 @@ pub(crate) fn write_notes<E: EndianParse, W: Write>(
 ) -> io::Result<()>
     requires { length (notes_left notes) < 2 ^ 64 }
     ensures { OnOk result (Appends (W.contents out.old) (W.contents out.new)
-        (listed note_line (notes_left notes.entry))) }
+        (counted_lines note_line (notes_left notes.entry))) }
 {
     write_list(notes, &NoteLine { lent: PhantomData }, out)
 }

@@ -3,7 +3,7 @@ ghost use Rattle.std.specs.Prelude.{OnOk};
 ghost use Rattle.std.specs.Io.KnownBytes.{Appends};
 ghost use Rattle.elfshow.specs.lines.Relocations.{rel_line, rela_line};
 
-use crate::lines::listed::Line;
+use crate::lines::counted::Line;
 use crate::pieces::Piece::{Decimal, Hex, Signed, Word};
 use crate::pieces::write_pieces;
 use elf::relocation::{Rel, Rela};

@@ -5,7 +5,7 @@ ghost use Rattle.std.specs.Io.KnownBytes.{Appends};
 ghost use Rattle.elf_parts.specs.StringTable.{strings_view};
 ghost use Rattle.elfshow.specs.lines.Sections.{found_line, place_fields, reading_fields, section_fields, section_line};
 
-use crate::lines::listed::Line;
+use crate::lines::counted::Line;
 use crate::lines::name::name_piece;
 use crate::pieces::Piece::{Decimal, Hex, Word};
 use crate::pieces::write_pieces;

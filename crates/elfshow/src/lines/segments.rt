@@ -3,7 +3,7 @@ ghost use Rattle.std.specs.Prelude.{OnOk};
 ghost use Rattle.std.specs.Io.KnownBytes.{Appends};
 ghost use Rattle.elfshow.specs.lines.Segments.{segment_line, segment_places, segment_sizes};
 
-use crate::lines::listed::Line;
+use crate::lines::counted::Line;
 use crate::pieces::Piece::{Decimal, Hex};
 use crate::pieces::write_pieces;
 use elf::segment::ProgramHeader;

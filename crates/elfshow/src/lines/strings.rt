@@ -2,10 +2,10 @@
 ghost use Rattle.std.specs.Prelude.{OnOk, length};
 ghost use Rattle.std.specs.Io.KnownBytes.{Appends};
 ghost use Rattle.elf_parts.specs.StringTable.{strings_view};
-ghost use Rattle.elfshow.specs.lines.Listed.{listed};
+ghost use Rattle.elfshow.specs.lines.Counted.{counted_lines};
 ghost use Rattle.elfshow.specs.lines.Strings.{string_line, strings_of};
 
-use crate::lines::listed::write_end;
+use crate::lines::counted::write_end;
 use crate::pieces::Piece::{Decimal, Escaped, Word};
 use crate::pieces::write_pieces;
 use elf::string_table::StringTable;
@@ -15,7 +15,7 @@ use std::io::Write;
 /// The lines of the strings of a table, one behind the other, up to the first offset at which there is none.
 pub(crate) fn write_strings<W: Write>(strings: StringTable<'_>, out: &mut W) -> io::Result<()>
     ensures { OnOk result (Appends (W.contents out.old) (W.contents out.new)
-        (listed string_line (strings_of (strings_view strings.entry)))) }
+        (counted_lines string_line (strings_of (strings_view strings.entry)))) }
 {
     let mut offset = 0;
     let mut count = 0;

@@ -6,7 +6,7 @@ ghost use Rattle.elf_parts.specs.StringTable.{strings_view};
 ghost use Rattle.elfshow.specs.Pieces.{◌⧺◌, newline, piece_text};
 ghost use Rattle.elfshow.specs.lines.Symbols.{symbol_fields, symbol_line};
 
-use crate::lines::listed::Line;
+use crate::lines::counted::Line;
 use crate::lines::name::name_piece_in;
 use crate::pieces::Piece::{self, Decimal, Hex, Word};
 use crate::pieces::write_pieces;

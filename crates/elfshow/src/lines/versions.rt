@@ -6,7 +6,7 @@ ghost use Rattle.elf_parts.specs.gnu_symver.Table.{definition, definition_view, 
 ghost use Rattle.elfshow.specs.lines.Versions.{def_field, need_field, needed_texts, text_shown, version_fields};
 ghost use Rattle.elfshow.specs.lines.Versions.{version_line, version_name, version_names, versions_listed};
 
-use crate::lines::listed::write_end;
+use crate::lines::counted::write_end;
 use crate::pieces::write_escaped;
 use elf::ParseError;
 use elf::endian::EndianParse;

@@ -8,6 +8,6 @@ use Rattle.elf.proofs.elf_stream.ElfStream.load_content.Goals as goal
 pub returns-clause-loads : goal.returns-clause-loads
 returns-clause-loads g c =
     let is : (c.args.shdr.now.sh_type == c.args.sh_type) ≡ true = search rules in
-    loads_if _ c.args.self.now c.load_payload.new.self (section_asked c.args.shdr.now) (λ bytes. content_of_type c.args.sh_type (stream_file g.E.EndianParse.little c.args.self.now bytes) c.args.shdr.now) c.load_payload.result is
-    (loads_for c.args.self.now c.load_payload.new.self (section_asked c.args.shdr.now) (λ bytes. content_of_type c.args.sh_type (stream_file g.E.EndianParse.little c.args.self.now bytes) c.args.shdr.now) c.load_payload.result
-    (λ bytes. content_needs c.args.sh_type (stream_file g.E.EndianParse.little c.args.self.now bytes) c.args.shdr.now) c.load_payload.ensures)
+    loads_if _ c.args.self.now c.load_section_data.new.self (section_asked c.args.shdr.now) (λ bytes. content_of_type c.args.sh_type (stream_file g.E.EndianParse.little c.args.self.now bytes) c.args.shdr.now) c.load_section_data.result is
+    (loads_for c.args.self.now c.load_section_data.new.self (section_asked c.args.shdr.now) (λ bytes. content_of_type c.args.sh_type (stream_file g.E.EndianParse.little c.args.self.now bytes) c.args.shdr.now) c.load_section_data.result
+    (λ bytes. content_needs c.args.sh_type (stream_file g.E.EndianParse.little c.args.self.now bytes) c.args.shdr.now) c.load_section_data.ensures)

@@ -1,6 +1,6 @@
 use Rattle.std.proofs.Common.{refl}
 use Rattle.elf.specs.Opening.{header_at_front, section_table, segment_table}
-use Rattle.elf.specs.Data.{payload}
+use Rattle.elf.specs.Data.{section_data}
 use Rattle.elf_parts.specs.File.{ident_of}
 use Rattle.elf_parts.specs.Number.{bytes_at, number_at}
 use Rattle.elf_parts.specs.Record.{numbers_at}
@@ -8,9 +8,9 @@ use Rattle.std.specs.Fmt.{digits}
 use Rattle.elf_worked.proofs.worked.calls.dynamic_listed.Goals as goal
 
 pub returns-clause-section : goal.returns-clause-section
-unfolding bytes_at ident_of numbers_at number_at header_at_front section_table segment_table payload digits
+unfolding bytes_at ident_of numbers_at number_at header_at_front section_table segment_table section_data digits
 returns-clause-section c = refl
 
 pub returns-clause-segment : goal.returns-clause-segment
-unfolding bytes_at ident_of numbers_at number_at header_at_front section_table segment_table payload digits
+unfolding bytes_at ident_of numbers_at number_at header_at_front section_table segment_table section_data digits
 returns-clause-segment c = refl

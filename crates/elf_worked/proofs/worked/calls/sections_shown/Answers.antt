@@ -1,6 +1,6 @@
 use Rattle.std.proofs.Common.{refl}
 use Rattle.elf.specs.Opening.{header_at_front, section_table, segment_table}
-use Rattle.elf.specs.Data.{payload}
+use Rattle.elf.specs.Data.{section_data}
 use Rattle.elf_parts.specs.File.{ident_of}
 use Rattle.elf_parts.specs.Number.{bytes_at, number_at}
 use Rattle.elf_parts.specs.Record.{numbers_at}
@@ -9,13 +9,13 @@ use Rattle.std.specs.Fmt.{digits}
 use Rattle.elf_worked.proofs.worked.calls.sections_shown.Goals as goal
 
 pub returns-clause-strings : goal.returns-clause-strings
-unfolding bytes_at ident_of numbers_at number_at header_at_front section_table segment_table payload string_at digits
+unfolding bytes_at ident_of numbers_at number_at header_at_front section_table segment_table section_data string_at digits
 returns-clause-strings c = refl
 
 pub returns-clause-bytes : goal.returns-clause-bytes
-unfolding bytes_at ident_of numbers_at number_at header_at_front section_table segment_table payload string_at digits
+unfolding bytes_at ident_of numbers_at number_at header_at_front section_table segment_table section_data string_at digits
 returns-clause-bytes c = refl
 
 pub returns-clause-compressed : goal.returns-clause-compressed
-unfolding bytes_at ident_of numbers_at number_at header_at_front section_table segment_table payload string_at digits
+unfolding bytes_at ident_of numbers_at number_at header_at_front section_table segment_table section_data string_at digits
 returns-clause-compressed c = refl

@@ -2,11 +2,11 @@ use Rattle.std.proofs.Common.{refl}
 use Rattle.elf_parts.specs.Number.{bytes_at, number_at}
 use Rattle.elf_parts.specs.Record.{numbers_at}
 use Rattle.elf.specs.Common.{common_of_sections}
-use Rattle.elf.specs.Data.{payload}
+use Rattle.elf.specs.Data.{section_data}
 use Rattle.elf_parts.specs.SysvFind.{sysv_section}
 use Rattle.elf_parts.specs.GnuFind.{gnu_section}
 use Rattle.elf_worked.proofs.worked.common.hashes_found.Goals as goal
 
 pub returns : goal.returns
-unfolding bytes_at number_at numbers_at common_of_sections payload sysv_section gnu_section
+unfolding bytes_at number_at numbers_at common_of_sections section_data sysv_section gnu_section
 returns c = refl

@@ -2,7 +2,7 @@ use Rattle.std.proofs.Common.{ap}
 use Rattle.elf_parts.specs.Number.{bytes_at, number_at}
 use Rattle.elf_parts.specs.Record.{numbers_at}
 use Rattle.elf_parts.specs.GnuFind.{gnu_section}
-use Rattle.elfshow.specs.inner.Decisions.{decide_gnu}
+use Rattle.elf_check.specs.inner.Decisions.{decide_gnu}
 use Rattle.std.specs.Prelude.{Ok}
 use Rattle.elf_worked.specs.SoundSections.{gnu_with}
 use Rattle.elf_worked.proofs.Below.{told_faulty}

@@ -7,7 +7,7 @@ use Rattle.elf_parts.specs.SysvFind.{sysv_section}
 use Rattle.elf_check.proofs.SysvVerdicts.{true_fault}
 use Rattle.elf_check.specs.Indexed.{chain_lengths}
 use Rattle.elf_check.specs.WithSymbols.{word}
-use Rattle.elfshow.specs.inner.Decisions.{decide_sysv}
+use Rattle.elf_check.specs.inner.Decisions.{decide_sysv}
 use Rattle.std.specs.Prelude.{Ok}
 use Rattle.elf_worked.specs.Files.{in_four}
 use Rattle.elf_worked.specs.SoundSections.{sysv_with}

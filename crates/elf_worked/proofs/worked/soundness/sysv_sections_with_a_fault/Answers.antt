@@ -3,7 +3,7 @@ use Rattle.elf_parts.specs.Number.{bytes_at, number_at}
 use Rattle.elf_parts.specs.Record.{numbers_at}
 use Rattle.elf_parts.specs.SysvFind.{sysv_section}
 use Rattle.std.specs.Prelude.{Ok}
-use Rattle.elfshow.specs.inner.Decisions.{decide_sysv}
+use Rattle.elf_check.specs.inner.Decisions.{decide_sysv}
 use Rattle.elf_worked.specs.Files.{in_four}
 use Rattle.elf_worked.specs.SoundSections.{sysv_with}
 use Rattle.elf_worked.proofs.Below.{told_faulty}

@@ -4,11 +4,11 @@ use Rattle.elf.specs.Ranges.{typed_section_asked}
 use Rattle.elfshow.specs.calls.Question.{Strings}
 use Rattle.elf.specs.Answers.{section_data_as_strtab}
 use Rattle.elf_parts.specs.StringTable.{strings_view}
-use Rattle.elfshow.specs.lines.Listed.{listed}
+use Rattle.elfshow.specs.lines.Counted.{counted_lines}
 use Rattle.elfshow.specs.lines.Strings.{string_line, strings_of}
 use Rattle.elfshow.proofs.calls.stream.write_section_strings.Goals as goal
 
 pub returns-in-Err : goal.returns-in-Err
 returns-in-Err g c =
-    section_refused g.E.EndianParse.little (Strings c.args.index) c.args.stream.now c.section_data_as_strtab.follows.lender-at-none strings_view (λ bytes. listed string_line (strings_of bytes)) (typed_section_asked 3) c.args.index c.in-Some.section section_data_as_strtab c.section_data_as_strtab.result c.in-Err.error _
+    section_refused g.E.EndianParse.little (Strings c.args.index) c.args.stream.now c.section_data_as_strtab.follows.lender-at-none strings_view (λ bytes. counted_lines string_line (strings_of bytes)) (typed_section_asked 3) c.args.index c.in-Some.section section_data_as_strtab c.section_data_as_strtab.result c.in-Err.error _
     (λ bytes. refl) (λ held. held) (sym c.section_header.ensures ∙ c.in-Some.is) c.section_data_as_strtab.follows.holds-at-none c.in-Err.is

@@ -3,7 +3,7 @@ use Rattle.elf.specs.StreamFile.{stream_file}
 use Rattle.elf.specs.Names.{headers_with_names, name_table}
 use Rattle.elf.specs.Names.{listed_view}
 use Rattle.elfshow.specs.calls.Question.{Sections}
-use Rattle.elfshow.specs.lines.Listed.{listed}
+use Rattle.elfshow.specs.lines.Counted.{counted_lines}
 use Rattle.elfshow.specs.lines.Sections.{section_line}
 use Rattle.elfshow.proofs.StreamRuns.{call_refused, inner_refused, outer_refused}
 use Rattle.elfshow.proofs.calls.stream.write_sections.Goals as goal
@@ -14,6 +14,6 @@ returns-in-Err g c =
     let old = c.args.stream.now in
     let file = stream_file little old in
     call_refused little Sections old c.section_headers_with_strtab.follows.lender-at-none (names_asked (headers_alone little old)) listed_view (λ bytes. headers_with_names (file bytes)) c.section_headers_with_strtab.result c.in-Err.error _
-    (λ bytes refused. outer_refused (λ names. listed (section_line names) old.sections) (name_table (file bytes)) (inner_refused (λ names. (old.sections, names)) (name_table (file bytes)) refused))
+    (λ bytes refused. outer_refused (λ names. counted_lines (section_line names) old.sections) (name_table (file bytes)) (inner_refused (λ names. (old.sections, names)) (name_table (file bytes)) refused))
     (λ held. held)
     c.section_headers_with_strtab.follows.holds-at-none c.in-Err.is

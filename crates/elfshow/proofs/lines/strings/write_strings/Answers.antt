@@ -1,6 +1,6 @@
 use Rattle.std.proofs.Common.{rules, ◌≡◌, ◌+◌, ◌<◌, length, Ok, Err, subst, arith}
 use Rattle.elf_parts.specs.StringTable.{string_at, strings_view}
-use Rattle.elfshow.specs.lines.Listed.{listed}
+use Rattle.elfshow.specs.lines.Counted.{counted_lines}
 use Rattle.elfshow.specs.lines.Strings.{string_line, strings_of}
 use Rattle.elfshow.proofs.StringWalk.{string_lies, text_end, text_left, text_step}
 use Rattle.elfshow.proofs.Writing.{Leaves, leaves_last, leaves_less}
@@ -22,7 +22,7 @@ loop-string-preserved g c =
     let offset = c.loop-string.offset in
     let count = c.loop-string.count in
     let before = c.loop-string.invariant in
-    let whole = listed string_line (strings_of bytes) in
+    let whole = counted_lines string_line (strings_of bytes) in
     let read : string_at bytes offset ≡ Ok string = search rules in
     let lies = string_lies bytes offset string read in
     let behind : offset + (length string + 1) ≡ offset + length string + 1 = omega arith in
@@ -37,7 +37,7 @@ returns g c =
     let bytes = strings_view c.args.strings in
     let offset = c.loop-string.offset in
     let count = c.loop-string.count in
-    let whole = listed string_line (strings_of bytes) in
+    let whole = counted_lines string_line (strings_of bytes) in
     let ended : string_at bytes offset ≡ Err c.in_default.field-0 = search rules in
     let left = subst (λ t. Leaves (contents c.args.out.now) (contents c.loop-string.out) t whole) (text_end bytes count offset _ ended) c.loop-string.invariant.2 in
     leaves_last c.write_end.result _ _ _ _ whole left c.write_end.ensures

@@ -1,6 +1,6 @@
 use Rattle.std.proofs.Common.{◌≤◌, ◌-◌, length}
 use Rattle.elf_parts.specs.StringTable.{strings_view}
-use Rattle.elfshow.specs.lines.Listed.{listed}
+use Rattle.elfshow.specs.lines.Counted.{counted_lines}
 use Rattle.elfshow.specs.lines.Strings.{string_line, strings_of}
 use Rattle.elfshow.proofs.StringWalk.{text_left}
 use Rattle.elfshow.proofs.Writing.{Leaves}
@@ -11,7 +11,7 @@ abbrev pub invariant-loop-string : goal.invariant-loop-string
 invariant-loop-string g l =
     let bytes = strings_view l.fn.strings in
     (l.count ≤ l.offset) × (l.offset ≤ length bytes)
-    × Leaves (g.W.Write.contents l.initial.out) (g.W.Write.contents l.out) (text_left bytes l.count l.offset) (listed string_line (strings_of bytes))
+    × Leaves (g.W.Write.contents l.initial.out) (g.W.Write.contents l.out) (text_left bytes l.count l.offset) (counted_lines string_line (strings_of bytes))
 
 -- the bytes that are left
 abbrev pub decreases-loop-string : goal.decreases-loop-string

@@ -1,6 +1,6 @@
 use Rattle.std.proofs.Common.{arith}
 use Rattle.std.proofs.lemmas.Grind.{common_steps}
-use Rattle.elfshow.proofs.lines.listed.write_slice.Goals as goal
+use Rattle.elfshow.proofs.lines.counted.write_slice.Goals as goal
 
 pub loop-item-preserved : goal.loop-item-preserved
 loop-item-preserved g c = grind (arith, common_steps)

@@ -1,7 +1,7 @@
 use Rattle.std.proofs.Common.{◌≡◌, ◌++◌, drop, length}
-use Rattle.elfshow.specs.lines.Listed.{end_line, numbered}
+use Rattle.elfshow.specs.lines.Counted.{end_line, numbered}
 use Rattle.elfshow.proofs.Writing.{Leaves}
-use Rattle.elfshow.proofs.lines.listed.write_slice.Given as goal
+use Rattle.elfshow.proofs.lines.counted.write_slice.Given as goal
 
 -- what was written so far, and then the lines of the items that are left, is the whole text
 abbrev pub invariant-loop-item : goal.invariant-loop-item

@@ -5,7 +5,7 @@ use Rattle.std.proofs.lemmas.Result.{err_from_is_err_and}
 use Rattle.elf_parts.specs.gnu_symver.Table.{versions_view}
 use Rattle.elf.specs.Ranges.{headers_alone, version_plan}
 use Rattle.elf.proofs.stream.Planned.{plan_refused}
-use Rattle.elf.proofs.elf_stream.ElfStream.planned_versions.Goals as goal
+use Rattle.elf.proofs.elf_stream.ElfStream.versions_by_plan.Goals as goal
 
 pub returns-in_err-load_plan : goal.returns-in_err-load_plan
 returns-in_err-load_plan g c =

@@ -10,6 +10,7 @@ use Rattle.elf_parts.specs.GnuFind.{GnuTable}
 use Rattle.elf_parts.specs.Hash.{gnu_hash_of, sysv_hash_of, word_at, word_count}
 use Rattle.elf_parts.specs.SysvFind.{SysvTable}
 use Rattle.elf_parts.specs.Table.{Table}
+use Rattle.elf_check.specs.Object.{ByGnu, BySysv, IsSound, Object}
 use Rattle.elf_check.specs.SoundGnu.{HasBothBits, InRun, RunsTo, SoundGnu, SoundWord}
 use Rattle.elf_check.specs.SoundSysv.{Belongs, EndsAt, SoundSysv, value}
 use Rattle.elf_check.specs.WithSymbols.{WithSymbols, bloom, named, word}
@@ -155,3 +156,9 @@ module _ (s : WithSymbols SysvTable) where
   decide_sysv =
       below (λ bucket. alike (λ h. (h.0, h.2)) (λ h. (h.0, omega (arith, h.1.0), h.1))
       (somewhere_below (ends_at bucket) (word_count s.table.chains + 1))) (word_count s.table.buckets)
+
+-- ---- sections of either kind
+
+pub decide : (object : Object) → Decided (IsSound object)
+decide (BySysv s) = decide_sysv s
+decide (ByGnu s) = decide_gnu s

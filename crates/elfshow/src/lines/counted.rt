@@ -3,7 +3,7 @@ ghost use Rattle.std.specs.Prelude.{◌-◌, ◌^◌, ℕ, List, OnOk, length, �
 ghost use Rattle.std.specs.Iterator.{Drains, UpTo};
 ghost use Rattle.std.specs.Io.KnownBytes.{Appends};
 ghost use Rattle.elf_parts.specs.Table.{items_left};
-ghost use Rattle.elfshow.specs.lines.Listed.{end_line, listed};
+ghost use Rattle.elfshow.specs.lines.Counted.{counted_lines, end_line};
 
 use elf::endian::EndianParse;
 use elf::parse::{ParseAt, ParsingIterator};
@@ -31,7 +31,7 @@ where
     requires can { I.can_next items }
     requires few { UpTo (I.remaining items) (2 ^ 64 - 1) }
     ensures { OnOk result ((shown : List L.Item) × Drains I.next_gives items shown
-        × Appends (W.contents out.old) (W.contents out.new) (listed (L.line line.now) shown)) }
+        × Appends (W.contents out.old) (W.contents out.new) (counted_lines (L.line line.now) shown)) }
 {
     let mut count = 0;
     for item in items {
@@ -47,7 +47,8 @@ pub(crate) fn write_slice<L: Line, W: Write>(
     line: &L,
     out: &mut W,
 ) -> io::Result<()>
-    ensures { OnOk result (Appends (W.contents out.old) (W.contents out.new) (listed (L.line line.now) items.now)) }
+    ensures { OnOk result (Appends (W.contents out.old) (W.contents out.new)
+        (counted_lines (L.line line.now) items.now)) }
 {
     let mut number = 0;
     for item in items {
@@ -74,7 +75,7 @@ where
     L::Item: ParseAt + Drop,
     requires { length (items_left L.Item.reads records) < 2 ^ 64 }
     ensures { OnOk result (Appends (W.contents out.old) (W.contents out.new)
-        (listed (L.line line.now) (items_left L.Item.reads records.entry))) }
+        (counted_lines (L.line line.now) (items_left L.Item.reads records.entry))) }
 {
     write_list(records, line, out)
 }

@@ -1,4 +1,4 @@
--- The lines that stand in the place of an answer.
+-- The lines in the place of an answer.
 use Rattle.std.specs.Prelude.{ℕ, List, codes}
 use Rattle.elfshow.specs.Pieces.{◌⧺◌, newline}
 

@@ -1,10 +1,10 @@
 use Rattle.std.proofs.Common.{◌≡◌, ◌+◌, length, arith}
 use Rattle.std.proofs.lemmas.Grind.{common_steps}
 use Rattle.std.proofs.lemmas.List.{length_push}
-use Rattle.elfshow.specs.lines.Listed.{numbered}
+use Rattle.elfshow.specs.lines.Counted.{numbered}
 use Rattle.elfshow.proofs.Listing.{numbered_more}
 use Rattle.elfshow.proofs.Writing.{appends_more}
-use Rattle.elfshow.proofs.lines.listed.write_list.Goals as goal
+use Rattle.elfshow.proofs.lines.counted.write_list.Goals as goal
 
 pub loop-item-preserved : goal.loop-item-preserved
 loop-item-preserved g c =

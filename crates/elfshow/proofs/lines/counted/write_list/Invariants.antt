@@ -1,8 +1,8 @@
 use Rattle.std.proofs.Common.{◌≡◌, ◌+◌, ◌≤◌, length}
 use Rattle.std.specs.Io.KnownBytes.{Appends}
 use Rattle.std.specs.Iterator.{size}
-use Rattle.elfshow.specs.lines.Listed.{numbered}
-use Rattle.elfshow.proofs.lines.listed.write_list.Given as goal
+use Rattle.elfshow.specs.lines.Counted.{numbered}
+use Rattle.elfshow.proofs.lines.counted.write_list.Given as goal
 
 -- what was written so far is the lines of the items so far
 abbrev pub invariant-loop-item : goal.invariant-loop-item

@@ -12,5 +12,5 @@ abbrev pub end_line : ℕ → List ℕ
 end_line count = codes "end " ⧺ decimal count ⧺ newline
 
 -- the lines of items that are numbered from 0, and how many they are
-abbrev pub listed : {X : Type 0} → (ℕ → X → List ℕ) → List X → List ℕ
-listed line xs = numbered line 0 xs ⧺ end_line (length xs)
+abbrev pub counted_lines : {X : Type 0} → (ℕ → X → List ℕ) → List X → List ℕ
+counted_lines line xs = numbered line 0 xs ⧺ end_line (length xs)

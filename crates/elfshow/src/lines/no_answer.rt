@@ -1,7 +1,7 @@
-//! The lines that stand in the place of an answer.
+//! The lines in the place of an answer.
 ghost use Rattle.std.specs.Prelude.{OnOk};
 ghost use Rattle.std.specs.Io.KnownBytes.{Appends};
-ghost use Rattle.elfshow.specs.lines.Stand.{absent_line, none_line, refused_line};
+ghost use Rattle.elfshow.specs.lines.NoAnswer.{absent_line, none_line, refused_line};
 
 use std::io;
 use std::io::Write;

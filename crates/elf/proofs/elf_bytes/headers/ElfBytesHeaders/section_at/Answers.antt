@@ -1,0 +1,8 @@
+use Rattle.std.proofs.Common.{Some}
+use Rattle.elf_parts.specs.Table.{table_view}
+use Rattle.elf.proofs.stream.Plain.{section_at_refused}
+use Rattle.elf.proofs.elf_bytes.headers.ElfBytesHeaders.section_at.Goals as goal
+
+pub returns-in-Some-clause-plain : goal.returns-in-Some-clause-plain
+returns-in-Some-clause-plain g c =
+    section_at_refused (Some (table_view c.in-Some.shdrs)) c.args.index c.get.result c.get.ensures
