@@ -43,7 +43,7 @@ pub(crate) fn write_versions<E: EndianParse, W: Write>(
 }
 
 // Whether one of so many symbols has a version index of `FEW_PLACES` or more.
-fn has_many<E: EndianParse>(symbols: usize, versions: &SymbolVersionTable<'_, E>) -> bool
+fn has_index_past_few<E: EndianParse>(symbols: usize, versions: &SymbolVersionTable<'_, E>) -> bool
     ensures { result ≡ has_index_from FEW_PLACES symbols (versions_view versions.now) }
 {
     let mut found = false;
