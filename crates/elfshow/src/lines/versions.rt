@@ -56,7 +56,7 @@ fn has_index_past_few<E: EndianParse>(symbols: usize, versions: &SymbolVersionTa
 }
 
 fn is_past_few(index: Result<VersionIndex, ParseError>) -> bool
-    ensures { result ≡ is_index_from FEW_PLACES index.entry }
+    ensures { result ≡ is_index_from FEW_PLACES index }
 {
     match index {
         Ok(index) => FEW_PLACES <= index.index() as usize,
