@@ -18,15 +18,18 @@ use elf::gnu_symver::{
 use std::io;
 use std::io::Write;
 
+// So few symbols that walks cost less than places.
+const FEW_SYMBOLS: usize = 32;
+
 // More places than the version indexes of usual libraries need.
 const FEW_PLACES: usize = 128;
 
 // A place for each version index, which has 15 bits.
 const ALL_PLACES: usize = 32_768;
 
-/// The lines of the versions of so many symbols. They cost what the symbols, the needs and the definitions cost once,
-/// and take no memory beside the stack: some kibibytes, and two mebibytes where a symbol has a version index of
-/// `FEW_PLACES` or more, as none has in usual libraries.
+/// The lines of the versions of so many symbols. Where there are more than `FEW_SYMBOLS`, they cost what the symbols, the
+/// needs and the definitions cost once. They take no memory beside the stack: some kibibytes, and two mebibytes where a
+/// symbol has a version index of `FEW_PLACES` or more, as none has in usual libraries.
 pub(crate) fn write_versions<E: EndianParse, W: Write>(
     symbols: usize,
     versions: &SymbolVersionTable<'_, E>,
@@ -35,7 +38,9 @@ pub(crate) fn write_versions<E: EndianParse, W: Write>(
     ensures { OnOk result (Appends (W.contents out.old) (W.contents out.new)
         (versions_listed symbols (versions_view versions.now))) }
 {
-    if has_index_past_few(symbols, versions) {
+    if symbols <= FEW_SYMBOLS {
+        write_without_places(symbols, versions, out)
+    } else if has_index_past_few(symbols, versions) {
         write_with_all_places(symbols, versions, out)
     } else {
         write_with_few_places(symbols, versions, out)
@@ -62,6 +67,18 @@ fn is_past_few(index: Result<VersionIndex, ParseError>) -> bool
         Ok(index) => FEW_PLACES <= index.index() as usize,
         Err(_) => false,
     }
+}
+
+fn write_without_places<E: EndianParse, W: Write>(
+    symbols: usize,
+    versions: &SymbolVersionTable<'_, E>,
+    out: &mut W,
+) -> io::Result<()>
+    ensures { OnOk result (Appends (W.contents out.old) (W.contents out.new)
+        (versions_listed symbols (versions_view versions.now))) }
+{
+    let placed = PlacedVersions::new(versions, &mut [], &mut []);
+    write_placed(symbols, &placed, out)
 }
 
 fn write_with_few_places<E: EndianParse, W: Write>(
