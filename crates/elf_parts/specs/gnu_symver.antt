@@ -8,3 +8,5 @@ pub mod Lists
 pub mod Table
 -- tables of the first need and the first definition of each version index
 pub mod Indexed
+-- the same in places that a caller lends
+pub mod Placed

@@ -12,5 +12,6 @@ pub use lists::{
 };
 pub use records::{VerDef, VerDefAux, VerNeed, VerNeedAux, VersionIndex, VersionIndexTable};
 pub use table::{
-    IndexedVersions, SymbolDefinition, SymbolNamesIterator, SymbolRequirement, SymbolVersionTable,
+    IndexedVersions, Needed, PlacedVersions, SymbolDefinition, SymbolNamesIterator,
+    SymbolRequirement, SymbolVersionTable,
 };

@@ -15,6 +15,9 @@ const ROOM: usize = 256;
 // As many digits as a number of 64 bits has in the smallest base.
 const MAX_DIGITS: usize = 64;
 
+// The digits of all bases up to 16.
+const DIGITS: &[u8; 16] = b"0123456789abcdef";
+
 /// A piece of a line: a label, and the value behind it.
 #[derive(Clone, Copy)]
 pub(crate) enum Piece<'a> {
@@ -272,9 +275,11 @@ fn hex_digits(byte: u8) -> [u8; 2]
     [digit(byte / 16), digit(byte % 16)]
 }
 
+// Looked up: two comparisons for each byte that is written in hexadecimal cost more than half of its digits.
+#[tactic(auto, using(crate::proofs::Glyphs::glyph))]
 fn digit(n: u8) -> u8
     requires { n < 16 }
     ensures { result ≡ digit_glyph false n }
 {
-    if n < 10 { b'0' + n } else { b'a' - 10 + n }
+    DIGITS[n as usize]
 }

@@ -16,6 +16,7 @@ ghost use Rattle.elf_parts.specs.gnu_symver.Table.{GivesRequirement, GivesTexts,
 ghost use Rattle.elf_parts.specs.Table.{table_view};
 
 mod indexed;
+mod placed;
 
 use super::{
     VerDef, VerDefAuxIterator, VerDefIterator, VerNeed, VerNeedAux, VerNeedAuxIterator,
@@ -25,6 +26,7 @@ use crate::endian::EndianParse;
 use crate::parse::ParseError;
 use crate::string_table::StringTable;
 pub use indexed::IndexedVersions;
+pub use placed::PlacedVersions;
 
 /// The version of a symbol that another file must have: the name of that file, the name, the hash and the flags of
 /// the version, and whether the symbol's version index is hidden.
@@ -137,9 +139,9 @@ fn first_defined<'data, E: EndianParse>(
     None
 }
 
-// What the records of a needed version say of it, the names as offsets in bytes.
+/// What the records of a needed version say of it, the names as offsets in bytes.
 #[derive(Clone, Copy, Debug)]
-struct Needed {
+pub struct Needed {
     file: u32,
     name: u32,
     hash: u32,

@@ -1,22 +1,35 @@
 //! The lines of the versions of symbols.
-ghost use Rattle.std.specs.Prelude.{OnOk, Ok, Some};
+ghost use Rattle.std.specs.Prelude.{◌≡◌, OnOk, Ok, Some};
 ghost use Rattle.std.specs.Option.{option_map};
 ghost use Rattle.std.specs.Io.KnownBytes.{Appends};
 ghost use Rattle.elf_parts.specs.gnu_symver.Table.{definition, definition_view, names_left, requirement, versions_view};
 ghost use Rattle.elfshow.specs.lines.Versions.{def_field, need_field, needed_texts, text_shown, version_fields};
 ghost use Rattle.elfshow.specs.lines.Versions.{version_line, version_name, version_names, versions_listed};
+ghost use Rattle.elfshow.specs.inner.VersionPlaces.{has_index_from, is_index_from};
 
 use crate::lines::counted::write_end;
 use crate::pieces::write_escaped;
 use elf::ParseError;
 use elf::endian::EndianParse;
 use elf::gnu_symver::{
-    SymbolDefinition, SymbolNamesIterator, SymbolRequirement, SymbolVersionTable,
+    PlacedVersions, SymbolDefinition, SymbolNamesIterator, SymbolRequirement, SymbolVersionTable,
+    VersionIndex,
 };
 use std::io;
 use std::io::Write;
 
-/// The lines of the versions of so many symbols.
+// So few symbols that walks cost less than places.
+const FEW_SYMBOLS: usize = 32;
+
+// More places than the version indexes of usual libraries need.
+const FEW_PLACES: usize = 128;
+
+// A place for each version index, which has 15 bits.
+const ALL_PLACES: usize = 32_768;
+
+/// The lines of the versions of so many symbols. Where there are more than `FEW_SYMBOLS`, they cost what the symbols, the
+/// needs and the definitions cost once. They take no memory beside the stack: some kibibytes, and two mebibytes where a
+/// symbol has a version index of `FEW_PLACES` or more, as none has in usual libraries.
 pub(crate) fn write_versions<E: EndianParse, W: Write>(
     symbols: usize,
     versions: &SymbolVersionTable<'_, E>,
@@ -24,6 +37,86 @@ pub(crate) fn write_versions<E: EndianParse, W: Write>(
 ) -> io::Result<()>
     ensures { OnOk result (Appends (W.contents out.old) (W.contents out.new)
         (versions_listed symbols (versions_view versions.now))) }
+{
+    if symbols <= FEW_SYMBOLS {
+        write_without_places(symbols, versions, out)
+    } else if has_index_past_few(symbols, versions) {
+        write_with_all_places(symbols, versions, out)
+    } else {
+        write_with_few_places(symbols, versions, out)
+    }
+}
+
+// Whether one of so many symbols has a version index of `FEW_PLACES` or more.
+fn has_index_past_few<E: EndianParse>(symbols: usize, versions: &SymbolVersionTable<'_, E>) -> bool
+    ensures { result ≡ has_index_from FEW_PLACES symbols (versions_view versions.now) }
+{
+    let mut found = false;
+    for symbol in 0..symbols {
+        if is_past_few(versions.get_index(symbol)) {
+            found = true;
+        }
+    }
+    found
+}
+
+fn is_past_few(index: Result<VersionIndex, ParseError>) -> bool
+    ensures { result ≡ is_index_from FEW_PLACES index }
+{
+    match index {
+        Ok(index) => FEW_PLACES <= index.index() as usize,
+        Err(_) => false,
+    }
+}
+
+fn write_without_places<E: EndianParse, W: Write>(
+    symbols: usize,
+    versions: &SymbolVersionTable<'_, E>,
+    out: &mut W,
+) -> io::Result<()>
+    ensures { OnOk result (Appends (W.contents out.old) (W.contents out.new)
+        (versions_listed symbols (versions_view versions.now))) }
+{
+    let placed = PlacedVersions::new(versions, &mut [], &mut []);
+    write_placed(symbols, &placed, out)
+}
+
+fn write_with_few_places<E: EndianParse, W: Write>(
+    symbols: usize,
+    versions: &SymbolVersionTable<'_, E>,
+    out: &mut W,
+) -> io::Result<()>
+    ensures { OnOk result (Appends (W.contents out.old) (W.contents out.new)
+        (versions_listed symbols (versions_view versions.now))) }
+{
+    let mut needed = [None; FEW_PLACES];
+    let mut defined = [None; FEW_PLACES];
+    let placed = PlacedVersions::new(versions, &mut needed, &mut defined);
+    write_placed(symbols, &placed, out)
+}
+
+// A function of its own, so that only its callers take the stack for so many places.
+#[inline(never)]
+fn write_with_all_places<E: EndianParse, W: Write>(
+    symbols: usize,
+    versions: &SymbolVersionTable<'_, E>,
+    out: &mut W,
+) -> io::Result<()>
+    ensures { OnOk result (Appends (W.contents out.old) (W.contents out.new)
+        (versions_listed symbols (versions_view versions.now))) }
+{
+    let mut needed = [None; ALL_PLACES];
+    let mut defined = [None; ALL_PLACES];
+    let placed = PlacedVersions::new(versions, &mut needed, &mut defined);
+    write_placed(symbols, &placed, out)
+}
+
+fn write_placed<E: EndianParse, W: Write>(
+    symbols: usize,
+    versions: &PlacedVersions<'_, '_, E>,
+    out: &mut W,
+) -> io::Result<()>
+    ensures { OnOk result (Appends (W.contents out.old) (W.contents out.new) (versions_listed symbols versions.now)) }
 {
     for symbol in 0..symbols {
         write_version(symbol, versions, out)?;
@@ -33,11 +126,10 @@ pub(crate) fn write_versions<E: EndianParse, W: Write>(
 
 fn write_version<E: EndianParse, W: Write>(
     symbol: usize,
-    versions: &SymbolVersionTable<'_, E>,
+    versions: &PlacedVersions<'_, '_, E>,
     out: &mut W,
 ) -> io::Result<()>
-    ensures { OnOk result (Appends (W.contents out.old) (W.contents out.new)
-        (version_line (versions_view versions.now) symbol)) }
+    ensures { OnOk result (Appends (W.contents out.old) (W.contents out.new) (version_line versions.now symbol)) }
 {
     write!(out, "version {symbol} ")?;
     write_need(symbol, versions, out)?;
@@ -48,11 +140,11 @@ fn write_version<E: EndianParse, W: Write>(
 
 fn write_need<E: EndianParse, W: Write>(
     symbol: usize,
-    versions: &SymbolVersionTable<'_, E>,
+    versions: &PlacedVersions<'_, '_, E>,
     out: &mut W,
 ) -> io::Result<()>
     ensures { OnOk result (Appends (W.contents out.old) (W.contents out.new)
-        (need_field (requirement (versions_view versions.now) symbol))) }
+        (need_field (requirement versions.now symbol))) }
 {
     match versions.get_requirement(symbol) {
         Ok(Some(needed)) => write_needed(&needed, out),
@@ -90,11 +182,11 @@ fn write_version_fields<W: Write>(
 
 fn write_def<E: EndianParse, W: Write>(
     symbol: usize,
-    versions: &SymbolVersionTable<'_, E>,
+    versions: &PlacedVersions<'_, '_, E>,
     out: &mut W,
 ) -> io::Result<()>
     ensures { OnOk result (Appends (W.contents out.old) (W.contents out.new)
-        (def_field (definition (versions_view versions.now) symbol))) }
+        (def_field (definition versions.now symbol))) }
 {
     match versions.get_definition(symbol) {
         Ok(Some(found)) => write_found_def(found, out),

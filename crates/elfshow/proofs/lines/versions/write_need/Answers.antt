@@ -1,14 +1,14 @@
 use Rattle.std.proofs.Common.{rules, ◌≡◌, Ok, Err, Some, subst, sym, ap, ◌∙◌}
 use Rattle.std.specs.Prelude.{OnOk}
 use Rattle.std.specs.Io.KnownBytes.{Appends}
-use Rattle.elf_parts.specs.gnu_symver.Table.{requirement, versions_view}
+use Rattle.elf_parts.specs.gnu_symver.Table.{requirement}
 use Rattle.elfshow.proofs.VersionTexts.{need_is_shown, need_shown}
 use Rattle.elfshow.proofs.lines.versions.write_need.Goals as goal
 
 pub returns-in-Ok-Some : goal.returns-in-Ok-Some
 returns-in-Ok-Some g c =
     let contents = g.W.Write.contents in
-    let needed = requirement (versions_view c.args.versions.now) c.args.symbol in
+    let needed = requirement c.args.versions.now c.args.symbol in
     let is : c.get_requirement.result ≡ Ok (Some c.in-Ok-Some.needed) = search rules in
     let read = need_is_shown needed c.get_requirement.result c.get_requirement.ensures ∙ ap need_shown is in
     subst (λ text. OnOk c.write_needed.result (Appends (contents c.args.out.now) (contents c.write_needed.new.out) text)) (sym read) c.write_needed.ensures
@@ -16,7 +16,7 @@ returns-in-Ok-Some g c =
 pub returns-in-Err : goal.returns-in-Err
 returns-in-Err g c =
     let contents = g.W.Write.contents in
-    let needed = requirement (versions_view c.args.versions.now) c.args.symbol in
+    let needed = requirement c.args.versions.now c.args.symbol in
     let is : c.get_requirement.result ≡ Err c.in-Err.field-0 = search rules in
     let read = need_is_shown needed c.get_requirement.result c.get_requirement.ensures ∙ ap need_shown is in
     subst (λ text. OnOk c.write-in-Err.result (Appends (contents c.args.out.now) (contents c.write-in-Err.new.self) text)) (sym read) c.write-in-Err.ensures.bytes

@@ -1,6 +1,6 @@
 use Rattle.std.proofs.Common.{arith}
 use Rattle.std.proofs.lemmas.Grind.{common_steps}
-use Rattle.elfshow.proofs.lines.versions.write_versions.Goals as goal
+use Rattle.elfshow.proofs.lines.versions.write_placed.Goals as goal
 
 pub loop-symbol-preserved : goal.loop-symbol-preserved
 loop-symbol-preserved g c = grind (arith, common_steps)

@@ -1,0 +1,37 @@
+-- Places of some version indexes, and what stands first for each.
+use Rattle.std.specs.Prelude.{◌≡◌, ◌<◌, ℕ, ⊤, length, List, Option, Some, None, MatchOption}
+use Rattle.std.specs.Option.{option_map}
+use Rattle.elf_parts.specs.gnu_symver.Indexed.{slot}
+use Rattle.elf_parts.specs.gnu_symver.Lists.{ver_defs_left}
+use Rattle.elf_parts.specs.gnu_symver.Table.{Definitions, Needs, defined_version, needed_of, needed_version}
+use Rattle.elf_parts.specs.declared.gnu_symver.records.VerDef.{VerDef}
+use Rattle.elf_parts.specs.declared.gnu_symver.records.VerDefAux.{VerDefAux}
+use Rattle.elf_parts.specs.declared.gnu_symver.lists.EntryIterator.{EntryIterator}
+use Rattle.elf_parts.specs.declared.gnu_symver.records.VerNeed.{VerNeed}
+use Rattle.elf_parts.specs.declared.gnu_symver.records.VerNeedAux.{VerNeedAux}
+use Rattle.elf_parts.specs.declared.gnu_symver.table.Needed.{Needed}
+
+-- the first needed version of each index stands in the place of the index, if it has one
+abbrev pub HoldNeeded : List (Option Needed) → List (VerNeed × List VerNeedAux) → Type 0
+HoldNeeded slots needs =
+    (k : ℕ) → k < length slots → slot slots k ≡ option_map needed_of (needed_version k needs)
+
+-- in the place of the index of a definition, if it has one, an iterator stands that gives the first one with the
+-- index first
+abbrev pub HoldDefined : {E : Type 0} → List (Option (EntryIterator E VerDef VerDefAux)) →
+    List (VerDef × List VerDefAux) → Type 0
+HoldDefined slots definitions =
+    (k : ℕ) → k < length slots →
+    MatchOption (slot slots k) (defined_version k definitions ≡ None)
+    (λ first. defined_version k (ver_defs_left first) ≡ defined_version k definitions)
+
+-- the same of the needs of a file, if it has some
+abbrev pub HoldNeeds : List (Option Needed) → Option Needs → Type 0
+HoldNeeds slots None = ⊤
+HoldNeeds slots (Some needs) = HoldNeeded slots needs.list
+
+-- the same of the definitions of a file, if it has some
+abbrev pub HoldDefinitions : {E : Type 0} → List (Option (EntryIterator E VerDef VerDefAux)) → Option Definitions →
+    Type 0
+HoldDefinitions slots None = ⊤
+HoldDefinitions slots (Some definitions) = HoldDefined slots definitions.list

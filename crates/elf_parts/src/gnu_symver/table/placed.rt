@@ -1,0 +1,219 @@
+//! The versions of the symbols of a file by their version indexes, in places that a caller lends.
+ghost use Rattle.std.specs.Prelude.{◌≡◌, ◌==◌, ◌<◌, ℕ, length, if◌then◌else◌, MatchOption, None, Some};
+ghost use Rattle.std.specs.Option.{option_map, option_or};
+ghost use Rattle.elf_parts.specs.gnu_symver.Indexed.{slot};
+ghost use Rattle.elf_parts.specs.gnu_symver.Placed.{HoldDefined, HoldDefinitions, HoldNeeded, HoldNeeds};
+ghost use Rattle.elf_parts.specs.Number.{ok_map};
+ghost use Rattle.elf_parts.specs.gnu_symver.Lists.{ver_defs_left, ver_need_aux_left, ver_needs_left};
+ghost use Rattle.elf_parts.specs.gnu_symver.Table.{defined_version, definition, definition_view, definitions_view};
+ghost use Rattle.elf_parts.specs.gnu_symver.Table.{index_of, kept, needed_of, needed_version, needs_view};
+ghost use Rattle.elf_parts.specs.gnu_symver.Table.{requirement, version_with, versions_view};
+ghost use Rattle.elf_parts.specs.gnu_symver.Table.{GivesRequirement, HasFewNames};
+
+use super::{
+    Needed, SymbolDefinition, SymbolRequirement, SymbolVersionTable, VerDefIterator,
+    VerNeedAuxIterator, VerNeedIterator, VersionIndex, first_defined, first_needed, kept,
+    read_definition, read_requirement,
+};
+use crate::endian::EndianParse;
+use crate::parse::ParseError;
+use crate::string_table::StringTable;
+use std::marker::Model;
+
+/// The versions of the symbols of a file, with the first need and the first definition of each version index that has
+/// a place among those that a caller lends. Such a version is found without a walk, each other one as
+/// `SymbolVersionTable` finds it. Version indexes have 15 bits: with 32,768 places for needs and as many for
+/// definitions the versions of all symbols cost what the symbols, the needs and the definitions cost once. Takes no
+/// memory.
+#[derive(Debug, Drop)]
+pub struct PlacedVersions<'a, 'data, E: EndianParse> {
+    versions: &'a SymbolVersionTable<'data, E>,
+    needed: &'a [Option<Needed>],
+    defined: &'a [Option<VerDefIterator<'data, E>>],
+}
+
+impl<'a, 'data, E: EndianParse> Model for PlacedVersions<'a, 'data, E> {
+    ghost use Rattle.elf_parts.specs.gnu_symver.Placed.{HoldDefinitions, HoldNeeds};
+    ghost use Rattle.elf_parts.specs.gnu_symver.Table.{Versions, versions_view};
+
+    ghost Value = { Versions };
+
+    ghost view = { λ s. versions_view s.versions.now };
+
+    ghost invariant = { λ s. HoldNeeds s.needed.now (versions_view s.versions.now).needs
+        × HoldDefinitions s.defined.now (versions_view s.versions.now).definitions };
+}
+
+// Puts a value into the place of an index, where it has one that is empty.
+fn put<T: Copy>(slots: &mut [Option<T>], index: u16, value: T)
+    ensures values { (k : ℕ) → k < length slots.new → slot slots.new k
+        ≡ option_or (slot slots.old k) (if index == k then Some value else None) }
+    ensures places { length slots.new ≡ length slots.old }
+{
+    let index = index as usize;
+    if index < slots.len() && slots[index].is_none() {
+        slots[index] = Some(value);
+    }
+}
+
+// Puts the versions of one file in, the name of the file being at this offset.
+fn put_versions<E: EndianParse>(
+    slots: &mut [Option<Needed>],
+    file: u32,
+    versions: VerNeedAuxIterator<'_, E>,
+)
+    ensures values { (k : ℕ) → k < length slots.new → slot slots.new k
+        ≡ option_or (slot slots.old k)
+        (option_map (kept file) (version_with k (ver_need_aux_left versions.entry))) }
+    ensures places { length slots.new ≡ length slots.old }
+{
+    for version in versions {
+        put(slots, version.vna_other, kept(file, &version));
+    }
+}
+
+// The first needed version of each index that has a place.
+fn place_needed<E: EndianParse>(slots: &mut [Option<Needed>], needs: VerNeedIterator<'_, E>)
+    ensures { HoldNeeded slots.new (ver_needs_left needs.entry) }
+{
+    slots.fill(None);
+    for (need, versions) in needs {
+        put_versions(slots, need.vn_file, versions);
+    }
+}
+
+// The first definition of each index that has a place: an iterator that gives it next.
+fn place_defined<'data, E: EndianParse>(
+    slots: &mut [Option<VerDefIterator<'data, E>>],
+    definitions: VerDefIterator<'data, E>,
+)
+    ensures { HoldDefined slots.new (ver_defs_left definitions.entry) }
+{
+    slots.fill(None);
+    let mut start = definitions;
+    let mut left = definitions;
+    while let Some((definition, _)) = left.next() {
+        put(slots, definition.vd_ndx, start);
+        start = left;
+    }
+}
+
+fn place_needs<'data, E: EndianParse>(
+    slots: &mut [Option<Needed>],
+    needs: &Option<(VerNeedIterator<'data, E>, StringTable<'data>)>,
+)
+    ensures { HoldNeeds slots.new (option_map needs_view needs.now) }
+{
+    if let Some((needs, _)) = needs {
+        place_needed(slots, *needs);
+    }
+}
+
+fn place_definitions<'data, E: EndianParse>(
+    slots: &mut [Option<VerDefIterator<'data, E>>],
+    definitions: &Option<(VerDefIterator<'data, E>, StringTable<'data>)>,
+)
+    ensures { HoldDefinitions slots.new (option_map definitions_view definitions.now) }
+{
+    if let Some((definitions, _)) = definitions {
+        place_defined(slots, *definitions);
+    }
+}
+
+// The first needed version with an index: what its place holds, or by a walk where it has none.
+fn find_needed<E: EndianParse>(
+    slots: &[Option<Needed>],
+    needs: VerNeedIterator<'_, E>,
+    index: u16,
+) -> Option<Needed>
+    requires { HoldNeeded slots.now (ver_needs_left needs) }
+    ensures { result ≡ option_map needed_of (needed_version index (ver_needs_left needs.entry)) }
+{
+    if let Some(found) = slots.get(index as usize) {
+        return *found;
+    }
+    let (need, version) = first_needed(needs, index)?;
+    Some(kept(need.vn_file, &version))
+}
+
+// From where on the definitions have the first one with an index, if they have one.
+fn find_defined<'data, E: EndianParse>(
+    slots: &[Option<VerDefIterator<'data, E>>],
+    definitions: VerDefIterator<'data, E>,
+    index: u16,
+) -> Option<VerDefIterator<'data, E>>
+    requires { HoldDefined slots.now (ver_defs_left definitions) }
+    ensures { MatchOption result (defined_version index (ver_defs_left definitions.entry) ≡ None)
+        (λ first. defined_version index (ver_defs_left first)
+        ≡ defined_version index (ver_defs_left definitions.entry)) }
+{
+    match slots.get(index as usize) {
+        Some(found) => *found,
+        None => Some(definitions),
+    }
+}
+
+impl<'a, 'data, E: EndianParse> PlacedVersions<'a, 'data, E> {
+    /// The versions, with the first of each index in its place. What the places held is lost. Walks the needs and then
+    /// the definitions, each once.
+    pub fn new(
+        versions: &'a SymbolVersionTable<'data, E>,
+        needed: &'a mut [Option<Needed>],
+        defined: &'a mut [Option<VerDefIterator<'data, E>>],
+    ) -> Self
+        ensures { result ≡ versions_view versions.now }
+    {
+        place_needs(needed, &versions.needs);
+        place_definitions(defined, &versions.definitions);
+        PlacedVersions {
+            versions,
+            needed,
+            defined,
+        }
+    }
+
+    /// As `SymbolVersionTable::get_index`.
+    pub fn get_index(&self, symbol: usize) -> Result<VersionIndex, ParseError>
+        ensures { result ≡ index_of self.now symbol }
+    {
+        self.versions.get_index(symbol)
+    }
+
+    /// As `SymbolVersionTable::get_requirement`, without a walk where the version index has a place.
+    pub fn get_requirement(
+        &self,
+        symbol: usize,
+    ) -> Result<Option<SymbolRequirement<'_>>, ParseError>
+        ensures { GivesRequirement (requirement self.now symbol) result }
+    {
+        let Some((needs, strings)) = self.versions.needs else {
+            return Ok(None);
+        };
+        let index = self.versions.indexes.get(symbol)?;
+        let Some(needed) = find_needed(self.needed, needs, index.index()) else {
+            return Ok(None);
+        };
+        Ok(Some(read_requirement(strings, needed, index.is_hidden())?))
+    }
+
+    /// As `SymbolVersionTable::get_definition`, without a walk where the version index has a place.
+    pub fn get_definition(
+        &self,
+        symbol: usize,
+    ) -> Result<Option<SymbolDefinition<'_, E>>, ParseError>
+        ensures value { ok_map (option_map definition_view) result ≡ definition self.now symbol }
+        ensures few { HasFewNames result }
+    {
+        let Some((definitions, strings)) = &self.versions.definitions else {
+            return Ok(None);
+        };
+        let index = self.versions.indexes.get(symbol)?;
+        let Some(first) = find_defined(self.defined, *definitions, index.index()) else {
+            return Ok(None);
+        };
+        let Some((definition, names)) = first_defined(first, index.index()) else {
+            return Ok(None);
+        };
+        Ok(Some(read_definition(strings, definition, names, index.is_hidden())))
+    }
+}
