@@ -106,22 +106,29 @@ names_view n = record {
   rpath = option_map vec_items n.rpath;
 }
 
--- the answer, or an allocation failed
+-- the answer, or an allocation failed; nothing is read from a stream
 abbrev pub IsGiven : {T Y : Type 0} → (T → Y) → Result Y NamesError → Result T NamesError → Type 0
 IsGiven shown answer (Ok x) = answer ≡ Ok (shown x)
 IsGiven shown answer (Err Memory) = Unit {0}
+IsGiven shown answer (Err (Read e)) = ⊥
 IsGiven shown answer (Err e) = answer ≡ Err e
 
 -- ---- over a file
 
--- the names that a table of dynamic entries gives in a file
-abbrev pub names_by : ObjectFile → Table → Result Named NamesError
-names_by file table =
-    string_part file.segments (entries_in table) >>= λ part. or_error Read (segment_data file part) >>= λ strings.
-    names_in strings (entries_in table)
+-- its dynamic entries, where it has any
+abbrev pub entries_of : ObjectFile → Result (Option (List Dyn)) NamesError
+entries_of file = or_error Read (ok_map (option_map entries_in) (dynamic file))
 
+-- the names that entries give in the strings of a part of the file
+abbrev pub names_of_part : ObjectFile → ProgramHeader → List Dyn → Result Named NamesError
+names_of_part file part entries = or_error Read (segment_data file part) >>= λ strings. names_in strings entries
+
+abbrev pub names_by : ObjectFile → List Dyn → Result Named NamesError
+names_by file entries = string_part file.segments entries >>= λ part. names_of_part file part entries
+
+-- its names, where it has dynamic entries
 abbrev pub names : ObjectFile → Result (Option Named) NamesError
-names file = or_error Read (dynamic file) >>= λ table. if_some (names_by file) table
+names file = entries_of file >>= λ entries. if_some (names_by file) entries
 
 -- ---- over a stream
 

@@ -6,10 +6,10 @@ ghost use Rattle.std.specs.Option.{option_map};
 ghost use Rattle.elf_parts.specs.Dynamic.{has_tag};
 ghost use Rattle.elf_parts.specs.StringTable.{strings_view};
 ghost use Rattle.elf_parts.specs.Table.{table_view};
-ghost use Rattle.elf.specs.Answers.{segment_data};
 ghost use Rattle.elf.specs.StreamFile.{stream_file};
-ghost use Rattle.elf_uses.specs.Needed.{IsGiven, Tells, all_names, entries_in, first_entry, first_name, holds};
-ghost use Rattle.elf_uses.specs.Needed.{name_of, names_in, names_view, part_of, string_part};
+ghost use Rattle.elf_uses.specs.Needed.{IsGiven, Tells, all_names, entries_in, entries_of, first_entry, first_name};
+ghost use Rattle.elf_uses.specs.Needed.{holds, name_of, names, names_by, names_in, names_of_part, names_view};
+ghost use Rattle.elf_uses.specs.Needed.{part_of, string_part};
 ghost use Rattle.elf_uses.specs.declared.needed.NamesError.TheVariants.{Memory as IsMemory};
 
 use elf::abi;
@@ -133,7 +133,8 @@ fn part_of(segment: &ProgramHeader, address: u64, size: u64) -> ProgramHeader
 
 // The part of a segment that the string table is.
 fn string_part(segments: &[ProgramHeader], entries: &[Dyn]) -> Result<ProgramHeader, NamesError>
-    ensures { result ≡ string_part segments.now entries.now }
+    ensures value { result ≡ string_part segments.now entries.now }
+    ensures plain { IsGiven (λ part. part) (string_part segments.now entries.now) result }
 {
     let Some(start) = first_entry(entries, abi::DT_STRTAB) else {
         return Err(NamesError::NoAddress);
@@ -219,7 +220,10 @@ fn names_in(
 fn entries_of<E: EndianParse, S: StreamSource, A: Allocator + Copy>(
     alloc: Global,
     stream: &mut ElfStream<E, S, A>,
-) -> Result<Option<Vec<Dyn>>, NamesError> {
+) -> Result<Option<Vec<Dyn>>, NamesError>
+    ensures { Tells (option_map (λ entries. entries.items))
+        (λ bytes. entries_of (stream_file E.little stream.old bytes)) stream.old stream.new result }
+{
     match stream.dynamic() {
         Ok(Some(table)) => Ok(Some(entries_in(alloc, &table)?)),
         Ok(None) => Ok(None),
@@ -233,10 +237,29 @@ fn names_of_part<E: EndianParse, S: StreamSource, A: Allocator + Copy>(
     stream: &mut ElfStream<E, S, A>,
     entries: &[Dyn],
     part: &ProgramHeader,
-) -> Result<Names, NamesError> {
+) -> Result<Names, NamesError>
+    ensures { Tells names_view
+        (λ bytes. names_of_part (stream_file E.little stream.old bytes) part.now entries.now)
+        stream.old stream.new result }
+{
     match stream.segment_data(part) {
         Ok(bytes) => names_in(alloc, &StringTable::new(bytes), entries),
         Err(error) => Err(NamesError::Read(error)),
+    }
+}
+
+// The names that the entries of a file give.
+fn names_by<E: EndianParse, S: StreamSource, A: Allocator + Copy>(
+    alloc: Global,
+    stream: &mut ElfStream<E, S, A>,
+    entries: &[Dyn],
+) -> Result<Names, NamesError>
+    ensures { Tells names_view (λ bytes. names_by (stream_file E.little stream.old bytes) entries.now)
+        stream.old stream.new result }
+{
+    match string_part(stream.segments().as_slice(), entries) {
+        Ok(part) => names_of_part(alloc, stream, entries, &part),
+        Err(error) => Err(error),
     }
 }
 
@@ -252,14 +275,16 @@ fn names_of_part<E: EndianParse, S: StreamSource, A: Allocator + Copy>(
 pub fn dynamic_names<E: EndianParse, S: StreamSource, A: Allocator + Copy>(
     alloc: Global,
     stream: &mut ElfStream<E, S, A>,
-) -> Result<Option<Names>, NamesError> {
+) -> Result<Option<Names>, NamesError>
+    ensures { Tells (option_map names_view) (λ bytes. names (stream_file E.little stream.old bytes))
+        stream.old stream.new result }
+{
     let entries = match entries_of(alloc, stream) {
         Ok(Some(entries)) => entries,
         Ok(None) => return Ok(None),
         Err(error) => return Err(error),
     };
-    let part = string_part(stream.segments().as_slice(), entries.as_slice())?;
-    match names_of_part(alloc, stream, entries.as_slice(), &part) {
+    match names_by(alloc, stream, entries.as_slice()) {
         Ok(names) => Ok(Some(names)),
         Err(error) => Err(error),
     }
