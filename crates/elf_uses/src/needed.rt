@@ -12,12 +12,11 @@ ghost use Rattle.elf_uses.specs.Needed.{holds, name_of, names, names_by, names_i
 ghost use Rattle.elf_uses.specs.Needed.{part_of, string_part};
 ghost use Rattle.elf_uses.specs.declared.needed.NamesError.TheVariants.{Memory as IsMemory};
 
-use elf::abi;
 use elf::dynamic::{Dyn, DynamicTable};
 use elf::endian::EndianParse;
 use elf::segment::ProgramHeader;
 use elf::string_table::StringTable;
-use elf::{ElfStream, ParseError, StreamSource};
+use elf::{ElfStream, ParseError, StreamSource, abi};
 use std::alloc::{AllocError, AllocFailed, Allocator, Global};
 use thiserror::Error;
 
@@ -116,7 +115,9 @@ fn holds(segment: &ProgramHeader, address: u64, size: u64) -> bool
 fn first_holding(segments: &[ProgramHeader], address: u64, size: u64) -> Option<&ProgramHeader>
     ensures { option_copied result ≡ find (holds address size) segments.now }
 {
-    segments.iter().find(|segment| holds(segment, address, size))
+    segments
+        .iter()
+        .find(|segment| holds(segment, address, size))
 }
 
 // The part of a segment that these addresses are.
@@ -197,11 +198,7 @@ fn all_names(
 }
 
 // The names that the entries give in a string table.
-fn names_in(
-    alloc: Global,
-    strings: &StringTable<'_>,
-    entries: &[Dyn],
-) -> Result<Names, NamesError>
+fn names_in(alloc: Global, strings: &StringTable<'_>, entries: &[Dyn]) -> Result<Names, NamesError>
     ensures { IsGiven names_view (names_in (strings_view strings.now) entries.now) result }
 {
     let soname = first_name(alloc, strings, entries, abi::DT_SONAME)?;
