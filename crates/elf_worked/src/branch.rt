@@ -16,7 +16,7 @@ impl ParseAt for Branch {
 
     ghost reads = { branch_reads };
 
-    #[tactic(auto, unfolding(elf_parts::specs::Record::numbers_at, elf_parts::specs::Record::numbers_end, elf_parts::specs::Number::signed_number_at,))]
+    #[tactic(auto, unfolding(elf_parts::specs::Record::numbers_at, elf_parts::specs::Record::numbers_end, elf_parts::specs::Number::signed_number_at))]
     fn parse_at<E: EndianParse>(
         endian: E,
         _class: Class,
