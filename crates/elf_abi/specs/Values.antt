@@ -1,6 +1,6 @@
 -- Values that the standard writes down, by its own names. They stand here apart from the constants of the code, which
 -- are so checked against them wherever a contract cites one.
-use Rattle.std.specs.Prelude.{ℕ}
+use Rattle.std.specs.Prelude.{ℕ, ℤ, pos}
 
 -- ---- the identification: gABI chapter 4, "ELF Identification"
 
@@ -130,6 +130,33 @@ pt_dynamic = 2
 
 abbrev pub pt_note : ℕ
 pt_note = 4
+
+-- ---- dynamic entries: gABI chapter 5, "Dynamic Section". A tag is signed.
+
+-- the entry that ends the table
+abbrev pub dt_null : ℤ
+dt_null = pos 0
+
+-- entries that name a string by its offset in the string table: a library that is needed, the file's own name, and
+-- where libraries are searched for
+abbrev pub dt_needed : ℤ
+dt_needed = pos 1
+
+abbrev pub dt_soname : ℤ
+dt_soname = pos 14
+
+abbrev pub dt_rpath : ℤ
+dt_rpath = pos 15
+
+abbrev pub dt_runpath : ℤ
+dt_runpath = pos 29
+
+-- the address of the string table, and its size in bytes
+abbrev pub dt_strtab : ℤ
+dt_strtab = pos 5
+
+abbrev pub dt_strsz : ℤ
+dt_strsz = pos 10
 
 -- ---- symbols: gABI chapter 4, "Symbol Table"
 

@@ -1,5 +1,6 @@
 -- The field table of a dynamic entry (gABI, chapter "Dynamic Section").
-use Rattle.std.specs.Prelude.{ℕ, List, [], ◌∷◌, slice_index, refl}
+use Rattle.std.specs.Prelude.{ℕ, ℤ, Bool, List, [], ◌∷◌, slice_index, refl}
+use Rattle.std.specs.Ordering.{int_eq}
 use Rattle.elf_parts.specs.Class.{address_size}
 use Rattle.elf_parts.specs.Number.{signed_number}
 use Rattle.elf_parts.specs.Record.{Field, field, Layout, RecordType}
@@ -34,3 +35,7 @@ dyn_reads = by_layout dyn_layout refl
 -- the one number behind the tag, a value or an address
 abbrev pub d_un_view : Dyn → ℕ
 d_un_view entry = entry.d_un
+
+-- whether an entry has this tag, one of DT_*. A tag is signed, so `==`, which is of unsigned numbers, does not do.
+abbrev pub has_tag : ℤ → Dyn → Bool
+has_tag tag entry = int_eq entry.d_tag tag

@@ -4,3 +4,4 @@ pub mod LoadPlan
 pub mod HashLint
 pub mod Resolver
 pub mod Bindings
+pub mod Needed

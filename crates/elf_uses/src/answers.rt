@@ -4,6 +4,7 @@ use crate::build_id::build_id;
 use crate::functions::{functions, version_of};
 use crate::hash_lint::lint;
 use crate::load_plan::{Mapping, load_plan};
+use crate::needed_lines::print_needed_of_bytes;
 use crate::resolver::{definition, tables};
 use elf::endian::AnyEndian;
 use elf::gnu_symver::SymbolVersionTable;
@@ -47,6 +48,9 @@ pub fn print_answers<W: Write>(
 }
 
 fn print_answer<W: Write>(alloc: Global, out: &mut W, caller: &str, data: &[u8]) -> io::Result<()> {
+    if caller == "needed" {
+        return print_needed_of_bytes(alloc, out, data);
+    }
     match ElfBytes::minimal_parse(data) {
         Ok(file) => print_answer_of(alloc, out, caller, &file),
         Err(error) => print_refusal(out, error),

@@ -1,5 +1,5 @@
-//! Six callers of the library, each in a module of its own, with the contract that its user wants: `build_id`,
-//! `functions`, `load_plan`, `hash_lint`, `resolver` and `bindings`.
+//! Seven callers of the library, each in a module of its own, with the contract that its user wants: `build_id`,
+//! `functions`, `load_plan`, `hash_lint`, `resolver`, `bindings` and `needed`.
 //!
 //! `elf_uses CALLER FILE..` prints what a caller answers of each file, where `resolver=NAME` looks a name up in all of
 //! them, and `bindings` binds the undefined symbols of each of them, a program and its libraries in search order.
@@ -13,10 +13,13 @@ mod build_id;
 mod functions;
 mod hash_lint;
 mod load_plan;
+mod needed;
+mod needed_lines;
 mod resolver;
 
 use answers::print_answers;
 use elf_rows::{RowError, changed_file};
+use needed_lines::print_needed_of_files;
 use std::io::{BufWriter, Write};
 use std::{env, fs};
 
@@ -46,6 +49,9 @@ fn run<W: Write>(
     names: &[String],
     out: &mut W,
 ) -> Result<(), RowError> {
+    if caller == "needed" {
+        return Ok(print_needed_of_files(rt, names, out)?);
+    }
     if caller != "rows" {
         return print_files(rt, caller, names, out);
     }

@@ -11,3 +11,4 @@ pub mod BuiltSound
 pub mod BuiltKnown
 pub mod BuiltBytes
 pub mod BuiltGnuBytes
+pub mod Copied

@@ -1,6 +1,8 @@
+pub mod Branches
 pub mod Built
 pub mod BuiltBytes
 pub mod BuiltSections
+pub mod Copies
 pub mod EvenBytes
 pub mod FileOrders
 pub mod Files

@@ -9,6 +9,7 @@ ghost use Rattle.elf_parts.specs.Relocation.{rel_layout, rela_layout};
 ghost use Rattle.elf_parts.specs.Symbol.{symbol_binding, symbol_layout, symbol_type, symbol_visibility};
 ghost use Rattle.elf_parts.specs.declared.file.Class.TheVariants.{ELF32, ELF64};
 ghost use Rattle.elf_parts.specs.declared.parse.ParseError.TheVariants.{SliceReadError};
+ghost use Rattle.elf_worked.specs.Branches.{branch_layout};
 ghost use Rattle.elf_worked.specs.Files.{counted, in_eight, ones};
 ghost use Rattle.elf_worked.specs.Objects.{symbol_with};
 
@@ -104,6 +105,14 @@ pub fn dynamic_entries()
         ≡ Ok (record { d_tag = negsuc 1; d_un = 0xffffffff }) }
     ensures negative_64 { record_by dyn_layout true ELF64 ((0xfe ∷ ones 7) ++ in_eight 5) 0
         ≡ Ok (record { d_tag = negsuc 1; d_un = 5 }) }
+{}
+
+/// A user's own record with a signed number: fe ff ff ff is -2 in little order, and ff ff ff fe is in big order.
+pub fn branches()
+    ensures negative_little { record_by branch_layout true ELF64 (7 ∷ 0 ∷ 0xfe ∷ ones 3) 0 ≡ Ok (record { line = 7; distance = negsuc 1 }) }
+    ensures negative_big { record_by branch_layout false ELF32 (0 ∷ 7 ∷ (ones 3 ++ 0xfe ∷ [])) 0 ≡ Ok (record { line = 7; distance = negsuc 1 }) }
+    ensures positive { record_by branch_layout true ELF64 (take 6 counted) 0 ≡ Ok (record { line = 0x0100; distance = pos 0x05040302 }) }
+    ensures size { size_by branch_layout ELF64 ≡ 6 }
 {}
 
 /// In 64 bits a reserved word stands behind the type and is not kept.

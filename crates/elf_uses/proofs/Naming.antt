@@ -1,0 +1,113 @@
+-- What is found passes the test; and what two calls of a stream, one after the other, tell.
+use Rattle.std.proofs.Common.{◌≡◌, ℕ, ◌<◌, Bool, true, false, List, [], ◌∷◌, Result, Ok, Err, Option, Some, None, refl, ap, sym, subst, ◌∙◌, arith}
+use Rattle.std.specs.Prelude.{IfSome, cond}
+use Rattle.std.specs.List.{find}
+use Rattle.std.specs.Option.{option_map}
+use Rattle.elf_parts.specs.Number.{ok_map}
+use Rattle.elf_parts.specs.Record.{◌>>=◌}
+use Rattle.elf_parts.specs.declared.dynamic.Dyn.{Dyn}
+use Rattle.elf_parts.specs.declared.parse.ParseError.{ParseError}
+use Rattle.elf_parts.specs.declared.segment.ProgramHeader.{ProgramHeader}
+use Rattle.elf.specs.ElfStream.{IsAnswer, IsRefused, Keeps, Kind, Leaves, Seen, kind}
+use Rattle.elf.specs.StreamFile.{stream_file}
+use Rattle.elf_uses.specs.Needed.{IsGiven, IsTold, IsUnreadable, Named, Tells, entries_of, if_some, names, names_by, names_of_part, names_view, or_error, string_part}
+use Rattle.elf_uses.specs.declared.needed.Names.{Names}
+use Rattle.elf_uses.specs.declared.needed.NamesError.{NamesError}
+use Rattle.elf_uses.specs.declared.needed.NamesError.TheVariants.{Memory, Name, NoAddress, NoSize, NotLoaded, Read}
+
+-- ---- what is found passes the test
+
+found_or : {X : Type 0} (p : X → Bool) (b : Bool) (y x : X) (rest : Option X) → p y ≡ b → (rest ≡ Some x → p x ≡ true) → cond b (Some y) rest ≡ Some x → p x ≡ true
+found_or p true y x rest is later e = let same : y ≡ x = cc in subst (λ z. p z ≡ true) same is
+found_or p false y x rest is later e = later e
+
+pub found_passes : {X : Type 0} (p : X → Bool) (xs : List X) (x : X) → find p xs ≡ Some x → p x ≡ true
+found_passes p [] x e = cc
+found_passes p (y ∷ ys) x e = found_or p (p y) y x (find p ys) refl (λ f. found_passes p ys x f) e
+
+-- ---- a call of a stream, and what is made of what it gave
+
+told_made : {T Y U Z : Type 0} (told : Option (List ℕ)) (shown : T → Y) (answer : List ℕ → Result Y ParseError) (can_fail : Bool) (before now : ℕ) (x : T) (shows : U → Z) (made : Y → Result Z NamesError) (given : Result U NamesError)
+    → IfSome told (λ bytes. IsAnswer shown (answer bytes) can_fail before now (Ok x)) → IsGiven shows (made (shown x)) given
+    → IfSome told (λ bytes. IsTold shows (or_error Read (answer bytes) >>= made) can_fail before now given)
+told_made None shown answer can_fail before now x shows made given h g = tt
+told_made (Some bytes) shown answer can_fail before now x shows made (Ok u) h g = (h.0, ap (λ r. or_error Read r >>= made) h.1 ∙ g)
+told_made (Some bytes) shown answer can_fail before now x shows made (Err Memory) h g = h.0
+told_made (Some bytes) shown answer can_fail before now x shows made (Err (Read e)) h g = absurd g
+told_made (Some bytes) shown answer can_fail before now x shows made (Err NoAddress) h g = (h.0, ap (λ r. or_error Read r >>= made) h.1 ∙ g)
+told_made (Some bytes) shown answer can_fail before now x shows made (Err NoSize) h g = (h.0, ap (λ r. or_error Read r >>= made) h.1 ∙ g)
+told_made (Some bytes) shown answer can_fail before now x shows made (Err (NotLoaded a)) h g = (h.0, ap (λ r. or_error Read r >>= made) h.1 ∙ g)
+told_made (Some bytes) shown answer can_fail before now x shows made (Err (Name e)) h g = (h.0, ap (λ r. or_error Read r >>= made) h.1 ∙ g)
+
+pub tells_made : {E T Y U Z : Type 0} (old new : Seen E) (asked : List (ℕ × ℕ)) (shown : T → Y) (answer : List ℕ → Result Y ParseError) (r : Result T ParseError) (x : T) (shows : U → Z) (made : Y → Result Z NamesError) (given : Result U NamesError)
+    → Leaves asked shown answer old new r → r ≡ Ok x → IsGiven shows (made (shown x)) given
+    → Tells shows (λ bytes. or_error Read (answer bytes) >>= made) old new given
+tells_made old new asked shown answer r x shows made given leaves is g =
+    let answers = subst (λ w. IfSome old.content (λ bytes. IsAnswer shown (answer bytes) old.can_fail old.faults new.faults w)) is leaves.answers in
+    record { keeps = leaves.keeps; answers = told_made old.content shown answer old.can_fail old.faults new.faults x shows made given answers g }
+
+-- ---- a call of a stream behind another that was not refused
+
+same_file : {E : Type 0} (little : E → Bool) (old new : Seen E) (bytes : List ℕ) → Keeps old new → stream_file little new bytes ≡ stream_file little old bytes
+same_file little old new bytes keeps = rw (keeps.ehdr, keeps.declares_sections, keeps.sections, keeps.segments) refl
+
+keeps_then : {E : Type 0} (old middle new : Seen E) → Keeps old middle → Keeps middle new → Keeps old new
+keeps_then old middle new a b = record {
+  content = b.content ∙ a.content;
+  can_fail = b.can_fail ∙ a.can_fail;
+  ehdr = b.ehdr ∙ a.ehdr;
+  declares_sections = b.declares_sections ∙ a.declares_sections;
+  sections = b.sections ∙ a.sections;
+  segments = b.segments ∙ a.segments;
+  held = λ start end h. b.held start end (a.held start end h);
+}
+
+refused_so : (k : Kind) (P Q : Type 0) (before middle now : ℕ) (can_fail : Bool) → (P → Q) → middle ≡ before → IsRefused middle now can_fail P k → IsRefused before now can_fail Q k
+refused_so Kind.Failure P Q before middle now can_fail so same h = let up = h.0 in (omega arith, h.1)
+refused_so Kind.Want P Q before middle now can_fail so same h = h ∙ same
+refused_so Kind.Refusal P Q before middle now can_fail so same h = (h.0 ∙ same, so h.1)
+
+unreadable_some : {Z : Type 0} (inner : Result Z NamesError) → IsUnreadable inner → IsUnreadable (ok_map Some inner)
+unreadable_some (Ok n) u = absurd u
+unreadable_some (Err Memory) u = absurd u
+unreadable_some (Err (Read e)) u = tt
+unreadable_some (Err NoAddress) u = absurd u
+unreadable_some (Err NoSize) u = absurd u
+unreadable_some (Err (NotLoaded a)) u = absurd u
+unreadable_some (Err (Name e)) u = absurd u
+
+-- an error is that of the whole
+told_whole : {U V Z : Type 0} (shows : U → Z) (shown : V → Option Z) (whole : Result (Option Z) NamesError) (inner : Result Z NamesError) (can_fail : Bool) (before middle now : ℕ) (e : NamesError)
+    → whole ≡ ok_map Some inner → middle ≡ before → IsTold shows inner can_fail middle now (Err e) → IsTold shown whole can_fail before now (Err e)
+told_whole shows shown whole inner can_fail before middle now Memory is same h = h ∙ same
+told_whole shows shown whole inner can_fail before middle now (Read e) is same h =
+    refused_so (kind e) (IsUnreadable inner) (IsUnreadable whole) before middle now can_fail (λ u. subst IsUnreadable (sym is) (unreadable_some inner u)) same h
+told_whole shows shown whole inner can_fail before middle now NoAddress is same h = (h.0 ∙ same, is ∙ ap (ok_map Some) h.1)
+told_whole shows shown whole inner can_fail before middle now NoSize is same h = (h.0 ∙ same, is ∙ ap (ok_map Some) h.1)
+told_whole shows shown whole inner can_fail before middle now (NotLoaded a) is same h = (h.0 ∙ same, is ∙ ap (ok_map Some) h.1)
+told_whole shows shown whole inner can_fail before middle now (Name e) is same h = (h.0 ∙ same, is ∙ ap (ok_map Some) h.1)
+
+told_later : {E T : Type 0} (little : E → Bool) (old middle : Seen E) (now : ℕ) (told : Option (List ℕ)) (shown : T → Option (List Dyn)) (x : T) (entries : List Dyn) (e : NamesError) → Keeps old middle → shown x ≡ Some entries
+    → IfSome told (λ bytes. IsTold shown (entries_of (stream_file little old bytes)) old.can_fail old.faults middle.faults (Ok x))
+    → IfSome told (λ bytes. IsTold names_view (names_by (stream_file little middle bytes) entries) middle.can_fail middle.faults now (Err e))
+    → IfSome told (λ bytes. IsTold (option_map names_view) (names (stream_file little old bytes)) old.can_fail old.faults now (Err e))
+told_later little old middle now None shown x entries e keeps is h k = tt
+told_later little old middle now (Some bytes) shown x entries e keeps is h k =
+    let file = stream_file little old bytes in
+    let whole = ap (λ r. r >>= λ es. if_some (names_by file) es) (h.1 ∙ ap Ok is) in
+    let there = subst (λ f. IsTold names_view (names_by f entries) middle.can_fail middle.faults now (Err e)) (same_file little old middle bytes keeps) k in
+    let here = subst (λ b. IsTold names_view (names_by file entries) b middle.faults now (Err e)) keeps.can_fail there in
+    told_whole names_view (option_map names_view) (names file) (names_by file entries) old.can_fail old.faults middle.faults now e whole h.0 here
+
+pub tells_later : {E T : Type 0} (little : E → Bool) (old middle new : Seen E) (shown : T → Option (List Dyn)) (first : Result T NamesError) (x : T) (entries : List Dyn) (later : Result Names NamesError) (e : NamesError) → first ≡ Ok x → shown x ≡ Some entries → later ≡ Err e
+    → Tells shown (λ bytes. entries_of (stream_file little old bytes)) old middle first
+    → Tells names_view (λ bytes. names_by (stream_file little middle bytes) entries) middle new later
+    → Tells (option_map names_view) (λ bytes. names (stream_file little old bytes)) old new (Err e)
+tells_later little old middle new shown first x entries later e is some refused a b =
+    let one = subst (λ r. IfSome old.content (λ bytes. IsTold shown (entries_of (stream_file little old bytes)) old.can_fail old.faults middle.faults r)) is a.answers in
+    let two = subst (λ r. IfSome middle.content (λ bytes. IsTold names_view (names_by (stream_file little middle bytes) entries) middle.can_fail middle.faults new.faults r)) refused b.answers in
+    let here = subst (λ told. IfSome told (λ bytes. IsTold names_view (names_by (stream_file little middle bytes) entries) middle.can_fail middle.faults new.faults (Err e))) a.keeps.content two in
+    record {
+      keeps = keeps_then old middle new a.keeps b.keeps;
+      answers = told_later little old middle new.faults old.content shown x entries e a.keeps some one here;
+    }

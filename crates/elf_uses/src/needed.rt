@@ -1,0 +1,288 @@
+//! The names by which the dynamic linker finds a file and the libraries that it needs.
+ghost use Rattle.std.specs.Prelude.{◌≡◌, IfOk, IsTrue, map, option_copied};
+ghost use Rattle.std.specs.Vec.{vec_items};
+ghost use Rattle.std.specs.List.{find};
+ghost use Rattle.std.specs.Option.{option_map};
+ghost use Rattle.elf_parts.specs.Dynamic.{has_tag};
+ghost use Rattle.elf_parts.specs.StringTable.{strings_view};
+ghost use Rattle.elf_parts.specs.Table.{table_view};
+ghost use Rattle.elf.specs.StreamFile.{stream_file};
+ghost use Rattle.elf_uses.specs.Needed.{IsGiven, Tells, all_names, entries_in, entries_of, first_entry, first_name};
+ghost use Rattle.elf_uses.specs.Needed.{holds, name_of, names, names_by, names_in, names_of_part, names_view};
+ghost use Rattle.elf_uses.specs.Needed.{part_of, string_part};
+ghost use Rattle.elf_uses.specs.declared.needed.NamesError.TheVariants.{Memory as IsMemory};
+
+use elf::dynamic::{Dyn, DynamicTable};
+use elf::endian::EndianParse;
+use elf::segment::ProgramHeader;
+use elf::string_table::StringTable;
+use elf::{ElfStream, ParseError, StreamSource, abi};
+use std::alloc::{AllocError, AllocFailed, Allocator, Global};
+use thiserror::Error;
+
+/// The names that the dynamic entries of a file give, as bytes.
+#[derive(Debug, Drop)]
+pub struct Names {
+    /// The file's own name, by its first entry `DT_SONAME`.
+    pub soname: Option<Vec<u8>>,
+    /// The libraries that it needs, by its entries `DT_NEEDED`, in order.
+    pub needed: Vec<Vec<u8>>,
+    /// Where libraries are searched for: by its first entry `DT_RUNPATH`, and by its first entry `DT_RPATH`.
+    pub runpath: Option<Vec<u8>>,
+    pub rpath: Option<Vec<u8>>,
+}
+
+/// Why the names of a file cannot be had.
+#[derive(Debug, Drop, Error)]
+pub enum NamesError {
+    /// The stream returned an error.
+    #[error("{0}")]
+    Read(ParseError),
+    /// No entry gives the address of the string table.
+    #[error("no entry DT_STRTAB")]
+    NoAddress,
+    /// No entry gives the size of the string table.
+    #[error("no entry DT_STRSZ")]
+    NoSize,
+    /// No loaded segment has the string table, which begins at this address, in the file.
+    #[error("no segment holds the string table at 0x{0:x}")]
+    NotLoaded(u64),
+    /// The string that an entry names cannot be read.
+    #[error("{0}")]
+    Name(ParseError),
+    /// An allocation failed.
+    #[error("out of memory")]
+    Memory,
+}
+
+impl From<AllocError> for NamesError {
+    ghost from_gives = { λ _ error. error ≡ IsMemory };
+
+    fn from(_error: AllocError) -> NamesError {
+        NamesError::Memory
+    }
+}
+
+impl<T: Drop> From<AllocFailed<T>> for NamesError {
+    ghost from_gives = { λ _ error. error ≡ IsMemory };
+
+    fn from(_error: AllocFailed<T>) -> NamesError {
+        NamesError::Memory
+    }
+}
+
+// Whether the entry has a tag, one of `DT_*`.
+fn has_tag(entry: &Dyn, tag: i64) -> bool
+    ensures { result ≡ has_tag tag entry.now }
+{
+    entry.d_tag == tag
+}
+
+// The entries of a table up to the first with the tag `DT_NULL`.
+fn entries_in<E: EndianParse>(
+    alloc: Global,
+    table: &DynamicTable<'_, E>,
+) -> Result<Vec<Dyn>, AllocError>
+    ensures { IfOk result (λ entries. entries.items ≡ entries_in (table_view table.now)) }
+{
+    table
+        .iter()
+        .take_while(|entry| !has_tag(entry, abi::DT_NULL))
+        .collect(alloc)
+}
+
+// The first entry with a tag.
+fn first_entry(entries: &[Dyn], tag: i64) -> Option<&Dyn>
+    ensures { option_map (λ entry. entry.now) result ≡ first_entry tag entries.now }
+{
+    entries.iter().find(|entry| has_tag(entry, tag))
+}
+
+// Whether the segment is loaded and has the bytes of these addresses in the file.
+fn holds(segment: &ProgramHeader, address: u64, size: u64) -> bool
+    ensures { result ≡ holds address size segment.now }
+{
+    if segment.p_type != abi::PT_LOAD || address < segment.p_vaddr {
+        return false;
+    }
+    let before = address - segment.p_vaddr;
+    before <= segment.p_filesz
+        && size <= segment.p_filesz - before
+        && before <= u64::MAX - segment.p_offset
+}
+
+// The first segment that holds so many bytes from an address on.
+fn first_holding(segments: &[ProgramHeader], address: u64, size: u64) -> Option<&ProgramHeader>
+    ensures { option_copied result ≡ find (holds address size) segments.now }
+{
+    segments
+        .iter()
+        .find(|segment| holds(segment, address, size))
+}
+
+// The part of a segment that these addresses are.
+fn part_of(segment: &ProgramHeader, address: u64, size: u64) -> ProgramHeader
+    requires { IsTrue (holds address size segment.now) }
+    ensures { result ≡ part_of address size segment.now }
+{
+    ProgramHeader {
+        p_offset: segment.p_offset + (address - segment.p_vaddr),
+        p_filesz: size,
+        ..*segment
+    }
+}
+
+// The part of a segment that the string table is.
+fn string_part(segments: &[ProgramHeader], entries: &[Dyn]) -> Result<ProgramHeader, NamesError>
+    ensures value { result ≡ string_part segments.now entries.now }
+    ensures plain { IsGiven (λ part. part) (string_part segments.now entries.now) result }
+{
+    let Some(start) = first_entry(entries, abi::DT_STRTAB) else {
+        return Err(NamesError::NoAddress);
+    };
+    let Some(length) = first_entry(entries, abi::DT_STRSZ) else {
+        return Err(NamesError::NoSize);
+    };
+    let (address, size) = (start.d_ptr(), length.d_val());
+    match first_holding(segments, address, size) {
+        Some(segment) => Ok(part_of(segment, address, size)),
+        None => Err(NamesError::NotLoaded(address)),
+    }
+}
+
+// A copy of the string that an entry names.
+fn name_of(alloc: Global, strings: &StringTable<'_>, entry: &Dyn) -> Result<Vec<u8>, NamesError>
+    ensures { IsGiven vec_items (name_of (strings_view strings.now) entry.now) result }
+{
+    match strings.get_raw(entry.d_val() as usize) {
+        Ok(name) => Ok(Vec::from_slice(alloc, name)?),
+        Err(error) => Err(NamesError::Name(error)),
+    }
+}
+
+// The string that the first entry with a tag names.
+fn first_name(
+    alloc: Global,
+    strings: &StringTable<'_>,
+    entries: &[Dyn],
+    tag: i64,
+) -> Result<Option<Vec<u8>>, NamesError>
+    ensures { IsGiven (option_map vec_items) (first_name (strings_view strings.now) tag entries.now) result }
+{
+    match first_entry(entries, tag) {
+        Some(entry) => match name_of(alloc, strings, entry) {
+            Ok(name) => Ok(Some(name)),
+            Err(error) => Err(error),
+        },
+        None => Ok(None),
+    }
+}
+
+// The strings that the entries with a tag name, in order.
+fn all_names(
+    alloc: Global,
+    strings: &StringTable<'_>,
+    entries: &[Dyn],
+    tag: i64,
+) -> Result<Vec<Vec<u8>>, NamesError>
+    ensures { IsGiven (λ names. map vec_items names.items)
+        (all_names (strings_view strings.now) tag entries.now) result }
+{
+    let mut names = Vec::new(alloc);
+    for entry in entries {
+        if has_tag(entry, tag) {
+            names.push(name_of(alloc, strings, entry)?)?;
+        }
+    }
+    Ok(names)
+}
+
+// The names that the entries give in a string table.
+fn names_in(alloc: Global, strings: &StringTable<'_>, entries: &[Dyn]) -> Result<Names, NamesError>
+    ensures { IsGiven names_view (names_in (strings_view strings.now) entries.now) result }
+{
+    let soname = first_name(alloc, strings, entries, abi::DT_SONAME)?;
+    let needed = all_names(alloc, strings, entries, abi::DT_NEEDED)?;
+    let runpath = first_name(alloc, strings, entries, abi::DT_RUNPATH)?;
+    let rpath = first_name(alloc, strings, entries, abi::DT_RPATH)?;
+    Ok(Names {
+        soname,
+        needed,
+        runpath,
+        rpath,
+    })
+}
+
+// The dynamic entries of a file, copied.
+fn entries_of<E: EndianParse, S: StreamSource, A: Allocator + Copy>(
+    alloc: Global,
+    stream: &mut ElfStream<E, S, A>,
+) -> Result<Option<Vec<Dyn>>, NamesError>
+    ensures { Tells (option_map (λ entries. entries.items))
+        (λ bytes. entries_of (stream_file E.little stream.old bytes)) stream.old stream.new result }
+{
+    match stream.dynamic() {
+        Ok(Some(table)) => Ok(Some(entries_in(alloc, &table)?)),
+        Ok(None) => Ok(None),
+        Err(error) => Err(NamesError::Read(error)),
+    }
+}
+
+// The names that the entries give in the strings of a part of the file.
+fn names_of_part<E: EndianParse, S: StreamSource, A: Allocator + Copy>(
+    alloc: Global,
+    stream: &mut ElfStream<E, S, A>,
+    entries: &[Dyn],
+    part: &ProgramHeader,
+) -> Result<Names, NamesError>
+    ensures { Tells names_view
+        (λ bytes. names_of_part (stream_file E.little stream.old bytes) part.now entries.now)
+        stream.old stream.new result }
+{
+    match stream.segment_data(part) {
+        Ok(bytes) => names_in(alloc, &StringTable::new(bytes), entries),
+        Err(error) => Err(NamesError::Read(error)),
+    }
+}
+
+// The names that the entries of a file give.
+fn names_by<E: EndianParse, S: StreamSource, A: Allocator + Copy>(
+    alloc: Global,
+    stream: &mut ElfStream<E, S, A>,
+    entries: &[Dyn],
+) -> Result<Names, NamesError>
+    ensures { Tells names_view (λ bytes. names_by (stream_file E.little stream.old bytes) entries.now)
+        stream.old stream.new result }
+{
+    match string_part(stream.segments().as_slice(), entries) {
+        Ok(part) => names_of_part(alloc, stream, entries, &part),
+        Err(error) => Err(error),
+    }
+}
+
+/// The soname of a file, the libraries that it needs and its search paths; `None` where it has no dynamic entries. The
+/// string table is found by its address, as the dynamic linker finds it, so no section header is needed.
+///
+/// # Errors
+///
+/// In this order: `Read` where the dynamic entries cannot be read; `NoAddress` and `NoSize` where no entry gives the
+/// address or the size of the string table; `NotLoaded` where no segment of type `PT_LOAD` holds it; `Read` where its
+/// bytes cannot be read; `Name` where the string of an entry cannot be read: of the soname, then of the needed
+/// libraries in order, of `DT_RUNPATH` and of `DT_RPATH`. `Memory` where an allocation fails.
+pub fn dynamic_names<E: EndianParse, S: StreamSource, A: Allocator + Copy>(
+    alloc: Global,
+    stream: &mut ElfStream<E, S, A>,
+) -> Result<Option<Names>, NamesError>
+    ensures { Tells (option_map names_view) (λ bytes. names (stream_file E.little stream.old bytes))
+        stream.old stream.new result }
+{
+    let entries = match entries_of(alloc, stream) {
+        Ok(Some(entries)) => entries,
+        Ok(None) => return Ok(None),
+        Err(error) => return Err(error),
+    };
+    match names_by(alloc, stream, entries.as_slice()) {
+        Ok(names) => Ok(Some(names)),
+        Err(error) => Err(error),
+    }
+}

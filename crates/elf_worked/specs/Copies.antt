@@ -1,0 +1,12 @@
+-- The bytes of a section of a file in memory.
+use Rattle.std.specs.Prelude.{◌≡◌, ℕ, Bool, List, Option, Ok}
+use Rattle.elf_parts.specs.declared.section.SectionHeader.{SectionHeader}
+use Rattle.elf.specs.Data.{content}
+use Rattle.elf.specs.ElfBytes.{View}
+use Rattle.elf.specs.ObjectFile.{object_file}
+use Rattle.elf.specs.Opening.{opened}
+
+-- `ElfBytes` opens the file, and these are the bytes that it gives of the section
+abbrev pub IsSectionOf : {E : Type 0} → (E → Bool) → (ℕ → Option E) → List ℕ → SectionHeader → List ℕ → Type 0
+IsSectionOf {E} little of_byte bytes s copy =
+    (v : View E) × (opened little of_byte bytes ≡ Ok v) × (content (object_file little v) s ≡ Ok copy)

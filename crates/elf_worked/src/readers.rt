@@ -1,0 +1,37 @@
+//! What a caller of a stream can prove of bytes that it copies out of the stream.
+ghost use Rattle.std.specs.Prelude.{◌≡◌, ◌≢◌, IfErr, IfOk};
+ghost use Rattle.elf.specs.ElfStream.{Kind, kind};
+ghost use Rattle.elf_worked.specs.Copies.{IsSectionOf};
+
+use elf::endian::EndianParse;
+use elf::readers::stream_answers_as_bytes;
+use elf::section::SectionHeader;
+use elf::{ElfStream, MemSource, ParseError};
+use std::alloc::Global;
+
+/// A copy of the bytes of a section, which a stream reads from a file in memory. They are the bytes that `ElfBytes`
+/// gives of that section. Returns an error where the file does not open, where the bytes of the section cannot be
+/// read, and with `OutOfMemory`; a source in memory gives no I/O error.
+pub fn section_copy<E: EndianParse>(
+    alloc: Global,
+    file: &[u8],
+    shdr: &SectionHeader,
+) -> Result<Vec<u8>, ParseError>
+    ensures same { IfOk result (λ copy. IsSectionOf E.little E.of_byte file.now shdr.now copy.items) }
+    ensures cause { IfErr result (λ e. kind e ≢ Kind.Failure) }
+{
+    let source = MemSource::new(file);
+    let opened = ElfStream::<E, MemSource<'_>, Global>::open_stream(alloc, source);
+    let mut stream = match opened {
+        Ok(stream) => stream,
+        Err(error) => return Err(error),
+    };
+    stream_answers_as_bytes(&stream);
+    match stream.section_data(shdr) {
+        Ok((bytes, _)) => match Vec::from_slice(alloc, bytes) {
+            Ok(copy) => Ok(copy),
+            Err(_) => Err(ParseError::OutOfMemory),
+        },
+        Err(error) => Err(error),
+    }
+}
