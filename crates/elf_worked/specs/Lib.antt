@@ -1,3 +1,4 @@
+pub mod Bound
 pub mod Built
 pub mod BuiltBytes
 pub mod BuiltSections
