@@ -4,3 +4,5 @@ pub mod LoadPlan
 pub mod HashLint
 pub mod Resolver
 pub mod Bindings
+pub mod Readings
+pub mod Library
