@@ -4,6 +4,7 @@ import struct
 SHT_PROGBITS, SHT_SYMTAB, SHT_STRTAB, SHT_RELA, SHT_HASH, SHT_DYNAMIC, SHT_NOTE = 1, 2, 3, 4, 5, 6, 7
 SHT_REL, SHT_DYNSYM, SHT_GNU_HASH = 9, 11, 0x6FFFFFF6
 SHT_GNU_VERDEF, SHT_GNU_VERNEED, SHT_GNU_VERSYM = 0x6FFFFFFD, 0x6FFFFFFE, 0x6FFFFFFF
+VER_FLG_BASE = 1
 PT_LOAD, PT_NOTE = 1, 4
 
 
@@ -153,9 +154,9 @@ def gnu_section(names):
     return names[:1] + [name for _, name in hashed], table + struct.pack(f"<{nbucket}I{len(chains)}I", *buckets, *chains)
 
 
-def add_hashes(made, count):
-    """Dynamic symbols in the order of the buckets, and both hash sections over them."""
-    names, gnu = gnu_section([b""] + [b"symbol_%d" % k for k in range(1, count)])
+def add_hashes(made, count, prefix=b"symbol"):
+    """Dynamic symbols in the order of the buckets, and both hash sections over them. Their names, in that order."""
+    names, gnu = gnu_section([b""] + [b"%s_%d" % (prefix, k) for k in range(1, count)])
     strings = b"\0".join(names) + b"\0"
     symbols, place = [], 0
     for name in names:
@@ -165,6 +166,28 @@ def add_hashes(made, count):
     dynsym = made.add(b".dynsym", SHT_DYNSYM, b"".join(symbols), names_index, 1, 24)
     made.add(b".hash", SHT_HASH, sysv_section(names), dynsym, 0, 4)
     made.add(b".gnu.hash", SHT_GNU_HASH, gnu, dynsym)
+    return names
+
+
+def version_name(prefix, number):
+    return b"%s_%d.0" % (prefix, number)
+
+
+def versioned_library(count, versions, symbol_prefix, version_prefix):
+    """A file of dynamic symbols that have these versions by turns, with the name of each symbol and its version."""
+    made = Made()
+    symbols = add_hashes(made, count, symbol_prefix)
+    names = [b"libmade.so"] + [version_name(version_prefix, k) for k in range(versions)]
+    strings, records = b"\0", b""
+    for k, name in enumerate(names):
+        behind = 28 if k + 1 < len(names) else 0
+        records += struct.pack("<HHHHIII", 1, VER_FLG_BASE if k == 0 else 0, 1 + k, 1, sysv_hash(name), 20, behind)
+        records += struct.pack("<II", len(strings), 0)
+        strings += name + b"\0"
+    own = [k % versions for k in range(len(symbols))]
+    made.add(b".gnu.version", SHT_GNU_VERSYM, b"".join(struct.pack("<H", 2 + k) for k in own), made.first(SHT_DYNSYM), 0, 2)
+    made.add(b".gnu.version_d", SHT_GNU_VERDEF, records, made.add(b".verstr", SHT_STRTAB, strings), len(names))
+    return made, [(name, names[1 + k]) for name, k in zip(symbols, own) if name]
 
 
 def add_bytes(made, count):

@@ -87,6 +87,13 @@ def checked(command):
     return indexed, runs[0][1], check, once
 
 
+def bound(command):
+    """What look-ups over libraries tell: how many found a symbol with its version and without, and the least nanoseconds of
+    both."""
+    runs = [subprocess.run(command, capture_output=True, check=True, text=True).stdout.split() for _ in range(RUNS)]
+    return int(runs[0][0]), int(runs[0][1]), min(int(run[2]) for run in runs), min(int(run[3]) for run in runs)
+
+
 def text_of(command):
     """A name for the text that a run writes."""
     digest = hashlib.sha256()

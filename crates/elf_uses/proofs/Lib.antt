@@ -1,2 +1,4 @@
 pub mod Tables
 pub mod Naming
+pub mod Readings
+pub mod Libraries

@@ -5,3 +5,5 @@ pub mod HashLint
 pub mod Resolver
 pub mod Bindings
 pub mod Needed
+pub mod Readings
+pub mod Library

@@ -1,5 +1,6 @@
 //! What the callers answer, as lines.
-use crate::bindings::{Bound, bind_reference, references};
+use crate::bindings::lines::print_bindings;
+use crate::bindings::reading::open_library;
 use crate::build_id::build_id;
 use crate::functions::{functions, version_of};
 use crate::hash_lint::lint;
@@ -11,22 +12,12 @@ use elf::gnu_symver::SymbolVersionTable;
 use elf::section::SectionHeader;
 use elf::string_table::StringTable;
 use elf::symbol::{Symbol, SymbolTable};
-use elf::{ElfBytes, ParseError};
-use elf_check::binding::{Unreadable, VersionedObject, Wanted, reference, versioned_object};
+use elf::{ElfBytes, MemSource, ParseError};
 use std::alloc::Global;
 use std::io;
 use std::io::Write;
 
 type File<'data> = ElfBytes<'data, AnyEndian>;
-
-type Object<'data> = VersionedObject<'data, AnyEndian>;
-
-/// The objects that references are bound in, and the place of each one's file among all files.
-#[derive(Drop)]
-struct Scope<'a, 'data> {
-    objects: &'a [Object<'data>],
-    places: &'a [usize],
-}
 
 /// The answers of a caller for each file, or of the resolver or of `bindings` for all of them.
 pub fn print_answers<W: Write>(
@@ -39,7 +30,7 @@ pub fn print_answers<W: Write>(
         return print_resolved(alloc, out, name.as_bytes(), files);
     }
     if caller == "bindings" {
-        return print_bindings(alloc, out, files);
+        return print_bindings_in(alloc, out, files);
     }
     for data in files {
         print_answer(alloc, out, caller, data.as_slice())?;
@@ -234,129 +225,10 @@ fn print_definition<W: Write>(
     }
 }
 
-fn print_bindings<W: Write>(alloc: Global, out: &mut W, files: &[Vec<u8>]) -> io::Result<()> {
-    let mut objects: Vec<Object<'_>> = Vec::new(alloc);
-    let mut places = Vec::new(alloc);
-    for (place, data) in files.iter().enumerate() {
-        if let Some(object) = print_object(out, place, data.as_slice())? {
-            objects.push(object)?;
-            places.push(place)?;
-        }
+fn print_bindings_in<W: Write>(alloc: Global, out: &mut W, files: &[Vec<u8>]) -> io::Result<()> {
+    let mut libraries = Vec::new(alloc);
+    for data in files {
+        libraries.push(open_library(alloc, MemSource::new(data.as_slice())))?;
     }
-    let scope = Scope {
-        objects: objects.as_slice(),
-        places: places.as_slice(),
-    };
-    for (place, data) in files.iter().enumerate() {
-        print_bindings_of(alloc, out, &scope, place, data.as_slice())?;
-    }
-    Ok(())
-}
-
-/// The object that a file is, or why it is none.
-fn print_object<'data, W: Write>(
-    out: &mut W,
-    place: usize,
-    data: &'data [u8],
-) -> io::Result<Option<Object<'data>>> {
-    let file = match ElfBytes::minimal_parse(data) {
-        Ok(file) => file,
-        Err(error) => {
-            writeln!(out, "object {place}: {error}")?;
-            return Ok(None);
-        }
-    };
-    match versioned_object(&file) {
-        Ok(Some(object)) => Ok(Some(object)),
-        Ok(None) => {
-            writeln!(out, "object {place}: no hash section")?;
-            Ok(None)
-        }
-        Err(fault) => {
-            writeln!(out, "object {place}: {fault}")?;
-            Ok(None)
-        }
-    }
-}
-
-fn print_bindings_of<W: Write>(
-    alloc: Global,
-    out: &mut W,
-    scope: &Scope<'_, '_>,
-    place: usize,
-    data: &[u8],
-) -> io::Result<()> {
-    let Ok(file) = ElfBytes::minimal_parse(data) else {
-        return Ok(());
-    };
-    let file: File<'_> = file;
-    let Ok(Some((symbols, strings))) = file.dynamic_symbol_table() else {
-        return Ok(());
-    };
-    let Ok(versions) = file.symbol_version_table() else {
-        return Ok(());
-    };
-    let found = references(alloc, &symbols)?;
-    for (index, symbol) in &found {
-        write!(out, "object {place}: symbol {index} ")?;
-        let versions = versions.as_ref();
-        print_bound(out, scope, symbol, &strings, reference(versions, *index))?;
-    }
-    Ok(())
-}
-
-fn print_bound<W: Write>(
-    out: &mut W,
-    scope: &Scope<'_, '_>,
-    symbol: &Symbol,
-    strings: &StringTable<'_>,
-    wanted: Result<Wanted<'_>, Unreadable>,
-) -> io::Result<()> {
-    let name = match strings.get_raw(symbol.st_name as usize) {
-        Ok(name) => name,
-        Err(error) => return writeln!(out, "({error})"),
-    };
-    out.write_all(name)?;
-    let wanted = match wanted {
-        Ok(wanted) => wanted,
-        Err(error) => return writeln!(out, ": {error}"),
-    };
-    print_wanted(out, &wanted)?;
-    match bind_reference(scope.objects, symbol, name, &wanted) {
-        Ok(bound) => print_bound_to(out, scope.places, &bound),
-        Err(fault) => {
-            let place = place_of(scope.places, fault.object);
-            let symbol = fault.symbol;
-            writeln!(
-                out,
-                ": object {place}: version of symbol {symbol} cannot be read"
-            )
-        }
-    }
-}
-
-fn print_wanted<W: Write>(out: &mut W, wanted: &Wanted<'_>) -> io::Result<()> {
-    match wanted {
-        Wanted::Any => Ok(()),
-        Wanted::Compatible(version) | Wanted::Only(version) => {
-            let name = version.name;
-            write!(out, "@{name}")
-        }
-    }
-}
-
-fn print_bound_to<W: Write>(out: &mut W, places: &[usize], bound: &Bound) -> io::Result<()> {
-    match bound {
-        Bound::To { object, symbol } => {
-            let place = place_of(places, *object);
-            writeln!(out, ": object {place}, symbol {symbol}")
-        }
-        Bound::Weak => writeln!(out, ": weak and unbound"),
-        Bound::Missing => writeln!(out, ": missing"),
-    }
-}
-
-/// The place of an object's file among the files.
-fn place_of(places: &[usize], object: usize) -> usize {
-    places.get(object).copied().unwrap_or(object)
+    print_bindings(alloc, out, libraries.as_slice())
 }

@@ -6,6 +6,11 @@ ghost use Rattle.elf_parts.specs.Table.{table_items, table_view};
 ghost use Rattle.elf_check.specs.VersionedView.{versioned_view};
 ghost use Rattle.elf_uses.specs.Bindings.{IsBound, is_reference};
 
+pub mod library;
+pub mod lines;
+pub mod reading;
+pub mod sections;
+
 use elf::abi;
 use elf::endian::EndianParse;
 use elf::symbol::{Symbol, SymbolTable};

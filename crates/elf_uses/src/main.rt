@@ -18,8 +18,12 @@ mod needed_lines;
 mod resolver;
 
 use answers::print_answers;
+use bindings::lines::print_bindings;
+use bindings::reading::open_library;
+use elf::FileSource;
 use elf_rows::{RowError, changed_file};
 use needed_lines::print_needed_of_files;
+use std::fs::File;
 use std::io::{BufWriter, Write};
 use std::{env, fs};
 
@@ -68,11 +72,28 @@ fn print_files<W: Write>(
     names: &[String],
     out: &mut W,
 ) -> Result<(), RowError> {
+    if caller == "bindings" {
+        return print_bindings_of_files(rt, names, out);
+    }
     let mut files = Vec::new(rt.alloc());
     for name in names {
         files.push(fs::read(rt, name.as_str())?)?;
     }
     Ok(print_answers(rt.alloc(), out, caller, files.as_slice())?)
+}
+
+/// What the references of files of the machine bind to. A file is closed before the next one is opened.
+fn print_bindings_of_files<W: Write>(
+    rt: &HostRuntime,
+    names: &[String],
+    out: &mut W,
+) -> Result<(), RowError> {
+    let mut libraries = Vec::new(rt.alloc());
+    for name in names {
+        let source = FileSource::new(File::open(rt, name.as_str())?);
+        libraries.push(open_library(rt.alloc(), source))?;
+    }
+    Ok(print_bindings(rt.alloc(), out, libraries.as_slice())?)
 }
 
 fn print_rows<W: Write>(rt: &HostRuntime, name: &str, out: &mut W) -> Result<(), RowError> {

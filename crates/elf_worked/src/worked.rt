@@ -1,6 +1,7 @@
 //! The values of the definitions at bytes whose answers are known, each proved by evaluation: the
 //! definitions are checked here apart from the code that was proved to meet them.
 
+pub mod binding;
 pub mod calls;
 pub mod choices;
 pub mod common;

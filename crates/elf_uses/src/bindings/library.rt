@@ -1,0 +1,228 @@
+//! What a file gives to bind by, in memory of its own: a stream lends one view at a time, and a look-up needs the
+//! hash section, the symbols and their versions at once.
+ghost use Rattle.std.specs.Prelude.{◌≡◌, Bool, IsOk};
+ghost use Rattle.std.specs.Option.{option_map};
+ghost use Rattle.elf_parts.specs.gnu_symver.Table.{definitions_view, needs_view, versions_view};
+ghost use Rattle.elf.specs.Answers.{symbol_version_table, symbols_view};
+ghost use Rattle.elf.specs.ObjectFile.{ObjectFile};
+ghost use Rattle.elf_check.specs.CheckedTable.{object_view};
+ghost use Rattle.elf_check.specs.ObjectTable.{GivesObjectTable, object_of};
+ghost use Rattle.elf_check.specs.VersionedView.{versioned_view};
+ghost use Rattle.elf_uses.specs.Library.{GivesFrom, IsLibraryOf, definitions_in, hash_kept, lent, lent_hash, needs_in};
+ghost use Rattle.elf_uses.specs.Library.{object_kept, symbols_kept, told, versions_in, versions_kept};
+ghost use Rattle.elf_uses.specs.declared.bindings.library.LibraryFault.TheVariants.{Unread as IsUnread};
+
+use elf::ParseError;
+use elf::endian::EndianParse;
+use elf::file::Class;
+use elf::gnu_symver::{SymbolVersionTable, VerDefIterator, VerNeedIterator, VersionIndexTable};
+use elf::string_table::StringTable;
+use elf::symbol::SymbolTable;
+use elf_check::binding::VersionedObject;
+use elf_check::hashcheck::{AnyChecked, Checked, HashSection, check_any};
+use elf_check::resolve::ObjectFault;
+use thiserror::Error;
+
+/// A hash section of a kind, by its bytes.
+#[derive(Debug, Drop)]
+pub struct HashBytes {
+    pub kind: HashSection,
+    pub section: Vec<u8>,
+}
+
+/// The bytes of a section of symbols, and those of their strings.
+#[derive(Debug, Drop)]
+pub struct SymbolBytes {
+    pub symbols: Vec<u8>,
+    pub strings: Vec<u8>,
+}
+
+/// The bytes of a section of needs or of definitions, which has at most `count` of them, and those of its strings.
+#[derive(Debug, Drop)]
+pub struct EntryBytes {
+    pub count: u32,
+    pub entries: Vec<u8>,
+    pub strings: Vec<u8>,
+}
+
+/// The bytes of the sections that the versions of symbols stand in.
+#[derive(Debug, Drop)]
+pub struct VersionBytes {
+    pub indexes: Vec<u8>,
+    pub needs: Option<EntryBytes>,
+    pub definitions: Option<EntryBytes>,
+}
+
+/// The parts of a file that symbols are bound by. Each that could not be read has the error in its place.
+#[derive(Debug, Drop)]
+pub struct Library<E: EndianParse> {
+    pub endianness: E,
+    pub class: Class,
+    pub hash: Result<Option<HashBytes>, ParseError>,
+    pub symbols: Result<Option<SymbolBytes>, ParseError>,
+    pub versions: Result<Option<VersionBytes>, ParseError>,
+}
+
+/// Why a library that has a hash section gives no object.
+#[derive(Debug, Drop, Error)]
+pub enum LibraryFault<'a> {
+    /// A part of it could not be read.
+    #[error("{0}")]
+    Unread(&'a ParseError),
+    /// Its parts give no checked table.
+    #[error("{0}")]
+    Table(ObjectFault),
+}
+
+impl<'a> From<&'a ParseError> for LibraryFault<'a> {
+    ghost from_gives = { λ error fault. fault ≡ IsUnread error };
+
+    fn from(error: &'a ParseError) -> LibraryFault<'a> {
+        LibraryFault::Unread(error)
+    }
+}
+
+impl<E: EndianParse> Library<E> {
+    /// The hash section, if there is one.
+    fn hash_section(&self) -> Result<Option<(HashSection, &[u8])>, &ParseError>
+        ensures { lent (option_map lent_hash) result ≡ hash_kept self.now }
+    {
+        match &self.hash {
+            Ok(Some(hash)) => Ok(Some((hash.kind, hash.section.as_slice()))),
+            Ok(None) => Ok(None),
+            Err(error) => Err(error),
+        }
+    }
+
+    /// The dynamic symbols with their strings, if there are any.
+    pub fn dynamic_symbol_table(
+        &self,
+    ) -> Result<Option<(SymbolTable<'_, E>, StringTable<'_>)>, &ParseError>
+        ensures { lent (option_map symbols_view) result ≡ symbols_kept E.little self.now }
+    {
+        match &self.symbols {
+            Ok(Some(bytes)) => Ok(Some((
+                SymbolTable::new(self.endianness, self.class, bytes.symbols.as_slice()),
+                StringTable::new(bytes.strings.as_slice()),
+            ))),
+            Ok(None) => Ok(None),
+            Err(error) => Err(error),
+        }
+    }
+
+    // The needs of a section, with their strings.
+    fn needs<'a>(&self, bytes: &'a EntryBytes) -> (VerNeedIterator<'a, E>, StringTable<'a>)
+        ensures { needs_view result ≡ needs_in (E.little self.now.endianness) self.now.class bytes.now }
+    {
+        let needs = VerNeedIterator::new(
+            self.endianness,
+            self.class,
+            bytes.count as u64,
+            0,
+            bytes.entries.as_slice(),
+        );
+        (needs, StringTable::new(bytes.strings.as_slice()))
+    }
+
+    // The definitions of a section, with their strings.
+    fn definitions<'a>(&self, bytes: &'a EntryBytes) -> (VerDefIterator<'a, E>, StringTable<'a>)
+        ensures { definitions_view result ≡ definitions_in (E.little self.now.endianness) self.now.class bytes.now }
+    {
+        let definitions = VerDefIterator::new(
+            self.endianness,
+            self.class,
+            bytes.count as u64,
+            0,
+            bytes.entries.as_slice(),
+        );
+        (definitions, StringTable::new(bytes.strings.as_slice()))
+    }
+
+    // The needs of a section that there may not be.
+    fn needs_if<'a>(
+        &self,
+        bytes: &'a Option<EntryBytes>,
+    ) -> Option<(VerNeedIterator<'a, E>, StringTable<'a>)>
+        ensures { option_map needs_view result
+            ≡ option_map (needs_in (E.little self.now.endianness) self.now.class) bytes.now }
+    {
+        match bytes {
+            Some(bytes) => Some(self.needs(bytes)),
+            None => None,
+        }
+    }
+
+    // The definitions of a section that there may not be.
+    fn definitions_if<'a>(
+        &self,
+        bytes: &'a Option<EntryBytes>,
+    ) -> Option<(VerDefIterator<'a, E>, StringTable<'a>)>
+        ensures { option_map definitions_view result
+            ≡ option_map (definitions_in (E.little self.now.endianness) self.now.class) bytes.now }
+    {
+        match bytes {
+            Some(bytes) => Some(self.definitions(bytes)),
+            None => None,
+        }
+    }
+
+    // The versions of the sections.
+    fn versions<'a>(&self, bytes: &'a VersionBytes) -> SymbolVersionTable<'a, E>
+        ensures { versions_view result ≡ versions_in (E.little self.now.endianness) self.now.class bytes.now }
+    {
+        let indexes = VersionIndexTable::new(self.endianness, self.class, bytes.indexes.as_slice());
+        let needs = self.needs_if(&bytes.needs);
+        let definitions = self.definitions_if(&bytes.definitions);
+        SymbolVersionTable::new(indexes, needs, definitions)
+    }
+
+    /// The versions of the symbols, if there are any.
+    pub fn symbol_version_table(&self) -> Result<Option<SymbolVersionTable<'_, E>>, &ParseError>
+        ensures { lent (option_map versions_view) result ≡ versions_kept E.little self.now }
+    {
+        match &self.versions {
+            Ok(Some(bytes)) => Ok(Some(self.versions(bytes))),
+            Ok(None) => Ok(None),
+            Err(error) => Err(error),
+        }
+    }
+
+    // The checked table, if there is a hash section.
+    fn table(&self) -> Result<Option<AnyChecked<'_, E>>, LibraryFault<'_>>
+        ensures { GivesObjectTable object_view (object_kept E.little self.now) (told result) }
+    {
+        let Some((kind, section)) = self.hash_section()? else {
+            return Ok(None);
+        };
+        let Some((symbols, strings)) = self.dynamic_symbol_table()? else {
+            return Err(LibraryFault::Table(ObjectFault::NoSymbols));
+        };
+        match check_any(kind, self.endianness, self.class, section, symbols, strings) {
+            Ok(Checked::Sound(table)) => Ok(Some(table)),
+            Ok(Checked::Faulty(fault)) => Err(LibraryFault::Table(ObjectFault::Faulty(fault))),
+            Err(error) => Err(LibraryFault::Table(ObjectFault::Read(error))),
+        }
+    }
+
+    /// The object that the library is to a look-up: its checked table, and the versions of its symbols. None where it
+    /// has no hash section. Refuses at the first of these that fails: the hash section, the dynamic symbols, the table
+    /// in the section, its soundness, the versions.
+    pub fn object(&self) -> Result<Option<VersionedObject<'_, E>>, LibraryFault<'_>>
+        ensures { GivesFrom versioned_view (object_kept E.little self.now) (versions_kept E.little self.now) (told result) }
+    {
+        let Some(table) = self.table()? else {
+            return Ok(None);
+        };
+        let versions = self.symbol_version_table()?;
+        Ok(Some(VersionedObject { table, versions }))
+    }
+    /// A library all of whose parts were read of a file is the object that the file is, and has the file's versions.
+    pub fn is_object_of(&self)
+        ensures { (file : ObjectFile) (can_fail : Bool) → IsLibraryOf E.little can_fail file self.now
+            → IsOk self.now.hash → IsOk self.now.symbols → IsOk self.now.versions
+            → (object_kept E.little self.now ≡ object_of file)
+            × (versions_kept E.little self.now ≡ symbol_version_table file) }
+    {
+        let _ = &self.class;
+    }
+}
