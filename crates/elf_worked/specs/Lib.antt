@@ -1,5 +1,5 @@
-pub mod Branches
 pub mod Bound
+pub mod Branches
 pub mod Built
 pub mod BuiltBytes
 pub mod BuiltSections
