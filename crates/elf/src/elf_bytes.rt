@@ -1,4 +1,4 @@
-//! A file as a slice of its bytes.
+//! The reader over a slice of a file's bytes.
 ghost use Rattle.std.specs.Prelude.{◌≡◌, ◌≤◌, IfOk, length};
 ghost use Rattle.std.specs.Option.{option_map};
 ghost use Rattle.elf_parts.specs.Number.{bytes_at, ok_map};
@@ -26,11 +26,11 @@ mod versions;
 
 pub use common::CommonElfData;
 
-/// A file whose header and whose two tables were found in its bytes. It lends parts of the caller's
-/// slice, copies none of them and takes no memory.
+/// An ELF file in a slice of bytes, with its header and its two tables of headers. It borrows from the slice, copies
+/// none of it and allocates no memory.
 ///
-/// `ehdr` may be changed: methods go by its class, order and `e_shstrndx` as they stand. The two tables
-/// stay those that were found when the file was opened.
+/// `ehdr` may be changed: the methods use its current class, byte order and `e_shstrndx`. The two tables remain those
+/// that were found when the file was opened.
 #[derive(Debug, Drop)]
 pub struct ElfBytes<'data, E: EndianParse> {
     pub ehdr: FileHeader<E>,
@@ -39,7 +39,7 @@ pub struct ElfBytes<'data, E: EndianParse> {
     phdrs: Option<SegmentTable<'data, E>>,
 }
 
-// So many bytes of the data from start on.
+// `size` bytes of the data from `start` on.
 #[tactic(auto, unfolding(elf_parts::specs::Number::bytes_at))]
 fn get_bytes<'data>(data: &'data [u8], start: usize, size: usize) -> Result<&'data [u8], ParseError>
     ensures value { ok_map (λ bytes. bytes.now) result ≡ bytes_at size «data».now start }
@@ -64,7 +64,7 @@ fn parse_ehdr<E: EndianParse>(data: &[u8]) -> Result<FileHeader<E>, ParseError>
     FileHeader::parse_tail(ident, tail)
 }
 
-// The first section header, which has room for counts that the file header has none for.
+// The first section header. It holds the counts that do not fit the file header.
 fn first_section<E: EndianParse>(
     ehdr: &FileHeader<E>,
     data: &[u8],
@@ -75,7 +75,7 @@ fn first_section<E: EndianParse>(
     SectionHeader::parse_at(ehdr.endianness, ehdr.class, &mut offset, data)
 }
 
-// How many records a table has.
+// The number of records of a table.
 fn record_count<E: EndianParse>(
     ehdr: &FileHeader<E>,
     data: &[u8],
@@ -90,7 +90,7 @@ fn record_count<E: EndianParse>(
     Ok(table.word.count_in(&first) as usize)
 }
 
-// The bytes of so many records at an offset, whose size the file header gives as entsize.
+// The bytes of `count` records from `offset` on. `entsize` is their size as the file header gives it.
 #[tactic(auto, unfolding(elf_parts::specs::Number::bytes_at))]
 fn table_bytes<'data, P: ParseAt>(
     class: Class,
@@ -107,7 +107,7 @@ fn table_bytes<'data, P: ParseAt>(
     get_bytes(data, offset as usize, length)
 }
 
-// A table of headers; none where the file declares none.
+// A table of headers, or `None` if the file declares none.
 fn find_table<'data, E: EndianParse, P: ParseAt>(
     ehdr: &FileHeader<E>,
     data: &'data [u8],
@@ -125,9 +125,18 @@ fn find_table<'data, E: EndianParse, P: ParseAt>(
 }
 
 impl<'data, E: EndianParse> ElfBytes<'data, E> {
-    /// Opens a file: reads its header and finds its two tables (gABI, chapters "ELF Header", "Sections"
-    /// and "Program Header"). Refuses at the first of these that is not as it must be: the
-    /// identification, the tail of the header, the section headers, the program headers.
+    /// Opens a file: reads its header and finds its two tables (gABI, chapters "ELF Header", "Sections" and "Program
+    /// Header"). A table whose offset is 0 is not declared.
+    ///
+    /// The error is that of the first step that fails. The steps are the identification, the tail of the file header,
+    /// the section headers and the program headers.
+    ///
+    /// Errors of the header, in order: `SliceReadError((0, 16))` if the data are shorter; those of `parse_ident`;
+    /// `SliceReadError((16, end))` if the tail does not lie in the data.
+    ///
+    /// Errors of a table, in order: that of the first section header at `e_shoff`, if it holds the count (`e_shnum` is
+    /// 0, `e_phnum` is `PN_XNUM`); `BadEntsize((found, expected))`; `IntegerOverflow` if the end of the table does not
+    /// fit 64 bits; `SliceReadError((start, end))` if the table does not lie in the data.
     #[tactic(auto, unfolding(crate::specs::Opening::section_table, crate::specs::Opening::segment_table))]
     pub fn minimal_parse(data: &'data [u8]) -> Result<Self, ParseError>
         ensures { ok_map view result ≡ opened E.little E.of_byte «data».now }
@@ -143,14 +152,14 @@ impl<'data, E: EndianParse> ElfBytes<'data, E> {
         })
     }
 
-    /// The program headers, where the file declares any.
+    /// Returns the program headers, or `None` if the file declares none.
     pub fn segments(&self) -> Option<SegmentTable<'data, E>>
         ensures { option_map table_view result ≡ (view self.now).segments }
     {
         self.phdrs
     }
 
-    /// The section headers, where the file declares any.
+    /// Returns the section headers, or `None` if the file declares none.
     pub fn section_headers(&self) -> Option<SectionHeaderTable<'data, E>>
         ensures { option_map table_view result ≡ (view self.now).sections }
     {

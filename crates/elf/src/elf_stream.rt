@@ -1,4 +1,4 @@
-//! A file as a source that is read lazily.
+//! The reader over a source that is read lazily.
 ghost use Rattle.std.specs.Prelude.{◌≡◌, ℕ, ◌≤◌, ◌+◌, ◌^◌, ◌<◌, OnOk, OnErr, IfOk, IfErr};
 ghost use Rattle.std.specs.Prelude.{IfSome, Ok, IsOk, length, take, drop, [], ◌∷◌};
 ghost use Rattle.elf_parts.specs.Number.{bytes_at, ok_map};
@@ -32,15 +32,23 @@ use cache::Cache;
 use opening::{locate_phdrs, locate_shdrs, read_ehdr, read_records};
 use reads::fetch;
 
-/// A file whose bytes are read from a source as calls ask for them, and are kept. Its header and its two
-/// tables were read when it was opened.
+/// An ELF file that is read from a source as calls need its bytes. Opening it reads its header and its two tables of
+/// headers. What later calls read is cached.
 ///
-/// `ehdr` may be changed: methods go by its class, order and `e_shstrndx` as they stand. The section and
-/// program headers stay those that were read when the file was opened.
+/// `ehdr` may be changed: the methods use its current class, byte order and `e_shstrndx`. The section and program
+/// headers remain those that were read when the file was opened.
 ///
-/// A call loads the ranges that it needs, those of them that do not lie within a range which is kept, and
-/// lends from what is kept then. A range that was loaded is kept as long as the stream is. A call may
-/// refuse with `IOError` where the source failed in it, and with `OutOfMemory`; it may then be made again.
+/// A call requests the ranges of the sections or segments that it needs. A range that does not lie within a cached one
+/// is read and cached, and the result borrows from the cache. A range stays cached as long as the stream exists. If all
+/// requested ranges are cached, the call needs neither the source nor memory, and changes nothing.
+///
+/// If the content of the source is known, a method returns the value that the method of `ElfBytes` with the same name
+/// returns over that content, or an error: `IOError` if the source failed in this call; `OutOfMemory` if an allocation
+/// failed in this call; another variant only if the method of `ElfBytes` returns an error too. That variant may differ,
+/// and the contracts leave it open. After `IOError` or `OutOfMemory` the call may be repeated.
+///
+/// A range gives `IntegerOverflow` if its end does not fit 64 bits, and `BadOffset(end)` if its end lies behind the end
+/// of the source.
 #[derive(Drop)]
 pub struct ElfStream<E: EndianParse, S: StreamSource, A: Allocator + Copy> {
     pub ehdr: FileHeader<E>,
@@ -77,10 +85,14 @@ impl<E: EndianParse, S: StreamSource, A: Allocator + Copy> Model for ElfStream<E
 }
 
 impl<E: EndianParse, S: StreamSource, A: Allocator + Copy> ElfStream<E, S, A> {
-    /// Opens a file: reads its header and the two tables that it declares (gABI, chapters "ELF Header",
-    /// "Sections" and "Program Header"), and keeps no other bytes. Refuses where `ElfBytes::minimal_parse`
-    /// does, and with `IOError` or `OutOfMemory`; the source is given up then. Takes memory for the two tables alone,
-    /// and only if both lie in the source.
+    /// Opens a file: reads its header and the two tables that it declares (gABI, chapters "ELF Header", "Sections" and
+    /// "Program Header"). Caches no other bytes. Allocates memory for the two tables only, and only if both lie in the
+    /// source.
+    ///
+    /// If the content of the source is known, the tables are those that `ElfBytes::minimal_parse` finds in it. Returns
+    /// an error if that returns one. Otherwise the error is `IOError` if the source failed, or `OutOfMemory` if an
+    /// allocation failed; of a file that `minimal_parse` does not open it is never `OutOfMemory`. The source is dropped
+    /// with any error.
     pub fn open_stream(alloc: A, mut reader: S) -> Result<Self, ParseError>
         ensures content { IfOk result (λ s. (s.content ≡ S.content reader) × (s.can_fail ≡ S.can_fail reader)) }
         ensures kept { IfOk result (λ s. s.kept ≡ []) }
@@ -108,35 +120,35 @@ impl<E: EndianParse, S: StreamSource, A: Allocator + Copy> ElfStream<E, S, A> {
         })
     }
 
-    /// A stream is of the file that its source holds: where the content is known, its tables are those that the opening
-    /// gives, whatever header stands in `ehdr`.
+    /// States that the tables of a stream are those of its file: if the content of the source is known, opening it
+    /// succeeds and gives these section and program headers, whatever header `ehdr` now holds.
     pub fn is_of_file(&self)
         ensures { IfSome self.now.content (λ bytes. IsOfFile E.little E.of_byte bytes self.now) }
     {
         let _ = &self.ehdr;
     }
 
-    /// Every range that lies within a held one is held.
+    /// States that every range within a cached range is cached.
     pub fn held_covers(&self)
         ensures { (start end low high : ℕ) → low ≤ start → end ≤ high
             → IsHeld self.now low high → IsHeld self.now start end }
     {}
 
-    /// The program headers; none where the file declares none.
+    /// Returns the program headers. There are none if the file declares none.
     pub fn segments(&self) -> &Vec<ProgramHeader, A>
         ensures { result.now.items ≡ self.now.segments }
     {
         &self.phdrs
     }
 
-    /// The section headers; none where the file declares none.
+    /// Returns the section headers. There are none if the file declares none.
     pub fn section_headers(&self) -> &Vec<SectionHeader, A>
         ensures { result.now.items ≡ self.now.sections }
     {
         &self.shdrs
     }
 
-    // Reads so many bytes from `start` on, unless they are held.
+    // Reads `size` bytes from `start` on into the cache, unless they are cached.
     fn load(&mut self, start: u64, size: u64) -> Result<(), ParseError>
         ensures keeps { Keeps self.old self.new }
         ensures loaded { OnOk result ((start + size < 2 ^ 64) × IsHeld self.new start (start + size)) }
@@ -164,7 +176,7 @@ impl<E: EndianParse, S: StreamSource, A: Allocator + Copy> ElfStream<E, S, A> {
         self.cache.put(start, bytes)
     }
 
-    // The bytes of a range that is held.
+    // The bytes of a cached range.
     fn held_bytes(&self, start: u64, size: u64) -> &[u8]
         requires low { start + size < 2 ^ 64 }
         requires held { IsHeld self.now start (start + size) }
@@ -174,14 +186,14 @@ impl<E: EndianParse, S: StreamSource, A: Allocator + Copy> ElfStream<E, S, A> {
         self.cache.bytes(start, start + size)
     }
 
-    // Loads the range of a section.
+    // Reads the range of a section into the cache.
     fn load_section(&mut self, shdr: &SectionHeader) -> Result<(), ParseError>
         ensures { Loads (range_of_section shdr.now ∷ []) self.old self.new result }
     {
         self.load(shdr.sh_offset, shdr.sh_size)
     }
 
-    // Loads the range of a segment.
+    // Reads the range of a segment into the cache.
     fn load_segment(&mut self, phdr: &ProgramHeader) -> Result<(), ParseError>
         ensures { Loads (range_of_segment phdr.now ∷ []) self.old self.new result }
     {

@@ -1,4 +1,4 @@
-//! What both readers choose among the headers of a file.
+//! How both readers choose among the headers of a file.
 ghost use Rattle.std.specs.Prelude.{◌≡◌, ◌&&◌, IfErr, is_some};
 ghost use Rattle.elf_parts.specs.StringTable.{strings_view};
 ghost use Rattle.elf.specs.Answers.{symbol_sections, with_linked};
@@ -16,20 +16,20 @@ use elf_parts::segment::ProgramHeader;
 use elf_parts::string_table::StringTable;
 use elf_parts::symbol::Symbol;
 
-/// A section, and the one that it links to.
+/// A section, and the section that its `sh_link` names.
 pub(crate) type LinkedSections = (SectionHeader, SectionHeader);
 
-/// The headers of a file, wherever its reader keeps them. To choose among them takes no byte of the file: neither a
-/// source nor memory is needed.
+/// The headers of a file, in a table or in a list. To choose among them reads no byte of the file, so it needs neither
+/// a source nor memory.
 pub(crate) trait Headers {
-    // The object file that they are the headers of.
+    // The object file that has these headers.
     ghost file: { Self → ObjectFile };
 
-    /// The class of the file header as it stands.
+    /// The current class of the file header.
     fn class(&self) -> Class
         ensures { result ≡ (file self.now).class };
 
-    /// Its `e_shstrndx`.
+    /// The current `e_shstrndx` of the file header.
     fn e_shstrndx(&self) -> u16
         ensures { result ≡ (file self.now).e_shstrndx };
 
@@ -37,7 +37,7 @@ pub(crate) trait Headers {
     fn declares_sections(&self) -> bool
         ensures { result ≡ (file self.now).has_sections };
 
-    /// A section header by its index.
+    /// The section header of an index.
     fn section_at(&self, index: usize) -> Result<SectionHeader, ParseError>
         ensures value { result ≡ (file self.now).section_at index }
         ensures plain { IfErr result (λ e. kind e ≡ Kind.Refusal) };
@@ -50,11 +50,11 @@ pub(crate) trait Headers {
     fn first_segment_of(&self, p_type: u32) -> Option<ProgramHeader>
         ensures { result ≡ first_segment_of p_type (file self.now).segments };
 
-    /// The last sections of the three types of versions, up to the first one by which all of them were seen.
+    /// The last sections of the three types of version sections, up to the first section that completes the three.
     fn version_sections(&self) -> VersionSections
         ensures { result ≡ version_sections (file self.now).sections };
 
-    /// Which section holds the names of the sections.
+    /// The index of the section that holds the names of the sections.
     fn name_index(&self) -> Result<usize, ParseError>
         ensures value { result ≡ name_index (file self.now) }
         ensures plain { IfErr result (λ e. kind e ≡ Kind.Refusal) }
@@ -67,7 +67,7 @@ pub(crate) trait Headers {
         }
     }
 
-    /// The section that holds them; none where the file declares none.
+    /// The section that holds the names of the sections, or `None` if the file has no names.
     #[tactic(auto, unfolding(crate::specs::Names::name_section))]
     fn name_section(&self) -> Result<Option<SectionHeader>, ParseError>
         ensures value { result ≡ name_section (file self.now) }
@@ -80,7 +80,7 @@ pub(crate) trait Headers {
         self.section_at(index).map(Some)
     }
 
-    /// A section of symbols, with the section of their strings, which it links to.
+    /// A section of symbols, and the section of their strings, which its `sh_link` names.
     fn with_linked(&self, shdr: &SectionHeader) -> Result<LinkedSections, ParseError>
         ensures value { result ≡ with_linked (file self.now) shdr.now }
         ensures plain { IfErr result (λ e. kind e ≡ Kind.Refusal) }
@@ -90,7 +90,7 @@ pub(crate) trait Headers {
         Ok((*shdr, linked))
     }
 
-    /// The first section of a type of symbols, with the section that it links to.
+    /// The first section of a type of symbols, and the section that its `sh_link` names.
     fn symbol_sections(&self, sh_type: u32) -> Result<Option<LinkedSections>, ParseError>
         ensures value { result ≡ symbol_sections sh_type (file self.now) }
         ensures plain { IfErr result (λ e. kind e ≡ Kind.Refusal) }
@@ -102,7 +102,7 @@ pub(crate) trait Headers {
     }
 }
 
-// The sections that the versions of symbols stand in.
+// The sections with the versions of symbols.
 #[derive(Copy, Clone)]
 pub(crate) struct VersionSections {
     pub(crate) indexes: Option<SectionHeader>,
@@ -113,7 +113,7 @@ pub(crate) struct VersionSections {
 impl VersionSections {
     ghost use Rattle.elf.specs.inner.Passes.{no_version_sections, with_version_section};
 
-    // None of them yet.
+    // No sections.
     pub(crate) fn none() -> Self
         ensures { result ≡ no_version_sections }
     {
@@ -124,7 +124,7 @@ impl VersionSections {
         }
     }
 
-    // The same with one more section, in the place of an earlier one of its type.
+    // The same with one more section, which replaces an earlier one of its type.
     pub(crate) fn with(mut self, shdr: SectionHeader) -> Self
         ensures { result ≡ with_version_section self shdr }
     {

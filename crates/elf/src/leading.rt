@@ -1,4 +1,4 @@
-//! A record at the front of some bytes.
+//! A record at the front of a slice.
 ghost use Rattle.std.specs.Prelude.{◌≡◌, ◌≤◌, IfOk, length};
 ghost use Rattle.elf_parts.specs.Number.{ok_map};
 ghost use Rattle.elf.specs.Data.{at_front, data_view};
@@ -7,7 +7,7 @@ use elf_parts::endian::EndianParse;
 use elf_parts::file::Class;
 use elf_parts::parse::{ParseAt, ParseError};
 
-/// The record at the front of the data, and what follows it.
+/// The record at the front of the data, and the bytes behind it.
 pub(crate) fn leading_record<'data, E: EndianParse, P: ParseAt + Drop>(
     endian: E,
     class: Class,

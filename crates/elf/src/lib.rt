@@ -1,5 +1,5 @@
-//! Readers of ELF files: one over a slice of their bytes, which copies nothing and takes no memory, and one over
-//! a source that is read lazily.
+//! Two readers of ELF files. `ElfBytes` borrows from a slice of the file's bytes, copies nothing and allocates no
+//! memory. `ElfStream` reads a source lazily and caches what it has read.
 #![tactic(auto)]
 
 pub use elf_abi::{abi, to_str};

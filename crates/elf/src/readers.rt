@@ -1,4 +1,4 @@
-//! What both readers answer alike.
+//! Laws: both readers return the same.
 ghost use Rattle.std.specs.Prelude.{◌≡◌, ℕ, List, All, IfSome, Ok, Some};
 ghost use Rattle.elf.specs.Readers.{AreMade, Call, IsAnsweredAlike};
 ghost use Rattle.elf.specs.StreamFile.{stream_file};
@@ -16,9 +16,9 @@ use elf_parts::laws::lists::list_is_what_get_gives;
 use elf_parts::section::SectionHeader;
 use std::alloc::Allocator;
 
-/// Of a file that is opened each method answers alike, whether its headers stand in the file's tables, as those
-/// of an `ElfBytes`, or in lists, as those of an `ElfStream`: the same value, or both refuse. So it is of
-/// whatever header stands in both.
+/// States that the methods of an opened file return the same, whether its headers are in the file's tables, as for
+/// `ElfBytes`, or in lists, as for an `ElfStream`: the same value, or an error from both. This holds for every header
+/// in `ehdr`, if it is the same in both.
 pub fn list_answers_as_table<E: EndianParse>()
     ensures { (bytes : List ℕ) (v : View E) (header : FileHeader E) (s : Seen E) →
         opened E.little E.of_byte bytes ≡ Ok v → shown_headers s ≡ headers_of (with_header v header) →
@@ -27,9 +27,10 @@ pub fn list_answers_as_table<E: EndianParse>()
     list_is_what_get_gives::<SectionHeader>();
 }
 
-/// The headline over lists of calls. Of a stream over known content, opened from it and however often called since,
-/// each call of a list of calls answers as `ElfBytes` over that content does, whatever header is put into `ehdr` before
-/// it: the same value, or both refuse, or the source failed in that call, or memory was refused.
+/// The main theorem, about lists of calls. Take a stream over known content that was opened from it, whatever calls
+/// were made since. Then each call of a list of calls returns what `ElfBytes` over that content returns, whatever
+/// header is put into `ehdr` before the call: the same value, or an error from both. The stream alone may return an
+/// error only if the source or an allocation failed in that call.
 pub fn calls_answer_alike<E: EndianParse>()
     ensures { (bytes : List ℕ) (v : View E) (s : Seen E) (calls : List (Call E)) →
         opened E.little E.of_byte bytes ≡ Ok v → s.content ≡ Some bytes →
@@ -39,7 +40,8 @@ pub fn calls_answer_alike<E: EndianParse>()
     list_answers_as_table::<E>();
 }
 
-/// A stream answers about its file as `ElfBytes` does about the content, with the header that stands in it.
+/// States that what a stream over known content returns about its file is what `ElfBytes` over that content returns,
+/// with the header that the stream has now: the same value, or an error from both.
 pub fn stream_answers_as_bytes<E: EndianParse, S: StreamSource, A: Allocator + Copy>(
     stream: &ElfStream<E, S, A>,
 )

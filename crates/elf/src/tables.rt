@@ -7,8 +7,7 @@ use elf_parts::endian::EndianParse;
 use elf_parts::file::FileHeader;
 use elf_parts::section::SectionHeader;
 
-/// The word of the first section header that has the number of a table's records, where the file header has no room
-/// for it.
+/// The field of the first section header that holds the number of a table's records if it does not fit the file header.
 #[derive(Copy, Clone)]
 pub(crate) enum CountWord {
     ShSize,
@@ -16,7 +15,7 @@ pub(crate) enum CountWord {
 }
 
 impl CountWord {
-    /// The number in that word.
+    /// The value of that field.
     pub(crate) fn count_in(self, first: &SectionHeader) -> u64
         ensures { result ≡ count_word self first.now }
     {
@@ -27,8 +26,8 @@ impl CountWord {
     }
 }
 
-/// A table as the file header declares it: its offset, the size of a record, the number of the records, and which
-/// value in that place says that the number is in a word of the first section header.
+/// A table as the file header declares it: its offset in bytes, the size of a record in bytes, the number of records,
+/// the value of that number which says that it is in the first section header instead, and the field there.
 #[derive(Copy, Clone)]
 pub(crate) struct DeclaredTable {
     pub(crate) offset: u64,

@@ -1,4 +1,4 @@
-//! What is looked up most often, found in one pass.
+//! The sections that are looked up most often, found in one pass.
 ghost use Rattle.std.specs.Prelude.{◌≡◌};
 ghost use Rattle.elf_parts.specs.Number.{ok_map};
 ghost use Rattle.elf_parts.specs.GnuFind.{gnu_view};
@@ -18,22 +18,22 @@ use elf_parts::section::SectionHeader;
 use elf_parts::string_table::StringTable;
 use elf_parts::symbol::SymbolTable;
 
-/// The sections that are looked up most often, as far as a file has them.
+/// The sections that are looked up most often. A field is `None` if the file does not have it.
 #[derive(Debug, Default, Drop)]
 pub struct CommonElfData<'data, E: EndianParse> {
     /// The symbols.
     pub symtab: Option<SymbolTable<'data, E>>,
-    /// The strings that they are named in.
+    /// The strings with their names.
     pub symtab_strs: Option<StringTable<'data>>,
-    /// The symbols that are bound at run time.
+    /// The symbols for dynamic linking.
     pub dynsyms: Option<SymbolTable<'data, E>>,
-    /// The strings that they are named in.
+    /// The strings with the names of the symbols for dynamic linking.
     pub dynsyms_strs: Option<StringTable<'data>>,
     /// The dynamic entries.
     pub dynamic: Option<DynamicTable<'data, E>>,
-    /// The hash section of the gABI.
+    /// The SysV hash section.
     pub sysv_hash: Option<SysVHashTable<'data, E>>,
-    /// The hash section of GNU.
+    /// The GNU hash section.
     pub gnu_hash: Option<GnuHashTable<'data, E>>,
 }
 
@@ -42,7 +42,7 @@ impl<'data, E: EndianParse> ElfBytes<'data, E> {
     ghost use Rattle.elf.specs.Common.{gnu_hash_table_of, sysv_hash_table_of};
     ghost use Rattle.elf.specs.inner.Passes.{with_part};
 
-    // The hash section of the gABI.
+    // The table of a SysV hash section.
     fn sysv_hash_table_of(
         &self,
         shdr: &SectionHeader,
@@ -53,7 +53,7 @@ impl<'data, E: EndianParse> ElfBytes<'data, E> {
         SysVHashTable::new(self.ehdr.endianness, self.ehdr.class, bytes)
     }
 
-    // The hash section of GNU.
+    // The table of a GNU hash section.
     fn gnu_hash_table_of(&self, shdr: &SectionHeader) -> Result<GnuHashTable<'data, E>, ParseError>
         ensures { ok_map gnu_view result ≡ gnu_hash_table_of (object_file E.little (view self.now)) shdr.now }
     {
@@ -61,7 +61,7 @@ impl<'data, E: EndianParse> ElfBytes<'data, E> {
         GnuHashTable::new(self.ehdr.endianness, self.ehdr.class, bytes)
     }
 
-    // What was found so far, with what one section more holds.
+    // The data found so far, with those of one more section.
     fn with_section(
         &self,
         mut found: CommonElfData<'data, E>,
@@ -90,7 +90,7 @@ impl<'data, E: EndianParse> ElfBytes<'data, E> {
         Ok(found)
     }
 
-    // What the sections hold.
+    // The data of all sections.
     #[tactic(auto, using(crate::proofs::CommonPass::common_in_all, crate::proofs::CommonPass::common_of_none))]
     fn common_of_sections(&self) -> Result<CommonElfData<'data, E>, ParseError>
         ensures { ok_map common_view result ≡ common_of_sections (object_file E.little (view self.now)) }
@@ -113,10 +113,14 @@ impl<'data, E: EndianParse> ElfBytes<'data, E> {
         Ok(found)
     }
 
-    /// The symbols, the dynamic entries and the hash sections of the file, found in one pass: of each kind
-    /// those of the last section of its type; the dynamic entries of the first segment of type
-    /// `PT_DYNAMIC` where no section has any. Refuses at the first section of one of these types, in the
-    /// order of the table, that its own call would refuse, and then as `segment_data` does.
+    /// Returns the symbols, the dynamic entries and the hash sections of a file, found in one pass over its sections.
+    /// Each comes from the last section of its type: `SHT_SYMTAB`, `SHT_DYNSYM`, `SHT_DYNAMIC`, `SHT_HASH` and
+    /// `SHT_GNU_HASH`. If there is no section of type `SHT_DYNAMIC`, the dynamic entries are those of the first segment
+    /// of type `PT_DYNAMIC`.
+    ///
+    /// The error is that of the first section of these types, in the order of the table, that cannot be read: for
+    /// symbols those of `symbol_table`, for dynamic entries those of `dynamic`, for a hash section that of its range
+    /// and then that of `new`. After all sections come the errors of `segment_data` for the segment.
     pub fn find_common_data(&self) -> Result<CommonElfData<'data, E>, ParseError>
         ensures { ok_map common_view result ≡ find_common_data (object_file E.little (view self.now)) }
     {

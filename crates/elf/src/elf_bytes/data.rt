@@ -21,7 +21,7 @@ use elf_parts::relocation::{RelIterator, RelaIterator};
 use elf_parts::section::SectionHeader;
 use elf_parts::string_table::StringTable;
 
-// The bytes that a section header gives a range of.
+// The bytes in the range of a section header.
 pub(super) fn section_range<'data>(
     shdr: &SectionHeader,
     data: &'data [u8],
@@ -33,9 +33,13 @@ pub(super) fn section_range<'data>(
 }
 
 impl<'data, E: EndianParse> ElfBytes<'data, E> {
-    /// The bytes of a section; of a compressed one its header and what follows that (gABI, chapter
-    /// "Sections"). A section of type `SHT_NOBITS` has none, whatever its range. Refuses where the range
-    /// does not lie in the file or the compression header cannot be read.
+    /// Returns the bytes of a section, and its compression header if its flags have `SHF_COMPRESSED` (gABI, chapter
+    /// "Sections"). The bytes are then those behind that header; nothing is decompressed. A section of type
+    /// `SHT_NOBITS` has no bytes, and its range is not checked.
+    ///
+    /// Errors, in order: `IntegerOverflow` if the end of the section does not fit 64 bits; `SliceReadError((start,
+    /// end))` if the section does not lie in the file; `SliceReadError((start, end))`, in bytes from the start of the
+    /// section, of the first number of the compression header that does not lie in the section.
     #[tactic(auto, unfolding(crate::specs::Data::section_data))]
     pub fn section_data(
         &self,
@@ -59,7 +63,7 @@ impl<'data, E: EndianParse> ElfBytes<'data, E> {
         Ok((rest, Some(header)))
     }
 
-    // The bytes of a section that has to be of a type.
+    // The bytes of a section that must have a given type.
     pub(super) fn content_of_type(
         &self,
         shdr: &SectionHeader,
@@ -76,8 +80,9 @@ impl<'data, E: EndianParse> ElfBytes<'data, E> {
         Ok(bytes)
     }
 
-    /// The strings of a section of type `SHT_STRTAB`. Refuses another type with `UnexpectedSectionType`,
-    /// and else as `section_data` does.
+    /// Returns the strings of a section of type `SHT_STRTAB`.
+    ///
+    /// Errors, in order: `UnexpectedSectionType((found, expected))` for any other type; those of `section_data`.
     pub fn section_data_as_strtab(
         &self,
         shdr: &SectionHeader,
@@ -89,8 +94,10 @@ impl<'data, E: EndianParse> ElfBytes<'data, E> {
         Ok(StringTable::new(bytes))
     }
 
-    /// The relocations of a section of type `SHT_REL`, in order, up to the first that is refused. Refuses
-    /// another type with `UnexpectedSectionType`, and else as `section_data` does.
+    /// Returns an iterator over the relocations of a section of type `SHT_REL`. It ends at the first one that cannot be
+    /// read, and yields at most one for each byte of the file.
+    ///
+    /// Errors, in order: `UnexpectedSectionType((found, expected))` for any other type; those of `section_data`.
     pub fn section_data_as_rels(
         &self,
         shdr: &SectionHeader,
@@ -104,8 +111,10 @@ impl<'data, E: EndianParse> ElfBytes<'data, E> {
         Ok(RelIterator::new(self.ehdr.endianness, self.ehdr.class, bytes))
     }
 
-    /// The relocations of a section of type `SHT_RELA`, in order, up to the first that is refused. Refuses
-    /// another type with `UnexpectedSectionType`, and else as `section_data` does.
+    /// Returns an iterator over the relocations of a section of type `SHT_RELA`. It ends at the first one that cannot
+    /// be read, and yields at most one for each byte of the file.
+    ///
+    /// Errors, in order: `UnexpectedSectionType((found, expected))` for any other type; those of `section_data`.
     pub fn section_data_as_relas(
         &self,
         shdr: &SectionHeader,
@@ -119,8 +128,11 @@ impl<'data, E: EndianParse> ElfBytes<'data, E> {
         Ok(RelaIterator::new(self.ehdr.endianness, self.ehdr.class, bytes))
     }
 
-    /// The notes of a section of type `SHT_NOTE`, whose alignment is `sh_addralign`, up to the first that
-    /// does not fit. Refuses another type with `UnexpectedSectionType`, and else as `section_data` does.
+    /// Returns an iterator over the notes of a section of type `SHT_NOTE`, aligned to `sh_addralign` bytes (gABI,
+    /// chapter "Program Header", "Note Section"). It ends at the first note that does not fit, and yields at most one
+    /// for each byte of the file.
+    ///
+    /// Errors, in order: `UnexpectedSectionType((found, expected))` for any other type; those of `section_data`.
     pub fn section_data_as_notes(
         &self,
         shdr: &SectionHeader,

@@ -40,10 +40,12 @@ impl<'data, E: EndianParse> ElfBytes<'data, E> {
         Ok(DynamicTable::new(self.ehdr.endianness, self.ehdr.class, bytes))
     }
 
-    /// The dynamic entries (gABI, chapter "Dynamic Section"): of the first section of type `SHT_DYNAMIC`,
-    /// or where the file declares no section headers of the first segment of type `PT_DYNAMIC`. Refuses
-    /// where the entry size that the section header gives is not that of an entry, and where the bytes
-    /// are refused.
+    /// Returns the dynamic entries (gABI, chapter "Dynamic Section"). If the file declares section headers, they are
+    /// those of the first section of type `SHT_DYNAMIC`; otherwise those of the first segment of type `PT_DYNAMIC`.
+    /// Returns `None` if there is no such section or segment.
+    ///
+    /// Errors of a section, in order: `BadEntsize((found, expected))` if `sh_entsize` is not the size of an entry;
+    /// those of `section_data`. Errors of a segment: those of `segment_data`.
     pub fn dynamic(&self) -> Result<Option<DynamicTable<'data, E>>, ParseError>
         ensures { ok_map (option_map table_view) result ≡ dynamic (object_file E.little (view self.now)) }
     {

@@ -43,7 +43,7 @@ fn first_segment_in<E: EndianParse>(
     None
 }
 
-// The last sections of the three types of versions, up to the first one by which all of them were seen.
+// The last sections of the three types of version sections, up to the first section that completes the three.
 #[tactic(auto, using(crate::proofs::VersionChoice::found_in_all))]
 fn version_sections<E: EndianParse>(shdrs: SectionHeaderTable<'_, E>) -> VersionSections
     ensures { result ≡ version_sections (section_list (Some (table_view shdrs.entry))) }

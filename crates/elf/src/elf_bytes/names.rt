@@ -16,7 +16,7 @@ use elf_parts::parse::ParseError;
 use elf_parts::section::{SectionHeader, SectionHeaderTable};
 use elf_parts::string_table::StringTable;
 
-// The first section header of a name.
+// The first section header with a name.
 fn first_named_in<E: EndianParse>(
     shdrs: SectionHeaderTable<'_, E>,
     names: &StringTable<'_>,
@@ -34,8 +34,14 @@ fn first_named_in<E: EndianParse>(
 }
 
 impl<'data, E: EndianParse> ElfBytes<'data, E> {
-    /// The section headers and the table of their names, where the file declares them. Refuses where
-    /// the section that holds the names cannot be read or its range does not lie in the file.
+    /// Returns the section headers, or `None` if the file declares none, and the table of their names (gABI, chapters
+    /// "Sections" and "String Table"). The names are those of section `e_shstrndx` or, if that is `SHN_XINDEX`, of the
+    /// section that `sh_link` of section 0 names. There is no table of names if the file declares no section headers or
+    /// if `e_shstrndx` is `SHN_UNDEF`.
+    ///
+    /// Errors, in order: that of `ParsingTable::get` for section header 0, if it is needed; that of `ParsingTable::get`
+    /// for the section of the names; `IntegerOverflow` or `SliceReadError((start, end))` if the range of that section
+    /// does not lie in the file.
     #[tactic(auto, unfolding(crate::specs::Names::name_table))]
     pub fn section_headers_with_strtab(
         &self,
@@ -56,9 +62,9 @@ impl<'data, E: EndianParse> ElfBytes<'data, E> {
         Ok((self.shdrs, Some(StringTable::new(bytes))))
     }
 
-    /// The first section whose name has the bytes of `name`, where the file declares section headers and
-    /// a table of their names. Refuses as `section_headers_with_strtab` does; a section whose name cannot
-    /// be read is passed over.
+    /// Returns the first section whose name has exactly the bytes of `name`. A section whose name cannot be read is
+    /// skipped. Returns `None` if no section has the name, or if there is no table of names. The errors are those of
+    /// `section_headers_with_strtab`.
     pub fn section_header_by_name(&self, name: &str) -> Result<Option<SectionHeader>, ParseError>
         ensures { result ≡ section_header_by_name (object_file E.little (view self.now)) name.now }
     {

@@ -14,7 +14,11 @@ use elf_parts::parse::ParseError;
 use elf_parts::segment::ProgramHeader;
 
 impl<'data, E: EndianParse> ElfBytes<'data, E> {
-    /// The bytes of a segment in the file. Refuses where its range does not lie in the file.
+    /// Returns the bytes of a segment in the file: `p_filesz` bytes from `p_offset` on (gABI, chapter "Program
+    /// Header").
+    ///
+    /// Errors, in order: `IntegerOverflow` if the end of the segment does not fit 64 bits; `SliceReadError((start,
+    /// end))` if the segment does not lie in the file.
     pub fn segment_data(&self, phdr: &ProgramHeader) -> Result<&'data [u8], ParseError>
         ensures value { ok_map (λ bytes. bytes.now) result
             ≡ segment_data (object_file E.little (view self.now)) phdr.now }
@@ -23,8 +27,11 @@ impl<'data, E: EndianParse> ElfBytes<'data, E> {
         get_bytes(self.data, phdr.p_offset as usize, phdr.p_filesz as usize)
     }
 
-    /// The notes of a segment of type `PT_NOTE`, whose alignment is `p_align`, up to the first that does
-    /// not fit. Refuses another type with `UnexpectedSegmentType`, and else as `segment_data` does.
+    /// Returns an iterator over the notes of a segment of type `PT_NOTE`, aligned to `p_align` bytes (gABI, chapter
+    /// "Program Header", "Note Section"). It ends at the first note that does not fit, and yields at most one for each
+    /// byte of the file.
+    ///
+    /// Errors, in order: `UnexpectedSegmentType((found, expected))` for any other type; those of `segment_data`.
     pub fn segment_data_as_notes(
         &self,
         phdr: &ProgramHeader,

@@ -18,7 +18,7 @@ use elf_parts::string_table::StringTable;
 use elf_parts::symbol::SymbolTable;
 
 impl<'data, E: EndianParse> ElfBytes<'data, E> {
-    // The symbols of the one section, and the strings of the other.
+    // The symbols of the first section, and the strings of the second.
     fn symbols_in(
         &self,
         sections: &LinkedSections,
@@ -58,9 +58,12 @@ impl<'data, E: EndianParse> ElfBytes<'data, E> {
         }
     }
 
-    /// The symbols of the first section of type `SHT_SYMTAB` and the strings of the section that it links
-    /// to (gABI, chapter "Symbol Table"). Refuses where that section cannot be had, where the entry size
-    /// is not that of a symbol, and where the one range or the other does not lie in the file.
+    /// Returns the symbols of the first section of type `SHT_SYMTAB`, and the strings of the section that its `sh_link`
+    /// names (gABI, chapter "Symbol Table"). Returns `None` if there is no section of this type.
+    ///
+    /// Errors, in order: that of `ParsingTable::get` for section header `sh_link`; `BadEntsize((found, expected))` if
+    /// `sh_entsize` is not the size of a symbol; `IntegerOverflow` or `SliceReadError((start, end))` if the range of
+    /// the symbols does not lie in the file; the same for the range of the strings.
     pub fn symbol_table(
         &self,
     ) -> Result<Option<(SymbolTable<'data, E>, StringTable<'data>)>, ParseError>
@@ -69,8 +72,8 @@ impl<'data, E: EndianParse> ElfBytes<'data, E> {
         self.first_symbols(abi::SHT_SYMTAB)
     }
 
-    /// The symbols that are bound at run time, of the first section of type `SHT_DYNSYM`, with their
-    /// strings. Refuses as `symbol_table` does.
+    /// Returns the symbols for dynamic linking, those of the first section of type `SHT_DYNSYM`, with their strings.
+    /// Returns `None` if there is no section of this type. The errors are those of `symbol_table`.
     pub fn dynamic_symbol_table(
         &self,
     ) -> Result<Option<(SymbolTable<'data, E>, StringTable<'data>)>, ParseError>

@@ -1,4 +1,4 @@
-//! The versions of symbols.
+//! The versions of symbols (GNU symbol versioning).
 ghost use Rattle.std.specs.Prelude.{◌≡◌};
 ghost use Rattle.std.specs.Option.{option_map};
 ghost use Rattle.elf_parts.specs.Number.{ok_map};
@@ -35,7 +35,7 @@ impl<'data, E: EndianParse> ElfBytes<'data, E> {
         Ok(VersionIndexTable::new(self.ehdr.endianness, self.ehdr.class, bytes))
     }
 
-    // The strings of the section that a section links to.
+    // The bytes of the section that `sh_link` names.
     fn linked_strings(&self, shdr: &SectionHeader) -> Result<&'data [u8], ParseError>
         ensures { ok_map (λ bytes. bytes.now) result
             ≡ linked_strings (object_file E.little (view self.now)) shdr.now }
@@ -83,7 +83,7 @@ impl<'data, E: EndianParse> ElfBytes<'data, E> {
         Ok((definitions, StringTable::new(strings)))
     }
 
-    // The same, where there is a section.
+    // The needs of a section with their strings, or `None` if there is no section.
     fn version_needs_if(
         &self,
         shdr: Option<SectionHeader>,
@@ -110,7 +110,7 @@ impl<'data, E: EndianParse> ElfBytes<'data, E> {
         }
     }
 
-    // The versions by the indexes of a section, with the needs and the definitions, where there are any.
+    // The version table with the indexes of a section, and with the needs and the definitions if there are any.
     fn versions_of(
         &self,
         chosen: VersionSections,
@@ -125,10 +125,15 @@ impl<'data, E: EndianParse> ElfBytes<'data, E> {
         Ok(SymbolVersionTable::new(indexes, needs, definitions))
     }
 
-    /// The versions of the symbols (GNU symbol versioning), where the file has version indexes: by the last
-    /// sections of the types `SHT_GNU_VERSYM`, `SHT_GNU_VERNEED` and `SHT_GNU_VERDEF` up to the first
-    /// section by which all three were seen. Refuses where the entry size of the indexes is not 2, where
-    /// one of the ranges does not lie in the file, and where a section that is linked to cannot be had.
+    /// Returns the versions of the symbols (GNU symbol versioning), or `None` if there is no section of type
+    /// `SHT_GNU_VERSYM`. The version indexes, the needs and the definitions come from the last sections of the types
+    /// `SHT_GNU_VERSYM`, `SHT_GNU_VERNEED` and `SHT_GNU_VERDEF`. If all three types exist, sections behind the first
+    /// one that completes the three do not count.
+    ///
+    /// Errors, in order: `BadEntsize((found, 2))` of the indexes; `IntegerOverflow` or `SliceReadError((start, end))`
+    /// if the range of the indexes does not lie in the file; the same for the range of the needs; that of
+    /// `ParsingTable::get` for the section header that their `sh_link` names; that of the range of their strings; the
+    /// last three for the definitions.
     pub fn symbol_version_table(&self) -> Result<Option<SymbolVersionTable<'data, E>>, ParseError>
         ensures { ok_map (option_map versions_view) result
             ≡ symbol_version_table (object_file E.little (view self.now)) }

@@ -15,7 +15,7 @@ use std::collections::BTreeMap;
 use std::marker::Model;
 use std::ops::Bound;
 
-/// The cached parts of a source, by their starts. None lies within another, so a look-up has to see one of them alone.
+/// The cached parts of a source, by their starts. None lies within another, so a look-up examines only one of them.
 #[derive(Drop)]
 pub(super) struct Cache<A: Allocator> {
     buffers: BTreeMap<u64, Vec<u8, A>, A>,
@@ -33,7 +33,7 @@ impl<A: Allocator> Model for Cache<A> {
 }
 
 impl<A: Allocator> Cache<A> {
-    /// The empty cache.
+    /// An empty cache.
     pub(super) fn new(alloc: A) -> Self
         ensures { result ≡ [] }
     {
@@ -42,15 +42,15 @@ impl<A: Allocator> Cache<A> {
         }
     }
 
-    /// Whether the bytes from `start` to `end` lie in one buffer.
+    /// Whether one buffer has all bytes from `start` to `end`.
     pub(super) fn holds(&self, start: u64, end: u64) -> bool
         ensures { result ≡ is_held (map range_of self.now) start end }
     {
         self.find(start, end).is_some()
     }
 
-    // The buffer that has the bytes from `start` to `end`. Of the buffers that start at `start` or before it the last
-    // one ends last, so no other can have them.
+    // The buffer that has all bytes from `start` to `end`. Of the buffers that start at or before `start` the last one
+    // also ends last, so no other buffer can have them.
     fn find(&self, start: u64, end: u64) -> Option<(u64, &[u8])>
         ensures held { is_some result ≡ is_held (map range_of self.now) start end }
         ensures covers { IfSome result (λ r. Contains self.now (record { start = r.0; bytes = r.1.now })
@@ -63,7 +63,7 @@ impl<A: Allocator> Cache<A> {
         None
     }
 
-    /// The bytes from `start` to `end`, which lie in one buffer.
+    /// The bytes from `start` to `end`, which must lie in one buffer.
     pub(super) fn bytes(&self, start: u64, end: u64) -> &[u8]
         requires ordered { start ≤ end }
         requires held { IsTrue (is_held (map range_of self.now) start end) }
@@ -75,8 +75,9 @@ impl<A: Allocator> Cache<A> {
         }
     }
 
-    /// Caches one more buffer, whose range is not cached yet, and drops those that lie within it. Each buffer is
-    /// dropped at most once, so a load costs the logarithm of their number over time.
+    /// Caches a buffer whose range is not cached yet, and drops the buffers that lie within it. Each buffer is dropped
+    /// at most once, so the amortized cost of a call is logarithmic in the number of buffers. The only error is
+    /// `OutOfMemory`, and it leaves the cache as it was.
     pub(super) fn put(&mut self, start: u64, bytes: Vec<u8, A>) -> Result<(), ParseError>
     where
         A: Copy,
@@ -94,7 +95,7 @@ impl<A: Allocator> Cache<A> {
     }
 }
 
-// Drops the buffers that start behind `start` and end at `end` or before it.
+// Drops the buffers that start behind `start` and end at or before `end`.
 fn take_within<A: Allocator>(buffers: &mut BTreeMap<u64, Vec<u8, A>, A>, start: u64, end: u64)
     requires { AreSpread (λ v. v.items) (filter (λ e. nat_lt start e.0) buffers.old.entries) }
     ensures { buffers.new.entries
@@ -105,7 +106,7 @@ fn take_within<A: Allocator>(buffers: &mut BTreeMap<u64, Vec<u8, A>, A>, start: 
     }
 }
 
-// The first buffer that starts behind `start`, if it ends at `end` or before it. If it does not, no later one does.
+// The first buffer that starts behind `start`, if it ends at or before `end`. If it does not, no later buffer does.
 fn next_within<A: Allocator>(
     buffers: &BTreeMap<u64, Vec<u8, A>, A>,
     start: u64,

@@ -31,7 +31,7 @@ impl<E: EndianParse, S: StreamSource, A: Allocator + Copy> ElfStream<E, S, A> {
     ghost use Rattle.std.specs.Borrow.{sem};
     ghost use Rattle.elf.specs.Lending.{Lends};
 
-    // Loads the range of a section that has bytes.
+    // Reads the range of a section into the cache, if the section has bytes.
     pub(super) fn load_section_data(&mut self, shdr: &SectionHeader) -> Result<(), ParseError>
         ensures { Loads (section_asked shdr.now) self.old self.new result }
     {
@@ -41,7 +41,7 @@ impl<E: EndianParse, S: StreamSource, A: Allocator + Copy> ElfStream<E, S, A> {
         self.load_section(shdr)
     }
 
-    // The bytes of a section, which are held where it has any.
+    // The bytes of a section, which are cached if there are any.
     #[tactic(auto, unfolding(crate::specs::Data::section_data))]
     pub(super) fn lend_section_data(
         &self,
@@ -70,9 +70,12 @@ impl<E: EndianParse, S: StreamSource, A: Allocator + Copy> ElfStream<E, S, A> {
         Ok((rest, Some(header)))
     }
 
-    /// The bytes of a section; of a compressed one its header and what follows that (gABI, chapter
-    /// "Sections"). A section of type `SHT_NOBITS` has none, whatever its range. Refuses where the range
-    /// does not lie in the file or the compression header cannot be read.
+    /// Returns the bytes of a section, and its compression header if its flags have `SHF_COMPRESSED` (gABI, chapter
+    /// "Sections"). The bytes are then those behind that header; nothing is decompressed. Requests the range of the
+    /// section. A section of type `SHT_NOBITS` has no bytes, and its range is not requested.
+    ///
+    /// Errors, in order: that of the range; `SliceReadError((start, end))`, in bytes from the start of the section, of
+    /// the first number of the compression header that does not lie in the section.
     pub fn section_data(
         &mut self,
         shdr: &SectionHeader,
@@ -84,7 +87,7 @@ impl<E: EndianParse, S: StreamSource, A: Allocator + Copy> ElfStream<E, S, A> {
         self.lend_section_data(shdr)
     }
 
-    // Loads the range of a section that has to be of a type.
+    // Reads the range of a section into the cache. The section must have a given type.
     fn load_content(&mut self, shdr: &SectionHeader, sh_type: u32) -> Result<(), ParseError>
         ensures loads { LoadsFor (typed_section_asked sh_type shdr.now)
             (λ bytes. content_of_type sh_type (stream_file E.little self.old bytes) shdr.now)
@@ -98,7 +101,7 @@ impl<E: EndianParse, S: StreamSource, A: Allocator + Copy> ElfStream<E, S, A> {
         self.load_section_data(shdr)
     }
 
-    // The bytes of a section without its compression header, which are held.
+    // The cached bytes of a section, without its compression header.
     fn lend_content(&self, shdr: &SectionHeader) -> Result<&[u8], ParseError>
         requires low { AreLow (section_asked shdr.now) }
         requires held { AreHeld self.now (section_asked shdr.now) }
@@ -111,7 +114,7 @@ impl<E: EndianParse, S: StreamSource, A: Allocator + Copy> ElfStream<E, S, A> {
         Ok(bytes)
     }
 
-    // The strings of a section, whose bytes are held.
+    // The strings of a section, whose bytes are cached.
     fn lend_strtab(&self, shdr: &SectionHeader) -> Result<StringTable<'_>, ParseError>
         requires of_type { shdr.now.sh_type ≡ sht_strtab }
         requires low { AreLow (section_asked shdr.now) }
@@ -124,8 +127,10 @@ impl<E: EndianParse, S: StreamSource, A: Allocator + Copy> ElfStream<E, S, A> {
         Ok(StringTable::new(bytes))
     }
 
-    /// The strings of a section of type `SHT_STRTAB`. Refuses another type with `UnexpectedSectionType`,
-    /// and else as `section_data` does.
+    /// Returns the strings of a section of type `SHT_STRTAB`. Requests the range that `section_data` requests.
+    ///
+    /// Errors, in order: `UnexpectedSectionType((found, expected))` for any other type, with no range requested; those
+    /// of `section_data`.
     pub fn section_data_as_strtab(
         &mut self,
         shdr: &SectionHeader,
@@ -138,7 +143,7 @@ impl<E: EndianParse, S: StreamSource, A: Allocator + Copy> ElfStream<E, S, A> {
         self.lend_strtab(shdr)
     }
 
-    // The records of a section, whose bytes are held.
+    // The records of a section, whose bytes are cached.
     fn lend_records<P: ParseAt>(
         &self,
         shdr: &SectionHeader,
@@ -157,8 +162,11 @@ impl<E: EndianParse, S: StreamSource, A: Allocator + Copy> ElfStream<E, S, A> {
         Ok(ParsingIterator::new(self.ehdr.endianness, self.ehdr.class, bytes))
     }
 
-    /// The relocations of a section of type `SHT_REL`, in order, up to the first that is refused. Refuses
-    /// another type with `UnexpectedSectionType`, and else as `section_data` does.
+    /// Returns an iterator over the relocations of a section of type `SHT_REL`. It ends at the first one that cannot be
+    /// read, and yields at most one for each byte of the file. Requests the range that `section_data` requests.
+    ///
+    /// Errors, in order: `UnexpectedSectionType((found, expected))` for any other type, with no range requested; those
+    /// of `section_data`.
     pub fn section_data_as_rels(
         &mut self,
         shdr: &SectionHeader,
@@ -174,8 +182,11 @@ impl<E: EndianParse, S: StreamSource, A: Allocator + Copy> ElfStream<E, S, A> {
         self.lend_records::<Rel>(shdr)
     }
 
-    /// The relocations of a section of type `SHT_RELA`, in order, up to the first that is refused. Refuses
-    /// another type with `UnexpectedSectionType`, and else as `section_data` does.
+    /// Returns an iterator over the relocations of a section of type `SHT_RELA`. It ends at the first one that cannot
+    /// be read, and yields at most one for each byte of the file. Requests the range that `section_data` requests.
+    ///
+    /// Errors, in order: `UnexpectedSectionType((found, expected))` for any other type, with no range requested; those
+    /// of `section_data`.
     pub fn section_data_as_relas(
         &mut self,
         shdr: &SectionHeader,
@@ -191,7 +202,7 @@ impl<E: EndianParse, S: StreamSource, A: Allocator + Copy> ElfStream<E, S, A> {
         self.lend_records::<Rela>(shdr)
     }
 
-    // The notes of a section, whose bytes are held.
+    // The notes of a section, whose bytes are cached.
     fn lend_notes(&self, shdr: &SectionHeader) -> Result<NoteIterator<'_, E>, ParseError>
         requires of_type { shdr.now.sh_type ≡ sht_note }
         requires low { AreLow (section_asked shdr.now) }
@@ -212,8 +223,12 @@ impl<E: EndianParse, S: StreamSource, A: Allocator + Copy> ElfStream<E, S, A> {
         ))
     }
 
-    /// The notes of a section of type `SHT_NOTE`, whose alignment is `sh_addralign`, up to the first that
-    /// does not fit. Refuses another type with `UnexpectedSectionType`, and else as `section_data` does.
+    /// Returns an iterator over the notes of a section of type `SHT_NOTE`, aligned to `sh_addralign` bytes (gABI,
+    /// chapter "Program Header", "Note Section"). It ends at the first note that does not fit, and yields at most one
+    /// for each byte of the file. Requests the range that `section_data` requests.
+    ///
+    /// Errors, in order: `UnexpectedSectionType((found, expected))` for any other type, with no range requested; those
+    /// of `section_data`.
     pub fn section_data_as_notes(
         &mut self,
         shdr: &SectionHeader,

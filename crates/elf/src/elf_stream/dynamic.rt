@@ -29,7 +29,7 @@ impl<E: EndianParse, S: StreamSource, A: Allocator + Copy> ElfStream<E, S, A> {
     ghost use Rattle.std.specs.Borrow.{sem};
     ghost use Rattle.elf.specs.Lending.{Lends};
 
-    // Loads the range of a section of dynamic entries.
+    // Reads the range of a section of dynamic entries into the cache.
     fn load_dynamic(&mut self, shdr: &SectionHeader) -> Result<(), ParseError>
         ensures loads { LoadsFor (section_dynamic_asked (headers_alone E.little self.old) shdr.now)
             (λ bytes. section_dynamic (stream_file E.little self.old bytes) shdr.now) self.old self.new result }
@@ -40,7 +40,7 @@ impl<E: EndianParse, S: StreamSource, A: Allocator + Copy> ElfStream<E, S, A> {
         self.load_section_data(shdr)
     }
 
-    // The dynamic entries of a section, whose bytes are held.
+    // The dynamic entries of a section, whose bytes are cached.
     fn lend_dynamic(&self, shdr: &SectionHeader) -> Result<Option<DynamicTable<'_, E>>, ParseError>
         requires sized { shdr.now.sh_entsize ≡ size_by dyn_layout self.now.ehdr.class }
         requires low { AreLow (section_asked shdr.now) }
@@ -66,7 +66,7 @@ impl<E: EndianParse, S: StreamSource, A: Allocator + Copy> ElfStream<E, S, A> {
         self.lend_dynamic(shdr)
     }
 
-    // The dynamic entries of a segment, whose bytes are held.
+    // The dynamic entries of a segment, whose bytes are cached.
     fn lend_segment_dynamic(&self, phdr: &ProgramHeader) -> DynamicTable<'_, E>
         requires low { AreLow (segment_asked phdr.now) }
         requires held { AreHeld self.now (segment_asked phdr.now) }
@@ -103,10 +103,12 @@ impl<E: EndianParse, S: StreamSource, A: Allocator + Copy> ElfStream<E, S, A> {
         Ok(Some(self.lend_segment_dynamic(&phdr)))
     }
 
-    /// The dynamic entries (gABI, chapter "Dynamic Section"): of the first section of type `SHT_DYNAMIC`,
-    /// or where the file declares no section headers of the first segment of type `PT_DYNAMIC`. Refuses
-    /// where the entry size that the section header gives is not that of an entry, and where the bytes
-    /// are refused.
+    /// Returns the dynamic entries (gABI, chapter "Dynamic Section"). If the file declares section headers, they are
+    /// those of the first section of type `SHT_DYNAMIC`; otherwise those of the first segment of type `PT_DYNAMIC`.
+    /// Returns `None` if there is no such section or segment. Requests the range of the section or segment.
+    ///
+    /// Errors of a section, in order: `BadEntsize((found, expected))` if `sh_entsize` is not the size of an entry, with
+    /// no range requested; those of `section_data`. Errors of a segment: those of `segment_data`.
     pub fn dynamic(&mut self) -> Result<Option<DynamicTable<'_, E>>, ParseError>
         ensures* leaves { sem 𝓛 (Lends E.row S.row A.row E.EndianParse S.StreamSource A.Allocator self.entry
             dynamic_asked (option_map table_view) dynamic result) }

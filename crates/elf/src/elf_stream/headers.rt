@@ -27,7 +27,7 @@ fn first_segment_in(phdrs: &[ProgramHeader], p_type: u32) -> Option<&ProgramHead
     phdrs.iter().find(|phdr| phdr.p_type == p_type)
 }
 
-// The last sections of the three types of versions, up to the first one by which all of them were seen.
+// The last sections of the three types of version sections, up to the first section that completes the three.
 #[tactic(auto, using(crate::proofs::VersionChoice::found_in_all))]
 fn version_sections(shdrs: &[SectionHeader]) -> VersionSections
     ensures { result ≡ version_sections shdrs.now }

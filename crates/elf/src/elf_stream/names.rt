@@ -18,7 +18,7 @@ use elf_parts::section::SectionHeader;
 use elf_parts::string_table::StringTable;
 use std::alloc::Allocator;
 
-// The first section header of a name.
+// The first section header with a name.
 fn first_named_in<'a>(
     shdrs: &'a [SectionHeader],
     names: &StringTable<'_>,
@@ -34,14 +34,14 @@ impl<E: EndianParse, S: StreamSource, A: Allocator + Copy> ElfStream<E, S, A> {
     ghost use Rattle.elf.specs.Lending.{Lends};
     ghost use Rattle.elf.specs.Names.{listed_view};
 
-    // The headers, where there are no names.
+    // The section headers, without a table of names.
     fn lend_unnamed(&self) -> (&Vec<SectionHeader, A>, Option<StringTable<'_>>)
         ensures { listed_view result ≡ (self.now.sections, None) }
     {
         (self.section_headers(), None)
     }
 
-    // The headers with the names in a section whose range is held.
+    // The section headers, and the names in a section whose range is cached.
     fn lend_names(&self, names: &SectionHeader) -> (&Vec<SectionHeader, A>, Option<StringTable<'_>>)
         requires low { AreLow (whole_section names.now) }
         requires held { AreHeld self.now (whole_section names.now) }
@@ -53,8 +53,13 @@ impl<E: EndianParse, S: StreamSource, A: Allocator + Copy> ElfStream<E, S, A> {
         (self.section_headers(), Some(StringTable::new(bytes)))
     }
 
-    /// The section headers and the table of their names, where the file declares them. Refuses where
-    /// the section that holds the names cannot be had or its range does not lie in the file.
+    /// Returns the section headers, and the table of their names (gABI, chapters "Sections" and "String Table"). The
+    /// names are those of section `e_shstrndx` or, if that is `SHN_XINDEX`, of the section that `sh_link` of section 0
+    /// names. There is no table of names if the file declares no section headers or if `e_shstrndx` is `SHN_UNDEF`.
+    /// Requests the range of the section of the names.
+    ///
+    /// Errors, in order: `BadOffset(0)` if section header 0 is needed and there is none; `BadOffset(index)` if there is
+    /// no section of the names with this index; that of the range.
     #[tactic(auto, unfolding(crate::specs::Names::name_section, crate::specs::Names::name_table))]
     pub fn section_headers_with_strtab(
         &mut self,
@@ -69,7 +74,7 @@ impl<E: EndianParse, S: StreamSource, A: Allocator + Copy> ElfStream<E, S, A> {
         Ok(self.lend_names(&names))
     }
 
-    // The first section of a name, by the names in a section whose range is held.
+    // The first section with a name. The names are in a section whose range is cached.
     fn lend_named(&self, names: &SectionHeader, name: &str) -> Option<&SectionHeader>
         requires low { AreLow (whole_section names.now) }
         requires held { AreHeld self.now (whole_section names.now) }
@@ -82,9 +87,9 @@ impl<E: EndianParse, S: StreamSource, A: Allocator + Copy> ElfStream<E, S, A> {
         first_named_in(&self.shdrs, &strings, name)
     }
 
-    /// The first section whose name has the bytes of `name`, where the file declares section headers and
-    /// a table of their names. Refuses as `section_headers_with_strtab` does; a section whose name cannot
-    /// be read is passed over.
+    /// Returns the first section whose name has exactly the bytes of `name`. A section whose name cannot be read is
+    /// skipped. Returns `None` if no section has the name, or if there is no table of names. Range and errors are those
+    /// of `section_headers_with_strtab`.
     #[tactic(auto, unfolding(crate::specs::Names::name_section, crate::specs::Names::name_table))]
     pub fn section_header_by_name(
         &mut self,

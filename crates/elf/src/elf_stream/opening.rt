@@ -1,4 +1,4 @@
-//! Reading the headers of a file from a source. Memory is taken only for tables that lie in the source.
+//! Reading the headers of a file from a source. Memory is allocated only for tables that lie in the source.
 ghost use Rattle.std.specs.Prelude.{◌≡◌, ℕ, ◌≤◌, Bool, List, Ok, IfOk, IfErr, IfSome, length};
 ghost use Rattle.std.specs.Option.{option_map};
 ghost use Rattle.elf.specs.Opening.{first_section, header_at_front, section_table, segment_table, table_bytes};
@@ -132,7 +132,7 @@ fn read_first<E: EndianParse, S: StreamSource>(
     }
 }
 
-// Reads how many records a table has.
+// Reads the number of records of a table.
 fn read_count<E: EndianParse, S: StreamSource>(
     source: &mut S,
     len: u64,
@@ -149,8 +149,8 @@ fn read_count<E: EndianParse, S: StreamSource>(
     Ok(table.word.count_in(&first))
 }
 
-// Where so many records lie from `offset` on, whose size the file header gives as entsize: their start and their end in
-// a source of this length.
+// The start and the end of `count` records from `offset` on, in a source of length `len`. `entsize` is the size of a
+// record as the file header gives it.
 fn locate_records<P: ParseAt>(
     len: u64,
     class: Class,
@@ -177,7 +177,7 @@ fn locate_records<P: ParseAt>(
     Ok((offset, end))
 }
 
-// Where a table lies; none where the file declares none.
+// The start and the end of a table, or `None` if the file declares none.
 fn locate<P: ParseAt, E: EndianParse, S: StreamSource>(
     source: &mut S,
     len: u64,
@@ -197,7 +197,7 @@ fn locate<P: ParseAt, E: EndianParse, S: StreamSource>(
     Ok(Some(range))
 }
 
-/// Where the section headers lie; none where the file declares none.
+/// The start and the end of the section headers, or `None` if the file declares none.
 #[tactic(auto, unfolding(crate::specs::Opening::section_table))]
 pub(super) fn locate_shdrs<E: EndianParse, S: StreamSource>(
     source: &mut S,
@@ -212,7 +212,7 @@ pub(super) fn locate_shdrs<E: EndianParse, S: StreamSource>(
     locate::<SectionHeader, E, S>(source, len, ehdr, DeclaredTable::of_sections(ehdr))
 }
 
-/// Where the program headers lie; none where the file declares none.
+/// The start and the end of the program headers, or `None` if the file declares none.
 #[tactic(auto, unfolding(crate::specs::Opening::segment_table))]
 pub(super) fn locate_phdrs<E: EndianParse, S: StreamSource>(
     source: &mut S,

@@ -1,4 +1,4 @@
-//! Reading a range of a source whole.
+//! Reading all bytes of a range of a source.
 ghost use Rattle.std.specs.Prelude.{◌≡◌, ◌+◌, ◌-◌, ◌<◌, ◌≤◌, length, take, drop, IfErr, IfOk};
 ghost use Rattle.std.specs.Prelude.{IfSome, OnOk};
 ghost use Rattle.elf.specs.ElfStream.{kind};
@@ -37,7 +37,7 @@ fn fill<S: StreamSource>(source: &mut S, buf: &mut [u8], end: u64) -> Result<(),
     Ok(())
 }
 
-/// Fills the buffer with the bytes from `start` on, which end at `end`.
+/// Fills the buffer with the bytes from `start` on. They end at `end`.
 pub(super) fn read_at<S: StreamSource>(
     source: &mut S,
     start: u64,
@@ -59,11 +59,11 @@ pub(super) fn read_at<S: StreamSource>(
     fill(source, buf, end)
 }
 
-// At most so many bytes more are touched than were read.
+// The most memory that is touched in advance, in bytes.
 const STEP: usize = 1 << 20;
 
-/// Reads the bytes from `start` to `end` into memory of their own. The memory is asked for at once and touched as the
-/// bytes come, so a source that tells more than it gives costs little.
+/// Reads the bytes from `start` to `end` into a new buffer. All its memory is allocated at once, but touched only as
+/// bytes arrive: a source that reports a greater length than it has costs little.
 pub(super) fn fetch<S: StreamSource, A: Allocator + Copy>(
     alloc: A,
     source: &mut S,

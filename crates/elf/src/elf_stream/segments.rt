@@ -21,7 +21,7 @@ impl<E: EndianParse, S: StreamSource, A: Allocator + Copy> ElfStream<E, S, A> {
     ghost use Rattle.std.specs.Borrow.{sem};
     ghost use Rattle.elf.specs.Lending.{Lends};
 
-    // The bytes of a segment, which are held.
+    // The bytes of a segment, which are cached.
     pub(super) fn lend_segment(&self, phdr: &ProgramHeader) -> &[u8]
         requires low { AreLow (segment_asked phdr.now) }
         requires held { AreHeld self.now (segment_asked phdr.now) }
@@ -32,7 +32,8 @@ impl<E: EndianParse, S: StreamSource, A: Allocator + Copy> ElfStream<E, S, A> {
         self.held_bytes(phdr.p_offset, phdr.p_filesz)
     }
 
-    /// The bytes of a segment in the file. Refuses where its range does not lie in the file.
+    /// Returns the bytes of a segment in the file: `p_filesz` bytes from `p_offset` on (gABI, chapter "Program
+    /// Header"). Requests the range of the segment. The error is that of the range.
     pub fn segment_data(&mut self, phdr: &ProgramHeader) -> Result<&[u8], ParseError>
         ensures* leaves { sem 𝓛 (Lends E.row S.row A.row E.EndianParse S.StreamSource A.Allocator self.entry
             (λ _. segment_asked phdr.now) (λ part. part.now) (λ file. segment_data file phdr.now) result) }
@@ -41,7 +42,7 @@ impl<E: EndianParse, S: StreamSource, A: Allocator + Copy> ElfStream<E, S, A> {
         Ok(self.lend_segment(phdr))
     }
 
-    // The notes of a segment, whose bytes are held.
+    // The notes of a segment, whose bytes are cached.
     fn lend_segment_notes(&self, phdr: &ProgramHeader) -> NoteIterator<'_, E>
         requires of_type { phdr.now.p_type ≡ pt_note }
         requires low { AreLow (segment_asked phdr.now) }
@@ -60,8 +61,12 @@ impl<E: EndianParse, S: StreamSource, A: Allocator + Copy> ElfStream<E, S, A> {
         )
     }
 
-    /// The notes of a segment of type `PT_NOTE`, whose alignment is `p_align`, up to the first that does
-    /// not fit. Refuses another type with `UnexpectedSegmentType`, and else as `segment_data` does.
+    /// Returns an iterator over the notes of a segment of type `PT_NOTE`, aligned to `p_align` bytes (gABI, chapter
+    /// "Program Header", "Note Section"). It ends at the first note that does not fit, and yields at most one for each
+    /// byte of the file. Requests the range of the segment.
+    ///
+    /// Errors, in order: `UnexpectedSegmentType((found, expected))` for any other type, with no range requested; that
+    /// of the range.
     pub fn segment_data_as_notes(
         &mut self,
         phdr: &ProgramHeader,

@@ -24,7 +24,7 @@ impl<E: EndianParse, S: StreamSource, A: Allocator + Copy> ElfStream<E, S, A> {
     ghost use Rattle.std.specs.Borrow.{sem};
     ghost use Rattle.elf.specs.Lending.{Lends};
 
-    // Loads the ranges of two sections.
+    // Reads the ranges of two sections into the cache.
     pub(super) fn load_both(
         &mut self,
         shdr: &SectionHeader,
@@ -36,7 +36,7 @@ impl<E: EndianParse, S: StreamSource, A: Allocator + Copy> ElfStream<E, S, A> {
         self.load_section(linked)
     }
 
-    // The symbols of the one section and the strings of the other, whose ranges are held.
+    // The symbols of the first section and the strings of the second, whose ranges are cached.
     fn lend_symbols(
         &self,
         shdr: &SectionHeader,
@@ -70,9 +70,12 @@ impl<E: EndianParse, S: StreamSource, A: Allocator + Copy> ElfStream<E, S, A> {
         Ok(Some(self.lend_symbols(&shdr, &linked)))
     }
 
-    /// The symbols of the first section of type `SHT_SYMTAB` and the strings of the section that it links
-    /// to (gABI, chapter "Symbol Table"). Refuses where that section cannot be had, where the entry size
-    /// is not that of a symbol, and where the one range or the other does not lie in the file.
+    /// Returns the symbols of the first section of type `SHT_SYMTAB`, and the strings of the section that its `sh_link`
+    /// names (gABI, chapter "Symbol Table"). Returns `None` if there is no section of this type. Requests the ranges of
+    /// both sections.
+    ///
+    /// Errors, in order: `BadOffset(sh_link)` if there is no such section; `BadEntsize((found, expected))` if
+    /// `sh_entsize` is not the size of a symbol; that of the range of the symbols; that of the range of the strings.
     pub fn symbol_table(
         &mut self,
     ) -> Result<Option<(SymbolTable<'_, E>, StringTable<'_>)>, ParseError>
@@ -82,8 +85,8 @@ impl<E: EndianParse, S: StreamSource, A: Allocator + Copy> ElfStream<E, S, A> {
         self.first_symbols(abi::SHT_SYMTAB)
     }
 
-    /// The symbols that are bound at run time, of the first section of type `SHT_DYNSYM`, with their
-    /// strings. Refuses as `symbol_table` does.
+    /// Returns the symbols for dynamic linking, those of the first section of type `SHT_DYNSYM`, with their strings.
+    /// Returns `None` if there is no section of this type. Ranges and errors are those of `symbol_table`.
     pub fn dynamic_symbol_table(
         &mut self,
     ) -> Result<Option<(SymbolTable<'_, E>, StringTable<'_>)>, ParseError>

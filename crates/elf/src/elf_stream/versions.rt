@@ -1,4 +1,4 @@
-//! The versions of symbols.
+//! The versions of symbols (GNU symbol versioning).
 ghost use Rattle.std.specs.Prelude.{◌≡◌, IfErr, IfSome, Ok};
 ghost use Rattle.elf.specs.Answers.{symbol_version_table};
 ghost use Rattle.elf.specs.Ranges.{headers_alone, whole_section, both_sections, if_there, plan_asked, version_plan};
@@ -23,8 +23,8 @@ use elf_parts::section::SectionHeader;
 use elf_parts::string_table::StringTable;
 use std::alloc::Allocator;
 
-// The section of version indexes, and those of the needs and of the definitions with the ones that they
-// link to.
+// The section of the version indexes, that of the needs and that of the definitions, the last two with the sections of
+// their strings.
 type VersionPlan = (
     SectionHeader,
     Option<LinkedSections>,
@@ -35,7 +35,7 @@ impl<E: EndianParse, S: StreamSource, A: Allocator + Copy> ElfStream<E, S, A> {
     ghost use Rattle.std.specs.Borrow.{sem};
     ghost use Rattle.elf.specs.Lending.{Lends};
 
-    // A section with the one that it links to, where there is one.
+    // A section and the section that its `sh_link` names, or `None` if there is no section.
     fn link_if(&self, shdr: Option<SectionHeader>) -> Result<Option<LinkedSections>, ParseError>
         ensures value { result ≡ if_found (with_link (headers_alone E.little self.now)) shdr }
         ensures plain { IfErr result (λ e. kind e ≡ Kind.Refusal) }
@@ -47,7 +47,7 @@ impl<E: EndianParse, S: StreamSource, A: Allocator + Copy> ElfStream<E, S, A> {
         Ok(Some((shdr, linked)))
     }
 
-    // Which sections the versions stand in.
+    // The sections with the versions.
     fn version_plan(&self) -> Result<Option<VersionPlan>, ParseError>
         ensures value { result ≡ version_plan (headers_alone E.little self.now) }
         ensures plain { IfErr result (λ e. kind e ≡ Kind.Refusal) }
@@ -62,7 +62,7 @@ impl<E: EndianParse, S: StreamSource, A: Allocator + Copy> ElfStream<E, S, A> {
         Ok(Some((shdr, needs, definitions)))
     }
 
-    // Loads the ranges of two sections, where there are any.
+    // Reads the ranges of two sections into the cache, if there are any.
     fn load_both_if(&mut self, linked: Option<LinkedSections>) -> Result<(), ParseError>
         ensures { Loads (if_there both_sections linked) self.old self.new result }
     {
@@ -72,7 +72,7 @@ impl<E: EndianParse, S: StreamSource, A: Allocator + Copy> ElfStream<E, S, A> {
         }
     }
 
-    // Loads the ranges of up to five sections.
+    // Reads the ranges of up to five sections into the cache.
     fn load_plan(&mut self, plan: VersionPlan) -> Result<(), ParseError>
         ensures { Loads (plan_asked plan) self.old self.new result }
     {
@@ -81,7 +81,7 @@ impl<E: EndianParse, S: StreamSource, A: Allocator + Copy> ElfStream<E, S, A> {
         self.load_both_if(plan.2)
     }
 
-    // The needs of a section with their strings, where there is one; the ranges are held.
+    // The needs of a section with their strings, or `None` if there is no section. The ranges are cached.
     fn lend_needs(
         &self,
         linked: Option<LinkedSections>,
@@ -104,7 +104,7 @@ impl<E: EndianParse, S: StreamSource, A: Allocator + Copy> ElfStream<E, S, A> {
         Some((needs, StringTable::new(strings)))
     }
 
-    // The definitions of a section with their strings, where there is one; the ranges are held.
+    // The definitions of a section with their strings, or `None` if there is no section. The ranges are cached.
     fn lend_definitions(
         &self,
         linked: Option<LinkedSections>,
@@ -128,7 +128,7 @@ impl<E: EndianParse, S: StreamSource, A: Allocator + Copy> ElfStream<E, S, A> {
         Some((definitions, StringTable::new(strings)))
     }
 
-    // The versions of the sections of a plan, whose ranges are held.
+    // The versions in the sections of a plan, whose ranges are cached.
     fn lend_versions(&self, plan: VersionPlan) -> SymbolVersionTable<'_, E>
         requires low { AreLow (whole_section plan.0) }
         requires held { AreHeld self.now (whole_section plan.0) }
@@ -146,7 +146,7 @@ impl<E: EndianParse, S: StreamSource, A: Allocator + Copy> ElfStream<E, S, A> {
         SymbolVersionTable::new(indexes, needs, definitions)
     }
 
-    // The versions of the sections that are chosen, if any are.
+    // The versions in the sections of the plan, or `None` if there is no plan.
     fn versions_by_plan(&mut self) -> Result<Option<SymbolVersionTable<'_, E>>, ParseError>
         ensures* leaves { sem 𝓛 (Lends E.row S.row A.row E.EndianParse S.StreamSource A.Allocator self.entry
             versions_asked (option_map versions_view) versions_by_plan result) }
@@ -158,10 +158,15 @@ impl<E: EndianParse, S: StreamSource, A: Allocator + Copy> ElfStream<E, S, A> {
         Ok(Some(self.lend_versions(plan)))
     }
 
-    /// The versions of the symbols (GNU symbol versioning), where the file has version indexes: by the last
-    /// sections of the types `SHT_GNU_VERSYM`, `SHT_GNU_VERNEED` and `SHT_GNU_VERDEF` up to the first
-    /// section by which all three were seen. Refuses where the entry size of the indexes is not 2, where
-    /// one of the ranges does not lie in the file, and where a section that is linked to cannot be had.
+    /// Returns the versions of the symbols (GNU symbol versioning), or `None` if there is no section of type
+    /// `SHT_GNU_VERSYM`. The version indexes, the needs and the definitions come from the last sections of the types
+    /// `SHT_GNU_VERSYM`, `SHT_GNU_VERNEED` and `SHT_GNU_VERDEF`. If all three types exist, sections behind the first
+    /// one that completes the three do not count. Requests the ranges of these sections and of the sections of their
+    /// strings, up to five.
+    ///
+    /// Errors, in order: `BadEntsize((found, 2))` of the indexes; `BadOffset(sh_link)` if the needs name no section of
+    /// strings; the same for the definitions; those of the ranges of the indexes, of the needs, of their strings, of
+    /// the definitions, and of their strings.
     pub fn symbol_version_table(&mut self) -> Result<Option<SymbolVersionTable<'_, E>>, ParseError>
         ensures* leaves { sem 𝓛 (Lends E.row S.row A.row E.EndianParse S.StreamSource A.Allocator self.entry
             versions_asked (option_map versions_view) symbol_version_table result) }

@@ -148,7 +148,7 @@ pub struct Needed {
     flags: u16,
 }
 
-// What is kept of a version, the name of its file being at this offset.
+// What is stored of a version. `file` is the offset of the name of its file.
 fn kept(file: u32, version: &VerNeedAux) -> Needed
     ensures { result ≡ kept file version.now }
 {
@@ -160,7 +160,7 @@ fn kept(file: u32, version: &VerNeedAux) -> Needed
     }
 }
 
-// The file's name and the version's name, with what stands beside them.
+// The requirement, with the names of the file and of the version as text.
 fn read_requirement<'data>(
     strings: StringTable<'data>,
     needed: Needed,
@@ -179,7 +179,7 @@ fn read_requirement<'data>(
     })
 }
 
-// The definition with its names, which are read when they are asked for.
+// The definition with an iterator over its names, which reads them when it is used.
 fn read_definition<'data, E: EndianParse>(
     strings: &'data StringTable<'data>,
     definition: VerDef,
@@ -199,7 +199,7 @@ fn read_definition<'data, E: EndianParse>(
 }
 
 impl<'data, E: EndianParse> SymbolVersionTable<'data, E> {
-    /// The table of these version indexes, the needs with their strings, and the definitions with theirs.
+    /// Returns the table of these version indexes, of the needs with their strings, and of the definitions with theirs.
     pub fn new(
         version_ids: VersionIndexTable<'data, E>,
         verneeds: Option<(VerNeedIterator<'data, E>, StringTable<'data>)>,

@@ -20,13 +20,13 @@ type U64Table<'data, E> = ParsingTable<'data, E, u64>;
 /// The header of a GNU hash section.
 #[derive(Clone, Debug, Drop, PartialEq, Eq)]
 pub struct GnuHashHeader {
-    /// How many buckets there are.
+    /// The number of buckets.
     pub nbucket: u32,
     /// The index of the first symbol that the section can find.
     pub table_start_idx: u32,
-    /// How many bloom words there are.
+    /// The number of bloom words.
     pub nbloom: u32,
-    /// By how many bits a hash is shifted right for its second bloom bit.
+    /// The number of bits by which a hash is shifted right for its second bloom bit.
     pub nshift: u32,
 }
 
@@ -55,7 +55,7 @@ impl ParseAt for GnuHashHeader {
     }
 }
 
-// The hash gone on with the bytes, one by one.
+// The hash continued over the bytes, one by one.
 fn hash_bytes(start: u32, bytes: &[u8]) -> u32
     ensures { result ≡ gnu_hash_from start bytes.now }
 {
@@ -66,8 +66,8 @@ fn hash_bytes(start: u32, bytes: &[u8]) -> u32
     hash
 }
 
-// The hash gone on with the four bytes from a place on. The four steps are multiplied out, with powers of 33 as
-// factors: done one by one, each would wait for the one before it.
+// The hash continued over the four bytes from `place` on. The four steps are multiplied out, with powers of 33 as
+// factors: one by one, each step would wait for the one before it.
 fn hash_four(hash: u32, bytes: &[u8], place: usize) -> u32
     requires { place + 4 ≤ length bytes.now }
     ensures { result ≡ gnu_hash_from hash (take 4 (drop place bytes.now)) }
@@ -77,7 +77,7 @@ fn hash_four(hash: u32, bytes: &[u8], place: usize) -> u32
     hash.wrapping_mul(1_185_921).wrapping_add(front + back)
 }
 
-/// The hash of a name in a GNU hash section.
+/// Returns the hash of a name in a GNU hash section, 32 bits.
 #[tactic(auto, unfolding(crate::specs::Hash::gnu_hash_of))]
 pub fn gnu_hash(name: &[u8]) -> u32
     ensures { result ≡ gnu_hash_of name.now }
@@ -91,11 +91,11 @@ pub fn gnu_hash(name: &[u8]) -> u32
     hash_bytes(hash, &name[place..])
 }
 
-/// A GNU hash section: bloom words, by which most names that are not there are passed over, and for each
-/// bucket a run of chain words, which are the hashes of symbols in order.
+/// A GNU hash section: bloom words, which exclude most names that are not in the section, and for each bucket a run of
+/// chain words, which are the hashes of symbols in order, apart from bit 0.
 ///
-/// `hdr` may be changed: `find` goes by its number of bloom words, its first index and its shift as they
-/// stand, and by the buckets and chain words that `new` cut.
+/// `hdr` may be changed: `find` uses its current number of bloom words, first index and shift. The bloom words, buckets
+/// and chain words remain those that `new` found.
 #[derive(Debug, Drop)]
 pub struct GnuHashTable<'data, E: EndianParse> {
     pub hdr: GnuHashHeader,
@@ -106,7 +106,7 @@ pub struct GnuHashTable<'data, E: EndianParse> {
     chains: U32Table<'data, E>,
 }
 
-// How many bits a bloom word has.
+// The number of bits of a bloom word.
 fn bloom_bits(class: Class) -> u32
     ensures bits { result ≡ address_bits class }
     ensures some { 0 < result }
@@ -118,7 +118,7 @@ fn bloom_bits(class: Class) -> u32
     }
 }
 
-// A bloom word: of four bytes or of eight, by the class.
+// A bloom word: four bytes in a 32-bit file, eight in a 64-bit one.
 #[tactic(auto, unfolding(crate::specs::GnuFind::bloom_word, crate::specs::Hash::word_at, crate::specs::Hash::long_word_at))]
 fn bloom_word<E: EndianParse>(
     endian: E,
@@ -135,8 +135,11 @@ fn bloom_word<E: EndianParse>(
 }
 
 impl<'data, E: EndianParse> GnuHashTable<'data, E> {
-    /// The table that a section holds. Refuses as the header at the front does, and then the bloom words
-    /// and the buckets where they do not lie in the data. The rest of the data are the chain words.
+    /// Reads the header at the front of the section, and finds the bloom words and the buckets behind it. The rest of
+    /// the data are the chain words.
+    ///
+    /// Errors, in order: `SliceReadError((start, end))` of the first number of the header that does not lie in the
+    /// data; the same of the bloom words; the same of the buckets.
     #[tactic(auto, unfolding(crate::specs::GnuFind::gnu_section))]
     pub fn new(endian: E, class: Class, data: &'data [u8]) -> Result<Self, ParseError>
         ensures { ok_map gnu_view result ≡ gnu_section (E.little endian) class «data».now }
@@ -162,14 +165,14 @@ impl<'data, E: EndianParse> GnuHashTable<'data, E> {
         })
     }
 
-    /// The class of the section, by which a bloom word has 32 or 64 bits.
+    /// Returns the class of the section. A bloom word has 32 bits in `ELF32`, 64 bits in `ELF64`.
     pub fn class(&self) -> Class
         ensures { result ≡ (gnu_view self.now).bloom.class }
     {
         self.class
     }
 
-    /// A bloom word. Refuses as a table of these words does, whatever `hdr` says.
+    /// Returns a bloom word, counted from 0, or the error of `ParsingTable::get`. The numbers in `hdr` do not matter.
     pub fn bloom_word(&self, index: usize) -> Result<u64, ParseError>
         ensures { result ≡ bloom_word (gnu_view self.now).bloom index }
     {
@@ -180,22 +183,22 @@ impl<'data, E: EndianParse> GnuHashTable<'data, E> {
         }
     }
 
-    /// The words of the buckets: each is the index of the first symbol of the bucket's run.
+    /// Returns the words of the buckets. Each is the index of the first symbol of the bucket's run.
     pub fn buckets(&self) -> ParsingTable<'data, E, u32>
         ensures { table_view result ≡ (gnu_view self.now).buckets }
     {
         self.buckets
     }
 
-    /// The chain words: the hashes of the symbols from the first index on, but that bit 0 is set where a
-    /// run ends.
+    /// Returns the chain words. They are the hashes of the symbols from the first index on, but bit 0 is set in the
+    /// last one of a run and clear in the others.
     pub fn chains(&self) -> ParsingTable<'data, E, u32>
         ensures { table_view result ≡ (gnu_view self.now).chains }
     {
         self.chains
     }
 
-    // Whether the bloom words let a hash through.
+    // Whether both bloom bits of a hash are set.
     #[tactic(auto, using(std::proofs::lemmas::Nat::Bits::shr_and_one), unfolding(crate::specs::GnuFind::passes))]
     fn passes(&self, hash: u32) -> Result<bool, ParseError>
         requires { 0 < self.now.hdr.nbloom }
@@ -212,7 +215,7 @@ impl<'data, E: EndianParse> GnuHashTable<'data, E> {
         Ok((word >> (second % bits)) & 1 == 1)
     }
 
-    // What a chain word decides for a name with this hash, at the index of its symbol.
+    // What a chain word decides for a name with this hash. `index` is that of the word's symbol.
     fn decide(
         &self,
         hash: usize,
@@ -235,7 +238,7 @@ impl<'data, E: EndianParse> GnuHashTable<'data, E> {
         Ok(None)
     }
 
-    // The index and the symbol of a name with this hash, in the run from a place on.
+    // The index and the symbol of a name with this hash, in the run from place `start` on.
     fn find_in_run(
         &self,
         hash: usize,
@@ -261,9 +264,12 @@ impl<'data, E: EndianParse> GnuHashTable<'data, E> {
         Ok(None)
     }
 
-    /// The index and the symbol of a name, the first in the run of its bucket; none where the bloom words
-    /// or the run have no such name. Refuses as the first read on the way does that is refused, and with
-    /// `IntegerOverflow` where the second bit of the bloom word is asked for with a shift of 32 or more.
+    /// Returns the index and the symbol of a name, the first in the run of its bucket. Returns `None` if there are no
+    /// buckets or bloom words, or if the bloom word or the run has no such name.
+    ///
+    /// The error is that of the first read on the way that fails: `ParsingTable::get` for the bloom word, for the
+    /// symbol or for a chain word, or `StringTable::get_raw` for the symbol's name. It is `IntegerOverflow` if the
+    /// second bloom bit is needed and the shift is 32 or more.
     #[tactic(auto, unfolding(crate::specs::GnuFind::gnu_find))]
     pub fn find(
         &self,

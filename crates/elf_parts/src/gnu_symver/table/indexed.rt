@@ -40,7 +40,7 @@ impl<'a, 'data, E: EndianParse, A: Allocator> Model for IndexedVersions<'a, 'dat
         × AreDefined s.defined.items (definitions_listed (versions_view s.versions.now)) };
 }
 
-// Puts a value in for an index that has none.
+// Stores a value for an index that has none.
 fn put<T: Copy, A: Allocator>(
     slots: &mut Vec<Option<T>, A>,
     index: u16,
@@ -60,7 +60,7 @@ fn put<T: Copy, A: Allocator>(
     Ok(())
 }
 
-// Puts the versions of one file in, the name of the file being at this offset.
+// Puts the versions of one file in. `file` is the offset of the name of the file.
 fn put_versions<E: EndianParse, A: Allocator>(
     slots: &mut Vec<Option<Needed>, A>,
     file: u32,
@@ -91,7 +91,7 @@ fn index_needs<E: EndianParse, A: Allocator>(
     Ok(slots)
 }
 
-// The first definition of each index: an iterator that gives it next.
+// The first definition of each index: an iterator that yields it next.
 fn index_definitions<'data, E: EndianParse, A: Allocator>(
     alloc: A,
     definitions: VerDefIterator<'data, E>,
@@ -130,7 +130,7 @@ impl<'a, 'data, E: EndianParse, A: Allocator + Copy> IndexedVersions<'a, 'data, 
     }
 }
 
-// What stands for an index, if something does.
+// The value that is stored for an index, if there is one.
 fn slot<T: Copy>(slots: &[Option<T>], index: u16) -> Option<T>
     ensures { result ≡ slot slots.now index }
 {

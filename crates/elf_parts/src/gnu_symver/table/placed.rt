@@ -1,4 +1,4 @@
-//! The versions of the symbols of a file by their version indexes, in places that a caller lends.
+//! The versions of the symbols of a file by version index, in slices that the caller provides.
 ghost use Rattle.std.specs.Prelude.{◌≡◌, ◌==◌, ◌<◌, ℕ, length, if◌then◌else◌, MatchOption, None, Some};
 ghost use Rattle.std.specs.Option.{option_map, option_or};
 ghost use Rattle.elf_parts.specs.gnu_symver.Indexed.{slot};
@@ -20,11 +20,10 @@ use crate::parse::ParseError;
 use crate::string_table::StringTable;
 use std::marker::Model;
 
-/// The versions of the symbols of a file, with the first need and the first definition of each version index that has
-/// a place among those that a caller lends. Such a version is found without a walk, each other one as
-/// `SymbolVersionTable` finds it. Version indexes have 15 bits: with 32,768 places for needs and as many for
-/// definitions the versions of all symbols cost what the symbols, the needs and the definitions cost once. Takes no
-/// memory.
+/// The versions of the symbols of a file. Two slices that the caller provides hold the first need and the first
+/// definition of each version index for which they have a place. Such a version is found without a walk, any other one
+/// as `SymbolVersionTable` finds it. Version indexes have 15 bits: with 32,768 places in each slice the versions of all
+/// symbols cost the number of symbols plus needs plus definitions. Allocates no memory.
 #[derive(Debug, Drop)]
 pub struct PlacedVersions<'a, 'data, E: EndianParse> {
     versions: &'a SymbolVersionTable<'data, E>,
@@ -44,7 +43,7 @@ impl<'a, 'data, E: EndianParse> Model for PlacedVersions<'a, 'data, E> {
         × HoldDefinitions s.defined.now (versions_view s.versions.now).definitions };
 }
 
-// Puts a value into the place of an index, where it has one that is empty.
+// Puts a value into the place of an index, if there is one and it is empty.
 fn put<T: Copy>(slots: &mut [Option<T>], index: u16, value: T)
     ensures values { (k : ℕ) → k < length slots.new → slot slots.new k
         ≡ option_or (slot slots.old k) (if index == k then Some value else None) }
@@ -56,7 +55,7 @@ fn put<T: Copy>(slots: &mut [Option<T>], index: u16, value: T)
     }
 }
 
-// Puts the versions of one file in, the name of the file being at this offset.
+// Puts the versions of one file in. `file` is the offset of the name of the file.
 fn put_versions<E: EndianParse>(
     slots: &mut [Option<Needed>],
     file: u32,
@@ -72,7 +71,7 @@ fn put_versions<E: EndianParse>(
     }
 }
 
-// The first needed version of each index that has a place.
+// Finds the first needed version of each index that has a place.
 fn place_needed<E: EndianParse>(slots: &mut [Option<Needed>], needs: VerNeedIterator<'_, E>)
     ensures { HoldNeeded slots.new (ver_needs_left needs.entry) }
 {
@@ -82,7 +81,7 @@ fn place_needed<E: EndianParse>(slots: &mut [Option<Needed>], needs: VerNeedIter
     }
 }
 
-// The first definition of each index that has a place: an iterator that gives it next.
+// Finds the first definition of each index that has a place, and stores an iterator that yields it next.
 fn place_defined<'data, E: EndianParse>(
     slots: &mut [Option<VerDefIterator<'data, E>>],
     definitions: VerDefIterator<'data, E>,
@@ -120,7 +119,7 @@ fn place_definitions<'data, E: EndianParse>(
     }
 }
 
-// The first needed version with an index: what its place holds, or by a walk where it has none.
+// The first needed version with an index. If the index has no place it is found by a walk.
 fn find_needed<E: EndianParse>(
     slots: &[Option<Needed>],
     needs: VerNeedIterator<'_, E>,
@@ -136,7 +135,7 @@ fn find_needed<E: EndianParse>(
     Some(kept(need.vn_file, &version))
 }
 
-// From where on the definitions have the first one with an index, if they have one.
+// An iterator that yields the first definition with an index before any other with that index, if there is one.
 fn find_defined<'data, E: EndianParse>(
     slots: &[Option<VerDefIterator<'data, E>>],
     definitions: VerDefIterator<'data, E>,
@@ -154,8 +153,8 @@ fn find_defined<'data, E: EndianParse>(
 }
 
 impl<'a, 'data, E: EndianParse> PlacedVersions<'a, 'data, E> {
-    /// The versions, with the first of each index in its place. What the places held is lost. Walks the needs and then
-    /// the definitions, each once.
+    /// Fills the places: walks over the needs once and then over the definitions once. What was in the places is
+    /// overwritten if the versions have needs or definitions, respectively.
     pub fn new(
         versions: &'a SymbolVersionTable<'data, E>,
         needed: &'a mut [Option<Needed>],
@@ -172,14 +171,15 @@ impl<'a, 'data, E: EndianParse> PlacedVersions<'a, 'data, E> {
         }
     }
 
-    /// As `SymbolVersionTable::get_index`.
+    /// Returns what `SymbolVersionTable::get_index` returns, value or error.
     pub fn get_index(&self, symbol: usize) -> Result<VersionIndex, ParseError>
         ensures { result ≡ index_of self.now symbol }
     {
         self.versions.get_index(symbol)
     }
 
-    /// As `SymbolVersionTable::get_requirement`, without a walk where the version index has a place.
+    /// Returns what `SymbolVersionTable::get_requirement` returns, value or error, without a walk if the version index
+    /// has a place.
     pub fn get_requirement(
         &self,
         symbol: usize,
@@ -196,7 +196,8 @@ impl<'a, 'data, E: EndianParse> PlacedVersions<'a, 'data, E> {
         Ok(Some(read_requirement(strings, needed, index.is_hidden())?))
     }
 
-    /// As `SymbolVersionTable::get_definition`, without a walk where the version index has a place.
+    /// Returns what `SymbolVersionTable::get_definition` returns, value or error, without a walk if the version index
+    /// has a place.
     pub fn get_definition(
         &self,
         symbol: usize,
