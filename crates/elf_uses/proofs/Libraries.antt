@@ -9,7 +9,8 @@ use Rattle.elf_parts.specs.declared.compression.CompressionHeader.{CompressionHe
 use Rattle.elf_parts.specs.declared.file.Class.{Class}
 use Rattle.elf_parts.specs.declared.parse.ParseError.{ParseError}
 use Rattle.elf_parts.specs.declared.section.SectionHeader.{SectionHeader}
-use Rattle.elf.specs.Answers.{dynamic_symbol_table, section_data, symbol_version_table}
+use Rattle.elf.specs.Answers.{dynamic_symbol_table, symbol_version_table}
+use Rattle.elf.specs.Data.{section_data}
 use Rattle.elf.specs.ElfStream.{Headers, IsOpening, Keeps, Seen, headers_of, shown_headers}
 use Rattle.elf.specs.Opening.{opened}
 use Rattle.elf.specs.Headers.{first_section_of}

@@ -11,7 +11,8 @@ use Rattle.elf_parts.specs.declared.parse.ParseError.{ParseError}
 use Rattle.elf_parts.specs.declared.section.SectionHeader.{SectionHeader}
 use Rattle.elf_parts.specs.gnu_symver.Lists.{ver_defs, ver_needs}
 use Rattle.elf_parts.specs.gnu_symver.Table.{Definitions, Needs, Versions}
-use Rattle.elf.specs.Answers.{dynamic_symbol_table, section_data, symbol_version_table}
+use Rattle.elf.specs.Answers.{dynamic_symbol_table, symbol_version_table}
+use Rattle.elf.specs.Data.{section_data}
 use Rattle.elf.specs.ElfStream.{Headers, MayRefuse, headers_of, kind}
 use Rattle.elf.specs.Headers.{first_section_of}
 use Rattle.elf.specs.Opening.{opened}

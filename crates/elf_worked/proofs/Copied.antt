@@ -5,7 +5,7 @@ use Rattle.elf_parts.specs.Number.{ok_map}
 use Rattle.elf_parts.specs.declared.compression.CompressionHeader.{CompressionHeader}
 use Rattle.elf_parts.specs.declared.parse.ParseError.{ParseError}
 use Rattle.elf_parts.specs.declared.section.SectionHeader.{SectionHeader}
-use Rattle.elf.specs.Answers.{section_data}
+use Rattle.elf.specs.Data.{section_data}
 use Rattle.elf.specs.ElfBytes.{View, with_header}
 use Rattle.elf.specs.ElfStream.{Headers, IsAnswer, Leaves, Seen, headers_of, shown_headers}
 use Rattle.elf.specs.ObjectFile.{object_file}

@@ -53,7 +53,7 @@ fn read_data<E: EndianParse, S: StreamSource>(
 }
 
 // The bytes of the whole range of a section, whatever its type and its flags are.
-#[tactic(auto, unfolding(elf::specs::Data::payload))]
+#[tactic(auto, unfolding(elf::specs::Data::section_data))]
 fn read_range<E: EndianParse, S: StreamSource>(
     alloc: Global,
     stream: &mut ElfStream<E, S, Global>,
