@@ -24,7 +24,7 @@ mod stream;
 
 use bytes::write_call;
 
-/// A question to a reader of a file. Sections and segments are told by their index, counted from 0.
+/// A request to a reader of a file. Sections and segments are given by their index, counted from 0.
 #[derive(Clone, Copy, Debug, PartialEq, Eq)]
 pub enum Call<'a> {
     /// The file header, in one line.
@@ -35,9 +35,9 @@ pub enum Call<'a> {
     Segments,
     /// The first section of this name.
     Name(&'a str),
-    /// The bytes of a section, without its compression header, which is told behind them.
+    /// The bytes of a section, without its compression header, whose fields come behind them.
     Data(u64),
-    /// The strings of a section, one behind the other, each by its offset.
+    /// The strings of a section, one after the other, each with its offset in bytes.
     Strings(u64),
     /// The relocations of a section, without addends.
     Rels(u64),
@@ -63,13 +63,13 @@ pub enum Call<'a> {
     Gnu(u64),
 }
 
-/// Why a run stopped. `done` is how many calls were wholly written before.
+/// Why a run stopped. `done` is the number of calls whose text was completely written and flushed before.
 #[derive(Debug, Drop, Error)]
 pub enum RunError {
-    /// The bytes are no file that can be opened; nothing was written.
+    /// The bytes cannot be opened as an ELF file; nothing was written.
     #[error("{0}")]
     Open(ParseError),
-    /// The source of the file failed, or memory ran out; the calls before are written.
+    /// The source of the file or an allocation failed; exactly the text of the calls before was written.
     #[error("{error}")]
     Fault { done: usize, error: ParseError },
     /// The writer failed.
@@ -80,14 +80,14 @@ pub enum RunError {
 // What stopped a call of a run.
 #[derive(Drop)]
 pub(crate) enum Stop {
-    // The source of the file failed, or memory ran out.
+    // The source of the file or an allocation failed.
     Fault(ParseError),
     // The writer failed.
     Write(io::Error),
 }
 
 impl Stop {
-    // Why a run stopped that this stopped after so many whole calls.
+    // The error of a run that stopped after `done` complete calls.
     fn after(self, done: usize) -> RunError
         ensures { result ≡ stopped_after done self }
     {
@@ -98,9 +98,12 @@ impl Stop {
     }
 }
 
-/// Opens the file that the data hold, and writes the text of the calls, in order. A call that the reader
-/// refuses writes the line `refused`, and the run goes on. The writer is flushed behind each call, so
-/// that `done` counts what reached its end. Takes no memory.
+/// Opens the ELF file in the data, and writes the text of the calls, in order. A call for which the reader returns an
+/// error writes the line `refused`, and the run continues. The writer is flushed after each call, so `done` counts the
+/// calls that reached its end. Allocates no memory.
+///
+/// Errors, in order: `Open` with the error of `ElfBytes::minimal_parse`, with nothing written; `Write` if the writer
+/// fails. `Fault` is never returned.
 pub fn run_bytes<E: EndianParse, W: Write>(
     data: &[u8],
     calls: &[Call<'_>],
@@ -132,12 +135,15 @@ pub fn run_bytes<E: EndianParse, W: Write>(
     Ok(())
 }
 
-/// Writes the text of the calls over a stream, in order. A call that the stream refuses writes the line
-/// `refused`, and the run goes on; at a failure of the source and where memory is refused it stops, and just
-/// the text of the calls before is written. The writer is flushed behind each call, so that `done` counts
-/// what reached its end. The calls `sysv` and `gnu` copy a section's bytes into memory of the stream's
-/// allocator. After `Ok` the ranges of each call that has an answer are held, so that these calls, run again,
-/// need the source no more.
+/// Writes the text of the calls over a stream, in order. A call for which the stream returns an error other than
+/// `IOError` and `OutOfMemory` writes the line `refused`, and the run continues. The writer is flushed after each call,
+/// so `done` counts the calls that reached its end.
+///
+/// The calls `sysv` and `gnu` copy a section's bytes with the stream's allocator. After `Ok` the ranges of each call
+/// that has a result are cached: if such a call is run again, it does not need the source.
+///
+/// Errors: `Fault` if the source or an allocation failed, with exactly the text of the calls before it written; `Write`
+/// if the writer fails. `Open` is never returned.
 pub fn run_stream<E: EndianParse, S: StreamSource, A: Allocator + Copy, W: Write>(
     stream: &mut ElfStream<E, S, A>,
     calls: &[Call<'_>],
@@ -165,8 +171,9 @@ pub fn run_stream<E: EndianParse, S: StreamSource, A: Allocator + Copy, W: Write
     Ok(())
 }
 
-/// Of calls whose ranges are held where they have an answer, those that have one and need no memory are at
-/// hand: so of a list that a run over a stream wrote, these calls, run again over what it left, have no fault.
+/// States that a run without faults can be repeated. Let the ranges of each call that has a result be cached, as they
+/// are after `run_stream` returned `Ok`. Then the calls that have a result and allocate nothing need neither the source
+/// nor memory: run again over the stream, they do not return `Fault`.
 pub fn loaded_calls_are_at_hand<E: EndianParse>()
     ensures { (s : Seen E) (bytes : List ℕ) (calls : List Call) →
         All (λ call. IsLoaded E.little s bytes (question call)) calls →

@@ -17,19 +17,19 @@ const USAGE: &str = "usage: elfshow bytes|stream|both FILE CALL...";
 /// Why the program stops. Its text is the line for standard error.
 #[derive(Debug, Drop, Error)]
 pub enum Failure {
-    /// The words ask for nothing.
+    /// The words are no request.
     #[error("{USAGE}")]
     Usage,
-    /// There was no memory before the first call.
+    /// An allocation before the first call failed.
     #[error("elfshow: stopped after 0 calls: {}", ParseError::OutOfMemory)]
     OutOfMemory,
     /// The file cannot be opened or read.
     #[error("elfshow: file: {0}")]
     File(io::Error),
-    /// The bytes of the file are no ELF file that can be opened.
+    /// The bytes of the file cannot be opened as an ELF file.
     #[error("elfshow: open: {0}")]
     Open(ParseError),
-    /// The source of the file failed, or memory ran out, after `done` calls.
+    /// The source of the file or an allocation failed after `done` calls.
     #[error("elfshow: stopped after {done} calls: {error}")]
     Fault { done: usize, error: ParseError },
     /// The writer failed after `done` calls.
@@ -69,7 +69,7 @@ impl From<RunError> for Failure {
 }
 
 impl Failure {
-    /// The exit status: 2 for words that ask for nothing, and 1 for every other failure.
+    /// Returns the exit status: 2 if the words are no request, 1 for every other failure.
     pub fn status(&self) -> u8
         ensures { result ≡ status_of self.now }
     {

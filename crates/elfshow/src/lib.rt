@@ -1,4 +1,4 @@
-//! What an ELF file holds, as text: the calls of a listing, and the program that writes it.
+//! The contents of an ELF file as text: the calls of a listing, and the program that writes it.
 #![tactic(auto)]
 
 pub mod calls;

@@ -1,4 +1,5 @@
-//! The lines of answers, a module a subject. A line's writer takes what readers hand out, and knows no reader.
+//! The lines of results, one module for each subject. A function that writes a line takes what readers return, and does
+//! not depend on the reader.
 
 pub(crate) mod counted;
 pub(crate) mod data;

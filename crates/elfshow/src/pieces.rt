@@ -9,10 +9,10 @@ use std::io;
 use std::io::Write;
 use std::marker::Model;
 
-// The longest line that is put together before it is written. Few lines are longer.
+// The longest line, in bytes, that is put together before it is written. Few lines are longer.
 const ROOM: usize = 256;
 
-// As many digits as a number of 64 bits has in the smallest base.
+// The number of digits that a number of 64 bits may have in base 2.
 const MAX_DIGITS: usize = 64;
 
 // The digits of all bases up to 16.
@@ -35,7 +35,7 @@ pub(crate) enum Piece<'a> {
     Bytes(&'static str, &'a [u8]),
 }
 
-/// The pieces, one behind the other: a line of usual length by one write.
+/// Writes the pieces, one after the other. A line of usual length takes one write.
 pub(crate) fn write_pieces<W: Write>(pieces: &[Piece<'_>], out: &mut W) -> io::Result<()>
     ensures { OnOk result (Appends (W.contents out.old) (W.contents out.new) (joined pieces.now)) }
 {
@@ -46,7 +46,7 @@ pub(crate) fn write_pieces<W: Write>(pieces: &[Piece<'_>], out: &mut W) -> io::R
     write_long(pieces, out)
 }
 
-/// The pieces, one behind the other, each written by itself.
+/// Writes the pieces, one after the other, each by itself.
 fn write_long<W: Write>(pieces: &[Piece<'_>], out: &mut W) -> io::Result<()>
     ensures { OnOk result (Appends (W.contents out.old) (W.contents out.new) (joined pieces.now)) }
 {
@@ -75,7 +75,7 @@ fn write_piece<W: Write>(piece: Piece<'_>, out: &mut W) -> io::Result<()>
     }
 }
 
-/// A plain byte as itself, each other byte as `\x` and two digits.
+/// Writes a plain byte as it is, each other byte as `\x` and two digits.
 pub(crate) fn write_escaped<W: Write>(bytes: &[u8], out: &mut W) -> io::Result<()>
     ensures { OnOk result (Appends (W.contents out.old) (W.contents out.new) (escaped bytes.now)) }
 {
@@ -90,7 +90,7 @@ pub(crate) fn write_escaped<W: Write>(bytes: &[u8], out: &mut W) -> io::Result<(
     out.write_all(&bytes[start..])
 }
 
-/// Two digits for each byte, nothing between them.
+/// Writes two digits for each byte, with nothing between them.
 pub(crate) fn write_hex<W: Write>(bytes: &[u8], out: &mut W) -> io::Result<()>
     ensures { OnOk result (Appends (W.contents out.old) (W.contents out.new) (hex_of bytes.now)) }
 {
@@ -200,14 +200,14 @@ impl LineBuffer {
         }
     }
 
-    /// A text that is escaped as it is: others are for `write_long`.
+    /// Adds a text that needs no escapes; `write_long` writes others.
     fn push_plain(&mut self, text: &[u8]) -> bool
         ensures { result ≡ true → self.new ≡ self.old ++ escaped text.now }
     {
         are_plain(text) && self.push(text)
     }
 
-    /// Two digits for each byte, nothing between them.
+    /// Adds two digits for each byte, with nothing between them.
     #[tactic(auto, using(std::proofs::lemmas::Grind::common_steps))]
     fn push_bytes(&mut self, bytes: &[u8]) -> bool
         ensures { result ≡ true → self.new ≡ self.old ++ hex_of bytes.now }
@@ -221,7 +221,7 @@ impl LineBuffer {
     }
 }
 
-/// Fills the end of the room with the digits of a number, and returns where they begin.
+/// Fills the end of `room` with the digits of a number, and returns where they begin.
 #[inline(always)]
 #[tactic(auto, using(crate::proofs::Digits::digits_more, crate::proofs::Digits::digits_end))]
 fn fill_digits(base: u64, n: u64, room: &mut [u8; MAX_DIGITS]) -> usize
@@ -242,7 +242,7 @@ fn fill_digits(base: u64, n: u64, room: &mut [u8; MAX_DIGITS]) -> usize
     start
 }
 
-/// Whether a text is escaped as it is.
+/// Whether no byte of a text needs an escape.
 #[tactic(auto, using(crate::proofs::Escaping::plain_waits, std::proofs::lemmas::Grind::common_steps))]
 fn are_plain(bytes: &[u8]) -> bool
     ensures { result ≡ true → escaped bytes.now ≡ bytes.now }

@@ -1,4 +1,4 @@
-//! What the listings of both readers have in common.
+//! Laws: the listings of both readers are the same.
 ghost use Rattle.std.specs.Prelude.{◌≡◌, ℕ, List, Ok};
 ghost use Rattle.elf.specs.StreamFile.{stream_file};
 ghost use Rattle.elf.specs.ObjectFile.{object_file};
@@ -12,8 +12,8 @@ ghost use Rattle.elfshow.specs.calls.Text.{text};
 use elf::endian::EndianParse;
 use elf::readers::list_answers_as_table;
 
-/// Of a file that is opened the text of every list of calls is the same over what an `ElfBytes` and over what
-/// an `ElfStream` answers, whatever header stands in both.
+/// States that the text of every list of calls over an opened file is the same for the results of an `ElfBytes` and of
+/// an `ElfStream`, whatever header both have in `ehdr`.
 pub fn texts_are_the_same<E: EndianParse>()
     ensures { (bytes : List ℕ) (v : View E) (header : FileHeader E) (s : Seen E) (calls : List Question) →
         opened E.little E.of_byte bytes ≡ Ok v → shown_headers s ≡ headers_of (with_header v header) →

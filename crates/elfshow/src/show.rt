@@ -1,4 +1,4 @@
-//! The program without its surroundings: what it does with the words of its command line.
+//! The program apart from the operating system: what it does with the words of its command line.
 ghost use Rattle.std.specs.Prelude.{◌≡◌, ◌≤◌, Err, IsErr, IsNone, IsSome, is_some, IfErr, IfOk, IfSome, IsOkAnd};
 ghost use Rattle.std.specs.Prelude.{IsSomeAnd, OnOk, Some, map};
 ghost use Rattle.std.specs.Io.Buffered.{writer_contents, writer_inner};
@@ -27,18 +27,18 @@ use std::alloc::{AllocFailed, Global};
 use std::io;
 use std::io::{BufWriter, Write};
 
-/// Which reader a listing is made by.
+/// The reader that makes a listing.
 #[derive(Clone, Copy, Debug, PartialEq, Eq)]
 pub enum Mode {
-    /// The reader over the bytes of the file.
+    /// `ElfBytes`, over the bytes of the whole file.
     Bytes,
-    /// The reader over the file as a source.
+    /// `ElfStream`, over the file as a source.
     Stream,
-    /// Both readers, whose texts are compared.
+    /// Both readers, and a comparison of their texts.
     Both,
 }
 
-/// What the words of a command line ask for.
+/// What the words of a command line request.
 #[derive(Debug, Drop)]
 pub struct Request<'a> {
     pub mode: Mode,
@@ -46,7 +46,7 @@ pub struct Request<'a> {
     pub calls: Vec<Call<'a>>,
 }
 
-/// Why words ask for nothing.
+/// Why words are no request.
 #[derive(Clone, Copy, Debug, PartialEq, Eq)]
 pub enum RequestError {
     Usage,
@@ -61,8 +61,10 @@ impl<T: Drop> From<AllocFailed<T>> for RequestError {
     }
 }
 
-/// What the words ask for: a mode, a file and at least one call. The words are judged without memory, which
-/// only the list of the calls takes.
+/// Returns the request that the words spell: a mode, a file and at least one call.
+///
+/// Errors, in order: `Usage` if they spell none; `OutOfMemory` if they spell one and an allocation failed. Only the
+/// list of the calls is allocated, after all words were checked.
 pub fn parse_words<'a>(alloc: Global, words: &[&'a str]) -> Result<Request<'a>, RequestError>
     ensures ok { IfOk result (λ request. request_of words.now
         ≡ Some (request.mode, request.file.now, map question request.calls.items)) }
@@ -113,7 +115,7 @@ fn parse_calls<'a>(alloc: Global, words: &[&'a str]) -> Result<Vec<Call<'a>>, Re
     Ok(calls)
 }
 
-// Whether each word spells a call.
+// Whether every word spells a call.
 fn are_calls(words: &[&str]) -> bool
     ensures { result ≡ is_some (calls_of words.now) }
 {
@@ -125,10 +127,12 @@ fn are_calls(words: &[&str]) -> bool
     true
 }
 
-/// Does what the program does with these words, the arguments behind its name: writes the text of the calls that
-/// they ask for, through a buffer that it empties, or the message of a failure to `err`. Returns the exit status:
-/// 0; 1 where the file cannot be had, is refused, or a run stopped; 2 for words that ask for nothing. A message that
-/// `err` does not take is passed over.
+/// Runs the program. `words` are the arguments behind the program's name. Writes the text of the requested calls to
+/// `out` and flushes it. On a failure writes its message to `err`, and ignores an error of that write.
+///
+/// Returns the exit status: 0 if the text was written and flushed; 2 if the words are no request; 1 for every other
+/// failure (the file cannot be opened or read, it cannot be opened as an ELF file, a run stopped, or a flush or an
+/// allocation failed).
 pub fn show<F: FileSystem, W: Write + Drop, V: Write>(
     alloc: Global,
     words: &[&str],
@@ -153,7 +157,7 @@ pub fn show<F: FileSystem, W: Write + Drop, V: Write>(
     }
 }
 
-// Writes the text of the calls that the words ask for, and empties the buffer.
+// Writes the text of the requested calls, and flushes the writer.
 #[tactic(auto, using(crate::proofs::Writing::emptied_buffer))]
 fn list<F: FileSystem, W: Write + Drop>(
     alloc: Global,
@@ -182,8 +186,10 @@ fn list<F: FileSystem, W: Write + Drop>(
     }
 }
 
-/// Writes the text of the calls of a request by the reader or the readers that it asks for. Fails where the file cannot
-/// be opened or read, and as the run of the calls does.
+/// Writes the text of the calls of a request, by the reader or the readers of its mode.
+///
+/// Errors: `File` if the file cannot be opened or read; `Open`, `Fault` and `Write` as the run of the calls returns
+/// them (`run_bytes`, `run_source`, `run_both`).
 pub fn answer<F: FileSystem, W: Write>(
     alloc: Global,
     request: &Request<'_>,
@@ -222,9 +228,9 @@ pub fn answer<F: FileSystem, W: Write>(
     Ok(())
 }
 
-/// Opens the file that a source holds, and writes the text of the calls, in order, as `run_stream` does. Where
-/// it stops the error tells what was written: nothing of a file that is not opened, and at a fault just the
-/// text of the calls before.
+/// Opens the ELF file that a source holds, and writes the text of the calls, in order, as `run_stream` does.
+///
+/// Errors, in order: `Open` if the file cannot be opened, with nothing written; those of `run_stream`.
 pub fn run_source<S: StreamSource, W: Write>(
     alloc: Global,
     source: S,
@@ -244,9 +250,11 @@ pub fn run_source<S: StreamSource, W: Write>(
     }
 }
 
-/// Runs the calls by both readers, in memory, and writes the text of the one and whether that of the other is
-/// the same. Writes only behind both runs: nothing where one of them stops. Memory that is refused to a text
-/// is a `Fault` before the first call.
+/// Runs the calls by both readers, in memory. Then writes the text of `ElfBytes`, and the line `readers agree` or
+/// `readers differ`. Nothing is written unless both runs are complete.
+///
+/// Errors, in order: those of `run_bytes`, then those of `run_source`, except that a failed allocation for a text is
+/// `Fault` with `OutOfMemory` and `done` 0; `Write` with `done` 0 if the writer fails.
 pub fn run_both<W: Write>(
     alloc: Global,
     data: &[u8],
@@ -273,7 +281,7 @@ pub fn run_both<W: Write>(
     }
 }
 
-// Why a run stopped whose text goes to memory, so that a failed write is want of memory.
+// The error of a run whose text goes to memory. A failed write there is a failed allocation.
 fn in_memory(error: RunError) -> RunError
     ensures { IsUnfailing result }
 {
@@ -287,7 +295,7 @@ fn in_memory(error: RunError) -> RunError
     }
 }
 
-// The text of the one reader, and whether that of the other is the same.
+// Writes the text of the first reader, and whether that of the second is the same.
 fn write_both<W: Write>(one: &[u8], other: &[u8], out: &mut W) -> io::Result<()>
     ensures { OnOk result (Appends (W.contents out.old) (W.contents out.new) (one.now ⧺ agreement one.now other.now)) }
 {

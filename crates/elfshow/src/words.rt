@@ -10,7 +10,7 @@ use crate::calls::Call;
 // The most digits that a number may have.
 const MOST_DIGITS: usize = 20;
 
-/// The call that a word spells.
+/// Returns the call that a word spells, if it spells one.
 pub(crate) fn parse_call(word: &str) -> Option<Call<'_>>
     ensures { option_map question result ≡ call_of word.now }
 {
@@ -61,7 +61,7 @@ fn parse_indexed_call(key: &str, index: u64) -> Option<Call<'static>>
     }
 }
 
-// The number that one to twenty decimal digits spell, where it is below 2^64.
+// The number that one to twenty decimal digits spell, if it is below 2^64.
 fn parse_index(text: &str) -> Option<u64>
     ensures { result ≡ index_of text.now }
 {

@@ -1,4 +1,4 @@
-//! Lists what an ELF file holds: the program around `elfshow::show`.
+//! Lists the contents of an ELF file: the program around `elfshow::show`.
 #![tactic(auto)]
 
 use elfshow::failure::{Failure, report};
@@ -11,7 +11,7 @@ use system_files::SystemFiles;
 
 mod system_files;
 
-// How many bytes of text go to standard output at once.
+// The size of the buffer of standard output, in bytes.
 const OUTPUT_BUFFER: usize = 65536;
 
 fn main(rt: HostRuntime) -> ExitCode {
@@ -23,7 +23,7 @@ fn main(rt: HostRuntime) -> ExitCode {
     ExitCode::from(status)
 }
 
-// Does what the command line asks for, and returns the exit status.
+// Runs the command line, and returns the exit status.
 fn run(rt: &HostRuntime, err: &mut Stderr) -> Result<u8, Failure> {
     let arguments = collect_arguments(rt)?;
     let words = texts(rt.alloc(), arguments.as_slice())?;
@@ -40,7 +40,7 @@ fn collect_arguments(rt: &HostRuntime) -> Result<Vec<String>, Failure> {
     Ok(arguments.skip(1).collect(rt.alloc())?)
 }
 
-// Why the arguments cannot be had: there is no memory for them, or one is not valid UTF-8.
+// The failure if the arguments are not available: an allocation failed, or one is not valid UTF-8.
 fn without_arguments(error: io::Error) -> Failure {
     match error.kind() {
         io::ErrorKind::OutOfMemory => Failure::OutOfMemory,

@@ -1,4 +1,4 @@
-//! The files of the operating system. Nothing is known of what they hold.
+//! The files of the operating system. Their content is unknown to the contracts.
 ghost use Rattle.std.specs.Prelude.{None, true};
 
 use elf::FileSource;
@@ -7,7 +7,7 @@ use std::fs::File;
 use std::io;
 use std::io::Read;
 
-// Standard input is read through its own handle, since the system may refuse to open it anew.
+// Standard input is read through its own handle, since the system may not allow opening it again.
 const STANDARD_INPUT: &str = "/dev/stdin";
 
 /// The files of the operating system.
@@ -17,7 +17,7 @@ pub struct SystemFiles<'a> {
 }
 
 impl<'a> SystemFiles<'a> {
-    /// The files that this runtime opens.
+    /// Returns the files that this runtime can open.
     pub fn new(rt: &'a HostRuntime) -> Self {
         SystemFiles { rt }
     }
@@ -49,7 +49,7 @@ fn read_standard_input(rt: &HostRuntime) -> io::Result<Vec<u8>> {
     Ok(data)
 }
 
-// Reads a file into room of the length that the system gives, which grows where the file is longer.
+// Reads a file into a buffer of the length that the system reports. The buffer grows if the file is longer.
 fn read_file(rt: &HostRuntime, path: &str) -> io::Result<Vec<u8>> {
     let mut file = File::open(rt, path)?;
     let mut data = Vec::with_capacity(rt.alloc(), file.metadata()?.len() as usize)?;

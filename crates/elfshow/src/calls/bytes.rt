@@ -1,4 +1,4 @@
-//! The text of a call, as an `ElfBytes` answers it.
+//! The text of a call, from the results of an `ElfBytes`.
 ghost use Rattle.std.specs.Prelude.{◌≡◌, OnOk, slice_get};
 ghost use Rattle.std.specs.Option.{option_map};
 ghost use Rattle.std.specs.Io.KnownBytes.{Appends};
@@ -206,7 +206,7 @@ fn write_seg<E: EndianParse, W: Write>(
     }
 }
 
-// The symbols that a reader answered.
+// The symbols that a reader returned.
 fn write_symbols<E: EndianParse, W: Write>(
     found: Result<Option<(SymbolTable<'_, E>, StringTable<'_>)>, ParseError>,
     out: &mut W,
@@ -268,7 +268,7 @@ fn write_segment_notes<E: EndianParse, W: Write>(
     }
 }
 
-// How many symbols for dynamic linking there are; where no table of them is there are none.
+// The number of symbols for dynamic linking; 0 if there is no table of them.
 fn dynamic_symbol_count<E: EndianParse>(file: &ElfBytes<'_, E>) -> Result<usize, ParseError>
     ensures { result ≡ ok_map symbol_count (dynamic_symbol_table (object_file E.little (view file.now))) }
 {
@@ -298,7 +298,7 @@ fn write_symbol_versions<E: EndianParse, W: Write>(
     }
 }
 
-// What the checker says of a section as a hash section, for the symbols for dynamic linking, if there are any.
+// The result of checking a section as a hash section of the symbols for dynamic linking, if there are any.
 fn section_verdict<E: EndianParse>(
     file: &ElfBytes<'_, E>,
     kind: HashSection,

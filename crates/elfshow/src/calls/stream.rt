@@ -1,4 +1,4 @@
-//! The text of a call, as an `ElfStream` answers it.
+//! The text of a call, from the results of an `ElfStream`.
 ghost use Rattle.std.specs.Prelude.{◌≡◌, ℕ, OnOk, IfSome, slice_get};
 ghost use Rattle.std.specs.Io.KnownBytes.{Appends};
 ghost use Rattle.elf_abi.specs.Values.{sht_dynsym};
@@ -52,7 +52,7 @@ pub(super) fn write_call<E: EndianParse, S: StreamSource, A: Allocator + Copy, W
     }
 }
 
-// Writes the text of a call, or hands on why the stream refuses it; then nothing is written.
+// Writes the text of a call, or returns the error of the stream and writes nothing.
 fn try_call<E: EndianParse, S: StreamSource, A: Allocator + Copy, W: Write>(
     stream: &mut ElfStream<E, S, A>,
     call: Call<'_>,
@@ -82,7 +82,7 @@ fn try_call<E: EndianParse, S: StreamSource, A: Allocator + Copy, W: Write>(
     }
 }
 
-// What was written, as a run tells it.
+// The result of a write, as that of a call of a run.
 fn told(written: io::Result<()>) -> Result<(), Stop>
     ensures { IsWritten written result }
 {
@@ -92,7 +92,7 @@ fn told(written: io::Result<()>) -> Result<(), Stop>
     }
 }
 
-// Stops at a failure of the source and where memory was refused; writes the line `refused` at another refusal.
+// Stops at a failure of the source or of an allocation. For any other error writes the line `refused`.
 fn refuse<W: Write>(error: ParseError, out: &mut W) -> Result<(), Stop>
     ensures { LeadsTo (kind error) (W.contents out.old) (W.contents out.new) result }
 {
@@ -332,7 +332,7 @@ fn write_dynamic<E: EndianParse, S: StreamSource, A: Allocator + Copy, W: Write>
     }
 }
 
-// How many symbols for dynamic linking there are; where no table of them is there are none.
+// The number of symbols for dynamic linking; 0 if there is no table of them.
 fn dynamic_symbol_count<E: EndianParse, S: StreamSource, A: Allocator + Copy>(
     stream: &mut ElfStream<E, S, A>,
 ) -> Result<usize, ParseError>
@@ -368,7 +368,7 @@ fn write_symbol_versions<E: EndianParse, S: StreamSource, A: Allocator + Copy, W
     }
 }
 
-// A copy of the bytes of a section, in the allocator of the stream.
+// A copy of the bytes of a section, allocated with the allocator of the stream.
 fn section_copy<E: EndianParse, S: StreamSource, A: Allocator + Copy>(
     stream: &mut ElfStream<E, S, A>,
     section: &SectionHeader,
@@ -386,8 +386,8 @@ fn section_copy<E: EndianParse, S: StreamSource, A: Allocator + Copy>(
     }
 }
 
-// What the checker says of a section as a hash section, for the symbols for dynamic linking, if there are any. Its
-// refusal stands apart from one of the stream.
+// The result of checking a section as a hash section of the symbols for dynamic linking, if there are any. An error of
+// the check is kept apart from one of the stream.
 fn section_verdict<E: EndianParse, S: StreamSource, A: Allocator + Copy>(
     stream: &mut ElfStream<E, S, A>,
     kind: HashSection,

@@ -10,7 +10,7 @@ use elf::parse::{ParseAt, ParsingIterator};
 use std::io;
 use std::io::Write;
 
-/// How the items of a list are shown: each by a line that tells its number.
+/// How the items of a list are shown: a line for each, with its number.
 pub(crate) trait Line {
     type Item;
 
@@ -20,7 +20,7 @@ pub(crate) trait Line {
         ensures { OnOk result (Appends (W.contents out.old) (W.contents out.new) (line self.now k item.now)) };
 }
 
-/// The lines of what an iterator gives, and how many they are. Keeps none of the items.
+/// The lines of the items of an iterator, and their number. Stores none of the items.
 pub(crate) fn write_list<L: Line, I: Iterator<Item = L::Item> + Drop, W: Write>(
     items: I,
     line: &L,
@@ -58,7 +58,7 @@ pub(crate) fn write_slice<L: Line, W: Write>(
     write_end(number, out)
 }
 
-/// The last line of a list of so many items.
+/// The last line of a list of `count` items.
 pub(crate) fn write_end<W: Write>(count: u64, out: &mut W) -> io::Result<()>
     ensures { OnOk result (Appends (W.contents out.old) (W.contents out.new) (end_line count)) }
 {

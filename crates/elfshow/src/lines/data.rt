@@ -10,7 +10,7 @@ use elf::compression::CompressionHeader;
 use std::io;
 use std::io::Write;
 
-/// The line of a section's bytes, and of the compression header that stood before them.
+/// The line of a section's bytes, and of the compression header in front of them, if there is one.
 pub(crate) fn write_section_data<W: Write>(
     bytes: &[u8],
     header: Option<&CompressionHeader>,

@@ -1,4 +1,4 @@
-//! What a checker says of a hash section, and its line.
+//! The result of checking a hash section, and its line.
 ghost use Rattle.std.specs.Prelude.{◌≡◌, OnOk};
 ghost use Rattle.std.specs.Io.KnownBytes.{Appends};
 ghost use Rattle.elf_parts.specs.Number.{ok_map};
@@ -17,15 +17,15 @@ use elf_check::hashcheck::{Checked, HashSection, check_any};
 use std::io;
 use std::io::Write;
 
-/// What a checker says of a hash section.
+/// The result of checking a hash section.
 #[derive(Clone, Copy)]
 pub(crate) enum Verdict {
     Faulty,
-    /// So many symbols are indexed.
+    /// The number of symbols that the section indexes.
     Sound(usize),
 }
 
-/// What the checker says of bytes as a hash section, for these symbols. Refuses where the bytes hold no table.
+/// Checks bytes as a hash section of these symbols. The error is that of `new` of the table.
 pub(crate) fn hash_verdict<E: EndianParse>(
     kind: HashSection,
     endian: E,

@@ -8,7 +8,7 @@ ghost use Rattle.elfshow.specs.lines.Name.{name_field, name_read};
 use crate::pieces::Piece;
 use elf::string_table::StringTable;
 
-/// The name field of what has its name at this offset of the strings, behind a space.
+/// The name field of an item whose name is at this offset in bytes, behind a space. Without strings it is `noname`.
 pub(crate) fn name_piece<'a>(names: Option<StringTable<'a>>, offset: u32) -> Piece<'a>
     ensures { piece_text result ≡ codes " " ⧺ name_field (option_map strings_view names.entry) offset }
 {
@@ -18,7 +18,7 @@ pub(crate) fn name_piece<'a>(names: Option<StringTable<'a>>, offset: u32) -> Pie
     }
 }
 
-/// The name field of what has its name at this offset of these strings, behind a space.
+/// The same for an item whose strings are known to exist.
 pub(crate) fn name_piece_in<'a>(names: StringTable<'a>, offset: u32) -> Piece<'a>
     ensures { piece_text result ≡ codes " " ⧺ name_read (string_at (strings_view names.entry) offset) }
 {

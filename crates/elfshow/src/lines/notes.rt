@@ -14,7 +14,7 @@ use std::io;
 use std::io::Write;
 use std::marker::PhantomData;
 
-/// The line of a note, whose parts are lent.
+/// The line of a note. Its parts borrow from the data.
 #[derive(Clone, Copy)]
 struct NoteLine<'a> {
     lent: PhantomData<&'a [u8]>,

@@ -14,7 +14,7 @@ use elf::string_table::StringTable;
 use std::io;
 use std::io::Write;
 
-/// The line of a section, its name being one of these, if there are any.
+/// The line of a section, with its name in these strings, if there are any.
 #[derive(Clone, Copy)]
 pub(crate) struct SectionLine<'a> {
     pub(crate) names: Option<StringTable<'a>>,
@@ -85,7 +85,7 @@ fn write_reading_fields<W: Write>(section: &SectionHeader, out: &mut W) -> io::R
     write_pieces(&pieces, out)
 }
 
-/// The line of a section that was looked up.
+/// The line of a section that was looked up by name.
 pub(crate) fn write_found<W: Write>(section: &SectionHeader, out: &mut W) -> io::Result<()>
     ensures { OnOk result (Appends (W.contents out.old) (W.contents out.new) (found_line section.now)) }
 {

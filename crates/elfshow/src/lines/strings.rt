@@ -12,7 +12,7 @@ use elf::string_table::StringTable;
 use std::io;
 use std::io::Write;
 
-/// The lines of the strings of a table, one behind the other, up to the first offset at which there is none.
+/// The lines of the strings of a table, one after the other, up to the first offset at which no string can be read.
 pub(crate) fn write_strings<W: Write>(strings: StringTable<'_>, out: &mut W) -> io::Result<()>
     ensures { OnOk result (Appends (W.contents out.old) (W.contents out.new)
         (counted_lines string_line (strings_of (strings_view strings.entry)))) }

@@ -15,7 +15,7 @@ use elf::symbol::Symbol;
 use std::io;
 use std::io::Write;
 
-/// The line of a symbol, its name being one of these.
+/// The line of a symbol, with its name in these strings.
 #[derive(Clone, Copy)]
 pub(crate) struct SymbolLine<'a> {
     pub(crate) strings: StringTable<'a>,

@@ -18,7 +18,7 @@ use elf::gnu_symver::{
 use std::io;
 use std::io::Write;
 
-// So few symbols that walks cost less than places.
+// Up to this number of symbols, walks cost less than filling places.
 const FEW_SYMBOLS: usize = 32;
 
 // More places than the version indexes of usual libraries need.
@@ -27,9 +27,9 @@ const FEW_PLACES: usize = 128;
 // A place for each version index, which has 15 bits.
 const ALL_PLACES: usize = 32_768;
 
-/// The lines of the versions of so many symbols. Where there are more than `FEW_SYMBOLS`, they cost what the symbols, the
-/// needs and the definitions cost once. They take no memory beside the stack: some kibibytes, and two mebibytes where a
-/// symbol has a version index of `FEW_PLACES` or more, as none has in usual libraries.
+/// The lines of the versions of the first `symbols` symbols. For more than `FEW_SYMBOLS` of them the cost is
+/// proportional to the number of symbols plus needs plus definitions. Nothing is allocated. The stack takes some
+/// kibibytes, or two mebibytes if a symbol has a version index of `FEW_PLACES` or more, as none has in usual libraries.
 pub(crate) fn write_versions<E: EndianParse, W: Write>(
     symbols: usize,
     versions: &SymbolVersionTable<'_, E>,
@@ -47,7 +47,7 @@ pub(crate) fn write_versions<E: EndianParse, W: Write>(
     }
 }
 
-// Whether one of so many symbols has a version index of `FEW_PLACES` or more.
+// Whether one of the first `symbols` symbols has a version index of `FEW_PLACES` or more.
 fn has_index_past_few<E: EndianParse>(symbols: usize, versions: &SymbolVersionTable<'_, E>) -> bool
     ensures { result ≡ has_index_from FEW_PLACES symbols (versions_view versions.now) }
 {
@@ -95,7 +95,7 @@ fn write_with_few_places<E: EndianParse, W: Write>(
     write_placed(symbols, &placed, out)
 }
 
-// A function of its own, so that only its callers take the stack for so many places.
+// Not inlined, so that only its callers take the stack for that many places.
 #[inline(never)]
 fn write_with_all_places<E: EndianParse, W: Write>(
     symbols: usize,
