@@ -26,8 +26,8 @@ pub fn e_osabi_to_str(e_osabi: u8) -> Option<&'static str>
     name_of(&rows::E_OSABI, e_osabi)
 }
 
-/// The name of an operating system's ABI, or for a value with no name the text `e_osabi(0x..)`.
-/// `Err` only where memory for the text is refused.
+/// The name of an operating system's ABI, or for a value with no name the text `e_osabi(0x..)`. The only error is a
+/// failed allocation for the text.
 pub fn e_osabi_to_string(alloc: Global, e_osabi: u8) -> Result<String, AllocError>
     ensures { IfOk result (λ text. string_bytes text ≡
         name_or_number (codes "e_osabi") e_osabi_names e_osabi) }
@@ -56,8 +56,8 @@ pub fn e_type_to_str(e_type: u16) -> Option<&'static str>
     name_of(&rows::E_TYPE, e_type)
 }
 
-/// The name of a kind of file, or for a value with no name the text `e_type(0x..)`. `Err` only
-/// where memory for the text is refused.
+/// The name of a kind of file, or for a value with no name the text `e_type(0x..)`. The only error is a failed
+/// allocation for the text.
 pub fn e_type_to_string(alloc: Global, e_type: u16) -> Result<String, AllocError>
     ensures { IfOk result (λ text. string_bytes text ≡
         name_or_number (codes "e_type") e_type_names e_type) }
@@ -81,8 +81,8 @@ pub fn e_machine_to_str(e_machine: u16) -> Option<&'static str>
     name_of(&rows::E_MACHINE, e_machine)
 }
 
-/// The name of a machine, or for a value with no name the text `e_machine(0x..)`. `Err` only where
-/// memory for the text is refused.
+/// The name of a machine, or for a value with no name the text `e_machine(0x..)`. The only error is a failed allocation
+/// for the text.
 pub fn e_machine_to_string(alloc: Global, e_machine: u16) -> Result<String, AllocError>
     ensures { IfOk result (λ text. string_bytes text ≡
         name_or_number (codes "e_machine") e_machine_names e_machine) }
@@ -103,8 +103,8 @@ pub fn sh_type_to_str(sh_type: u32) -> Option<&'static str>
     name_of(&rows::SH_TYPE, sh_type)
 }
 
-/// The name of a section's type, or for a value with no name the text `sh_type(0x..)`. `Err` only
-/// where memory for the text is refused.
+/// The name of a section's type, or for a value with no name the text `sh_type(0x..)`. The only error is a failed
+/// allocation for the text.
 pub fn sh_type_to_string(alloc: Global, sh_type: u32) -> Result<String, AllocError>
     ensures { IfOk result (λ text. string_bytes text ≡
         name_or_number (codes "sh_type") sh_type_names sh_type) }
@@ -112,9 +112,9 @@ pub fn sh_type_to_string(alloc: Global, sh_type: u32) -> Result<String, AllocErr
     name_or_number(alloc, sh_type_to_str(sh_type), "sh_type", sh_type)
 }
 
-/// A segment's flags as three characters, `R`, `W` and `E`, each a space where its flag is not set.
-/// Where a further flag is set, the text `p_flags(0x..)`. `Err` only where memory for the text is
-/// refused. See gABI chapter 5, "Program Header".
+/// A segment's flags as three characters, `R`, `W` and `E`, each a space if its flag is not set. If a further flag is
+/// set, the text `p_flags(0x..)`. The only error is a failed allocation for the text. See gABI chapter 5, "Program
+/// Header".
 pub fn p_flags_to_string(alloc: Global, p_flags: u32) -> Result<String, AllocError>
     ensures { IfOk result (λ text. string_bytes text ≡
         name_or_number (codes "p_flags") p_flags_names p_flags) }
@@ -137,8 +137,8 @@ pub fn p_type_to_str(p_type: u32) -> Option<&'static str>
     name_of(&rows::P_TYPE, p_type)
 }
 
-/// The name of a segment's type, or for a value with no name the text `p_type(0x..)`. `Err` only
-/// where memory for the text is refused.
+/// The name of a segment's type, or for a value with no name the text `p_type(0x..)`. The only error is a failed
+/// allocation for the text.
 pub fn p_type_to_string(alloc: Global, p_type: u32) -> Result<String, AllocError>
     ensures { IfOk result (λ text. string_bytes text ≡
         name_or_number (codes "p_type") p_type_names p_type) }
@@ -154,8 +154,8 @@ pub fn st_symtype_to_str(st_symtype: u8) -> Option<&'static str>
     name_of(&rows::ST_SYMTYPE, st_symtype)
 }
 
-/// The name of a symbol's type, or for a value with no name the text `st_symtype(0x..)`. `Err` only
-/// where memory for the text is refused.
+/// The name of a symbol's type, or for a value with no name the text `st_symtype(0x..)`. The only error is a failed
+/// allocation for the text.
 pub fn st_symtype_to_string(alloc: Global, st_symtype: u8) -> Result<String, AllocError>
     ensures { IfOk result (λ text. string_bytes text ≡
         name_or_number (codes "st_symtype") st_symtype_names st_symtype) }
@@ -176,8 +176,8 @@ pub fn st_bind_to_str(st_bind: u8) -> Option<&'static str>
     name_of(&rows::ST_BIND, st_bind)
 }
 
-/// The name of a symbol's binding, or for a value with no name the text `st_bind(0x..)`. `Err` only
-/// where memory for the text is refused.
+/// The name of a symbol's binding, or for a value with no name the text `st_bind(0x..)`. The only error is a failed
+/// allocation for the text.
 pub fn st_bind_to_string(alloc: Global, st_bind: u8) -> Result<String, AllocError>
     ensures { IfOk result (λ text. string_bytes text ≡
         name_or_number (codes "st_bind") st_bind_names st_bind) }
@@ -198,8 +198,8 @@ pub fn st_vis_to_str(st_vis: u8) -> Option<&'static str>
     name_of(&rows::ST_VIS, st_vis)
 }
 
-/// The name of a symbol's visibility, or for a value with no name the text `st_vis(0x..)`. `Err`
-/// only where memory for the text is refused.
+/// The name of a symbol's visibility, or for a value with no name the text `st_vis(0x..)`. The only error is a failed
+/// allocation for the text.
 pub fn st_vis_to_string(alloc: Global, st_vis: u8) -> Result<String, AllocError>
     ensures { IfOk result (λ text. string_bytes text ≡
         name_or_number (codes "st_vis") st_vis_names st_vis) }
@@ -230,13 +230,13 @@ pub fn d_tag_to_str(d_tag: i64) -> Option<&'static str>
     name_of(&rows::D_TAG, d_tag)
 }
 
-/// States that in no list of names a value has two of them. It does nothing.
+/// States that no list of names has two names for one value. It does nothing.
 pub fn each_value_has_one_name()
     ensures unsigned { All NamesEachOnce unsigned_lists }
     ensures signed { All NamesEachOnce signed_lists }
 {}
 
-/// The name beside `value`, by binary search: the values of the table rise.
+/// The name of `value`, by binary search: the table is sorted by value.
 fn name_of<T: Ord + Copy>(table: &[(T, &'static str)], value: T) -> Option<&'static str>
     requires { IsTrue (values_rise T.cmp table.now) }
     ensures { option_copied result ≡ name_of T.eq (map row_of table.now) value }
@@ -247,7 +247,7 @@ fn name_of<T: Ord + Copy>(table: &[(T, &'static str)], value: T) -> Option<&'sta
     }
 }
 
-/// The name, or where there is none the text of the value.
+/// The name, or the text of the value if it has no name.
 fn name_or_number(
     alloc: Global,
     name: Option<&'static str>,

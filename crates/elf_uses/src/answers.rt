@@ -1,4 +1,4 @@
-//! What the callers answer, as lines.
+//! The results of the callers, as lines.
 use crate::bindings::lines::print_bindings;
 use crate::bindings::reading::open_library;
 use crate::build_id::build_id;
@@ -19,7 +19,7 @@ use std::io::Write;
 
 type File<'data> = ElfBytes<'data, AnyEndian>;
 
-/// The answers of a caller for each file, or of the resolver or of `bindings` for all of them.
+/// Prints the results of a caller, for each file, or for `resolver` and `bindings` over all files.
 pub fn print_answers<W: Write>(
     alloc: Global,
     out: &mut W,

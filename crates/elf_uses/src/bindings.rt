@@ -22,20 +22,20 @@ use std::alloc::{AllocError, Global};
 pub enum Bound {
     /// A symbol of an object. Both are counted from 0.
     To { object: usize, symbol: usize },
-    /// Nothing, and it is weak.
+    /// Nothing, and the reference is weak.
     Weak,
-    /// Nothing, and it has to be bound.
+    /// Nothing, although the reference is not weak.
     Missing,
 }
 
-/// Whether the symbol is one that another file is to define.
+/// Whether another file has to define the symbol.
 pub fn is_reference(symbol: &Symbol) -> bool
     ensures { result ≡ is_reference symbol.now }
 {
     symbol.is_undefined() && symbol.st_bind() != abi::STB_LOCAL
 }
 
-/// All such symbols of a table, in order, each with its index.
+/// Returns all such symbols of a table, in order, each with its index. The only error is a failed allocation.
 pub fn references<E: EndianParse>(
     alloc: Global,
     symbols: &SymbolTable<'_, E>,
@@ -50,8 +50,8 @@ pub fn references<E: EndianParse>(
         .collect(alloc)
 }
 
-/// What a reference of a name binds to in the objects, in their order. Refuses at the first object of which it
-/// cannot be known.
+/// Returns what a reference of a name binds to, in the first object in order that has a symbol for it. The error is
+/// that of `bind`: the first object for which this cannot be decided.
 pub fn bind_reference<E: EndianParse>(
     objects: &[VersionedObject<'_, E>],
     symbol: &Symbol,

@@ -1,4 +1,4 @@
-//! The build id of a file, which tells the build from all others.
+//! The build id of a file, which distinguishes one build from all others.
 ghost use Rattle.std.specs.Prelude.{◌≡◌};
 ghost use Rattle.std.specs.Option.{option_map};
 ghost use Rattle.elf_parts.specs.Note.{notes_left};
@@ -23,7 +23,7 @@ fn first_id<'data, E: EndianParse>(notes: NoteIterator<'data, E>) -> Option<&'da
     None
 }
 
-// The first among the notes of the segments.
+// The first build id among the notes of the segments.
 fn segments_id<'data, E: EndianParse>(
     file: &ElfBytes<'data, E>,
 ) -> Result<Option<&'data [u8]>, ParseError>
@@ -42,7 +42,7 @@ fn segments_id<'data, E: EndianParse>(
     Ok(None)
 }
 
-// The first among the notes of the sections.
+// The first build id among the notes of the sections.
 fn sections_id<'data, E: EndianParse>(
     file: &ElfBytes<'data, E>,
 ) -> Result<Option<&'data [u8]>, ParseError>
@@ -61,8 +61,9 @@ fn sections_id<'data, E: EndianParse>(
     Ok(None)
 }
 
-/// The first build id among the notes of the segments, and where these have none of the sections. Refuses where
-/// the notes of one that comes before it cannot be had.
+/// Returns the first build id among the notes of the segments of type `PT_NOTE` or, if these have none, of the sections
+/// of type `SHT_NOTE`. Returns `None` if there is none. The error is that of `segment_data_as_notes` or
+/// `section_data_as_notes` for the first segment or section before the build id that cannot be read.
 pub fn build_id<'data, E: EndianParse>(
     file: &ElfBytes<'data, E>,
 ) -> Result<Option<&'data [u8]>, ParseError>

@@ -12,8 +12,8 @@ use elf::symbol::{Symbol, SymbolTable};
 use elf::{ParseError, abi};
 use std::alloc::{AllocError, Global};
 
-/// The version that a symbol is defined with. A reference that asks for no version binds to a symbol whose version is
-/// not hidden.
+/// The version with which a symbol is defined. A reference without a version binds to a symbol whose version is not
+/// hidden.
 #[derive(Debug, Clone, Copy)]
 pub struct Version<'a> {
     pub name: &'a str,
@@ -30,7 +30,7 @@ pub fn is_defined_function(symbol: &Symbol) -> bool
         && (symtype == abi::STT_FUNC || symtype == abi::STT_GNU_IFUNC)
 }
 
-/// All such symbols of a table, in order, each with its index.
+/// Returns all such symbols of a table, in order, each with its index. The only error is a failed allocation.
 pub fn functions<E: EndianParse>(
     alloc: Global,
     symbols: &SymbolTable<'_, E>,
@@ -45,7 +45,8 @@ pub fn functions<E: EndianParse>(
         .collect(alloc)
 }
 
-// The version by its definition: the first of its names. What is defined for the file itself is no version.
+// The version that a definition has: the first of its names. A definition of the file itself (`VER_FLG_BASE`) is no
+// version.
 fn version_in<'a, E: EndianParse>(
     definition: SymbolDefinition<'a, E>,
 ) -> Result<Option<Version<'a>>, ParseError>
@@ -65,7 +66,10 @@ fn version_in<'a, E: EndianParse>(
     }
 }
 
-/// The version that a symbol, by its index, is defined with: none where the file gives it none but its own name.
+/// Returns the version with which a symbol, counted from 0, is defined, or `None` if the file gives it no version or
+/// only its own name (`VER_FLG_BASE`).
+///
+/// Errors, in order: that of `get_definition`; that of the first name of the definition.
 pub fn version_of<'a, E: EndianParse>(
     versions: &'a SymbolVersionTable<'_, E>,
     symbol: usize,

@@ -1,4 +1,4 @@
-//! Whether a hash section of a file is sound for the dynamic symbols, or which fault it has.
+//! Whether a hash section of a file is sound for the dynamic symbols, or a fault of it.
 ghost use Rattle.elf.specs.ObjectFile.{object_file};
 ghost use Rattle.elf.specs.ElfBytes.{view};
 ghost use Rattle.elf_check.specs.ObjectTable.{section_object};
@@ -28,8 +28,12 @@ fn kind_lint<E: EndianParse>(
     }
 }
 
-/// How many symbols a hash section indexes, where it is sound, and else its fault. None where the section is of another
-/// type.
+/// Checks a hash section over the dynamic symbols of its file. Returns the number of symbols that it indexes, or `None`
+/// if the section is neither of type `SHT_GNU_HASH` nor of type `SHT_HASH`.
+///
+/// Errors, in order: `Read` if the bytes of the section cannot be read; `Read` if the dynamic symbols cannot be read;
+/// `NoSymbols` if there are none; `Read` if `new` of the table returns an error; `Faulty` with a fault that is true of
+/// the section.
 pub fn lint<E: EndianParse>(
     file: &ElfBytes<'_, E>,
     section: &SectionHeader,

@@ -1,4 +1,4 @@
-//! What a loader maps where.
+//! What a loader maps into memory, and at which addresses.
 ghost use Rattle.std.specs.Prelude.{◌≡◌, IfErr, IfOk, MatchOption, length};
 ghost use Rattle.std.specs.List.{list_any};
 ghost use Rattle.elf.specs.ElfBytes.{segment_list, view};
@@ -12,7 +12,8 @@ use elf::{ElfBytes, abi};
 use std::alloc::{AllocError, Global};
 use thiserror::Error;
 
-/// Bytes of the file that stand in memory from an address on; the rest of the memory is 0. Sizes are in bytes.
+/// Bytes of the file that are mapped into memory from an address on; the rest of the memory is 0. Offsets and sizes are
+/// in bytes.
 #[derive(Debug, Clone, Copy, PartialEq, Eq)]
 pub struct Mapping {
     pub address: u64,
@@ -22,16 +23,16 @@ pub struct Mapping {
     pub flags: u32,
 }
 
-/// Why there is no plan. A mapping is counted from 0.
+/// Why there is no plan. Mappings are counted from 0.
 #[derive(Debug, Drop, Error)]
 pub enum PlanError {
-    /// More bytes of the file than there is memory for them.
+    /// The mapping has more bytes in the file than in memory.
     #[error("mapping {mapping} has more bytes in the file than in memory")]
     FileSize { mapping: usize },
-    /// An address of the mapping belongs to an earlier one as well.
+    /// An address of the mapping also belongs to an earlier one.
     #[error("mapping {mapping} overlaps an earlier one")]
     Overlap { mapping: usize },
-    /// Memory was refused.
+    /// An allocation failed.
     #[error("out of memory")]
     Memory,
 }
@@ -57,14 +58,14 @@ impl Mapping {
         }
     }
 
-    // Whether there is memory for the bytes of the file.
+    // Whether the bytes of the file fit the memory.
     fn fits(&self) -> bool
         ensures { result ≡ fits self.now }
     {
         self.file_size <= self.memory_size
     }
 
-    // Whether some address belongs to both.
+    // Whether an address belongs to both.
     fn overlaps(&self, other: &Mapping) -> bool
         ensures { result ≡ overlap self.now other.now }
     {
@@ -75,7 +76,7 @@ impl Mapping {
         }
     }
 
-    // Whether some address belongs to one of the others as well.
+    // Whether an address also belongs to one of the others.
     fn overlaps_any(&self, others: &[Mapping]) -> bool
         ensures { result ≡ list_any (overlap self.now) others.now }
     {
@@ -83,7 +84,7 @@ impl Mapping {
     }
 }
 
-// What the segments of type PT_LOAD map.
+// The mappings of the segments of type `PT_LOAD`.
 fn mappings<E: EndianParse>(
     alloc: Global,
     file: &ElfBytes<'_, E>,
@@ -124,8 +125,10 @@ fn first_overlap(all: &[Mapping]) -> Option<usize>
     None
 }
 
-/// The mappings of the segments of type `PT_LOAD`, in order. Refuses the first of them that has more bytes in the file
-/// than in memory, and where all fit the first that shares an address with an earlier one.
+/// Returns the mappings of the segments of type `PT_LOAD`, in order.
+///
+/// Errors, in order: `Memory` if an allocation failed; `FileSize` with the first mapping that has more bytes in the
+/// file than in memory; `Overlap` with the first mapping that shares an address with an earlier one.
 pub fn load_plan<E: EndianParse>(
     alloc: Global,
     file: &ElfBytes<'_, E>,

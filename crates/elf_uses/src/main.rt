@@ -1,10 +1,10 @@
 //! Seven callers of the library, each in a module of its own, with the contract that its user wants: `build_id`,
 //! `functions`, `load_plan`, `hash_lint`, `resolver`, `bindings` and `needed`.
 //!
-//! `elf_uses CALLER FILE..` prints what a caller answers of each file, where `resolver=NAME` looks a name up in all of
-//! them, and `bindings` binds the undefined symbols of each of them, a program and its libraries in search order.
-//! `elf_uses rows FILE` does so for each line `CALLER : FILE CHANGE.. : FILE CHANGE..` of a file, over small files
-//! that are changed.
+//! `elf_uses CALLER FILE..` prints the result of a caller for each file. `resolver=NAME` looks a name up in all of
+//! them, and `bindings` binds the undefined symbols of all of them, a program and its libraries in search order.
+//! `elf_uses rows FILE` does the same for each line `CALLER : FILE CHANGE.. : FILE CHANGE..` of a file, over small
+//! files that are changed.
 #![tactic(auto)]
 
 mod answers;
@@ -27,7 +27,7 @@ use std::fs::File;
 use std::io::{BufWriter, Write};
 use std::{env, fs};
 
-// How many bytes of text go to standard output at once.
+// The size of the buffer of standard output, in bytes.
 const OUTPUT_BUFFER: usize = 65536;
 
 fn main(rt: HostRuntime) -> Result<(), RowError> {
@@ -38,7 +38,7 @@ fn main(rt: HostRuntime) -> Result<(), RowError> {
     }
 }
 
-/// Flushes what was printed before an error too. The error of the flush is told where there was none before it.
+/// Flushes the output also after an error. Returns the error of the flush only if there was none before it.
 fn run_buffered(rt: &HostRuntime, caller: &str, names: &[String]) -> Result<(), RowError> {
     let mut out = BufWriter::with_capacity(rt.alloc(), OUTPUT_BUFFER, rt.stdout())?;
     let ended = run(rt, caller, names, &mut out);
@@ -65,7 +65,7 @@ fn run<W: Write>(
     Ok(())
 }
 
-/// What a caller answers of files of the machine.
+/// Prints the results of a caller for the files with these names.
 fn print_files<W: Write>(
     rt: &HostRuntime,
     caller: &str,
@@ -82,7 +82,7 @@ fn print_files<W: Write>(
     Ok(print_answers(rt.alloc(), out, caller, files.as_slice())?)
 }
 
-/// What the references of files of the machine bind to. A file is closed before the next one is opened.
+/// Prints what the references of the files with these names bind to. A file is closed before the next one is opened.
 fn print_bindings_of_files<W: Write>(
     rt: &HostRuntime,
     names: &[String],
@@ -104,7 +104,7 @@ fn print_rows<W: Write>(rt: &HostRuntime, name: &str, out: &mut W) -> Result<(),
     Ok(())
 }
 
-/// A row, and behind it what its caller answers.
+/// Prints a row, and then the results of its caller.
 fn print_row<W: Write>(rt: &HostRuntime, row: &str, out: &mut W) -> Result<(), RowError> {
     writeln!(out, "== {row}")?;
     let mut parts = row.split(" : ");

@@ -27,12 +27,12 @@ pub struct Names {
     pub soname: Option<Vec<u8>>,
     /// The libraries that it needs, by its entries `DT_NEEDED`, in order.
     pub needed: Vec<Vec<u8>>,
-    /// Where libraries are searched for: by its first entry `DT_RUNPATH`, and by its first entry `DT_RPATH`.
+    /// The search paths of libraries, by its first entry `DT_RUNPATH` and by its first entry `DT_RPATH`.
     pub runpath: Option<Vec<u8>>,
     pub rpath: Option<Vec<u8>>,
 }
 
-/// Why the names of a file cannot be had.
+/// Why the names of a file are not available.
 #[derive(Debug, Drop, Error)]
 pub enum NamesError {
     /// The stream returned an error.
@@ -111,7 +111,7 @@ fn holds(segment: &ProgramHeader, address: u64, size: u64) -> bool
         && before <= u64::MAX - segment.p_offset
 }
 
-// The first segment that holds so many bytes from an address on.
+// The first segment that holds this many bytes from an address on.
 fn first_holding(segments: &[ProgramHeader], address: u64, size: u64) -> Option<&ProgramHeader>
     ensures { option_copied result ≡ find (holds address size) segments.now }
 {
@@ -120,7 +120,7 @@ fn first_holding(segments: &[ProgramHeader], address: u64, size: u64) -> Option<
         .find(|segment| holds(segment, address, size))
 }
 
-// The part of a segment that these addresses are.
+// The part of a segment at these addresses, as a segment.
 fn part_of(segment: &ProgramHeader, address: u64, size: u64) -> ProgramHeader
     requires { IsTrue (holds address size segment.now) }
     ensures { result ≡ part_of address size segment.now }
@@ -132,7 +132,7 @@ fn part_of(segment: &ProgramHeader, address: u64, size: u64) -> ProgramHeader
     }
 }
 
-// The part of a segment that the string table is.
+// The part of a segment that is the string table, as a segment.
 fn string_part(segments: &[ProgramHeader], entries: &[Dyn]) -> Result<ProgramHeader, NamesError>
     ensures value { result ≡ string_part segments.now entries.now }
     ensures plain { IsGiven (λ part. part) (string_part segments.now entries.now) result }
@@ -260,15 +260,13 @@ fn names_by<E: EndianParse, S: StreamSource, A: Allocator + Copy>(
     }
 }
 
-/// The soname of a file, the libraries that it needs and its search paths; `None` where it has no dynamic entries. The
-/// string table is found by its address, as the dynamic linker finds it, so no section header is needed.
+/// Returns the soname of a file, the libraries that it needs and its search paths, or `None` if it has no dynamic
+/// entries. The string table is found by its address, as the dynamic linker finds it, so no section header is needed.
 ///
-/// # Errors
-///
-/// In this order: `Read` where the dynamic entries cannot be read; `NoAddress` and `NoSize` where no entry gives the
-/// address or the size of the string table; `NotLoaded` where no segment of type `PT_LOAD` holds it; `Read` where its
-/// bytes cannot be read; `Name` where the string of an entry cannot be read: of the soname, then of the needed
-/// libraries in order, of `DT_RUNPATH` and of `DT_RPATH`. `Memory` where an allocation fails.
+/// Errors, in order: `Read` if the dynamic entries cannot be read; `NoAddress` and `NoSize` if no entry gives the
+/// address or the size of the string table; `NotLoaded` if no segment of type `PT_LOAD` holds it; `Read` if its bytes
+/// cannot be read; `Name` if the string of an entry cannot be read: of the soname, then of the needed libraries in
+/// order, of `DT_RUNPATH` and of `DT_RPATH`. `Memory` if an allocation failed.
 pub fn dynamic_names<E: EndianParse, S: StreamSource, A: Allocator + Copy>(
     alloc: Global,
     stream: &mut ElfStream<E, S, A>,

@@ -1,4 +1,4 @@
-//! What `needed` answers, as lines.
+//! The results of `needed`, as lines.
 use crate::needed::{Names, NamesError, dynamic_names};
 use elf::endian::AnyEndian;
 use elf::{ElfStream, FileSource, MemSource, ParseError, StreamSource};
@@ -9,7 +9,7 @@ use std::io::Write;
 
 type Stream<S> = ElfStream<AnyEndian, S, Global>;
 
-/// The lines of files of the machine, which are read as far as they are needed.
+/// Prints the lines of the files with these names. Of each file only the needed ranges are read.
 pub fn print_needed_of_files<W: Write>(
     rt: &HostRuntime,
     files: &[String],
@@ -22,7 +22,7 @@ pub fn print_needed_of_files<W: Write>(
     Ok(())
 }
 
-/// The lines of a file in memory.
+/// Prints the lines of a file in memory.
 pub fn print_needed_of_bytes<W: Write>(alloc: Global, out: &mut W, data: &[u8]) -> io::Result<()> {
     print_needed(alloc, out, Stream::open_stream(alloc, MemSource::new(data)))
 }

@@ -11,13 +11,13 @@ use elf_check::resolve::{AnyChecked, ObjectFault, object_table};
 use std::alloc::{AllocFailed, Global};
 use thiserror::Error;
 
-/// Why libraries give no tables. A library is counted from 0.
+/// Why there are no tables. Libraries are counted from 0.
 #[derive(Debug, Drop, Error)]
 pub enum TablesError {
-    /// It has no hash section.
+    /// The library has no hash section.
     #[error("library {library} has no hash section")]
     NoHash { library: usize },
-    /// Its hash section gives no checked table.
+    /// The hash section of the library has no checked table.
     #[error("library {library}: {fault}")]
     Fault { library: usize, fault: ObjectFault },
     /// An allocation failed.
@@ -33,8 +33,11 @@ impl<T: Drop> From<AllocFailed<T>> for TablesError {
     }
 }
 
-/// The checked tables of the libraries, in their order. Refuses the first library that has none. Memory is asked for
-/// only once the first library has a table.
+/// Returns the checked tables of the libraries, in their order.
+///
+/// Errors, for the first library that has no checked table: `NoHash` if it has no hash section; `Fault` with the error
+/// of `object_table`. `Memory` if an allocation failed, which is possible only after the first library had a checked
+/// table.
 pub fn tables<'data, E: EndianParse>(
     alloc: Global,
     files: &[ElfBytes<'data, E>],
@@ -53,8 +56,8 @@ pub fn tables<'data, E: EndianParse>(
     Ok(tables)
 }
 
-/// The first library that defines the name, with the index of its symbol and the symbol. A library that has the name as
-/// an undefined symbol is passed over, as those are that do not have it.
+/// Returns the first library that defines the name, counted from 0, with the index of its symbol and the symbol. A
+/// library in which the symbol is undefined is skipped, like one without the name.
 pub fn definition<E: EndianParse>(
     tables: &[AnyChecked<'_, E>],
     name: &[u8],

@@ -1,5 +1,5 @@
-//! What a file gives to bind by, in memory of its own: a stream lends one view at a time, and a look-up needs the
-//! hash section, the symbols and their versions at once.
+//! The parts of a file by which symbols are bound, copied. A stream returns one borrowed view at a time, and a look-up
+//! needs the hash section, the symbols and their versions at once.
 ghost use Rattle.std.specs.Prelude.{◌≡◌, Bool, IsOk};
 ghost use Rattle.std.specs.Option.{option_map};
 ghost use Rattle.elf_parts.specs.gnu_symver.Table.{definitions_view, needs_view, versions_view};
@@ -23,7 +23,7 @@ use elf_check::hashcheck::{AnyChecked, Checked, HashSection, check_any};
 use elf_check::resolve::ObjectFault;
 use thiserror::Error;
 
-/// A hash section of a kind, by its bytes.
+/// The bytes of a hash section, and its kind.
 #[derive(Debug, Drop)]
 pub struct HashBytes {
     pub kind: HashSection,
@@ -37,7 +37,7 @@ pub struct SymbolBytes {
     pub strings: Vec<u8>,
 }
 
-/// The bytes of a section of needs or of definitions, which has at most `count` of them, and those of its strings.
+/// The bytes of a section of needs or of definitions, of which there are at most `count`, and those of its strings.
 #[derive(Debug, Drop)]
 pub struct EntryBytes {
     pub count: u32,
@@ -45,7 +45,7 @@ pub struct EntryBytes {
     pub strings: Vec<u8>,
 }
 
-/// The bytes of the sections that the versions of symbols stand in.
+/// The bytes of the sections with the versions of symbols.
 #[derive(Debug, Drop)]
 pub struct VersionBytes {
     pub indexes: Vec<u8>,
@@ -53,7 +53,7 @@ pub struct VersionBytes {
     pub definitions: Option<EntryBytes>,
 }
 
-/// The parts of a file that symbols are bound by. Each that could not be read has the error in its place.
+/// The parts of a file by which symbols are bound. A part that could not be read has the error in its place.
 #[derive(Debug, Drop)]
 pub struct Library<E: EndianParse> {
     pub endianness: E,
@@ -63,13 +63,13 @@ pub struct Library<E: EndianParse> {
     pub versions: Result<Option<VersionBytes>, ParseError>,
 }
 
-/// Why a library that has a hash section gives no object.
+/// Why a library that has a hash section is no object.
 #[derive(Debug, Drop, Error)]
 pub enum LibraryFault<'a> {
     /// A part of it could not be read.
     #[error("{0}")]
     Unread(&'a ParseError),
-    /// Its parts give no checked table.
+    /// Its parts have no checked table.
     #[error("{0}")]
     Table(ObjectFault),
 }
@@ -83,7 +83,7 @@ impl<'a> From<&'a ParseError> for LibraryFault<'a> {
 }
 
 impl<E: EndianParse> Library<E> {
-    /// The hash section, if there is one.
+    /// The hash section, if there is one, or the error of reading it.
     fn hash_section(&self) -> Result<Option<(HashSection, &[u8])>, &ParseError>
         ensures { lent (option_map lent_hash) result ≡ hash_kept self.now }
     {
@@ -94,7 +94,7 @@ impl<E: EndianParse> Library<E> {
         }
     }
 
-    /// The dynamic symbols with their strings, if there are any.
+    /// Returns the dynamic symbols with their strings, if there are any, or the error with which they were read.
     pub fn dynamic_symbol_table(
         &self,
     ) -> Result<Option<(SymbolTable<'_, E>, StringTable<'_>)>, &ParseError>
@@ -138,7 +138,7 @@ impl<E: EndianParse> Library<E> {
         (definitions, StringTable::new(bytes.strings.as_slice()))
     }
 
-    // The needs of a section that there may not be.
+    // The needs of a section, if there is one.
     fn needs_if<'a>(
         &self,
         bytes: &'a Option<EntryBytes>,
@@ -152,7 +152,7 @@ impl<E: EndianParse> Library<E> {
         }
     }
 
-    // The definitions of a section that there may not be.
+    // The definitions of a section, if there is one.
     fn definitions_if<'a>(
         &self,
         bytes: &'a Option<EntryBytes>,
@@ -176,7 +176,7 @@ impl<E: EndianParse> Library<E> {
         SymbolVersionTable::new(indexes, needs, definitions)
     }
 
-    /// The versions of the symbols, if there are any.
+    /// Returns the versions of the symbols, if there are any, or the error with which they were read.
     pub fn symbol_version_table(&self) -> Result<Option<SymbolVersionTable<'_, E>>, &ParseError>
         ensures { lent (option_map versions_view) result ≡ versions_kept E.little self.now }
     {
@@ -204,9 +204,12 @@ impl<E: EndianParse> Library<E> {
         }
     }
 
-    /// The object that the library is to a look-up: its checked table, and the versions of its symbols. None where it
-    /// has no hash section. Refuses at the first of these that fails: the hash section, the dynamic symbols, the table
-    /// in the section, its soundness, the versions.
+    /// Returns the object of the library for a look-up: its checked table, and the versions of its symbols. Returns
+    /// `None` if it has no hash section.
+    ///
+    /// Errors, in order: `Unread` if the hash section could not be read; `Unread` if the dynamic symbols could not be
+    /// read; `Table` if there are no dynamic symbols; `Table` if `new` of the table returns an error; `Table` with a
+    /// fault that is true of the section; `Unread` if the versions could not be read.
     pub fn object(&self) -> Result<Option<VersionedObject<'_, E>>, LibraryFault<'_>>
         ensures { GivesFrom versioned_view (object_kept E.little self.now) (versions_kept E.little self.now) (told result) }
     {
@@ -216,7 +219,7 @@ impl<E: EndianParse> Library<E> {
         let versions = self.symbol_version_table()?;
         Ok(Some(VersionedObject { table, versions }))
     }
-    /// A library all of whose parts were read of a file is the object that the file is, and has the file's versions.
+    /// States that a library all of whose parts were read from a file has the object and the versions of that file.
     pub fn is_object_of(&self)
         ensures { (file : ObjectFile) (can_fail : Bool) → IsLibraryOf E.little can_fail file self.now
             → IsOk self.now.hash → IsOk self.now.symbols → IsOk self.now.versions

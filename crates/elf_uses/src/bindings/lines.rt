@@ -13,14 +13,14 @@ use std::io::Write;
 /// A library, or why its file could not be opened.
 pub type Opened = Result<Library<AnyEndian>, ParseError>;
 
-/// The objects that references are bound in, and the place of each one's library among all of them.
+/// The objects in which references are bound, and for each object the place of its library in the list of libraries.
 #[derive(Drop)]
 struct Scope<'a, 'data> {
     objects: &'a [VersionedObject<'data, AnyEndian>],
     places: &'a [usize],
 }
 
-/// Which libraries are no objects, and what each reference of each library binds to.
+/// Prints which libraries are no objects, and what each reference of each library binds to.
 pub fn print_bindings<W: Write>(
     alloc: Global,
     out: &mut W,
@@ -46,7 +46,7 @@ pub fn print_bindings<W: Write>(
     Ok(())
 }
 
-/// The object that a library is, or why it is none.
+/// Returns the object of a library, or prints why there is none.
 fn print_object<'a, W: Write>(
     out: &mut W,
     place: usize,
@@ -145,7 +145,7 @@ fn print_bound_to<W: Write>(out: &mut W, places: &[usize], bound: &Bound) -> io:
     }
 }
 
-/// The place of an object's library among the libraries.
+/// The place of an object's library in the list of libraries.
 fn place_of(places: &[usize], object: usize) -> usize {
     places.get(object).copied().unwrap_or(object)
 }

@@ -69,7 +69,7 @@ fn read_range<E: EndianParse, S: StreamSource>(
     read_data(alloc, stream, &whole)
 }
 
-// The bytes of the section that a section links to.
+// The bytes of the section that `sh_link` of a section names.
 fn read_linked<E: EndianParse, S: StreamSource>(
     alloc: Global,
     stream: &mut ElfStream<E, S, Global>,
@@ -100,7 +100,7 @@ fn read_hash_of<E: EndianParse, S: StreamSource>(
     }
 }
 
-// The first GNU hash section, or where there is none the first SysV one, if there is one.
+// The first GNU hash section or, if there is none, the first SysV hash section, if there is one.
 fn read_hash<E: EndianParse, S: StreamSource>(
     alloc: Global,
     stream: &mut ElfStream<E, S, Global>,
@@ -117,7 +117,7 @@ fn read_hash<E: EndianParse, S: StreamSource>(
     Ok(None)
 }
 
-// The bytes of the symbols of the one section, and those of the strings of the other.
+// The bytes of the symbols of the first section, and those of the strings of the second.
 fn read_symbols_of<E: EndianParse, S: StreamSource>(
     alloc: Global,
     stream: &mut ElfStream<E, S, Global>,
@@ -132,7 +132,7 @@ fn read_symbols_of<E: EndianParse, S: StreamSource>(
     Ok(SymbolBytes { symbols, strings })
 }
 
-// The first section of dynamic symbols, with the section that it links to.
+// The first section of dynamic symbols, and the section that its `sh_link` names.
 fn symbol_sections<E: EndianParse, S: StreamSource>(
     stream: &ElfStream<E, S, Global>,
 ) -> Result<Option<(SectionHeader, SectionHeader)>, ParseError>
@@ -190,7 +190,7 @@ fn read_entries<E: EndianParse, S: StreamSource>(
     })
 }
 
-// The same of a section that there may not be.
+// The same if there is a section.
 fn read_entries_if<E: EndianParse, S: StreamSource>(
     alloc: Global,
     stream: &mut ElfStream<E, S, Global>,
@@ -236,7 +236,7 @@ fn read_versions<E: EndianParse, S: StreamSource>(
     }))
 }
 
-/// The parts of a file that symbols are bound by. A part that cannot be read is left out, with the error in its place.
+/// Reads the parts of a file by which symbols are bound. A part that cannot be read has the error in its place.
 pub fn read_library<E: EndianParse, S: StreamSource>(
     alloc: Global,
     stream: &mut ElfStream<E, S, Global>,
@@ -259,7 +259,7 @@ pub fn read_library<E: EndianParse, S: StreamSource>(
     }
 }
 
-/// Opens a file as a stream, and reads its parts. The source is closed then. Refuses where the file cannot be opened.
+/// Opens a file as a stream, reads its parts, and closes the source. The error is that of `open_stream`.
 pub fn open_library<E: EndianParse, S: StreamSource>(
     alloc: Global,
     source: S,

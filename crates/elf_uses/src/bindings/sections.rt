@@ -1,4 +1,4 @@
-//! Which sections of a file symbols are bound by.
+//! The sections of a file by which symbols are bound.
 ghost use Rattle.std.specs.Prelude.{◌≡◌, ◌&&◌, if◌then◌else◌, is_some, IfErr, Some, option_copied};
 ghost use Rattle.elf_abi.specs.Values.{sht_gnu_verdef, sht_gnu_verneed, sht_gnu_versym};
 ghost use Rattle.elf.specs.ElfStream.{Kind, kind};
@@ -9,7 +9,7 @@ ghost use Rattle.elf.specs.Versions.{version_sections};
 use elf::section::SectionHeader;
 use elf::{ParseError, abi};
 
-/// The sections that the versions of symbols stand in.
+/// The sections with the versions of symbols.
 #[derive(Clone, Copy)]
 pub struct VersionSections {
     pub indexes: Option<SectionHeader>,
@@ -18,7 +18,7 @@ pub struct VersionSections {
 }
 
 impl VersionSections {
-    // The same with one more section, in the place of an earlier one of its type.
+    // The same with one more section, which replaces an earlier one of its type.
     fn with(mut self, section: SectionHeader) -> Self
         ensures indexes { result.indexes ≡ (if is_of_type sht_gnu_versym section then Some section else self.indexes) }
         ensures needs { result.needs ≡ (if is_of_type sht_gnu_verneed section then Some section else self.needs) }
@@ -42,7 +42,7 @@ impl VersionSections {
     }
 }
 
-/// The last sections of the three types, up to the first one by which all of them were seen.
+/// Returns the last sections of the three types, up to the first section that completes the three.
 #[tactic(auto, using(elf::proofs::VersionChoice::found_in_all))]
 pub fn version_sections(sections: &[SectionHeader]) -> VersionSections
     ensures indexes { result.indexes ≡ (version_sections sections.now).indexes }
@@ -63,21 +63,21 @@ pub fn version_sections(sections: &[SectionHeader]) -> VersionSections
     found
 }
 
-// The first section of a type, in its place.
+// The first section of a type, as a reference into the list.
 fn first_section_in(sections: &[SectionHeader], sh_type: u32) -> Option<&SectionHeader>
     ensures { option_copied result ≡ first_section_of sh_type sections.now }
 {
     sections.iter().find(|section| section.sh_type == sh_type)
 }
 
-/// The first section of a type.
+/// Returns the first section of a type.
 pub fn first_section_of(sections: &[SectionHeader], sh_type: u32) -> Option<SectionHeader>
     ensures { result ≡ first_section_of sh_type sections.now }
 {
     first_section_in(sections, sh_type).copied()
 }
 
-/// The section that a section links to.
+/// Returns the section that `sh_link` of a section names, or `BadOffset(sh_link)` if there is none.
 pub fn linked_section(
     sections: &[SectionHeader],
     section: &SectionHeader,
