@@ -66,8 +66,8 @@ fn version_in<'a, E: EndianParse>(
     }
 }
 
-/// Returns the version with which a symbol, counted from 0, is defined, or `None` if the file gives it no version or
-/// only its own name (`VER_FLG_BASE`).
+/// Returns the version with which a symbol, counted from 0, is defined. Returns `None` if the file gives it no
+/// definition, or one without a name, or only that of the file itself (`VER_FLG_BASE`).
 ///
 /// Errors, in order: that of `get_definition`; that of the first name of the definition.
 pub fn version_of<'a, E: EndianParse>(

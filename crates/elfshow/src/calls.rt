@@ -142,8 +142,8 @@ pub fn run_bytes<E: EndianParse, W: Write>(
 /// The calls `sysv` and `gnu` copy a section's bytes with the stream's allocator. After `Ok` the ranges of each call
 /// that has a result are cached: if such a call is run again, it does not need the source.
 ///
-/// Errors: `Fault` if the source or an allocation failed, with exactly the text of the calls before it written; `Write`
-/// if the writer fails. `Open` is never returned.
+/// Errors over known content: `Fault` if the source or an allocation failed, with exactly the text of the calls before
+/// it written; `Write` if the writer fails; never `Open`.
 pub fn run_stream<E: EndianParse, S: StreamSource, A: Allocator + Copy, W: Write>(
     stream: &mut ElfStream<E, S, A>,
     calls: &[Call<'_>],

@@ -21,19 +21,19 @@ use elf_parts::symbol::SymbolTable;
 /// The sections that are looked up most often. A field is `None` if the file does not have it.
 #[derive(Debug, Default, Drop)]
 pub struct CommonElfData<'data, E: EndianParse> {
-    /// The symbols.
+    /// The symbols: section type `SHT_SYMTAB`.
     pub symtab: Option<SymbolTable<'data, E>>,
-    /// The strings with their names.
+    /// The strings with the names of these symbols.
     pub symtab_strs: Option<StringTable<'data>>,
-    /// The symbols for dynamic linking.
+    /// The symbols for dynamic linking: section type `SHT_DYNSYM`.
     pub dynsyms: Option<SymbolTable<'data, E>>,
     /// The strings with the names of the symbols for dynamic linking.
     pub dynsyms_strs: Option<StringTable<'data>>,
-    /// The dynamic entries.
+    /// The dynamic entries: section type `SHT_DYNAMIC`, or segment type `PT_DYNAMIC`.
     pub dynamic: Option<DynamicTable<'data, E>>,
-    /// The SysV hash section.
+    /// The SysV hash section (gABI, chapter "Hash Table"): section type `SHT_HASH`.
     pub sysv_hash: Option<SysVHashTable<'data, E>>,
-    /// The GNU hash section.
+    /// The GNU hash section: section type `SHT_GNU_HASH`.
     pub gnu_hash: Option<GnuHashTable<'data, E>>,
 }
 

@@ -34,8 +34,8 @@ pub(super) fn section_range<'data>(
 
 impl<'data, E: EndianParse> ElfBytes<'data, E> {
     /// Returns the bytes of a section, and its compression header if its flags have `SHF_COMPRESSED` (gABI, chapter
-    /// "Sections"). The bytes are then those behind that header; nothing is decompressed. A section of type
-    /// `SHT_NOBITS` has no bytes, and its range is not checked.
+    /// "Sections", "Section Compression"). The bytes are then those behind that header; nothing is decompressed. A
+    /// section of type `SHT_NOBITS` has no bytes, and its range is not checked.
     ///
     /// Errors, in order: `IntegerOverflow` if the end of the section does not fit 64 bits; `SliceReadError((start,
     /// end))` if the section does not lie in the file; `SliceReadError((start, end))`, in bytes from the start of the
@@ -80,7 +80,7 @@ impl<'data, E: EndianParse> ElfBytes<'data, E> {
         Ok(bytes)
     }
 
-    /// Returns the strings of a section of type `SHT_STRTAB`.
+    /// Returns the strings of a section of type `SHT_STRTAB` (gABI, chapter "String Table").
     ///
     /// Errors, in order: `UnexpectedSectionType((found, expected))` for any other type; those of `section_data`.
     pub fn section_data_as_strtab(
@@ -94,8 +94,8 @@ impl<'data, E: EndianParse> ElfBytes<'data, E> {
         Ok(StringTable::new(bytes))
     }
 
-    /// Returns an iterator over the relocations of a section of type `SHT_REL`. It ends at the first one that cannot be
-    /// read, and yields at most one for each byte of the file.
+    /// Returns an iterator over the relocations of a section of type `SHT_REL` (gABI, chapter "Relocation"). It ends at
+    /// the first one that cannot be read, and yields at most one for each byte of the file.
     ///
     /// Errors, in order: `UnexpectedSectionType((found, expected))` for any other type; those of `section_data`.
     pub fn section_data_as_rels(
@@ -111,8 +111,8 @@ impl<'data, E: EndianParse> ElfBytes<'data, E> {
         Ok(RelIterator::new(self.ehdr.endianness, self.ehdr.class, bytes))
     }
 
-    /// Returns an iterator over the relocations of a section of type `SHT_RELA`. It ends at the first one that cannot
-    /// be read, and yields at most one for each byte of the file.
+    /// Returns an iterator over the relocations of a section of type `SHT_RELA` (gABI, chapter "Relocation"). It ends
+    /// at the first one that cannot be read, and yields at most one for each byte of the file.
     ///
     /// Errors, in order: `UnexpectedSectionType((found, expected))` for any other type; those of `section_data`.
     pub fn section_data_as_relas(

@@ -39,9 +39,9 @@ impl<'data, E: EndianParse> ElfBytes<'data, E> {
     /// section that `sh_link` of section 0 names. There is no table of names if the file declares no section headers or
     /// if `e_shstrndx` is `SHN_UNDEF`.
     ///
-    /// Errors, in order: that of `ParsingTable::get` for section header 0, if it is needed; that of `ParsingTable::get`
-    /// for the section of the names; `IntegerOverflow` or `SliceReadError((start, end))` if the range of that section
-    /// does not lie in the file.
+    /// Errors, in order: that of `ParsingTable::get` for section header 0, if `e_shstrndx` is `SHN_XINDEX`; that of
+    /// `ParsingTable::get` for the section of the names; `IntegerOverflow` or `SliceReadError((start, end))` if the
+    /// range of that section does not lie in the file.
     #[tactic(auto, unfolding(crate::specs::Names::name_table))]
     pub fn section_headers_with_strtab(
         &self,

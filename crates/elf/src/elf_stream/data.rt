@@ -71,8 +71,8 @@ impl<E: EndianParse, S: StreamSource, A: Allocator + Copy> ElfStream<E, S, A> {
     }
 
     /// Returns the bytes of a section, and its compression header if its flags have `SHF_COMPRESSED` (gABI, chapter
-    /// "Sections"). The bytes are then those behind that header; nothing is decompressed. Requests the range of the
-    /// section. A section of type `SHT_NOBITS` has no bytes, and its range is not requested.
+    /// "Sections", "Section Compression"). The bytes are then those behind that header; nothing is decompressed.
+    /// Requests the range of the section. A section of type `SHT_NOBITS` has no bytes, and its range is not requested.
     ///
     /// Errors, in order: that of the range; `SliceReadError((start, end))`, in bytes from the start of the section, of
     /// the first number of the compression header that does not lie in the section.
@@ -127,7 +127,8 @@ impl<E: EndianParse, S: StreamSource, A: Allocator + Copy> ElfStream<E, S, A> {
         Ok(StringTable::new(bytes))
     }
 
-    /// Returns the strings of a section of type `SHT_STRTAB`. Requests the range that `section_data` requests.
+    /// Returns the strings of a section of type `SHT_STRTAB` (gABI, chapter "String Table"). Requests the range that
+    /// `section_data` requests.
     ///
     /// Errors, in order: `UnexpectedSectionType((found, expected))` for any other type, with no range requested; those
     /// of `section_data`.
@@ -162,8 +163,9 @@ impl<E: EndianParse, S: StreamSource, A: Allocator + Copy> ElfStream<E, S, A> {
         Ok(ParsingIterator::new(self.ehdr.endianness, self.ehdr.class, bytes))
     }
 
-    /// Returns an iterator over the relocations of a section of type `SHT_REL`. It ends at the first one that cannot be
-    /// read, and yields at most one for each byte of the file. Requests the range that `section_data` requests.
+    /// Returns an iterator over the relocations of a section of type `SHT_REL` (gABI, chapter "Relocation"). It ends at
+    /// the first one that cannot be read, and yields at most one for each byte of the file. Requests the range that
+    /// `section_data` requests.
     ///
     /// Errors, in order: `UnexpectedSectionType((found, expected))` for any other type, with no range requested; those
     /// of `section_data`.
@@ -182,8 +184,9 @@ impl<E: EndianParse, S: StreamSource, A: Allocator + Copy> ElfStream<E, S, A> {
         self.lend_records::<Rel>(shdr)
     }
 
-    /// Returns an iterator over the relocations of a section of type `SHT_RELA`. It ends at the first one that cannot
-    /// be read, and yields at most one for each byte of the file. Requests the range that `section_data` requests.
+    /// Returns an iterator over the relocations of a section of type `SHT_RELA` (gABI, chapter "Relocation"). It ends
+    /// at the first one that cannot be read, and yields at most one for each byte of the file. Requests the range that
+    /// `section_data` requests.
     ///
     /// Errors, in order: `UnexpectedSectionType((found, expected))` for any other type, with no range requested; those
     /// of `section_data`.

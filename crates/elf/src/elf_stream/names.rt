@@ -58,8 +58,8 @@ impl<E: EndianParse, S: StreamSource, A: Allocator + Copy> ElfStream<E, S, A> {
     /// names. There is no table of names if the file declares no section headers or if `e_shstrndx` is `SHN_UNDEF`.
     /// Requests the range of the section of the names.
     ///
-    /// Errors, in order: `BadOffset(0)` if section header 0 is needed and there is none; `BadOffset(index)` if there is
-    /// no section of the names with this index; that of the range.
+    /// Errors, in order: `BadOffset(0)` if `e_shstrndx` is `SHN_XINDEX` and there is no section 0; `BadOffset(index)`
+    /// if there is no section of the names with this index; that of the range.
     #[tactic(auto, unfolding(crate::specs::Names::name_section, crate::specs::Names::name_table))]
     pub fn section_headers_with_strtab(
         &mut self,

@@ -58,8 +58,8 @@ pub struct SymbolNamesIterator<'data, E: EndianParse> {
 }
 
 impl<'data, E: EndianParse> SymbolNamesIterator<'data, E> {
-    /// The names in these strings at the offsets in these records. There are at most as many as the records' data
-    /// have bytes.
+    /// Returns an iterator over the names at the offsets in these records, in these strings. It yields at most one for
+    /// each byte of the records' data.
     #[tactic(auto, using(crate::proofs::Versions::names_few, crate::proofs::Versions::names_counted))]
     pub fn new(records: VerDefAuxIterator<'data, E>, strings: &'data StringTable<'data>) -> Self
         ensures items { names_left result ≡ raw_names (strings_view strings.now) (ver_def_aux_left records.entry) }

@@ -153,8 +153,8 @@ fn find_defined<'data, E: EndianParse>(
 }
 
 impl<'a, 'data, E: EndianParse> PlacedVersions<'a, 'data, E> {
-    /// Fills the places: walks over the needs once and then over the definitions once. What was in the places is
-    /// overwritten if the versions have needs or definitions, respectively.
+    /// Fills the places: walks over the needs once and then over the definitions once. The earlier content of the
+    /// places is ignored and may be overwritten.
     pub fn new(
         versions: &'a SymbolVersionTable<'data, E>,
         needed: &'a mut [Option<Needed>],
