@@ -37,9 +37,9 @@ impl<'data, E: EndianParse> ElfBytes<'data, E> {
     /// "Sections", "Section Compression"). The bytes are then those behind that header; nothing is decompressed. A
     /// section of type `SHT_NOBITS` has no bytes, and its range is not checked.
     ///
-    /// Errors, in order: `IntegerOverflow` if the end of the section does not fit 64 bits; `SliceReadError((start,
-    /// end))` if the section does not lie in the file; `SliceReadError((start, end))`, in bytes from the start of the
-    /// section, of the first number of the compression header that does not lie in the section.
+    /// Errors, in order: `IntegerOverflow` if the end of the section does not fit 64 bits;
+    /// `SliceReadError((start, end))` if the section does not lie in the file; `SliceReadError((start, end))`, in bytes
+    /// from the start of the section, of the first number of the compression header that does not lie in the section.
     #[tactic(auto, unfolding(crate::specs::Data::section_data))]
     pub fn section_data(
         &self,

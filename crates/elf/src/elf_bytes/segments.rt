@@ -17,8 +17,8 @@ impl<'data, E: EndianParse> ElfBytes<'data, E> {
     /// Returns the bytes of a segment in the file: `p_filesz` bytes from `p_offset` on (gABI, chapter "Program
     /// Header").
     ///
-    /// Errors, in order: `IntegerOverflow` if the end of the segment does not fit 64 bits; `SliceReadError((start,
-    /// end))` if the segment does not lie in the file.
+    /// Errors, in order: `IntegerOverflow` if the end of the segment does not fit 64 bits;
+    /// `SliceReadError((start, end))` if the segment does not lie in the file.
     pub fn segment_data(&self, phdr: &ProgramHeader) -> Result<&'data [u8], ParseError>
         ensures value { ok_map (λ bytes. bytes.now) result
             ≡ segment_data (object_file E.little (view self.now)) phdr.now }
