@@ -267,9 +267,10 @@ impl<'data, E: EndianParse> GnuHashTable<'data, E> {
     /// Returns the index and the symbol of a name, the first in the run of its bucket. Returns `None` if there are no
     /// buckets or bloom words, or if the bloom word or the run has no such name.
     ///
-    /// The error is that of the first read on the way that fails: `ParsingTable::get` for the bloom word, for the
-    /// symbol or for a chain word, or `StringTable::get_raw` for the symbol's name. It is `IntegerOverflow` if the
-    /// second bloom bit is needed and the shift is 32 or more.
+    /// The error is that of the first read on the way that fails: `ParsingTable::get` for the bloom word, only if the
+    /// caller raised `hdr.nbloom`; `ParsingTable::get` for a symbol whose chain word fits the hash;
+    /// `StringTable::get_raw` for its name. It is `IntegerOverflow` if the second bloom bit is needed and the shift is
+    /// 32 or more.
     #[tactic(auto, unfolding(crate::specs::GnuFind::gnu_find))]
     pub fn find(
         &self,
