@@ -4,7 +4,8 @@ use Rattle.elf_parts.specs.Number.{bytes_at, number_at}
 use Rattle.elf_parts.specs.Record.{numbers_at}
 use Rattle.elf_parts.specs.GnuFind.{gnu_section}
 use Rattle.elf_check.proofs.GnuVerdicts.{true_fault}
-use Rattle.elf_check.specs.inner.Decisions.{decide_gnu}
+use Rattle.elf_check.specs.Object.{ByGnu}
+use Rattle.elf_check.specs.inner.Decisions.{decide}
 use Rattle.std.specs.Prelude.{Ok}
 use Rattle.elf_worked.specs.SoundSections.{gnu_with}
 use Rattle.elf_worked.proofs.Below.{told_sound}
@@ -24,4 +25,4 @@ returns-clause-no_fault c = λ fault h. true_fault (gnu_with 3 5 0xc0 0x06 0x09)
 
 pub returns-clause-told : goal.returns-clause-told
 unfolding gnu_section bytes_at number_at numbers_at digits
-returns-clause-told c = ap Ok (told_sound (decide_gnu (gnu_with 3 5 0xc0 0x06 0x09)) 3 gnu_sound)
+returns-clause-told c = ap Ok (told_sound (decide (ByGnu (gnu_with 3 5 0xc0 0x06 0x09))) 3 gnu_sound)

@@ -2,7 +2,8 @@ use Rattle.std.proofs.Common.{ap}
 use Rattle.elf_parts.specs.Number.{bytes_at, number_at}
 use Rattle.elf_parts.specs.Record.{numbers_at}
 use Rattle.elf_parts.specs.GnuFind.{gnu_section}
-use Rattle.elf_check.specs.inner.Decisions.{decide_gnu}
+use Rattle.elf_check.specs.Object.{ByGnu}
+use Rattle.elf_check.specs.inner.Decisions.{decide}
 use Rattle.std.specs.Prelude.{Ok}
 use Rattle.elf_worked.specs.SoundSections.{gnu_with}
 use Rattle.elf_worked.proofs.Below.{told_faulty}
@@ -31,4 +32,4 @@ returns-clause-not_in_run c = has_not_in_run
 
 pub returns-clause-told : goal.returns-clause-told
 unfolding gnu_section bytes_at number_at numbers_at
-returns-clause-told c = ap Ok (told_faulty (decide_gnu (gnu_with 3 5 0xc0 0x07 0x09)) _ has_not_in_run.0)
+returns-clause-told c = ap Ok (told_faulty (decide (ByGnu (gnu_with 3 5 0xc0 0x07 0x09))) _ has_not_in_run.0)

@@ -7,7 +7,8 @@ use Rattle.elf_parts.specs.SysvFind.{sysv_section}
 use Rattle.elf_check.proofs.SysvVerdicts.{true_fault}
 use Rattle.elf_check.specs.Indexed.{chain_lengths}
 use Rattle.elf_check.specs.WithSymbols.{word}
-use Rattle.elf_check.specs.inner.Decisions.{decide_sysv}
+use Rattle.elf_check.specs.Object.{BySysv}
+use Rattle.elf_check.specs.inner.Decisions.{decide}
 use Rattle.std.specs.Prelude.{Ok}
 use Rattle.elf_worked.specs.Files.{in_four}
 use Rattle.elf_worked.specs.SoundSections.{sysv_with}
@@ -28,4 +29,4 @@ returns-clause-no_fault c = λ fault h. true_fault (sysv_with 8 (in_four 0)) sys
 
 pub returns-clause-told : goal.returns-clause-told
 unfolding sysv_section bytes_at number_at numbers_at digits chain_lengths word word_at
-returns-clause-told c = ap Ok (told_sound (decide_sysv (sysv_with 8 (in_four 0))) 3 sysv_sound)
+returns-clause-told c = ap Ok (told_sound (decide (BySysv (sysv_with 8 (in_four 0)))) 3 sysv_sound)

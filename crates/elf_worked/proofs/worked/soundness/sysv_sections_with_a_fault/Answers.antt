@@ -3,7 +3,8 @@ use Rattle.elf_parts.specs.Number.{bytes_at, number_at}
 use Rattle.elf_parts.specs.Record.{numbers_at}
 use Rattle.elf_parts.specs.SysvFind.{sysv_section}
 use Rattle.std.specs.Prelude.{Ok}
-use Rattle.elf_check.specs.inner.Decisions.{decide_sysv}
+use Rattle.elf_check.specs.Object.{BySysv}
+use Rattle.elf_check.specs.inner.Decisions.{decide}
 use Rattle.elf_worked.specs.Files.{in_four}
 use Rattle.elf_worked.specs.SoundSections.{sysv_with}
 use Rattle.elf_worked.proofs.Below.{told_faulty}
@@ -31,4 +32,4 @@ returns-clause-wrong_bucket c = has_wrong_bucket
 
 pub returns-clause-told : goal.returns-clause-told
 unfolding sysv_section bytes_at number_at numbers_at
-returns-clause-told c = ap Ok (told_faulty (decide_sysv (sysv_with 8 (in_four 1))) _ has_endless.0)
+returns-clause-told c = ap Ok (told_faulty (decide (BySysv (sysv_with 8 (in_four 1)))) _ has_endless.0)
