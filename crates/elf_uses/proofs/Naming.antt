@@ -1,5 +1,5 @@
 -- What is found passes the test; and what two calls of a stream, one after the other, tell.
-use Rattle.std.proofs.Common.{◌≡◌, ℕ, ◌<◌, Bool, true, false, List, [], ◌∷◌, Result, Ok, Err, Option, Some, None, refl, ap, sym, subst, ◌∙◌, arith}
+use Rattle.std.proofs.Common.{◌≡◌, ℕ, Bool, true, false, List, [], ◌∷◌, Result, Ok, Err, Option, Some, None, refl, ap, sym, subst, ◌∙◌, arith}
 use Rattle.std.specs.Prelude.{IfSome, cond}
 use Rattle.std.specs.List.{find}
 use Rattle.std.specs.Option.{option_map}
@@ -7,10 +7,9 @@ use Rattle.elf_parts.specs.Number.{ok_map}
 use Rattle.elf_parts.specs.Record.{◌>>=◌}
 use Rattle.elf_parts.specs.declared.dynamic.Dyn.{Dyn}
 use Rattle.elf_parts.specs.declared.parse.ParseError.{ParseError}
-use Rattle.elf_parts.specs.declared.segment.ProgramHeader.{ProgramHeader}
 use Rattle.elf.specs.ElfStream.{IsAnswer, IsRefused, Keeps, Kind, Leaves, Seen, kind}
 use Rattle.elf.specs.StreamFile.{stream_file}
-use Rattle.elf_uses.specs.Needed.{IsGiven, IsTold, IsUnreadable, Named, Tells, entries_of, if_some, names, names_by, names_of_part, names_view, or_error, string_part}
+use Rattle.elf_uses.specs.Needed.{IsGiven, IsTold, IsUnreadable, Tells, entries_of, if_some, names, names_by, names_view, or_error}
 use Rattle.elf_uses.specs.declared.needed.Names.{Names}
 use Rattle.elf_uses.specs.declared.needed.NamesError.{NamesError}
 use Rattle.elf_uses.specs.declared.needed.NamesError.TheVariants.{Memory, Name, NoAddress, NoSize, NotLoaded, Read}

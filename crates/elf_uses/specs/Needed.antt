@@ -17,7 +17,6 @@ use Rattle.elf_parts.specs.declared.segment.ProgramHeader.{ProgramHeader}
 use Rattle.elf.specs.Answers.{dynamic, segment_data}
 use Rattle.elf.specs.ElfStream.{IsRefused, Keeps, Seen, kind}
 use Rattle.elf.specs.ObjectFile.{ObjectFile}
-use Rattle.elf.specs.StreamFile.{stream_file}
 use Rattle.elf_uses.specs.declared.needed.Names.{Names}
 use Rattle.elf_uses.specs.declared.needed.NamesError.{NamesError}
 use Rattle.elf_uses.specs.declared.needed.NamesError.TheVariants.{Memory, Name, NoAddress, NoSize, NotLoaded, Read}

@@ -1,5 +1,5 @@
 -- What a reading of a stream gives and leaves.
-use Rattle.std.specs.Prelude.{◌≡◌, Bool, ⊤, ℕ, List, Option, Result, Ok, Err, IfSome, IsErr}
+use Rattle.std.specs.Prelude.{◌≡◌, Bool, ⊤, ℕ, List, Result, Ok, Err, IfSome, IsErr}
 use Rattle.elf_parts.specs.declared.parse.ParseError.{ParseError}
 use Rattle.elf.specs.ElfStream.{Keeps, MayRefuse, Seen, kind}
 

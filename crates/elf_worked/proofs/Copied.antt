@@ -1,5 +1,5 @@
 -- What a stream over bytes gives of a section is what `ElfBytes` gives of it.
-use Rattle.std.proofs.Common.{◌≡◌, ℕ, Bool, List, Result, Ok, Err, Option, Some, refl, ap, sym, subst, ◌∙◌, IfSome}
+use Rattle.std.proofs.Common.{◌≡◌, ℕ, Bool, List, Result, Ok, Err, Option, Some, ap, sym, subst, ◌∙◌, IfSome}
 use Rattle.std.specs.Result.{result_ok}
 use Rattle.elf_parts.specs.Number.{ok_map}
 use Rattle.elf_parts.specs.declared.compression.CompressionHeader.{CompressionHeader}
@@ -7,7 +7,7 @@ use Rattle.elf_parts.specs.declared.parse.ParseError.{ParseError}
 use Rattle.elf_parts.specs.declared.section.SectionHeader.{SectionHeader}
 use Rattle.elf.specs.Data.{section_data}
 use Rattle.elf.specs.ElfBytes.{View, with_header}
-use Rattle.elf.specs.ElfStream.{Headers, IsAnswer, Leaves, Seen, headers_of, shown_headers}
+use Rattle.elf.specs.ElfStream.{Seen, headers_of, shown_headers}
 use Rattle.elf.specs.ObjectFile.{object_file}
 use Rattle.elf.specs.Opening.{opened}
 use Rattle.elf.specs.Readers.{SameAnswers}

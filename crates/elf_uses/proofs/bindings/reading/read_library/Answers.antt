@@ -1,10 +1,10 @@
-use Rattle.std.proofs.Common.{◌≡◌, List, ℕ, ap, sym}
+use Rattle.std.proofs.Common.{◌≡◌, ap, sym}
 use Rattle.elf_parts.specs.declared.file.FileHeader.{FileHeader}
 use Rattle.elf.specs.ElfStream.{Seen}
 use Rattle.std.specs.Option.{option_map}
 use Rattle.elf.specs.Answers.{dynamic_symbol_table, symbol_version_table}
 use Rattle.elf.specs.StreamFile.{stream_file}
-use Rattle.elf_uses.specs.Library.{IsLibraryOf, hash_in, hash_section, symbols_in, versions_in}
+use Rattle.elf_uses.specs.Library.{hash_in, hash_section, symbols_in, versions_in}
 use Rattle.elf_uses.specs.Readings.{IsRead}
 use Rattle.elf_uses.proofs.Libraries.{all_told, reads_of_file}
 use Rattle.elf_uses.proofs.Readings.{keeps_then}
