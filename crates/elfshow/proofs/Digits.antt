@@ -1,6 +1,6 @@
 -- The digits of a number, from the last one on.
-use Rattle.std.proofs.Common.{◌≡◌, ℕ, zero, suc, ◌+◌, ◌-◌, ◌/◌, ◌%◌, ◌<◌, ◌≤◌, ◌==◌, true, false, List, ◌∷◌, length, ap, drop, set, refl, sym, ◌∙◌, arith}
-use Rattle.std.specs.Fmt.{digit_glyph, digits, digits_onto}
+use Rattle.std.proofs.Common.{◌≡◌, ℕ, zero, suc, ◌+◌, ◌-◌, ◌/◌, ◌%◌, ◌<◌, ◌≤◌, ◌==◌, true, false, List, [], ◌∷◌, length, ap, drop, set, refl, sym, ◌∙◌, arith}
+use Rattle.std.specs.Fmt.{decimal, digit_glyph, digits, digits_onto}
 use Rattle.std.proofs.lemmas.List.{drop-set, drop_all}
 
 -- no digit is there
@@ -35,3 +35,18 @@ digits_end base (suc k) left room whole some fits none before =
     let e : suc k - 1 ≡ k = omega arith in
     let f : k + 1 ≡ suc k = omega arith in
     rw (e, drop-set room k (digit_glyph false (left % base)) (omega (arith, fits)), f) (sym (step_end k base left (drop (suc k) room) none) ∙ before)
+
+-- a number below ten has one digit
+pub one_digit : (n : ℕ) → n < 10 → decimal n ≡ digit_glyph false n ∷ []
+unfolding digits
+one_digit zero l = refl
+one_digit (suc zero) l = refl
+one_digit (suc (suc zero)) l = refl
+one_digit (suc (suc (suc zero))) l = refl
+one_digit (suc (suc (suc (suc zero)))) l = refl
+one_digit (suc (suc (suc (suc (suc zero))))) l = refl
+one_digit (suc (suc (suc (suc (suc (suc zero)))))) l = refl
+one_digit (suc (suc (suc (suc (suc (suc (suc zero))))))) l = refl
+one_digit (suc (suc (suc (suc (suc (suc (suc (suc zero)))))))) l = refl
+one_digit (suc (suc (suc (suc (suc (suc (suc (suc (suc zero))))))))) l = refl
+one_digit (suc (suc (suc (suc (suc (suc (suc (suc (suc (suc n)))))))))) l = absurd (omega (arith, l))

@@ -2,9 +2,7 @@
 use Rattle.std.specs.Prelude.{ℕ, ◌/◌, ◌%◌, ◌==◌, nat_le, List, [], ◌∷◌, ◌++◌, codes}
 use Rattle.std.specs.Prelude.{Bool, false, not, ◌&&◌, if◌then◌else◌}
 use Rattle.std.specs.List.{flat_map}
-use Rattle.std.specs.Fmt.{decimal, digits, digit_glyph, signed_decimal}
-use Rattle.elfshow.specs.declared.pieces.Piece.{Piece}
-use Rattle.elfshow.specs.declared.pieces.Piece.TheVariants.{Word, Decimal, Signed, Hex, Escaped, Bytes}
+use Rattle.std.specs.Fmt.{digits, digit_glyph}
 
 -- text after text, grouped to the right
 infixr 55 ◌⧺◌
@@ -40,16 +38,3 @@ escaped bytes = flat_map escaped_byte bytes
 -- two lower-case digits for each byte, nothing between them
 abbrev pub hex_of : List ℕ → List ℕ
 hex_of bytes = flat_map hex_pair bytes
-
--- the text of a piece: its label, and the value behind it
-abbrev pub piece_text : Piece → List ℕ
-piece_text (Word label) = label.now
-piece_text (Decimal label n) = label.now ⧺ decimal n
-piece_text (Signed label n) = label.now ⧺ signed_decimal n
-piece_text (Hex label n) = label.now ⧺ hex n
-piece_text (Escaped label text) = label.now ⧺ escaped text.now
-piece_text (Bytes label bytes) = label.now ⧺ hex_of bytes.now
-
--- the text of pieces, one behind the other
-abbrev pub joined : List Piece → List ℕ
-joined pieces = flat_map piece_text pieces

@@ -4,8 +4,8 @@
 pub mod calls;
 pub mod failure;
 pub mod file_system;
+mod line_buffer;
 mod lines;
-mod pieces;
 pub mod readers;
 pub mod show;
 mod words;

@@ -4,7 +4,9 @@ ghost use Rattle.std.specs.Iterator.{Drains, UpTo};
 ghost use Rattle.std.specs.Io.KnownBytes.{Appends};
 ghost use Rattle.elf_parts.specs.Table.{items_left};
 ghost use Rattle.elfshow.specs.lines.Counted.{counted_lines, end_line};
+ghost use Rattle.elfshow.specs.inner.Adding.{Adds};
 
+use crate::line_buffer::LineBuffer;
 use elf::endian::EndianParse;
 use elf::parse::{ParseAt, ParsingIterator};
 use std::io;
@@ -16,8 +18,9 @@ pub(crate) trait Line {
 
     ghost line: { Self → ℕ → Self.Item → List ℕ };
 
-    fn write_line<W: Write>(&self, k: u64, item: &Self::Item, out: &mut W) -> io::Result<()>
-        ensures { OnOk result (Appends (W.contents out.old) (W.contents out.new) (line self.now k item.now)) };
+    fn add_line<W: Write>(&self, k: u64, item: &Self::Item, lines: &mut LineBuffer, out: &mut W)
+        ensures { Adds (W.contents out.old) lines.old (W.contents out.new) lines.new
+            (line self.now k item.now) };
 }
 
 /// The lines of the items of an iterator, and their number. Stores none of the items.
@@ -33,11 +36,16 @@ where
     ensures { OnOk result ((shown : List L.Item) × Drains I.next_gives items shown
         × Appends (W.contents out.old) (W.contents out.new) (counted_lines (L.line line.now) shown)) }
 {
+    let mut lines = LineBuffer::empty();
     let mut count = 0;
     for item in items {
-        line.write_line(count, &item, out)?;
+        line.add_line(count, &item, &mut lines, out);
+        if lines.has_failed() {
+            return lines.end(out);
+        }
         count += 1;
     }
+    lines.end(out)?;
     write_end(count, out)
 }
 
@@ -50,11 +58,16 @@ pub(crate) fn write_slice<L: Line, W: Write>(
     ensures { OnOk result (Appends (W.contents out.old) (W.contents out.new)
         (counted_lines (L.line line.now) items.now)) }
 {
+    let mut lines = LineBuffer::empty();
     let mut number = 0;
     for item in items {
-        line.write_line(number, item, out)?;
+        line.add_line(number, item, &mut lines, out);
+        if lines.has_failed() {
+            return lines.end(out);
+        }
         number += 1;
     }
+    lines.end(out)?;
     write_end(number, out)
 }
 

@@ -1,12 +1,14 @@
 //! The line of a file header.
-ghost use Rattle.std.specs.Prelude.{◌≡◌, OnOk};
+ghost use Rattle.std.specs.Prelude.{◌≡◌, codes, OnOk};
+ghost use Rattle.std.specs.Fmt.{decimal};
 ghost use Rattle.std.specs.Io.KnownBytes.{Appends};
 ghost use Rattle.elf_parts.specs.Class.{address_bits};
+ghost use Rattle.elfshow.specs.Pieces.{◌⧺◌};
+ghost use Rattle.elfshow.specs.inner.Adding.{Adds};
 ghost use Rattle.elfshow.specs.lines.Header.{file_fields, header_line};
 ghost use Rattle.elfshow.specs.lines.Header.{ident_fields, order_name, size_fields};
 
-use crate::pieces::Piece::{Decimal, Hex, Word};
-use crate::pieces::write_pieces;
+use crate::line_buffer::LineBuffer;
 use elf::endian::EndianParse;
 use elf::file::{Class, FileHeader};
 use std::io;
@@ -20,17 +22,23 @@ pub(crate) fn write_header<E: EndianParse, W: Write>(
     ensures { OnOk result (Appends (W.contents out.old) (W.contents out.new)
         (header_line (E.little ehdr.now.endianness) ehdr.now)) }
 {
-    write!(out, "header ")?;
-    write_ident_fields(ehdr, out)?;
-    write_file_fields(ehdr, out)?;
-    write_size_fields(ehdr, out)?;
-    writeln!(out)
+    let mut lines = LineBuffer::empty();
+    lines.word("header ", out);
+    add_ident_fields(ehdr, &mut lines, out);
+    add_file_fields(ehdr, &mut lines, out);
+    add_size_fields(ehdr, &mut lines, out);
+    lines.word("\n", out);
+    lines.end(out)
 }
 
 #[tactic(auto, unfolding(crate::specs::lines::Header::ident_fields))]
-fn write_ident_fields<E: EndianParse, W: Write>(ehdr: &FileHeader<E>, out: &mut W) -> io::Result<()>
-    ensures { OnOk result (Appends (W.contents out.old) (W.contents out.new)
-        (ident_fields (E.little ehdr.now.endianness) ehdr.now)) }
+fn add_ident_fields<E: EndianParse, W: Write>(
+    ehdr: &FileHeader<E>,
+    lines: &mut LineBuffer,
+    out: &mut W,
+)
+    ensures { Adds (W.contents out.old) lines.old (W.contents out.new) lines.new
+        (ident_fields (E.little ehdr.now.endianness) ehdr.now) }
 {
     let FileHeader {
         class,
@@ -40,17 +48,26 @@ fn write_ident_fields<E: EndianParse, W: Write>(ehdr: &FileHeader<E>, out: &mut 
         abiversion,
         ..
     } = *ehdr;
-    let bits = class_bits(class);
-    let order = order_name(endianness.is_little());
-    let pieces = [
-        Decimal("class=", bits as u64),
-        Word(" order="),
-        Word(order),
-        Decimal(" version=", version as u64),
-        Decimal(" osabi=", osabi as u64),
-        Decimal(" abiversion=", abiversion as u64),
-    ];
-    write_pieces(&pieces, out)
+    lines.decimal("class=", class_bits(class) as u64, out);
+    lines.word(" order=", out);
+    lines.word(order_name(endianness.is_little()), out);
+    add_ident_versions(version, osabi, abiversion, lines, out);
+}
+
+fn add_ident_versions<W: Write>(
+    version: u32,
+    osabi: u8,
+    abiversion: u8,
+    lines: &mut LineBuffer,
+    out: &mut W,
+)
+    ensures { Adds (W.contents out.old) lines.old (W.contents out.new) lines.new
+        (codes " version=" ⧺ decimal version ⧺ codes " osabi=" ⧺ decimal osabi
+        ⧺ codes " abiversion=" ⧺ decimal abiversion) }
+{
+    lines.decimal(" version=", version as u64, out);
+    lines.decimal(" osabi=", osabi as u64, out);
+    lines.decimal(" abiversion=", abiversion as u64, out);
 }
 
 fn class_bits(class: Class) -> u8
@@ -69,8 +86,13 @@ fn order_name(little: bool) -> &'static str
 }
 
 #[tactic(auto, unfolding(crate::specs::lines::Header::file_fields))]
-fn write_file_fields<E: EndianParse, W: Write>(ehdr: &FileHeader<E>, out: &mut W) -> io::Result<()>
-    ensures { OnOk result (Appends (W.contents out.old) (W.contents out.new) (file_fields ehdr.now)) }
+fn add_file_fields<E: EndianParse, W: Write>(
+    ehdr: &FileHeader<E>,
+    lines: &mut LineBuffer,
+    out: &mut W,
+)
+    ensures { Adds (W.contents out.old) lines.old (W.contents out.new) lines.new
+        (file_fields ehdr.now) }
 {
     let FileHeader {
         e_type,
@@ -81,20 +103,22 @@ fn write_file_fields<E: EndianParse, W: Write>(ehdr: &FileHeader<E>, out: &mut W
         e_flags,
         ..
     } = *ehdr;
-    let pieces = [
-        Decimal(" type=", e_type as u64),
-        Decimal(" machine=", e_machine as u64),
-        Hex(" entry=", e_entry),
-        Decimal(" phoff=", e_phoff),
-        Decimal(" shoff=", e_shoff),
-        Hex(" flags=", e_flags as u64),
-    ];
-    write_pieces(&pieces, out)
+    lines.decimal(" type=", e_type as u64, out);
+    lines.decimal(" machine=", e_machine as u64, out);
+    lines.hex(" entry=", e_entry, out);
+    lines.decimal(" phoff=", e_phoff, out);
+    lines.decimal(" shoff=", e_shoff, out);
+    lines.hex(" flags=", e_flags as u64, out);
 }
 
 #[tactic(auto, unfolding(crate::specs::lines::Header::size_fields))]
-fn write_size_fields<E: EndianParse, W: Write>(ehdr: &FileHeader<E>, out: &mut W) -> io::Result<()>
-    ensures { OnOk result (Appends (W.contents out.old) (W.contents out.new) (size_fields ehdr.now)) }
+fn add_size_fields<E: EndianParse, W: Write>(
+    ehdr: &FileHeader<E>,
+    lines: &mut LineBuffer,
+    out: &mut W,
+)
+    ensures { Adds (W.contents out.old) lines.old (W.contents out.new) lines.new
+        (size_fields ehdr.now) }
 {
     let FileHeader {
         e_ehsize,
@@ -105,13 +129,10 @@ fn write_size_fields<E: EndianParse, W: Write>(ehdr: &FileHeader<E>, out: &mut W
         e_shstrndx,
         ..
     } = *ehdr;
-    let pieces = [
-        Decimal(" ehsize=", e_ehsize as u64),
-        Decimal(" phentsize=", e_phentsize as u64),
-        Decimal(" phnum=", e_phnum as u64),
-        Decimal(" shentsize=", e_shentsize as u64),
-        Decimal(" shnum=", e_shnum as u64),
-        Decimal(" shstrndx=", e_shstrndx as u64),
-    ];
-    write_pieces(&pieces, out)
+    lines.decimal(" ehsize=", e_ehsize as u64, out);
+    lines.decimal(" phentsize=", e_phentsize as u64, out);
+    lines.decimal(" phnum=", e_phnum as u64, out);
+    lines.decimal(" shentsize=", e_shentsize as u64, out);
+    lines.decimal(" shnum=", e_shnum as u64, out);
+    lines.decimal(" shstrndx=", e_shstrndx as u64, out);
 }

@@ -1,29 +1,44 @@
 //! The name of an item.
-ghost use Rattle.std.specs.Prelude.{◌≡◌, codes};
+ghost use Rattle.std.specs.Prelude.{codes, OnOk};
 ghost use Rattle.std.specs.Option.{option_map};
 ghost use Rattle.elf_parts.specs.StringTable.{string_at, strings_view};
-ghost use Rattle.elfshow.specs.Pieces.{◌⧺◌, piece_text};
+ghost use Rattle.elfshow.specs.Pieces.{◌⧺◌};
 ghost use Rattle.elfshow.specs.lines.Name.{name_field, name_read};
+ghost use Rattle.elfshow.specs.inner.Adding.{Adds};
 
-use crate::pieces::Piece;
+use crate::line_buffer::LineBuffer;
 use elf::string_table::StringTable;
+use std::io;
+use std::io::Write;
 
-/// The name field of an item whose name is at this offset in bytes, behind a space. Without strings it is `noname`.
-pub(crate) fn name_piece<'a>(names: Option<StringTable<'a>>, offset: u32) -> Piece<'a>
-    ensures { piece_text result ≡ codes " " ⧺ name_field (option_map strings_view names.entry) offset }
+/// Adds the name field of an item whose name is at this offset in bytes, behind a space. Without strings it is `noname`.
+pub(crate) fn add_name<W: Write>(
+    names: Option<StringTable<'_>>,
+    offset: u32,
+    lines: &mut LineBuffer,
+    out: &mut W,
+)
+    ensures { Adds (W.contents out.old) lines.old (W.contents out.new) lines.new
+        (codes " " ⧺ name_field (option_map strings_view names.entry) offset) }
 {
     match names {
-        Some(names) => name_piece_in(names, offset),
-        None => Piece::Word(" noname"),
+        Some(names) => add_name_in(names, offset, lines, out),
+        None => lines.word(" noname", out),
     }
 }
 
 /// The same for an item whose strings are known to exist.
-pub(crate) fn name_piece_in<'a>(names: StringTable<'a>, offset: u32) -> Piece<'a>
-    ensures { piece_text result ≡ codes " " ⧺ name_read (string_at (strings_view names.entry) offset) }
+pub(crate) fn add_name_in<W: Write>(
+    names: StringTable<'_>,
+    offset: u32,
+    lines: &mut LineBuffer,
+    out: &mut W,
+)
+    ensures { Adds (W.contents out.old) lines.old (W.contents out.new) lines.new
+        (codes " " ⧺ name_read (string_at (strings_view names.entry) offset)) }
 {
     match names.get_raw(offset as usize) {
-        Ok(name) => Piece::Escaped(" name=", name),
-        Err(_) => Piece::Word(" badname"),
+        Ok(name) => lines.escaped(" name=", name, out),
+        Err(_) => lines.word(" badname", out),
     }
 }

@@ -2,12 +2,12 @@
 ghost use Rattle.std.specs.Prelude.{OnOk, length, ◌<◌, ◌^◌};
 ghost use Rattle.std.specs.Io.KnownBytes.{Appends};
 ghost use Rattle.elf_parts.specs.Note.{AbiTag, BuildId, Other, note_view, notes_left};
+ghost use Rattle.elfshow.specs.inner.Adding.{Adds};
 ghost use Rattle.elfshow.specs.lines.Counted.{counted_lines};
 ghost use Rattle.elfshow.specs.lines.Notes.{content_line, note_line};
 
+use crate::line_buffer::LineBuffer;
 use crate::lines::counted::{Line, write_list};
-use crate::pieces::Piece::{Bytes, Decimal, Escaped, Word};
-use crate::pieces::write_pieces;
 use elf::endian::EndianParse;
 use elf::note::{Note, NoteAny, NoteGnuAbiTag, NoteIterator};
 use std::io;
@@ -25,17 +25,18 @@ impl<'a> Line for NoteLine<'a> {
 
     ghost line = { λ by k note. note_line k (note_view note) };
 
-    fn write_line<W: Write>(&self, _k: u64, note: &Note<'a>, out: &mut W) -> io::Result<()> {
+    fn add_line<W: Write>(&self, _k: u64, note: &Note<'a>, lines: &mut LineBuffer, out: &mut W) {
         match note {
-            Note::GnuAbiTag(tag) => write_abi_tag(tag, out),
-            Note::GnuBuildId(id) => write_build_id(id.0, out),
-            Note::Unknown(note) => write_other(note, out),
+            Note::GnuAbiTag(tag) => add_abi_tag(tag, lines, out),
+            Note::GnuBuildId(id) => add_build_id(id.0, lines, out),
+            Note::Unknown(note) => add_other(note, lines, out),
         }
     }
 }
 
-fn write_abi_tag<W: Write>(tag: &NoteGnuAbiTag, out: &mut W) -> io::Result<()>
-    ensures { OnOk result (Appends (W.contents out.old) (W.contents out.new) (content_line (AbiTag tag.now))) }
+fn add_abi_tag<W: Write>(tag: &NoteGnuAbiTag, lines: &mut LineBuffer, out: &mut W)
+    ensures { Adds (W.contents out.old) lines.old (W.contents out.new) lines.new
+        (content_line (AbiTag tag.now)) }
 {
     let NoteGnuAbiTag {
         os,
@@ -43,33 +44,29 @@ fn write_abi_tag<W: Write>(tag: &NoteGnuAbiTag, out: &mut W) -> io::Result<()>
         minor,
         subminor,
     } = *tag;
-    let pieces = [
-        Decimal("abitag os=", os as u64),
-        Decimal(" major=", major as u64),
-        Decimal(" minor=", minor as u64),
-        Decimal(" subminor=", subminor as u64),
-        Word("\n"),
-    ];
-    write_pieces(&pieces, out)
+    lines.decimal("abitag os=", os as u64, out);
+    lines.decimal(" major=", major as u64, out);
+    lines.decimal(" minor=", minor as u64, out);
+    lines.decimal(" subminor=", subminor as u64, out);
+    lines.word("\n", out);
 }
 
-fn write_build_id<W: Write>(id: &[u8], out: &mut W) -> io::Result<()>
-    ensures { OnOk result (Appends (W.contents out.old) (W.contents out.new) (content_line (BuildId id.now))) }
+fn add_build_id<W: Write>(id: &[u8], lines: &mut LineBuffer, out: &mut W)
+    ensures { Adds (W.contents out.old) lines.old (W.contents out.new) lines.new
+        (content_line (BuildId id.now)) }
 {
-    write_pieces(&[Bytes("buildid hex=", id), Word("\n")], out)
+    lines.bytes("buildid hex=", id, out);
+    lines.word("\n", out);
 }
 
-fn write_other<W: Write>(note: &NoteAny<'_>, out: &mut W) -> io::Result<()>
-    ensures { OnOk result (Appends (W.contents out.old) (W.contents out.new)
-        (content_line (Other note.now.n_type note.now.name.now note.now.desc.now))) }
+fn add_other<W: Write>(note: &NoteAny<'_>, lines: &mut LineBuffer, out: &mut W)
+    ensures { Adds (W.contents out.old) lines.old (W.contents out.new) lines.new
+        (content_line (Other note.now.n_type note.now.name.now note.now.desc.now)) }
 {
-    let pieces = [
-        Decimal("note type=", note.n_type),
-        Escaped(" name=", note.name),
-        Bytes(" desc=", note.desc),
-        Word("\n"),
-    ];
-    write_pieces(&pieces, out)
+    lines.decimal("note type=", note.n_type, out);
+    lines.escaped(" name=", note.name, out);
+    lines.bytes(" desc=", note.desc, out);
+    lines.word("\n", out);
 }
 
 /// The lines of notes.

@@ -1,11 +1,12 @@
 //! The lines of relocations.
-ghost use Rattle.std.specs.Prelude.{OnOk};
-ghost use Rattle.std.specs.Io.KnownBytes.{Appends};
+ghost use Rattle.std.specs.Prelude.{codes, OnOk};
+ghost use Rattle.std.specs.Fmt.{decimal};
+ghost use Rattle.elfshow.specs.Pieces.{◌⧺◌, hex};
+ghost use Rattle.elfshow.specs.inner.Adding.{Adds};
 ghost use Rattle.elfshow.specs.lines.Relocations.{rel_line, rela_line};
 
+use crate::line_buffer::LineBuffer;
 use crate::lines::counted::Line;
-use crate::pieces::Piece::{Decimal, Hex, Signed, Word};
-use crate::pieces::write_pieces;
 use elf::relocation::{Rel, Rela};
 use std::io;
 use std::io::Write;
@@ -19,20 +20,15 @@ impl Line for RelLine {
 
     ghost line = { λ by. rel_line };
 
-    fn write_line<W: Write>(&self, k: u64, rel: &Rel, out: &mut W) -> io::Result<()> {
+    fn add_line<W: Write>(&self, k: u64, rel: &Rel, lines: &mut LineBuffer, out: &mut W) {
         let Rel {
             r_offset,
             r_sym,
             r_type,
         } = *rel;
-        let pieces = [
-            Decimal("rel ", k),
-            Hex(" offset=", r_offset),
-            Decimal(" sym=", r_sym as u64),
-            Decimal(" type=", r_type as u64),
-            Word("\n"),
-        ];
-        write_pieces(&pieces, out)
+        lines.decimal("rel ", k, out);
+        add_place_fields(r_offset, r_sym, r_type, lines, out);
+        lines.word("\n", out);
     }
 }
 
@@ -45,21 +41,32 @@ impl Line for RelaLine {
 
     ghost line = { λ by. rela_line };
 
-    fn write_line<W: Write>(&self, k: u64, rela: &Rela, out: &mut W) -> io::Result<()> {
+    fn add_line<W: Write>(&self, k: u64, rela: &Rela, lines: &mut LineBuffer, out: &mut W) {
         let Rela {
             r_offset,
             r_sym,
             r_type,
             r_addend,
         } = *rela;
-        let pieces = [
-            Decimal("rela ", k),
-            Hex(" offset=", r_offset),
-            Decimal(" sym=", r_sym as u64),
-            Decimal(" type=", r_type as u64),
-            Signed(" addend=", r_addend),
-            Word("\n"),
-        ];
-        write_pieces(&pieces, out)
+        lines.decimal("rela ", k, out);
+        add_place_fields(r_offset, r_sym, r_type, lines, out);
+        lines.signed(" addend=", r_addend, out);
+        lines.word("\n", out);
     }
+}
+
+// Adds the fields that both kinds of relocations have.
+fn add_place_fields<W: Write>(
+    r_offset: u64,
+    r_sym: u32,
+    r_type: u32,
+    lines: &mut LineBuffer,
+    out: &mut W,
+)
+    ensures { Adds (W.contents out.old) lines.old (W.contents out.new) lines.new
+        (codes " offset=" ⧺ hex r_offset ⧺ codes " sym=" ⧺ decimal r_sym ⧺ codes " type=" ⧺ decimal r_type) }
+{
+    lines.hex(" offset=", r_offset, out);
+    lines.decimal(" sym=", r_sym as u64, out);
+    lines.decimal(" type=", r_type as u64, out);
 }

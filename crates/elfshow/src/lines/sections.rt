@@ -2,13 +2,13 @@
 ghost use Rattle.std.specs.Prelude.{OnOk};
 ghost use Rattle.std.specs.Option.{option_map};
 ghost use Rattle.std.specs.Io.KnownBytes.{Appends};
+ghost use Rattle.elfshow.specs.inner.Adding.{Adds};
 ghost use Rattle.elf_parts.specs.StringTable.{strings_view};
 ghost use Rattle.elfshow.specs.lines.Sections.{found_line, place_fields, reading_fields, section_fields, section_line};
 
+use crate::line_buffer::LineBuffer;
 use crate::lines::counted::Line;
-use crate::lines::name::name_piece;
-use crate::pieces::Piece::{Decimal, Hex, Word};
-use crate::pieces::write_pieces;
+use crate::lines::name::add_name;
 use elf::section::SectionHeader;
 use elf::string_table::StringTable;
 use std::io;
@@ -25,25 +25,34 @@ impl Line for SectionLine<'_> {
 
     ghost line = { λ by. section_line (option_map strings_view by.names) };
 
-    fn write_line<W: Write>(&self, k: u64, section: &SectionHeader, out: &mut W) -> io::Result<()> {
-        let name = name_piece(self.names, section.sh_name);
-        write_pieces(&[Decimal("section ", k), name, Word(" ")], out)?;
-        write_section_fields(section, out)?;
-        writeln!(out)
+    fn add_line<W: Write>(
+        &self,
+        k: u64,
+        section: &SectionHeader,
+        lines: &mut LineBuffer,
+        out: &mut W,
+    ) {
+        lines.decimal("section ", k, out);
+        add_name(self.names, section.sh_name, lines, out);
+        lines.word(" ", out);
+        add_section_fields(section, lines, out);
+        lines.word("\n", out);
     }
 }
 
-/// The fields of a section header.
-pub(crate) fn write_section_fields<W: Write>(section: &SectionHeader, out: &mut W) -> io::Result<()>
-    ensures { OnOk result (Appends (W.contents out.old) (W.contents out.new) (section_fields section.now)) }
+/// Adds the fields of a section header.
+fn add_section_fields<W: Write>(section: &SectionHeader, lines: &mut LineBuffer, out: &mut W)
+    ensures { Adds (W.contents out.old) lines.old (W.contents out.new) lines.new
+        (section_fields section.now) }
 {
-    write_place_fields(section, out)?;
-    write_reading_fields(section, out)
+    add_place_fields(section, lines, out);
+    add_reading_fields(section, lines, out);
 }
 
 #[tactic(auto, unfolding(crate::specs::lines::Sections::place_fields))]
-fn write_place_fields<W: Write>(section: &SectionHeader, out: &mut W) -> io::Result<()>
-    ensures { OnOk result (Appends (W.contents out.old) (W.contents out.new) (place_fields section.now)) }
+fn add_place_fields<W: Write>(section: &SectionHeader, lines: &mut LineBuffer, out: &mut W)
+    ensures { Adds (W.contents out.old) lines.old (W.contents out.new) lines.new
+        (place_fields section.now) }
 {
     let SectionHeader {
         sh_name,
@@ -54,20 +63,18 @@ fn write_place_fields<W: Write>(section: &SectionHeader, out: &mut W) -> io::Res
         sh_size,
         ..
     } = *section;
-    let pieces = [
-        Decimal("nameoff=", sh_name as u64),
-        Decimal(" type=", sh_type as u64),
-        Hex(" flags=", sh_flags),
-        Hex(" addr=", sh_addr),
-        Decimal(" offset=", sh_offset),
-        Decimal(" size=", sh_size),
-    ];
-    write_pieces(&pieces, out)
+    lines.decimal("nameoff=", sh_name as u64, out);
+    lines.decimal(" type=", sh_type as u64, out);
+    lines.hex(" flags=", sh_flags, out);
+    lines.hex(" addr=", sh_addr, out);
+    lines.decimal(" offset=", sh_offset, out);
+    lines.decimal(" size=", sh_size, out);
 }
 
 #[tactic(auto, unfolding(crate::specs::lines::Sections::reading_fields))]
-fn write_reading_fields<W: Write>(section: &SectionHeader, out: &mut W) -> io::Result<()>
-    ensures { OnOk result (Appends (W.contents out.old) (W.contents out.new) (reading_fields section.now)) }
+fn add_reading_fields<W: Write>(section: &SectionHeader, lines: &mut LineBuffer, out: &mut W)
+    ensures { Adds (W.contents out.old) lines.old (W.contents out.new) lines.new
+        (reading_fields section.now) }
 {
     let SectionHeader {
         sh_link,
@@ -76,20 +83,19 @@ fn write_reading_fields<W: Write>(section: &SectionHeader, out: &mut W) -> io::R
         sh_entsize,
         ..
     } = *section;
-    let pieces = [
-        Decimal(" link=", sh_link as u64),
-        Decimal(" info=", sh_info as u64),
-        Decimal(" align=", sh_addralign),
-        Decimal(" entsize=", sh_entsize),
-    ];
-    write_pieces(&pieces, out)
+    lines.decimal(" link=", sh_link as u64, out);
+    lines.decimal(" info=", sh_info as u64, out);
+    lines.decimal(" align=", sh_addralign, out);
+    lines.decimal(" entsize=", sh_entsize, out);
 }
 
 /// The line of a section that was looked up by name.
 pub(crate) fn write_found<W: Write>(section: &SectionHeader, out: &mut W) -> io::Result<()>
     ensures { OnOk result (Appends (W.contents out.old) (W.contents out.new) (found_line section.now)) }
 {
-    write!(out, "found ")?;
-    write_section_fields(section, out)?;
-    writeln!(out)
+    let mut lines = LineBuffer::empty();
+    lines.word("found ", out);
+    add_section_fields(section, &mut lines, out);
+    lines.word("\n", out);
+    lines.end(out)
 }

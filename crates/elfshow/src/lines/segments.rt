@@ -1,11 +1,10 @@
 //! The lines of program headers.
 ghost use Rattle.std.specs.Prelude.{OnOk};
-ghost use Rattle.std.specs.Io.KnownBytes.{Appends};
+ghost use Rattle.elfshow.specs.inner.Adding.{Adds};
 ghost use Rattle.elfshow.specs.lines.Segments.{segment_line, segment_places, segment_sizes};
 
+use crate::line_buffer::LineBuffer;
 use crate::lines::counted::Line;
-use crate::pieces::Piece::{Decimal, Hex};
-use crate::pieces::write_pieces;
 use elf::segment::ProgramHeader;
 use std::io;
 use std::io::Write;
@@ -19,17 +18,24 @@ impl Line for SegmentLine {
 
     ghost line = { λ by. segment_line };
 
-    fn write_line<W: Write>(&self, k: u64, segment: &ProgramHeader, out: &mut W) -> io::Result<()> {
-        write_pieces(&[Decimal("segment ", k)], out)?;
-        write_segment_places(segment, out)?;
-        write_segment_sizes(segment, out)?;
-        writeln!(out)
+    fn add_line<W: Write>(
+        &self,
+        k: u64,
+        segment: &ProgramHeader,
+        lines: &mut LineBuffer,
+        out: &mut W,
+    ) {
+        lines.decimal("segment ", k, out);
+        add_segment_places(segment, lines, out);
+        add_segment_sizes(segment, lines, out);
+        lines.word("\n", out);
     }
 }
 
 #[tactic(auto, unfolding(crate::specs::lines::Segments::segment_places))]
-fn write_segment_places<W: Write>(segment: &ProgramHeader, out: &mut W) -> io::Result<()>
-    ensures { OnOk result (Appends (W.contents out.old) (W.contents out.new) (segment_places segment.now)) }
+fn add_segment_places<W: Write>(segment: &ProgramHeader, lines: &mut LineBuffer, out: &mut W)
+    ensures { Adds (W.contents out.old) lines.old (W.contents out.new) lines.new
+        (segment_places segment.now) }
 {
     let ProgramHeader {
         p_type,
@@ -39,19 +45,17 @@ fn write_segment_places<W: Write>(segment: &ProgramHeader, out: &mut W) -> io::R
         p_paddr,
         ..
     } = *segment;
-    let pieces = [
-        Decimal(" type=", p_type as u64),
-        Hex(" flags=", p_flags as u64),
-        Decimal(" offset=", p_offset),
-        Hex(" vaddr=", p_vaddr),
-        Hex(" paddr=", p_paddr),
-    ];
-    write_pieces(&pieces, out)
+    lines.decimal(" type=", p_type as u64, out);
+    lines.hex(" flags=", p_flags as u64, out);
+    lines.decimal(" offset=", p_offset, out);
+    lines.hex(" vaddr=", p_vaddr, out);
+    lines.hex(" paddr=", p_paddr, out);
 }
 
 #[tactic(auto, unfolding(crate::specs::lines::Segments::segment_sizes))]
-fn write_segment_sizes<W: Write>(segment: &ProgramHeader, out: &mut W) -> io::Result<()>
-    ensures { OnOk result (Appends (W.contents out.old) (W.contents out.new) (segment_sizes segment.now)) }
+fn add_segment_sizes<W: Write>(segment: &ProgramHeader, lines: &mut LineBuffer, out: &mut W)
+    ensures { Adds (W.contents out.old) lines.old (W.contents out.new) lines.new
+        (segment_sizes segment.now) }
 {
     let ProgramHeader {
         p_filesz,
@@ -59,10 +63,7 @@ fn write_segment_sizes<W: Write>(segment: &ProgramHeader, out: &mut W) -> io::Re
         p_align,
         ..
     } = *segment;
-    let pieces = [
-        Decimal(" filesz=", p_filesz),
-        Decimal(" memsz=", p_memsz),
-        Decimal(" align=", p_align),
-    ];
-    write_pieces(&pieces, out)
+    lines.decimal(" filesz=", p_filesz, out);
+    lines.decimal(" memsz=", p_memsz, out);
+    lines.decimal(" align=", p_align, out);
 }

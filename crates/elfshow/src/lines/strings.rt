@@ -2,12 +2,12 @@
 ghost use Rattle.std.specs.Prelude.{OnOk, length};
 ghost use Rattle.std.specs.Io.KnownBytes.{Appends};
 ghost use Rattle.elf_parts.specs.StringTable.{strings_view};
+ghost use Rattle.elfshow.specs.inner.Adding.{Adds};
 ghost use Rattle.elfshow.specs.lines.Counted.{counted_lines};
 ghost use Rattle.elfshow.specs.lines.Strings.{string_line, strings_of};
 
+use crate::line_buffer::LineBuffer;
 use crate::lines::counted::write_end;
-use crate::pieces::Piece::{Decimal, Escaped, Word};
-use crate::pieces::write_pieces;
 use elf::string_table::StringTable;
 use std::io;
 use std::io::Write;
@@ -17,23 +17,26 @@ pub(crate) fn write_strings<W: Write>(strings: StringTable<'_>, out: &mut W) -> 
     ensures { OnOk result (Appends (W.contents out.old) (W.contents out.new)
         (counted_lines string_line (strings_of (strings_view strings.entry)))) }
 {
+    let mut lines = LineBuffer::empty();
     let mut offset = 0;
     let mut count = 0;
     while let Ok(string) = strings.get_raw(offset) {
-        write_string(offset, string, out)?;
+        add_string(offset, string, &mut lines, out);
+        if lines.has_failed() {
+            return lines.end(out);
+        }
         offset += string.len() + 1;
         count += 1;
     }
+    lines.end(out)?;
     write_end(count, out)
 }
 
-fn write_string<W: Write>(offset: usize, string: &[u8], out: &mut W) -> io::Result<()>
-    ensures { OnOk result (Appends (W.contents out.old) (W.contents out.new) (string_line 0 (offset, string.now))) }
+fn add_string<W: Write>(offset: usize, string: &[u8], lines: &mut LineBuffer, out: &mut W)
+    ensures { Adds (W.contents out.old) lines.old (W.contents out.new) lines.new
+        (string_line 0 (offset, string.now)) }
 {
-    let pieces = [
-        Decimal("string ", offset as u64),
-        Escaped(" name=", string),
-        Word("\n"),
-    ];
-    write_pieces(&pieces, out)
+    lines.decimal("string ", offset as u64, out);
+    lines.escaped(" name=", string, out);
+    lines.word("\n", out);
 }

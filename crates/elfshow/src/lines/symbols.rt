@@ -1,15 +1,12 @@
 //! The lines of symbols.
-ghost use Rattle.std.specs.Prelude.{codes, OnOk};
-ghost use Rattle.std.specs.Fmt.{decimal};
-ghost use Rattle.std.specs.Io.KnownBytes.{Appends};
+ghost use Rattle.std.specs.Prelude.{OnOk};
 ghost use Rattle.elf_parts.specs.StringTable.{strings_view};
-ghost use Rattle.elfshow.specs.Pieces.{◌⧺◌, newline, piece_text};
 ghost use Rattle.elfshow.specs.lines.Symbols.{symbol_fields, symbol_line};
+ghost use Rattle.elfshow.specs.inner.Adding.{Adds};
 
+use crate::line_buffer::LineBuffer;
 use crate::lines::counted::Line;
-use crate::lines::name::name_piece_in;
-use crate::pieces::Piece::{self, Decimal, Hex, Word};
-use crate::pieces::write_pieces;
+use crate::lines::name::add_name_in;
 use elf::string_table::StringTable;
 use elf::symbol::Symbol;
 use std::io;
@@ -26,26 +23,23 @@ impl Line for SymbolLine<'_> {
 
     ghost line = { λ by. symbol_line (strings_view by.strings) };
 
-    fn write_line<W: Write>(&self, k: u64, symbol: &Symbol, out: &mut W) -> io::Result<()> {
-        write_symbol(k, name_piece_in(self.strings, symbol.st_name), symbol, out)
+    fn add_line<W: Write>(&self, k: u64, symbol: &Symbol, lines: &mut LineBuffer, out: &mut W) {
+        lines.decimal("symbol ", k, out);
+        add_name_in(self.strings, symbol.st_name, lines, out);
+        add_symbol_fields(symbol, lines, out);
+        lines.word("\n", out);
     }
 }
 
 #[tactic(auto, unfolding(crate::specs::lines::Symbols::symbol_fields))]
-fn write_symbol<W: Write>(k: u64, name: Piece<'_>, symbol: &Symbol, out: &mut W) -> io::Result<()>
-    ensures { OnOk result (Appends (W.contents out.old) (W.contents out.new)
-        (codes "symbol " ⧺ decimal k ⧺ piece_text name.entry ⧺ symbol_fields symbol.now ⧺ newline)) }
+fn add_symbol_fields<W: Write>(symbol: &Symbol, lines: &mut LineBuffer, out: &mut W)
+    ensures { Adds (W.contents out.old) lines.old (W.contents out.new) lines.new
+        (symbol_fields symbol.now) }
 {
-    let pieces = [
-        Decimal("symbol ", k),
-        name,
-        Hex(" value=", symbol.st_value),
-        Decimal(" size=", symbol.st_size),
-        Decimal(" bind=", symbol.st_bind() as u64),
-        Decimal(" type=", symbol.st_symtype() as u64),
-        Decimal(" other=", symbol.st_vis() as u64),
-        Decimal(" shndx=", symbol.st_shndx as u64),
-        Word("\n"),
-    ];
-    write_pieces(&pieces, out)
+    lines.hex(" value=", symbol.st_value, out);
+    lines.decimal(" size=", symbol.st_size, out);
+    lines.decimal(" bind=", symbol.st_bind() as u64, out);
+    lines.decimal(" type=", symbol.st_symtype() as u64, out);
+    lines.decimal(" other=", symbol.st_vis() as u64, out);
+    lines.decimal(" shndx=", symbol.st_shndx as u64, out);
 }

@@ -5,10 +5,11 @@ ghost use Rattle.std.specs.Io.KnownBytes.{Appends};
 ghost use Rattle.elf_parts.specs.gnu_symver.Table.{definition, definition_view, names_left, requirement, versions_view};
 ghost use Rattle.elfshow.specs.lines.Versions.{def_field, need_field, needed_texts, text_shown, version_fields};
 ghost use Rattle.elfshow.specs.lines.Versions.{version_line, version_name, version_names, versions_listed};
+ghost use Rattle.elfshow.specs.inner.Adding.{Adds};
 ghost use Rattle.elfshow.specs.inner.VersionPlaces.{has_index_from, is_index_from};
 
+use crate::line_buffer::LineBuffer;
 use crate::lines::counted::write_end;
-use crate::pieces::write_escaped;
 use elf::ParseError;
 use elf::endian::EndianParse;
 use elf::gnu_symver::{
@@ -118,115 +119,118 @@ fn write_placed<E: EndianParse, W: Write>(
 ) -> io::Result<()>
     ensures { OnOk result (Appends (W.contents out.old) (W.contents out.new) (versions_listed symbols versions.now)) }
 {
+    let mut lines = LineBuffer::empty();
     for symbol in 0..symbols {
-        write_version(symbol, versions, out)?;
+        add_version(symbol, versions, &mut lines, out);
+        if lines.has_failed() {
+            return lines.end(out);
+        }
     }
+    lines.end(out)?;
     write_end(symbols as u64, out)
 }
 
-fn write_version<E: EndianParse, W: Write>(
+fn add_version<E: EndianParse, W: Write>(
     symbol: usize,
     versions: &PlacedVersions<'_, '_, E>,
+    lines: &mut LineBuffer,
     out: &mut W,
-) -> io::Result<()>
-    ensures { OnOk result (Appends (W.contents out.old) (W.contents out.new) (version_line versions.now symbol)) }
+)
+    ensures { Adds (W.contents out.old) lines.old (W.contents out.new) lines.new (version_line versions.now symbol) }
 {
-    write!(out, "version {symbol} ")?;
-    write_need(symbol, versions, out)?;
-    write!(out, " ")?;
-    write_def(symbol, versions, out)?;
-    writeln!(out)
+    lines.decimal("version ", symbol as u64, out);
+    lines.word(" ", out);
+    add_need(symbol, versions, lines, out);
+    lines.word(" ", out);
+    add_def(symbol, versions, lines, out);
+    lines.word("\n", out);
 }
 
-fn write_need<E: EndianParse, W: Write>(
+fn add_need<E: EndianParse, W: Write>(
     symbol: usize,
     versions: &PlacedVersions<'_, '_, E>,
+    lines: &mut LineBuffer,
     out: &mut W,
-) -> io::Result<()>
-    ensures { OnOk result (Appends (W.contents out.old) (W.contents out.new)
-        (need_field (requirement versions.now symbol))) }
+)
+    ensures { Adds (W.contents out.old) lines.old (W.contents out.new) lines.new
+        (need_field (requirement versions.now symbol)) }
 {
     match versions.get_requirement(symbol) {
-        Ok(Some(needed)) => write_needed(&needed, out),
-        Ok(None) => write!(out, "noneed"),
-        Err(_) => write!(out, "badneed"),
+        Ok(Some(needed)) => add_needed(&needed, lines, out),
+        Ok(None) => lines.word("noneed", out),
+        Err(_) => lines.word("badneed", out),
     }
 }
 
-fn write_needed<W: Write>(needed: &SymbolRequirement<'_>, out: &mut W) -> io::Result<()>
-    ensures { OnOk result (Appends (W.contents out.old) (W.contents out.new)
-        (needed_texts needed.now.file.now needed.now.name.now needed.now.hash needed.now.flags needed.now.hidden)) }
+fn add_needed<W: Write>(needed: &SymbolRequirement<'_>, lines: &mut LineBuffer, out: &mut W)
+    ensures { Adds (W.contents out.old) lines.old (W.contents out.new) lines.new
+        (needed_texts needed.now.file.now needed.now.name.now needed.now.hash needed.now.flags needed.now.hidden) }
 {
-    write!(out, "need file=")?;
-    write_escaped(needed.file.as_bytes(), out)?;
-    write!(out, " name=")?;
-    write_escaped(needed.name.as_bytes(), out)?;
-    write_version_fields(needed.hash, needed.flags, needed.hidden, out)
+    lines.escaped("need file=", needed.file.as_bytes(), out);
+    lines.escaped(" name=", needed.name.as_bytes(), out);
+    add_version_fields(needed.hash, needed.flags, needed.hidden, lines, out);
 }
 
-fn write_version_fields<W: Write>(
+fn add_version_fields<W: Write>(
     hash: u32,
     flags: u16,
     hidden: bool,
+    lines: &mut LineBuffer,
     out: &mut W,
-) -> io::Result<()>
-    ensures { OnOk result (Appends (W.contents out.old) (W.contents out.new) (version_fields hash flags hidden)) }
+)
+    ensures { Adds (W.contents out.old) lines.old (W.contents out.new) lines.new (version_fields hash flags hidden) }
 {
-    write!(out, " hash=0x{hash:x} flags={flags}")?;
-    if hidden {
-        write!(out, " hidden=1")
-    } else {
-        write!(out, " hidden=0")
-    }
+    lines.hex(" hash=", hash as u64, out);
+    lines.decimal(" flags=", flags as u64, out);
+    lines.word(if hidden { " hidden=1" } else { " hidden=0" }, out);
 }
 
-fn write_def<E: EndianParse, W: Write>(
+fn add_def<E: EndianParse, W: Write>(
     symbol: usize,
     versions: &PlacedVersions<'_, '_, E>,
+    lines: &mut LineBuffer,
     out: &mut W,
-) -> io::Result<()>
-    ensures { OnOk result (Appends (W.contents out.old) (W.contents out.new)
-        (def_field (definition versions.now symbol))) }
+)
+    ensures { Adds (W.contents out.old) lines.old (W.contents out.new) lines.new
+        (def_field (definition versions.now symbol)) }
 {
     match versions.get_definition(symbol) {
-        Ok(Some(found)) => write_found_def(found, out),
-        Ok(None) => write!(out, "nodef"),
-        Err(_) => write!(out, "baddef"),
+        Ok(Some(found)) => add_found_def(found, lines, out),
+        Ok(None) => lines.word("nodef", out),
+        Err(_) => lines.word("baddef", out),
     }
 }
 
-fn write_found_def<E: EndianParse, W: Write>(
+fn add_found_def<E: EndianParse, W: Write>(
     found: SymbolDefinition<'_, E>,
+    lines: &mut LineBuffer,
     out: &mut W,
-) -> io::Result<()>
-    ensures { OnOk result (Appends (W.contents out.old) (W.contents out.new)
-        (def_field (Ok (Some (definition_view found.entry))))) }
+)
+    ensures { Adds (W.contents out.old) lines.old (W.contents out.new) lines.new
+        (def_field (Ok (Some (definition_view found.entry)))) }
 {
-    write!(out, "def")?;
-    write_version_fields(found.hash, found.flags, found.hidden, out)?;
-    write_version_names(found.names, out)
+    lines.word("def", out);
+    add_version_fields(found.hash, found.flags, found.hidden, lines, out);
+    add_version_names(found.names, lines, out);
 }
 
-fn write_version_names<E: EndianParse, W: Write>(
+fn add_version_names<E: EndianParse, W: Write>(
     names: SymbolNamesIterator<'_, E>,
+    lines: &mut LineBuffer,
     out: &mut W,
-) -> io::Result<()>
-    ensures { OnOk result (Appends (W.contents out.old) (W.contents out.new) (version_names (names_left names.entry))) }
+)
+    ensures { Adds (W.contents out.old) lines.old (W.contents out.new) lines.new (version_names (names_left names.entry)) }
 {
     for name in names {
-        write_version_name(name, out)?;
+        add_version_name(name, lines, out);
     }
-    Ok(())
 }
 
-fn write_version_name<W: Write>(name: Result<&str, ParseError>, out: &mut W) -> io::Result<()>
-    ensures { OnOk result (Appends (W.contents out.old) (W.contents out.new) (version_name (text_shown name.entry))) }
+fn add_version_name<W: Write>(name: Result<&str, ParseError>, lines: &mut LineBuffer, out: &mut W)
+    ensures { Adds (W.contents out.old) lines.old (W.contents out.new) lines.new (version_name (text_shown name.entry)) }
 {
     match name {
-        Ok(name) => {
-            write!(out, " name=")?;
-            write_escaped(name.as_bytes(), out)
-        }
-        Err(_) => write!(out, " badname"),
+        Ok(name) => lines.escaped(" name=", name.as_bytes(), out),
+        Err(_) => lines.word(" badname", out),
     }
 }

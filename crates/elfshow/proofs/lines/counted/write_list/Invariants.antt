@@ -1,14 +1,14 @@
-use Rattle.std.proofs.Common.{◌≡◌, ◌+◌, ◌≤◌, length}
-use Rattle.std.specs.Io.KnownBytes.{Appends}
+use Rattle.std.proofs.Common.{◌≡◌, ◌+◌, ◌≤◌, [], Some, length}
 use Rattle.std.specs.Iterator.{size}
+use Rattle.elfshow.specs.inner.Adding.{Adds}
 use Rattle.elfshow.specs.lines.Counted.{numbered}
 use Rattle.elfshow.proofs.lines.counted.write_list.Given as goal
 
--- what was written so far is the lines of the items so far
+-- what was added so far is the lines of the items so far
 abbrev pub invariant-loop-item : goal.invariant-loop-item
 invariant-loop-item g l =
     (l.count ≡ length l.yielded)
     × (l.count + size (g.I.Iterator.remaining l.item-iterator) ≤ size (g.I.Iterator.remaining l.fn.items))
-    × Appends (g.W.Write.contents l.initial.out) (g.W.Write.contents l.out) (numbered (g.L.Line.line l.line) 0 l.yielded)
+    × Adds (g.W.Write.contents l.initial.out) (Some []) (g.W.Write.contents l.out) l.lines (numbered (g.L.Line.line l.line) 0 l.yielded)
     × (goal.iterator-loop-item g).can_next l.item-iterator
     × (goal.iterator-loop-item g).is_finite l.item-iterator

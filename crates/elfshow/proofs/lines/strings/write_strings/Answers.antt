@@ -1,9 +1,10 @@
-use Rattle.std.proofs.Common.{rules, ◌≡◌, ◌+◌, ◌<◌, length, Ok, Err, subst, arith}
+use Rattle.std.proofs.Common.{rules, ◌≡◌, ◌+◌, ◌<◌, length, [], Some, Ok, Err, subst, arith}
 use Rattle.elf_parts.specs.StringTable.{string_at, strings_view}
 use Rattle.elfshow.specs.lines.Counted.{counted_lines}
 use Rattle.elfshow.specs.lines.Strings.{string_line, strings_of}
 use Rattle.elfshow.proofs.StringWalk.{string_lies, text_end, text_left, text_step}
-use Rattle.elfshow.proofs.Writing.{Leaves, leaves_last, leaves_less}
+use Rattle.elfshow.proofs.Adding.{Leads, adds_more, lines_before}
+use Rattle.elfshow.proofs.Writing.{leaves_last}
 use Rattle.elfshow.proofs.lines.strings.write_strings.Goals as goal
 
 pub loop-string-smaller : goal.loop-string-smaller
@@ -27,8 +28,8 @@ loop-string-preserved g c =
     let lies = string_lies bytes offset string read in
     let behind : offset + (length string + 1) ≡ offset + length string + 1 = omega arith in
     let less : count < length bytes = omega (arith, lies, before.0) in
-    let step = subst (λ t. Leaves (contents c.args.out.now) (contents c.loop-string.out) t whole) (text_step bytes count offset string less read) before.2 in
-    let text = leaves_less _ _ _ (string_line 0 (offset, string)) (text_left bytes (count + 1) (offset + length string + 1)) whole step c.in_ok-write_string.ensures in
+    let step = subst (λ t. Leads (contents c.args.out.now) (Some []) (contents c.loop-string.out) c.loop-string.lines t whole) (text_step bytes count offset string less read) before.2 in
+    let text = adds_more (contents c.args.out.now) (Some []) (contents c.loop-string.out) c.loop-string.lines _ _ (string_line 0 (offset, string)) (text_left bytes (count + 1) (offset + length string + 1)) whole step c.add_string.ensures in
     (omega (arith, before.0), omega (arith, lies), rw behind text)
 
 pub returns : goal.returns
@@ -39,5 +40,5 @@ returns g c =
     let count = c.loop-string.count in
     let whole = counted_lines string_line (strings_of bytes) in
     let ended : string_at bytes offset ≡ Err c.in_default.field-0 = search rules in
-    let left = subst (λ t. Leaves (contents c.args.out.now) (contents c.loop-string.out) t whole) (text_end bytes count offset _ ended) c.loop-string.invariant.2 in
-    leaves_last c.write_end.result _ _ _ _ whole left c.write_end.ensures
+    let left = subst (λ t. Leads (contents c.args.out.now) (Some []) (contents c.loop-string.out) c.loop-string.lines t whole) (text_end bytes count offset _ ended) c.loop-string.invariant.2 in
+    leaves_last c.write_end.result _ _ _ _ whole (lines_before _ _ _ _ _ whole left c.in_ok-end.ensures) c.write_end.ensures

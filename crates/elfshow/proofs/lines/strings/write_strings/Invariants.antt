@@ -1,9 +1,9 @@
-use Rattle.std.proofs.Common.{◌≤◌, ◌-◌, length}
+use Rattle.std.proofs.Common.{◌≤◌, ◌-◌, [], Some, length}
 use Rattle.elf_parts.specs.StringTable.{strings_view}
 use Rattle.elfshow.specs.lines.Counted.{counted_lines}
 use Rattle.elfshow.specs.lines.Strings.{string_line, strings_of}
 use Rattle.elfshow.proofs.StringWalk.{text_left}
-use Rattle.elfshow.proofs.Writing.{Leaves}
+use Rattle.elfshow.proofs.Adding.{Leads}
 use Rattle.elfshow.proofs.lines.strings.write_strings.Given as goal
 
 -- what was written so far, and then what is left, is the text of all strings
@@ -11,7 +11,7 @@ abbrev pub invariant-loop-string : goal.invariant-loop-string
 invariant-loop-string g l =
     let bytes = strings_view l.fn.strings in
     (l.count ≤ l.offset) × (l.offset ≤ length bytes)
-    × Leaves (g.W.Write.contents l.initial.out) (g.W.Write.contents l.out) (text_left bytes l.count l.offset) (counted_lines string_line (strings_of bytes))
+    × Leads (g.W.Write.contents l.initial.out) (Some []) (g.W.Write.contents l.out) l.lines (text_left bytes l.count l.offset) (counted_lines string_line (strings_of bytes))
 
 -- the bytes that are left
 abbrev pub decreases-loop-string : goal.decreases-loop-string
