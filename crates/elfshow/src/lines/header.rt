@@ -106,9 +106,16 @@ fn add_file_fields<E: EndianParse, W: Write>(
     lines.decimal(" type=", e_type as u64, out);
     lines.decimal(" machine=", e_machine as u64, out);
     lines.hex(" entry=", e_entry, out);
+    add_table_places(e_phoff, e_shoff, lines, out);
+    lines.hex(" flags=", e_flags as u64, out);
+}
+
+fn add_table_places<W: Write>(e_phoff: u64, e_shoff: u64, lines: &mut LineBuffer, out: &mut W)
+    ensures { Adds (W.contents out.old) lines.old (W.contents out.new) lines.new
+        (codes " phoff=" ⧺ decimal e_phoff ⧺ codes " shoff=" ⧺ decimal e_shoff) }
+{
     lines.decimal(" phoff=", e_phoff, out);
     lines.decimal(" shoff=", e_shoff, out);
-    lines.hex(" flags=", e_flags as u64, out);
 }
 
 #[tactic(auto, unfolding(crate::specs::lines::Header::size_fields))]

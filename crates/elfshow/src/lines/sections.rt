@@ -1,5 +1,7 @@
 //! The lines of section headers.
-ghost use Rattle.std.specs.Prelude.{OnOk};
+ghost use Rattle.std.specs.Prelude.{codes, OnOk};
+ghost use Rattle.std.specs.Fmt.{decimal};
+ghost use Rattle.elfshow.specs.Pieces.{◌⧺◌};
 ghost use Rattle.std.specs.Option.{option_map};
 ghost use Rattle.std.specs.Io.KnownBytes.{Appends};
 ghost use Rattle.elfshow.specs.inner.Adding.{Adds};
@@ -67,6 +69,13 @@ fn add_place_fields<W: Write>(section: &SectionHeader, lines: &mut LineBuffer, o
     lines.decimal(" type=", sh_type as u64, out);
     lines.hex(" flags=", sh_flags, out);
     lines.hex(" addr=", sh_addr, out);
+    add_range(sh_offset, sh_size, lines, out);
+}
+
+fn add_range<W: Write>(sh_offset: u64, sh_size: u64, lines: &mut LineBuffer, out: &mut W)
+    ensures { Adds (W.contents out.old) lines.old (W.contents out.new) lines.new
+        (codes " offset=" ⧺ decimal sh_offset ⧺ codes " size=" ⧺ decimal sh_size) }
+{
     lines.decimal(" offset=", sh_offset, out);
     lines.decimal(" size=", sh_size, out);
 }
