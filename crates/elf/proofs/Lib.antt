@@ -1,5 +1,5 @@
 pub mod Left
-pub mod VersionChoice
+mod VersionChoice
 pub mod CommonPass
 pub mod Alike
 pub mod Same

@@ -1,4 +1,7 @@
 //! How both readers choose among the headers of a file.
+//!
+//! `ElfBytes` and `ElfStream` implement the trait `Headers`. A stream has its headers in lists, so none of these calls
+//! reads its source.
 ghost use Rattle.std.specs.Prelude.{◌≡◌, ◌&&◌, IfErr, is_some};
 ghost use Rattle.elf_parts.specs.StringTable.{strings_view};
 ghost use Rattle.elf.specs.Answers.{symbol_sections, with_linked};
@@ -17,11 +20,11 @@ use elf_parts::string_table::StringTable;
 use elf_parts::symbol::Symbol;
 
 /// A section, and the section that its `sh_link` names.
-pub(crate) type LinkedSections = (SectionHeader, SectionHeader);
+pub type LinkedSections = (SectionHeader, SectionHeader);
 
-/// The headers of a file, in a table or in a list. To choose among them reads no byte of the file, so it needs neither
-/// a source nor memory.
-pub(crate) trait Headers {
+/// The headers of a file, in a table or in a list. To choose among them reads no other byte of the file, so it needs
+/// neither a source nor memory.
+pub trait Headers {
     // The object file that has these headers.
     ghost file: { Self → ObjectFile };
 
@@ -37,16 +40,17 @@ pub(crate) trait Headers {
     fn declares_sections(&self) -> bool
         ensures { result ≡ (file self.now).has_sections };
 
-    /// The section header of an index.
+    /// The section header of an index. If there is none, the error is that of `get` of the table in an `ElfBytes`, and
+    /// `BadOffset(index)` in a stream or without a table.
     fn section_at(&self, index: usize) -> Result<SectionHeader, ParseError>
         ensures value { result ≡ (file self.now).section_at index }
         ensures plain { IfErr result (λ e. kind e ≡ Kind.Refusal) };
 
-    /// The first section of a type.
+    /// The first section of a type, if there is one.
     fn first_section_of(&self, sh_type: u32) -> Option<SectionHeader>
         ensures { result ≡ first_section_of sh_type (file self.now).sections };
 
-    /// The first segment of a type.
+    /// The first segment of a type, if there is one.
     fn first_segment_of(&self, p_type: u32) -> Option<ProgramHeader>
         ensures { result ≡ first_segment_of p_type (file self.now).segments };
 
@@ -54,7 +58,8 @@ pub(crate) trait Headers {
     fn version_sections(&self) -> VersionSections
         ensures { result ≡ version_sections (file self.now).sections };
 
-    /// The index of the section that holds the names of the sections.
+    /// The index of the section that holds the names of the sections: `e_shstrndx`, or `sh_link` of section 0 if
+    /// `e_shstrndx` is `SHN_XINDEX`. The error is that of `section_at(0)`.
     fn name_index(&self) -> Result<usize, ParseError>
         ensures value { result ≡ name_index (file self.now) }
         ensures plain { IfErr result (λ e. kind e ≡ Kind.Refusal) }
@@ -67,7 +72,8 @@ pub(crate) trait Headers {
         }
     }
 
-    /// The section that holds the names of the sections, or `None` if the file has no names.
+    /// The section that holds the names of the sections, or `None` if the file declares no sections or `e_shstrndx` is
+    /// `SHN_UNDEF`. The errors are those of `name_index` and of `section_at`, in this order.
     #[tactic(auto, unfolding(crate::specs::Names::name_section))]
     fn name_section(&self) -> Result<Option<SectionHeader>, ParseError>
         ensures value { result ≡ name_section (file self.now) }
@@ -80,7 +86,8 @@ pub(crate) trait Headers {
         self.section_at(index).map(Some)
     }
 
-    /// A section of symbols, and the section of their strings, which its `sh_link` names.
+    /// A section of symbols, and the section of their strings, which its `sh_link` names. Errors, in order: that of
+    /// `section_at(sh_link)`, and `BadEntsize` if `sh_entsize` is not the size of a symbol.
     fn with_linked(&self, shdr: &SectionHeader) -> Result<LinkedSections, ParseError>
         ensures value { result ≡ with_linked (file self.now) shdr.now }
         ensures plain { IfErr result (λ e. kind e ≡ Kind.Refusal) }
@@ -90,7 +97,8 @@ pub(crate) trait Headers {
         Ok((*shdr, linked))
     }
 
-    /// The first section of a type of symbols, and the section that its `sh_link` names.
+    /// The first section of a type of symbols, and the section that its `sh_link` names; `None` if no section has the
+    /// type. The errors are those of `with_linked`.
     fn symbol_sections(&self, sh_type: u32) -> Result<Option<LinkedSections>, ParseError>
         ensures value { result ≡ symbol_sections sh_type (file self.now) }
         ensures plain { IfErr result (λ e. kind e ≡ Kind.Refusal) }
@@ -102,12 +110,15 @@ pub(crate) trait Headers {
     }
 }
 
-// The sections with the versions of symbols.
+/// The sections with the versions of symbols.
 #[derive(Copy, Clone)]
-pub(crate) struct VersionSections {
-    pub(crate) indexes: Option<SectionHeader>,
-    pub(crate) needs: Option<SectionHeader>,
-    pub(crate) definitions: Option<SectionHeader>,
+pub struct VersionSections {
+    /// The version indexes of the symbols (`SHT_GNU_VERSYM`).
+    pub indexes: Option<SectionHeader>,
+    /// The versions that are needed of other files (`SHT_GNU_VERNEED`).
+    pub needs: Option<SectionHeader>,
+    /// The versions that the file defines (`SHT_GNU_VERDEF`).
+    pub definitions: Option<SectionHeader>,
 }
 
 impl VersionSections {

@@ -11,7 +11,7 @@ pub use elf_parts::{
 
 mod elf_bytes;
 mod elf_stream;
-mod headers;
+pub mod headers;
 mod leading;
 pub mod readers;
 mod source;

@@ -9,7 +9,6 @@ ghost use Rattle.elf_uses.specs.Bindings.{IsBound, is_reference};
 pub mod library;
 pub mod lines;
 pub mod reading;
-pub mod sections;
 
 use elf::abi;
 use elf::endian::EndianParse;

@@ -1,10 +1,8 @@
 //! The checked hash table of a file, and the look-up of a name over such tables.
-ghost use Rattle.std.specs.Prelude.{◌≡◌, Some};
+ghost use Rattle.std.specs.Prelude.{◌≡◌};
 ghost use Rattle.elf_parts.specs.Number.{ok_map};
-ghost use Rattle.elf_parts.specs.Table.{table_view};
-ghost use Rattle.elf.specs.Headers.{first_section_of};
 ghost use Rattle.elf.specs.ObjectFile.{object_file};
-ghost use Rattle.elf.specs.ElfBytes.{section_list, view};
+ghost use Rattle.elf.specs.ElfBytes.{view};
 ghost use Rattle.elf_check.specs.CheckedTable.{object_view};
 ghost use Rattle.elf_check.specs.ObjectTable.{GivesObjectTable, GivesTable, object_of, parts_view, section_object};
 ghost use Rattle.elf_check.specs.ObjectTable.{section_parts};
@@ -13,36 +11,14 @@ ghost use Rattle.elf_check.specs.Resolve.{IsResolved};
 use crate::hashcheck::{AnyChecked, Checked, HashSection, check_any};
 use crate::resolve::ObjectFault;
 use elf::endian::EndianParse;
-use elf::section::{SectionHeader, SectionHeaderTable};
+use elf::headers::Headers;
+use elf::section::SectionHeader;
 use elf::string_table::StringTable;
 use elf::symbol::{Symbol, SymbolTable};
 use elf::{ElfBytes, abi};
 
 // The bytes of a section, and the dynamic symbols with their strings.
 type SectionParts<'data, E> = (&'data [u8], (SymbolTable<'data, E>, StringTable<'data>));
-
-// The first section header of a type.
-fn first_section_in<E: EndianParse>(
-    sections: SectionHeaderTable<'_, E>,
-    sh_type: u32,
-) -> Option<SectionHeader>
-    ensures { result ≡ first_section_of sh_type (section_list (Some (table_view sections.entry))) }
-{
-    for section in sections {
-        if section.sh_type == sh_type {
-            return Some(section);
-        }
-    }
-    None
-}
-
-// The first section of a type, if the file has one.
-fn first_section_of<E: EndianParse>(file: &ElfBytes<'_, E>, sh_type: u32) -> Option<SectionHeader>
-    ensures { result ≡ first_section_of sh_type (section_list (view file.now).sections) }
-{
-    let sections = file.section_headers()?;
-    first_section_in(sections, sh_type)
-}
 
 // What a section is checked with.
 fn section_parts<'data, E: EndianParse>(
@@ -87,10 +63,10 @@ pub fn object_table<'data, E: EndianParse>(
 ) -> Result<Option<AnyChecked<'data, E>>, ObjectFault>
     ensures { GivesObjectTable object_view (object_of (object_file E.little (view file.now))) result }
 {
-    if let Some(section) = first_section_of(file, abi::SHT_GNU_HASH) {
+    if let Some(section) = file.first_section_of(abi::SHT_GNU_HASH) {
         return Ok(Some(section_table(file, HashSection::Gnu, &section)?));
     }
-    if let Some(section) = first_section_of(file, abi::SHT_HASH) {
+    if let Some(section) = file.first_section_of(abi::SHT_HASH) {
         return Ok(Some(section_table(file, HashSection::Sysv, &section)?));
     }
     Ok(None)

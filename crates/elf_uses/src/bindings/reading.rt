@@ -1,14 +1,12 @@
 //! Reading a library from a stream.
 ghost use Rattle.std.specs.Prelude.{◌≡◌, IfErr, IfOk, IfSome, Some};
 ghost use Rattle.std.specs.Option.{option_map};
-ghost use Rattle.elf_abi.specs.Values.{sht_dynsym};
 ghost use Rattle.elf_parts.specs.Number.{ok_map};
-ghost use Rattle.elf.specs.Answers.{dynamic_symbol_table, symbol_sections, symbol_version_table};
+ghost use Rattle.elf.specs.Answers.{dynamic_symbol_table, symbol_version_table};
 ghost use Rattle.elf.specs.Answers.{symbols_in as symbols_in_file};
 ghost use Rattle.elf.specs.Data.{content};
 ghost use Rattle.elf.specs.ElfStream.{Keeps, Kind, kind};
 ghost use Rattle.elf.specs.Headers.{if_found, section_range};
-ghost use Rattle.elf.specs.Ranges.{headers_alone};
 ghost use Rattle.elf.specs.StreamFile.{stream_file};
 ghost use Rattle.elf.specs.Versions.{linked_strings, version_definitions, version_needs};
 ghost use Rattle.elf_uses.specs.Library.{definitions_in, hash_in, hash_of, hash_section, needs_in, symbols_in};
@@ -16,11 +14,10 @@ ghost use Rattle.elf_uses.specs.Library.{IsLibraryOf, IsOpened, versions_in};
 ghost use Rattle.elf_uses.specs.Readings.{Reads};
 
 use crate::bindings::library::{EntryBytes, HashBytes, Library, SymbolBytes, VersionBytes};
-use crate::bindings::sections::{first_section_of, linked_section, version_sections};
 use elf::endian::EndianParse;
 use elf::gnu_symver::VersionIndex;
+use elf::headers::Headers;
 use elf::section::SectionHeader;
-use elf::symbol::Symbol;
 use elf::{ElfStream, ParseError, StreamSource, abi};
 use elf_check::hashcheck::HashSection;
 use elf_parts::parse::ParseAt;
@@ -78,7 +75,7 @@ fn read_linked<E: EndianParse, S: StreamSource>(
     ensures { Reads stream.old stream.new result (λ copy. copy.items)
         (λ bytes. linked_strings (stream_file E.little stream.old bytes) section.now) }
 {
-    match linked_section(stream.section_headers(), section) {
+    match stream.section_at(section.sh_link as usize) {
         Ok(linked) => read_range(alloc, stream, &linked),
         Err(error) => Err(error),
     }
@@ -108,10 +105,10 @@ fn read_hash<E: EndianParse, S: StreamSource>(
     ensures { Reads stream.old stream.new result (option_map hash_in)
         (λ bytes. hash_section (stream_file E.little stream.old bytes)) }
 {
-    if let Some(section) = first_section_of(stream.section_headers(), abi::SHT_GNU_HASH) {
+    if let Some(section) = stream.first_section_of(abi::SHT_GNU_HASH) {
         return read_hash_of(alloc, stream, HashSection::Gnu, &section);
     }
-    if let Some(section) = first_section_of(stream.section_headers(), abi::SHT_HASH) {
+    if let Some(section) = stream.first_section_of(abi::SHT_HASH) {
         return read_hash_of(alloc, stream, HashSection::Sysv, &section);
     }
     Ok(None)
@@ -132,22 +129,6 @@ fn read_symbols_of<E: EndianParse, S: StreamSource>(
     Ok(SymbolBytes { symbols, strings })
 }
 
-// The first section of dynamic symbols, and the section that its `sh_link` names.
-fn symbol_sections<E: EndianParse, S: StreamSource>(
-    stream: &ElfStream<E, S, Global>,
-) -> Result<Option<(SectionHeader, SectionHeader)>, ParseError>
-    ensures value { result ≡ symbol_sections sht_dynsym (headers_alone E.little stream.now) }
-    ensures plain { IfErr result (λ e. kind e ≡ Kind.Refusal) }
-{
-    let sections = stream.section_headers();
-    let Some(section) = first_section_of(sections, abi::SHT_DYNSYM) else {
-        return Ok(None);
-    };
-    let linked = linked_section(sections, &section)?;
-    Symbol::validate_entsize(stream.ehdr.class, section.sh_entsize as usize)?;
-    Ok(Some((section, linked)))
-}
-
 // The dynamic symbols of the first section of them, if there is one.
 fn read_symbols<E: EndianParse, S: StreamSource>(
     alloc: Global,
@@ -157,7 +138,7 @@ fn read_symbols<E: EndianParse, S: StreamSource>(
         (option_map (symbols_in (E.little stream.old.ehdr.endianness) stream.old.ehdr.class))
         (λ bytes. dynamic_symbol_table (stream_file E.little stream.old bytes)) }
 {
-    match symbol_sections(stream) {
+    match stream.symbol_sections(abi::SHT_DYNSYM) {
         Ok(Some((section, linked))) => {
             let bytes = read_symbols_of(alloc, stream, &section, &linked)?;
             Ok(Some(bytes))
@@ -221,7 +202,7 @@ fn read_versions<E: EndianParse, S: StreamSource>(
         (option_map (versions_in (E.little stream.old.ehdr.endianness) stream.old.ehdr.class))
         (λ bytes. symbol_version_table (stream_file E.little stream.old bytes)) }
 {
-    let chosen = version_sections(stream.section_headers());
+    let chosen = stream.version_sections();
     let Some(section) = chosen.indexes else {
         return Ok(None);
     };
