@@ -3,6 +3,7 @@
 //! `ElfBytes` and `ElfStream` implement the trait `Headers`. A stream has its headers in lists, so none of these calls
 //! reads its source.
 ghost use Rattle.std.specs.Prelude.{◌≡◌, ◌&&◌, IfErr, is_some};
+ghost use Rattle.elf_parts.specs.Clones.{ClonesExactly};
 ghost use Rattle.elf_parts.specs.StringTable.{strings_view};
 ghost use Rattle.elf.specs.Answers.{symbol_sections, with_linked};
 ghost use Rattle.elf.specs.ElfStream.{Kind, kind};
@@ -28,38 +29,39 @@ pub trait Headers {
     // The object file that has these headers.
     ghost file: { Self → ObjectFile };
 
-    /// The current class of the file header.
+    /// Returns the current class of the file header.
     fn class(&self) -> Class
         ensures { result ≡ (file self.now).class };
 
-    /// The current `e_shstrndx` of the file header.
+    /// Returns the current `e_shstrndx` of the file header.
     fn e_shstrndx(&self) -> u16
         ensures { result ≡ (file self.now).e_shstrndx };
 
-    /// Whether the file declares a table of section headers.
+    /// Returns whether the file declares a table of section headers.
     fn declares_sections(&self) -> bool
         ensures { result ≡ (file self.now).has_sections };
 
-    /// The section header of an index. If there is none, the error is that of `get` of the table in an `ElfBytes`, and
-    /// `BadOffset(index)` in a stream or without a table.
+    /// Returns the section header of an index. If it cannot be had, the error is that of `ParsingTable::get` for an
+    /// `ElfBytes` with a table of section headers, and otherwise `BadOffset(index)`.
     fn section_at(&self, index: usize) -> Result<SectionHeader, ParseError>
         ensures value { result ≡ (file self.now).section_at index }
         ensures plain { IfErr result (λ e. kind e ≡ Kind.Refusal) };
 
-    /// The first section of a type, if there is one.
+    /// Returns the first section of a type, if there is one.
     fn first_section_of(&self, sh_type: u32) -> Option<SectionHeader>
         ensures { result ≡ first_section_of sh_type (file self.now).sections };
 
-    /// The first segment of a type, if there is one.
+    /// Returns the first segment of a type, if there is one.
     fn first_segment_of(&self, p_type: u32) -> Option<ProgramHeader>
         ensures { result ≡ first_segment_of p_type (file self.now).segments };
 
-    /// The last sections of the three types of version sections, up to the first section that completes the three.
+    /// Returns the last sections of the types `SHT_GNU_VERSYM`, `SHT_GNU_VERNEED` and `SHT_GNU_VERDEF`. If all three
+    /// types exist, sections behind the first one that completes the three do not count.
     fn version_sections(&self) -> VersionSections
         ensures { result ≡ version_sections (file self.now).sections };
 
-    /// The index of the section that holds the names of the sections: `e_shstrndx`, or `sh_link` of section 0 if
-    /// `e_shstrndx` is `SHN_XINDEX`. The error is that of `section_at(0)`.
+    /// Returns the index of the section that holds the names of the sections: `e_shstrndx` or, if that is `SHN_XINDEX`,
+    /// `sh_link` of section 0. The error is that of `section_at(0)`.
     fn name_index(&self) -> Result<usize, ParseError>
         ensures value { result ≡ name_index (file self.now) }
         ensures plain { IfErr result (λ e. kind e ≡ Kind.Refusal) }
@@ -72,8 +74,10 @@ pub trait Headers {
         }
     }
 
-    /// The section that holds the names of the sections, or `None` if the file declares no sections or `e_shstrndx` is
-    /// `SHN_UNDEF`. The errors are those of `name_index` and of `section_at`, in this order.
+    /// Returns the section that holds the names of the sections, or `None` if the file declares no section headers or
+    /// if `e_shstrndx` is `SHN_UNDEF`.
+    ///
+    /// Errors, in order: that of `name_index`; that of `section_at` for the section.
     #[tactic(auto, unfolding(crate::specs::Names::name_section))]
     fn name_section(&self) -> Result<Option<SectionHeader>, ParseError>
         ensures value { result ≡ name_section (file self.now) }
@@ -86,8 +90,9 @@ pub trait Headers {
         self.section_at(index).map(Some)
     }
 
-    /// A section of symbols, and the section of their strings, which its `sh_link` names. Errors, in order: that of
-    /// `section_at(sh_link)`, and `BadEntsize` if `sh_entsize` is not the size of a symbol.
+    /// Returns a section of symbols, and the section of their strings, which its `sh_link` names.
+    ///
+    /// Errors, in order: that of `section_at` for the section of the strings; `BadEntsize((found, expected))`.
     fn with_linked(&self, shdr: &SectionHeader) -> Result<LinkedSections, ParseError>
         ensures value { result ≡ with_linked (file self.now) shdr.now }
         ensures plain { IfErr result (λ e. kind e ≡ Kind.Refusal) }
@@ -97,8 +102,8 @@ pub trait Headers {
         Ok((*shdr, linked))
     }
 
-    /// The first section of a type of symbols, and the section that its `sh_link` names; `None` if no section has the
-    /// type. The errors are those of `with_linked`.
+    /// Returns the first section of a type of symbols, and the section of their strings, or `None` if no section has
+    /// the type. The errors are those of `with_linked`.
     fn symbol_sections(&self, sh_type: u32) -> Result<Option<LinkedSections>, ParseError>
         ensures value { result ≡ symbol_sections sh_type (file self.now) }
         ensures plain { IfErr result (λ e. kind e ≡ Kind.Refusal) }
@@ -120,6 +125,11 @@ pub struct VersionSections {
     /// The versions that the file defines (`SHT_GNU_VERDEF`).
     pub definitions: Option<SectionHeader>,
 }
+
+/// The clone of version sections is the same value, and cloning it cannot fail.
+pub fn clones_of_version_sections()
+    ensures { ClonesExactly ⟦<VersionSections as Clone>⟧.is_clone ⟦<VersionSections as Clone>⟧.is_infallible }
+{}
 
 impl VersionSections {
     ghost use Rattle.elf.specs.inner.Passes.{no_version_sections, with_version_section};
