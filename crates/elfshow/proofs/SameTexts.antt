@@ -1,7 +1,6 @@
 -- Over alike answers the texts are equal.
 use Rattle.std.proofs.Common.{◌≡◌, ℕ, Bool, List, [], ◌∷◌, ◌++◌, Option, Some, None, Result, Ok, Err, refl, sym, ap, ◌∙◌}
 use Rattle.std.specs.Prelude.{slice_get}
-use Rattle.std.specs.Option.{option_map}
 use Rattle.std.specs.Result.{result_ok}
 use Rattle.elf_parts.specs.Number.{ok_map}
 use Rattle.elf_parts.specs.Record.{◌>>=◌}
@@ -26,7 +25,6 @@ use Rattle.elfshow.specs.calls.Question.{Question, Header, Sections, Segments, N
 use Rattle.elfshow.specs.calls.Text.{call_answer, call_text, checked_as, checked_for, dynamic_text, of_section, of_segment, or_refused, symbol_count, symbols_text, text, unless_absent, unless_none}
 use Rattle.elfshow.specs.declared.lines.hashes.Verdict.{Verdict}
 use Rattle.elfshow.specs.lines.Data.{section_data_line, segment_data_line}
-use Rattle.elfshow.specs.lines.Dynamic.{dyn_line}
 use Rattle.elfshow.specs.lines.Hashes.{verdict_line}
 use Rattle.elfshow.specs.lines.Counted.{counted_lines}
 use Rattle.elfshow.specs.lines.Notes.{note_line}

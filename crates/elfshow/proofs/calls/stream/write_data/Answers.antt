@@ -1,4 +1,4 @@
-use Rattle.std.proofs.Common.{arith, refl, sym, ◌∙◌}
+use Rattle.std.proofs.Common.{refl, sym, ◌∙◌}
 use Rattle.elfshow.proofs.StreamRuns.{section_refused, section_written}
 use Rattle.elf.specs.Ranges.{section_asked}
 use Rattle.elfshow.specs.calls.Question.{Data}

@@ -1,4 +1,4 @@
-use Rattle.std.proofs.Common.{◌≡◌, ℕ, ◌/◌, List, ◌++◌, length, drop, ap, subst, sym, ◌∙◌}
+use Rattle.std.proofs.Common.{◌≡◌, ℕ, ◌/◌, List, ◌++◌, length, ap, subst, ◌∙◌}
 use Rattle.std.specs.List.{flat_map}
 use Rattle.elfshow.specs.Pieces.{hex_of}
 use Rattle.elfshow.specs.inner.Adding.{Adds}
