@@ -43,12 +43,6 @@ adds_end g0 (Some s0) g1 (Some s1) g2 (Some s2) left whole x y = last_added (app
 pub adds_both : (g0 b0 g1 b1 g2 b2 : Option (List ℕ)) (front piece : List ℕ) → Adds g0 b0 g1 b1 front → Adds g1 b1 g2 b2 piece → Adds g0 b0 g2 b2 (front ++ piece)
 adds_both g0 b0 g1 b1 g2 b2 front piece x y = adds_end g0 b0 g1 b1 g2 b2 piece (front ++ piece) (adds_more g0 b0 g0 b0 g1 b1 front piece (front ++ piece) (adds_begin g0 b0 (front ++ piece)) x) y
 
--- no text was added
-pub adds_nothing : (got before : Option (List ℕ)) → Adds got before got before []
-adds_nothing got None = tt
-adds_nothing None (Some before) = tt
-adds_nothing (Some xs) (Some before) = sym (append-nil (xs ++ before))
-
 -- the writer got the text of a buffer that was empty at first
 buffered : (g0 g1 g2 : Option (List ℕ)) (waits text : List ℕ) → Appends (append_known g0 []) (append_known g1 waits) text → Appends g1 g2 waits → Appends g0 g2 text
 buffered None g1 g2 waits text x y = tt

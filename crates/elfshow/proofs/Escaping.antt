@@ -1,8 +1,8 @@
 -- The escaped text of a name, of which a front of plain bytes waits to be written as it is.
-use Rattle.std.proofs.Common.{◌≡◌, ℕ, ◌+◌, ◌-◌, ◌<◌, ◌≤◌, true, false, List, [], ◌∷◌, ◌++◌, length, get_or, take, drop, refl, sym, ap, ◌∙◌, append_assoc, arith, length-drop}
+use Rattle.std.proofs.Common.{◌≡◌, ℕ, ◌+◌, ◌-◌, ◌<◌, ◌≤◌, true, List, [], ◌∷◌, ◌++◌, length, get_or, take, drop, refl, sym, ap, ◌∙◌, append_assoc, arith, length-drop}
 use Rattle.std.specs.Prelude.{slice_range}
 use Rattle.std.proofs.lemmas.List.{take_more, drop_more, get_or-drop}
-use Rattle.elfshow.specs.Pieces.{escaped, escaped_byte, escape, is_plain}
+use Rattle.elfshow.specs.Pieces.{escaped, escaped_byte, is_plain}
 
 -- one more byte waits
 waiting_more : (xs : List ℕ) (start i : ℕ) → start ≤ i → i < length xs → slice_range xs start (i + 1) ≡ slice_range xs start i ++ get_or xs i 0 ∷ []
@@ -17,9 +17,6 @@ waiting_more xs start i low high =
 plain_is : (b : ℕ) → is_plain b ≡ true → escaped_byte b ≡ b ∷ []
 plain_is b h = rw h refl
 
-other_is : (b : ℕ) → is_plain b ≡ false → escaped_byte b ≡ escape b
-other_is b h = rw h refl
-
 -- a plain byte waits with those before it
 pub plain_waits : (xs : List ℕ) (start i : ℕ) → start ≤ i → i < length xs → is_plain (get_or xs i 0) ≡ true
     → slice_range xs start i ++ escaped (drop i xs) ≡ slice_range xs start (i + 1) ++ escaped (drop (i + 1) xs)
@@ -28,12 +25,3 @@ plain_waits xs start i low high plain =
     ∙ ap (λ ys. slice_range xs start i ++ (ys ++ escaped (drop (i + 1) xs))) (plain_is _ plain)
     ∙ sym (append_assoc (slice_range xs start i) (get_or xs i 0 ∷ []) (escaped (drop (i + 1) xs)))
     ∙ ap (λ ys. ys ++ escaped (drop (i + 1) xs)) (sym (waiting_more xs start i low high))
-
--- behind an escape nothing waits
-pub other_written : (xs : List ℕ) (i : ℕ) → i < length xs → is_plain (get_or xs i 0) ≡ false
-    → escaped (drop i xs) ≡ escape (get_or xs i 0) ++ (slice_range xs (i + 1) (i + 1) ++ escaped (drop (i + 1) xs))
-other_written xs i high other =
-    let none : i + 1 - (i + 1) ≡ 0 = omega arith in
-    ap escaped (drop_more xs i 0 high)
-    ∙ ap (λ ys. ys ++ escaped (drop (i + 1) xs)) (other_is _ other)
-    ∙ ap (λ n. escape (get_or xs i 0) ++ (take n (drop (i + 1) xs) ++ escaped (drop (i + 1) xs))) (sym none)

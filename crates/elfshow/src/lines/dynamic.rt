@@ -1,5 +1,4 @@
 //! The lines of dynamic entries.
-ghost use Rattle.std.specs.Prelude.{OnOk};
 ghost use Rattle.elfshow.specs.lines.Dynamic.{dyn_line};
 
 use crate::line_buffer::LineBuffer;

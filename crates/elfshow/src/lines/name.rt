@@ -1,5 +1,5 @@
 //! The name of an item.
-ghost use Rattle.std.specs.Prelude.{codes, OnOk};
+ghost use Rattle.std.specs.Prelude.{codes};
 ghost use Rattle.std.specs.Option.{option_map};
 ghost use Rattle.elf_parts.specs.StringTable.{string_at, strings_view};
 ghost use Rattle.elfshow.specs.Pieces.{◌⧺◌};
@@ -11,7 +11,8 @@ use elf::string_table::StringTable;
 use std::io;
 use std::io::Write;
 
-/// Adds the name field of an item whose name is at this offset in bytes, behind a space. Without strings it is `noname`.
+/// Adds the name field of an item whose name is at this offset in bytes, behind a space. Without strings it is
+/// `noname`.
 pub(crate) fn add_name<W: Write>(
     names: Option<StringTable<'_>>,
     offset: u32,

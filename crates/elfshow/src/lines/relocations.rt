@@ -1,5 +1,5 @@
 //! The lines of relocations.
-ghost use Rattle.std.specs.Prelude.{codes, OnOk};
+ghost use Rattle.std.specs.Prelude.{codes};
 ghost use Rattle.std.specs.Fmt.{decimal};
 ghost use Rattle.elfshow.specs.Pieces.{◌⧺◌, hex};
 ghost use Rattle.elfshow.specs.inner.Adding.{Adds};

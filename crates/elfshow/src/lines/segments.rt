@@ -1,5 +1,4 @@
 //! The lines of program headers.
-ghost use Rattle.std.specs.Prelude.{OnOk};
 ghost use Rattle.elfshow.specs.inner.Adding.{Adds};
 ghost use Rattle.elfshow.specs.lines.Segments.{segment_line, segment_places, segment_sizes};
 

@@ -1,5 +1,5 @@
 //! The lines of the strings of a table.
-ghost use Rattle.std.specs.Prelude.{OnOk, length};
+ghost use Rattle.std.specs.Prelude.{OnOk};
 ghost use Rattle.std.specs.Io.KnownBytes.{Appends};
 ghost use Rattle.elf_parts.specs.StringTable.{strings_view};
 ghost use Rattle.elfshow.specs.inner.Adding.{Adds};

@@ -1,5 +1,4 @@
 //! The lines of symbols.
-ghost use Rattle.std.specs.Prelude.{OnOk};
 ghost use Rattle.elf_parts.specs.StringTable.{strings_view};
 ghost use Rattle.elfshow.specs.lines.Symbols.{symbol_fields, symbol_line};
 ghost use Rattle.elfshow.specs.inner.Adding.{Adds};

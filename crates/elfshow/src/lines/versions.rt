@@ -219,7 +219,8 @@ fn add_version_names<E: EndianParse, W: Write>(
     lines: &mut LineBuffer,
     out: &mut W,
 )
-    ensures { Adds (W.contents out.old) lines.old (W.contents out.new) lines.new (version_names (names_left names.entry)) }
+    ensures { Adds (W.contents out.old) lines.old (W.contents out.new) lines.new
+        (version_names (names_left names.entry)) }
 {
     for name in names {
         add_version_name(name, lines, out);
@@ -227,7 +228,8 @@ fn add_version_names<E: EndianParse, W: Write>(
 }
 
 fn add_version_name<W: Write>(name: Result<&str, ParseError>, lines: &mut LineBuffer, out: &mut W)
-    ensures { Adds (W.contents out.old) lines.old (W.contents out.new) lines.new (version_name (text_shown name.entry)) }
+    ensures { Adds (W.contents out.old) lines.old (W.contents out.new) lines.new
+        (version_name (text_shown name.entry)) }
 {
     match name {
         Ok(name) => lines.escaped(" name=", name.as_bytes(), out),
