@@ -177,7 +177,7 @@ impl<E: EndianParse, S: StreamSource, A: Allocator + Copy> ElfStream<E, S, A> {
     }
 
     // The bytes of a cached range.
-    fn held_bytes(&self, start: u64, size: u64) -> &[u8]
+    fn cached_bytes(&self, start: u64, size: u64) -> &[u8]
         requires low { start + size < 2 ^ 64 }
         requires held { IsHeld self.now start (start + size) }
         ensures bytes { IfSome self.now.content (λ bytes. bytes_at size bytes start ≡ Ok result.now) }

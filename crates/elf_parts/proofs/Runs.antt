@@ -1,9 +1,11 @@
 -- A run of chain words, step by step.
-use Rattle.std.proofs.Common.{◌≡◌, ℕ, ◌+◌, ◌-◌, ◌<◌, ◌%◌, zero, suc, List, Some, None, Ok, Err, refl, arith}
+use Rattle.std.proofs.Common.{◌≡◌, ℕ, ◌+◌, ◌-◌, ◌<◌, ◌%◌, zero, suc, List, Option, Some, None, Ok, Err, refl, arith}
+use Rattle.std.proofs.lemmas.Grind.{common_steps}
 use Rattle.elf_parts.specs.Table.{Table}
 use Rattle.elf_parts.specs.declared.parse.ParseError.{ParseError}
 use Rattle.elf_parts.specs.declared.symbol.Symbol.{Symbol}
-use Rattle.elf_parts.specs.Hash.{word_at}
+use Rattle.elf_parts.specs.Hash.{named_symbol, word_at}
+use Rattle.elf_parts.specs.Number.{ok_map}
 use Rattle.elf_parts.specs.GnuFind.{GnuTable, find_in_run, word_decides}
 
 module _ (t : GnuTable) (symbols : Table) (strings name : List ℕ) where
@@ -23,6 +25,10 @@ module _ (t : GnuTable) (symbols : Table) (strings name : List ℕ) where
   unfolding find_in_run
   run_found zero k word x some chain here = absurd (omega arith)
   run_found (suc limit) k word x some chain here = rw (chain, here) refl
+
+  -- where that is a refusal, it is that of the symbol or its name
+  pub decides_refused : (index word : ℕ) (e : ParseError) → word_decides t symbols strings name index word ≡ Err e → ok_map {B = Option (ℕ × Symbol)} (λ _. None) (named_symbol symbols strings index) ≡ Err e
+  decides_refused index word e is = grind (arith, common_steps)
 
   -- it does not, and the run ends
   pub run_ended : (limit k word : ℕ) → word_at t.chains k ≡ Ok word → word_decides t symbols strings name (t.hdr.table_start_idx + k) word ≡ Ok None → word % 2 ≡ 1 → find_in_run t symbols strings name limit k ≡ Ok None

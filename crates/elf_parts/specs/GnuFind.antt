@@ -105,9 +105,13 @@ module _ (t : GnuTable) (symbols : Table) (strings name : List ℕ) where
       if nat_lt index t.hdr.table_start_idx then Ok None
       else find_in_run (word_count t.chains - (index - t.hdr.table_start_idx)) (index - t.hdr.table_start_idx)
 
-  -- the same in the bucket of the name's hash, where the bloom words let the hash pass
+  -- the same in the bucket of the name's hash
+  abbrev pub find_by_hash : Result (Option (ℕ × Symbol)) ParseError
+  find_by_hash = word_at t.buckets (gnu_hash_of name % word_count t.buckets) >>= find_in_bucket
+
+  -- the same, where the bloom words let the hash pass
   unfoldable pub gnu_find : Result (Option (ℕ × Symbol)) ParseError
   gnu_find =
       if word_count t.buckets == 0 || t.hdr.nbloom == 0 then Ok None
       else passes t (gnu_hash_of name) >>= λ passed.
-      if passed then (word_at t.buckets (gnu_hash_of name % word_count t.buckets) >>= find_in_bucket) else Ok None
+      if passed then find_by_hash else Ok None

@@ -75,6 +75,7 @@ impl ParseAt for Dyn {
     ghost reads = { dyn_reads };
 
     #[tactic(auto, unfolding(crate::specs::Record::numbers_at, crate::specs::Record::numbers_end))]
+    #[inline(always)]
     fn parse_at<E: EndianParse>(
         endian: E,
         class: Class,

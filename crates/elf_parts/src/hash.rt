@@ -1,5 +1,5 @@
 //! Hash sections, which find symbols by name: SysV (gABI, chapter "Hash Table") and GNU.
-ghost use Rattle.std.specs.Prelude.{◌≡◌, ◌+◌, ◌<◌, ◌^◌, ◌≤◌, OnOk, length};
+ghost use Rattle.std.specs.Prelude.{◌≡◌, ◌+◌, ◌<◌, ◌^◌, ◌≤◌, None, OnOk, length};
 ghost use Rattle.elf_parts.specs.Hash.{named_symbol, word_at, word_count};
 ghost use Rattle.elf_parts.specs.Number.{bytes_at, ok_map};
 ghost use Rattle.elf_parts.specs.StringTable.{strings_view};
@@ -30,8 +30,12 @@ fn get_bytes<'data>(data: &'data [u8], start: usize, size: usize) -> Result<&'da
         .ok_or(ParseError::SliceReadError((start, end)))
 }
 
+// The reads of a look-up are inlined, and return their errors by `refused_word` and `refused_symbol`, which read once
+// more: a `ParseError` is large, and to carry one that is not there through each read costs more than the look-up.
+
 // A word of a table.
 #[tactic(auto, unfolding(crate::specs::Hash::word_at))]
+#[inline(always)]
 fn word<E: EndianParse>(words: &U32Table<'_, E>, index: usize) -> Result<usize, ParseError>
     ensures { result ≡ word_at (table_view words.now) index }
 {
@@ -39,6 +43,7 @@ fn word<E: EndianParse>(words: &U32Table<'_, E>, index: usize) -> Result<usize, 
 }
 
 // How many words a table holds.
+#[inline(always)]
 fn word_count<E: EndianParse>(words: &U32Table<'_, E>) -> usize
     ensures count { result ≡ word_count (table_view words.now) }
     ensures bound { result < 2 ^ 62 }
@@ -48,6 +53,7 @@ fn word_count<E: EndianParse>(words: &U32Table<'_, E>) -> usize
 
 // A symbol and its name.
 #[tactic(auto, unfolding(crate::specs::Hash::named_symbol))]
+#[inline(always)]
 fn named_symbol<'data, E: EndianParse>(
     symtab: &SymbolTable<'data, E>,
     strtab: &StringTable<'data>,
@@ -59,4 +65,29 @@ fn named_symbol<'data, E: EndianParse>(
     let symbol = symtab.get(index)?;
     let name = strtab.get_raw(symbol.st_name as usize)?;
     Ok((symbol, name))
+}
+
+/// What a look-up returns: the index and the symbol, if there is one.
+type Found = Result<Option<(usize, Symbol)>, ParseError>;
+
+// The error of a word that cannot be read.
+#[inline(never)]
+fn refused_word<E: EndianParse>(words: &U32Table<'_, E>, index: usize) -> Found
+    ensures { result ≡ ok_map (λ _. None) (word_at (table_view words.now) index) }
+{
+    word(words, index)?;
+    Ok(None)
+}
+
+// The error of a symbol or a name that cannot be read.
+#[inline(never)]
+fn refused_symbol<E: EndianParse>(
+    symtab: &SymbolTable<'_, E>,
+    strtab: &StringTable<'_>,
+    index: usize,
+) -> Found
+    ensures { result ≡ ok_map (λ _. None) (named_symbol (table_view symtab.now) (strings_view strtab.now) index) }
+{
+    named_symbol(symtab, strtab, index)?;
+    Ok(None)
 }

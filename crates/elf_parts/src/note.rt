@@ -69,6 +69,7 @@ impl ParseAt for NoteHeader {
     ghost reads = { note_header_reads };
 
     #[tactic(auto, unfolding(crate::specs::Record::numbers_at, crate::specs::Record::numbers_end))]
+    #[inline(always)]
     fn parse_at<E: EndianParse>(
         endian: E,
         _class: Class,
@@ -114,6 +115,7 @@ impl ParseAt for NoteGnuAbiTag {
 
 // The next multiple of the alignment.
 #[tactic(auto, unfolding(crate::specs::Note::aligned))]
+#[inline(always)]
 fn aligned(align: usize, offset: usize) -> Result<usize, ParseError>
     ensures { result ≡ aligned align offset }
 {
@@ -128,6 +130,7 @@ fn aligned(align: usize, offset: usize) -> Result<usize, ParseError>
 
 // What a note of this type, name and descriptor is.
 #[tactic(auto, unfolding(crate::specs::Note::content_of))]
+#[inline(always)]
 fn interpret<'data>(
     little: bool,
     n_type: u64,
@@ -150,8 +153,10 @@ fn interpret<'data>(
     }))
 }
 
-// The note at an offset, and where the next one begins. Notes are the same in both classes.
+// The note at an offset, and where the next one begins. Notes are the same in both classes. Inlined with its parts into
+// the iterator, which drops the error.
 #[tactic(auto, unfolding(crate::specs::Note::note_at))]
+#[inline(always)]
 fn note_at<'data>(
     little: bool,
     align: usize,

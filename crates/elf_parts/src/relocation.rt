@@ -133,6 +133,7 @@ impl ParseAt for Rel {
     ghost reads = { rel_reads };
 
     #[tactic(auto, unfolding(crate::specs::Record::numbers_at, crate::specs::Record::numbers_end))]
+    #[inline(always)]
     fn parse_at<E: EndianParse>(
         endian: E,
         class: Class,
@@ -167,6 +168,7 @@ impl ParseAt for Rela {
     ghost reads = { rela_reads };
 
     #[tactic(auto, unfolding(crate::specs::Record::numbers_at, crate::specs::Record::numbers_end))]
+    #[inline(always)]
     fn parse_at<E: EndianParse>(
         endian: E,
         class: Class,

@@ -68,6 +68,7 @@ impl<'data> StringTable<'data> {
     /// Errors, in order: `BadOffset(offset)` if the table has no bytes or the offset lies past its end;
     /// `StringTableMissingNul(offset)` if no 0 byte follows.
     #[tactic(auto, unfolding(crate::specs::StringTable::string_at))]
+    #[inline(always)]
     pub fn get_raw(&self, offset: usize) -> Result<&'data [u8], ParseError>
         ensures { ok_map (λ bytes. bytes.now) result ≡ string_at (strings_view self.now) offset }
     {

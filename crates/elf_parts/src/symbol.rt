@@ -84,6 +84,7 @@ impl ParseAt for Symbol {
     ghost reads = { symbol_reads };
 
     #[tactic(auto, unfolding(crate::specs::Record::numbers_at, crate::specs::Record::numbers_end))]
+    #[inline(always)]
     fn parse_at<E: EndianParse>(
         endian: E,
         class: Class,

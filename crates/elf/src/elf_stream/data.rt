@@ -43,7 +43,7 @@ impl<E: EndianParse, S: StreamSource, A: Allocator + Copy> ElfStream<E, S, A> {
 
     // The bytes of a section, which are cached if there are any.
     #[tactic(auto, unfolding(crate::specs::Data::section_data))]
-    pub(super) fn lend_section_data(
+    pub(super) fn cached_section_data(
         &self,
         shdr: &SectionHeader,
     ) -> Result<(&[u8], Option<CompressionHeader>), ParseError>
@@ -58,7 +58,7 @@ impl<E: EndianParse, S: StreamSource, A: Allocator + Copy> ElfStream<E, S, A> {
         if shdr.sh_type == abi::SHT_NOBITS {
             return Ok((&[], None));
         }
-        let part = self.held_bytes(shdr.sh_offset, shdr.sh_size);
+        let part = self.cached_bytes(shdr.sh_offset, shdr.sh_size);
         if shdr.sh_flags & abi::SHF_COMPRESSED as u64 == 0 {
             return Ok((part, None));
         }
@@ -84,7 +84,7 @@ impl<E: EndianParse, S: StreamSource, A: Allocator + Copy> ElfStream<E, S, A> {
             (λ _. section_asked shdr.now) data_view (λ file. section_data file shdr.now) result) }
     {
         self.load_section_data(shdr)?;
-        self.lend_section_data(shdr)
+        self.cached_section_data(shdr)
     }
 
     // Reads the range of a section into the cache. The section must have a given type.
@@ -102,7 +102,7 @@ impl<E: EndianParse, S: StreamSource, A: Allocator + Copy> ElfStream<E, S, A> {
     }
 
     // The cached bytes of a section, without its compression header.
-    fn lend_content(&self, shdr: &SectionHeader) -> Result<&[u8], ParseError>
+    fn cached_content(&self, shdr: &SectionHeader) -> Result<&[u8], ParseError>
         requires low { AreLow (section_asked shdr.now) }
         requires held { AreHeld self.now (section_asked shdr.now) }
         ensures value { IfSome self.now.content (λ bytes. ok_map (λ part. part.now) result
@@ -110,12 +110,12 @@ impl<E: EndianParse, S: StreamSource, A: Allocator + Copy> ElfStream<E, S, A> {
         ensures within { IfOk result (λ part. IfSome self.now.content (λ bytes. length part.now ≤ length bytes)) }
         ensures plain { IfErr result (λ e. kind e ≡ Kind.Refusal) }
     {
-        let (bytes, _) = self.lend_section_data(shdr)?;
+        let (bytes, _) = self.cached_section_data(shdr)?;
         Ok(bytes)
     }
 
     // The strings of a section, whose bytes are cached.
-    fn lend_strtab(&self, shdr: &SectionHeader) -> Result<StringTable<'_>, ParseError>
+    fn cached_strtab(&self, shdr: &SectionHeader) -> Result<StringTable<'_>, ParseError>
         requires of_type { shdr.now.sh_type ≡ sht_strtab }
         requires low { AreLow (section_asked shdr.now) }
         requires held { AreHeld self.now (section_asked shdr.now) }
@@ -123,7 +123,7 @@ impl<E: EndianParse, S: StreamSource, A: Allocator + Copy> ElfStream<E, S, A> {
             ok_map strings_view result ≡ section_data_as_strtab (stream_file E.little self.now bytes) shdr.now) }
         ensures plain { IfErr result (λ e. kind e ≡ Kind.Refusal) }
     {
-        let bytes = self.lend_content(shdr)?;
+        let bytes = self.cached_content(shdr)?;
         Ok(StringTable::new(bytes))
     }
 
@@ -141,11 +141,11 @@ impl<E: EndianParse, S: StreamSource, A: Allocator + Copy> ElfStream<E, S, A> {
             (λ file. section_data_as_strtab file shdr.now) result) }
     {
         self.load_content(shdr, abi::SHT_STRTAB)?;
-        self.lend_strtab(shdr)
+        self.cached_strtab(shdr)
     }
 
     // The records of a section, whose bytes are cached.
-    fn lend_records<P: ParseAt>(
+    fn cached_records<P: ParseAt>(
         &self,
         shdr: &SectionHeader,
     ) -> Result<ParsingIterator<'_, E, P>, ParseError>
@@ -159,7 +159,7 @@ impl<E: EndianParse, S: StreamSource, A: Allocator + Copy> ElfStream<E, S, A> {
             IfSome self.now.content (λ bytes. length (items_left P.reads records) ≤ length bytes)) }
         ensures bound { IfOk result (λ records. length (items_left P.reads records) < 2 ^ 64) }
     {
-        let bytes = self.lend_content(shdr)?;
+        let bytes = self.cached_content(shdr)?;
         Ok(ParsingIterator::new(self.ehdr.endianness, self.ehdr.class, bytes))
     }
 
@@ -181,7 +181,7 @@ impl<E: EndianParse, S: StreamSource, A: Allocator + Copy> ElfStream<E, S, A> {
         ensures bound { IfOk result (λ rels. length (rels_left rels) < 2 ^ 64) }
     {
         self.load_content(shdr, abi::SHT_REL)?;
-        self.lend_records::<Rel>(shdr)
+        self.cached_records::<Rel>(shdr)
     }
 
     /// Returns an iterator over the relocations of a section of type `SHT_RELA` (gABI, chapter "Relocation"). It ends
@@ -202,11 +202,11 @@ impl<E: EndianParse, S: StreamSource, A: Allocator + Copy> ElfStream<E, S, A> {
         ensures bound { IfOk result (λ relas. length (relas_left relas) < 2 ^ 64) }
     {
         self.load_content(shdr, abi::SHT_RELA)?;
-        self.lend_records::<Rela>(shdr)
+        self.cached_records::<Rela>(shdr)
     }
 
     // The notes of a section, whose bytes are cached.
-    fn lend_notes(&self, shdr: &SectionHeader) -> Result<NoteIterator<'_, E>, ParseError>
+    fn cached_notes(&self, shdr: &SectionHeader) -> Result<NoteIterator<'_, E>, ParseError>
         requires of_type { shdr.now.sh_type ≡ sht_note }
         requires low { AreLow (section_asked shdr.now) }
         requires held { AreHeld self.now (section_asked shdr.now) }
@@ -217,7 +217,7 @@ impl<E: EndianParse, S: StreamSource, A: Allocator + Copy> ElfStream<E, S, A> {
             IfSome self.now.content (λ bytes. length (notes_left notes) ≤ length bytes)) }
         ensures bound { IfOk result (λ notes. length (notes_left notes) < 2 ^ 64) }
     {
-        let bytes = self.lend_content(shdr)?;
+        let bytes = self.cached_content(shdr)?;
         Ok(NoteIterator::new(
             self.ehdr.endianness,
             self.ehdr.class,
@@ -244,6 +244,6 @@ impl<E: EndianParse, S: StreamSource, A: Allocator + Copy> ElfStream<E, S, A> {
         ensures bound { IfOk result (λ notes. length (notes_left notes) < 2 ^ 64) }
     {
         self.load_content(shdr, abi::SHT_NOTE)?;
-        self.lend_notes(shdr)
+        self.cached_notes(shdr)
     }
 }

@@ -41,7 +41,10 @@ impl<E: EndianParse, S: StreamSource, A: Allocator + Copy> ElfStream<E, S, A> {
     }
 
     // The dynamic entries of a section, whose bytes are cached.
-    fn lend_dynamic(&self, shdr: &SectionHeader) -> Result<Option<DynamicTable<'_, E>>, ParseError>
+    fn cached_dynamic(
+        &self,
+        shdr: &SectionHeader,
+    ) -> Result<Option<DynamicTable<'_, E>>, ParseError>
         requires sized { shdr.now.sh_entsize ≡ size_by dyn_layout self.now.ehdr.class }
         requires low { AreLow (section_asked shdr.now) }
         requires held { AreHeld self.now (section_asked shdr.now) }
@@ -49,7 +52,7 @@ impl<E: EndianParse, S: StreamSource, A: Allocator + Copy> ElfStream<E, S, A> {
             ≡ ok_map Some (section_dynamic (stream_file E.little self.now bytes) shdr.now)) }
         ensures plain { IfErr result (λ e. kind e ≡ Kind.Refusal) }
     {
-        let (bytes, _) = self.lend_section_data(shdr)?;
+        let (bytes, _) = self.cached_section_data(shdr)?;
         Ok(Some(DynamicTable::new(self.ehdr.endianness, self.ehdr.class, bytes)))
     }
 
@@ -63,17 +66,17 @@ impl<E: EndianParse, S: StreamSource, A: Allocator + Copy> ElfStream<E, S, A> {
             (λ file. ok_map Some (section_dynamic file shdr.now)) result) }
     {
         self.load_dynamic(shdr)?;
-        self.lend_dynamic(shdr)
+        self.cached_dynamic(shdr)
     }
 
     // The dynamic entries of a segment, whose bytes are cached.
-    fn lend_segment_dynamic(&self, phdr: &ProgramHeader) -> DynamicTable<'_, E>
+    fn cached_segment_dynamic(&self, phdr: &ProgramHeader) -> DynamicTable<'_, E>
         requires low { AreLow (segment_asked phdr.now) }
         requires held { AreHeld self.now (segment_asked phdr.now) }
         ensures { IfSome self.now.content (λ bytes.
             segment_dynamic (stream_file E.little self.now bytes) phdr.now ≡ Ok (table_view result)) }
     {
-        let bytes = self.lend_segment(phdr);
+        let bytes = self.cached_segment(phdr);
         DynamicTable::new(self.ehdr.endianness, self.ehdr.class, bytes)
     }
 
@@ -100,7 +103,7 @@ impl<E: EndianParse, S: StreamSource, A: Allocator + Copy> ElfStream<E, S, A> {
             return Ok(None);
         };
         self.load_segment(&phdr)?;
-        Ok(Some(self.lend_segment_dynamic(&phdr)))
+        Ok(Some(self.cached_segment_dynamic(&phdr)))
     }
 
     /// Returns the dynamic entries (gABI, chapter "Dynamic Section"). If the file declares section headers, they are

@@ -35,21 +35,24 @@ impl<E: EndianParse, S: StreamSource, A: Allocator + Copy> ElfStream<E, S, A> {
     ghost use Rattle.elf.specs.Names.{listed_view};
 
     // The section headers, without a table of names.
-    fn lend_unnamed(&self) -> (&Vec<SectionHeader, A>, Option<StringTable<'_>>)
+    fn headers_without_names(&self) -> (&Vec<SectionHeader, A>, Option<StringTable<'_>>)
         ensures { listed_view result ≡ (self.now.sections, None) }
     {
         (self.section_headers(), None)
     }
 
     // The section headers, and the names in a section whose range is cached.
-    fn lend_names(&self, names: &SectionHeader) -> (&Vec<SectionHeader, A>, Option<StringTable<'_>>)
+    fn headers_and_names(
+        &self,
+        names: &SectionHeader,
+    ) -> (&Vec<SectionHeader, A>, Option<StringTable<'_>>)
         requires low { AreLow (whole_section names.now) }
         requires held { AreHeld self.now (whole_section names.now) }
         ensures { IfSome self.now.content (λ bytes.
             ok_map (λ strings. (self.now.sections, Some strings)) (section_range bytes names.now)
             ≡ Ok (listed_view result)) }
     {
-        let bytes = self.held_bytes(names.sh_offset, names.sh_size);
+        let bytes = self.cached_bytes(names.sh_offset, names.sh_size);
         (self.section_headers(), Some(StringTable::new(bytes)))
     }
 
@@ -68,21 +71,21 @@ impl<E: EndianParse, S: StreamSource, A: Allocator + Copy> ElfStream<E, S, A> {
             names_asked listed_view headers_with_names result) }
     {
         let Some(names) = self.name_section()? else {
-            return Ok(self.lend_unnamed());
+            return Ok(self.headers_without_names());
         };
         self.load_section(&names)?;
-        Ok(self.lend_names(&names))
+        Ok(self.headers_and_names(&names))
     }
 
     // The first section with a name. The names are in a section whose range is cached.
-    fn lend_named(&self, names: &SectionHeader, name: &str) -> Option<&SectionHeader>
+    fn header_by_cached_name(&self, names: &SectionHeader, name: &str) -> Option<&SectionHeader>
         requires low { AreLow (whole_section names.now) }
         requires held { AreHeld self.now (whole_section names.now) }
         ensures { IfSome self.now.content (λ bytes.
             ok_map (λ strings. first_named self.now.sections name.now (Some strings)) (section_range bytes names.now)
             ≡ Ok (option_copied result)) }
     {
-        let bytes = self.held_bytes(names.sh_offset, names.sh_size);
+        let bytes = self.cached_bytes(names.sh_offset, names.sh_size);
         let strings = StringTable::new(bytes);
         first_named_in(&self.shdrs, &strings, name)
     }
@@ -102,6 +105,6 @@ impl<E: EndianParse, S: StreamSource, A: Allocator + Copy> ElfStream<E, S, A> {
             return Ok(None);
         };
         self.load_section(&names)?;
-        Ok(self.lend_named(&names, name))
+        Ok(self.header_by_cached_name(&names, name))
     }
 }

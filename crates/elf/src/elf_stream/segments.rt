@@ -22,14 +22,14 @@ impl<E: EndianParse, S: StreamSource, A: Allocator + Copy> ElfStream<E, S, A> {
     ghost use Rattle.elf.specs.Lending.{Lends};
 
     // The bytes of a segment, which are cached.
-    pub(super) fn lend_segment(&self, phdr: &ProgramHeader) -> &[u8]
+    pub(super) fn cached_segment(&self, phdr: &ProgramHeader) -> &[u8]
         requires low { AreLow (segment_asked phdr.now) }
         requires held { AreHeld self.now (segment_asked phdr.now) }
         ensures within { IfSome self.now.content (λ bytes. length result.now ≤ length bytes) }
         ensures value { IfSome self.now.content (λ bytes.
             segment_data (stream_file E.little self.now bytes) phdr.now ≡ Ok result.now) }
     {
-        self.held_bytes(phdr.p_offset, phdr.p_filesz)
+        self.cached_bytes(phdr.p_offset, phdr.p_filesz)
     }
 
     /// Returns the bytes of a segment in the file: `p_filesz` bytes from `p_offset` on (gABI, chapter "Program
@@ -39,11 +39,11 @@ impl<E: EndianParse, S: StreamSource, A: Allocator + Copy> ElfStream<E, S, A> {
             (λ _. segment_asked phdr.now) (λ part. part.now) (λ file. segment_data file phdr.now) result) }
     {
         self.load_segment(phdr)?;
-        Ok(self.lend_segment(phdr))
+        Ok(self.cached_segment(phdr))
     }
 
     // The notes of a segment, whose bytes are cached.
-    fn lend_segment_notes(&self, phdr: &ProgramHeader) -> NoteIterator<'_, E>
+    fn cached_segment_notes(&self, phdr: &ProgramHeader) -> NoteIterator<'_, E>
         requires of_type { phdr.now.p_type ≡ pt_note }
         requires low { AreLow (segment_asked phdr.now) }
         requires held { AreHeld self.now (segment_asked phdr.now) }
@@ -52,7 +52,7 @@ impl<E: EndianParse, S: StreamSource, A: Allocator + Copy> ElfStream<E, S, A> {
         ensures few { IfSome self.now.content (λ bytes. length (notes_left result) ≤ length bytes) }
         ensures bound { length (notes_left result) < 2 ^ 64 }
     {
-        let bytes = self.lend_segment(phdr);
+        let bytes = self.cached_segment(phdr);
         NoteIterator::new(
             self.ehdr.endianness,
             self.ehdr.class,
@@ -81,6 +81,6 @@ impl<E: EndianParse, S: StreamSource, A: Allocator + Copy> ElfStream<E, S, A> {
             return Err(ParseError::UnexpectedSegmentType((phdr.p_type, abi::PT_NOTE)));
         }
         self.load_segment(phdr)?;
-        Ok(self.lend_segment_notes(phdr))
+        Ok(self.cached_segment_notes(phdr))
     }
 }

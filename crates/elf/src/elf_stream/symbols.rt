@@ -37,7 +37,7 @@ impl<E: EndianParse, S: StreamSource, A: Allocator + Copy> ElfStream<E, S, A> {
     }
 
     // The symbols of the first section and the strings of the second, whose ranges are cached.
-    fn lend_symbols(
+    fn cached_symbols(
         &self,
         shdr: &SectionHeader,
         linked: &SectionHeader,
@@ -47,8 +47,8 @@ impl<E: EndianParse, S: StreamSource, A: Allocator + Copy> ElfStream<E, S, A> {
         ensures { IfSome self.now.content (λ bytes.
             symbols_in (stream_file E.little self.now bytes) (shdr.now, linked.now) ≡ Ok (symbols_view result)) }
     {
-        let symbols = self.held_bytes(shdr.sh_offset, shdr.sh_size);
-        let strings = self.held_bytes(linked.sh_offset, linked.sh_size);
+        let symbols = self.cached_bytes(shdr.sh_offset, shdr.sh_size);
+        let strings = self.cached_bytes(linked.sh_offset, linked.sh_size);
         (
             SymbolTable::new(self.ehdr.endianness, self.ehdr.class, symbols),
             StringTable::new(strings),
@@ -67,7 +67,7 @@ impl<E: EndianParse, S: StreamSource, A: Allocator + Copy> ElfStream<E, S, A> {
             return Ok(None);
         };
         self.load_both(&shdr, &linked)?;
-        Ok(Some(self.lend_symbols(&shdr, &linked)))
+        Ok(Some(self.cached_symbols(&shdr, &linked)))
     }
 
     /// Returns the symbols of the first section of type `SHT_SYMTAB`, and the strings of the section that its `sh_link`

@@ -82,7 +82,7 @@ impl<E: EndianParse, S: StreamSource, A: Allocator + Copy> ElfStream<E, S, A> {
     }
 
     // The needs of a section with their strings, or `None` if there is no section. The ranges are cached.
-    fn lend_needs(
+    fn cached_needs(
         &self,
         linked: Option<LinkedSections>,
     ) -> Option<(VerNeedIterator<'_, E>, StringTable<'_>)>
@@ -92,8 +92,8 @@ impl<E: EndianParse, S: StreamSource, A: Allocator + Copy> ElfStream<E, S, A> {
             if_found (needs_by (stream_file E.little self.now bytes)) linked ≡ Ok (option_map needs_view result)) }
     {
         let (shdr, linked) = linked?;
-        let bytes = self.held_bytes(shdr.sh_offset, shdr.sh_size);
-        let strings = self.held_bytes(linked.sh_offset, linked.sh_size);
+        let bytes = self.cached_bytes(shdr.sh_offset, shdr.sh_size);
+        let strings = self.cached_bytes(linked.sh_offset, linked.sh_size);
         let needs = VerNeedIterator::new(
             self.ehdr.endianness,
             self.ehdr.class,
@@ -105,7 +105,7 @@ impl<E: EndianParse, S: StreamSource, A: Allocator + Copy> ElfStream<E, S, A> {
     }
 
     // The definitions of a section with their strings, or `None` if there is no section. The ranges are cached.
-    fn lend_definitions(
+    fn cached_definitions(
         &self,
         linked: Option<LinkedSections>,
     ) -> Option<(VerDefIterator<'_, E>, StringTable<'_>)>
@@ -116,8 +116,8 @@ impl<E: EndianParse, S: StreamSource, A: Allocator + Copy> ElfStream<E, S, A> {
             ≡ Ok (option_map definitions_view result)) }
     {
         let (shdr, linked) = linked?;
-        let bytes = self.held_bytes(shdr.sh_offset, shdr.sh_size);
-        let strings = self.held_bytes(linked.sh_offset, linked.sh_size);
+        let bytes = self.cached_bytes(shdr.sh_offset, shdr.sh_size);
+        let strings = self.cached_bytes(linked.sh_offset, linked.sh_size);
         let definitions = VerDefIterator::new(
             self.ehdr.endianness,
             self.ehdr.class,
@@ -129,7 +129,7 @@ impl<E: EndianParse, S: StreamSource, A: Allocator + Copy> ElfStream<E, S, A> {
     }
 
     // The versions in the sections of a plan, whose ranges are cached.
-    fn lend_versions(&self, plan: VersionPlan) -> SymbolVersionTable<'_, E>
+    fn cached_versions(&self, plan: VersionPlan) -> SymbolVersionTable<'_, E>
         requires low { AreLow (whole_section plan.0) }
         requires held { AreHeld self.now (whole_section plan.0) }
         requires low_needs { AreLow (if_there both_sections plan.1) }
@@ -139,10 +139,10 @@ impl<E: EndianParse, S: StreamSource, A: Allocator + Copy> ElfStream<E, S, A> {
         ensures { IfSome self.now.content (λ bytes.
             versions_by (stream_file E.little self.now bytes) plan ≡ Ok (versions_view result)) }
     {
-        let bytes = self.held_bytes(plan.0.sh_offset, plan.0.sh_size);
+        let bytes = self.cached_bytes(plan.0.sh_offset, plan.0.sh_size);
         let indexes = VersionIndexTable::new(self.ehdr.endianness, self.ehdr.class, bytes);
-        let needs = self.lend_needs(plan.1);
-        let definitions = self.lend_definitions(plan.2);
+        let needs = self.cached_needs(plan.1);
+        let definitions = self.cached_definitions(plan.2);
         SymbolVersionTable::new(indexes, needs, definitions)
     }
 
@@ -155,7 +155,7 @@ impl<E: EndianParse, S: StreamSource, A: Allocator + Copy> ElfStream<E, S, A> {
             return Ok(None);
         };
         self.load_plan(plan)?;
-        Ok(Some(self.lend_versions(plan)))
+        Ok(Some(self.cached_versions(plan)))
     }
 
     /// Returns the versions of the symbols (GNU symbol versioning), or `None` if there is no section of type

@@ -1,8 +1,8 @@
 //! GNU hash sections.
-ghost use Rattle.std.specs.Prelude.{◌≡◌, ◌+◌, ◌-◌, ◌<◌, ◌≤◌, drop, length, take};
+ghost use Rattle.std.specs.Prelude.{◌≡◌, ◌+◌, ◌-◌, ◌<◌, ◌≤◌, None, drop, length, take};
 ghost use Rattle.elf_parts.specs.Class.{address_bits};
-ghost use Rattle.elf_parts.specs.GnuFind.{bloom_word, find_in_run, gnu_find, gnu_section, gnu_view};
-ghost use Rattle.elf_parts.specs.GnuFind.{passes, word_decides};
+ghost use Rattle.elf_parts.specs.GnuFind.{bloom_word, find_by_hash, find_in_run, gnu_find, gnu_section};
+ghost use Rattle.elf_parts.specs.GnuFind.{gnu_view, passes, word_decides};
 ghost use Rattle.elf_parts.specs.Hash.{gnu_hash_from, gnu_hash_of, word_count};
 ghost use Rattle.elf_parts.specs.Number.{ok_map};
 ghost use Rattle.elf_parts.specs.StringTable.{strings_view};
@@ -10,7 +10,9 @@ ghost use Rattle.elf_parts.specs.Table.{table_in, table_view};
 
 use crate::endian::{BigEndian, EndianParse, LittleEndian};
 use crate::file::Class;
-use crate::hash::{U32Table, get_bytes, named_symbol, word, word_count};
+use crate::hash::{
+    Found, U32Table, get_bytes, named_symbol, refused_symbol, refused_word, word, word_count,
+};
 use crate::parse::{ParseAt, ParseError, ParsingTable};
 use crate::string_table::StringTable;
 use crate::symbol::{Symbol, SymbolTable};
@@ -120,6 +122,7 @@ fn bloom_bits(class: Class) -> u32
 
 // A bloom word: four bytes in a 32-bit file, eight in a 64-bit one.
 #[tactic(auto, unfolding(crate::specs::GnuFind::bloom_word, crate::specs::Hash::word_at, crate::specs::Hash::long_word_at))]
+#[inline(always)]
 fn bloom_word<E: EndianParse>(
     endian: E,
     class: Class,
@@ -173,6 +176,7 @@ impl<'data, E: EndianParse> GnuHashTable<'data, E> {
     }
 
     /// Returns a bloom word, counted from 0, or the error of `ParsingTable::get`. The numbers in `hdr` do not matter.
+    #[inline(always)]
     pub fn bloom_word(&self, index: usize) -> Result<u64, ParseError>
         ensures { result ≡ bloom_word (gnu_view self.now).bloom index }
     {
@@ -200,6 +204,7 @@ impl<'data, E: EndianParse> GnuHashTable<'data, E> {
 
     // Whether both bloom bits of a hash are set.
     #[tactic(auto, using(std::proofs::lemmas::Nat::Bits::shr_and_one), unfolding(crate::specs::GnuFind::passes))]
+    #[inline(always)]
     fn passes(&self, hash: u32) -> Result<bool, ParseError>
         requires { 0 < self.now.hdr.nbloom }
         ensures { result ≡ passes (gnu_view self.now) hash }
@@ -215,7 +220,18 @@ impl<'data, E: EndianParse> GnuHashTable<'data, E> {
         Ok((word >> (second % bits)) & 1 == 1)
     }
 
+    // The error of bloom bits that cannot be looked at.
+    #[inline(never)]
+    fn refused_by_bloom(&self, hash: u32) -> Found
+        requires { 0 < self.now.hdr.nbloom }
+        ensures { result ≡ ok_map (λ _. None) (passes (gnu_view self.now) hash) }
+    {
+        self.passes(hash)?;
+        Ok(None)
+    }
+
     // What a chain word decides for a name with this hash. `index` is that of the word's symbol.
+    #[inline(always)]
     fn decide(
         &self,
         hash: usize,
@@ -224,7 +240,7 @@ impl<'data, E: EndianParse> GnuHashTable<'data, E> {
         word: usize,
         symtab: &SymbolTable<'data, E>,
         strtab: &StringTable<'data>,
-    ) -> Result<Option<(usize, Symbol)>, ParseError>
+    ) -> Found
         requires { hash ≡ gnu_hash_of name.now }
         ensures { let t = gnu_view self.now in
             result ≡ word_decides t (table_view symtab.now) (strings_view strtab.now) name.now index word }
@@ -239,6 +255,7 @@ impl<'data, E: EndianParse> GnuHashTable<'data, E> {
     }
 
     // The index and the symbol of a name with this hash, in the run from place `start` on.
+    #[inline(always)]
     fn find_in_run(
         &self,
         hash: usize,
@@ -246,22 +263,50 @@ impl<'data, E: EndianParse> GnuHashTable<'data, E> {
         start: usize,
         symtab: &SymbolTable<'data, E>,
         strtab: &StringTable<'data>,
-    ) -> Result<Option<(usize, Symbol)>, ParseError>
+    ) -> Found
         requires { hash ≡ gnu_hash_of name.now }
         ensures { let t = gnu_view self.now in let limit = word_count t.chains - start in
             result ≡ find_in_run t (table_view symtab.now) (strings_view strtab.now) name.now limit start }
     {
         let first = self.hdr.table_start_idx as usize;
         for place in start..word_count(&self.chains) {
-            let word = word(&self.chains, place)?;
-            if let Some(found) = self.decide(hash, name, first + place, word, symtab, strtab)? {
-                return Ok(Some(found));
+            let Ok(word) = word(&self.chains, place) else {
+                return refused_word(&self.chains, place);
+            };
+            match self.decide(hash, name, first + place, word, symtab, strtab) {
+                Ok(Some(found)) => return Ok(Some(found)),
+                Ok(None) => {}
+                Err(_) => return refused_symbol(symtab, strtab, first + place),
             }
             if word % 2 == 1 {
                 return Ok(None);
             }
         }
         Ok(None)
+    }
+
+    // The index and the symbol of a name with this hash, in the bucket of the hash.
+    #[inline(never)]
+    fn find_in_bucket(
+        &self,
+        hash: usize,
+        name: &[u8],
+        symtab: &SymbolTable<'data, E>,
+        strtab: &StringTable<'data>,
+    ) -> Found
+        requires hash { hash ≡ gnu_hash_of name.now }
+        requires some { 0 < word_count (gnu_view self.now).buckets }
+        ensures { result ≡ find_by_hash (gnu_view self.now) (table_view symtab.now) (strings_view strtab.now) name.now }
+    {
+        let first = self.hdr.table_start_idx as usize;
+        let bucket = hash % word_count(&self.buckets);
+        let Ok(start) = word(&self.buckets, bucket) else {
+            return refused_word(&self.buckets, bucket);
+        };
+        if start < first {
+            return Ok(None);
+        }
+        self.find_in_run(hash, name, start - first, symtab, strtab)
     }
 
     /// Returns the index and the symbol of a name, the first in the run of its bucket. Returns `None` if there are no
@@ -271,6 +316,8 @@ impl<'data, E: EndianParse> GnuHashTable<'data, E> {
     /// caller raised `hdr.nbloom`; `ParsingTable::get` for a symbol whose chain word fits the hash;
     /// `StringTable::get_raw` for its name. It is `IntegerOverflow` if the second bloom bit is needed and the shift is
     /// 32 or more.
+    // Inlined, so that a name that the bloom word excludes needs no call, and its `None` no room for an error.
+    #[inline(always)]
     #[tactic(auto, unfolding(crate::specs::GnuFind::gnu_find))]
     pub fn find(
         &self,
@@ -280,19 +327,14 @@ impl<'data, E: EndianParse> GnuHashTable<'data, E> {
     ) -> Result<Option<(usize, Symbol)>, ParseError>
         ensures { result ≡ gnu_find (gnu_view self.now) (table_view symtab.now) (strings_view strtab.now) name.now }
     {
-        let nbucket = word_count(&self.buckets);
-        if nbucket == 0 || self.hdr.nbloom == 0 {
+        if self.buckets.is_empty() || self.hdr.nbloom == 0 {
             return Ok(None);
         }
         let hash = gnu_hash(name);
-        if !self.passes(hash)? {
-            return Ok(None);
+        match self.passes(hash) {
+            Ok(true) => self.find_in_bucket(hash as usize, name, symtab, strtab),
+            Ok(false) => Ok(None),
+            Err(_) => self.refused_by_bloom(hash),
         }
-        let first = self.hdr.table_start_idx as usize;
-        let start = word(&self.buckets, hash as usize % nbucket)?;
-        if start < first {
-            return Ok(None);
-        }
-        self.find_in_run(hash as usize, name, start - first, symtab, strtab)
     }
 }

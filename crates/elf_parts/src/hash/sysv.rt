@@ -1,14 +1,16 @@
 //! SysV hash sections (gABI, chapter "Hash Table").
 ghost use Rattle.std.specs.Prelude.{◌≡◌};
-ghost use Rattle.elf_parts.specs.Hash.{folded, sysv_hash_of};
+ghost use Rattle.elf_parts.specs.Hash.{folded, sysv_hash_of, word_count};
 ghost use Rattle.elf_parts.specs.Number.{ok_map};
 ghost use Rattle.elf_parts.specs.StringTable.{strings_view};
-ghost use Rattle.elf_parts.specs.SysvFind.{sysv_find, sysv_section, sysv_view};
+ghost use Rattle.elf_parts.specs.SysvFind.{find_along, sysv_find, sysv_section, sysv_view};
 ghost use Rattle.elf_parts.specs.Table.{table_view};
 
 use crate::endian::EndianParse;
 use crate::file::Class;
-use crate::hash::{U32Table, get_bytes, named_symbol, word, word_count};
+use crate::hash::{
+    Found, U32Table, get_bytes, named_symbol, refused_symbol, refused_word, word, word_count,
+};
 use crate::parse::{ParseAt, ParseError, ParsingTable};
 use crate::string_table::StringTable;
 use crate::symbol::{Symbol, SymbolTable};
@@ -104,13 +106,46 @@ impl<'data, E: EndianParse> SysVHashTable<'data, E> {
         self.chains
     }
 
+    // The index and the symbol of a name, along the chain that starts at an index.
+    #[inline(never)]
+    fn find_along(
+        &self,
+        start: usize,
+        name: &[u8],
+        symtab: &SymbolTable<'data, E>,
+        strtab: &StringTable<'data>,
+    ) -> Found
+        ensures { let t = sysv_view self.now in
+            result ≡ find_along t (table_view symtab.now) (strings_view strtab.now) name.now (word_count t.chains) start }
+    {
+        let mut index = start;
+        for _ in 0..word_count(&self.chains) {
+            if index == 0 {
+                return Ok(None);
+            }
+            let Ok((symbol, found)) = named_symbol(symtab, strtab, index) else {
+                return refused_symbol(symtab, strtab, index);
+            };
+            if found == name {
+                return Ok(Some((index, symbol)));
+            }
+            let Ok(next) = word(&self.chains, index) else {
+                return refused_word(&self.chains, index);
+            };
+            index = next;
+        }
+        Ok(None)
+    }
+
     /// Returns the index and the symbol of a name: the first one along the chain of its bucket. Returns `None` if
     /// there are no buckets, or if the chain ends, or is followed for as many symbols as there are chain words,
     /// without one of this name.
     ///
     /// The error is that of the first read on the way that fails: `ParsingTable::get` for the symbol,
     /// `StringTable::get_raw` for its name, or `ParsingTable::get` for the chain word.
-    #[tactic(auto, unfolding(crate::specs::SysvFind::sysv_find))]
+    // Inlined, so that an empty bucket needs no call, and its `None` no room for an error.
+    #[inline(always)]
+    #[tactic(auto, using(crate::proofs::Walks::along_ended), unfolding(crate::specs::SysvFind::sysv_find))]
     pub fn find(
         &self,
         name: &[u8],
@@ -123,17 +158,11 @@ impl<'data, E: EndianParse> SysVHashTable<'data, E> {
         if nbucket == 0 {
             return Ok(None);
         }
-        let mut index = word(&self.buckets, sysv_hash(name) as usize % nbucket)?;
-        for _ in 0..word_count(&self.chains) {
-            if index == 0 {
-                return Ok(None);
-            }
-            let (symbol, found) = named_symbol(symtab, strtab, index)?;
-            if found == name {
-                return Ok(Some((index, symbol)));
-            }
-            index = word(&self.chains, index)?;
+        let bucket = sysv_hash(name) as usize % nbucket;
+        match word(&self.buckets, bucket) {
+            Ok(0) => Ok(None),
+            Ok(index) => self.find_along(index, name, symtab, strtab),
+            Err(_) => refused_word(&self.buckets, bucket),
         }
-        Ok(None)
     }
 }

@@ -9,7 +9,9 @@ use crate::parse::{ParseAt, ParseError};
 use std::alloc::AllocError;
 use std::marker::PhantomData;
 
-// Reads a record in the one order or the other.
+// Reads a record in the one order or the other. Inlined, as are the reads of the records that files have most of: an
+// iterator drops the error, and a look-up makes it anew, so that no room for it is filled at each read.
+#[inline(always)]
 pub(crate) fn read_record<P: ParseAt>(
     little: bool,
     class: Class,
@@ -153,6 +155,7 @@ impl<'data, E: EndianParse, P: ParseAt> ParsingTable<'data, E, P> {
     /// Errors, in order: `BadOffset(index)` if the table has no bytes; `IntegerOverflow` if the offset of the
     /// record does not fit 64 bits; `BadOffset(index)` if the offset lies past the end of the table; then the error
     /// of the record's own read, as `SliceReadError((start, end))` of a field that does not lie in the table.
+    #[inline(always)]
     pub fn get(&self, index: usize) -> Result<P, ParseError>
         ensures { result ≡ table_get P.reads (table_view self.now) index }
     {

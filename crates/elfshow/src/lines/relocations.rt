@@ -27,7 +27,7 @@ impl Line for RelLine {
             r_type,
         } = *rel;
         lines.decimal("rel ", k, out);
-        add_place_fields(r_offset, r_sym, r_type, lines, out);
+        add_relocation_fields(r_offset, r_sym, r_type, lines, out);
         lines.word("\n", out);
     }
 }
@@ -49,14 +49,14 @@ impl Line for RelaLine {
             r_addend,
         } = *rela;
         lines.decimal("rela ", k, out);
-        add_place_fields(r_offset, r_sym, r_type, lines, out);
+        add_relocation_fields(r_offset, r_sym, r_type, lines, out);
         lines.signed(" addend=", r_addend, out);
         lines.word("\n", out);
     }
 }
 
 // Adds the fields that both kinds of relocations have.
-fn add_place_fields<W: Write>(
+fn add_relocation_fields<W: Write>(
     r_offset: u64,
     r_sym: u32,
     r_type: u32,

@@ -3,33 +3,33 @@ use Rattle.elf_parts.specs.StringTable.{strings_view}
 use Rattle.elf_parts.specs.Table.{table_view}
 use Rattle.elf_parts.specs.SysvFind.{sysv_view}
 use Rattle.elf_parts.proofs.Walks.{along_refused, along_found, along_cut, along_next, along_ended, along_limit}
-use Rattle.elf_parts.proofs.hash.sysv.SysVHashTable.find.Goals as goal
+use Rattle.elf_parts.proofs.hash.sysv.SysVHashTable.find_along.Goals as goal
 
 pub returns-then-index-eq0 : goal.returns-then-index-eq0
 returns-then-index-eq0 g c =
     let step = along_ended (sysv_view c.args.self.now) (table_view c.args.symtab.now) (strings_view c.args.strtab.now) c.args.name.now (c.word_count-end.result - c.loop.counter) c.loop.index (omega arith) in
     sym step ∙ c.loop.invariant
 
-pub returns-in_err-symbol : goal.returns-in_err-symbol
-returns-in_err-symbol g c =
-    let step = along_refused (sysv_view c.args.self.now) (table_view c.args.symtab.now) (strings_view c.args.strtab.now) c.args.name.now (c.word_count-end.result - c.loop.counter) c.loop.index _ (omega arith) (omega arith) (sym c.in_err-symbol.ensures) in
+pub returns-in_default : goal.returns-in_default
+returns-in_default g c =
+    let step = along_refused (sysv_view c.args.self.now) (table_view c.args.symtab.now) (strings_view c.args.strtab.now) c.args.name.now (c.word_count-end.result - c.loop.counter) c.loop.index _ (omega arith) (omega arith) (sym c.in_default.ensures) in
     let all = sym step ∙ c.loop.invariant in
     search (rules, all)
 
 pub returns-then-eq : goal.returns-then-eq
 returns-then-eq g c =
-    let step = along_found (sysv_view c.args.self.now) (table_view c.args.symtab.now) (strings_view c.args.strtab.now) c.args.name.now (c.word_count-end.result - c.loop.counter) c.loop.index _ (omega arith) (omega arith) (sym c.in_ok-symbol.ensures) (sym c.eq.ensures ∙ c.if-eq.true) in
+    let step = along_found (sysv_view c.args.self.now) (table_view c.args.symtab.now) (strings_view c.args.strtab.now) c.args.name.now (c.word_count-end.result - c.loop.counter) c.loop.index _ (omega arith) (omega arith) (sym c.in-Ok.ensures) (sym c.eq.ensures ∙ c.if-eq.true) in
     sym step ∙ c.loop.invariant
 
-pub returns-in_err-index-2 : goal.returns-in_err-index-2
-returns-in_err-index-2 g c =
-    let step = along_cut (sysv_view c.args.self.now) (table_view c.args.symtab.now) (strings_view c.args.strtab.now) c.args.name.now (c.word_count-end.result - c.loop.counter) c.loop.index _ _ (omega arith) (omega arith) (sym c.in_ok-symbol.ensures) (sym c.eq.ensures ∙ c.if-eq.false) (sym c.in_err-index-2.ensures) in
+pub returns-in_default-word : goal.returns-in_default-word
+returns-in_default-word g c =
+    let step = along_cut (sysv_view c.args.self.now) (table_view c.args.symtab.now) (strings_view c.args.strtab.now) c.args.name.now (c.word_count-end.result - c.loop.counter) c.loop.index _ _ (omega arith) (omega arith) (sym c.in-Ok.ensures) (sym c.eq.ensures ∙ c.if-eq.false) (sym c.in_default-word.ensures) in
     let all = sym step ∙ c.loop.invariant in
     search (rules, all)
 
 pub loop-preserved : goal.loop-preserved
 loop-preserved g c =
-    let step = along_next (sysv_view c.args.self.now) (table_view c.args.symtab.now) (strings_view c.args.strtab.now) c.args.name.now (c.word_count-end.result - c.loop.counter) c.loop.index _ _ (omega arith) (omega arith) (sym c.in_ok-symbol.ensures) (sym c.eq.ensures ∙ c.if-eq.false) (sym c.in_ok-index-2.ensures) in
+    let step = along_next (sysv_view c.args.self.now) (table_view c.args.symtab.now) (strings_view c.args.strtab.now) c.args.name.now (c.word_count-end.result - c.loop.counter) c.loop.index _ _ (omega arith) (omega arith) (sym c.in-Ok.ensures) (sym c.eq.ensures ∙ c.if-eq.false) (sym c.in-Ok-word.ensures) in
     let less : c.word_count-end.result - c.loop.counter - 1 ≡ c.word_count-end.result - (c.loop.counter + 1) = omega arith in
     sym (rw less at step) ∙ c.loop.invariant
 

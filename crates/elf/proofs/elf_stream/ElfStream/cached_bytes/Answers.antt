@@ -1,5 +1,5 @@
 use Rattle.elf.proofs.stream.Pieces.{part_bytes, part_within}
-use Rattle.elf.proofs.elf_stream.ElfStream.held_bytes.Goals as goal
+use Rattle.elf.proofs.elf_stream.ElfStream.cached_bytes.Goals as goal
 
 pub returns-clause-bytes : goal.returns-clause-bytes
 returns-clause-bytes g c =

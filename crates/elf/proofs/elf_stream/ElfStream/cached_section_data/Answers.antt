@@ -2,7 +2,7 @@ use Rattle.std.proofs.lemmas.Result.{err_from_is_err_and}
 use Rattle.elf_parts.specs.Compression.{compression_header_layout}
 use Rattle.elf_parts.specs.Record.{record_by, size_by}
 use Rattle.elf.proofs.stream.Plain.{plain_front, plain_kind, plain_record_by}
-use Rattle.elf.proofs.elf_stream.ElfStream.lend_section_data.Goals as goal
+use Rattle.elf.proofs.elf_stream.ElfStream.cached_section_data.Goals as goal
 
 pub returns-in_err-rest-clause-plain : goal.returns-in_err-rest-clause-plain
 returns-in_err-rest-clause-plain g c =
@@ -11,4 +11,4 @@ returns-in_err-rest-clause-plain g c =
     let class = c.self.inside.ehdr.class in
     rw (p.1, p.2)
     (plain_kind c.in_err-rest.field-0.0 _ c.in_err-rest.ensures.value
-    (plain_front (size_by compression_header_layout class) (record_by compression_header_layout little class) c.held_bytes-part.result.now (plain_record_by compression_header_layout little class c.held_bytes-part.result.now 0)))
+    (plain_front (size_by compression_header_layout class) (record_by compression_header_layout little class) c.cached_bytes-part.result.now (plain_record_by compression_header_layout little class c.cached_bytes-part.result.now 0)))
