@@ -31,7 +31,9 @@ impl Reads {
         self.count
     }
 
-    // Reads a symbol, and gives its name where both can be read.
+    // Reads a symbol, and gives its name where both can be read. Inlined, since a name that is returned by a call goes
+    // through memory.
+    #[inline(always)]
     #[tactic(auto, unfolding(crate::specs::WithSymbols::named, elf_parts::specs::Hash::named_symbol))]
     pub(crate) fn name_at<'data, E: EndianParse>(
         &mut self,
