@@ -6,7 +6,7 @@ use Rattle.elf_parts.specs.Number.{ok_map}
 use Rattle.elf_parts.specs.declared.file.FileHeader.{FileHeader}
 use Rattle.elf_parts.specs.declared.parse.ParseError.{ParseError}
 use Rattle.elf_parts.specs.declared.section.SectionHeader.{SectionHeader}
-use Rattle.elf.specs.Readers.{AreMade, Call, IsAnsweredAlike, IsSame, Method, answer, asked}
+use Rattle.elf.specs.Readers.{AreMade, Call, IsAnsweredAlike, IsSame, Method, answer, requested}
 use Rattle.elf.specs.Readers.{Dynamic, DynamicSymbolTable, SectionData, SectionDataAsNotes, SectionDataAsRelas, SectionDataAsRels, SectionDataAsStrtab, SectionHeaderByName, SectionHeadersWithStrtab, SegmentData, SegmentDataAsNotes, SymbolTable, SymbolVersionTable}
 use Rattle.elf.specs.Ranges.{headers_alone}
 use Rattle.elf.specs.StreamFile.{stream_file}
@@ -52,8 +52,8 @@ refused_alike (Err d) (Ok b) same h = cc
 refused_alike (Err d) (Err e) same h = refl
 
 refusal : (k : Kind) (before now : ℕ) (can_fail : Bool) (P : Type 0) → IsRefused before now can_fail P k → k ≡ Kind.Refusal → P
-refusal Kind.Failure before now can_fail P h is = cc
-refusal Kind.Want before now can_fail P h is = cc
+refusal Kind.SourceFailure before now can_fail P h is = cc
+refusal Kind.AllocationFailure before now can_fail P h is = cc
 refusal Kind.Refusal before now can_fail P h is = h.1
 
 one_call : {A : Type 0} (one other : Result A ParseError) (can_fail : Bool) (before now : ℕ) (r : Result A ParseError) → AreAlike one other → IsAnswer (λ x. x) other can_fail before now r → IsSame one r
@@ -76,12 +76,12 @@ module _ {E : Type 0} (little : E → Bool) (bytes : List ℕ) (v : View E)
   calls_alike s [] content headers made = All-nil (IsAnsweredAlike little v)
   calls_alike s (call ∷ calls) content headers made =
       let old : Seen E = record s { ehdr = call.header } in
-      let leaves : Leaves (asked call.method (headers_alone little old)) (λ x. x) (λ bytes. answer call.method (stream_file little old bytes)) old call.new call.result = made.0 in
+      let leaves : Leaves (requested call.method (headers_alone little old)) (λ x. x) (λ bytes. answer call.method (stream_file little old bytes)) old call.new call.result = made.0 in
       let now : shown_headers old ≡ headers_of (with_header v old.ehdr) = put_in v s call.header headers in
       All-cons (IsAnsweredAlike little v) call calls
-      (one_call (answer call.method (object_file little (with_header v call.header))) (answer call.method (stream_file little old bytes)) old.can_fail old.faults call.new.faults call.result
+      (one_call (answer call.method (object_file little (with_header v call.header))) (answer call.method (stream_file little old bytes)) old.can_fail old.failures call.new.failures call.result
       (alike (object_file little (with_header v call.header)) (stream_file little old bytes) (law call.header old now) call.method)
-      (told bytes old.content (λ bytes. IsAnswer (λ x. x) (answer call.method (stream_file little old bytes)) old.can_fail old.faults call.new.faults call.result) content leaves.answers))
+      (told bytes old.content (λ bytes. IsAnswer (λ x. x) (answer call.method (stream_file little old bytes)) old.can_fail old.failures call.new.failures call.result) content leaves.answers))
       (calls_alike call.new calls (leaves.keeps.content ∙ content) (stay v old call.new leaves.keeps now) made.1)
 
 pub stream_alike : {E : Type 0} (little : E → Bool) (of_byte : ℕ → Option E) (s : Seen E) (told : Option (List ℕ))

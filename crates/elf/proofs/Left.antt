@@ -1,4 +1,4 @@
--- The headers that an iterator is still to give.
+-- The headers that an iterator has left to yield.
 use Rattle.std.proofs.Common.{List}
 use Rattle.elf_parts.specs.Section.{section_header_reads}
 use Rattle.elf_parts.specs.Segment.{program_header_reads}

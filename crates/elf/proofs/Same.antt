@@ -31,7 +31,7 @@ use Rattle.elf.proofs.Alike.{alike_first, alike_found, alike_if, alike_later, al
 
 -- ---- a file, and the same with another way to its section headers
 
--- the same file, whose section headers are had so
+-- the same file, whose section headers are read so
 abbrev pub with_sections_at : ObjectFile → (ℕ → Result SectionHeader ParseError) → ObjectFile
 with_sections_at file gives = record file { section_at = gives }
 

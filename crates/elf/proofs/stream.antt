@@ -1,6 +1,6 @@
 pub mod Filling
 pub mod Pieces
-pub mod Kept
+pub mod Cached
 pub mod Loads
 pub mod Reads
 pub mod Located

@@ -62,7 +62,7 @@ first_symbols t file = symbol_sections t file >>= if_found (symbols_in file)
 abbrev pub symbols_view : {E P : Type 0} → ParsingTable E P × StringTable → Table × List ℕ
 symbols_view found = (table_view found.0, strings_view found.1)
 
--- the relocations that an iterator is still to give
+-- the relocations that an iterator has left to yield
 abbrev pub rels_left : {E : Type 0} → ParsingIterator E Rel → List Rel
 rels_left rels = items_left rel_reads rels
 

@@ -45,7 +45,7 @@ common_part file s =
     else if s.sh_type == sht_gnu_hash then ok_map GnuHash (gnu_hash_table_of file s)
     else Ok Nothing
 
--- what is in all of the results, or the first refusal
+-- what is in all of the results, or the first error
 abbrev pub all_ok : {A : Type 0} → List (Result A ParseError) → Result (List A) ParseError
 all_ok [] = Ok []
 all_ok (r ∷ rs) = r >>= λ x. ok_map (λ xs. x ∷ xs) (all_ok rs)
@@ -112,7 +112,7 @@ with_dynamic found entries = record found { dynamic = entries }
 unfoldable pub common_of_sections : ObjectFile → Result CommonData ParseError
 common_of_sections file = ok_map last_of_each (all_ok (map (common_part file) file.sections))
 
--- the last of each kind among the parts of all sections, or the first refusal; then the dynamic entries of a segment
+-- the last of each kind among the parts of all sections, or the first error; then the dynamic entries of a segment
 abbrev pub find_common_data : ObjectFile → Result CommonData ParseError
 find_common_data file =
     common_of_sections file >>= λ found. ok_map (with_dynamic found) (dynamic_or_segment file found.dynamic)

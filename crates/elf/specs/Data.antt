@@ -1,4 +1,4 @@
--- The bytes that a section stands for (gABI, chapter "Sections", "Section Compression").
+-- The bytes of a section (gABI, chapter "Sections", "Section Compression").
 use Rattle.std.specs.Prelude.{ℕ, ◌==◌, if◌then◌else◌, bit_and, List, [], drop, Option, Some, None, Result}
 use Rattle.std.specs.Prelude.{Ok, Err}
 use Rattle.elf_abi.specs.Values.{shf_compressed, sht_nobits}

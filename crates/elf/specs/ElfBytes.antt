@@ -1,4 +1,4 @@
--- What a file that was opened shows: its header as it stands, its bytes, and the two tables that it declares.
+-- What an opened file shows: its header as it is now, its bytes, and the two tables that it declares.
 use Rattle.std.specs.Prelude.{ℕ, List, [], Option, Some, None}
 use Rattle.std.specs.Option.{option_map}
 use Rattle.elf_parts.specs.Section.{section_header_reads}

@@ -11,18 +11,18 @@ use Rattle.elf_parts.specs.declared.segment.ProgramHeader.{ProgramHeader}
 use Rattle.elf.specs.Opening.{opened}
 use Rattle.elf.specs.ElfBytes.{View, section_list, segment_list, with_header}
 
--- a stream: the content of its source, where that is told, whether the source can fail and how often it did; the
--- file header as it stands, whether a table of section headers is declared, the section and the program headers;
--- and the ranges of the source that are kept, each by its start and its end
+-- a stream: the content of its source, if known, whether the source can fail and how often it did; the
+-- file header as it is now, whether a table of section headers is declared, the section and the program headers;
+-- and the ranges of the source that are cached, each by its start and its end
 pub record Seen (E : Type 0) : Type 0 where
   pub content : Option (List ℕ)
   pub can_fail : Bool
-  pub faults : ℕ
+  pub failures : ℕ
   pub ehdr : FileHeader E
   pub declares_sections : Bool
   pub sections : List SectionHeader
   pub segments : List ProgramHeader
-  pub kept : List (ℕ × ℕ)
+  pub cached : List (ℕ × ℕ)
 
 -- ---- its headers
 
@@ -51,28 +51,28 @@ headers_of v = record {
   segments = segment_list v.segments;
 }
 
--- the stream is of the file that these bytes hold: its tables are those that the opening gives, whatever header stands
+-- the stream is of the file that these bytes hold: its tables are those that the opening gives, whatever header is
 -- in it now
 abbrev pub IsOfFile : {E : Type 0} → (E → Bool) → (ℕ → Option E) → List ℕ → Seen E → Type 0
 IsOfFile {E} little of_byte bytes s =
     (v : View E) × (opened little of_byte bytes ≡ Ok v) × (shown_headers s ≡ headers_of (with_header v s.ehdr))
 
--- ---- which ranges are held
+-- ---- which ranges are cached
 
 -- whether the bytes from start to end lie within one of the ranges
-abbrev pub is_held : List (ℕ × ℕ) → ℕ → ℕ → Bool
-is_held ranges start end = list_any (λ r. nat_le r.0 start && nat_le end r.1) ranges
+abbrev pub is_cached : List (ℕ × ℕ) → ℕ → ℕ → Bool
+is_cached ranges start end = list_any (λ r. nat_le r.0 start && nat_le end r.1) ranges
 
--- the bytes from start to end lie within one of the ranges that are kept
-abbrev pub IsHeld : {E : Type 0} → Seen E → ℕ → ℕ → Type 0
-IsHeld s start end = IsTrue (is_held s.kept start end)
+-- the bytes from start to end lie within one of the cached ranges
+abbrev pub IsCached : {E : Type 0} → Seen E → ℕ → ℕ → Type 0
+IsCached s start end = IsTrue (is_cached s.cached start end)
 
--- each of these ranges, given by its start and its size, is held
-abbrev pub AreHeld : {E : Type 0} → Seen E → List (ℕ × ℕ) → Type 0
-AreHeld s [] = Unit {0}
-AreHeld s (r ∷ rs) = IsHeld s r.0 (r.0 + r.1) × AreHeld s rs
+-- each of these ranges, given by its start and its size, is cached
+abbrev pub AreCached : {E : Type 0} → Seen E → List (ℕ × ℕ) → Type 0
+AreCached s [] = Unit {0}
+AreCached s (r ∷ rs) = IsCached s r.0 (r.0 + r.1) × AreCached s rs
 
--- the same file, and no range that was held is lost
+-- the same file, and no range that was cached is lost
 pub record Keeps {E : Type 0} (old new : Seen E) : Type 0 where
   pub content : new.content ≡ old.content
   pub can_fail : new.can_fail ≡ old.can_fail
@@ -80,28 +80,28 @@ pub record Keeps {E : Type 0} (old new : Seen E) : Type 0 where
   pub declares_sections : new.declares_sections ≡ old.declares_sections
   pub sections : new.sections ≡ old.sections
   pub segments : new.segments ≡ old.segments
-  pub held : (start end : ℕ) → IsHeld old start end → IsHeld new start end
+  pub cached : (start end : ℕ) → IsCached old start end → IsCached new start end
 
 -- ---- why a call is refused
 
 -- the source failed, memory was refused, or the content has no answer
 pub data Kind : Type 0 where
-  Failure : Kind
-  Want : Kind
+  SourceFailure : Kind
+  AllocationFailure : Kind
   Refusal : Kind
 
 abbrev pub kind : ParseError → Kind
-kind (IOError _) = Failure
-kind OutOfMemory = Want
+kind (IOError _) = SourceFailure
+kind OutOfMemory = AllocationFailure
 kind _ = Refusal
 
 -- a failure of the source raises its count, and nothing else does; the content is refused only where it has no answer
 abbrev pub IsRefused : ℕ → ℕ → Bool → Type 0 → Kind → Type 0
-IsRefused before now can_fail none Failure = (before < now) × IsTrue can_fail
-IsRefused before now can_fail none Want = now ≡ before
+IsRefused before now can_fail none SourceFailure = (before < now) × IsTrue can_fail
+IsRefused before now can_fail none AllocationFailure = now ≡ before
 IsRefused before now can_fail none Refusal = (now ≡ before) × none
 
--- the answer that the content gives, or a refusal; where the content's answer is a refusal, one of whatever kind
+-- the answer that the content gives, or an error; if the content's answer is an error, an error of any kind
 abbrev pub IsAnswer :
     {T Y : Type 0} → (T → Y) → Result Y ParseError → Bool → ℕ → ℕ → Result T ParseError → Type 0
 IsAnswer shown answer can_fail before now (Ok x) = (now ≡ before) × (answer ≡ Ok (shown x))
@@ -109,40 +109,40 @@ IsAnswer shown answer can_fail before now (Err e) = IsRefused before now can_fai
 
 -- ---- what a call leaves
 
--- the ranges up to the first that is not held lie in the bytes: the source and memory are needed for that one
+-- the ranges up to the first that is not cached lie in the bytes: the source and memory are needed for that one
 abbrev pub IsNeeded : {E : Type 0} → List ℕ → Seen E → List (ℕ × ℕ) → Type 0
 IsNeeded bytes s [] = ⊥
-IsNeeded bytes s (r ∷ rs) = IsOk (bytes_at r.1 bytes r.0) × (IsHeld s r.0 (r.0 + r.1) → IsNeeded bytes s rs)
+IsNeeded bytes s (r ∷ rs) = IsOk (bytes_at r.1 bytes r.0) × (IsCached s r.0 (r.0 + r.1) → IsNeeded bytes s rs)
 
 -- the source fails and memory is refused only where they are needed
 abbrev pub IsFor : Type 0 → Kind → Type 0
-IsFor need Failure = need
-IsFor need Want = need
+IsFor need SourceFailure = need
+IsFor need AllocationFailure = need
 IsFor need Refusal = Unit {0}
 
--- What a call leaves whose answer over a content is given: the same file, no held range lost, and after an Ok the
--- asked ranges held. Its answer is the content's. Where the asked ranges were held before, which they are where none is
--- asked for, the source and memory are not touched: the stream is as it was, and a refusal is the content's; else they
--- are for a range that lies in the content.
-pub record Leaves {E T Y : Type 0} (asked : List (ℕ × ℕ)) (shown : T → Y)
+-- What a call leaves whose answer over a content is given: the same file, no cached range lost, and after an Ok the
+-- requested ranges are cached. Its answer is the content's. If the requested ranges were cached before, as they are if
+-- none is requested, the source and memory are not touched: the stream is as it was, and an error is the content's.
+-- Else they are used only for a range that lies in the content.
+pub record Leaves {E T Y : Type 0} (requested : List (ℕ × ℕ)) (shown : T → Y)
     (answer : List ℕ → Result Y ParseError) (old new : Seen E) (r : Result T ParseError) : Type 0 where
   pub keeps : Keeps old new
-  pub loaded : OnOk r (AreHeld new asked)
-  pub answers : IfSome old.content (λ bytes. IsAnswer shown (answer bytes) old.can_fail old.faults new.faults r)
-  pub accepted : IfSome old.content (λ bytes. IsOk (answer bytes) → AreHeld old asked → IsOk r)
-  pub untouched : AreHeld old asked → (new ≡ old) × IfErr r (λ e. kind e ≡ Refusal)
-  pub needed : IfSome old.content (λ bytes. IfErr r (λ e. IsFor (IsNeeded bytes new asked) (kind e)))
+  pub loaded : OnOk r (AreCached new requested)
+  pub answers : IfSome old.content (λ bytes. IsAnswer shown (answer bytes) old.can_fail old.failures new.failures r)
+  pub accepted : IfSome old.content (λ bytes. IsOk (answer bytes) → AreCached old requested → IsOk r)
+  pub untouched : AreCached old requested → (new ≡ old) × IfErr r (λ e. kind e ≡ Refusal)
+  pub needed : IfSome old.content (λ bytes. IfErr r (λ e. IsFor (IsNeeded bytes new requested) (kind e)))
 
 -- ---- what an opening answers
 
--- as IsRefused, of a source that is given up with the refusal; memory is wanted only for a file that opens
+-- as IsRefused, of a source that is dropped with the error; memory is allocated only for a file that opens
 abbrev pub MayRefuse : Bool → Type 0 → Type 0 → Kind → Type 0
-MayRefuse can_fail some none Failure = IsTrue can_fail
-MayRefuse can_fail some none Want = some
+MayRefuse can_fail some none SourceFailure = IsTrue can_fail
+MayRefuse can_fail some none AllocationFailure = some
 MayRefuse can_fail some none Refusal = none
 
--- a stream with the headers that the content gives, over a source that did not fail; or a refusal
+-- a stream with the headers that the content gives, over a source that did not fail; or an error
 abbrev pub IsOpening :
     {E Y : Type 0} → (Seen E → Y) → Result Y ParseError → Bool → ℕ → Result (Seen E) ParseError → Type 0
-IsOpening shown answer can_fail before (Ok s) = (s.faults ≡ before) × (answer ≡ Ok (shown s))
+IsOpening shown answer can_fail before (Ok s) = (s.failures ≡ before) × (answer ≡ Ok (shown s))
 IsOpening shown answer can_fail before (Err e) = MayRefuse can_fail (IsOk answer) (IsErr answer) (kind e)

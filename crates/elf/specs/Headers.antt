@@ -12,7 +12,7 @@ use Rattle.elf_parts.specs.declared.segment.ProgramHeader.{ProgramHeader}
 
 -- ---- a header, and its bytes
 
--- section header i of a table, or why it cannot be had; where no table is declared there is none
+-- section header i of a table, or the error; where no table is declared there is none
 abbrev pub section_at : Option Table → ℕ → Result SectionHeader ParseError
 section_at None i = Err (BadOffset i)
 section_at (Some t) i = table_get section_header_reads t i

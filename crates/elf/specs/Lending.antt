@@ -1,4 +1,4 @@
--- What a method of `ElfStream` that lends from it leaves, once what it lent is no longer borrowed.
+-- What a method of `ElfStream` that returns a borrow leaves, once the borrow has ended.
 use Rattle.std.specs.Prelude.{ℕ, Bool, List, Option, Result}
 use Rattle.std.specs.Borrow.{Fml, RattleType, MutBor}
 use Rattle.std.specs.Io.BufRead.{Rests}
@@ -11,7 +11,7 @@ use Rattle.elf.specs.StreamFile.{stream_file}
 use Rattle.elf.specs.ObjectFile.{ObjectFile}
 use Rattle.elf.specs.ElfStream.{Leaves, Seen}
 
--- what a type of orders tells of itself, with its supertraits
+-- the ghost members of a type of byte orders, with its supertraits
 abbrev pub Order : Type 0 → Type 1
 Order E = record {
   eq : E → E → Bool;
@@ -28,8 +28,8 @@ abbrev pub Lends :
     (E S A : RattleType) → Order E.Denot → source.Ghosts S.Denot → allocator.Ghosts A.Denot →
     MutBor (Seen E.Denot) → (ObjectFile → List (ℕ × ℕ)) →
     {T Y : Type 0} → (T → Y) → (ObjectFile → Result Y ParseError) → Result T ParseError → Fml
-Lends E S A order source alloc stream asked shown answer r =
+Lends E S A order source alloc stream requested shown answer r =
     Rests (the_row E S A (record { little = order.little; of_byte = order.of_byte })
     (record { is_default = order.is_default }) (record { eq = order.eq }) source alloc) stream
-    (λ new. Leaves (asked (headers_alone order.little stream.now)) shown
+    (λ new. Leaves (requested (headers_alone order.little stream.now)) shown
     (λ bytes. answer (stream_file order.little stream.now bytes)) stream.now new r)

@@ -16,7 +16,7 @@ pub mod ObjectFile
 pub mod Names
 -- the bytes of a section, with its compression header
 pub mod Data
--- where the versions of symbols stand
+-- where the versions of symbols lie
 pub mod Versions
 -- the answer of each method
 pub mod Answers
@@ -28,11 +28,11 @@ pub mod Common
 pub mod Source
 -- what contracts see of a stream, and what its calls leave
 pub mod ElfStream
--- the object file of a stream, whose headers stand in lists
+-- the object file of a stream, whose headers are lists
 pub mod StreamFile
--- the ranges that a call asks for
+-- the ranges that a call requests
 pub mod Ranges
--- what a method that lends leaves
+-- what a method that returns a borrow leaves
 pub mod Lending
 -- ---- both readers
 

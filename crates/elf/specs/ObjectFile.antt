@@ -11,12 +11,12 @@ use Rattle.elf.specs.Headers.{section_at}
 use Rattle.elf.specs.ElfBytes.{View, section_list, segment_list}
 
 pub record ObjectFile : Type 0 where
-  -- of the file header as it stands: whether its order is little, its class, and e_shstrndx
+  -- of the file header as it is now: whether its order is little, its class, and e_shstrndx
   pub little : Bool
   pub class : Class
   pub e_shstrndx : ℕ
   pub bytes : List ℕ
-  -- whether a table of section headers is declared, its headers in order, and header i or why it cannot be had
+  -- whether a table of section headers is declared, its headers in order, and header i or the error
   pub has_sections : Bool
   pub sections : List SectionHeader
   pub section_at : ℕ → Result SectionHeader ParseError

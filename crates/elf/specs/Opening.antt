@@ -15,14 +15,14 @@ use Rattle.elf_parts.specs.declared.parse.ParseError.{ParseError}
 use Rattle.elf_parts.specs.declared.parse.ParseError.TheVariants.{BadEntsize}
 use Rattle.elf.specs.ElfBytes.{View}
 
--- so many records of this size at an offset, where that is the size that the header gives; `IntegerOverflow`
+-- n records of this size at an offset, if the header gives this size; `IntegerOverflow`
 -- where their size or their end passes 64 bits
 abbrev pub table_bytes : ℕ → ℕ → ℕ → ℕ → List ℕ → Result (List ℕ) ParseError
 table_bytes size entsize count offset bytes =
     if entsize == size then bytes_at (size * count) bytes offset else Err (BadEntsize (entsize, size))
 
--- ---- a type of orders, by what it tells of itself: which of its orders are little, and which order a byte
--- stands for
+-- ---- a type of byte orders, by its ghost members: which of its orders are little, and which order a byte
+-- names
 
 module _ {E : Type 0} (little : E → Bool) where
   -- the header at the front: the identification in the first sixteen bytes, and the tail behind them

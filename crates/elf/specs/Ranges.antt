@@ -1,4 +1,4 @@
--- The ranges that a call of a stream asks for, each by its start and its size: the whole ranges of the headers whose
+-- The ranges that a call of a stream requests, each by its start and its size: the whole ranges of the headers whose
 -- bytes its answer is cut from.
 use Rattle.std.specs.Prelude.{ℕ, Bool, ◌==◌, if◌then◌else◌, List, [], ◌∷◌, ◌++◌, Option, Some}
 use Rattle.std.specs.Prelude.{None, Result, Ok, Err}
@@ -25,20 +25,20 @@ abbrev pub range_of_segment : ProgramHeader → ℕ × ℕ
 range_of_segment p = (p.p_offset, p.p_filesz)
 
 -- section_data: a section of type SHT_NOBITS has no bytes
-abbrev pub section_asked : SectionHeader → List (ℕ × ℕ)
-section_asked s = if s.sh_type == sht_nobits then [] else range_of_section s ∷ []
+abbrev pub section_ranges : SectionHeader → List (ℕ × ℕ)
+section_ranges s = if s.sh_type == sht_nobits then [] else range_of_section s ∷ []
 
 -- its typed views: a section of another type is refused before it is read
-abbrev pub typed_section_asked : ℕ → SectionHeader → List (ℕ × ℕ)
-typed_section_asked t s = if s.sh_type == t then section_asked s else []
+abbrev pub typed_section_ranges : ℕ → SectionHeader → List (ℕ × ℕ)
+typed_section_ranges t s = if s.sh_type == t then section_ranges s else []
 
 -- segment_data
-abbrev pub segment_asked : ProgramHeader → List (ℕ × ℕ)
-segment_asked p = range_of_segment p ∷ []
+abbrev pub segment_ranges : ProgramHeader → List (ℕ × ℕ)
+segment_ranges p = range_of_segment p ∷ []
 
 -- segment_data_as_notes: a segment of another type than PT_NOTE is refused before it is read
-abbrev pub segment_notes_asked : ProgramHeader → List (ℕ × ℕ)
-segment_notes_asked p = if p.p_type == pt_note then segment_asked p else []
+abbrev pub segment_notes_ranges : ProgramHeader → List (ℕ × ℕ)
+segment_notes_ranges p = if p.p_type == pt_note then segment_ranges p else []
 
 -- ---- of calls that choose their headers, which takes the headers alone and no byte of the file
 
@@ -48,13 +48,13 @@ headers_alone little s = stream_file little s []
 
 -- the ranges for a header that there may not be
 abbrev pub if_there : {A : Type 0} → (A → List (ℕ × ℕ)) → Option A → List (ℕ × ℕ)
-if_there asked None = []
-if_there asked (Some header) = asked header
+if_there requested None = []
+if_there requested (Some header) = requested header
 
 -- the same of a choice that may be refused
 abbrev pub if_chosen : {A : Type 0} → (A → List (ℕ × ℕ)) → Result (Option A) ParseError → List (ℕ × ℕ)
-if_chosen asked (Ok chosen) = if_there asked chosen
-if_chosen asked (Err e) = []
+if_chosen requested (Ok chosen) = if_there requested chosen
+if_chosen requested (Err e) = []
 
 -- the whole range of a section, and the ranges of two
 abbrev pub whole_section : SectionHeader → List (ℕ × ℕ)
@@ -64,22 +64,22 @@ abbrev pub both_sections : SectionHeader × SectionHeader → List (ℕ × ℕ)
 both_sections pair = range_of_section pair.0 ∷ range_of_section pair.1 ∷ []
 
 -- section_headers_with_strtab and section_header_by_name
-abbrev pub names_asked : ObjectFile → List (ℕ × ℕ)
-names_asked file = if_chosen whole_section (name_section file)
+abbrev pub names_ranges : ObjectFile → List (ℕ × ℕ)
+names_ranges file = if_chosen whole_section (name_section file)
 
 -- symbol_table (SHT_SYMTAB) and dynamic_symbol_table (SHT_DYNSYM)
-abbrev pub symbols_asked : ℕ → ObjectFile → List (ℕ × ℕ)
-symbols_asked t file = if_chosen both_sections (symbol_sections t file)
+abbrev pub symbols_ranges : ℕ → ObjectFile → List (ℕ × ℕ)
+symbols_ranges t file = if_chosen both_sections (symbol_sections t file)
 
 -- the dynamic entries of a section: where its entry size is not that of an entry it is refused before it is read
-abbrev pub section_dynamic_asked : ObjectFile → SectionHeader → List (ℕ × ℕ)
-section_dynamic_asked file s = if s.sh_entsize == size_by dyn_layout file.class then section_asked s else []
+abbrev pub section_dynamic_ranges : ObjectFile → SectionHeader → List (ℕ × ℕ)
+section_dynamic_ranges file s = if s.sh_entsize == size_by dyn_layout file.class then section_ranges s else []
 
 -- dynamic
-abbrev pub dynamic_asked : ObjectFile → List (ℕ × ℕ)
-dynamic_asked file =
-    if file.has_sections then if_there (section_dynamic_asked file) (first_section_of sht_dynamic file.sections)
-    else if_there segment_asked (first_segment_of pt_dynamic file.segments)
+abbrev pub dynamic_ranges : ObjectFile → List (ℕ × ℕ)
+dynamic_ranges file =
+    if file.has_sections then if_there (section_dynamic_ranges file) (first_section_of sht_dynamic file.sections)
+    else if_there segment_ranges (first_segment_of pt_dynamic file.segments)
 
 -- a section, and the one that it links to
 abbrev pub LinkedSections : Type 0
@@ -103,9 +103,9 @@ abbrev pub version_plan : ObjectFile → Result (Option VersionPlan) ParseError
 version_plan file =
     let chosen = version_sections file.sections in if_found (version_plan_of file chosen) chosen.indexes
 
-abbrev pub plan_asked : VersionPlan → List (ℕ × ℕ)
-plan_asked plan = range_of_section plan.0 ∷ (if_there both_sections plan.1 ++ if_there both_sections plan.2)
+abbrev pub plan_ranges : VersionPlan → List (ℕ × ℕ)
+plan_ranges plan = range_of_section plan.0 ∷ (if_there both_sections plan.1 ++ if_there both_sections plan.2)
 
 -- symbol_version_table
-abbrev pub versions_asked : ObjectFile → List (ℕ × ℕ)
-versions_asked file = if_chosen plan_asked (version_plan file)
+abbrev pub versions_ranges : ObjectFile → List (ℕ × ℕ)
+versions_ranges file = if_chosen plan_ranges (version_plan file)

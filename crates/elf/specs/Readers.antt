@@ -22,8 +22,8 @@ use Rattle.elf.specs.Names.{name_table, headers_with_names}
 use Rattle.elf.specs.ObjectFile.{ObjectFile, object_file}
 use Rattle.elf.specs.Answers as methods
 use Rattle.elf.specs.Data as contents
-use Rattle.elf.specs.Ranges.{dynamic_asked, headers_alone, names_asked, section_asked, segment_asked}
-use Rattle.elf.specs.Ranges.{segment_notes_asked, symbols_asked, typed_section_asked, versions_asked}
+use Rattle.elf.specs.Ranges.{dynamic_ranges, headers_alone, names_ranges, section_ranges, segment_ranges}
+use Rattle.elf.specs.Ranges.{segment_notes_ranges, symbols_ranges, typed_section_ranges, versions_ranges}
 use Rattle.elf.specs.StreamFile.{stream_file}
 use Rattle.elf.specs.ElfStream.{Kind, Leaves, Seen, kind}
 use Rattle.elf.specs.ElfBytes.{View, with_header}
@@ -108,23 +108,23 @@ answer DynamicSymbolTable file = methods.dynamic_symbol_table file
 answer Dynamic file = methods.dynamic file
 answer SymbolVersionTable file = methods.symbol_version_table file
 
--- the ranges that a stream is asked for
-abbrev pub asked : Method → ObjectFile → List (ℕ × ℕ)
-asked SectionHeadersWithStrtab file = names_asked file
-asked (SectionHeaderByName name) file = names_asked file
-asked (SectionData s) file = section_asked s
-asked (SectionDataAsStrtab s) file = typed_section_asked sht_strtab s
-asked (SectionDataAsRels s) file = typed_section_asked sht_rel s
-asked (SectionDataAsRelas s) file = typed_section_asked sht_rela s
-asked (SectionDataAsNotes s) file = typed_section_asked sht_note s
-asked (SegmentData p) file = segment_asked p
-asked (SegmentDataAsNotes p) file = segment_notes_asked p
-asked SymbolTable file = symbols_asked sht_symtab file
-asked DynamicSymbolTable file = symbols_asked sht_dynsym file
-asked Dynamic file = dynamic_asked file
-asked SymbolVersionTable file = versions_asked file
+-- the ranges that a call requests of a stream
+abbrev pub requested : Method → ObjectFile → List (ℕ × ℕ)
+requested SectionHeadersWithStrtab file = names_ranges file
+requested (SectionHeaderByName name) file = names_ranges file
+requested (SectionData s) file = section_ranges s
+requested (SectionDataAsStrtab s) file = typed_section_ranges sht_strtab s
+requested (SectionDataAsRels s) file = typed_section_ranges sht_rel s
+requested (SectionDataAsRelas s) file = typed_section_ranges sht_rela s
+requested (SectionDataAsNotes s) file = typed_section_ranges sht_note s
+requested (SegmentData p) file = segment_ranges p
+requested (SegmentDataAsNotes p) file = segment_notes_ranges p
+requested SymbolTable file = symbols_ranges sht_symtab file
+requested DynamicSymbolTable file = symbols_ranges sht_dynsym file
+requested Dynamic file = dynamic_ranges file
+requested SymbolVersionTable file = versions_ranges file
 
--- a call of a stream: the header that stands in it, the method, what its result shows, and the stream afterwards
+-- a call of a stream: the header that is set before it, the method, what its result shows, and the stream afterwards
 pub record Call (E : Type 0) : Type 0 where
   pub header : FileHeader E
   pub method : Method
@@ -136,7 +136,7 @@ abbrev pub AreMade : {E : Type 0} → (E → Bool) → Seen E → List (Call E) 
 AreMade little s [] = Unit {0}
 AreMade little s (call ∷ calls) =
     let old = record s { ehdr = call.header } in
-    Leaves (asked call.method (headers_alone little old)) (λ x. x)
+    Leaves (requested call.method (headers_alone little old)) (λ x. x)
     (λ bytes. answer call.method (stream_file little old bytes)) old call.new call.result
     × AreMade little call.new calls
 

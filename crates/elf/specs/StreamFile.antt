@@ -1,4 +1,4 @@
--- An object file whose headers stand in lists, as a stream has them.
+-- An object file whose headers are lists, as a stream has them.
 use Rattle.std.specs.Prelude.{ℕ, Bool, List, Result, ok_or, slice_get}
 use Rattle.elf_parts.specs.declared.parse.ParseError.{ParseError}
 use Rattle.elf_parts.specs.declared.parse.ParseError.TheVariants.{BadOffset}

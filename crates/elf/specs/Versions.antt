@@ -1,4 +1,4 @@
--- Where the versions of symbols stand (GNU symbol versioning): the version indexes of the symbols, the versions that
+-- Where the versions of symbols lie (GNU symbol versioning): the version indexes of the symbols, the versions that
 -- are needed of other files, and those that are defined.
 use Rattle.std.specs.Prelude.{ℕ, Bool, ◌&&◌, if◌then◌else◌, List, [], ◌∷◌, Result, Ok}
 use Rattle.std.specs.List.{list_any}

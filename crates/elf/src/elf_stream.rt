@@ -4,7 +4,7 @@ ghost use Rattle.std.specs.Prelude.{IfSome, Ok, IsOk, length, take, drop, [], �
 ghost use Rattle.elf_parts.specs.Number.{bytes_at, ok_map};
 ghost use Rattle.elf.specs.Ranges.{range_of_section, range_of_segment};
 ghost use Rattle.elf.specs.Opening.{opened};
-ghost use Rattle.elf.specs.ElfStream.{IsAnswer, IsFor, IsOfFile, Kind, headers_of, Keeps, IsHeld, IsOpening, kind};
+ghost use Rattle.elf.specs.ElfStream.{IsAnswer, IsFor, IsOfFile, Kind, headers_of, Keeps, IsCached, IsOpening, kind};
 ghost use Rattle.elf.specs.ElfStream.{shown_headers};
 ghost use Rattle.elf.specs.inner.Loads.{Loads};
 
@@ -72,12 +72,12 @@ impl<E: EndianParse, S: StreamSource, A: Allocator + Copy> Model for ElfStream<E
     ghost view = { λ s. record {
       content = S.content s.source;
       can_fail = S.can_fail s.source;
-      faults = S.faults s.source;
+      failures = S.failures s.source;
       ehdr = s.ehdr;
       declares_sections = s.declares_sections;
       sections = s.shdrs.items;
       segments = s.phdrs.items;
-      kept = map range_of s.cache;
+      cached = map range_of s.cache;
     } };
 
     ghost invariant = { λ s. IsOpened E.little E.of_byte (S.content s.source) s.len s.cache
@@ -95,9 +95,9 @@ impl<E: EndianParse, S: StreamSource, A: Allocator + Copy> ElfStream<E, S, A> {
     /// with any error.
     pub fn open_stream(alloc: A, mut reader: S) -> Result<Self, ParseError>
         ensures content { IfOk result (λ s. (s.content ≡ S.content reader) × (s.can_fail ≡ S.can_fail reader)) }
-        ensures kept { IfOk result (λ s. s.kept ≡ []) }
+        ensures cached { IfOk result (λ s. s.cached ≡ []) }
         ensures opening { IfSome (S.content reader) (λ bytes. IsOpening shown_headers
-            (ok_map headers_of (opened E.little E.of_byte bytes)) (S.can_fail reader) (S.faults reader) result) }
+            (ok_map headers_of (opened E.little E.of_byte bytes)) (S.can_fail reader) (S.failures reader) result) }
     {
         let len = match reader.seek_end() {
             Ok(len) => len,
@@ -129,9 +129,9 @@ impl<E: EndianParse, S: StreamSource, A: Allocator + Copy> ElfStream<E, S, A> {
     }
 
     /// States that every range within a cached range is cached.
-    pub fn held_covers(&self)
+    pub fn cached_covers(&self)
         ensures { (start end low high : ℕ) → low ≤ start → end ≤ high
-            → IsHeld self.now low high → IsHeld self.now start end }
+            → IsCached self.now low high → IsCached self.now start end }
     {}
 
     /// Returns the program headers. There are none if the file declares none.
@@ -151,14 +151,14 @@ impl<E: EndianParse, S: StreamSource, A: Allocator + Copy> ElfStream<E, S, A> {
     // Reads `size` bytes from `start` on into the cache, unless they are cached.
     fn load(&mut self, start: u64, size: u64) -> Result<(), ParseError>
         ensures keeps { Keeps self.old self.new }
-        ensures loaded { OnOk result ((start + size < 2 ^ 64) × IsHeld self.new start (start + size)) }
-        ensures refused { OnErr result (self.new.kept ≡ self.old.kept) }
-        ensures held { start + size < 2 ^ 64 → IsHeld self.old start (start + size)
+        ensures loaded { OnOk result ((start + size < 2 ^ 64) × IsCached self.new start (start + size)) }
+        ensures refused { OnErr result (self.new.cached ≡ self.old.cached) }
+        ensures cached { start + size < 2 ^ 64 → IsCached self.old start (start + size)
             → IsOk result × (self.new ≡ self.old) }
         ensures answer { IfSome self.old.content (λ bytes.
             IsAnswer (λ _. take size (drop start bytes)) (bytes_at size bytes start)
-            self.old.can_fail self.old.faults self.new.faults result) }
-        ensures untouched { IsHeld self.old start (start + size)
+            self.old.can_fail self.old.failures self.new.failures result) }
+        ensures untouched { IsCached self.old start (start + size)
             → (self.new ≡ self.old) × IfErr result (λ e. kind e ≡ Kind.Refusal) }
         ensures needed { IfSome self.old.content (λ bytes.
             IfErr result (λ e. IsFor (IsOk (bytes_at size bytes start)) (kind e))) }
@@ -179,7 +179,7 @@ impl<E: EndianParse, S: StreamSource, A: Allocator + Copy> ElfStream<E, S, A> {
     // The bytes of a cached range.
     fn cached_bytes(&self, start: u64, size: u64) -> &[u8]
         requires low { start + size < 2 ^ 64 }
-        requires held { IsHeld self.now start (start + size) }
+        requires cached { IsCached self.now start (start + size) }
         ensures bytes { IfSome self.now.content (λ bytes. bytes_at size bytes start ≡ Ok result.now) }
         ensures within { IfSome self.now.content (λ bytes. length result.now ≤ length bytes) }
     {

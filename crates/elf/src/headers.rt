@@ -41,7 +41,7 @@ pub trait Headers {
     fn declares_sections(&self) -> bool
         ensures { result ≡ (file self.now).has_sections };
 
-    /// Returns the section header of an index. If it cannot be had, the error is that of `ParsingTable::get` for an
+    /// Returns the section header of an index. If it cannot be read, the error is that of `ParsingTable::get` for an
     /// `ElfBytes` with a table of section headers, and otherwise `BadOffset(index)`.
     fn section_at(&self, index: usize) -> Result<SectionHeader, ParseError>
         ensures value { result ≡ (file self.now).section_at index }

@@ -20,7 +20,7 @@ pub trait StreamSource: Drop {
     ghost position: { Self → ℕ };
 
     /// The count of failures so far.
-    ghost faults: { Self → ℕ };
+    ghost failures: { Self → ℕ };
 
     /// Whether the source can fail at all.
     ghost can_fail: { Self → Bool };
@@ -31,7 +31,7 @@ pub trait StreamSource: Drop {
         ensures nature { can_fail self.new ≡ can_fail self.old }
         ensures length { IfOk result (λ n. IfSome (content self.old) (λ bytes. n ≡ length bytes)) }
         ensures cause { IfSome (content self.old)
-            (λ _. HasCause (faults self.old) (faults self.new) (can_fail self.old) result) };
+            (λ _. HasCause (failures self.old) (failures self.new) (can_fail self.old) result) };
 
     /// Moves to a position, in bytes from the start, or returns the error of the source.
     fn seek_start(&mut self, pos: u64) -> Result<(), io::Error>
@@ -39,7 +39,7 @@ pub trait StreamSource: Drop {
         ensures nature { can_fail self.new ≡ can_fail self.old }
         ensures moves { OnOk result (IfSome (content self.old) (λ _. position self.new ≡ pos)) }
         ensures cause { IfSome (content self.old)
-            (λ _. HasCause (faults self.old) (faults self.new) (can_fail self.old) result) };
+            (λ _. HasCause (failures self.old) (failures self.new) (can_fail self.old) result) };
 
     /// Reads the next bytes into the front of the buffer, and returns how many, or the error of the source. It may
     /// read fewer than fit; it reads none only at the end of the source or into an empty buffer.
@@ -50,7 +50,7 @@ pub trait StreamSource: Drop {
         ensures bytes { IfOk result (λ n. IfSome (content self.old)
             (λ bytes. Gives bytes (position self.old) (position self.new) n buf.new)) }
         ensures cause { IfSome (content self.old)
-            (λ _. HasCause (faults self.old) (faults self.new) (can_fail self.old) result) };
+            (λ _. HasCause (failures self.old) (failures self.new) (can_fail self.old) result) };
 }
 
 /// A source over bytes in memory. Its content is known, and it cannot fail.
@@ -77,7 +77,7 @@ impl<'a> StreamSource for MemSource<'a> {
 
     ghost position = { λ s. s.at };
 
-    ghost faults = { λ _. 0 };
+    ghost failures = { λ _. 0 };
 
     ghost can_fail = { λ _. false };
 
@@ -123,7 +123,7 @@ impl StreamSource for FileSource {
 
     ghost position = { λ _. 0 };
 
-    ghost faults = { λ _. 0 };
+    ghost failures = { λ _. 0 };
 
     ghost can_fail = { λ _. true };
 

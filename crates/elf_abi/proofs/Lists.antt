@@ -29,7 +29,7 @@ module _ {K : Type 0} {cmp : K → K → Ordering} (total : IsTotalOrder cmp) wh
     | inr (inr lt) ↦ absurd (not_twice rows rise value other one j i lt i_in there here)
   ]
 
-  -- what the test of every list tells of each
+  -- what the test of every list says of each
   pub all_name_once : (lists : List (List (Row K))) → list_all (values_rise cmp) lists ≡ true → All NamesEachOnce lists
   all_name_once [] rise k d lt = absurd (omega arith)
   all_name_once (rows ∷ lists) rise zero d lt = names_each_once rows (and_parts (values_rise cmp rows) (list_all (values_rise cmp) lists) rise).0

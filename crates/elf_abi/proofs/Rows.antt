@@ -48,7 +48,7 @@ module _ {K N : Type 0} {cmp : K → K → Ordering} (total : IsTotalOrder cmp) 
       let parts = and_parts (is_before cmp row.0 rows) (values_rise cmp rows) rise in
       in_order rows parts.1 i j d (omega arith) (omega arith)
 
-  -- the comparisons with a value rise along the rows, as a binary search asks
+  -- the comparisons with a value rise along the rows, as a binary search requires
   comparisons_rise : (rows : List (K × N)) → values_rise cmp rows ≡ true → (value : K) → IsNonDecreasingBy (λ row. ordering_index (cmp row.0 value)) rows
   comparisons_rise rows rise value i j d le lt = elim (cases_lt i j) [
     | inl below ↦ index_rises total _ _ value _ (in_order rows rise i j d below lt) refl

@@ -10,12 +10,12 @@ use Rattle.std.specs.declared.cmp.Ordering.{Ordering}
 abbrev pub Row : Type 0 → Type 0
 Row K = K × List ℕ
 
--- the name that stands beside the value
+-- the name of the value
 unfoldable pub name_of : {K : Type 0} → (K → K → Bool) → List (Row K) → K → Option (List ℕ)
 name_of same [] value = None
 name_of same (row ∷ rows) value = if same row.0 value then Some row.1 else name_of same rows value
 
--- no value stands beside two names
+-- no value has two names
 abbrev pub NamesEachOnce : {K : Type 0} → List (Row K) → Type 0
 NamesEachOnce {K} rows =
     (value : K) (one other : List ℕ) → Contains rows (value, one) → Contains rows (value, other) → one ≡ other
@@ -24,7 +24,7 @@ NamesEachOnce {K} rows =
 abbrev pub number_text : List ℕ → ℕ → List ℕ
 number_text prefix value = prefix ++ (codes "(0x" ++ (digits 16 false value ++ codes ")"))
 
--- the name that stands beside the number, and for a number with no name its digits behind the prefix
+-- the name of the number, or for a number with no name its digits behind the prefix
 abbrev pub name_or_number : List ℕ → List (Row ℕ) → ℕ → List ℕ
 name_or_number prefix rows value = unwrap_or (name_of nat_eq rows value) (number_text prefix value)
 

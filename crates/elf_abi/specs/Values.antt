@@ -1,5 +1,5 @@
--- Values that the standard writes down, by its own names. They stand here apart from the constants of the code, which
--- are so checked against them wherever a contract cites one.
+-- Values that the standard writes down, by its own names. They are written apart from the constants of the code, which
+-- are checked against them wherever a contract cites one.
 use Rattle.std.specs.Prelude.{ℕ, ℤ, pos}
 
 -- ---- the identification: gABI chapter 4, "ELF Identification"
@@ -57,7 +57,7 @@ ev_current = 1
 
 -- ---- the file header: gABI chapter 4, "ELF Header"
 
--- `e_phnum` where the number of program headers stands in the first section header
+-- `e_phnum` if the first section header has the number of program headers
 abbrev pub pn_xnum : ℕ
 pn_xnum = 0xffff
 
@@ -108,7 +108,7 @@ sht_gnu_versym = 0x6fffffff
 abbrev pub shf_compressed : ℕ
 shf_compressed = 0x800
 
--- indexes of sections that have a meaning of their own: none, no section but an absolute value, and one that stands
+-- indexes of sections that have a meaning of their own: none, no section but an absolute value, and one that is stored
 -- elsewhere
 abbrev pub shn_undef : ℕ
 shn_undef = 0
@@ -220,7 +220,7 @@ ver_def_current = 1
 abbrev pub ver_flg_base : ℕ
 ver_flg_base = 1
 
--- version indexes that stand for no version
+-- version indexes that mean no version
 abbrev pub ver_ndx_local : ℕ
 ver_ndx_local = 0
 

@@ -26,42 +26,42 @@ pub(crate) fn show_ends(rt: &HostRuntime, words: &mut Words<'_>) -> io::Result<(
     let class = words.class();
     let count = words.number();
     let data = words.bytes(rt);
-    let asked = Asked {
+    let row = Row {
         order,
         class,
         count,
     };
-    match first_that_goes_on(asked, kind, data.as_slice()) {
+    match first_that_goes_on(row, kind, data.as_slice()) {
         None => print!(rt; "few items, then None three times"),
         Some(place) => print!(rt; "goes on from place {place}"),
     }
 }
 
-/// What a row asks of an iterator.
+/// The arguments of a row for an iterator.
 #[derive(Clone, Copy)]
-struct Asked {
+struct Row {
     order: AnyEndian,
     class: Class,
     count: u64,
 }
 
 /// The first place from which on an iterator gives too many items or does not stay ended.
-fn first_that_goes_on(asked: Asked, kind: &str, data: &[u8]) -> Option<usize> {
+fn first_that_goes_on(row: Row, kind: &str, data: &[u8]) -> Option<usize> {
     for place in 0..=data.len() {
         let (_, rest) = data.split_at(place);
-        if !is_ended(asked, kind, rest) {
+        if !is_ended(row, kind, rest) {
             return Some(place);
         }
     }
     None
 }
 
-fn is_ended(asked: Asked, kind: &str, data: &[u8]) -> bool {
-    let Asked {
+fn is_ended(row: Row, kind: &str, data: &[u8]) -> bool {
+    let Row {
         order,
         class,
         count,
-    } = asked;
+    } = row;
     match kind {
         "NoteIterator" => is_few(
             NoteIterator::new(order, class, count as usize, data),
@@ -85,28 +85,28 @@ fn is_ended(asked: Asked, kind: &str, data: &[u8]) -> bool {
                 0,
             )
         }
-        "SectionHeader" => is_table_ended::<SectionHeader>(asked, data),
-        "Symbol" => is_table_ended::<Symbol>(asked, data),
-        "Rela" => is_table_ended::<Rela>(asked, data),
-        "Dyn" => is_table_ended::<Dyn>(asked, data),
-        "u32" => is_table_ended::<u32>(asked, data),
-        _ => is_aux_ended(asked, kind, data),
+        "SectionHeader" => is_table_ended::<SectionHeader>(row, data),
+        "Symbol" => is_table_ended::<Symbol>(row, data),
+        "Rela" => is_table_ended::<Rela>(row, data),
+        "Dyn" => is_table_ended::<Dyn>(row, data),
+        "u32" => is_table_ended::<u32>(row, data),
+        _ => is_aux_ended(row, kind, data),
     }
 }
 
-fn is_table_ended<P: ParseAt + Drop>(asked: Asked, data: &[u8]) -> bool {
+fn is_table_ended<P: ParseAt + Drop>(row: Row, data: &[u8]) -> bool {
     is_few(
-        ParsingIterator::<'_, AnyEndian, P>::new(asked.order, asked.class, data),
+        ParsingIterator::<'_, AnyEndian, P>::new(row.order, row.class, data),
         data.len(),
     )
 }
 
-fn is_aux_ended(asked: Asked, kind: &str, data: &[u8]) -> bool {
-    let Ok(count) = u16::try_from(asked.count) else {
+fn is_aux_ended(row: Row, kind: &str, data: &[u8]) -> bool {
+    let Ok(count) = u16::try_from(row.count) else {
         return false;
     };
-    let most = least(asked.count, data);
-    let names = VerDefAuxIterator::new(asked.order, asked.class, count, 0, data);
+    let most = least(row.count, data);
+    let names = VerDefAuxIterator::new(row.order, row.class, count, 0, data);
     match kind {
         "VerDefAuxIterator" => is_few(names, most),
         "SymbolNamesIterator" => {
@@ -114,7 +114,7 @@ fn is_aux_ended(asked: Asked, kind: &str, data: &[u8]) -> bool {
             is_few(SymbolNamesIterator::new(names, &strings), most)
         }
         "VerNeedAuxIterator" => is_few(
-            VerNeedAuxIterator::new(asked.order, asked.class, count, 0, data),
+            VerNeedAuxIterator::new(row.order, row.class, count, 0, data),
             most,
         ),
         _ => false,

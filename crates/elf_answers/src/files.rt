@@ -54,7 +54,7 @@ fn show_tail_by<E: EndianParse + Debug>(
 /// `cuts`: what opening answers of the first 0, 1, 2 and so on of its bytes, up to all of them;
 /// any other: what a method of the opened file answers.
 /// A SET, as `shstrndx=2`, changes a field of the header of the opened file, or, as `offset=52`, of the header made by
-/// hand that the method is asked with; `name=N` is the name that it is asked with.
+/// hand that the method is called with; `name=N` is the name that it is called with.
 pub(crate) fn show_file(rt: &HostRuntime, kind: &str, words: &mut Words<'_>) -> io::Result<()> {
     let order = words.word();
     let data = words.file(rt);
@@ -99,7 +99,7 @@ fn show_opening<E: EndianParse>(rt: &HostRuntime, data: &[u8]) -> io::Result<()>
     }
 }
 
-/// What a method is asked with, after the fields of the file's header are set.
+/// What a method is called with, after the fields of the file's header are set.
 fn given_by<'a, E: EndianParse>(ehdr: &mut FileHeader<E>, words: &mut Words<'a>) -> Given<'a> {
     let mut given = Given::none();
     for set in words.rest() {

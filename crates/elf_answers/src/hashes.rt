@@ -27,7 +27,7 @@ pub(crate) fn show_find(rt: &HostRuntime, words: &mut Words<'_>) -> io::Result<(
     let section = words.bytes(rt);
     let symbols = words.bytes(rt);
     let strings = words.bytes(rt);
-    let asked = Asked {
+    let row = Row {
         order,
         class,
         name: name.as_slice(),
@@ -36,15 +36,15 @@ pub(crate) fn show_find(rt: &HostRuntime, words: &mut Words<'_>) -> io::Result<(
         strings: strings.as_slice(),
     };
     if kind == "sysv" {
-        show_sysv(rt, asked)
+        show_sysv(rt, row)
     } else {
-        show_gnu(rt, asked, words)
+        show_gnu(rt, row, words)
     }
 }
 
-/// What a row asks of a hash section.
+/// The arguments of a row for a hash section.
 #[derive(Clone, Copy)]
-struct Asked<'a> {
+struct Row<'a> {
     order: AnyEndian,
     class: Class,
     name: &'a [u8],
@@ -53,22 +53,22 @@ struct Asked<'a> {
     strings: &'a [u8],
 }
 
-fn show_sysv(rt: &HostRuntime, asked: Asked<'_>) -> io::Result<()> {
-    let symbols = SymbolTable::new(asked.order, asked.class, asked.symbols);
-    let strings = StringTable::new(asked.strings);
-    match SysVHashTable::new(asked.order, asked.class, asked.section) {
-        Ok(table) => show(rt, table.find(asked.name, &symbols, &strings)),
+fn show_sysv(rt: &HostRuntime, row: Row<'_>) -> io::Result<()> {
+    let symbols = SymbolTable::new(row.order, row.class, row.symbols);
+    let strings = StringTable::new(row.strings);
+    match SysVHashTable::new(row.order, row.class, row.section) {
+        Ok(table) => show(rt, table.find(row.name, &symbols, &strings)),
         Err(error) => show_refusal(rt, error),
     }
 }
 
-fn show_gnu(rt: &HostRuntime, asked: Asked<'_>, words: &mut Words<'_>) -> io::Result<()> {
-    let symbols = SymbolTable::new(asked.order, asked.class, asked.symbols);
-    let strings = StringTable::new(asked.strings);
-    match GnuHashTable::new(asked.order, asked.class, asked.section) {
+fn show_gnu(rt: &HostRuntime, row: Row<'_>, words: &mut Words<'_>) -> io::Result<()> {
+    let symbols = SymbolTable::new(row.order, row.class, row.symbols);
+    let strings = StringTable::new(row.strings);
+    match GnuHashTable::new(row.order, row.class, row.section) {
         Ok(mut table) => {
             set_fields(&mut table.hdr, words);
-            show(rt, table.find(asked.name, &symbols, &strings))
+            show(rt, table.find(row.name, &symbols, &strings))
         }
         Err(error) => show_refusal(rt, error),
     }

@@ -1,8 +1,8 @@
-//! Makes the library's calls that the file `calls` asks for, a line each, and prints what each answers; then does the
+//! Makes the library's calls of the file `calls`, a line each, and prints what each answers; then does the
 //! same with the cases of command lines of the file `cases`.
 //!
 //! Bytes are hexadecimal digits, `-` for none, or `@NAME` for the small file NAME. An answer is shown as `{:?}`
-//! shows it, a refusal with its text behind it. All is written straight to standard output, since a text that is
+//! shows it, an error with its text behind it. All is written straight to standard output, since a text that is
 //! built first costs much of the time of a check.
 #![tactic(auto)]
 

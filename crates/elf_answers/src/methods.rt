@@ -15,7 +15,7 @@ use elf::{ElfBytes, ParseError};
 use std::fmt::Debug;
 use std::io;
 
-/// What a call is asked with: a name, and the fields of a header made by hand.
+/// The arguments of a call: a name, and the fields of a header that the caller filled in.
 #[derive(Clone, Copy)]
 pub(crate) struct Given<'a> {
     name: &'a str,

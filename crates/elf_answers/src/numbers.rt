@@ -40,7 +40,7 @@ fn show_number_by<E: EndianParse>(
     print!(rt; " offset {offset}")
 }
 
-/// `order TYPE BYTE`: the order that the byte stands for, and what it tells of itself.
+/// `order TYPE BYTE`: the order that the byte names, and its properties.
 pub(crate) fn show_order(rt: &HostRuntime, words: &mut Words<'_>) -> io::Result<()> {
     let kind = words.word();
     let data = words.bytes(rt);

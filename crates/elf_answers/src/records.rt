@@ -20,92 +20,89 @@ use std::io;
 /// `record KIND ORDER CLASS ASKED NUMBER BYTES`, where ASKED is
 /// `at`: the record at this offset, and the offset afterwards;
 /// `get`: the length of the table of the bytes, and its item with this index;
-/// `items`: the length of the table, and so many of its items at most;
+/// `items`: the length of the table, and at most this number of its items;
 /// `size`: the size of a record, and whether the number is taken for it.
 pub(crate) fn show_record(rt: &HostRuntime, words: &mut Words<'_>) -> io::Result<()> {
     let kind = words.word();
     let order = words.order();
     let class = words.class();
-    let asked = words.word();
+    let operation = words.word();
     let n = words.number();
     let data = words.bytes(rt);
-    let asked = Asked {
+    let row = Row {
         order,
         class,
-        asked,
+        operation,
         n,
         data: data.as_slice(),
     };
-    show_kind(rt, kind, asked)
+    show_kind(rt, kind, row)
 }
 
-/// What a row asks of a kind of records.
+/// The arguments of a row for a kind of records.
 #[derive(Clone, Copy)]
-struct Asked<'a> {
+struct Row<'a> {
     order: AnyEndian,
     class: Class,
-    asked: &'a str,
+    operation: &'a str,
     n: usize,
     data: &'a [u8],
 }
 
-fn show_kind(rt: &HostRuntime, kind: &str, asked: Asked<'_>) -> io::Result<()> {
+fn show_kind(rt: &HostRuntime, kind: &str, row: Row<'_>) -> io::Result<()> {
     match kind {
-        "SectionHeader" => show_of::<SectionHeader>(rt, asked),
-        "ProgramHeader" => show_of::<ProgramHeader>(rt, asked),
-        "Symbol" => show_of::<Symbol>(rt, asked),
-        "Rel" => show_of::<Rel>(rt, asked),
-        "Rela" => show_of::<Rela>(rt, asked),
-        "Dyn" => show_of::<Dyn>(rt, asked),
-        "CompressionHeader" => show_of::<CompressionHeader>(rt, asked),
-        _ => show_small_kind(rt, kind, asked),
+        "SectionHeader" => show_of::<SectionHeader>(rt, row),
+        "ProgramHeader" => show_of::<ProgramHeader>(rt, row),
+        "Symbol" => show_of::<Symbol>(rt, row),
+        "Rel" => show_of::<Rel>(rt, row),
+        "Rela" => show_of::<Rela>(rt, row),
+        "Dyn" => show_of::<Dyn>(rt, row),
+        "CompressionHeader" => show_of::<CompressionHeader>(rt, row),
+        _ => show_small_kind(rt, kind, row),
     }
 }
 
-fn show_small_kind(rt: &HostRuntime, kind: &str, asked: Asked<'_>) -> io::Result<()> {
+fn show_small_kind(rt: &HostRuntime, kind: &str, row: Row<'_>) -> io::Result<()> {
     match kind {
-        "u32" => show_of::<u32>(rt, asked),
-        "u64" => show_of::<u64>(rt, asked),
-        "VersionIndex" => show_of::<VersionIndex>(rt, asked),
-        "VerDef" => show_of::<VerDef>(rt, asked),
-        "VerDefAux" => show_of::<VerDefAux>(rt, asked),
-        "VerNeed" => show_of::<VerNeed>(rt, asked),
-        "VerNeedAux" => show_of::<VerNeedAux>(rt, asked),
-        "SysVHashHeader" => show_of::<SysVHashHeader>(rt, asked),
-        "GnuHashHeader" => show_of::<GnuHashHeader>(rt, asked),
-        "NoteGnuAbiTag" => show_of::<NoteGnuAbiTag>(rt, asked),
+        "u32" => show_of::<u32>(rt, row),
+        "u64" => show_of::<u64>(rt, row),
+        "VersionIndex" => show_of::<VersionIndex>(rt, row),
+        "VerDef" => show_of::<VerDef>(rt, row),
+        "VerDefAux" => show_of::<VerDefAux>(rt, row),
+        "VerNeed" => show_of::<VerNeed>(rt, row),
+        "VerNeedAux" => show_of::<VerNeedAux>(rt, row),
+        "SysVHashHeader" => show_of::<SysVHashHeader>(rt, row),
+        "GnuHashHeader" => show_of::<GnuHashHeader>(rt, row),
+        "NoteGnuAbiTag" => show_of::<NoteGnuAbiTag>(rt, row),
         _ => print!(rt; "no such record"),
     }
 }
 
-fn show_of<P: ParseAt + Debug + Drop>(rt: &HostRuntime, asked: Asked<'_>) -> io::Result<()> {
-    match asked.asked {
-        "at" => show_at::<P>(rt, asked),
-        "size" => show_size::<P>(rt, asked),
+fn show_of<P: ParseAt + Debug + Drop>(rt: &HostRuntime, row: Row<'_>) -> io::Result<()> {
+    match row.operation {
+        "at" => show_at::<P>(rt, row),
+        "size" => show_size::<P>(rt, row),
         word => {
-            let table = ParsingTable::<'_, AnyEndian, P>::new(asked.order, asked.class, asked.data);
+            let table = ParsingTable::<'_, AnyEndian, P>::new(row.order, row.class, row.data);
             if word == "get" {
-                show_item(rt, &table, asked.n)
+                show_item(rt, &table, row.n)
             } else {
-                show_items(rt, &table, asked.n)
+                show_items(rt, &table, row.n)
             }
         }
     }
 }
 
-fn show_at<P: ParseAt + Debug + Drop>(rt: &HostRuntime, asked: Asked<'_>) -> io::Result<()> {
-    let mut offset = asked.n;
-    show(
-        rt,
-        P::parse_at(asked.order, asked.class, &mut offset, asked.data),
-    )?;
+fn show_at<P: ParseAt + Debug + Drop>(rt: &HostRuntime, row: Row<'_>) -> io::Result<()> {
+    let mut offset = row.n;
+    show(rt, P::parse_at(row.order, row.class, &mut offset, row.data))?;
     print!(rt; " offset {offset}")
 }
 
-fn show_size<P: ParseAt>(rt: &HostRuntime, asked: Asked<'_>) -> io::Result<()> {
-    let size = P::size_for(asked.class);
+fn show_size<P: ParseAt>(rt: &HostRuntime, row: Row<'_>) -> io::Result<()> {
+    let size = P::size_for(row.class);
     print!(rt; "{size}; ")?;
-    show(rt, P::validate_entsize(asked.class, asked.n))
+    show(rt, P::validate_entsize(row.class, row.n))
 }
 
 fn show_item<P: ParseAt + Debug + Drop>(
@@ -130,7 +127,7 @@ pub(crate) fn show_items<E: EndianParse, P: ParseAt + Debug + Drop>(
     show_lines(rt, table.iter().take(most))
 }
 
-/// `parts KIND ORDER CLASS BYTES`: what the record at the front of the bytes tells of itself.
+/// `parts KIND ORDER CLASS BYTES`: what the methods of the record at the front of the bytes return.
 pub(crate) fn show_parts(rt: &HostRuntime, words: &mut Words<'_>) -> io::Result<()> {
     let kind = words.word();
     let order = words.order();

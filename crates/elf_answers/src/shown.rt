@@ -5,7 +5,7 @@ use elf::ParseError;
 use std::fmt::Debug;
 use std::io;
 
-/// An answer, or a refusal and its text.
+/// An answer, or an error and its text.
 pub(crate) fn show<T: Debug + Drop>(
     rt: &HostRuntime,
     answer: Result<T, ParseError>,
@@ -16,7 +16,7 @@ pub(crate) fn show<T: Debug + Drop>(
     }
 }
 
-/// A refusal and its text.
+/// An error and its text.
 pub(crate) fn show_refusal(rt: &HostRuntime, error: ParseError) -> io::Result<()> {
     print!(rt; "{error:?}, {error}")
 }

@@ -59,7 +59,7 @@ where
 }
 
 /// `version ORDER CLASS SYMBOL INDEXES COUNT NEEDS STRINGS COUNT DEFINITIONS STRINGS`: the version that a symbol
-/// needs, and the one that it is defined with. The count `-` stands for no records at all.
+/// needs, and the one that it is defined with. The count `-` means no records at all.
 pub(crate) fn show_version(rt: &HostRuntime, words: &mut Words<'_>) -> io::Result<()> {
     let order = words.order();
     let class = words.class();

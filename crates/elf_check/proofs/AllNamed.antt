@@ -29,7 +29,7 @@ has o symbol name e =
     let P : Option (Symbol × List ℕ) → Type 0 = λ x. IsSomeAnd x (λ found. found.1 ≡ name) in
     subst P (sym e) refl
 
--- the first of what is kept, where the first index has the name
+-- the first of what is left, where the first index has the name
 first_kept : (s_symbols : List ℕ → ℕ → Option (ℕ × Symbol)) (name is rest : List ℕ) (found : ℕ × Symbol) → is ≡ found.0 ∷ rest → s_symbols name found.0 ≡ Some found →
     first_of (filter_map (s_symbols name) is) ≡ Some found
 first_kept f name is rest found e is_one = rw (e, is_one) refl

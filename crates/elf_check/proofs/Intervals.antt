@@ -3,7 +3,7 @@ use Rattle.std.proofs.Common.{◌≡◌, ℕ, ◌+◌, ◌-◌, ◌<◌, ◌≤�
 use Rattle.std.specs.List.{Contains}
 use Rattle.elf_check.specs.Indexed.{IsNumberOf}
 
--- f a, f (a + 1) and so on, so many
+-- f a, f (a + 1) and so on, n of them
 pub listing : (ℕ → ℕ) → ℕ → ℕ → List ℕ
 listing f a zero = []
 listing f a (suc n) = f a ∷ listing f (a + 1) n

@@ -178,7 +178,7 @@ module _ (s : WithSymbols SysvTable) where
         count = ap (λ m. m + last) number.count ∙ omega (arith, length-append xs ys, size);
       }
 
-  -- the members of so many chains, the buckets below this one being sound
+  -- the members of the chains of the buckets below this one, which are sound
   pub number_of_chains : (limit : ℕ) → ((b : ℕ) → b < limit → (j : ℕ) × EndsAt s b j) → IsNumberOf (chain_lengths s.table limit) (IndexedBelow s.table limit)
   unfolding chain_lengths
   number_of_chains zero sound = record {

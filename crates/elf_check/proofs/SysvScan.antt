@@ -120,7 +120,7 @@ module _ (s : WithSymbols SysvTable) (name : List ℕ) (bucket last : ℕ) (ends
     }
   ]
 
-  -- from value i on, which is so many values before the end
+  -- from value i on, which is n values before the end
   pub walk_from : ReadsBelowCount s.table.chains → (left limit i v : ℕ) → i + left ≡ last → left ≤ limit → value s.table bucket i ≡ Some v → Walk limit i v
   walk_from reads zero limit i v all enough e =
       let at : i ≡ last = omega arith in

@@ -1,5 +1,5 @@
 -- Which symbol of which object a reference binds to, where symbols have versions: the rules of GNU symbol versioning
--- (LSB, "Symbol Versioning"), and where these are silent what the dynamic linker of the GNU C library does.
+-- (LSB, "Symbol Versioning"), and where they say nothing, what the dynamic linker of the GNU C library does.
 use Rattle.std.specs.Prelude.{◌≡◌, ℕ, ◌<◌, if◌then◌else◌, ◌==◌, ◌&&◌, ◌||◌, not, nat_lt, Bool, bit_and}
 use Rattle.std.specs.Prelude.{List, [], ◌∷◌, length, slice_get, Option, Some, None, ok_or, Result, Ok, Err}
 use Rattle.std.specs.Option.{IsSomeAnd, option_map}

@@ -1,4 +1,4 @@
--- The object that a file is where symbols have versions, and what a symbol of a file asks for.
+-- The object that a file is where symbols have versions, and the version that a symbol of a file requires.
 use Rattle.std.specs.Prelude.{◌≡◌, ℕ, ◌⊎◌, Option, Some, None, Result, Ok, Err}
 use Rattle.std.specs.Option.{IsSomeAnd}
 use Rattle.std.specs.Result.{IsErrAnd, IsOkAnd}
@@ -18,7 +18,7 @@ use Rattle.elf_check.specs.declared.resolve.ObjectFault.TheVariants.{Read}
 abbrev pub HasSoundTable : ObjectFile → Type 0
 HasSoundTable file = IsSomeAnd (object_of file) (λ object. IsOkAnd object IsSound)
 
--- what the object shows is the file's sound table with the versions of its symbols; a refusal is that of the table, or
+-- what the object shows is the file's sound table with the versions of its symbols; an error is that of the table, or
 -- where this is sound that of the versions
 abbrev pub GivesVersioned : {C : Type 0} → (C → VersionedObject) → ObjectFile → Result (Option C) ObjectFault → Type 0
 GivesVersioned view file (Ok None) = object_of file ≡ None
@@ -34,7 +34,7 @@ abbrev pub version_in : Option Versions → ℕ → Result (Option NamedVersion)
 version_in (Some versions) i = version_of versions i
 version_in None i = Ok None
 
--- what symbol i asks for
+-- the version that symbol i requires
 abbrev pub IsReference : Option Versions → ℕ → Result Wanted Unreadable → Type 0
 IsReference versions i (Ok Any) = version_in versions i ≡ Ok None
 IsReference versions i (Ok (Compatible version)) = version_in versions i ≡ Ok (Some (version_view version))

@@ -1,5 +1,5 @@
 -- What a checked table shows: the table with its symbols, and how many of them it indexes. A struct with a ghost field
--- over a type of orders is also over what that type tells of itself.
+-- over a type of byte orders is also over the ghost members of that type.
 use Rattle.std.specs.Prelude.{ℕ}
 use Rattle.std.specs.declared.cmp.PartialEq.{Ghosts as PartialEqGhosts}
 use Rattle.std.specs.declared.default.Default.{Ghosts as DefaultGhosts}

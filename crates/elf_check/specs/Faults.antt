@@ -42,7 +42,7 @@ module _ (s : WithSymbols GnuTable) where
   abbrev pub NameIs : ℕ → (List ℕ → Type 0) → Type 0
   NameIs index Such = IsSomeAnd (named s.symbols s.strings index) (λ found. Such found.1)
 
-  -- the first of the things that are asked of a chain word which it lacks: a name, the hash, the bits, the run
+  -- the first requirement that a chain word does not meet: a name, the hash, the bits, the run
   abbrev pub IsTrueOfGnu : HashFault → Type 0
   IsTrueOfGnu ShiftTooLarge = 32 ≤ s.table.hdr.nshift
   IsTrueOfGnu (Unreadable index) = WordLacks index (λ k w. named s.symbols s.strings index ≡ None)

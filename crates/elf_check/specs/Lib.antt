@@ -23,7 +23,7 @@ pub mod ObjectTable
 -- an object with the versions of its symbols, and what a reference binds to
 pub mod VersionedView
 pub mod Binding
--- which object with versions a file is, and what a symbol of a file asks for
+-- which object with versions a file is, and the version that a symbol of a file requires
 pub mod BindingObjects
 -- what only implementations and private functions cite
 pub mod inner

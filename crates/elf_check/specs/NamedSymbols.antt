@@ -42,7 +42,7 @@ pub record AreAllNamed (object : Object) (name : List ℕ) (found : List (ℕ ×
   pub order : AllPairs (λ one other. Precedes object one.0 other.0) found
   pub first : IsFound object name (first_of found)
 
--- ---- what an iterator is still to give
+-- ---- what an iterator has left to yield
 
 -- the index behind an index, if there is one: its chain word where that is not 0, or the next index where the chain
 -- word does not end the run
@@ -58,7 +58,7 @@ abbrev pub index_behind : Table → Links → ℕ → Option ℕ
 index_behind chains Chain index = unless_zero (word chains index)
 index_behind chains (Run first) index = unless_last index (word chains (index - first))
 
--- an index, the one behind it, and so on, at most so many
+-- an index, the one behind it, and so on, at most `limit`
 abbrev pub indices_from : (ℕ → Option ℕ) → ℕ → Option ℕ → List ℕ
 indices_from behind zero start = []
 indices_from behind (suc limit) None = []

@@ -21,7 +21,7 @@ use Rattle.elf_check.specs.declared.resolve.ObjectFault.{ObjectFault}
 use Rattle.elf_check.specs.declared.resolve.ObjectFault.TheVariants.{Faulty, NoSymbols, Read}
 use denote.Ref.{Bor}
 
--- the refusal of a reader is a fault
+-- the error of a reader is a fault
 abbrev pub read : {A : Type 0} → Result A ParseError → Result A ObjectFault
 read (Ok x) = Ok x
 read (Err e) = Err (Read e)
@@ -37,7 +37,7 @@ section_parts file s =
     read (section_data file s) >>= λ found.
     read (dynamic_symbol_table file) >>= needed >>= λ symbols. Ok (found.0, symbols)
 
--- what these parts show, where they are lent
+-- what these parts show, as borrows
 abbrev pub parts_view : {E : Type 0} → Bor (List ℕ) × (ParsingTable E Symbol × StringTable) → List ℕ × (Table × List ℕ)
 parts_view parts = (parts.0.now, symbols_view parts.1)
 
@@ -57,7 +57,7 @@ object_by file None None = None
 abbrev pub object_of : ObjectFile → Option (Result Object ObjectFault)
 object_of file = object_by file (first_section_of sht_gnu_hash file.sections) (first_section_of sht_hash file.sections)
 
--- the fault of an object that gives no checked table: of one that there is, a fault of it that is true
+-- the fault of an object that gives no checked table: of a section that there is, a fault that is true of it
 abbrev pub IsFaultOf : Result Object ObjectFault → ObjectFault → Type 0
 IsFaultOf (Err first) fault = fault ≡ first
 IsFaultOf (Ok object) (Faulty fault) = (¬ IsSound object) × IsTrueOf object fault

@@ -27,7 +27,7 @@ OnSound (Ok (Sound checked)) P = P checked
 OnSound (Ok (Faulty fault)) P = Unit {0}
 OnSound (Err e) P = Unit {0}
 
--- where the answer is a fault, this is so of it
+-- if the answer is a fault, this is true of it
 abbrev pub OnFaulty : {C : Type 0} → Result (Checked C) ParseError → (HashFault → Type 0) → Type 0
 OnFaulty (Ok (Sound checked)) P = Unit {0}
 OnFaulty (Ok (Faulty fault)) P = P fault

@@ -24,7 +24,7 @@ module _ {A : Type 0} (record_at : Bool → Class → List ℕ → ℕ → Resul
   links_refused t zero o e h = refl
   links_refused t (suc n) o e h = rw h refl
 
-  -- a record that is read stands before those behind it
+  -- a record that is read comes before those behind it
   pub links_read : (t : Table) (n o : ℕ) (x : A) → 1 ≤ n → record_at t.little t.class t.bytes o ≡ Ok x →
       links_in record_at next t n o ≡ (o, x) ∷ from_next (next_start o (next x)) (links_in record_at next t (n - 1))
   unfolding links_in

@@ -14,7 +14,7 @@ use Rattle.elf_parts.specs.Note.{AreAllNotes, NoteContent, aligned, content_of, 
 use Rattle.elf_parts.specs.Note.{note_header_reads, note_links}
 use Rattle.elf_parts.specs.declared.note.NoteHeader.{NoteHeader}
 
--- ---- a list whose records each lie in the first `size` bytes and tell of a next one behind themselves
+-- ---- a list whose records each lie in the first `size` bytes and give a next one behind themselves
 
 module _ {A : Type 0} (gives : ℕ → Result (A × ℕ) ParseError) (size : ℕ)
     (law : (o : ℕ) (p : A × ℕ) → gives o ≡ Ok p → (o < size) × (o < p.1)) where

@@ -9,7 +9,7 @@ use Rattle.std.proofs.lemmas.List.{take-append-drop, append_assoc, append-nil}
 use Rattle.std.proofs.Math.Seq.{drop-length}
 use Rattle.elf_parts.specs.Note.{IsWithoutNuls}
 
--- where a 0 character is found at the end, a 0 byte stands there
+-- where a 0 character is found at the end, a 0 byte is there
 ends_in_nul : (m : List ℕ) (n : ℕ) → FindsCharSuffix 0 m (Some n) → m ≡ take (length m - n) m ++ 0 ∷ []
 unfolding encode
 ends_in_nul m n found =

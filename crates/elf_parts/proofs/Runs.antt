@@ -26,7 +26,7 @@ module _ (t : GnuTable) (symbols : Table) (strings name : List ℕ) where
   run_found zero k word x some chain here = absurd (omega arith)
   run_found (suc limit) k word x some chain here = rw (chain, here) refl
 
-  -- where that is a refusal, it is that of the symbol or its name
+  -- where that is an error, it is that of the symbol or its name
   pub decides_refused : (index word : ℕ) (e : ParseError) → word_decides t symbols strings name index word ≡ Err e → ok_map {B = Option (ℕ × Symbol)} (λ _. None) (named_symbol symbols strings index) ≡ Err e
   decides_refused index word e is = grind (arith, common_steps)
 

@@ -19,7 +19,7 @@ compression_header_fields ELF64 =
     field 16 8 ∷  -- ch_addralign
     []
 
--- the header that the numbers of its fields make; the reserved word is not kept
+-- the header that the numbers of its fields make; the reserved word is not stored
 abbrev pub compression_header : Class → List ℕ → CompressionHeader
 compression_header ELF32 n = record {
   ch_type = slice_index n 0;

@@ -13,7 +13,7 @@ use Rattle.elf_parts.specs.declared.parse.ParseError.TheVariants.{UnsupportedElf
 
 -- ---- the identification: 7f 45 4c 46, then class, order, version, ABI and ABI version, one byte each
 
--- what the identification tells: the order of the numbers, the class, the ABI and its version
+-- what the identification holds: the order of the numbers, the class, the ABI and its version
 abbrev pub Ident : Type 0 → Type 0
 Ident E = E × Class × ℕ × ℕ
 
@@ -21,11 +21,11 @@ Ident E = E × Class × ℕ × ℕ
 abbrev pub byte_in : List ℕ → ℕ → Result ℕ ParseError
 byte_in bytes place = ok_or (slice_get bytes place) (SliceReadError (0, ei_nident))
 
--- the class that a class byte stands for
+-- the class that a class byte names
 abbrev pub class_of : ℕ → Result Class ParseError
 class_of n = if n == elfclass32 then Ok ELF32 else if n == elfclass64 then Ok ELF64 else Err (UnsupportedElfClass n)
 
--- the order that an order byte stands for, where the type of orders has it
+-- the order that an order byte names, where the type of orders has it
 abbrev pub order_of : {E : Type 0} → (ℕ → Option E) → ℕ → Result E ParseError
 order_of of_byte n = ok_or (of_byte n) (UnsupportedElfEndianness n)
 
@@ -36,7 +36,7 @@ magic_in bytes =
     if a == elfmag0 && b == elfmag1 && c == elfmag2 && d == elfmag3 then Ok tt
     else Err (BadMagic (a ∷ b ∷ c ∷ d ∷ []))
 
--- the version is the one that there is
+-- the version is 1, the only one
 abbrev pub version_in : List ℕ → Result (Unit {0}) ParseError
 version_in bytes =
     byte_in bytes ei_version >>= λ version.
@@ -86,7 +86,7 @@ tail_fields ELF64 =
     field 46 2 ∷  -- e_shstrndx
     []
 
--- the header of what the identification tells and the numbers of the tail
+-- the header with this identification and these numbers of the tail
 abbrev pub file_header : {E : Type 0} → Ident E → List ℕ → FileHeader E
 file_header ident n = record {
   endianness = ident.0;
@@ -111,6 +111,6 @@ file_header ident n = record {
 abbrev pub tail_layout : {E : Type 0} → Ident E → Layout (FileHeader E)
 tail_layout ident = record { fields = tail_fields; make = λ _. file_header ident }
 
--- the header whose tail these bytes begin with, or the refusal of the first field that is refused
+-- the header whose tail these bytes begin with, or the error of the first field that is refused
 abbrev pub header_with_tail : {E : Type 0} → (E → Bool) → Ident E → List ℕ → Result (FileHeader E) ParseError
 header_with_tail little ident tail = record_by (tail_layout ident) (little ident.0) ident.1 tail 0

@@ -17,7 +17,7 @@ use Rattle.elf_parts.specs.declared.parse.ParseError.{ParseError}
 use Rattle.elf_parts.specs.declared.parse.ParseError.TheVariants.{IntegerOverflow}
 use Rattle.elf_parts.specs.declared.symbol.Symbol.{Symbol}
 
--- the header as it stands, the bloom words, the words of the buckets, and the chain words
+-- the header as it is now, the bloom words, the words of the buckets, and the chain words
 pub record GnuTable : Type 0 where
   pub hdr : GnuHashHeader
   pub bloom : Table
@@ -32,7 +32,7 @@ gnu_view t = record {
   chains = table_view t.chains;
 }
 
--- bloom word i, which has the size of an address, or why it cannot be had
+-- bloom word i, which has the size of an address, or the error
 abbrev pub bloom_word_by : Class → Table → ℕ → Result ℕ ParseError
 bloom_word_by ELF32 bloom i = word_at bloom i
 bloom_word_by ELF64 bloom i = long_word_at bloom i
@@ -41,7 +41,7 @@ unfoldable pub bloom_word : Table → ℕ → Result ℕ ParseError
 bloom_word bloom i = bloom_word_by bloom.class bloom i
 
 -- the table that the bytes of a section hold: the header, nbloom bloom words and nbucket words, or the first
--- refusal; the rest of the bytes are the chain words
+-- error; the rest of the bytes are the chain words
 unfoldable pub gnu_section : Bool → Class → List ℕ → Result GnuTable ParseError
 gnu_section little class bytes =
     record_by gnu_header_layout little class bytes 0 >>= λ header.
@@ -86,7 +86,7 @@ module _ (t : GnuTable) (symbols : Table) (strings name : List ℕ) where
   abbrev pub if_named : ℕ → Symbol × List ℕ → Option (ℕ × Symbol)
   if_named index found = if bytes_eq found.1 name then Some (index, found.0) else None
 
-  -- what a chain word decides, at the index of its symbol: where it is the hash apart from bit 0, the refusal of
+  -- what a chain word decides, at the index of its symbol: where it is the hash apart from bit 0, the error of
   -- the symbol or its name, or the symbol where it has the name
   abbrev pub word_decides : ℕ → ℕ → Result (Option (ℕ × Symbol)) ParseError
   word_decides index word =

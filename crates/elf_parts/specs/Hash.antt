@@ -80,19 +80,19 @@ gnu_header_reads = by_layout gnu_header_layout refl
 abbrev pub word_count : Table → ℕ
 word_count words = length words.bytes / 4
 
--- word i of four bytes, or why it cannot be had
+-- word i of four bytes, or the error
 unfoldable pub word_at : Table → ℕ → Result ℕ ParseError
 word_at words i = table_get u32_reads words i
 
--- word i of eight bytes, or why it cannot be had
+-- word i of eight bytes, or the error
 unfoldable pub long_word_at : Table → ℕ → Result ℕ ParseError
 long_word_at words i = table_get u64_reads words i
 
--- symbol i, or why it cannot be had
+-- symbol i, or the error
 abbrev pub symbol_at : Table → ℕ → Result Symbol ParseError
 symbol_at symbols i = table_get symbol_reads symbols i
 
--- symbol i and its name, or the refusal of either
+-- symbol i and its name, or the error of either
 unfoldable pub named_symbol : Table → List ℕ → ℕ → Result (Symbol × List ℕ) ParseError
 named_symbol symbols strings i =
     symbol_at symbols i >>= λ symbol.

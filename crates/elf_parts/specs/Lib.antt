@@ -2,9 +2,9 @@
 
 -- the size of an address in each class
 pub mod Class
--- bytes and numbers at an offset, and what refuses a read
+-- bytes and numbers at an offset, and the errors of reads
 pub mod Number
--- the orders of bytes, by the byte that stands for each
+-- the byte orders, and the byte that names each
 pub mod Endian
 -- field tables as data, how a record is read by one, and what a type of records is
 pub mod Record

@@ -1,4 +1,4 @@
--- Linked records: each one tells where the next one begins.
+-- Linked records: each one gives the place of the next one.
 use Rattle.std.specs.Prelude.{◌≡◌, ◌≤◌, ⊤, length, take, ℕ, zero, suc}
 use Rattle.std.specs.Prelude.{Option, Some, None, List, [], ◌∷◌, Result, Ok, Err}
 use Rattle.elf_parts.specs.declared.parse.ParseError.{ParseError}
@@ -8,7 +8,7 @@ abbrev pub from_next : {X : Type 0} → Option ℕ → (ℕ → List X) → List
 from_next (Some o) list = list o
 from_next None list = []
 
--- ---- `gives` reads at an offset, and `follow` tells where the next one begins, if there is one
+-- ---- `gives` reads at an offset, and `follow` gives the offset of the next one, if there is one
 
 -- a record and those behind it, if it was read
 abbrev pub linked : {A : Type 0} → (ℕ → A → Option ℕ) → ℕ → Result A ParseError → (ℕ → List (ℕ × A)) → List (ℕ × A)

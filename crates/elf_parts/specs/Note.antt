@@ -87,7 +87,7 @@ content_of little n_type name descriptor =
 
 -- ---- where a note lies
 
--- the least multiple of the alignment that is not below o; refused where there is none, or none of 64 bits
+-- the least multiple of the alignment that is not below o; an error if there is none, or none of 64 bits
 unfoldable pub aligned : ℕ → ℕ → Result ℕ ParseError
 aligned align o =
     if align == 0 || nat_le (2 ^ 64) (next_multiple_of o align) then Err IntegerOverflow
@@ -154,6 +154,6 @@ note_view (Unknown note) = Other note.n_type note.name.now note.desc.now
 abbrev pub note_and_next_view : Note × ℕ → NoteContent × ℕ
 note_and_next_view found = (note_view found.0, found.1)
 
--- what the notes say that an iterator is still to give
+-- what the notes say that an iterator has left to yield
 abbrev pub notes_left : {E : Type 0} → NoteIterator E → List NoteContent
 notes_left s = notes_from s.little s.align s.«data».now s.offset

@@ -34,7 +34,7 @@ abbrev pub accepted : Option ℕ → ℕ → Result ℕ ParseError
 accepted None n = Ok n
 accepted (Some version) n = if n == version then Ok n else Err (UnsupportedVersion (n, version))
 
--- the numbers of the record at o, or the refusal of the first field that is refused
+-- the numbers of the record at o, or the error of the first field that is refused
 unfoldable pub numbers_at : Bool → List Field → List ℕ → ℕ → Result (List ℕ) ParseError
 numbers_at little [] bytes o = Ok []
 numbers_at little (f ∷ fs) bytes o =
@@ -88,7 +88,7 @@ ReadsOnly {A = A} size gives =
 
 -- ---- a type of records
 
--- how many bytes a record has, the record at an offset or why it cannot be read, where its read leaves the offset, and
+-- how many bytes a record has, the record at an offset or the error, where its read leaves the offset, and
 -- the laws of these
 pub record RecordType (A : Type 0) : Type 0 where
   pub size : Class → ℕ

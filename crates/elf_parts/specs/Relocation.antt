@@ -9,7 +9,7 @@ use Rattle.elf_parts.specs.declared.file.Class.TheVariants.{ELF32, ELF64}
 use Rattle.elf_parts.specs.declared.relocation.Rel.{Rel}
 use Rattle.elf_parts.specs.declared.relocation.Rela.{Rela}
 
--- the index of the symbol and the type of the relocation stand in one number, r_info
+-- the index of the symbol and the type of the relocation share one number, r_info
 abbrev pub sym_of_info : Class → ℕ → ℕ
 sym_of_info ELF32 info = info / 256
 sym_of_info ELF64 info = info / 2 ^ 32

@@ -14,7 +14,7 @@ use denote.Ref.{Bor}
 abbrev pub strings_view : StringTable → List ℕ
 strings_view table = table.«data».now
 
--- the bytes from o up to the first 0, or why there are none
+-- the bytes from o up to the first 0, or the error
 unfoldable pub string_at : List ℕ → ℕ → Result (List ℕ) ParseError
 string_at bytes o =
     if length bytes == 0 then Err (BadOffset o)
@@ -22,12 +22,12 @@ string_at bytes o =
     else ok_or (option_map (λ n. take n (drop o bytes)) (position (λ byte. byte == 0) (drop o bytes)))
     (StringTableMissingNul o)
 
--- where the bytes stop being UTF-8, and how many bytes are at fault there, if they are not just cut short
+-- where the bytes stop being UTF-8, and how many bytes are invalid there, if they are not just cut short
 abbrev pub IsFirstFault : List ℕ → Fault → Type 0
 IsFirstFault bytes fault =
     (valid_up_to fault ≡ utf8_valid_len bytes) × (error_len fault ≡ utf8_error_len (drop (valid_up_to fault) bytes))
 
--- these bytes as text, or that they are none
+-- these bytes as text, or the error
 abbrev pub GivesText : Result (List ℕ) ParseError → Result (Bor (List ℕ)) ParseError → Type 0
 GivesText (Ok bytes) result =
     MatchResult result (λ text. (text.now ≡ bytes) × IsUtf8 bytes)

@@ -1,5 +1,5 @@
 -- The structures of a file as gABI and GNU symbol versioning print them in C: each member by its name and type, in the
--- order in which it stands there. They are written down apart from the field tables by which records are read.
+-- same order. They are written down apart from the field tables by which records are read.
 use Rattle.std.specs.Prelude.{◌≡◌, ◌≢◌, ℕ, ◌+◌, ◌-◌, ◌<◌, ◌^◌, ⊤, Bool, List, [], ◌∷◌, ◌++◌, length}
 use Rattle.std.specs.Int.{next_multiple_of}
 use Rattle.std.specs.List.{repeat}
@@ -126,7 +126,7 @@ tail_struct ELF64 x =
     ∷ word x.e_flags ∷ half x.e_ehsize ∷ half x.e_phentsize ∷ half x.e_phnum ∷ half x.e_shentsize ∷ half x.e_shnum
     ∷ half x.e_shstrndx ∷ []
 
--- the byte that tells the class in e_ident
+-- the byte of e_ident that gives the class
 abbrev pub class_byte : Class → ℕ
 class_byte ELF32 = 1
 class_byte ELF64 = 2
@@ -140,8 +140,8 @@ ident_bytes class order osabi abiversion padding =
 
 module _ {V A : Type 0} (little : Bool) (struct : V → List Member) (next count aux : V → ℕ)
     (aux_struct : A → List Member) (aux_next : A → ℕ) (bytes : List ℕ) where
-  -- entries lie in the bytes, the first at o, and each next one where `next` tells; of each as many auxiliary entries
-  -- as `count` tells, the first where `aux` tells, and each next one where `aux_next` tells
+  -- entries lie in the bytes, the first at o, each next one at the distance `next`; each has `count` auxiliary entries,
+  -- the first at the distance `aux`, each next one at the distance `aux_next`
   abbrev pub EntriesAreChained : ℕ → List (V × List A) → Type 0
   EntriesAreChained o [] = ⊤
   EntriesAreChained o (entry ∷ entries) =

@@ -49,7 +49,7 @@ symbol_layout = record { fields = symbol_fields; make = symbol }
 abbrev pub symbol_reads : RecordType Symbol
 symbol_reads = by_layout symbol_layout refl
 
--- what a symbol names and how far it binds stand in one number, st_info
+-- the type and the binding of a symbol share one number, st_info
 abbrev pub symbol_type : Symbol → ℕ
 symbol_type s = s.st_info % 16
 

@@ -19,7 +19,7 @@ pub record SysvTable : Type 0 where
 abbrev pub sysv_view : {E : Type 0} → SysVHashTable E → SysvTable
 sysv_view t = record { buckets = table_view t.buckets; chains = table_view t.chains }
 
--- the table that the bytes of a section hold: the header, nbucket words and nchain words, or the first refusal
+-- the table that the bytes of a section hold: the header, nbucket words and nchain words, or the first error
 unfoldable pub sysv_section : Bool → Class → List ℕ → Result SysvTable ParseError
 sysv_section little class bytes =
     record_by sysv_header_layout little class bytes 0 >>= λ header.
@@ -27,7 +27,7 @@ sysv_section little class bytes =
     bytes_at (4 * header.nchain) bytes (8 + 4 * header.nbucket) >>= λ chains.
     Ok (record { buckets = table_in little class buckets; chains = table_in little class chains })
 
--- the first answer of a list that is a refusal or finds something
+-- the first answer of a list that is an error or finds something
 abbrev pub first_decided : {A : Type 0} → List (Result (Option A) ParseError) → Result (Option A) ParseError
 first_decided [] = Ok None
 first_decided (Ok None ∷ rest) = first_decided rest
@@ -46,8 +46,8 @@ walk chains (suc limit) index =
     if index == 0 then [] else index ∷ walk_on (word_at chains index) (walk chains limit)
 
 module _ (t : SysvTable) (symbols : Table) (strings name : List ℕ) where
-  -- what an index of a walk decides: the refusal of its symbol or its name, the symbol where it has the name, or
-  -- the refusal of its chain word
+  -- what an index of a walk decides: the error of its symbol or its name, the symbol where it has the name, or
+  -- the error of its chain word
   abbrev pub decided_by : ℕ → Result (Symbol × List ℕ) ParseError → Result (Option (ℕ × Symbol)) ParseError
   decided_by index (Err e) = Err e
   decided_by index (Ok found) =

@@ -19,7 +19,7 @@ table_in little class bytes = record { little = little; class = class; bytes = b
 
 -- ---- `gives` reads a record at an offset, and a record has `size` bytes
 
--- record i of the bytes, or why it cannot be had
+-- record i of the bytes, or the error
 abbrev pub item_at : {A : Type 0} → (List ℕ → ℕ → Result A ParseError) → ℕ → List ℕ → ℕ → Result A ParseError
 item_at gives size bytes i =
     if length bytes == 0 then Err (BadOffset i)
@@ -50,7 +50,7 @@ module _ {A : Type 0} (reads : RecordType A) where
   abbrev pub table_len : Table → ℕ
   table_len t = length t.bytes / reads.size t.class
 
-  -- record i, or why it cannot be had
+  -- record i, or the error
   abbrev pub table_get : Table → ℕ → Result A ParseError
   table_get t i = item_at (reads.record_at t.little t.class) (reads.size t.class) t.bytes i
 
@@ -63,7 +63,7 @@ module _ {A : Type 0} (reads : RecordType A) where
 abbrev pub table_view : {E P : Type 0} → ParsingTable E P → Table
 table_view t = table_in t.little t.class t.«data».now
 
--- the records that an iterator is still to give
+-- the records that an iterator has left to yield
 unfoldable pub items_left : {E P : Type 0} → RecordType P → ParsingIterator E P → List P
 items_left reads s =
     items_from (reads.record_at s.little s.class) (reads.size s.class) (length s.«data».now - s.offset) s.«data».now

@@ -144,7 +144,7 @@ abbrev pub strings_of : List (List ℕ) → List ℕ
 strings_of [] = []
 strings_of (name ∷ names) = name ++ 0 ∷ strings_of names
 
--- ---- records that tell how far behind their own start the next one begins
+-- ---- records that give the distance from their own start to the next one
 
 -- the bytes of these members lie at o
 abbrev pub LiesAt : Bool → List Member → List ℕ → ℕ → Type 0
@@ -152,12 +152,12 @@ LiesAt little members bytes o =
     (before : List ℕ) × (behind : List ℕ) × (length before ≡ o)
     × (bytes ≡ before ++ (struct_bytes little members ++ behind))
 
--- the last record tells the distance 0, and no other does
+-- the last record has the distance 0, and no other record has it
 abbrev pub IsDistance : {A : Type 0} → ℕ → List A → Type 0
 IsDistance distance [] = distance ≡ 0
 IsDistance distance (next ∷ behind) = distance ≢ 0
 
--- these records lie in the bytes, the first at o, and each next one where the one before it tells
+-- these records lie in the bytes: the first at o, each next one at the distance that the one before it gives
 abbrev pub AreChained : {A : Type 0} → Bool → (A → List Member) → (A → ℕ) → List ℕ → ℕ → List A → Type 0
 AreChained little struct distance bytes o [] = ⊤
 AreChained little struct distance bytes o (x ∷ xs) =

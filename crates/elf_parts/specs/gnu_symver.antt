@@ -1,4 +1,4 @@
--- linked records: each tells how far behind its own start the next one begins
+-- linked records: each gives the distance from its own start to the next one
 pub mod Links
 -- the field tables of the version records
 pub mod Records
@@ -8,5 +8,5 @@ pub mod Lists
 pub mod Table
 -- tables of the first need and the first definition of each version index
 pub mod Indexed
--- the same in places that a caller lends
+-- the same in slices of the caller
 pub mod Placed

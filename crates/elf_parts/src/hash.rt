@@ -19,7 +19,10 @@ pub use sysv::{SysVHashHeader, SysVHashTable, sysv_hash};
 /// A table of words of four bytes.
 type U32Table<'data, E> = ParsingTable<'data, E, u32>;
 
-// So many bytes of the data from start on.
+/// What a look-up returns: the index and the symbol, if there is one.
+type Found = Result<Option<(usize, Symbol)>, ParseError>;
+
+// `size` bytes of the data from `start` on.
 #[tactic(auto, unfolding(crate::specs::Number::bytes_at))]
 fn get_bytes<'data>(data: &'data [u8], start: usize, size: usize) -> Result<&'data [u8], ParseError>
     ensures value { ok_map (λ bytes. bytes.now) result ≡ bytes_at size «data».now start }
@@ -66,9 +69,6 @@ fn named_symbol<'data, E: EndianParse>(
     let name = strtab.get_raw(symbol.st_name as usize)?;
     Ok((symbol, name))
 }
-
-/// What a look-up returns: the index and the symbol, if there is one.
-type Found = Result<Option<(usize, Symbol)>, ParseError>;
 
 // The error of a word that cannot be read.
 #[inline(never)]

@@ -64,7 +64,7 @@ pub struct Rela {
     pub r_addend: i64,
 }
 
-// The index of the symbol and the type, which stand in one number of an ELF32 record.
+// The index of the symbol and the type, which share one number of an ELF32 record.
 fn split_32(r_info: u32) -> (u32, u32)
     ensures { result ≡ (sym_of_info Class.ELF32 r_info, type_of_info Class.ELF32 r_info) }
 {

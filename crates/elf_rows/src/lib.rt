@@ -23,7 +23,7 @@ impl<T: Drop> From<AllocFailed<T>> for RowError {
     }
 }
 
-/// The bytes that a word of a row stands for: two hexadecimal digits each. The word `-` stands for none,
+/// The bytes that a word of a row gives: two hexadecimal digits each. The word `-` means none,
 /// and `@NAME` for those of the small file NAME.
 pub fn bytes_of(rt: &HostRuntime, word: &str) -> Result<Vec<u8>, RowError> {
     if let Some(name) = word.strip_prefix("@") {
@@ -36,7 +36,7 @@ pub fn bytes_of(rt: &HostRuntime, word: &str) -> Result<Vec<u8>, RowError> {
     Ok(bytes)
 }
 
-/// The bytes of a small file, which is kept as lines of hexadecimal digits.
+/// The bytes of a small file, which is written as lines of hexadecimal digits.
 fn file_bytes(rt: &HostRuntime, name: &str) -> Result<Vec<u8>, RowError> {
     let text = fs::read_to_string(rt, name)?;
     let mut bytes = Vec::new(rt.alloc());
@@ -114,7 +114,7 @@ fn write_at(data: &mut Vec<u8>, start: usize, new: &[u8]) -> Result<(), RowError
     Ok(())
 }
 
-/// The number that a word stands for, in decimal.
+/// The number that a word gives, in decimal.
 pub fn number<T: FromStr>(word: &str) -> Result<T, RowError>
 where
     T::Err: Drop,

@@ -82,14 +82,14 @@ fn records_are_compared_and_cloned(rt: HostRuntime) {
         assert_cloned::<SysVHashHeader>(&rt, class);
         assert_cloned::<GnuHashHeader>(&rt, class);
         assert_cloned::<NoteGnuAbiTag>(&rt, class);
-        // The version stands in front and is not kept.
+        // The version comes first and is not stored.
         assert_compared::<VerNeed>(&rt, class, 2);
         assert_compared::<VerDef>(&rt, class, 2);
         assert_compared::<VerNeedAux>(&rt, class, 0);
         assert_compared::<VerDefAux>(&rt, class, 0);
         assert_compared::<VersionIndex>(&rt, class, 0);
     }
-    // In the other class a reserved word is not kept.
+    // In the other class a reserved word is not stored.
     assert_cloned::<CompressionHeader>(&rt, Class::ELF32);
 }
 

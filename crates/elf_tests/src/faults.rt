@@ -1,4 +1,4 @@
-//! The texts of refusals that no stored row shows, and of stopped runs.
+//! The texts of errors that no stored row shows, and of stopped runs.
 use elf::ParseError;
 use elfshow::calls::RunError;
 use std::fmt::Display;

@@ -37,7 +37,7 @@ fn a_refused_file_writes_nothing(rt: HostRuntime) {
 /// How many pairs of calls the long runs have.
 const PAIRS: usize = 300;
 
-/// Asserts that a text is the lines of so many pairs of calls for the header and the sections of a header alone.
+/// Asserts that a text is the lines of n pairs of calls for the header and the sections of a header alone.
 fn is_pairs(text: &[u8]) -> bool {
     let mut rest = text;
     for _ in 0..PAIRS {

@@ -62,7 +62,7 @@ fn a_users_order_reads_each_number(rt: HostRuntime) -> Result<(), Fail> {
     Ok(())
 }
 
-/// Whether the order stands for this byte, or else refuses it by its own number.
+/// Whether the order has this byte, or else refuses it by its own number.
 fn answers<E: EndianParse>(byte: u8, stands: bool) -> bool {
     match E::from_ei_data(byte) {
         Ok(_) => stands,

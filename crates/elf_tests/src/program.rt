@@ -15,7 +15,7 @@ use std::io;
 use std::io::{BufWriter, Write};
 use std::process::Abort;
 
-/// Asserts which status the program returns and what it writes, where its output has so much room.
+/// Asserts which status the program returns and what it writes, whose output has this room.
 fn assert_run<W: Write>(
     rt: &(impl Abort + AllocGlobal),
     words: &[&str],
@@ -64,7 +64,7 @@ fn a_message_that_is_not_taken_changes_nothing(rt: HostRuntime) -> io::Result<()
 }
 
 #[test]
-fn a_full_output_is_told(rt: HostRuntime) -> io::Result<()> {
+fn a_full_output_is_reported(rt: HostRuntime) -> io::Result<()> {
     let words = ["bytes", "F", "header", "sections"];
     assert_shows(
         &rt,
@@ -128,7 +128,7 @@ fn each_stopped_run_has_its_line(rt: HostRuntime) {
 }
 
 #[test]
-fn a_refused_push_is_want_of_memory(rt: HostRuntime) {
+fn a_refused_push_is_an_allocation_failure(rt: HostRuntime) {
     let refused = RequestError::from(AllocFailed {
         value: Call::Header,
     });
@@ -206,7 +206,7 @@ impl FileSystem for NoFiles {
 }
 
 #[test]
-fn a_missing_file_is_told_in_each_mode(rt: HostRuntime) -> io::Result<()> {
+fn a_missing_file_is_reported_in_each_mode(rt: HostRuntime) -> io::Result<()> {
     let alloc = rt.alloc();
     for mode in ["bytes", "stream", "both"] {
         let mut out = BufWriter::new(alloc, Counting::new())?;
@@ -221,7 +221,7 @@ fn a_missing_file_is_told_in_each_mode(rt: HostRuntime) -> io::Result<()> {
 }
 
 #[test]
-fn a_failed_flush_is_told_in_each_mode(rt: HostRuntime) -> io::Result<()> {
+fn a_failed_flush_is_reported_in_each_mode(rt: HostRuntime) -> io::Result<()> {
     let alloc = rt.alloc();
     let files = MemFile {
         alloc,

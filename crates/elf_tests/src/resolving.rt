@@ -114,7 +114,7 @@ fn a_sysv_section_answers_alone(rt: HostRuntime) -> Result<(), Fail> {
 }
 
 #[test]
-fn the_first_step_that_fails_is_told(rt: HostRuntime) -> Result<(), AllocError> {
+fn the_first_step_that_fails_is_reported(rt: HostRuntime) -> Result<(), AllocError> {
     let mut data = SYMBOL_A;
     data[106] = 0;
     assert_fault(&rt, &data, "Some(Faulty(NoBloomBit { index: 1 }))")?;
@@ -130,7 +130,7 @@ fn a_file_without_hash_sections_gives_no_table(rt: HostRuntime) -> Result<(), Fa
 }
 
 #[test]
-fn a_section_that_holds_no_table_is_told(rt: HostRuntime) -> Result<(), AllocError> {
+fn a_section_that_holds_no_table_is_reported(rt: HostRuntime) -> Result<(), AllocError> {
     let mut data = SYMBOL_A;
     data[276] = 15;
     assert_fault(&rt, &data, "Some(Read(SliceReadError((12, 16))))")

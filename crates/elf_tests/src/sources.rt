@@ -7,7 +7,7 @@ use std::cell::Cell;
 use std::io;
 use std::io::ErrorKind;
 
-/// Copies bytes from a place on to the front of a buffer, and tells how many.
+/// Copies bytes from a place on to the front of a buffer, and returns how many.
 fn give(bytes: &[u8], at: u64, buf: &mut [u8]) -> usize
     ensures { result ≤ length buf.old }
 {
@@ -17,7 +17,7 @@ fn give(bytes: &[u8], at: u64, buf: &mut [u8]) -> usize
     n
 }
 
-/// Gives so many bytes a read, or one where that is 0, and fails once, at the call behind so many, which whoever lends
+/// Gives `step` bytes a read, or one if that is 0, and fails once, behind a number of calls, which whoever lends
 /// their number may change.
 #[derive(Drop)]
 pub(crate) struct Halting<'a> {
@@ -25,7 +25,7 @@ pub(crate) struct Halting<'a> {
     at: u64,
     width: usize,
     calls_before: &'a Cell<u64>,
-    faults: u64,
+    failures: u64,
 }
 
 impl<'a> Halting<'a> {
@@ -35,7 +35,7 @@ impl<'a> Halting<'a> {
             at: 0,
             width,
             calls_before,
-            faults: 0,
+            failures: 0,
         }
     }
 
@@ -43,11 +43,11 @@ impl<'a> Halting<'a> {
     fn called(&mut self) -> Result<(), io::Error>
         ensures bytes { self.new.bytes ≡ self.old.bytes }
         ensures at { self.new.at ≡ self.old.at }
-        ensures cause { HasCause self.old.faults self.new.faults true result }
+        ensures cause { HasCause self.old.failures self.new.failures true result }
     {
         let calls_before = self.calls_before.get();
-        if calls_before == 0 && self.faults == 0 {
-            self.faults = 1;
+        if calls_before == 0 && self.failures == 0 {
+            self.failures = 1;
             return Err(io::Error::from(ErrorKind::Other));
         }
         self.calls_before.set(calls_before.saturating_sub(1));
@@ -60,7 +60,7 @@ impl<'a> StreamSource for Halting<'a> {
 
     ghost position = { λ s. s.at };
 
-    ghost faults = { λ s. s.faults };
+    ghost failures = { λ s. s.failures };
 
     ghost can_fail = { λ _. true };
 
@@ -113,7 +113,7 @@ impl Meter {
         }
     }
 
-    /// How many calls there were, and how many bytes were given, since it was last asked.
+    /// How many calls there were, and how many bytes were given, since the last call.
     pub(crate) fn taken(&self) -> (u64, u64) {
         (self.calls.replace(0), self.bytes.replace(0))
     }
@@ -140,7 +140,7 @@ impl<'a> StreamSource for Metered<'a> {
 
     ghost position = { λ _. 0 };
 
-    ghost faults = { λ _. 0 };
+    ghost failures = { λ _. 0 };
 
     ghost can_fail = { λ _. true };
 
@@ -182,7 +182,7 @@ impl<'a> StreamSource for Short<'a> {
 
     ghost position = { λ _. 0 };
 
-    ghost faults = { λ _. 0 };
+    ghost failures = { λ _. 0 };
 
     ghost can_fail = { λ _. true };
 

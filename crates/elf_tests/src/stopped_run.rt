@@ -13,7 +13,7 @@ const HEADER: &[u8] =
 
 // The opening read no names, so the second call reads them.
 #[test]
-fn a_fault_in_the_second_call_is_told(rt: HostRuntime) -> Result<(), Fail> {
+fn a_fault_in_the_second_call_is_reported(rt: HostRuntime) -> Result<(), Fail> {
     let calls_left = Cell::new(u64::MAX);
     let source = Halting::new(&TWO_SECTIONS, 64, &calls_left);
     let mut stream = ElfStream::<AnyEndian, Halting<'_>, Global>::open_stream(rt.alloc(), source)?;

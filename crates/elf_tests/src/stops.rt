@@ -16,7 +16,7 @@ fn whole_text(alloc: Global) -> Result<String, AllocError> {
     format!(in alloc; "{HEADER_LINE}end 0\n{HEADER_LINE}")
 }
 
-/// How many calls end within so many bytes.
+/// How many calls end within a number of bytes.
 fn calls_within(room: usize) -> usize {
     let header = HEADER_LINE.len();
     match room {
@@ -27,7 +27,7 @@ fn calls_within(room: usize) -> usize {
     }
 }
 
-/// How many calls a run tells to be done, and which failure of the writer stopped it.
+/// How many calls were done, by the run's result, and which failure of the writer stopped it.
 fn run_into<W: Write>(out: &mut W) -> (usize, Option<ErrorKind>) {
     match run_bytes::<AnyEndian, W>(&HEADER_ALONE, &CALLS, out) {
         Ok(()) => (3, None),
@@ -36,8 +36,8 @@ fn run_into<W: Write>(out: &mut W) -> (usize, Option<ErrorKind>) {
     }
 }
 
-/// What a run tells whose text of so many bytes has so much room.
-fn told_in(room: usize, length: usize) -> (usize, Option<ErrorKind>) {
+/// The result of a run whose text has this length and whose writer has this room.
+fn expected_in(room: usize, length: usize) -> (usize, Option<ErrorKind>) {
     if room < length {
         (calls_within(room), Some(ErrorKind::StorageFull))
     } else {
@@ -51,7 +51,7 @@ fn a_run_stops_where_its_writer_is_full(rt: HostRuntime) -> Result<(), Fail> {
     for width in [3, 4096] {
         for room in 0..=whole.len() {
             let mut out = Narrow::new(rt.alloc(), room, width);
-            let want = told_in(room, whole.len());
+            let want = expected_in(room, whole.len());
             assert!(rt;
                 run_into(&mut out) == want && out.held.len() == room,
                 "at {room}"
@@ -73,7 +73,7 @@ fn a_buffer_changes_no_count(rt: HostRuntime) -> Result<(), Fail> {
             let mut inner = Narrow::new(rt.alloc(), room, 3);
             {
                 let mut out = BufWriter::with_capacity(rt.alloc(), capacity, &mut inner)?;
-                let want = told_in(room, whole.len());
+                let want = expected_in(room, whole.len());
                 assert!(rt; run_into(&mut out) == want, "at {room}");
             }
             assert!(rt;
@@ -85,7 +85,7 @@ fn a_buffer_changes_no_count(rt: HostRuntime) -> Result<(), Fail> {
     Ok(())
 }
 
-/// Whether the write behind so many fails, which is told then; else all is written.
+/// Whether the write behind this number of writes fails, which is reported then; else all is written.
 fn fails_behind(rt: &(impl Abort + AllocGlobal), writes_before: usize, whole: &[u8]) -> bool {
     let mut out = Faulty::at_write(rt.alloc(), writes_before);
     let (done, error) = run_into(&mut out);
@@ -100,7 +100,7 @@ fn fails_behind(rt: &(impl Abort + AllocGlobal), writes_before: usize, whole: &[
 }
 
 #[test]
-fn one_failed_write_is_told(rt: HostRuntime) -> Result<(), AllocError> {
+fn one_failed_write_is_reported(rt: HostRuntime) -> Result<(), AllocError> {
     let whole = whole_text(rt.alloc())?;
     let mut writes = 0;
     for writes_before in 0..1000 {
@@ -114,14 +114,14 @@ fn one_failed_write_is_told(rt: HostRuntime) -> Result<(), AllocError> {
 }
 
 #[test]
-fn a_failed_flush_is_told(rt: HostRuntime) {
+fn a_failed_flush_is_reported(rt: HostRuntime) {
     let mut out = Faulty::at_flush(rt.alloc());
     assert!(rt; run_into(&mut out) == (0, Some(ErrorKind::BrokenPipe)));
     assert!(rt; out.held.as_slice() == HEADER_LINE.as_bytes());
 }
 
 #[test]
-fn a_writer_that_takes_nothing_is_told(rt: HostRuntime) {
+fn a_writer_that_takes_nothing_is_reported(rt: HostRuntime) {
     let mut out = Narrow::new(rt.alloc(), 10, 0);
     assert!(rt; run_into(&mut out) == (0, Some(ErrorKind::WriteZero)));
 }

@@ -12,7 +12,7 @@ use std::test::Fail;
 
 type Halted<'a> = ElfStream<AnyEndian, Halting<'a>, Global>;
 
-/// The text of the first so many calls, by the reader over bytes.
+/// The text of the first calls, by the reader over bytes.
 fn text_of(alloc: Global, data: &[u8], calls: &[Call<'_>], done: usize) -> Result<Vec<u8>, Fail> {
     let mut text = Vec::new(alloc);
     match run_bytes::<AnyEndian, Vec<u8>>(data, calls.get(..done).unwrap_or_default(), &mut text) {
@@ -34,8 +34,8 @@ fn done_of(stopped: &Result<(), RunError>, all: usize) -> Option<usize> {
     }
 }
 
-/// Runs calls over a source that fails behind so many of its calls: the whole text is written, or a fault tells how
-/// many calls were done and just their text is written. Tells whether there was a fault, and none where the opening
+/// Runs calls over a source that fails behind a number of its calls: the whole text is written, or a fault says how
+/// many calls were done and just their text is written. Returns whether there was a fault, and none if the opening
 /// failed.
 fn faults_behind(
     rt: &(impl Abort + AllocGlobal),

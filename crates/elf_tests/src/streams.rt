@@ -33,7 +33,7 @@ const FILES: [&[u8]; 9] = [
     &VERSIONS_BY_NAME,
 ];
 
-/// How many calls over each of the files read their first range, where nothing is held.
+/// How many calls over each of the files read their first range, where nothing is cached.
 const READING: [usize; 9] = [18, 15, 15, 15, 17, 17, 17, 18, 17];
 
 const EMPTY: SectionHeader = SectionHeader {
@@ -85,7 +85,7 @@ const WIDE_COMPRESSED_STRINGS: SectionHeader = SectionHeader {
     ..COMPRESSED_STRINGS
 };
 
-/// Headers made by hand: strings, records and notes, no bytes, bytes that only the longer files have, and a range
+/// Headers that no file has: strings, records and notes, no bytes, bytes that only the longer files have, and a range
 /// that no file has.
 const SECTIONS: [SectionHeader; 9] = [
     SectionHeader {
@@ -160,7 +160,7 @@ const VIEWS: [View; 5] = [
     View::Notes,
 ];
 
-/// How a stream's answer stands to that of `ElfBytes`.
+/// How a stream's answer compares to that of `ElfBytes`.
 #[derive(Clone, Copy, Debug, Drop, PartialEq, Eq)]
 enum Answer {
     Same,
@@ -309,7 +309,7 @@ fn have_same_name(
     }
 }
 
-/// Whether both tell the same of a version, the first of its names included.
+/// Whether both have the same fields of a version, the first of its names included.
 fn are_same(
     mut one: SymbolDefinition<'_, AnyEndian>,
     mut other: SymbolDefinition<'_, AnyEndian>,
@@ -383,7 +383,7 @@ fn choice_answer(stream: &mut Halted<'_>, file: &Bytes<'_>, choice: Choice) -> A
 
 /// A call of a reader.
 #[derive(Clone, Copy)]
-enum Asked {
+enum Request {
     Choice(Choice),
     Section(View, SectionHeader),
     Segment(bool, ProgramHeader),
@@ -392,41 +392,41 @@ enum Asked {
 const CALLS: usize = CHOICES.len() + SECTIONS.len() * VIEWS.len() + SEGMENTS.len() * 2;
 
 /// The calls by number: those with no header, each view of each section, and each segment as notes and as bytes.
-fn call(number: usize) -> Option<Asked> {
+fn call(number: usize) -> Option<Request> {
     if let Some(choice) = CHOICES.get(number) {
-        return Some(Asked::Choice(*choice));
+        return Some(Request::Choice(*choice));
     }
     let view = number.saturating_sub(CHOICES.len());
     if let Some(shdr) = SECTIONS.get(view / VIEWS.len()) {
-        return Some(Asked::Section(VIEWS[view % VIEWS.len()], *shdr));
+        return Some(Request::Section(VIEWS[view % VIEWS.len()], *shdr));
     }
     let half = view.saturating_sub(SECTIONS.len() * VIEWS.len());
     let phdr = SEGMENTS.get(half / 2)?;
-    Some(Asked::Segment(half % 2 == 0, *phdr))
+    Some(Request::Segment(half % 2 == 0, *phdr))
 }
 
-fn answer_of(stream: &mut Halted<'_>, file: &Bytes<'_>, asked: Asked) -> Answer {
-    match asked {
-        Asked::Choice(choice) => choice_answer(stream, file, choice),
-        Asked::Section(view, shdr) => section_answer(stream, file, view, &shdr),
-        Asked::Segment(as_notes, phdr) => segment_answer(stream, file, as_notes, &phdr),
+fn answer_of(stream: &mut Halted<'_>, file: &Bytes<'_>, request: Request) -> Answer {
+    match request {
+        Request::Choice(choice) => choice_answer(stream, file, choice),
+        Request::Section(view, shdr) => section_answer(stream, file, view, &shdr),
+        Request::Segment(as_notes, phdr) => segment_answer(stream, file, as_notes, &phdr),
     }
 }
 
-/// Whether a call was refused, as it may be. Asked again, the call answers as `ElfBytes` does.
+/// Whether a call was refused, as it may be. Called again, the call answers as `ElfBytes` does.
 fn call_is_refused(
     rt: &(impl Abort + AllocGlobal),
     stream: &mut Halted<'_>,
     file: &Bytes<'_>,
-    asked: Asked,
+    request: Request,
     refusal: Answer,
 ) -> bool {
-    let first = answer_of(&mut *stream, file, asked);
+    let first = answer_of(&mut *stream, file, request);
     if first != refusal {
         assert_eq!(rt; first, Answer::Same);
         return false;
     }
-    assert_eq!(rt; answer_of(stream, file, asked), Answer::Same);
+    assert_eq!(rt; answer_of(stream, file, request), Answer::Same);
     true
 }
 
@@ -439,8 +439,8 @@ fn refused_calls(
 ) -> usize {
     let mut refused = 0usize;
     for number in 0..CALLS {
-        if let Some(asked) = call(number)
-            && call_is_refused(rt, &mut *stream, file, asked, refusal)
+        if let Some(request) = call(number)
+            && call_is_refused(rt, &mut *stream, file, request, refusal)
         {
             refused = refused.saturating_add(1);
         }
@@ -461,7 +461,7 @@ fn has_headers(stream: &Halted<'_>, file: &Bytes<'_>) -> bool {
     stream.ehdr == file.ehdr && has_sections && has_segments
 }
 
-/// Whether a source that fails behind so many calls fails in the opening or in the calls that follow.
+/// Whether a source that fails behind a number of calls fails in the opening or in the calls that follow.
 fn run_fails(
     rt: &(impl Abort + AllocGlobal),
     bytes: &[u8],
@@ -528,7 +528,7 @@ const BEYOND_NAMES: SectionHeader = SectionHeader {
 
 type Counted<'a> = ElfStream<AnyEndian, Metered<'a>, Global>;
 
-/// Asserts the bytes of a section, and tells how many calls of the source there were for them and how many bytes it
+/// Asserts the bytes of a section, and returns how many calls of the source there were for them and how many bytes it
 /// gave.
 fn taken_for(
     rt: &(impl Abort + AllocGlobal),
@@ -545,7 +545,7 @@ fn taken_for(
 }
 
 #[test]
-fn what_is_held_is_not_read_again(rt: HostRuntime) -> Result<(), Fail> {
+fn what_is_cached_is_not_read_again(rt: HostRuntime) -> Result<(), Fail> {
     let meter = Meter::new();
     let source = Metered::new(&TWO_SECTIONS, &meter);
     let mut stream = Counted::open_stream(rt.alloc(), source)?;
@@ -639,18 +639,18 @@ fn open<'a>(
     Halted::open_stream(alloc, Halting::new(bytes, 1, calls_left))
 }
 
-/// Whether the first call of a stream is refused, where its source fails behind so many calls.
+/// Whether the first call of a stream is refused, where its source fails behind a number of calls.
 fn first_call_fails(
     rt: &(impl Abort + AllocGlobal),
     bytes: &[u8],
-    asked: Asked,
+    request: Request,
     calls_before: u64,
 ) -> Result<bool, ParseError> {
     let file = ElfBytes::minimal_parse(bytes)?;
     let calls_left = Cell::new(u64::MAX);
     let mut stream = open(rt.alloc(), bytes, &calls_left)?;
     calls_left.set(calls_before);
-    let is_refused = call_is_refused(rt, &mut stream, &file, asked, Answer::Failed);
+    let is_refused = call_is_refused(rt, &mut stream, &file, request, Answer::Failed);
     assert!(rt; has_headers(&stream, &file));
     Ok(is_refused)
 }
@@ -659,10 +659,10 @@ fn first_call_fails(
 fn faults_of_first_call(
     rt: &(impl Abort + AllocGlobal),
     bytes: &[u8],
-    asked: Asked,
+    request: Request,
 ) -> Result<u64, ParseError> {
     for calls_before in 0..1000 {
-        if !first_call_fails(rt, bytes, asked, calls_before)? {
+        if !first_call_fails(rt, bytes, request, calls_before)? {
             return Ok(calls_before);
         }
     }
@@ -673,8 +673,8 @@ fn faults_of_first_call(
 fn calls_that_read(rt: &(impl Abort + AllocGlobal), bytes: &[u8]) -> Result<usize, ParseError> {
     let mut reading = 0usize;
     for number in 0..CALLS {
-        if let Some(asked) = call(number)
-            && faults_of_first_call(rt, bytes, asked)? > 0
+        if let Some(request) = call(number)
+            && faults_of_first_call(rt, bytes, request)? > 0
         {
             reading = reading.saturating_add(1);
         }
@@ -684,7 +684,7 @@ fn calls_that_read(rt: &(impl Abort + AllocGlobal), bytes: &[u8]) -> Result<usiz
 
 #[test]
 fn the_first_call_may_fail(rt: HostRuntime) -> Result<(), ParseError> {
-    let faults = faults_of_first_call(&rt, &TWO_SECTIONS, Asked::Choice(Choice::Named))?;
+    let faults = faults_of_first_call(&rt, &TWO_SECTIONS, Request::Choice(Choice::Named))?;
     assert!(rt; faults > 4, "{faults} faults");
     for (bytes, reading) in FILES.iter().zip(READING) {
         assert!(rt; calls_that_read(&rt, bytes)? >= reading);
@@ -706,7 +706,7 @@ fn opened<'a>(
     }
 }
 
-/// All calls over a file, of which one may be refused for want of memory. `tests/refused-memory` runs this with each
+/// All calls over a file, of which one may be refused for an allocation failure. `tests/refused-memory` runs this with each
 /// allocation refused.
 fn assert_answered(rt: &(impl Abort + AllocGlobal), bytes: &[u8]) -> Result<usize, ParseError> {
     let file = ElfBytes::minimal_parse(bytes)?;
@@ -733,10 +733,10 @@ fn starved_answer(
     alloc: Global,
     stream: &mut Halted<'_>,
     file: &Bytes<'_>,
-    asked: Asked,
+    request: Request,
 ) -> Result<Answer, AllocError> {
     let blocks = all_memory(alloc)?;
-    let found = answer_of(stream, file, asked);
+    let found = answer_of(stream, file, request);
     drop(blocks);
     Ok(found)
 }
@@ -754,36 +754,36 @@ fn starved_opening<'a>(
 }
 
 /// What a call answers while no memory is left and the source would fail.
-fn held_answer(
+fn cached_answer(
     alloc: Global,
     stream: &mut Halted<'_>,
     calls_left: &Cell<u64>,
     file: &Bytes<'_>,
-    asked: Asked,
+    request: Request,
 ) -> Result<Answer, AllocError> {
     calls_left.set(0);
-    let held = starved_answer(alloc, stream, file, asked)?;
+    let cached = starved_answer(alloc, stream, file, request)?;
     calls_left.set(u64::MAX);
-    Ok(held)
+    Ok(cached)
 }
 
-/// Whether a call is refused while no memory is left. Asked again while there is some, it answers, and then also while
+/// Whether a call is refused while no memory is left. Called again while there is some, it answers, and then also while
 /// none is left again and the source would fail.
 fn is_starved(
     rt: &(impl Abort + AllocGlobal),
     stream: &mut Halted<'_>,
     calls_left: &Cell<u64>,
     file: &Bytes<'_>,
-    asked: Asked,
+    request: Request,
 ) -> Result<bool, AllocError> {
-    let first = starved_answer(rt.alloc(), &mut *stream, file, asked)?;
+    let first = starved_answer(rt.alloc(), &mut *stream, file, request)?;
     assert!(rt;
         first == Answer::Same || first == Answer::Starved,
         "{first:?}"
     );
-    assert_eq!(rt; answer_of(&mut *stream, file, asked), Answer::Same);
-    let held = held_answer(rt.alloc(), stream, calls_left, file, asked)?;
-    assert!(rt; held == Answer::Same, "{held:?}");
+    assert_eq!(rt; answer_of(&mut *stream, file, request), Answer::Same);
+    let cached = cached_answer(rt.alloc(), stream, calls_left, file, request)?;
+    assert!(rt; cached == Answer::Same, "{cached:?}");
     Ok(first == Answer::Starved)
 }
 
@@ -795,7 +795,7 @@ fn starved_calls(rt: &(impl Abort + AllocGlobal), bytes: &[u8]) -> Result<usize,
     let (mut stream, is_again) = starved_opening(rt.alloc(), bytes, &calls_left)?;
     let mut starved = usize::from(is_again);
     for choice in CHOICES {
-        if is_starved(rt, &mut stream, &calls_left, &file, Asked::Choice(choice))? {
+        if is_starved(rt, &mut stream, &calls_left, &file, Request::Choice(choice))? {
             starved = starved.saturating_add(1);
         }
     }
@@ -803,7 +803,7 @@ fn starved_calls(rt: &(impl Abort + AllocGlobal), bytes: &[u8]) -> Result<usize,
 }
 
 #[test]
-fn what_is_held_needs_no_memory(rt: HostRuntime) -> Result<(), Fail> {
+fn what_is_cached_needs_no_memory(rt: HostRuntime) -> Result<(), Fail> {
     for (bytes, starved) in [
         (&TWO_SECTIONS[..], 2),
         (&HASHED, 2),
@@ -817,29 +817,29 @@ fn what_is_held_needs_no_memory(rt: HostRuntime) -> Result<(), Fail> {
 
 /// How many of all calls answer as `ElfBytes` does while no memory is left and the source would fail, once each of them
 /// was made.
-fn held_calls(rt: &(impl Abort + AllocGlobal), bytes: &[u8]) -> Result<usize, Fail> {
+fn cached_calls(rt: &(impl Abort + AllocGlobal), bytes: &[u8]) -> Result<usize, Fail> {
     let file = ElfBytes::minimal_parse(bytes)?;
     let calls_left = Cell::new(u64::MAX);
     let mut stream = open(rt.alloc(), bytes, &calls_left)?;
     assert_eq!(rt; refused_calls(rt, &mut stream, &file, Answer::Starved), 0);
     calls_left.set(0);
     let blocks = all_memory(rt.alloc())?;
-    let mut held = 0usize;
+    let mut cached = 0usize;
     for number in 0..CALLS {
-        if let Some(asked) = call(number)
-            && answer_of(&mut stream, &file, asked) == Answer::Same
+        if let Some(request) = call(number)
+            && answer_of(&mut stream, &file, request) == Answer::Same
         {
-            held = held.saturating_add(1);
+            cached = cached.saturating_add(1);
         }
     }
     drop(blocks);
-    Ok(held)
+    Ok(cached)
 }
 
 #[test]
-fn all_that_was_asked_needs_no_memory_and_no_source(rt: HostRuntime) -> Result<(), Fail> {
+fn what_was_requested_needs_no_memory_and_no_source(rt: HostRuntime) -> Result<(), Fail> {
     for bytes in FILES {
-        assert_eq!(rt; held_calls(&rt, bytes)?, CALLS);
+        assert_eq!(rt; cached_calls(&rt, bytes)?, CALLS);
     }
     Ok(())
 }
@@ -853,7 +853,7 @@ fn a_cut_file_is_refused(rt: HostRuntime) {
     }
 }
 
-/// What the names of a file are, and those of a stream over it, where another section is said to hold them.
+/// What the names of a file are, and those of a stream over it, where the header names another section for them.
 fn names_in(alloc: Global, index: u16) -> Result<Answer, Fail> {
     let mut file = ElfBytes::minimal_parse(&TWO_SECTIONS)?;
     let calls_left = Cell::new(u64::MAX);
@@ -861,7 +861,7 @@ fn names_in(alloc: Global, index: u16) -> Result<Answer, Fail> {
     let mut stream = Halted::open_stream(alloc, source)?;
     file.ehdr.e_shstrndx = index;
     stream.ehdr.e_shstrndx = index;
-    Ok(answer_of(&mut stream, &file, Asked::Choice(Choice::Names)))
+    Ok(answer_of(&mut stream, &file, Request::Choice(Choice::Names)))
 }
 
 #[test]

@@ -56,7 +56,7 @@ fn a_table_gives_a_users_records(rt: HostRuntime) {
     assert!(rt; four == [first, second, None, None], "{four:?}");
 }
 
-/// Asserts the answer for a record of a table of the first so many bytes.
+/// Asserts the answer for a record of a table of the first bytes.
 fn assert_got<P: ParseAt + Drop>(
     rt: &(impl Abort + AllocGlobal),
     length: usize,
@@ -107,7 +107,7 @@ fn assert_listed<E: EndianParse>(
     Ok(())
 }
 
-/// Asserts the items of the table in an order, asked for in each way that there is.
+/// Asserts the items of the table in an order, read in each way that there is.
 fn assert_triples<E: EndianParse>(
     rt: &(impl Abort + AllocGlobal),
     order: E,
@@ -141,7 +141,7 @@ fn a_refused_record_ends_the_iterator(rt: HostRuntime) {
 }
 
 #[test]
-fn a_users_refusal_is_told(rt: HostRuntime) -> Result<(), AllocError> {
+fn a_users_refusal_is_reported(rt: HostRuntime) -> Result<(), AllocError> {
     for (index, want) in [
         (1, "BadOffset(1)"),
         (8, "SliceReadError((8, 9))"),

@@ -8,5 +8,5 @@ pub(crate) const HEADER_LINE: &str =
 pub(crate) const TWO_SECTION_LINES: &str =
     "section 0 name= nameoff=0 type=0 flags=0x0 addr=0x0 offset=0 size=0 link=0 info=0 align=0 entsize=0\nsection 1 name=.s nameoff=1 type=3 flags=0x0 addr=0x0 offset=52 size=4 link=0 info=0 align=1 entsize=0\nend 2\n";
 
-/// The line that tells how the program is called.
+/// The line that says how the program is called.
 pub(crate) const USAGE_LINE: &str = "usage: elfshow bytes|stream|both FILE CALL...\n";

@@ -6,7 +6,7 @@ use std::alloc::{AllocError, Global};
 use std::io::BufWriter;
 use std::test::Fail;
 
-/// How many sections there are, which a header has no room to tell.
+/// How many sections there are, more than a header can hold.
 const COUNT: u32 = 65000;
 
 /// Where the names lie: behind the section headers, which begin at 64.
@@ -22,10 +22,10 @@ const BUFFER: usize = 65536;
 const FEWEST_WRITES: u64 = 108;
 
 /// How many writes that takes at most. Each of them but the last is of a buffer that has no room for the lines that come
-/// next, which have at most 1,024 bytes. So it has at least 64,512 bytes, and so many go 109 times into the text.
+/// next, which have at most 1,024 bytes. So it has at least 64,512 bytes, which go 109 times into the text.
 const MOST_WRITES: u64 = 110;
 
-/// The first section tells how many there are, and the second where the names are.
+/// The first section has the number of sections, and the second the names.
 fn many_sections(alloc: Global) -> Result<Vec<u8>, AllocError> {
     let [count, more, ..] = COUNT.to_le_bytes();
     let [a, b, c, d] = NAMES.to_le_bytes();

@@ -50,7 +50,7 @@ pub(crate) struct Faulty {
 }
 
 impl Faulty {
-    /// Fails at the write behind so many.
+    /// Fails at the write behind a number of writes.
     pub(crate) fn at_write(alloc: Global, writes_before: usize) -> Faulty {
         Faulty {
             held: Vec::new(alloc),

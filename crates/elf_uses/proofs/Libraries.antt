@@ -21,8 +21,8 @@ use Rattle.elf_check.specs.ObjectTable.{needed, object_by, object_of, read}
 use Rattle.elf_check.specs.declared.hashcheck.any.HashSection.{HashSection}
 use Rattle.elf_check.specs.declared.hashcheck.any.HashSection.TheVariants.{Gnu, Sysv}
 use Rattle.elf_check.specs.declared.resolve.ObjectFault.{ObjectFault}
-use Rattle.elf_uses.specs.Library.{IsLibraryOf, IsOpened, hash_by, hash_in, hash_kept, hash_section, object_from, object_kept}
-use Rattle.elf_uses.specs.Library.{symbols_in, versions_in, versions_kept}
+use Rattle.elf_uses.specs.Library.{IsLibraryOf, IsOpened, hash_by, hash_in, library_hash, hash_section, object_from, library_object}
+use Rattle.elf_uses.specs.Library.{symbols_in, versions_in, library_versions}
 use Rattle.elf_uses.specs.Readings.{IsRead, Reads}
 use Rattle.elf_uses.specs.declared.bindings.library.Library.{Library}
 use Rattle.elf_uses.proofs.Readings.{reads_behind}
@@ -72,14 +72,14 @@ read_ok shown can_fail answer (Ok x) ok h = sym h
 read_ok shown can_fail answer (Err e) ok h = cc
 
 module _ {E : Type 0} (little : E → Bool) (can_fail : Bool) (file : ObjectFile) (library : Library E) (is : IsLibraryOf little can_fail file library) where
-  pub object_is : IsOk library.hash → IsOk library.symbols → object_kept little library ≡ object_of file
+  pub object_is : IsOk library.hash → IsOk library.symbols → library_object little library ≡ object_of file
   object_is hash symbols =
-      let IsIt : Bool → Class → Type 0 = λ l k. object_from l k (hash_kept library) (ok_map (option_map (symbols_in l k)) library.symbols) ≡ object_of file in
+      let IsIt : Bool → Class → Type 0 = λ l k. object_from l k (library_hash library) (ok_map (option_map (symbols_in l k)) library.symbols) ≡ object_of file in
       let by_hash = ap (λ h. object_from file.little file.class h (ok_map (option_map (symbols_in file.little file.class)) library.symbols)) (read_ok (option_map hash_in) can_fail (hash_section file) library.hash hash is.hash) in
       let by_symbols = ap (λ s. object_from file.little file.class (hash_section file) s) (read_ok (option_map (symbols_in file.little file.class)) can_fail (dynamic_symbol_table file) library.symbols symbols is.symbols) in
       subst (λ l. IsIt l library.class) is.order (subst (λ k. IsIt file.little k) is.class (by_hash ∙ by_symbols ∙ sym (object_by_parts file)))
 
-  pub versions_are : IsOk library.versions → versions_kept little library ≡ symbol_version_table file
+  pub versions_are : IsOk library.versions → library_versions little library ≡ symbol_version_table file
   versions_are versions =
       let IsIt : Bool → Class → Type 0 = λ l k. ok_map (option_map (versions_in l k)) library.versions ≡ symbol_version_table file in
       let here = read_ok (option_map (versions_in file.little file.class)) can_fail (symbol_version_table file) library.versions versions is.versions in

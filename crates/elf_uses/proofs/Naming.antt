@@ -9,7 +9,7 @@ use Rattle.elf_parts.specs.declared.dynamic.Dyn.{Dyn}
 use Rattle.elf_parts.specs.declared.parse.ParseError.{ParseError}
 use Rattle.elf.specs.ElfStream.{IsAnswer, IsRefused, Keeps, Kind, Leaves, Seen, kind}
 use Rattle.elf.specs.StreamFile.{stream_file}
-use Rattle.elf_uses.specs.Needed.{IsGiven, IsTold, IsUnreadable, Tells, entries_of, if_some, names, names_by, names_view, or_error}
+use Rattle.elf_uses.specs.Needed.{IsGiven, IsNamesAnswer, IsUnreadable, GivesNames, entries_of, if_some, names, names_by, names_view, or_error}
 use Rattle.elf_uses.specs.declared.needed.Names.{Names}
 use Rattle.elf_uses.specs.declared.needed.NamesError.{NamesError}
 use Rattle.elf_uses.specs.declared.needed.NamesError.TheVariants.{Memory, Name, NoAddress, NoSize, NotLoaded, Read}
@@ -28,7 +28,7 @@ found_passes p (y ∷ ys) x e = found_or p (p y) y x (find p ys) refl (λ f. fou
 
 told_made : {T Y U Z : Type 0} (told : Option (List ℕ)) (shown : T → Y) (answer : List ℕ → Result Y ParseError) (can_fail : Bool) (before now : ℕ) (x : T) (shows : U → Z) (made : Y → Result Z NamesError) (given : Result U NamesError)
     → IfSome told (λ bytes. IsAnswer shown (answer bytes) can_fail before now (Ok x)) → IsGiven shows (made (shown x)) given
-    → IfSome told (λ bytes. IsTold shows (or_error Read (answer bytes) >>= made) can_fail before now given)
+    → IfSome told (λ bytes. IsNamesAnswer shows (or_error Read (answer bytes) >>= made) can_fail before now given)
 told_made None shown answer can_fail before now x shows made given h g = tt
 told_made (Some bytes) shown answer can_fail before now x shows made (Ok u) h g = (h.0, ap (λ r. or_error Read r >>= made) h.1 ∙ g)
 told_made (Some bytes) shown answer can_fail before now x shows made (Err Memory) h g = h.0
@@ -40,10 +40,10 @@ told_made (Some bytes) shown answer can_fail before now x shows made (Err (Name 
 
 pub tells_made : {E T Y U Z : Type 0} (old new : Seen E) (asked : List (ℕ × ℕ)) (shown : T → Y) (answer : List ℕ → Result Y ParseError) (r : Result T ParseError) (x : T) (shows : U → Z) (made : Y → Result Z NamesError) (given : Result U NamesError)
     → Leaves asked shown answer old new r → r ≡ Ok x → IsGiven shows (made (shown x)) given
-    → Tells shows (λ bytes. or_error Read (answer bytes) >>= made) old new given
+    → GivesNames shows (λ bytes. or_error Read (answer bytes) >>= made) old new given
 tells_made old new asked shown answer r x shows made given leaves is g =
-    let answers = subst (λ w. IfSome old.content (λ bytes. IsAnswer shown (answer bytes) old.can_fail old.faults new.faults w)) is leaves.answers in
-    record { keeps = leaves.keeps; answers = told_made old.content shown answer old.can_fail old.faults new.faults x shows made given answers g }
+    let answers = subst (λ w. IfSome old.content (λ bytes. IsAnswer shown (answer bytes) old.can_fail old.failures new.failures w)) is leaves.answers in
+    record { keeps = leaves.keeps; answers = told_made old.content shown answer old.can_fail old.failures new.failures x shows made given answers g }
 
 -- ---- a call of a stream behind another that was not refused
 
@@ -58,12 +58,12 @@ keeps_then old middle new a b = record {
   declares_sections = b.declares_sections ∙ a.declares_sections;
   sections = b.sections ∙ a.sections;
   segments = b.segments ∙ a.segments;
-  held = λ start end h. b.held start end (a.held start end h);
+  cached = λ start end h. b.cached start end (a.cached start end h);
 }
 
 refused_so : (k : Kind) (P Q : Type 0) (before middle now : ℕ) (can_fail : Bool) → (P → Q) → middle ≡ before → IsRefused middle now can_fail P k → IsRefused before now can_fail Q k
-refused_so Kind.Failure P Q before middle now can_fail so same h = let up = h.0 in (omega arith, h.1)
-refused_so Kind.Want P Q before middle now can_fail so same h = h ∙ same
+refused_so Kind.SourceFailure P Q before middle now can_fail so same h = let up = h.0 in (omega arith, h.1)
+refused_so Kind.AllocationFailure P Q before middle now can_fail so same h = h ∙ same
 refused_so Kind.Refusal P Q before middle now can_fail so same h = (h.0 ∙ same, so h.1)
 
 unreadable_some : {Z : Type 0} (inner : Result Z NamesError) → IsUnreadable inner → IsUnreadable (ok_map Some inner)
@@ -77,7 +77,7 @@ unreadable_some (Err (Name e)) u = absurd u
 
 -- an error is that of the whole
 told_whole : {U V Z : Type 0} (shows : U → Z) (shown : V → Option Z) (whole : Result (Option Z) NamesError) (inner : Result Z NamesError) (can_fail : Bool) (before middle now : ℕ) (e : NamesError)
-    → whole ≡ ok_map Some inner → middle ≡ before → IsTold shows inner can_fail middle now (Err e) → IsTold shown whole can_fail before now (Err e)
+    → whole ≡ ok_map Some inner → middle ≡ before → IsNamesAnswer shows inner can_fail middle now (Err e) → IsNamesAnswer shown whole can_fail before now (Err e)
 told_whole shows shown whole inner can_fail before middle now Memory is same h = h ∙ same
 told_whole shows shown whole inner can_fail before middle now (Read e) is same h =
     refused_so (kind e) (IsUnreadable inner) (IsUnreadable whole) before middle now can_fail (λ u. subst IsUnreadable (sym is) (unreadable_some inner u)) same h
@@ -87,26 +87,26 @@ told_whole shows shown whole inner can_fail before middle now (NotLoaded a) is s
 told_whole shows shown whole inner can_fail before middle now (Name e) is same h = (h.0 ∙ same, is ∙ ap (ok_map Some) h.1)
 
 told_later : {E T : Type 0} (little : E → Bool) (old middle : Seen E) (now : ℕ) (told : Option (List ℕ)) (shown : T → Option (List Dyn)) (x : T) (entries : List Dyn) (e : NamesError) → Keeps old middle → shown x ≡ Some entries
-    → IfSome told (λ bytes. IsTold shown (entries_of (stream_file little old bytes)) old.can_fail old.faults middle.faults (Ok x))
-    → IfSome told (λ bytes. IsTold names_view (names_by (stream_file little middle bytes) entries) middle.can_fail middle.faults now (Err e))
-    → IfSome told (λ bytes. IsTold (option_map names_view) (names (stream_file little old bytes)) old.can_fail old.faults now (Err e))
+    → IfSome told (λ bytes. IsNamesAnswer shown (entries_of (stream_file little old bytes)) old.can_fail old.failures middle.failures (Ok x))
+    → IfSome told (λ bytes. IsNamesAnswer names_view (names_by (stream_file little middle bytes) entries) middle.can_fail middle.failures now (Err e))
+    → IfSome told (λ bytes. IsNamesAnswer (option_map names_view) (names (stream_file little old bytes)) old.can_fail old.failures now (Err e))
 told_later little old middle now None shown x entries e keeps is h k = tt
 told_later little old middle now (Some bytes) shown x entries e keeps is h k =
     let file = stream_file little old bytes in
     let whole = ap (λ r. r >>= λ es. if_some (names_by file) es) (h.1 ∙ ap Ok is) in
-    let there = subst (λ f. IsTold names_view (names_by f entries) middle.can_fail middle.faults now (Err e)) (same_file little old middle bytes keeps) k in
-    let here = subst (λ b. IsTold names_view (names_by file entries) b middle.faults now (Err e)) keeps.can_fail there in
-    told_whole names_view (option_map names_view) (names file) (names_by file entries) old.can_fail old.faults middle.faults now e whole h.0 here
+    let there = subst (λ f. IsNamesAnswer names_view (names_by f entries) middle.can_fail middle.failures now (Err e)) (same_file little old middle bytes keeps) k in
+    let here = subst (λ b. IsNamesAnswer names_view (names_by file entries) b middle.failures now (Err e)) keeps.can_fail there in
+    told_whole names_view (option_map names_view) (names file) (names_by file entries) old.can_fail old.failures middle.failures now e whole h.0 here
 
 pub tells_later : {E T : Type 0} (little : E → Bool) (old middle new : Seen E) (shown : T → Option (List Dyn)) (first : Result T NamesError) (x : T) (entries : List Dyn) (later : Result Names NamesError) (e : NamesError) → first ≡ Ok x → shown x ≡ Some entries → later ≡ Err e
-    → Tells shown (λ bytes. entries_of (stream_file little old bytes)) old middle first
-    → Tells names_view (λ bytes. names_by (stream_file little middle bytes) entries) middle new later
-    → Tells (option_map names_view) (λ bytes. names (stream_file little old bytes)) old new (Err e)
+    → GivesNames shown (λ bytes. entries_of (stream_file little old bytes)) old middle first
+    → GivesNames names_view (λ bytes. names_by (stream_file little middle bytes) entries) middle new later
+    → GivesNames (option_map names_view) (λ bytes. names (stream_file little old bytes)) old new (Err e)
 tells_later little old middle new shown first x entries later e is some refused a b =
-    let one = subst (λ r. IfSome old.content (λ bytes. IsTold shown (entries_of (stream_file little old bytes)) old.can_fail old.faults middle.faults r)) is a.answers in
-    let two = subst (λ r. IfSome middle.content (λ bytes. IsTold names_view (names_by (stream_file little middle bytes) entries) middle.can_fail middle.faults new.faults r)) refused b.answers in
-    let here = subst (λ told. IfSome told (λ bytes. IsTold names_view (names_by (stream_file little middle bytes) entries) middle.can_fail middle.faults new.faults (Err e))) a.keeps.content two in
+    let one = subst (λ r. IfSome old.content (λ bytes. IsNamesAnswer shown (entries_of (stream_file little old bytes)) old.can_fail old.failures middle.failures r)) is a.answers in
+    let two = subst (λ r. IfSome middle.content (λ bytes. IsNamesAnswer names_view (names_by (stream_file little middle bytes) entries) middle.can_fail middle.failures new.failures r)) refused b.answers in
+    let here = subst (λ told. IfSome told (λ bytes. IsNamesAnswer names_view (names_by (stream_file little middle bytes) entries) middle.can_fail middle.failures new.failures (Err e))) a.keeps.content two in
     record {
       keeps = keeps_then old middle new a.keeps b.keeps;
-      answers = told_later little old middle new.faults old.content shown x entries e a.keeps some one here;
+      answers = told_later little old middle new.failures old.content shown x entries e a.keeps some one here;
     }

@@ -26,7 +26,7 @@ keeps_then old middle new a b = record {
   declares_sections = b.declares_sections ∙ a.declares_sections;
   sections = b.sections ∙ a.sections;
   segments = b.segments ∙ a.segments;
-  held = λ start end h. b.held start end (a.held start end h);
+  cached = λ start end h. b.cached start end (a.cached start end h);
 }
 
 -- a reading behind calls that kept the file
@@ -40,8 +40,8 @@ reads_behind old middle new r shown answer keeps reads =
 -- ---- a step that is refused, of an answer that needs it
 
 may_refuse : (k : Kind) (P Q : Type 0) (can_fail : Bool) → (P → Q) → MayRefuse can_fail ⊤ P k → MayRefuse can_fail ⊤ Q k
-may_refuse Kind.Failure P Q can_fail so h = h
-may_refuse Kind.Want P Q can_fail so h = h
+may_refuse Kind.SourceFailure P Q can_fail so h = h
+may_refuse Kind.AllocationFailure P Q can_fail so h = h
 may_refuse Kind.Refusal P Q can_fail so h = so h
 
 stopped_told : {T Y U Z : Type 0} (told : Option (List ℕ)) (shown : T → Y) (answer : List ℕ → Result Y ParseError) (other : U → Z) (whole : List ℕ → Result Z ParseError) (can_fail : Bool) (e : ParseError)

@@ -20,7 +20,7 @@ use Rattle.elf_uses.specs.Resolver.{HasTable, HaveTables, IsTable, IsTrueOf, lib
 use Rattle.elf_uses.specs.declared.resolver.TablesError.TheVariants.{Fault, Memory, NoHash}
 
 module _ {F T : Type 0} (P : F → T → Type 0) where
-  -- the first of the files have tables, so many
+  -- the first n files have tables
   abbrev pub Paired : List F → List T → ℕ → Type 0
   Paired files tables n = (k : ℕ) → k < n → IfSome (slice_get files k) (λ file. IsSomeAnd (slice_get tables k) (P file))
 
@@ -68,7 +68,7 @@ module _ {E : Type 0} {order : EndianGhosts E} {default : DefaultGhosts E} {equa
 some_is : {A : Type 0} (P : A → Type 0) (o : Option A) (x : A) → o ≡ Some x → P x → IsSomeAnd o P
 some_is {A = A} P o x e here = subst (λ (p : Option A). IsSomeAnd p P) (sym e) here
 
--- what a refusal says at the library at a place, where those before it have tables
+-- what an error says of the library at a place, where those before it have tables
 module _ {E : Type 0} (little : E → Bool) where
   pub missing : (files : List (ElfBytes E)) (k : ℕ) (file : ElfBytes E) → slice_get files k ≡ Some file → library little file ≡ None →
       HaveTables little files k → IsTrueOf little files (NoHash k)

@@ -25,7 +25,7 @@ GivesFirst hidden (name ∷ others) result =
     (λ found. IsSomeAnd found (λ version. GivesText name (Ok version.name) × (version.hidden ≡ hidden)))
     (λ e. GivesText name (Err e))
 
--- a definition that stands for the file itself (VER_FLG_BASE, 1) is no version
+-- a definition of the file itself (VER_FLG_BASE, 1) is no version
 abbrev pub GivesVersionOf : Definition → Result (Option Version) ParseError → Type 0
 GivesVersionOf d result =
     MatchBool (bit_and d.flags ver_flg_base == 0) (GivesFirst d.hidden d.names result) (result ≡ Ok None)

@@ -1,4 +1,4 @@
--- What a library keeps of a file to bind by, what a reading of it from a stream gives, and which object it is.
+-- What a library stores of a file to bind by, what reading it from a stream gives, and which object it is.
 use Rattle.std.specs.Prelude.{◌≡◌, ℕ, Bool, ◌⊎◌, List, Option, Some, None, Result, Ok, Err, IsErr, IsOk}
 use Rattle.std.specs.Option.{IsSomeAnd, option_map}
 use Rattle.std.specs.Result.{IsErrAnd, IsOkAnd}
@@ -35,7 +35,7 @@ use Rattle.elf_uses.specs.declared.bindings.library.SymbolBytes.{SymbolBytes}
 use Rattle.elf_uses.specs.declared.bindings.library.VersionBytes.{VersionBytes}
 use denote.Ref.{Bor}
 
--- ---- what is kept, in an order and a class
+-- ---- what is stored, in an order and a class
 
 -- a hash section by its kind and its bytes
 abbrev pub hash_in : HashBytes → HashSection × List ℕ
@@ -87,11 +87,14 @@ pub record IsLibraryOf {E : Type 0} (little : E → Bool) (can_fail : Bool) (fil
   pub order : file.little ≡ little library.endianness
   pub class : file.class ≡ library.class
   pub hash : IsRead (option_map hash_in) can_fail (hash_section file) library.hash
-  pub symbols : IsRead (option_map (symbols_in file.little file.class)) can_fail (dynamic_symbol_table file) library.symbols
-  pub versions : IsRead (option_map (versions_in file.little file.class)) can_fail (symbol_version_table file) library.versions
+  pub symbols : IsRead (option_map (symbols_in file.little file.class)) can_fail (dynamic_symbol_table file)
+      library.symbols
+  pub versions : IsRead (option_map (versions_in file.little file.class)) can_fail (symbol_version_table file)
+      library.versions
 
 -- the library of the file that these bytes hold, where it can be opened
-abbrev pub IsOpened : {E : Type 0} → (E → Bool) → (ℕ → Option E) → Bool → List ℕ → Result (Library E) ParseError → Type 0
+abbrev pub IsOpened :
+    {E : Type 0} → (E → Bool) → (ℕ → Option E) → Bool → List ℕ → Result (Library E) ParseError → Type 0
 IsOpened {E} little of_byte can_fail bytes (Ok library) =
     (h : Headers E) × (ok_map headers_of (opened little of_byte bytes) ≡ Ok h)
     × IsLibraryOf little can_fail (listed_file little h bytes) library
@@ -100,17 +103,17 @@ IsOpened {E} little of_byte can_fail bytes (Err e) =
 
 -- ---- which object it is
 
--- the parts as they stand, or why they could not be read
-abbrev pub hash_kept : {E : Type 0} → Library E → Result (Option (HashSection × List ℕ)) ParseError
-hash_kept library = ok_map (option_map hash_in) library.hash
+-- the parts as they are now, or the error of reading them
+abbrev pub library_hash : {E : Type 0} → Library E → Result (Option (HashSection × List ℕ)) ParseError
+library_hash library = ok_map (option_map hash_in) library.hash
 
 module _ {E : Type 0} (little : E → Bool) where
-  abbrev pub symbols_kept : Library E → Result (Option (Table × List ℕ)) ParseError
-  symbols_kept library =
+  abbrev pub library_symbols : Library E → Result (Option (Table × List ℕ)) ParseError
+  library_symbols library =
       ok_map (option_map (symbols_in (little library.endianness) library.class)) library.symbols
 
-  abbrev pub versions_kept : Library E → Result (Option Versions) ParseError
-  versions_kept library =
+  abbrev pub library_versions : Library E → Result (Option Versions) ParseError
+  library_versions library =
       ok_map (option_map (versions_in (little library.endianness) library.class)) library.versions
 
 -- the object that a hash section holds with these symbols, if there is one; the fault of the first step that fails
@@ -121,28 +124,28 @@ object_from little class (Ok (Some hash)) symbols =
     Some (read symbols >>= needed >>= λ found. read (object_in hash.0 little class hash.1 found.0 found.1))
 object_from little class (Err e) symbols = Some (Err (Read e))
 
-abbrev pub object_kept : {E : Type 0} → (E → Bool) → Library E → Option (Result Object ObjectFault)
-object_kept little library =
-    object_from (little library.endianness) library.class (hash_kept library) (symbols_kept little library)
+abbrev pub library_object : {E : Type 0} → (E → Bool) → Library E → Option (Result Object ObjectFault)
+library_object little library =
+    object_from (little library.endianness) library.class (library_hash library) (library_symbols little library)
 
--- what is lent of a part, or its error
-abbrev pub lent : {T Y : Type 0} → (T → Y) → Result T (Bor ParseError) → Result Y ParseError
-lent shown (Ok x) = Ok (shown x)
-lent shown (Err e) = Err e.now
+-- what is part_result of a part, or its error
+abbrev pub part_result : {T Y : Type 0} → (T → Y) → Result T (Bor ParseError) → Result Y ParseError
+part_result shown (Ok x) = Ok (shown x)
+part_result shown (Err e) = Err e.now
 
-abbrev pub lent_hash : HashSection × Bor (List ℕ) → HashSection × List ℕ
-lent_hash hash = (hash.0, hash.1.now)
+abbrev pub shown_hash : HashSection × Bor (List ℕ) → HashSection × List ℕ
+shown_hash hash = (hash.0, hash.1.now)
 
--- the fault that it tells of
-abbrev pub fault_told : LibraryFault → ObjectFault
-fault_told (Unread e) = Read e.now
-fault_told (FromTable fault) = fault
+-- the fault of the object
+abbrev pub object_fault : LibraryFault → ObjectFault
+object_fault (Unread e) = Read e.now
+object_fault (FromTable fault) = fault
 
-abbrev pub told : {T : Type 0} → Result T LibraryFault → Result T ObjectFault
-told (Ok x) = Ok x
-told (Err fault) = Err (fault_told fault)
+abbrev pub object_result : {T : Type 0} → Result T LibraryFault → Result T ObjectFault
+object_result (Ok x) = Ok x
+object_result (Err fault) = Err (object_fault fault)
 
--- the table is sound, with these versions; a refusal is that of the table, or where this is sound that of the versions
+-- the table is sound, with these versions; an error is that of the table, or where this is sound that of the versions
 abbrev pub GivesFrom : {C : Type 0} → (C → VersionedObject) → Option (Result Object ObjectFault) →
     Result (Option Versions) ParseError → Result (Option C) ObjectFault → Type 0
 GivesFrom view object versions (Ok None) = object ≡ None

@@ -52,7 +52,7 @@ IsFirstUnfit all k = IsSomeAnd (slice_get all k) (λ m. fits m ≡ false) × Fit
 abbrev pub IsFirstOverlap : List Mapping → ℕ → Type 0
 IsFirstOverlap all k = IsSomeAnd (slice_get all k) (λ m. overlaps_earlier all k m ≡ true) × ApartBefore all k
 
--- what a refusal says of the mappings; overlaps are looked at where all fit
+-- what an error says of the mappings; overlaps are looked at where all fit
 abbrev pub IsTrueOf : List Mapping → PlanError → Type 0
 IsTrueOf all (FileSize k) = IsFirstUnfit all k
 IsTrueOf all (Overlap k) = FitBefore all (length all) × IsFirstOverlap all k

@@ -1,6 +1,7 @@
 -- The names by which the dynamic linker finds a file and the libraries that it needs (gABI, chapter "Dynamic Section"),
 -- and what is answered of them over a stream.
-use Rattle.std.specs.Prelude.{◌≡◌, ℕ, ◌+◌, ◌-◌, ◌^◌, ◌==◌, ◌&&◌, nat_le, nat_lt, not, Bool, ℤ, List, [], ◌∷◌, map, filter}
+use Rattle.std.specs.Prelude.{◌≡◌, ℕ, ◌+◌, ◌-◌, ◌^◌, ◌==◌, ◌&&◌, nat_le, nat_lt, not, Bool, ℤ, List, [], ◌∷◌, map}
+use Rattle.std.specs.Prelude.{filter}
 use Rattle.std.specs.Prelude.{Option, Some, None, Result, Ok, Err, IfSome, ok_or}
 use Rattle.std.specs.List.{find, take_while}
 use Rattle.std.specs.Option.{option_map}
@@ -137,14 +138,16 @@ IsUnreadable (Err (Read e)) = Unit {0}
 IsUnreadable _ = ⊥
 
 -- the answer, or an error; an error of the source raises its count, and nothing else does
-abbrev pub IsTold : {T Y : Type 0} → (T → Y) → Result Y NamesError → Bool → ℕ → ℕ → Result T NamesError → Type 0
-IsTold shown answer can_fail before now (Ok x) = (now ≡ before) × (answer ≡ Ok (shown x))
-IsTold shown answer can_fail before now (Err Memory) = now ≡ before
-IsTold shown answer can_fail before now (Err (Read e)) = IsRefused before now can_fail (IsUnreadable answer) (kind e)
-IsTold shown answer can_fail before now (Err e) = (now ≡ before) × (answer ≡ Err e)
+abbrev pub IsNamesAnswer : {T Y : Type 0} → (T → Y) → Result Y NamesError → Bool → ℕ → ℕ → Result T NamesError → Type 0
+IsNamesAnswer shown answer can_fail before now (Ok x) = (now ≡ before) × (answer ≡ Ok (shown x))
+IsNamesAnswer shown answer can_fail before now (Err Memory) = now ≡ before
+IsNamesAnswer shown answer can_fail before now (Err (Read e)) =
+    IsRefused before now can_fail (IsUnreadable answer) (kind e)
+IsNamesAnswer shown answer can_fail before now (Err e) = (now ≡ before) × (answer ≡ Err e)
 
--- the same file, no held range lost, and where the content is known its answer
-pub record Tells {E T Y : Type 0} (shown : T → Y) (answer : List ℕ → Result Y NamesError) (old new : Seen E)
+-- the same file, no cached range lost, and where the content is known its answer
+pub record GivesNames {E T Y : Type 0} (shown : T → Y) (answer : List ℕ → Result Y NamesError) (old new : Seen E)
     (r : Result T NamesError) : Type 0 where
   pub keeps : Keeps old new
-  pub answers : IfSome old.content (λ bytes. IsTold shown (answer bytes) old.can_fail old.faults new.faults r)
+  pub answers : IfSome old.content (λ bytes.
+      IsNamesAnswer shown (answer bytes) old.can_fail old.failures new.failures r)

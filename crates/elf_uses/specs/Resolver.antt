@@ -48,7 +48,7 @@ module _ {E : Type 0} (little : E → Bool) where
   abbrev pub HaveTables : List (ElfBytes E) → ℕ → Type 0
   HaveTables files place = (k : ℕ) → k < place → IfSome (slice_get files k) HasTable
 
-  -- what a refusal says of the first library that has none. Memory is asked for only once the first library has a
+  -- what an error says of the first library that has none. Memory is allocated only once the first library has a
   -- table.
   abbrev pub IsTrueOf : List (ElfBytes E) → TablesError → Type 0
   IsTrueOf files (NoHash k) = IsSomeAnd (slice_get files k) (λ file. library little file ≡ None) × HaveTables files k

@@ -1,4 +1,4 @@
-//! Seven callers of the library, each in a module of its own, with the contract that its user wants: `build_id`,
+//! Seven callers of the library, each in a module of its own, with the contract that its user needs: `build_id`,
 //! `functions`, `load_plan`, `hash_lint`, `resolver`, `bindings` and `needed`.
 //!
 //! `elf_uses CALLER FILE..` prints the result of a caller for each file. `resolver=NAME` looks a name up in all of

@@ -7,7 +7,8 @@ ghost use Rattle.elf_parts.specs.Dynamic.{has_tag};
 ghost use Rattle.elf_parts.specs.StringTable.{strings_view};
 ghost use Rattle.elf_parts.specs.Table.{table_view};
 ghost use Rattle.elf.specs.StreamFile.{stream_file};
-ghost use Rattle.elf_uses.specs.Needed.{IsGiven, Tells, all_names, entries_in, entries_of, first_entry, first_name};
+ghost use Rattle.elf_uses.specs.Needed.{GivesNames, IsGiven};
+ghost use Rattle.elf_uses.specs.Needed.{all_names, entries_in, entries_of, first_entry, first_name};
 ghost use Rattle.elf_uses.specs.Needed.{holds, name_of, names, names_by, names_in, names_of_part, names_view};
 ghost use Rattle.elf_uses.specs.Needed.{part_of, string_part};
 ghost use Rattle.elf_uses.specs.declared.needed.NamesError.TheVariants.{Memory as IsMemory};
@@ -218,7 +219,7 @@ fn entries_of<E: EndianParse, S: StreamSource, A: Allocator + Copy>(
     alloc: Global,
     stream: &mut ElfStream<E, S, A>,
 ) -> Result<Option<Vec<Dyn>>, NamesError>
-    ensures { Tells (option_map (λ entries. entries.items))
+    ensures { GivesNames (option_map (λ entries. entries.items))
         (λ bytes. entries_of (stream_file E.little stream.old bytes)) stream.old stream.new result }
 {
     match stream.dynamic() {
@@ -235,7 +236,7 @@ fn names_of_part<E: EndianParse, S: StreamSource, A: Allocator + Copy>(
     entries: &[Dyn],
     part: &ProgramHeader,
 ) -> Result<Names, NamesError>
-    ensures { Tells names_view
+    ensures { GivesNames names_view
         (λ bytes. names_of_part (stream_file E.little stream.old bytes) part.now entries.now)
         stream.old stream.new result }
 {
@@ -251,7 +252,7 @@ fn names_by<E: EndianParse, S: StreamSource, A: Allocator + Copy>(
     stream: &mut ElfStream<E, S, A>,
     entries: &[Dyn],
 ) -> Result<Names, NamesError>
-    ensures { Tells names_view (λ bytes. names_by (stream_file E.little stream.old bytes) entries.now)
+    ensures { GivesNames names_view (λ bytes. names_by (stream_file E.little stream.old bytes) entries.now)
         stream.old stream.new result }
 {
     match string_part(stream.segments().as_slice(), entries) {
@@ -271,7 +272,7 @@ pub fn dynamic_names<E: EndianParse, S: StreamSource, A: Allocator + Copy>(
     alloc: Global,
     stream: &mut ElfStream<E, S, A>,
 ) -> Result<Option<Names>, NamesError>
-    ensures { Tells (option_map names_view) (λ bytes. names (stream_file E.little stream.old bytes))
+    ensures { GivesNames (option_map names_view) (λ bytes. names (stream_file E.little stream.old bytes))
         stream.old stream.new result }
 {
     let entries = match entries_of(alloc, stream) {

@@ -1,4 +1,4 @@
--- Facts of the few numbers below a bound, and what is told of what is known to be sound or not.
+-- Facts of the few numbers below a bound, and the verdict on what is known to be sound or not.
 use Rattle.std.proofs.Common.{◌≡◌, ◌≢◌, ℕ, zero, suc, ◌<◌, ◌++◌, codes, Some, refl, inl, inr, arith}
 use Rattle.std.specs.Fmt.{decimal}
 use Rattle.elfshow.specs.Verdicts.{verdict}

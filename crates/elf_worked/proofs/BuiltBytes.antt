@@ -31,7 +31,7 @@ use Rattle.elf_worked.specs.WrittenFiles.{LieAt}
 
 -- ---- words that are written
 
--- words of so many bytes fit
+-- words of n bytes fit
 module _ (width : ℕ) where
   fit_from : (ws : List ℕ) → ((i : ℕ) → i < length ws → get_or ws i 0 < 256 ^ width) →
       AllFit (λ n. Unsigned width n ∷ []) ws

@@ -28,7 +28,7 @@ two_written = record {
 
 pub names_lie : NamesLie any_is_little (two_header_with 1) (null_header ∷ names_header ∷ []) two_names two_sections
 names_lie = record {
-  told = suc_other 0;
+  has_names = suc_other 0;
   section = names_header;
   there = refl;
   size = refl;

@@ -44,7 +44,7 @@ three_steps a b c make p q r e f g = rw (e, f, g) refl
 declared : (undeclared : Bool) (count : Result ℕ ParseError) (cut : ℕ → Result (List ℕ) ParseError) (make : List ℕ → Table) (n : ℕ) (part : List ℕ) → undeclared ≡ false → count ≡ Ok n → cut n ≡ Ok part → (if undeclared then Ok None else (count >>= λ c. cut c >>= λ p. Ok (Some (make p)))) ≡ Ok (Some (make part))
 declared undeclared count cut make n part e f g = rw (e, f, g) refl
 
--- a number that the first section header may tell
+-- a number that the first section header may have
 counted : (elsewhere : Bool) (first : SectionHeader) (found : Result SectionHeader ParseError) (field : SectionHeader → ℕ) (n count : ℕ) → found ≡ Ok first → (if elsewhere then field first else n) ≡ count → (if elsewhere then ok_map field found else Ok n) ≡ Ok count
 counted true first found field n count e told = ap (ok_map field) e ∙ ap Ok told
 counted false first found field n count e told = ap Ok told
@@ -238,7 +238,7 @@ names_read : {E : Type 0} (little : E → Bool) (h : FileHeader E) (of_byte : �
 unfolding name_table name_section
 names_read little h of_byte [] segments names bytes small lie n = cc n.there
 names_read little h of_byte (first ∷ rest) segments names bytes small lie n =
-    let unnamed : nat_eq h.e_shstrndx 0 ≡ false = let e = n.told in grind (arith, common_steps, e) in
+    let unnamed : nat_eq h.e_shstrndx 0 ≡ false = let e = n.has_names in grind (arith, common_steps, e) in
     let at = section_at (written_sections little h (first ∷ rest)) in
     let one : at 0 ≡ Ok first = section_found little h first rest bytes small lie 0 first refl in
     let index = counted (nat_eq h.e_shstrndx 0xffff) first (at 0) (λ f. f.sh_link) h.e_shstrndx (names_told little h (first ∷ rest)) one refl in

@@ -66,7 +66,7 @@ abbrev pub functions_of : List ℕ → List (ℕ × Symbol)
 functions_of [] = []
 functions_of (i ∷ is) = (i, function_at 16) ∷ functions_of is
 
--- what a reference takes in an object with these versions, whose symbols of the name are these in the order of a look-up
+-- what a reference takes in an object with these versions, whose symbols of the name are these, in look-up order
 abbrev pub Takes : Option Versions → List ℕ → Wanted → Result (Option (ℕ × Symbol)) Unreadable → Type 0
 Takes versions indices wanted result =
     (symbols : Object) (name : List ℕ) → AreAllNamed symbols name (functions_of indices)

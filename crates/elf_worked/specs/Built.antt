@@ -11,7 +11,7 @@ use Rattle.elf_parts.specs.Table.{Table}
 use Rattle.elf_parts.specs.declared.hash.gnu.GnuHashHeader.{GnuHashHeader}
 use Rattle.elf_check.specs.WithSymbols.{WithSymbols, bloom, name_at, word}
 
--- the words of a table: so many, and these
+-- the words of a table: their number, and these
 abbrev pub AreWords : Table → ℕ → (ℕ → ℕ) → Type 0
 AreWords words count at = (word_count words ≡ count) × ((i : ℕ) → i < count → word words i ≡ Some (at i))
 

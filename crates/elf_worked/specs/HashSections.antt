@@ -61,7 +61,7 @@ unfoldable pub short_chain : List ℕ → Result (Option ℕ) ParseError
 short_chain name = sysv_index (word 1 ++ word 1 ++ word 2 ++ word 0) name
 
 -- what a GNU section gives whose one name is "a", at index 1, with this shift, and with these counts in the
--- header when it is asked
+-- header at the time of the call
 unfoldable pub gnu_finds : ℕ → ℕ → ℕ → List ℕ → Result (Option ℕ) ParseError
 gnu_finds shift nbloom first name =
     index_of (gnu_section true ELF32 (word 1 ++ word 1 ++ word 1 ++ word shift

@@ -112,7 +112,7 @@ names_header = record {
   sh_entsize = 0;
 }
 
--- a file of one section and one segment, both of whose numbers the first section header tells
+-- a file of one section and one segment, both of whose numbers are in the first section header
 abbrev pub extended_header : FileHeader AnyEndian
 extended_header = record {
   class = ELF64;
@@ -155,7 +155,7 @@ extended_file =
     ++ zeros 32 ++ in_eight 1 ++ zeros 4 ++ in_four 1 ++ zeros 16
     ++ loaded_segment
 
--- the file that the bytes hold, in the order that they tell
+-- the file that the bytes hold, in the order that they give
 abbrev pub opening : List ℕ → Result (View AnyEndian) ParseError
 opening bytes = opened any_is_little any_of_byte bytes
 

@@ -19,7 +19,7 @@ symbol_with info other = record {
   st_shndx = 0;
 }
 
--- a section of this type, with these flags, of so many bytes from the offset on
+-- a section of this type, with these flags, of this size from the offset on
 abbrev pub section_of : ℕ → ℕ → ℕ → ℕ → SectionHeader
 section_of type flags offset size = record {
   sh_name = 0;
@@ -51,7 +51,7 @@ needs_at offset = section_of 0x6ffffffe 0 offset 16
 abbrev pub definitions_at : ℕ → SectionHeader
 definitions_at offset = section_of 0x6ffffffd 0 offset 20
 
--- a segment of this type, of so many bytes from the offset on
+-- a segment of this type, of this size from the offset on
 abbrev pub segment_of : ℕ → ℕ → ℕ → ProgramHeader
 segment_of type offset size = record {
   p_type = type;

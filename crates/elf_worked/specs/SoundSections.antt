@@ -39,7 +39,7 @@ sysv_buckets = in_four 1 ++ in_four 2
 abbrev pub sysv_chains : List ℕ
 sysv_chains = in_four 0 ++ in_four 3 ++ in_four 0
 
--- a section of so many chain words, with what follows that of symbol 2
+-- a section of n chain words, with what follows that of symbol 2
 abbrev pub sysv_bytes : ℕ → List ℕ → List ℕ
 sysv_bytes count last = in_four 2 ++ in_four count ++ sysv_buckets ++ sysv_chains ++ last
 
@@ -48,7 +48,7 @@ abbrev pub sysv_cut : ℕ → List ℕ → Result (WithSymbols SysvTable) ParseE
 sysv_cut third section =
     with_symbols (table_in true ELF32 (sysv_symbols third)) sysv_names (sysv_section true ELF32 section)
 
--- the same put together by hand
+-- the same with fields of its own
 abbrev pub sysv_with : ℕ → List ℕ → WithSymbols SysvTable
 sysv_with third last = record {
   table = record { buckets = table_in true ELF32 sysv_buckets; chains = table_in true ELF32 (sysv_chains ++ last) };
@@ -93,7 +93,7 @@ abbrev pub gnu_cut : ℕ → List ℕ → Result (WithSymbols GnuTable) ParseErr
 gnu_cut second section =
     with_symbols (table_in true ELF32 (gnu_symbols second)) gnu_names (gnu_section true ELF32 section)
 
--- the same put together by hand
+-- the same with fields of its own
 abbrev pub gnu_with : ℕ → ℕ → ℕ → ℕ → ℕ → WithSymbols GnuTable
 gnu_with name shift low first second = record {
   table = record {

@@ -19,12 +19,12 @@ pub record LieAt (part bytes : List ℕ) (o : ℕ) : Type 0 where
   pub at : length before ≡ o
   pub is : bytes ≡ before ++ (part ++ behind)
 
--- a table of these structures lies at o, which is not 0; the size of an entry and their number are told, and right
+-- a table of these structures lies at o, which is not 0; the size and the number of the entries are declared, and right
 pub record TableLies {A : Type 0} (little : Bool) (struct : A → List Member) (size : ℕ) (xs : List A) (bytes : List ℕ)
-    (o entsize : ℕ) (told : Option ℕ) : Type 0 where
+    (o entsize : ℕ) (declared : Option ℕ) : Type 0 where
   pub somewhere : o ≢ 0
   pub entry : entsize ≡ size
-  pub count : told ≡ Some (length xs)
+  pub count : declared ≡ Some (length xs)
   pub fit : AllFit struct xs
   pub lie : LieAt (table_of little struct xs) bytes o
 
@@ -61,7 +61,7 @@ module _ {E : Type 0} (little : E → Bool) (h : FileHeader E) where
       TableLies (little h.endianness) (program_header_struct h.class) (phdr_size h.class) segments bytes
       h.e_phoff h.e_phentsize (segments_told h sections)
 
-  -- the bytes of a file with this header and these tables. In its e_ident a byte stands for the order, and the last
+  -- the bytes of a file with this header and these tables. In its e_ident a byte gives the order, and the last
   -- seven bytes are any; what else the file holds, and where its tables lie, is open
   pub record IsWritten (of_byte : ℕ → Option E) (sections : List SectionHeader) (segments : Option (List ProgramHeader))
       (bytes : List ℕ) : Type 0 where
@@ -106,7 +106,7 @@ module _ {E : Type 0} (little : E → Bool) (h : FileHeader E) where
 
   -- the names lie where the header of that section says
   pub record NamesLie (sections : List SectionHeader) (names bytes : List ℕ) : Type 0 where
-    pub told : h.e_shstrndx ≢ 0
+    pub has_names : h.e_shstrndx ≢ 0
     pub section : SectionHeader
     pub there : slice_get sections (names_told sections) ≡ Some section
     pub size : section.sh_size ≡ length names

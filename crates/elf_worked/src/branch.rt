@@ -4,7 +4,7 @@ use elf::file::Class;
 use elf::laws::tables::PlainRecord;
 use elf::parse::{ParseAt, ParseError};
 
-/// A branch of a program: the line where it stands, and how far it goes, in bytes: back where that is negative.
+/// A branch of a program: its line, and its distance in bytes, which is negative for a branch back.
 #[derive(Clone, Copy, Debug, PartialEq, Eq)]
 pub struct Branch {
     pub line: u16,

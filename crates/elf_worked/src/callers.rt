@@ -1,5 +1,5 @@
 //! What a user's functions can promise of notes and of the versions of symbols, whatever the order is. Each
-//! stands on the contracts of the iterators alone: a `for` has its invariant, and nothing else is proved by hand.
+//! uses the contracts of the iterators alone: a `for` has its invariant, and nothing else is proved here.
 ghost use Rattle.std.specs.Prelude.{◌≡◌, ◌==◌, ◌<◌, ◌^◌, length};
 ghost use Rattle.std.specs.List.{find};
 ghost use Rattle.std.specs.Option.{option_map};

@@ -18,7 +18,7 @@ pub fn section_copy<E: EndianParse>(
     shdr: &SectionHeader,
 ) -> Result<Vec<u8>, ParseError>
     ensures same { IfOk result (λ copy. IsSectionOf E.little E.of_byte file.now shdr.now copy.items) }
-    ensures cause { IfErr result (λ e. kind e ≢ Kind.Failure) }
+    ensures cause { IfErr result (λ e. kind e ≢ Kind.SourceFailure) }
 {
     let source = MemSource::new(file);
     let opened = ElfStream::<E, MemSource<'_>, Global>::open_stream(alloc, source);

@@ -21,13 +21,13 @@ use Rattle.elfshow.specs.declared.calls.RunError.TheVariants.{Fault, Open, Write
 use Rattle.elfshow.proofs.StreamRuns.{inner_refused}
 
 may_fault : (k : Kind) (before now : ℕ) (can_fail : Bool) → IsRefused before now can_fail ⊥ k → MayRefuse can_fail (Unit {0}) ⊥ k
-may_fault Kind.Failure before now can_fail h = h.1
-may_fault Kind.Want before now can_fail h = tt
+may_fault Kind.SourceFailure before now can_fail h = h.1
+may_fault Kind.AllocationFailure before now can_fail h = tt
 may_fault Kind.Refusal before now can_fail h = absurd h.1
 
 may_refuse : (k : Kind) (R S P Q : Type 0) (can_fail : Bool) → (R → S) → (P → Q) → MayRefuse can_fail R P k → MayRefuse can_fail S Q k
-may_refuse Kind.Failure R S P Q can_fail some none h = h
-may_refuse Kind.Want R S P Q can_fail some none h = some h
+may_refuse Kind.SourceFailure R S P Q can_fail some none h = h
+may_refuse Kind.AllocationFailure R S P Q can_fail some none h = some h
 may_refuse Kind.Refusal R S P Q can_fail some none h = none h
 
 inner_opens : {A B : Type 0} (f : A → B) (r : Result A ParseError) → IsOk (ok_map f r) → IsOk r
@@ -45,44 +45,44 @@ keeps_itself (Some xs) = refl
 module _ {E : Type 0} (little : E → Bool) (of_byte : ℕ → Option E)
     (law : (bytes : List ℕ) (v : View E) (header : FileHeader E) (s : Seen E) (calls : List Question) → opened little of_byte bytes ≡ Ok v → shown_headers s ≡ headers_of (with_header v header)
     → text header (object_file little (with_header v header)) calls ≡ text s.ehdr (stream_file little s bytes) calls) where
-  opened_text : (bytes : List ℕ) (s : Seen E) (can_fail : Bool) (faults : ℕ) (calls : List Call) (before after : Option (List ℕ))
-      → IsOpening shown_headers (ok_map headers_of (opened little of_byte bytes)) can_fail faults (Ok s)
+  opened_text : (bytes : List ℕ) (s : Seen E) (can_fail : Bool) (failures : ℕ) (calls : List Call) (before after : Option (List ℕ))
+      → IsOpening shown_headers (ok_map headers_of (opened little of_byte bytes)) can_fail failures (Ok s)
       → Appends before after (text s.ehdr (stream_file little s bytes) (map question calls))
       → IsOkAnd (opened little of_byte bytes) (λ file. Appends before after (text file.ehdr (object_file little file) (map question calls)))
-  opened_text bytes s can_fail faults calls before after opening wrote =
+  opened_text bytes s can_fail failures calls before after opening wrote =
       let found = ok_map-ok headers_of (opened little of_byte bytes) (shown_headers s) opening.1 in
       let v : View E = found.0 in
       let same = law bytes v v.ehdr s (map question calls) found.1 (sym found.2) in
       let written : Appends before after (text v.ehdr (object_file little v) (map question calls)) = subst (λ t. Appends before after t) (sym same) wrote in
       subst (λ (o : Result (View E) ParseError). IsOkAnd o (λ file. Appends before after (text file.ehdr (object_file little file) (map question calls)))) (sym found.1) written
 
-  told_ran : (told : Option (List ℕ)) (s : Seen E) (can_fail : Bool) (faults now : ℕ) (calls : List Call) (before after : Option (List ℕ)) (r : Result (Unit {0}) RunError) → s.can_fail ≡ can_fail
-      → IfSome told (λ bytes. IsOpening shown_headers (ok_map headers_of (opened little of_byte bytes)) can_fail faults (Ok s))
-      → IfSome told (λ bytes. Ran (λ calls. text s.ehdr (stream_file little s bytes) (map question calls)) calls before after s.can_fail s.faults now r)
+  told_ran : (told : Option (List ℕ)) (s : Seen E) (can_fail : Bool) (failures now : ℕ) (calls : List Call) (before after : Option (List ℕ)) (r : Result (Unit {0}) RunError) → s.can_fail ≡ can_fail
+      → IfSome told (λ bytes. IsOpening shown_headers (ok_map headers_of (opened little of_byte bytes)) can_fail failures (Ok s))
+      → IfSome told (λ bytes. Ran (λ calls. text s.ehdr (stream_file little s bytes) (map question calls)) calls before after s.can_fail s.failures now r)
       → IfSome told (λ bytes. RanOver (opened little of_byte bytes) (λ file calls. text file.ehdr (object_file little file) (map question calls)) calls before after can_fail r)
-  told_ran None s can_fail faults now calls before after r may opening ran = tt
-  told_ran (Some bytes) s can_fail faults now calls before after (Ok x) may opening ran = opened_text bytes s can_fail faults calls before after opening ran.1
-  told_ran (Some bytes) s can_fail faults now calls before after (Err (Open e)) may opening ran = absurd ran
-  told_ran (Some bytes) s can_fail faults now calls before after (Err (Fault done e)) may opening ran =
-      (ran.0, opened_text bytes s can_fail faults (take done calls) before after opening ran.1, subst (λ b. MayRefuse b (Unit {0}) ⊥ (kind e)) may (may_fault (kind e) s.faults now s.can_fail ran.2))
-  told_ran (Some bytes) s can_fail faults now calls before after (Err (Write done e)) may opening ran = (ran.0, opens headers_of (opened little of_byte bytes) (shown_headers s) opening.1)
+  told_ran None s can_fail failures now calls before after r may opening ran = tt
+  told_ran (Some bytes) s can_fail failures now calls before after (Ok x) may opening ran = opened_text bytes s can_fail failures calls before after opening ran.1
+  told_ran (Some bytes) s can_fail failures now calls before after (Err (Open e)) may opening ran = absurd ran
+  told_ran (Some bytes) s can_fail failures now calls before after (Err (Fault done e)) may opening ran =
+      (ran.0, opened_text bytes s can_fail failures (take done calls) before after opening ran.1, subst (λ b. MayRefuse b (Unit {0}) ⊥ (kind e)) may (may_fault (kind e) s.failures now s.can_fail ran.2))
+  told_ran (Some bytes) s can_fail failures now calls before after (Err (Write done e)) may opening ran = (ran.0, opens headers_of (opened little of_byte bytes) (shown_headers s) opening.1)
 
-  pub source_ran : (told : Option (List ℕ)) (s : Seen E) (can_fail : Bool) (faults now : ℕ) (calls : List Call) (before after : Option (List ℕ)) (r : Result (Unit {0}) RunError) → s.content ≡ told → s.can_fail ≡ can_fail
-      → IfSome told (λ bytes. IsOpening shown_headers (ok_map headers_of (opened little of_byte bytes)) can_fail faults (Ok s))
-      → IfSome s.content (λ bytes. Ran (λ calls. text s.ehdr (stream_file little s bytes) (map question calls)) calls before after s.can_fail s.faults now r)
+  pub source_ran : (told : Option (List ℕ)) (s : Seen E) (can_fail : Bool) (failures now : ℕ) (calls : List Call) (before after : Option (List ℕ)) (r : Result (Unit {0}) RunError) → s.content ≡ told → s.can_fail ≡ can_fail
+      → IfSome told (λ bytes. IsOpening shown_headers (ok_map headers_of (opened little of_byte bytes)) can_fail failures (Ok s))
+      → IfSome s.content (λ bytes. Ran (λ calls. text s.ehdr (stream_file little s bytes) (map question calls)) calls before after s.can_fail s.failures now r)
       → IfSome told (λ bytes. RanOver (opened little of_byte bytes) (λ file calls. text file.ehdr (object_file little file) (map question calls)) calls before after can_fail r)
-  source_ran told s can_fail faults now calls before after r same may opening ran =
-      told_ran told s can_fail faults now calls before after r may opening
-      (subst (λ content. IfSome content (λ bytes. Ran (λ calls. text s.ehdr (stream_file little s bytes) (map question calls)) calls before after s.can_fail s.faults now r)) same ran)
+  source_ran told s can_fail failures now calls before after r same may opening ran =
+      told_ran told s can_fail failures now calls before after r may opening
+      (subst (λ content. IfSome content (λ bytes. Ran (λ calls. text s.ehdr (stream_file little s bytes) (map question calls)) calls before after s.can_fail s.failures now r)) same ran)
 
 -- a source that is refused: nothing was written
-pub source_refused : {E : Type 0} (little : E → Bool) (of_byte : ℕ → Option E) (told : Option (List ℕ)) (can_fail : Bool) (faults : ℕ) (calls : List Call) (before : Option (List ℕ)) (whole : Result (Seen E) ParseError) (e : ParseError) → whole ≡ Err e
-    → IfSome told (λ bytes. IsOpening shown_headers (ok_map headers_of (opened little of_byte bytes)) can_fail faults whole)
+pub source_refused : {E : Type 0} (little : E → Bool) (of_byte : ℕ → Option E) (told : Option (List ℕ)) (can_fail : Bool) (failures : ℕ) (calls : List Call) (before : Option (List ℕ)) (whole : Result (Seen E) ParseError) (e : ParseError) → whole ≡ Err e
+    → IfSome told (λ bytes. IsOpening shown_headers (ok_map headers_of (opened little of_byte bytes)) can_fail failures whole)
     → IfSome told (λ bytes. RanOver (opened little of_byte bytes) (λ file calls. text file.ehdr (object_file little file) (map question calls)) calls before before can_fail (Err (Open e)))
-source_refused little of_byte None can_fail faults calls before whole e is opening = tt
-source_refused {E} little of_byte (Some bytes) can_fail faults calls before whole e is opening =
+source_refused little of_byte None can_fail failures calls before whole e is opening = tt
+source_refused {E} little of_byte (Some bytes) can_fail failures calls before whole e is opening =
     let opening_answer = ok_map headers_of (opened little of_byte bytes) in
-    let refused : MayRefuse can_fail (IsOk opening_answer) (IsErr opening_answer) (kind e) = subst (λ w. IsOpening shown_headers (ok_map headers_of (opened little of_byte bytes)) can_fail faults w) is opening in (
+    let refused : MayRefuse can_fail (IsOk opening_answer) (IsErr opening_answer) (kind e) = subst (λ w. IsOpening shown_headers (ok_map headers_of (opened little of_byte bytes)) can_fail failures w) is opening in (
       keeps_itself before,
       may_refuse (kind e) (IsOk opening_answer) (IsOk (opened little of_byte bytes)) (IsErr opening_answer) (IsErr (opened little of_byte bytes)) can_fail
           (inner_opens headers_of (opened little of_byte bytes)) (inner_refused headers_of (opened little of_byte bytes)) refused,

@@ -7,7 +7,7 @@ use Rattle.std.specs.Io.KnownBytes.{Appends, Keeps as KeepsBytes}
 use Rattle.elf.specs.Ranges.{headers_alone, if_there}
 use Rattle.elf.specs.StreamFile.{stream_file}
 use Rattle.elf.specs.ObjectFile.{ObjectFile}
-use Rattle.elf.specs.ElfStream.{AreHeld, IsAnswer, IsRefused, Keeps, Kind, Leaves, Seen, kind}
+use Rattle.elf.specs.ElfStream.{AreCached, IsAnswer, IsRefused, Keeps, Kind, Leaves, Seen, kind}
 use Rattle.elf_parts.specs.Number.{ok_map}
 use Rattle.elf_parts.specs.Record.{◌>>=◌}
 use Rattle.elf_parts.specs.declared.file.FileHeader.{FileHeader}
@@ -38,26 +38,26 @@ keeps_then old middle new a b = record {
   declares_sections = b.declares_sections ∙ a.declares_sections;
   sections = b.sections ∙ a.sections;
   segments = b.segments ∙ a.segments;
-  held = λ start end h. b.held start end (a.held start end h);
+  cached = λ start end h. b.cached start end (a.cached start end h);
 }
 
-pub still_held : {E : Type 0} (old new : Seen E) (rs : List (ℕ × ℕ)) → Keeps old new → AreHeld old rs → AreHeld new rs
-still_held old new [] keeps h = tt
-still_held old new (r ∷ rs) keeps h = (keeps.held r.0 (r.0 + r.1) h.0, still_held old new rs keeps h.1)
+pub still_cached : {E : Type 0} (old new : Seen E) (rs : List (ℕ × ℕ)) → Keeps old new → AreCached old rs → AreCached new rs
+still_cached old new [] keeps h = tt
+still_cached old new (r ∷ rs) keeps h = (keeps.cached r.0 (r.0 + r.1) h.0, still_cached old new rs keeps h.1)
 
-pub held_front : {E : Type 0} (s : Seen E) (rs qs : List (ℕ × ℕ)) → AreHeld s (rs ++ qs) → AreHeld s rs
-held_front s [] qs h = tt
-held_front s (r ∷ rs) qs h = (h.0, held_front s rs qs h.1)
+pub cached_front : {E : Type 0} (s : Seen E) (rs qs : List (ℕ × ℕ)) → AreCached s (rs ++ qs) → AreCached s rs
+cached_front s [] qs h = tt
+cached_front s (r ∷ rs) qs h = (h.0, cached_front s rs qs h.1)
 
-pub held_both : {E : Type 0} (s : Seen E) (rs qs : List (ℕ × ℕ)) → AreHeld s rs → AreHeld s qs → AreHeld s (rs ++ qs)
-held_both s [] qs h k = k
-held_both s (r ∷ rs) qs h k = (h.0, held_both s rs qs h.1 k)
+pub cached_both : {E : Type 0} (s : Seen E) (rs qs : List (ℕ × ℕ)) → AreCached s rs → AreCached s qs → AreCached s (rs ++ qs)
+cached_both s [] qs h k = k
+cached_both s (r ∷ rs) qs h k = (h.0, cached_both s rs qs h.1 k)
 
-pub held_back : {E : Type 0} (s : Seen E) (rs qs : List (ℕ × ℕ)) → AreHeld s (rs ++ qs) → AreHeld s qs
-held_back s [] qs h = h
-held_back s (r ∷ rs) qs h = held_back s rs qs h.1
+pub cached_back : {E : Type 0} (s : Seen E) (rs qs : List (ℕ × ℕ)) → AreCached s (rs ++ qs) → AreCached s qs
+cached_back s [] qs h = h
+cached_back s (r ∷ rs) qs h = cached_back s rs qs h.1
 
--- ---- a refusal
+-- ---- an error
 
 told_refused : (answer : Result (List ℕ) ParseError) → IsErr answer → or_refused answer ≡ refused_line
 told_refused (Ok text) h = cc
@@ -65,12 +65,12 @@ told_refused (Err e) h = refl
 
 ran_by : (k : Kind) (answer : Result (List ℕ) ParseError) (old new : Option (List ℕ)) (before now : ℕ) (can_fail : Bool) (r : Result (Unit {0}) Stop)
     → IsRefused before now can_fail (IsErr answer) k → LeadsTo k old new r → RanOne answer old new can_fail before now r
-ran_by Kind.Failure answer old new before now can_fail (Ok x) h leads = absurd leads.1
-ran_by Kind.Failure answer old new before now can_fail (Err (stop.Fault e)) h leads = (leads.0, subst (λ k. IsRefused before now can_fail ⊥ k) (sym leads.1) h)
-ran_by Kind.Failure answer old new before now can_fail (Err (stop.Write e)) h leads = absurd leads.1
-ran_by Kind.Want answer old new before now can_fail (Ok x) h leads = absurd leads.1
-ran_by Kind.Want answer old new before now can_fail (Err (stop.Fault e)) h leads = (leads.0, subst (λ k. IsRefused before now can_fail ⊥ k) (sym leads.1) h)
-ran_by Kind.Want answer old new before now can_fail (Err (stop.Write e)) h leads = absurd leads.1
+ran_by Kind.SourceFailure answer old new before now can_fail (Ok x) h leads = absurd leads.1
+ran_by Kind.SourceFailure answer old new before now can_fail (Err (stop.Fault e)) h leads = (leads.0, subst (λ k. IsRefused before now can_fail ⊥ k) (sym leads.1) h)
+ran_by Kind.SourceFailure answer old new before now can_fail (Err (stop.Write e)) h leads = absurd leads.1
+ran_by Kind.AllocationFailure answer old new before now can_fail (Ok x) h leads = absurd leads.1
+ran_by Kind.AllocationFailure answer old new before now can_fail (Err (stop.Fault e)) h leads = (leads.0, subst (λ k. IsRefused before now can_fail ⊥ k) (sym leads.1) h)
+ran_by Kind.AllocationFailure answer old new before now can_fail (Err (stop.Write e)) h leads = absurd leads.1
 ran_by Kind.Refusal answer old new before now can_fail (Ok x) h leads = (h.0, subst (λ bytes. Appends old new bytes) (sym (told_refused answer h.1)) leads)
 ran_by Kind.Refusal answer old new before now can_fail (Err (stop.Fault e)) h leads = absurd leads
 ran_by Kind.Refusal answer old new before now can_fail (Err (stop.Write e)) h leads = h.0
@@ -79,8 +79,8 @@ not_refused : (T : Type 0) (e : ParseError) → IsOk {T = T} (Err e) → ⊥
 not_refused T e h = cc
 
 refused_by : (k : Kind) (P Q : Type 0) (before now : ℕ) (can_fail : Bool) → (P → Q) → IsRefused before now can_fail P k → IsRefused before now can_fail Q k
-refused_by Kind.Failure P Q before now can_fail so h = h
-refused_by Kind.Want P Q before now can_fail so h = h
+refused_by Kind.SourceFailure P Q before now can_fail so h = h
+refused_by Kind.AllocationFailure P Q before now can_fail so h = h
 refused_by Kind.Refusal P Q before now can_fail so h = (h.0, so h.1)
 
 pub ok_or_err : {A : Type 0} (r : Result A ParseError) → IsOk r → IsErr r → ⊥
@@ -99,37 +99,37 @@ told_tried X None shown answer whole old before now can_fail e h so = tt
 told_tried X (Some bytes) shown answer whole old before now can_fail e h so = (refl, refused_by (kind e) (IsErr (answer bytes)) (IsErr (whole bytes)) before now can_fail (so bytes) h)
 
 told_accepted : {E Y : Type 0} (T U : Type 0) (told : Option (List ℕ)) (old : Seen E) (ranges : List (ℕ × ℕ)) (hand : List ℕ → Type 0) (answer : List ℕ → Result Y ParseError) (e : ParseError)
-    → IfSome told (λ bytes. IsOk (answer bytes) → AreHeld old ranges → IsOk {T = T} (Err e)) → ((bytes : List ℕ) → hand bytes → AreHeld old ranges × IsOk (answer bytes)) → IfSome told (λ bytes. hand bytes → IsOk {T = U} (Err e))
+    → IfSome told (λ bytes. IsOk (answer bytes) → AreCached old ranges → IsOk {T = T} (Err e)) → ((bytes : List ℕ) → hand bytes → AreCached old ranges × IsOk (answer bytes)) → IfSome told (λ bytes. hand bytes → IsOk {T = U} (Err e))
 told_accepted T U None old ranges hand answer e h at_hand = tt
 told_accepted T U (Some bytes) old ranges hand answer e h at_hand = λ ready. let p = at_hand bytes ready in h p.1 p.0
 
 -- what a call leaves behind another one, whose ranges may have been loaded before
-pub record LeavesBehind {E T Y : Type 0} (asked : List (ℕ × ℕ)) (shown : T → Y) (answer : List ℕ → Result Y ParseError) (old new : Seen E) (r : Result T ParseError) : Type 0 where
+pub record LeavesBehind {E T Y : Type 0} (requested : List (ℕ × ℕ)) (shown : T → Y) (answer : List ℕ → Result Y ParseError) (old new : Seen E) (r : Result T ParseError) : Type 0 where
   pub keeps : Keeps old new
-  pub loaded : OnOk r (AreHeld new asked)
-  pub answers : IfSome old.content (λ bytes. IsAnswer shown (answer bytes) old.can_fail old.faults new.faults r)
-  pub accepted : IfSome old.content (λ bytes. IsOk (answer bytes) → AreHeld old asked → IsOk r)
+  pub loaded : OnOk r (AreCached new requested)
+  pub answers : IfSome old.content (λ bytes. IsAnswer shown (answer bytes) old.can_fail old.failures new.failures r)
+  pub accepted : IfSome old.content (λ bytes. IsOk (answer bytes) → AreCached old requested → IsOk r)
 
--- the call has no answer where what it asks the stream for has none
+-- the call has no answer where a method of the stream that it calls has none
 module _ {E : Type 0} (little : E → Bool) (call : Question) (old new : Seen E) where
-  pub behind_refused : {T Y X : Type 0} (asked : List (ℕ × ℕ)) (shown : T → Y) (answer : List ℕ → Result Y ParseError) (whole : Result T ParseError) (e : ParseError) (before : Option (List ℕ))
-      → ((bytes : List ℕ) → IsErr (answer bytes) → IsErr (stream_answer little old bytes call)) → (AreHeld old (call_ranges little old call) → AreHeld old asked)
-      → LeavesBehind asked shown answer old new whole → whole ≡ Err e → TriedCall {X = X} little call old new before before (Err e)
-  behind_refused {T} {Y} {X} asked shown answer whole e before so held leaves is =
-      let refused : LeavesBehind asked shown answer old new (Err e) = subst (λ w. LeavesBehind asked shown answer old new w) is leaves in
+  pub behind_refused : {T Y X : Type 0} (requested : List (ℕ × ℕ)) (shown : T → Y) (answer : List ℕ → Result Y ParseError) (whole : Result T ParseError) (e : ParseError) (before : Option (List ℕ))
+      → ((bytes : List ℕ) → IsErr (answer bytes) → IsErr (stream_answer little old bytes call)) → (AreCached old (call_ranges little old call) → AreCached old requested)
+      → LeavesBehind requested shown answer old new whole → whole ≡ Err e → TriedCall {X = X} little call old new before before (Err e)
+  behind_refused {T} {Y} {X} requested shown answer whole e before so cached leaves is =
+      let refused : LeavesBehind requested shown answer old new (Err e) = subst (λ w. LeavesBehind requested shown answer old new w) is leaves in
       record {
         keeps = refused.keeps;
-        tried = told_tried X old.content shown answer (λ bytes. stream_answer little old bytes call) before old.faults new.faults old.can_fail e refused.answers so;
-        accepted = told_accepted T (Result (Unit {0}) X) old.content old asked (λ bytes. IsAtHand little old bytes call) answer e refused.accepted
-            (λ bytes ready. (held ready.1, ok_below (answer bytes) (stream_answer little old bytes call) (so bytes) ready.2));
+        tried = told_tried X old.content shown answer (λ bytes. stream_answer little old bytes call) before old.failures new.failures old.can_fail e refused.answers so;
+        accepted = told_accepted T (Result (Unit {0}) X) old.content old requested (λ bytes. IsAtHand little old bytes call) answer e refused.accepted
+            (λ bytes ready. (cached ready.1, ok_below (answer bytes) (stream_answer little old bytes call) (so bytes) ready.2));
         loaded = tt;
       }
 
-  pub call_refused : {T Y X : Type 0} (asked : List (ℕ × ℕ)) (shown : T → Y) (answer : List ℕ → Result Y ParseError) (whole : Result T ParseError) (e : ParseError) (before : Option (List ℕ))
-      → ((bytes : List ℕ) → IsErr (answer bytes) → IsErr (stream_answer little old bytes call)) → (AreHeld old (call_ranges little old call) → AreHeld old asked)
-      → Leaves asked shown answer old new whole → whole ≡ Err e → TriedCall {X = X} little call old new before before (Err e)
-  call_refused asked shown answer whole e before so held leaves is =
-      behind_refused asked shown answer whole e before so held (record { keeps = leaves.keeps; loaded = leaves.loaded; answers = leaves.answers; accepted = leaves.accepted }) is
+  pub call_refused : {T Y X : Type 0} (requested : List (ℕ × ℕ)) (shown : T → Y) (answer : List ℕ → Result Y ParseError) (whole : Result T ParseError) (e : ParseError) (before : Option (List ℕ))
+      → ((bytes : List ℕ) → IsErr (answer bytes) → IsErr (stream_answer little old bytes call)) → (AreCached old (call_ranges little old call) → AreCached old requested)
+      → Leaves requested shown answer old new whole → whole ≡ Err e → TriedCall {X = X} little call old new before before (Err e)
+  call_refused requested shown answer whole e before so cached leaves is =
+      behind_refused requested shown answer whole e before so cached (record { keeps = leaves.keeps; loaded = leaves.loaded; answers = leaves.answers; accepted = leaves.accepted }) is
 
 pub inner_refused : {A B : Type 0} (f : A → B) (r : Result A ParseError) → IsErr (ok_map f r) → IsErr r
 inner_refused f (Ok x) h = cc
@@ -170,14 +170,14 @@ told_answer : {T Y : Type 0} (told : Option (List ℕ)) (shown : T → Y) (answe
 told_answer None shown answer x before now can_fail h = tt
 told_answer (Some bytes) shown answer x before now can_fail h = h.1
 
-pub gives_of : {E T Y : Type 0} (old new : Seen E) (asked : List (ℕ × ℕ)) (shown : T → Y) (answer : List ℕ → Result Y ParseError) (r : Result T ParseError) → Leaves asked shown answer old new r → Gives asked shown answer old new r
-gives_of old new asked shown answer r h = record { keeps = h.keeps; loaded = h.loaded; answers = h.answers }
+pub gives_of : {E T Y : Type 0} (old new : Seen E) (requested : List (ℕ × ℕ)) (shown : T → Y) (answer : List ℕ → Result Y ParseError) (r : Result T ParseError) → Leaves requested shown answer old new r → Gives requested shown answer old new r
+gives_of old new requested shown answer r h = record { keeps = h.keeps; loaded = h.loaded; answers = h.answers }
 
-pub gives_same : {E T Y : Type 0} (old new : Seen E) (asked : List (ℕ × ℕ)) (shown : T → Y) (answer : List ℕ → Result Y ParseError) (whole : Result T ParseError) (x : T) → whole ≡ Ok x → Gives asked shown answer old new whole → IfSome old.content (λ _. new.faults ≡ old.faults)
-gives_same old new asked shown answer whole x is h = told_same old.content shown answer x old.faults new.faults old.can_fail (subst (λ w. IfSome old.content (λ bytes. IsAnswer shown (answer bytes) old.can_fail old.faults new.faults w)) is h.answers)
+pub gives_same : {E T Y : Type 0} (old new : Seen E) (requested : List (ℕ × ℕ)) (shown : T → Y) (answer : List ℕ → Result Y ParseError) (whole : Result T ParseError) (x : T) → whole ≡ Ok x → Gives requested shown answer old new whole → IfSome old.content (λ _. new.failures ≡ old.failures)
+gives_same old new requested shown answer whole x is h = told_same old.content shown answer x old.failures new.failures old.can_fail (subst (λ w. IfSome old.content (λ bytes. IsAnswer shown (answer bytes) old.can_fail old.failures new.failures w)) is h.answers)
 
-pub gives_answer : {E T Y : Type 0} (old new : Seen E) (asked : List (ℕ × ℕ)) (shown : T → Y) (answer : List ℕ → Result Y ParseError) (whole : Result T ParseError) (x : T) → whole ≡ Ok x → Gives asked shown answer old new whole → IfSome old.content (λ bytes. answer bytes ≡ Ok (shown x))
-gives_answer old new asked shown answer whole x is h = told_answer old.content shown answer x old.faults new.faults old.can_fail (subst (λ w. IfSome old.content (λ bytes. IsAnswer shown (answer bytes) old.can_fail old.faults new.faults w)) is h.answers)
+pub gives_answer : {E T Y : Type 0} (old new : Seen E) (requested : List (ℕ × ℕ)) (shown : T → Y) (answer : List ℕ → Result Y ParseError) (whole : Result T ParseError) (x : T) → whole ≡ Ok x → Gives requested shown answer old new whole → IfSome old.content (λ bytes. answer bytes ≡ Ok (shown x))
+gives_answer old new requested shown answer whole x is h = told_answer old.content shown answer x old.failures new.failures old.can_fail (subst (λ w. IfSome old.content (λ bytes. IsAnswer shown (answer bytes) old.can_fail old.failures new.failures w)) is h.answers)
 
 always_ok : {T : Type 0} (told : Option (List ℕ)) (hand : List ℕ → Type 0) (x : T) → IfSome told (λ bytes. hand bytes → IsOk {E = ParseError} (Ok x))
 always_ok None hand x = tt
@@ -188,12 +188,12 @@ module _ {E : Type 0} (little : E → Bool) (call : Question) (old new : Seen E)
       → IfSome old.content (λ bytes. answer bytes ≡ Ok (shown x) → stream_answer little old bytes call ≡ Ok written)
       → Gives (call_ranges little old call) shown answer old new whole → whole ≡ Ok x → OnOk w (Appends before after written) → TriedCall little call old new before after (Ok w)
   call_written {T} shown answer whole x written before after w text gives is wrote =
-      let answers = subst (λ w. IfSome old.content (λ bytes. IsAnswer shown (answer bytes) old.can_fail old.faults new.faults w)) is gives.answers in
+      let answers = subst (λ w. IfSome old.content (λ bytes. IsAnswer shown (answer bytes) old.can_fail old.failures new.failures w)) is gives.answers in
       record {
         keeps = gives.keeps;
-        tried = told_written old.content shown answer x (λ bytes. stream_answer little old bytes call) written before after old.faults new.faults old.can_fail w text answers wrote;
+        tried = told_written old.content shown answer x (λ bytes. stream_answer little old bytes call) written before after old.failures new.failures old.can_fail w text answers wrote;
         accepted = always_ok old.content (λ bytes. IsAtHand little old bytes call) w;
-        loaded = subst (λ w. OnOk w (AreHeld new (call_ranges little old call))) is gives.loaded;
+        loaded = subst (λ w. OnOk w (AreCached new (call_ranges little old call))) is gives.loaded;
       }
 
   never_at_hand : {T : Type 0} (told : Option (List ℕ)) (hand : List ℕ → Type 0) (r : Result T ParseError) → ((bytes : List ℕ) → hand bytes → ⊥) → IfSome told (λ bytes. hand bytes → IsOk r)
@@ -201,19 +201,19 @@ module _ {E : Type 0} (little : E → Bool) (call : Question) (old new : Seen E)
   never_at_hand (Some bytes) hand r h = λ ready. absurd (h bytes ready)
 
   -- of a call that takes memory
-  pub call_refused_given : {T Y X : Type 0} (asked : List (ℕ × ℕ)) (shown : T → Y) (answer : List ℕ → Result Y ParseError) (whole : Result T ParseError) (e : ParseError) (before : Option (List ℕ))
+  pub call_refused_given : {T Y X : Type 0} (requested : List (ℕ × ℕ)) (shown : T → Y) (answer : List ℕ → Result Y ParseError) (whole : Result T ParseError) (e : ParseError) (before : Option (List ℕ))
       → ((bytes : List ℕ) → IsErr (answer bytes) → IsErr (stream_answer little old bytes call)) → ((bytes : List ℕ) → IsAtHand little old bytes call → ⊥)
-      → Gives asked shown answer old new whole → whole ≡ Err e → TriedCall {X = X} little call old new before before (Err e)
-  call_refused_given {T} {Y} {X} asked shown answer whole e before so hand gives is =
-      let answers = subst (λ w. IfSome old.content (λ bytes. IsAnswer shown (answer bytes) old.can_fail old.faults new.faults w)) is gives.answers in
+      → Gives requested shown answer old new whole → whole ≡ Err e → TriedCall {X = X} little call old new before before (Err e)
+  call_refused_given {T} {Y} {X} requested shown answer whole e before so hand gives is =
+      let answers = subst (λ w. IfSome old.content (λ bytes. IsAnswer shown (answer bytes) old.can_fail old.failures new.failures w)) is gives.answers in
       record {
         keeps = gives.keeps;
-        tried = told_tried X old.content shown answer (λ bytes. stream_answer little old bytes call) before old.faults new.faults old.can_fail e answers so;
+        tried = told_tried X old.content shown answer (λ bytes. stream_answer little old bytes call) before old.failures new.failures old.can_fail e answers so;
         accepted = never_at_hand {T = Result (Unit {0}) X} old.content (λ bytes. IsAtHand little old bytes call) (Err e) hand;
         loaded = tt;
       }
 
--- ---- a call that was tried, as a run tells it
+-- ---- a call that was tried, as a run returns it
 
 ran_tried : {X : Type 0} (told : Option (List ℕ)) (answer : List ℕ → Result (List ℕ) ParseError) (old new : Option (List ℕ)) (before now : ℕ) (can_fail : Bool) (w : Result (Unit {0}) X) (r : Result (Unit {0}) Stop)
     → IfSome told (λ bytes. TriedOne (answer bytes) old new can_fail before now (Ok w)) → IsWritten w r → IfSome told (λ bytes. RanOne (answer bytes) old new can_fail before now r)
@@ -235,27 +235,27 @@ refused_faultless : (T : Type 0) (told : Option (List ℕ)) (hand : List ℕ →
 refused_faultless T None hand e r h = tt
 refused_faultless T (Some bytes) hand e r h = λ ready. absurd (not_refused T e (h ready))
 
--- its ranges are held, in words of the stream that it leaves
-loaded_there : {E : Type 0} (little : E → Bool) (call : Question) (old new : Seen E) → Keeps old new → AreHeld new (call_ranges little old call) → AreHeld new (call_ranges little new call)
-loaded_there little call old new keeps held = subst (λ file. AreHeld new (ranges_of file call)) (sym (same_file little old new [] keeps)) held
+-- its ranges are cached, in words of the stream that it leaves
+loaded_there : {E : Type 0} (little : E → Bool) (call : Question) (old new : Seen E) → Keeps old new → AreCached new (call_ranges little old call) → AreCached new (call_ranges little new call)
+loaded_there little call old new keeps cached = subst (λ file. AreCached new (ranges_of file call)) (sym (same_file little old new [] keeps)) cached
 
-loaded_told : (told : Option (List ℕ)) (answered : List ℕ → Type 0) (held : Type 0) (r : Result (Unit {0}) Stop) → held → OnOk r (IfSome told (λ bytes. answered bytes → held))
-loaded_told None answered held (Ok x) h = tt
-loaded_told (Some bytes) answered held (Ok x) h = λ _. h
-loaded_told told answered held (Err e) h = tt
+loaded_told : (told : Option (List ℕ)) (answered : List ℕ → Type 0) (cached : Type 0) (r : Result (Unit {0}) Stop) → cached → OnOk r (IfSome told (λ bytes. answered bytes → cached))
+loaded_told None answered cached (Ok x) h = tt
+loaded_told (Some bytes) answered cached (Ok x) h = λ _. h
+loaded_told told answered cached (Err e) h = tt
 
 -- a call that the content has no answer for
-loaded_never : (told : Option (List ℕ)) (answer : List ℕ → Result (List ℕ) ParseError) (there : List ℕ → Type 0) (held : Type 0) (before now : ℕ) (can_fail : Bool)
-    → IfSome told (λ bytes. IsRefused before now can_fail (IsErr (answer bytes)) Kind.Refusal) → ((bytes : List ℕ) → there bytes → IsOk (answer bytes)) → IfSome told (λ bytes. there bytes → held)
-loaded_never None answer there held before now can_fail h so = tt
-loaded_never (Some bytes) answer there held before now can_fail h so = λ ready. absurd (ok_or_err (answer bytes) (so bytes ready) h.1)
+loaded_never : (told : Option (List ℕ)) (answer : List ℕ → Result (List ℕ) ParseError) (there : List ℕ → Type 0) (cached : Type 0) (before now : ℕ) (can_fail : Bool)
+    → IfSome told (λ bytes. IsRefused before now can_fail (IsErr (answer bytes)) Kind.Refusal) → ((bytes : List ℕ) → there bytes → IsOk (answer bytes)) → IfSome told (λ bytes. there bytes → cached)
+loaded_never None answer there cached before now can_fail h so = tt
+loaded_never (Some bytes) answer there cached before now can_fail h so = λ ready. absurd (ok_or_err (answer bytes) (so bytes ready) h.1)
 
-loaded_by : (told : Option (List ℕ)) (k : Kind) (answer : List ℕ → Result (List ℕ) ParseError) (there : List ℕ → Type 0) (held : Type 0) (before after : Option (List ℕ)) (faults now : ℕ) (can_fail : Bool) (r : Result (Unit {0}) Stop)
-    → LeadsTo k before after r → IfSome told (λ bytes. IsRefused faults now can_fail (IsErr (answer bytes)) k) → ((bytes : List ℕ) → there bytes → IsOk (answer bytes)) → OnOk r (IfSome told (λ bytes. there bytes → held))
-loaded_by told Kind.Failure answer there held before after faults now can_fail (Ok x) leads h so = absurd leads.1
-loaded_by told Kind.Want answer there held before after faults now can_fail (Ok x) leads h so = absurd leads.1
-loaded_by told Kind.Refusal answer there held before after faults now can_fail (Ok x) leads h so = loaded_never told answer there held faults now can_fail h so
-loaded_by told k answer there held before after faults now can_fail (Err e) leads h so = tt
+loaded_by : (told : Option (List ℕ)) (k : Kind) (answer : List ℕ → Result (List ℕ) ParseError) (there : List ℕ → Type 0) (cached : Type 0) (before after : Option (List ℕ)) (failures now : ℕ) (can_fail : Bool) (r : Result (Unit {0}) Stop)
+    → LeadsTo k before after r → IfSome told (λ bytes. IsRefused failures now can_fail (IsErr (answer bytes)) k) → ((bytes : List ℕ) → there bytes → IsOk (answer bytes)) → OnOk r (IfSome told (λ bytes. there bytes → cached))
+loaded_by told Kind.SourceFailure answer there cached before after failures now can_fail (Ok x) leads h so = absurd leads.1
+loaded_by told Kind.AllocationFailure answer there cached before after failures now can_fail (Ok x) leads h so = absurd leads.1
+loaded_by told Kind.Refusal answer there cached before after failures now can_fail (Ok x) leads h so = loaded_never told answer there cached failures now can_fail h so
+loaded_by told k answer there cached before after failures now can_fail (Err e) leads h so = tt
 
 tried_refusal : (X : Type 0) (told : Option (List ℕ)) (answer : List ℕ → Result (List ℕ) ParseError) (old new : Option (List ℕ)) (before now : ℕ) (can_fail : Bool) (e : ParseError)
     → IfSome told (λ bytes. TriedOne {X = X} (answer bytes) old new can_fail before now (Err e)) → IfSome told (λ bytes. IsRefused before now can_fail (IsErr (answer bytes)) (kind e))
@@ -279,9 +279,9 @@ module _ {E : Type 0} (little : E → Bool) (call : Question) (old new : Seen E)
       let here : TriedCall little call old new before after (Ok w) = subst (λ o. TriedCall little call old new before after o) is tried in
       record {
         keeps = here.keeps;
-        ran = ran_tried old.content answer before after old.faults new.faults old.can_fail w r here.tried told_so;
+        ran = ran_tried old.content answer before after old.failures new.failures old.can_fail w r here.tried told_so;
         no_fault = told_faultless old.content (λ bytes. IsAtHand little old bytes call) r (faultless w r told_so);
-        loaded = loaded_told old.content later (AreHeld new (call_ranges little new call)) r (loaded_there little call old new here.keeps here.loaded);
+        loaded = loaded_told old.content later (AreCached new (call_ranges little new call)) r (loaded_there little call old new here.keeps here.loaded);
       }
 
   pub tried_refused : {X : Type 0} (before middle after : Option (List ℕ)) (whole : Result (Result (Unit {0}) X) ParseError) (e : ParseError) (r : Result (Unit {0}) Stop)
@@ -290,51 +290,51 @@ module _ {E : Type 0} (little : E → Bool) (call : Question) (old new : Seen E)
       let here : TriedCall little call old new before middle (Err e) = subst (λ o. TriedCall little call old new before middle o) is tried in
       record {
         keeps = here.keeps;
-        ran = refused_ran X old.content answer before middle after old.faults new.faults old.can_fail e r here.tried leads;
+        ran = refused_ran X old.content answer before middle after old.failures new.failures old.can_fail e r here.tried leads;
         no_fault = refused_faultless (Result (Unit {0}) X) old.content (λ bytes. IsAtHand little old bytes call) e r here.accepted;
-        loaded = loaded_by old.content (kind e) answer later (AreHeld new (call_ranges little new call)) middle after old.faults new.faults old.can_fail r leads
-            (tried_refusal X old.content answer before middle old.faults new.faults old.can_fail e here.tried) (λ bytes ready. subst IsOk (same_answer little call old new bytes here.keeps) ready);
+        loaded = loaded_by old.content (kind e) answer later (AreCached new (call_ranges little new call)) middle after old.failures new.failures old.can_fail r leads
+            (tried_refusal X old.content answer before middle old.failures new.failures old.can_fail e here.tried) (λ bytes ready. subst IsOk (same_answer little call old new bytes here.keeps) ready);
       }
 
 -- ---- one call of a stream behind another
 
-later_answers : {E T Y : Type 0} (little : E → Bool) (old middle new : Seen E) (shown : T → Y) (answer : ObjectFile → Result Y ParseError) (r : Result T ParseError) (told : Option (List ℕ)) → Keeps old middle → IfSome told (λ _. middle.faults ≡ old.faults)
-    → IfSome told (λ bytes. IsAnswer shown (answer (stream_file little middle bytes)) middle.can_fail middle.faults new.faults r) → IfSome told (λ bytes. IsAnswer shown (answer (stream_file little old bytes)) old.can_fail old.faults new.faults r)
+later_answers : {E T Y : Type 0} (little : E → Bool) (old middle new : Seen E) (shown : T → Y) (answer : ObjectFile → Result Y ParseError) (r : Result T ParseError) (told : Option (List ℕ)) → Keeps old middle → IfSome told (λ _. middle.failures ≡ old.failures)
+    → IfSome told (λ bytes. IsAnswer shown (answer (stream_file little middle bytes)) middle.can_fail middle.failures new.failures r) → IfSome told (λ bytes. IsAnswer shown (answer (stream_file little old bytes)) old.can_fail old.failures new.failures r)
 later_answers little old middle new shown answer r None keeps same h = tt
 later_answers little old middle new shown answer r (Some bytes) keeps same h =
-    subst (λ file. IsAnswer shown (answer file) old.can_fail old.faults new.faults r) (same_file little old middle bytes keeps)
-    (subst (λ count. IsAnswer shown (answer (stream_file little middle bytes)) old.can_fail count new.faults r) same
-    (subst (λ can_fail. IsAnswer shown (answer (stream_file little middle bytes)) can_fail middle.faults new.faults r) keeps.can_fail h))
+    subst (λ file. IsAnswer shown (answer file) old.can_fail old.failures new.failures r) (same_file little old middle bytes keeps)
+    (subst (λ count. IsAnswer shown (answer (stream_file little middle bytes)) old.can_fail count new.failures r) same
+    (subst (λ can_fail. IsAnswer shown (answer (stream_file little middle bytes)) can_fail middle.failures new.failures r) keeps.can_fail h))
 
-pub gives_later : {E T Y : Type 0} (little : E → Bool) (old middle new : Seen E) (asked : ObjectFile → List (ℕ × ℕ)) (shown : T → Y) (answer : ObjectFile → Result Y ParseError) (r : Result T ParseError) → Keeps old middle → IfSome old.content (λ _. middle.faults ≡ old.faults)
-    → Gives (asked (headers_alone little middle)) shown (λ bytes. answer (stream_file little middle bytes)) middle new r → Gives (asked (headers_alone little old)) shown (λ bytes. answer (stream_file little old bytes)) old new r
-gives_later little old middle new asked shown answer r keeps same h = record {
+pub gives_later : {E T Y : Type 0} (little : E → Bool) (old middle new : Seen E) (requested : ObjectFile → List (ℕ × ℕ)) (shown : T → Y) (answer : ObjectFile → Result Y ParseError) (r : Result T ParseError) → Keeps old middle → IfSome old.content (λ _. middle.failures ≡ old.failures)
+    → Gives (requested (headers_alone little middle)) shown (λ bytes. answer (stream_file little middle bytes)) middle new r → Gives (requested (headers_alone little old)) shown (λ bytes. answer (stream_file little old bytes)) old new r
+gives_later little old middle new requested shown answer r keeps same h = record {
   keeps = keeps_then old middle new keeps h.keeps;
-  loaded = subst (λ file. OnOk r (AreHeld new (asked file))) (same_file little old middle [] keeps) h.loaded;
+  loaded = subst (λ file. OnOk r (AreCached new (requested file))) (same_file little old middle [] keeps) h.loaded;
   answers = later_answers little old middle new shown answer r old.content keeps same
-      (subst (λ told. IfSome told (λ bytes. IsAnswer shown (answer (stream_file little middle bytes)) middle.can_fail middle.faults new.faults r)) keeps.content h.answers);
+      (subst (λ told. IfSome told (λ bytes. IsAnswer shown (answer (stream_file little middle bytes)) middle.can_fail middle.failures new.failures r)) keeps.content h.answers);
 }
 
-later_accepted : {E T Y : Type 0} (little : E → Bool) (old middle : Seen E) (asked : ObjectFile → List (ℕ × ℕ)) (answer : ObjectFile → Result Y ParseError) (r : Result T ParseError) (told : Option (List ℕ)) → Keeps old middle
-    → IfSome told (λ bytes. IsOk (answer (stream_file little middle bytes)) → AreHeld middle (asked (headers_alone little middle)) → IsOk r) → IfSome told (λ bytes. IsOk (answer (stream_file little old bytes)) → AreHeld old (asked (headers_alone little old)) → IsOk r)
-later_accepted little old middle asked answer r None keeps h = tt
-later_accepted little old middle asked answer r (Some bytes) keeps h = λ ok held.
+later_accepted : {E T Y : Type 0} (little : E → Bool) (old middle : Seen E) (requested : ObjectFile → List (ℕ × ℕ)) (answer : ObjectFile → Result Y ParseError) (r : Result T ParseError) (told : Option (List ℕ)) → Keeps old middle
+    → IfSome told (λ bytes. IsOk (answer (stream_file little middle bytes)) → AreCached middle (requested (headers_alone little middle)) → IsOk r) → IfSome told (λ bytes. IsOk (answer (stream_file little old bytes)) → AreCached old (requested (headers_alone little old)) → IsOk r)
+later_accepted little old middle requested answer r None keeps h = tt
+later_accepted little old middle requested answer r (Some bytes) keeps h = λ ok cached.
     h (subst (λ file. IsOk (answer file)) (sym (same_file little old middle bytes keeps)) ok)
-    (subst (λ file. AreHeld middle (asked file)) (sym (same_file little old middle [] keeps)) (still_held old middle (asked (headers_alone little old)) keeps held))
+    (subst (λ file. AreCached middle (requested file)) (sym (same_file little old middle [] keeps)) (still_cached old middle (requested (headers_alone little old)) keeps cached))
 
-pub leaves_later : {E T Y : Type 0} (little : E → Bool) (old middle new : Seen E) (asked : ObjectFile → List (ℕ × ℕ)) (shown : T → Y) (answer : ObjectFile → Result Y ParseError) (r : Result T ParseError) → Keeps old middle → IfSome old.content (λ _. middle.faults ≡ old.faults)
-    → Leaves (asked (headers_alone little middle)) shown (λ bytes. answer (stream_file little middle bytes)) middle new r → LeavesBehind (asked (headers_alone little old)) shown (λ bytes. answer (stream_file little old bytes)) old new r
-leaves_later {E} {T} {Y} little old middle new asked shown answer r keeps same h =
-    let given = gives_later little old middle new asked shown answer r keeps same (gives_of middle new (asked (headers_alone little middle)) shown (λ bytes. answer (stream_file little middle bytes)) r h) in
+pub leaves_later : {E T Y : Type 0} (little : E → Bool) (old middle new : Seen E) (requested : ObjectFile → List (ℕ × ℕ)) (shown : T → Y) (answer : ObjectFile → Result Y ParseError) (r : Result T ParseError) → Keeps old middle → IfSome old.content (λ _. middle.failures ≡ old.failures)
+    → Leaves (requested (headers_alone little middle)) shown (λ bytes. answer (stream_file little middle bytes)) middle new r → LeavesBehind (requested (headers_alone little old)) shown (λ bytes. answer (stream_file little old bytes)) old new r
+leaves_later {E} {T} {Y} little old middle new requested shown answer r keeps same h =
+    let given = gives_later little old middle new requested shown answer r keeps same (gives_of middle new (requested (headers_alone little middle)) shown (λ bytes. answer (stream_file little middle bytes)) r h) in
     record {
       keeps = given.keeps;
       loaded = given.loaded;
       answers = given.answers;
-      accepted = later_accepted little old middle asked answer r old.content keeps
-          (subst (λ told. IfSome told (λ bytes. IsOk (answer (stream_file little middle bytes)) → AreHeld middle (asked (headers_alone little middle)) → IsOk r)) keeps.content h.accepted);
+      accepted = later_accepted little old middle requested answer r old.content keeps
+          (subst (λ told. IfSome told (λ bytes. IsOk (answer (stream_file little middle bytes)) → AreCached middle (requested (headers_alone little middle)) → IsOk r)) keeps.content h.accepted);
     }
 
--- a refusal is one of what is made of the answer, too
+-- an error is one of what is made of the answer, too
 err_same : {A B : Type 0} (a : Result A ParseError) (b : Result B ParseError) → is_ok a ≡ is_ok b → IsErr b → IsErr a
 err_same (Ok x) (Ok y) same h = cc
 err_same (Ok x) (Err e) same h = cc
@@ -346,29 +346,29 @@ made_answers : {T Y U Z : Type 0} (told : Option (List ℕ)) (shown : T → Y) (
 made_answers None shown answer shows made before now can_fail e same h = tt
 made_answers (Some bytes) shown answer shows made before now can_fail e same h = refused_by (kind e) (IsErr (answer bytes)) (IsErr (made bytes)) before now can_fail (err_same (made bytes) (answer bytes) (same bytes)) h
 
-made_accepted : {E Y Z : Type 0} (T U : Type 0) (told : Option (List ℕ)) (old : Seen E) (asked : List (ℕ × ℕ)) (answer : List ℕ → Result Y ParseError) (made : List ℕ → Result Z ParseError) (e : ParseError) → ((bytes : List ℕ) → is_ok (made bytes) ≡ is_ok (answer bytes))
-    → IfSome told (λ bytes. IsOk (answer bytes) → AreHeld old asked → IsOk {T = T} (Err e)) → IfSome told (λ bytes. IsOk (made bytes) → AreHeld old asked → IsOk {T = U} (Err e))
-made_accepted T U None old asked answer made e same h = tt
-made_accepted T U (Some bytes) old asked answer made e same h = λ ok held. h (sym (same bytes) ∙ ok) held
+made_accepted : {E Y Z : Type 0} (T U : Type 0) (told : Option (List ℕ)) (old : Seen E) (requested : List (ℕ × ℕ)) (answer : List ℕ → Result Y ParseError) (made : List ℕ → Result Z ParseError) (e : ParseError) → ((bytes : List ℕ) → is_ok (made bytes) ≡ is_ok (answer bytes))
+    → IfSome told (λ bytes. IsOk (answer bytes) → AreCached old requested → IsOk {T = T} (Err e)) → IfSome told (λ bytes. IsOk (made bytes) → AreCached old requested → IsOk {T = U} (Err e))
+made_accepted T U None old requested answer made e same h = tt
+made_accepted T U (Some bytes) old requested answer made e same h = λ ok cached. h (sym (same bytes) ∙ ok) cached
 
-pub leaves_made : {E T Y U Z : Type 0} (old new : Seen E) (asked : List (ℕ × ℕ)) (shown : T → Y) (answer : List ℕ → Result Y ParseError) (shows : U → Z) (made : List ℕ → Result Z ParseError) (whole : Result T ParseError) (e : ParseError) → ((bytes : List ℕ) → is_ok (made bytes) ≡ is_ok (answer bytes))
-    → whole ≡ Err e → Leaves asked shown answer old new whole → Leaves asked shows made old new (Err e)
-leaves_made {E} {T} {Y} {U} {Z} old new asked shown answer shows made whole e same is leaves =
-    let refused : Leaves asked shown answer old new (Err e) = subst (λ w. Leaves asked shown answer old new w) is leaves in
+pub leaves_made : {E T Y U Z : Type 0} (old new : Seen E) (requested : List (ℕ × ℕ)) (shown : T → Y) (answer : List ℕ → Result Y ParseError) (shows : U → Z) (made : List ℕ → Result Z ParseError) (whole : Result T ParseError) (e : ParseError) → ((bytes : List ℕ) → is_ok (made bytes) ≡ is_ok (answer bytes))
+    → whole ≡ Err e → Leaves requested shown answer old new whole → Leaves requested shows made old new (Err e)
+leaves_made {E} {T} {Y} {U} {Z} old new requested shown answer shows made whole e same is leaves =
+    let refused : Leaves requested shown answer old new (Err e) = subst (λ w. Leaves requested shown answer old new w) is leaves in
     record {
       keeps = refused.keeps;
       loaded = tt;
-      answers = made_answers old.content shown answer shows made old.faults new.faults old.can_fail e same refused.answers;
-      accepted = made_accepted T U old.content old asked answer made e same refused.accepted;
+      answers = made_answers old.content shown answer shows made old.failures new.failures old.can_fail e same refused.answers;
+      accepted = made_accepted T U old.content old requested answer made e same refused.accepted;
       untouched = refused.untouched;
       needed = refused.needed;
     }
 
-pub gives_made : {E T Y U Z : Type 0} (old new : Seen E) (asked : List (ℕ × ℕ)) (shown : T → Y) (answer : List ℕ → Result Y ParseError) (shows : U → Z) (made : List ℕ → Result Z ParseError) (whole : Result T ParseError) (e : ParseError) → ((bytes : List ℕ) → is_ok (made bytes) ≡ is_ok (answer bytes))
-    → whole ≡ Err e → Gives asked shown answer old new whole → Gives asked shows made old new (Err e)
-gives_made old new asked shown answer shows made whole e same is gives =
-    let answers = subst (λ w. IfSome old.content (λ bytes. IsAnswer shown (answer bytes) old.can_fail old.faults new.faults w)) is gives.answers in
-    record { keeps = gives.keeps; loaded = tt; answers = made_answers old.content shown answer shows made old.faults new.faults old.can_fail e same answers }
+pub gives_made : {E T Y U Z : Type 0} (old new : Seen E) (requested : List (ℕ × ℕ)) (shown : T → Y) (answer : List ℕ → Result Y ParseError) (shows : U → Z) (made : List ℕ → Result Z ParseError) (whole : Result T ParseError) (e : ParseError) → ((bytes : List ℕ) → is_ok (made bytes) ≡ is_ok (answer bytes))
+    → whole ≡ Err e → Gives requested shown answer old new whole → Gives requested shows made old new (Err e)
+gives_made old new requested shown answer shows made whole e same is gives =
+    let answers = subst (λ w. IfSome old.content (λ bytes. IsAnswer shown (answer bytes) old.can_fail old.failures new.failures w)) is gives.answers in
+    record { keeps = gives.keeps; loaded = tt; answers = made_answers old.content shown answer shows made old.failures new.failures old.can_fail e same answers }
 
 pub ok_of_map : {A B : Type 0} (f : A → B) (x : Result A ParseError) → is_ok (ok_map f x) ≡ is_ok x
 ok_of_map f (Ok a) = refl
@@ -397,34 +397,34 @@ everywhere (Some bytes) P h = h bytes
 module _ {E T Y X : Type 0} (little : E → Bool) (call : Question) (old new : Seen E) (shown : T → Y) (line : Y → List ℕ) where
   pub section_refused : (ranges : SectionHeader → List (ℕ × ℕ)) (i : ℕ) (s : SectionHeader) (answer : ObjectFile → SectionHeader → Result Y ParseError) (whole : Result T ParseError) (e : ParseError) (before : Option (List ℕ))
       → ((bytes : List ℕ) → stream_answer little old bytes call ≡ unless_absent (λ s. ok_map line (answer (stream_file little old bytes) s)) (slice_get old.sections i))
-      → (AreHeld old (call_ranges little old call) → AreHeld old (if_there ranges (slice_get old.sections i)))
+      → (AreCached old (call_ranges little old call) → AreCached old (if_there ranges (slice_get old.sections i)))
       → slice_get old.sections i ≡ Some s → Leaves (ranges s) shown (λ bytes. answer (stream_file little old bytes) s) old new whole → whole ≡ Err e → TriedCall {X = X} little call old new before before (Err e)
-  section_refused ranges i s answer whole e before texts held there leaves is =
+  section_refused ranges i s answer whole e before texts cached there leaves is =
       call_refused little call old new (ranges s) shown (λ bytes. answer (stream_file little old bytes) s) whole e before
       (λ bytes refused. subst IsErr (sym (texts bytes ∙ ap (unless_absent (λ s. ok_map line (answer (stream_file little old bytes) s))) there)) (outer_refused line (answer (stream_file little old bytes) s) refused))
-      (λ ready. subst (λ o. AreHeld old (if_there ranges o)) there (held ready))
+      (λ ready. subst (λ o. AreCached old (if_there ranges o)) there (cached ready))
       leaves is
 
   pub section_written : (ranges : SectionHeader → List (ℕ × ℕ)) (i : ℕ) (s : SectionHeader) (answer : ObjectFile → SectionHeader → Result Y ParseError) (whole : Result T ParseError) (x : T) (written : List ℕ) (before after : Option (List ℕ)) (w : Result (Unit {0}) X)
       → ((bytes : List ℕ) → stream_answer little old bytes call ≡ unless_absent (λ s. ok_map line (answer (stream_file little old bytes) s)) (slice_get old.sections i))
       → call_ranges little old call ≡ if_there ranges (slice_get old.sections i)
       → slice_get old.sections i ≡ Some s → Leaves (ranges s) shown (λ bytes. answer (stream_file little old bytes) s) old new whole → whole ≡ Ok x → line (shown x) ≡ written → OnOk w (Appends before after written) → TriedCall little call old new before after (Ok w)
-  section_written ranges i s answer whole x written before after w texts asked there leaves is text wrote =
+  section_written ranges i s answer whole x written before after w texts requested there leaves is text wrote =
       let found = λ (bytes : List ℕ) (e : answer (stream_file little old bytes) s ≡ Ok (shown x)).
       texts bytes ∙ ap (unless_absent (λ s. ok_map line (answer (stream_file little old bytes) s))) there ∙ ap (ok_map line) e ∙ ap Ok text in
-      let held = subst (λ rs. OnOk whole (AreHeld new rs)) (sym (asked ∙ ap (if_there ranges) there)) leaves.loaded in
+      let cached = subst (λ rs. OnOk whole (AreCached new rs)) (sym (requested ∙ ap (if_there ranges) there)) leaves.loaded in
       call_written little call old new shown (λ bytes. answer (stream_file little old bytes) s) whole x written before after w
       (everywhere old.content (λ bytes. answer (stream_file little old bytes) s ≡ Ok (shown x) → stream_answer little old bytes call ≡ Ok written) found)
-      (record { keeps = leaves.keeps; loaded = held; answers = leaves.answers }) is wrote
+      (record { keeps = leaves.keeps; loaded = cached; answers = leaves.answers }) is wrote
 
   pub segment_refused : (ranges : ProgramHeader → List (ℕ × ℕ)) (i : ℕ) (p : ProgramHeader) (answer : ObjectFile → ProgramHeader → Result Y ParseError) (whole : Result T ParseError) (e : ParseError) (before : Option (List ℕ))
       → ((bytes : List ℕ) → stream_answer little old bytes call ≡ unless_absent (λ p. ok_map line (answer (stream_file little old bytes) p)) (slice_get old.segments i))
-      → (AreHeld old (call_ranges little old call) → AreHeld old (if_there ranges (slice_get old.segments i)))
+      → (AreCached old (call_ranges little old call) → AreCached old (if_there ranges (slice_get old.segments i)))
       → slice_get old.segments i ≡ Some p → Leaves (ranges p) shown (λ bytes. answer (stream_file little old bytes) p) old new whole → whole ≡ Err e → TriedCall {X = X} little call old new before before (Err e)
-  segment_refused ranges i p answer whole e before texts held there leaves is =
+  segment_refused ranges i p answer whole e before texts cached there leaves is =
       call_refused little call old new (ranges p) shown (λ bytes. answer (stream_file little old bytes) p) whole e before
       (λ bytes refused. subst IsErr (sym (texts bytes ∙ ap (unless_absent (λ p. ok_map line (answer (stream_file little old bytes) p))) there)) (outer_refused line (answer (stream_file little old bytes) p) refused))
-      (λ ready. subst (λ o. AreHeld old (if_there ranges o)) there (held ready))
+      (λ ready. subst (λ o. AreCached old (if_there ranges o)) there (cached ready))
       leaves is
 
 -- ---- a section that is checked
@@ -439,13 +439,13 @@ apart_refused (Err e) p b k m h = refl
 
 hand_later : {E : Type 0} (little : E → Bool) (old middle : Seen E) (bytes : List ℕ) (call : Question) → Keeps old middle → IsAtHand little old bytes call → IsAtHand little middle bytes call
 hand_later little old middle bytes call keeps h =
-    let held = subst (λ file. AreHeld middle (ranges_of file call)) (sym (same_file little old middle [] keeps)) (still_held old middle (ranges_of (headers_alone little old) call) keeps h.1) in
-    (h.0, held, subst IsOk (sym (same_answer little call old middle bytes keeps)) h.2)
+    let cached = subst (λ file. AreCached middle (ranges_of file call)) (sym (same_file little old middle [] keeps)) (still_cached old middle (ranges_of (headers_alone little old) call) keeps h.1) in
+    (h.0, cached, subst IsOk (sym (same_answer little call old middle bytes keeps)) h.2)
 
 loaded_later : {E : Type 0} (little : E → Bool) (old new : Seen E) (bytes : List ℕ) (call : Question) → Keeps old new → IsLoaded little old bytes call → IsLoaded little new bytes call
 loaded_later little old new bytes call keeps loaded = λ ready.
-    let held = loaded (subst IsOk (same_answer little call old new bytes keeps) ready) in
-    loaded_there little call old new keeps (still_held old new (call_ranges little old call) keeps held)
+    let cached = loaded (subst IsOk (same_answer little call old new bytes keeps) ready) in
+    loaded_there little call old new keeps (still_cached old new (call_ranges little old call) keeps cached)
 
 -- the calls so far are loaded, and then one more is
 all_loaded : {E : Type 0} (little : E → Bool) (middle new : Seen E) (told : Option (List ℕ)) (calls : List Call) (i : ℕ) (d : Call) → Keeps middle new → i < length calls
@@ -475,9 +475,9 @@ kept_appends (Some xs) (Some ys) None bytes h kept = kept
 kept_appends (Some xs) (Some ys) (Some zs) bytes h kept = kept ∙ h
 
 told_more : {E : Type 0} (little : E → Bool) (old middle : Seen E) (told : Option (List ℕ)) (calls : List Call) (i : ℕ) (d : Call) (now : ℕ) (u v w z : Option (List ℕ)) (x : Unit {0}) → Keeps old middle → i < length calls → KeepsBytes w z
-    → IfSome told (λ bytes. Appends u v (text old.ehdr (stream_file little old bytes) (map question (take i calls))) × (middle.faults ≡ old.faults))
-    → IfSome told (λ bytes. RanOne (stream_answer little middle bytes (question (get_or calls i d))) v w middle.can_fail middle.faults now (Ok x))
-    → IfSome told (λ bytes. Appends u z (text old.ehdr (stream_file little old bytes) (map question (take (i + 1) calls))) × (now ≡ old.faults))
+    → IfSome told (λ bytes. Appends u v (text old.ehdr (stream_file little old bytes) (map question (take i calls))) × (middle.failures ≡ old.failures))
+    → IfSome told (λ bytes. RanOne (stream_answer little middle bytes (question (get_or calls i d))) v w middle.can_fail middle.failures now (Ok x))
+    → IfSome told (λ bytes. Appends u z (text old.ehdr (stream_file little old bytes) (map question (take (i + 1) calls))) × (now ≡ old.failures))
 told_more little old middle None calls i d now u v w z x keeps within kept all one = tt
 told_more little old middle (Some bytes) calls i d now u v w z x keeps within kept all one =
     let front = text old.ehdr (stream_file little old bytes) (map question (take i calls)) in
@@ -488,35 +488,35 @@ told_more little old middle (Some bytes) calls i d now u v w z x keeps within ke
     (kept_appends u w z (text old.ehdr (stream_file little old bytes) (map question (take (i + 1) calls))) (subst (λ t. Appends u w t) (sym whole) both) kept, one.0 ∙ all.1)
 
 pub more_written : {E : Type 0} (little : E → Bool) (old middle : Seen E) (told : Option (List ℕ)) (calls : List Call) (i : ℕ) (d : Call) (now : ℕ) (u v w z : Option (List ℕ)) (r : Result (Unit {0}) Stop) (x : Unit {0}) → Keeps old middle → i < length calls → KeepsBytes w z → r ≡ Ok x
-    → IfSome told (λ bytes. Appends u v (text old.ehdr (stream_file little old bytes) (map question (take i calls))) × (middle.faults ≡ old.faults))
-    → IfSome told (λ bytes. RanOne (stream_answer little middle bytes (question (get_or calls i d))) v w middle.can_fail middle.faults now r)
-    → IfSome told (λ bytes. Appends u z (text old.ehdr (stream_file little old bytes) (map question (take (i + 1) calls))) × (now ≡ old.faults))
+    → IfSome told (λ bytes. Appends u v (text old.ehdr (stream_file little old bytes) (map question (take i calls))) × (middle.failures ≡ old.failures))
+    → IfSome told (λ bytes. RanOne (stream_answer little middle bytes (question (get_or calls i d))) v w middle.can_fail middle.failures now r)
+    → IfSome told (λ bytes. Appends u z (text old.ehdr (stream_file little old bytes) (map question (take (i + 1) calls))) × (now ≡ old.failures))
 more_written little old middle told calls i d now u v w z r x keeps within kept is all one =
-    told_more little old middle told calls i d now u v w z x keeps within kept all (subst (λ o. IfSome told (λ bytes. RanOne (stream_answer little middle bytes (question (get_or calls i d))) v w middle.can_fail middle.faults now o)) is one)
+    told_more little old middle told calls i d now u v w z x keeps within kept all (subst (λ o. IfSome told (λ bytes. RanOne (stream_answer little middle bytes (question (get_or calls i d))) v w middle.can_fail middle.failures now o)) is one)
 
 stopped_by : {E : Type 0} (little : E → Bool) (old middle : Seen E) (told : Option (List ℕ)) (calls : List Call) (i : ℕ) (d : Call) (now : ℕ) (u v w : Option (List ℕ)) (s : Stop) → Keeps old middle → i < length calls
-    → IfSome told (λ bytes. Appends u v (text old.ehdr (stream_file little old bytes) (map question (take i calls))) × (middle.faults ≡ old.faults))
-    → IfSome told (λ bytes. RanOne (stream_answer little middle bytes (question (get_or calls i d))) v w middle.can_fail middle.faults now (Err s))
-    → IfSome told (λ bytes. Ran (λ calls. text old.ehdr (stream_file little old bytes) (map question calls)) calls u w old.can_fail old.faults now (Err (stopped_after i s)))
+    → IfSome told (λ bytes. Appends u v (text old.ehdr (stream_file little old bytes) (map question (take i calls))) × (middle.failures ≡ old.failures))
+    → IfSome told (λ bytes. RanOne (stream_answer little middle bytes (question (get_or calls i d))) v w middle.can_fail middle.failures now (Err s))
+    → IfSome told (λ bytes. Ran (λ calls. text old.ehdr (stream_file little old bytes) (map question calls)) calls u w old.can_fail old.failures now (Err (stopped_after i s)))
 stopped_by little old middle None calls i d now u v w s keeps within all one = tt
 stopped_by little old middle (Some bytes) calls i d now u v w (stop.Fault e) keeps within all one =
-    let refused = subst (λ count. IsRefused count now old.can_fail ⊥ (kind e)) all.1 (subst (λ can_fail. IsRefused middle.faults now can_fail ⊥ (kind e)) keeps.can_fail one.1) in
+    let refused = subst (λ count. IsRefused count now old.can_fail ⊥ (kind e)) all.1 (subst (λ can_fail. IsRefused middle.failures now can_fail ⊥ (kind e)) keeps.can_fail one.1) in
     (within, kept_appends u v w (text old.ehdr (stream_file little old bytes) (map question (take i calls))) all.0 one.0, refused)
 stopped_by little old middle (Some bytes) calls i d now u v w (stop.Write e) keeps within all one = (within, one ∙ all.1)
 
 -- a call that stopped the run behind i others
 pub stopped : {E : Type 0} (little : E → Bool) (old middle : Seen E) (told : Option (List ℕ)) (calls : List Call) (i : ℕ) (d : Call) (now : ℕ) (u v w : Option (List ℕ)) (r : Result (Unit {0}) Stop) (s : Stop) → Keeps old middle → i < length calls → r ≡ Err s
-    → IfSome told (λ bytes. Appends u v (text old.ehdr (stream_file little old bytes) (map question (take i calls))) × (middle.faults ≡ old.faults))
-    → IfSome told (λ bytes. RanOne (stream_answer little middle bytes (question (get_or calls i d))) v w middle.can_fail middle.faults now r)
-    → IfSome told (λ bytes. Ran (λ calls. text old.ehdr (stream_file little old bytes) (map question calls)) calls u w old.can_fail old.faults now (Err (stopped_after i s)))
+    → IfSome told (λ bytes. Appends u v (text old.ehdr (stream_file little old bytes) (map question (take i calls))) × (middle.failures ≡ old.failures))
+    → IfSome told (λ bytes. RanOne (stream_answer little middle bytes (question (get_or calls i d))) v w middle.can_fail middle.failures now r)
+    → IfSome told (λ bytes. Ran (λ calls. text old.ehdr (stream_file little old bytes) (map question calls)) calls u w old.can_fail old.failures now (Err (stopped_after i s)))
 stopped little old middle told calls i d now u v w r s keeps within is all one =
-    stopped_by little old middle told calls i d now u v w s keeps within all (subst (λ o. IfSome told (λ bytes. RanOne (stream_answer little middle bytes (question (get_or calls i d))) v w middle.can_fail middle.faults now o)) is one)
+    stopped_by little old middle told calls i d now u v w s keeps within all (subst (λ o. IfSome told (λ bytes. RanOne (stream_answer little middle bytes (question (get_or calls i d))) v w middle.can_fail middle.failures now o)) is one)
 
 still_faultless : (i : ℕ) (s : Stop) → IsFaultlessCall (Err s) → IsFaultless (Err (stopped_after i s))
 still_faultless i (stop.Fault e) h = absurd h
 still_faultless i (stop.Write e) h = tt
 
--- a call of the list that is at hand makes no fault
+-- a call of the list that the cache answers makes no fault
 pub faulted : {E : Type 0} (little : E → Bool) (old middle : Seen E) (told : Option (List ℕ)) (calls : List Call) (i : ℕ) (d : Call) (r : Result (Unit {0}) Stop) (s : Stop) → Keeps old middle → i < length calls → r ≡ Err s
     → IfSome told (λ bytes. IsAtHand little middle bytes (question (get_or calls i d)) → IsFaultlessCall r) → IfSome told (λ bytes. All (λ call. IsAtHand little old bytes (question call)) calls → IsFaultless (Err (stopped_after i s)))
 faulted little old middle None calls i d r s keeps within is h = tt

@@ -43,7 +43,7 @@ pub strings_ended : (limit : ℕ) (bytes : List ℕ) (o : ℕ) (e : ParseError) 
 strings_ended zero bytes o e h = refl
 strings_ended (suc limit) bytes o e h = rw h refl
 
--- ---- the text that is left, where so many strings are written and the next one begins at o
+-- ---- the text that is left, where n strings are written and the next one begins at o
 
 abbrev pub text_left : List ℕ → ℕ → ℕ → List ℕ
 text_left bytes count o =

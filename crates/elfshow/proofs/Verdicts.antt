@@ -1,4 +1,4 @@
--- What is told of a section that a checker rejects.
+-- What is written of a section that a checker rejects.
 use Rattle.std.proofs.Common.{◌≡◌, ℕ, Result, Ok, Err, refl, sym, ap, inl, inr}
 use Rattle.elf_parts.specs.Number.{ok_map}
 use Rattle.elf_parts.specs.declared.parse.ParseError.{ParseError}

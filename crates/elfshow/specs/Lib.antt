@@ -4,7 +4,7 @@ pub mod Pieces
 pub mod lines
 -- what a listing says of a checked section
 pub mod Verdicts
--- calls: what they ask, what they write, and what a run of them leaves
+-- calls: what they request, what they write, and what a run of them leaves
 pub mod calls
 -- the call that a word spells
 pub mod Words

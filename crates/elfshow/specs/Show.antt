@@ -43,7 +43,7 @@ request_of _ = None
 
 -- ---- runs
 
--- As Ran, of a run that opens its file, over a source whose content is told: where the file is not opened nothing was
+-- As Ran, of a run that opens its file, over a source of known content: if the file is not opened, nothing was
 -- written, and all else is only of a file that opens.
 abbrev pub RanOver : {F C : Type 0} → Result F ParseError → (F → List C → List ℕ) → List C → Option (List ℕ) →
     Option (List ℕ) → Bool → Result (Unit {0}) RunError → Type 0
@@ -64,7 +64,7 @@ IsUnwritten old new (Err (Write done e)) = Unit {0}
 
 -- ---- what is written
 
--- what stands behind the text where two texts were made
+-- what follows the text if two texts were made
 abbrev pub agreement : List ℕ → List ℕ → List ℕ
 agreement one other =
     if bytes_eq one other then codes "readers agree" ⧺ newline else codes "readers differ" ⧺ newline

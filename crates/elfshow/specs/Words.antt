@@ -67,8 +67,7 @@ keyed_call key value =
 abbrev pub is_equals : ℕ → Bool
 is_equals b = b == 61
 
--- the call that a word spells: what is before its first `=` says which call it is, and what is after that what it asks
--- for
+-- the call that a word spells: what is before its first `=` says which call it is, and what is after is its argument
 abbrev pub call_of : List ℕ → Option Question
 call_of word =
     if nat_lt (position_or_len is_equals word) (length word)

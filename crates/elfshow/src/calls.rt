@@ -152,7 +152,7 @@ pub fn run_stream<E: EndianParse, S: StreamSource, A: Allocator + Copy, W: Write
     ensures keeps { Keeps stream.old stream.new }
     ensures ran { IfSome stream.old.content (λ bytes.
         Ran (λ calls. text stream.old.ehdr (stream_file E.little stream.old bytes) (map question calls)) calls.now
-        (W.contents out.old) (W.contents out.new) stream.old.can_fail stream.old.faults stream.new.faults result) }
+        (W.contents out.old) (W.contents out.new) stream.old.can_fail stream.old.failures stream.new.failures result) }
     ensures no_fault { IfSome stream.old.content (λ bytes.
         All (λ call. IsAtHand E.little stream.old bytes (question call)) calls.now → IsFaultless result) }
     ensures loaded { OnOk result (IfSome stream.old.content (λ bytes.
@@ -171,7 +171,7 @@ pub fn run_stream<E: EndianParse, S: StreamSource, A: Allocator + Copy, W: Write
     Ok(())
 }
 
-/// States that a run without faults can be repeated. Let the ranges of each call that has a result be cached, as they
+/// States that a run without failures can be repeated. Let the ranges of each call that has a result be cached, as they
 /// are after `run_stream` returned `Ok`. Then the calls that have a result and allocate nothing need neither the source
 /// nor memory: run again over the stream, they do not return `Fault`.
 pub fn loaded_calls_are_at_hand<E: EndianParse>()

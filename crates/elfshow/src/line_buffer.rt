@@ -109,8 +109,8 @@ impl LineBuffer {
     }
 
     // Most numbers of a listing have one digit.
-    #[inline(always)]
     #[tactic(auto, using(crate::proofs::Digits::one_digit))]
+    #[inline(always)]
     fn put_decimal<W: Write>(&mut self, n: u64, out: &mut W)
         ensures { Adds (W.contents out.old) self.old (W.contents out.new) self.new (decimal n) }
     {
@@ -126,7 +126,7 @@ impl LineBuffer {
         ensures { Adds (W.contents out.old) self.old (W.contents out.new) self.new (decimal n) }
     {
         let mut room = [0; MAX_DIGITS];
-        let start = fill_digits(10, n, &mut room);
+        let start = fill_decimal(n, &mut room);
         self.put(&room[start..], out);
     }
 
@@ -201,10 +201,18 @@ impl LineBuffer {
     fn put_pairs<W: Write>(&mut self, bytes: &[u8], out: &mut W)
         ensures { Adds (W.contents out.old) self.old (W.contents out.new) self.new (hex_of bytes.now) }
     {
+        let (blocks, rest) = bytes.as_chunks();
+        self.put_blocks::<64, 128, W>(blocks, out);
+        self.put_short_pairs(rest, out);
+    }
+
+    fn put_short_pairs<W: Write>(&mut self, bytes: &[u8], out: &mut W)
+        ensures { Adds (W.contents out.old) self.old (W.contents out.new) self.new (hex_of bytes.now) }
+    {
         let (long, others) = bytes.as_chunks();
         let (short, rest) = others.as_chunks();
-        self.put_blocks::<64, 128, W>(long, out);
-        self.put_blocks::<16, 32, W>(short, out);
+        self.put_blocks::<16, 32, W>(long, out);
+        self.put_blocks::<4, 8, W>(short, out);
         self.put_bytes(rest, out);
     }
 
@@ -256,8 +264,8 @@ fn fill_pairs(bytes: &[u8], room: &mut [u8])
 
 /// Fills the end of `room` with the digits of a number, and returns where they begin.
 // Inlined, so that the base is known where numbers are divided by it.
-#[inline(always)]
 #[tactic(auto, using(crate::proofs::Digits::digits_more, crate::proofs::Digits::digits_end))]
+#[inline(always)]
 fn fill_digits(base: u64, n: u64, room: &mut [u8; MAX_DIGITS]) -> usize
     requires { (0 < base) × (base ≤ 16) }
     ensures within { result ≤ 64 }
@@ -276,17 +284,66 @@ fn fill_digits(base: u64, n: u64, room: &mut [u8; MAX_DIGITS]) -> usize
     start
 }
 
-/// Whether no byte of a text needs an escape.
-#[tactic(auto, using(crate::proofs::Escaping::plain_waits, std::proofs::lemmas::Grind::common_steps))]
+/// Fills the end of `room` with the decimal digits of a number, two by two, and returns where they begin.
+fn fill_decimal(n: u64, room: &mut [u8; MAX_DIGITS]) -> usize
+    ensures within { result ≤ 64 }
+    ensures digits { drop result room.new ≡ decimal n }
+{
+    let mut left = n;
+    let mut pairs = MAX_DIGITS / 2;
+    while pairs > 0 {
+        pairs -= 1;
+        let pair = left % 100;
+        left /= 100;
+        room[2 * pairs + 1] = digit((pair % 10) as u8);
+        room[2 * pairs] = digit((pair / 10) as u8);
+        if left == 0 {
+            return if pair < 10 { 2 * pairs + 1 } else { 2 * pairs };
+        }
+    }
+    2 * pairs
+}
+
+/// Whether no byte of a text needs an escape. Blocks of a known length take fewer instructions than bytes.
 fn are_plain(bytes: &[u8]) -> bool
     ensures { result ≡ true → escaped bytes.now ≡ bytes.now }
 {
-    for byte in bytes {
-        if !is_plain(*byte) {
+    let (blocks, rest) = bytes.as_chunks();
+    are_blocks_plain::<16>(blocks) && is_end_plain(rest)
+}
+
+#[inline(always)]
+fn is_end_plain(bytes: &[u8]) -> bool
+    ensures { result ≡ true → escaped bytes.now ≡ bytes.now }
+{
+    let (blocks, rest) = bytes.as_chunks();
+    are_blocks_plain::<4>(blocks) && is_block_plain(rest)
+}
+
+fn are_blocks_plain<const N: usize>(blocks: &[[u8; N]]) -> bool
+    ensures { result ≡ true → flat_map escaped blocks.now ≡ flat_map (λ block. block) blocks.now }
+{
+    for block in blocks {
+        if !is_block_plain(block) {
             return false;
         }
     }
     true
+}
+
+// Looks at each byte, whatever those before it are, so that a block of a known length takes no branches.
+#[tactic(auto, using(crate::proofs::Escaping::plain_waits, std::proofs::lemmas::Grind::common_steps))]
+#[inline(always)]
+fn is_block_plain(bytes: &[u8]) -> bool
+    ensures { result ≡ true → escaped bytes.now ≡ bytes.now }
+{
+    let mut plain = true;
+    for byte in bytes {
+        if !is_plain(*byte) {
+            plain = false;
+        }
+    }
+    plain
 }
 
 /// The escape of a byte that is not plain.

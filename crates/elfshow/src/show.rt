@@ -145,7 +145,7 @@ pub fn show<F: FileSystem, W: Write + Drop, V: Write>(
         Appends (writer_contents W.contents out.old) (W.contents (writer_inner out.new))
         (shown_by request.0 (text file.ehdr (object_file any_is_little file) request.2))))) }
     ensures usage { result ≡ 2 → IsNone (request_of words.now) }
-    ensures told { IsNone (request_of words.now) → result ≡ 2 }
+    ensures reported { IsNone (request_of words.now) → result ≡ 2 }
     ensures no_request { IsNone (request_of words.now) → out.new ≡ out.old }
     ensures refused { IfSome (request_of words.now) (λ request. IfSome (F.content files.now request.1) (λ bytes.
         IsErr (opened any_is_little any_of_byte bytes) → out.new ≡ out.old)) }
@@ -170,7 +170,7 @@ fn list<F: FileSystem, W: Write + Drop>(
         Appends (writer_contents W.contents out.old) (W.contents (writer_inner out.new))
         (shown_by request.0 (text file.ehdr (object_file any_is_little file) request.2)))))) }
     ensures usage { IfErr result (λ failure. status_of failure ≡ 2 → IsNone (request_of words.now)) }
-    ensures told { IsNone (request_of words.now) → result ≡ Err Usage }
+    ensures reported { IsNone (request_of words.now) → result ≡ Err Usage }
     ensures no_request { IsNone (request_of words.now) → out.new ≡ out.old }
     ensures refused { IfSome (request_of words.now) (λ request. IfSome (F.content files.now request.1) (λ bytes.
         IsErr (opened any_is_little any_of_byte bytes) → (out.new ≡ out.old) × IsErr result)) }

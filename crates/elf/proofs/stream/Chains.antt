@@ -1,4 +1,4 @@
--- Answers that are had step by step.
+-- Answers that are found step by step.
 use Rattle.std.proofs.Common.{◌≡◌, ℕ, ◌+◌, ◌-◌, ◌<◌, ◌≤◌, Bool, List, length, take, drop, refl, sym, ap, ◌∙◌, subst, arith, Option, Some, None, IfSome}
 use Rattle.std.specs.Prelude.{◌^◌, Result, Ok, Err, IsErr, is_err, IfOk, IfErr}
 use Rattle.elf_parts.specs.Number.{bytes_at, ok_map}
@@ -36,7 +36,7 @@ bind_refused : {A B E : Type 0} (x : Result A E) (f : A → Result B E) → IsEr
 bind_refused (Ok a) f h = cc
 bind_refused (Err e) f h = refl
 
--- the same value, or both a refusal
+-- the same value, or both an error
 pub record AreAlike {A E : Type 0} (x y : Result A E) : Type 0 where
   pub value : (a : A) → y ≡ Ok a → x ≡ Ok a
   pub refused : IsErr y → IsErr x
@@ -80,7 +80,7 @@ pub bind_assoc : {A B C E : Type 0} (x : Result A E) (f : A → Result B E) (g :
 bind_assoc (Ok a) f g = refl
 bind_assoc (Err e) f g = refl
 
--- ---- a step that asks no source and no memory
+-- ---- a step that uses no source and no memory
 
 pub record IsPlain {A : Type 0} (r : Result A ParseError) : Type 0 where
   pub plain : IfErr r (λ e. kind e ≡ Kind.Refusal)

@@ -21,19 +21,19 @@ reads_on bytes whole part start done n k within fits before now =
     ∙ ap (λ z. take done (drop start bytes) ++ z) (now ∙ ap (take n) (sym (drop-drop done start bytes)))
     ∙ sym (take-add done n (drop start bytes))
 
--- what a loop that fills a buffer keeps: its front is the bytes from the start, and the source stands behind them and has not failed
+-- what a loop that fills a buffer keeps: its front is the bytes from the start, and the source is at their end and has not failed
 pub record IsFilled (bytes buf : List ℕ) (start done position faults_before faults_now : ℕ) : Type 0 where
   pub front : take done buf ≡ take done (drop start bytes)
   pub behind : position ≡ start + done
   pub count : faults_now ≡ faults_before
 
-pub IsFilled-more : (E : Type 0) (content : Option (List ℕ)) (whole part : List ℕ) (start done n k before next faults faults' faults'' : ℕ) (b : Bool) → done ≤ length whole → n ≤ length part
-    → IfSome content (λ bytes. IsFilled bytes whole start done before faults faults')
+pub IsFilled-more : (E : Type 0) (content : Option (List ℕ)) (whole part : List ℕ) (start done n k before next failures failures' failures'' : ℕ) (b : Bool) → done ≤ length whole → n ≤ length part
+    → IfSome content (λ bytes. IsFilled bytes whole start done before failures failures')
     → IfSome content (λ bytes. Gives bytes before next n part)
-    → IfSome content (λ bytes. HasCause {T = ℕ} {E = E} faults' faults'' b (Ok n))
-    → IfSome content (λ bytes. IsFilled bytes (put_mid done k whole part) start (done + n) next faults faults'')
-IsFilled-more E None whole part start done n k before next faults faults' faults'' b within fits old read cause = tt
-IsFilled-more E (Some bytes) whole part start done n k before next faults faults' faults'' b within fits old read cause = record {
+    → IfSome content (λ bytes. HasCause {T = ℕ} {E = E} failures' failures'' b (Ok n))
+    → IfSome content (λ bytes. IsFilled bytes (put_mid done k whole part) start (done + n) next failures failures'')
+IsFilled-more E None whole part start done n k before next failures failures' failures'' b within fits old read cause = tt
+IsFilled-more E (Some bytes) whole part start done n k before next failures failures' failures'' b within fits old read cause = record {
   front = reads_on bytes whole part start done n k within fits old.front (read.front ∙ ap (λ p. take n (drop p bytes)) old.behind);
   behind = omega (arith, read.moves, old.behind);
   count = cause.ok ∙ old.count;
@@ -43,11 +43,11 @@ IsFilled-more E (Some bytes) whole part start done n k before next faults faults
 pub written_whole : (n : ℕ) (x items : List ℕ) → length x ≡ n → take n (x ++ items) ≡ x
 written_whole n x items long = ap (λ m. take m (x ++ items)) (sym long) ∙ take-append_seam x items
 
-step_at : (bytes items whole part : List ℕ) (n k start before next faults faults' faults'' : ℕ)
+step_at : (bytes items whole part : List ℕ) (n k start before next failures failures' failures'' : ℕ)
     → n ≡ length items → take n whole ≡ items → n ≤ length whole → n + length part ≡ length (put_mid n k whole part) → length part ≡ length (mid_of n k whole)
-    → IsFilled bytes items start (length items) before faults faults' → part ≡ take (length (mid_of n k whole)) (drop before bytes) → next ≡ before + length (mid_of n k whole) → faults'' ≡ faults'
-    → IsFilled bytes (put_mid n k whole part) start (length (put_mid n k whole part)) next faults faults''
-step_at bytes items whole part n k start before next faults faults' faults'' here kept within long same old read moves count =
+    → IsFilled bytes items start (length items) before failures failures' → part ≡ take (length (mid_of n k whole)) (drop before bytes) → next ≡ before + length (mid_of n k whole) → failures'' ≡ failures'
+    → IsFilled bytes (put_mid n k whole part) start (length (put_mid n k whole part)) next failures failures''
+step_at bytes items whole part n k start before next failures failures' failures'' here kept within long same old read moves count =
     let before_is : before ≡ start + n = omega (arith, old.behind) in
     let first : take n whole ≡ take n (drop start bytes) = kept ∙ sym (take-length items) ∙ old.front ∙ ap (λ m. take m (drop start bytes)) (sym here) in
     let second : take (length part) part ≡ take (length part) (drop (start + n) bytes) = take-length part ∙ read ∙ ap (λ m. take m (drop before bytes)) (sym same) ∙ ap (λ p. take (length part) (drop p bytes)) before_is in
@@ -58,14 +58,14 @@ step_at bytes items whole part n k start before next faults faults' faults'' her
     }
 
 -- a vector that was filled to its end, then made longer, and whose new part was read from the source
-pub IsFilled-step : (content : Option (List ℕ)) (items whole part : List ℕ) (n k start before next faults faults' faults'' : ℕ)
+pub IsFilled-step : (content : Option (List ℕ)) (items whole part : List ℕ) (n k start before next failures failures' failures'' : ℕ)
     → n ≡ length items → take n whole ≡ items → n ≤ length whole → n + length part ≡ length (put_mid n k whole part) → length part ≡ length (mid_of n k whole)
-    → IfSome content (λ bytes. IsFilled bytes items start (length items) before faults faults')
-    → IfSome content (λ bytes. part ≡ take (length (mid_of n k whole)) (drop before bytes)) → IfSome content (λ bytes. next ≡ before + length (mid_of n k whole)) → IfSome content (λ bytes. faults'' ≡ faults')
-    → IfSome content (λ bytes. IsFilled bytes (put_mid n k whole part) start (length (put_mid n k whole part)) next faults faults'')
-IsFilled-step None items whole part n k start before next faults faults' faults'' here kept within long same old read moves count = tt
-IsFilled-step (Some bytes) items whole part n k start before next faults faults' faults'' here kept within long same old read moves count =
-    step_at bytes items whole part n k start before next faults faults' faults'' here kept within long same old read moves count
+    → IfSome content (λ bytes. IsFilled bytes items start (length items) before failures failures')
+    → IfSome content (λ bytes. part ≡ take (length (mid_of n k whole)) (drop before bytes)) → IfSome content (λ bytes. next ≡ before + length (mid_of n k whole)) → IfSome content (λ bytes. failures'' ≡ failures')
+    → IfSome content (λ bytes. IsFilled bytes (put_mid n k whole part) start (length (put_mid n k whole part)) next failures failures'')
+IsFilled-step None items whole part n k start before next failures failures' failures'' here kept within long same old read moves count = tt
+IsFilled-step (Some bytes) items whole part n k start before next failures failures' failures'' here kept within long same old read moves count =
+    step_at bytes items whole part n k start before next failures failures' failures'' here kept within long same old read moves count
 
 -- a vector that was made longer begins as it was
 pub kept_front : (items zeros : List ℕ) (n m : ℕ) → n ≡ length items → n ≤ m → take n (take m items ++ zeros) ≡ items

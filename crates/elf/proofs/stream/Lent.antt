@@ -6,11 +6,11 @@ use Rattle.elf_parts.specs.Record.{◌>>=◌}
 use Rattle.elf_parts.specs.declared.compression.CompressionHeader.{CompressionHeader}
 use Rattle.elf_parts.specs.declared.parse.ParseError.{ParseError}
 use Rattle.elf_parts.specs.declared.section.SectionHeader.{SectionHeader}
-use Rattle.elf.specs.Ranges.{range_of_section, section_asked}
+use Rattle.elf.specs.Ranges.{range_of_section, section_ranges}
 use Rattle.elf.specs.ObjectFile.{ObjectFile}
 use Rattle.elf.specs.Data.{content, content_of_type, section_data}
 use Rattle.elf.specs.Headers.{section_range}
-use Rattle.elf.specs.ElfStream.{Seen, AreHeld, IsAnswer, IsRefused, Leaves, kind}
+use Rattle.elf.specs.ElfStream.{Seen, AreCached, IsAnswer, IsRefused, Leaves, kind}
 use Rattle.elf.specs.inner.Loads.{AreThere, HasReason, Loads, LoadsFor}
 use Rattle.elf.proofs.stream.Steps.{not_ok, refused_not, refused_so}
 
@@ -23,21 +23,21 @@ for_reason (Some bytes) rs answer before now can_fail (Ok x) needs h = h
 for_reason (Some bytes) rs answer before now can_fail (Err e) needs h = refused_so (kind e) _ _ before before now can_fail (λ missing. not_ok (answer bytes) (λ ok. missing (needs bytes ok))) refl h
 
 for_accepted : {E Y : Type 0} (told : Option (List ℕ)) (old : Seen E) (rs : List (ℕ × ℕ)) (answer : List ℕ → Result Y ParseError) (r : Result (Unit {0}) ParseError) → ((bytes : List ℕ) → IsOk (answer bytes) → AreThere bytes rs)
-    → IfSome told (λ bytes. AreThere bytes rs → AreHeld old rs → IsOk r) → IfSome told (λ bytes. IsOk (answer bytes) → AreHeld old rs → IsOk r)
+    → IfSome told (λ bytes. AreThere bytes rs → AreCached old rs → IsOk r) → IfSome told (λ bytes. IsOk (answer bytes) → AreCached old rs → IsOk r)
 for_accepted None old rs answer r needs h = tt
-for_accepted (Some bytes) old rs answer r needs h = λ ok held. h (needs bytes ok) held
+for_accepted (Some bytes) old rs answer r needs h = λ ok cached. h (needs bytes ok) cached
 
 pub loads_for : {E Y : Type 0} (old new : Seen E) (rs : List (ℕ × ℕ)) (answer : List ℕ → Result Y ParseError) (r : Result (Unit {0}) ParseError) → ((bytes : List ℕ) → IsOk (answer bytes) → AreThere bytes rs) → Loads rs old new r → LoadsFor rs answer old new r
 loads_for old new rs answer r needs h = record {
   keeps = h.keeps;
   loaded = h.loaded;
-  reason = for_reason old.content rs answer old.faults new.faults old.can_fail r needs h.reason;
+  reason = for_reason old.content rs answer old.failures new.failures old.can_fail r needs h.reason;
   accepted = for_accepted old.content old rs answer r needs h.accepted;
   untouched = h.untouched;
   needed = h.needed;
 }
 
--- the same of ranges that are asked for under a condition, which holds
+-- the same of ranges that are requested under a condition, which holds
 pub loads_if : {E Y : Type 0} (is : Bool) (old new : Seen E) (rs : List (ℕ × ℕ)) (answer : List ℕ → Result Y ParseError) (r : Result (Unit {0}) ParseError) → is ≡ true → LoadsFor rs answer old new r → LoadsFor (if is then rs else []) answer old new r
 loads_if true old new rs answer r same h = h
 loads_if false old new rs answer r same h = cc
@@ -48,9 +48,9 @@ for_refused None shown wanted answer before now can_fail e same h = tt
 for_refused (Some bytes) shown wanted answer before now can_fail e same h = refused_so (kind e) _ _ before before now can_fail (λ missing. not_ok (answer bytes) (λ ok. refused_not (wanted bytes) missing (sym (same bytes) ∙ ok))) refl h
 
 for_accepts : {E X Y : Type 0} (T : Type 0) (told : Option (List ℕ)) (old : Seen E) (rs : List (ℕ × ℕ)) (wanted : List ℕ → Result X ParseError) (answer : List ℕ → Result Y ParseError) (e : ParseError) → ((bytes : List ℕ) → is_ok (answer bytes) ≡ is_ok (wanted bytes))
-    → IfSome told (λ bytes. IsOk (wanted bytes) → AreHeld old rs → IsOk {T = Unit {0}} (Err e)) → IfSome told (λ bytes. IsOk (answer bytes) → AreHeld old rs → IsOk {T = T} (Err e))
+    → IfSome told (λ bytes. IsOk (wanted bytes) → AreCached old rs → IsOk {T = Unit {0}} (Err e)) → IfSome told (λ bytes. IsOk (answer bytes) → AreCached old rs → IsOk {T = T} (Err e))
 for_accepts T None old rs wanted answer e same h = tt
-for_accepts T (Some bytes) old rs wanted answer e same h = λ ok held. h (sym (same bytes) ∙ ok) held
+for_accepts T (Some bytes) old rs wanted answer e same h = λ ok cached. h (sym (same bytes) ∙ ok) cached
 
 -- the load was refused
 pub leaves_refused_for : {E T X Y : Type 0} (old new : Seen E) (rs : List (ℕ × ℕ)) (shown : T → Y) (wanted : List ℕ → Result X ParseError) (answer : List ℕ → Result Y ParseError) (e : ParseError) (r : Result T ParseError) → r ≡ Err e
@@ -58,7 +58,7 @@ pub leaves_refused_for : {E T X Y : Type 0} (old new : Seen E) (rs : List (ℕ �
 leaves_refused_for {E} {T} {X} {Y} old new rs shown wanted answer e r is same h = rw is (record {
   keeps = h.keeps;
   loaded = tt;
-  answers = for_refused old.content shown wanted answer old.faults new.faults old.can_fail e same h.reason;
+  answers = for_refused old.content shown wanted answer old.failures new.failures old.can_fail e same h.reason;
   accepted = for_accepts T old.content old rs wanted answer e same h.accepted;
   untouched = h.untouched;
   needed = h.needed;
@@ -79,7 +79,7 @@ payload_needs_by : {A : Type 0} (bytes : List ℕ) (s : SectionHeader) (is_empty
 payload_needs_by bytes s true none f h = tt
 payload_needs_by bytes s false none f h = (ok_first (section_range bytes s) f h, tt)
 
-pub section_data_needs : (file : ObjectFile) (s : SectionHeader) → IsOk (section_data file s) → AreThere file.bytes (section_asked s)
+pub section_data_needs : (file : ObjectFile) (s : SectionHeader) → IsOk (section_data file s) → AreThere file.bytes (section_ranges s)
 unfolding section_data
 section_data_needs file s h = payload_needs_by file.bytes s (s.sh_type == 8) _ _ h
 
@@ -90,6 +90,6 @@ of_type_needs : {A : Type 0} (P : Type 0) (is : Bool) (x : Result A ParseError) 
 of_type_needs P true x e so h = so h
 of_type_needs {A} P false x e so h = absurd (not_refused A e h)
 
-pub content_needs : (t : ℕ) (file : ObjectFile) (s : SectionHeader) → IsOk (content_of_type t file s) → AreThere file.bytes (section_asked s)
+pub content_needs : (t : ℕ) (file : ObjectFile) (s : SectionHeader) → IsOk (content_of_type t file s) → AreThere file.bytes (section_ranges s)
 content_needs t file s h =
-    of_type_needs (AreThere file.bytes (section_asked s)) (s.sh_type == t) (content file s) _ (λ ok. section_data_needs file s (sym (ok_of_map (λ (found : List ℕ × Option CompressionHeader). found.0) (section_data file s)) ∙ ok)) h
+    of_type_needs (AreThere file.bytes (section_ranges s)) (s.sh_type == t) (content file s) _ (λ ok. section_data_needs file s (sym (ok_of_map (λ (found : List ℕ × Option CompressionHeader). found.0) (section_data file s)) ∙ ok)) h

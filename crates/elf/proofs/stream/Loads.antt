@@ -1,4 +1,4 @@
--- Loading a range: its answer at each exit, and what is kept after a buffer was put in or refused.
+-- Loading a range: its answer at each exit, and what is unchanged after a buffer was inserted or refused.
 use Rattle.std.proofs.Common.{◌≡◌, ℕ, ◌+◌, ◌<◌, ◌≤◌, Bool, List, length, take, drop, refl, ap, arith, Option, Some, None, IfSome}
 use Rattle.std.specs.Prelude.{◌^◌, Result, Ok, Err, IsErr, IsOk, IfErr, is_ok}
 use Rattle.elf_parts.specs.Number.{bytes_at}
@@ -31,11 +31,11 @@ refused_for P (Ok x) h = tt
 refused_for P (Err e) h = h.0
 
 is_for : (P : Type 0) (k : Kind) → P → IsFor P k
-is_for P Kind.Failure h = h
-is_for P Kind.Want h = h
+is_for P Kind.SourceFailure h = h
+is_for P Kind.AllocationFailure h = h
 is_for P Kind.Refusal h = tt
 
--- the source and memory are asked for a range that is there
+-- the source and memory are used for a range that is there
 pub needed_there : (told : Option (List ℕ)) (len start size : ℕ) (r : Result (Unit {0}) ParseError) → IfSome told (λ bytes. len ≡ length bytes) → start + size < 2 ^ 64 → start + size ≤ len
     → IfSome told (λ bytes. IfErr r (λ e. IsFor (IsOk (bytes_at size bytes start)) (kind e)))
 needed_there None len start size r whole low within = tt

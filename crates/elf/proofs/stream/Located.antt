@@ -11,7 +11,7 @@ use Rattle.elf.specs.Opening.{table_bytes}
 use Rattle.elf.specs.ElfStream.{IsAnswer, kind}
 use Rattle.elf.specs.declared.tables.DeclaredTable.{DeclaredTable}
 use Rattle.elf.specs.declared.source.StreamSource as source
-use Rattle.elf.specs.inner.HeaderSteps.{IsNoWant, range_bytes, range_table}
+use Rattle.elf.specs.inner.HeaderSteps.{IsNoAllocationFailure, range_bytes, range_table}
 use Rattle.elf.specs.inner.Reads.{HasLength, Reads, ReadsAs}
 use Rattle.elf.specs.inner.Tables.{declared_count, declared_table}
 use Rattle.elf.proofs.stream.Chains.{given}
@@ -34,23 +34,23 @@ then_found little h bytes count part n before middle can_fail (Err e) same count
 
 found_at : {E : Type 0} (little : E → Bool) (h : FileHeader E) (size : ℕ) (table : DeclaredTable) (content : Option (List ℕ)) (len n before middle : ℕ) (can_fail : Bool) (r : Result (ℕ × ℕ) ParseError)
     → (table.offset == 0) ≡ false → IfSome content (λ bytes. len ≡ length bytes) → IfSome content (λ bytes. (middle ≡ before) × (declared_count little h table bytes ≡ Ok n))
-    → ((bytes : List ℕ) (can_fail : Bool) (faults : ℕ) → len ≡ length bytes → IsAnswer (range_bytes bytes) (table_bytes size table.entsize n table.offset bytes) can_fail faults faults r)
+    → ((bytes : List ℕ) (can_fail : Bool) (failures : ℕ) → len ≡ length bytes → IsAnswer (range_bytes bytes) (table_bytes size table.entsize n table.offset bytes) can_fail failures failures r)
     → IfSome content (λ bytes. IsAnswer (option_map (range_table little h bytes)) (declared_table little h size table bytes) can_fail before middle (ok_map Some r))
 found_at little h size table None len n before middle can_fail r there whole counted found = tt
 found_at little h size table (Some bytes) len n before middle can_fail r there whole counted found =
     rw there (then_found little h bytes (declared_count little h table bytes) (λ c. table_bytes size table.entsize c table.offset bytes) n before middle can_fail r counted.0 counted.1 (found bytes can_fail middle whole))
 
-free_of_want : {A B : Type 0} (f : A → B) (r : Result A ParseError) → IfErr r (λ e. IsNoWant (kind e)) → IfErr (ok_map f r) (λ e. IsNoWant (kind e))
+free_of_want : {A B : Type 0} (f : A → B) (r : Result A ParseError) → IfErr r (λ e. IsNoAllocationFailure (kind e)) → IfErr (ok_map f r) (λ e. IsNoAllocationFailure (kind e))
 free_of_want f (Ok a) h = tt
 free_of_want f (Err e) h = h
 
 pub located : {S E : Type 0} (told : source.Ghosts S) (little : E → Bool) (h : FileHeader E) (size : ℕ) (table : DeclaredTable) (len n : ℕ) (old middle : S) (r : Result (ℕ × ℕ) ParseError)
     → (table.offset == 0) ≡ false → HasLength told old len → Reads told (declared_count little h table) old middle (Ok n)
-    → ((bytes : List ℕ) (can_fail : Bool) (faults : ℕ) → len ≡ length bytes → IsAnswer (range_bytes bytes) (table_bytes size table.entsize n table.offset bytes) can_fail faults faults r)
-    → IfErr r (λ e. IsNoWant (kind e)) → ReadsAs told (λ bytes. option_map (range_table little h bytes)) (declared_table little h size table) old middle (ok_map Some r)
+    → ((bytes : List ℕ) (can_fail : Bool) (failures : ℕ) → len ≡ length bytes → IsAnswer (range_bytes bytes) (table_bytes size table.entsize n table.offset bytes) can_fail failures failures r)
+    → IfErr r (λ e. IsNoAllocationFailure (kind e)) → ReadsAs told (λ bytes. option_map (range_table little h bytes)) (declared_table little h size table) old middle (ok_map Some r)
 located told little h size table len n old middle r there whole counted found none = record {
   content = counted.content;
   nature = counted.nature;
-  answer = found_at little h size table (told.content old) len n (told.faults old) (told.faults middle) (told.can_fail old) r there whole counted.answer found;
+  answer = found_at little h size table (told.content old) len n (told.failures old) (told.failures middle) (told.can_fail old) r there whole counted.answer found;
   memory = free_of_want Some r none;
 }

@@ -9,7 +9,7 @@ use Rattle.elf_parts.specs.declared.parse.ParseError.{ParseError}
 use Rattle.elf_parts.specs.declared.section.SectionHeader.{SectionHeader}
 use Rattle.elf_parts.specs.declared.segment.ProgramHeader.{ProgramHeader}
 use Rattle.elf.specs.Answers.{section_dynamic, segment_data, segment_dynamic}
-use Rattle.elf.specs.Ranges.{LinkedSections, VersionPlan, both_sections, if_there, plan_asked, section_asked, segment_asked, whole_section}
+use Rattle.elf.specs.Ranges.{LinkedSections, VersionPlan, both_sections, if_there, plan_ranges, section_ranges, segment_ranges, whole_section}
 use Rattle.elf.specs.Headers.{entry_size, if_found}
 use Rattle.elf.specs.ObjectFile.{ObjectFile, table_of}
 use Rattle.elf.specs.Data.{content, section_data}
@@ -31,13 +31,13 @@ pub ok_inside : {A B E : Type 0} (f : A → B) (x : Result A E) → IsOk (ok_map
 ok_inside f (Ok a) h = refl
 ok_inside f (Err e) h = cc
 
-pub dynamic_needs : (file : ObjectFile) (s : SectionHeader) → IsOk (section_dynamic file s) → AreThere file.bytes (section_asked s)
+pub dynamic_needs : (file : ObjectFile) (s : SectionHeader) → IsOk (section_dynamic file s) → AreThere file.bytes (section_ranges s)
 dynamic_needs file s h =
     let behind = ok_later (entry_size (size_by dyn_layout file.class) s) (λ _. ok_map (table_of file) (content file s)) h in
     section_data_needs file s (ok_inside (λ (found : List ℕ × Option CompressionHeader). found.0) (section_data file s) (ok_inside (table_of file) (content file s) behind.1))
 
 -- of a segment of dynamic entries
-pub segment_needs : (file : ObjectFile) (p : ProgramHeader) → IsOk (segment_dynamic file p) → AreThere file.bytes (segment_asked p)
+pub segment_needs : (file : ObjectFile) (p : ProgramHeader) → IsOk (segment_dynamic file p) → AreThere file.bytes (segment_ranges p)
 segment_needs file p h = (ok_inside (table_of file) (segment_data file p) h, tt)
 
 -- of the names of sections, where they are chosen
@@ -55,7 +55,7 @@ if_needs : {A : Type 0} (bytes : List ℕ) (answer : LinkedSections → Result A
 if_needs bytes answer None each h = tt
 if_needs bytes answer (Some pair) each h = each pair (ok_inside Some (answer pair) h)
 
-pub plan_needs : (file : ObjectFile) (plan : VersionPlan) → IsOk (versions_by file plan) → AreThere file.bytes (plan_asked plan)
+pub plan_needs : (file : ObjectFile) (plan : VersionPlan) → IsOk (versions_by file plan) → AreThere file.bytes (plan_ranges plan)
 plan_needs file plan h =
     let second = ok_later (section_range file.bytes plan.0) _ h in
     let third = ok_later (if_found (needs_by file) plan.1) _ second.1 in

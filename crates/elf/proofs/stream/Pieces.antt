@@ -5,7 +5,7 @@ use Rattle.std.specs.List.{list_any}
 use Rattle.std.proofs.lemmas.Bool.{and_parts}
 use Rattle.std.proofs.lemmas.List.{take-take, drop-take, drop-drop}
 use Rattle.elf.specs.inner.Piece.{Piece, IsPartOf, covers, range_of, IsOf, IsSound}
-use Rattle.elf.specs.ElfStream.{is_held}
+use Rattle.elf.specs.ElfStream.{is_cached}
 use Rattle.elf_parts.specs.Number.{bytes_at}
 use Rattle.std.proofs.lemmas.Bool.Decides.{nat_tests}
 use Rattle.std.proofs.lemmas.List.Folds.{Any-from_list_any}
@@ -63,12 +63,12 @@ piece_bytes bytes p start size of at =
 pub piece_within : (bytes : List ℕ) (p : Piece) (start end : ℕ) → IsOf bytes p → Reaches p start end → end ≤ length bytes
 piece_within bytes p start end of at = let within = of.within in let high = at.high in omega arith
 
--- a held range is in the content
-pub sound_held : (told : Option (List ℕ)) (len : ℕ) (ps : List Piece) (start size count : ℕ) → IsSound told len ps → start + size < 2 ^ 64 → IsTrue (is_held (map range_of ps) start (start + size))
+-- a cached range is in the content
+pub sound_cached : (told : Option (List ℕ)) (len : ℕ) (ps : List Piece) (start size count : ℕ) → IsSound told len ps → start + size < 2 ^ 64 → IsTrue (is_cached (map range_of ps) start (start + size))
     → IfSome told (λ bytes. (count ≡ count) × (bytes_at size bytes start ≡ Ok (take size (drop start bytes))))
-sound_held None len ps start size count sound low held = tt
-sound_held (Some bytes) len ps start size count sound low held =
-    let a = Any-from_list_any (covers start (start + size)) ps (sym (list_any-map range_of _ ps) ∙ held) in
+sound_cached None len ps start size count sound low cached = tt
+sound_cached (Some bytes) len ps start size count sound low cached =
+    let a = Any-from_list_any (covers start (start + size)) ps (sym (list_any-map range_of _ ps) ∙ cached) in
     (refl, read_within bytes start size low (piece_within bytes a.1 start (start + size) (subst (IsOf bytes) a.3 (sound.parts a.0 a.1 a.2)) (reaches a.1 start (start + size) a.4)))
 
 -- the bytes of a range within one of the parts are the content's
@@ -97,7 +97,7 @@ pub part_within : (told : Option (List ℕ)) (start size : ℕ) (part : List ℕ
 part_within None start size part h = tt
 part_within (Some bytes) start size part h = shorter bytes part start size h
 
--- ---- a range within a held one is held
+-- ---- a range within a cached one is cached
 
 or_true : (b : Bool) → (b || true) ≡ true
 or_true true = refl
@@ -117,5 +117,5 @@ any_weaker t u so (x ∷ xs) h = (elim (t x) as (λ b. t x ≡ b → (b || list_
   | false ↦ λ e k. ap (λ b. u x || b) (any_weaker t u so xs k) ∙ or_true (u x)
 ]) refl h
 
-pub held_within : (ranges : List (ℕ × ℕ)) (start end low high : ℕ) → low ≤ start → end ≤ high → IsTrue (is_held ranges low high) → IsTrue (is_held ranges start end)
-held_within ranges start end low high from to h = any_weaker (λ r. nat_le r.0 low && nat_le high r.1) (λ r. nat_le r.0 start && nat_le end r.1) (λ r k. covers_within r start end low high from to k) ranges h
+pub cached_within : (ranges : List (ℕ × ℕ)) (start end low high : ℕ) → low ≤ start → end ≤ high → IsTrue (is_cached ranges low high) → IsTrue (is_cached ranges start end)
+cached_within ranges start end low high from to h = any_weaker (λ r. nat_le r.0 low && nat_le high r.1) (λ r. nat_le r.0 start && nat_le end r.1) (λ r k. covers_within r start end low high from to k) ranges h

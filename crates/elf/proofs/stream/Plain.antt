@@ -14,7 +14,7 @@ use Rattle.elf_parts.specs.declared.section.SectionHeader.{SectionHeader}
 use Rattle.elf.specs.ElfStream.{Kind, kind}
 use Rattle.elf.specs.Data.{at_front}
 use Rattle.elf.specs.Headers.{section_at}
-use Rattle.elf.specs.inner.HeaderSteps.{IsNoWant}
+use Rattle.elf.specs.inner.HeaderSteps.{IsNoAllocationFailure}
 use Rattle.elf.proofs.stream.Chains.{IsPlain}
 
 plain_ok : {A : Type 0} {x : A} → IsPlain (Ok x)
@@ -86,15 +86,15 @@ plain_ident of_byte bytes =
 plain_kind_at : {A : Type 0} (e : ParseError) → IsPlain {A = A} (Err e) → kind e ≡ Kind.Refusal
 plain_kind_at e h = h.plain
 
--- a refusal that such a reader gives
+-- an error that such a reader gives
 pub plain_kind : {A : Type 0} (e : ParseError) (r : Result A ParseError) → Err e ≡ r → IsPlain r → kind e ≡ Kind.Refusal
 plain_kind e r is plain = plain_kind_at e (subst (λ z. IsPlain z) (sym is) plain)
 
-no_want : (e : ParseError) → kind e ≡ Kind.Refusal → IsNoWant (kind e)
+no_want : (e : ParseError) → kind e ≡ Kind.Refusal → IsNoAllocationFailure (kind e)
 no_want e h = rw h tt
 
--- it is never refused for want of memory
-pub plain_no_want : {A : Type 0} (r x : Result A ParseError) → r ≡ x → IsPlain x → IfErr r (λ e. IsNoWant (kind e))
+-- it is never an allocation failure
+pub plain_no_want : {A : Type 0} (r x : Result A ParseError) → r ≡ x → IsPlain x → IfErr r (λ e. IsNoAllocationFailure (kind e))
 plain_no_want (Ok a) x is plain = tt
 plain_no_want (Err e) x is plain = no_want e (plain_kind e x is plain)
 

@@ -1,4 +1,4 @@
--- The versions by a plan are those of the definition, the kind of a refusal aside: a plan looks at all headers first.
+-- The versions by a plan are those of the definition, the kind of an error aside: a plan looks at all headers first.
 use Rattle.std.proofs.Common.{◌≡◌, ℕ, Bool, List, Option, Some, None, Result, Ok, Err, refl, sym, ap, ◌∙◌}
 use Rattle.std.specs.Prelude.{IsOk, IfSome}
 use Rattle.elf_parts.specs.Number.{ok_map}
@@ -10,13 +10,13 @@ use Rattle.elf_parts.specs.Table.{Table}
 use Rattle.elf_parts.specs.declared.parse.ParseError.{ParseError}
 use Rattle.elf_parts.specs.declared.section.SectionHeader.{SectionHeader}
 use Rattle.elf.specs.Answers.{symbol_version_table}
-use Rattle.elf.specs.Ranges.{LinkedSections, VersionPlan, headers_alone, plan_asked, version_plan, version_plan_of, versions_asked, with_link}
+use Rattle.elf.specs.Ranges.{LinkedSections, VersionPlan, headers_alone, plan_ranges, version_plan, version_plan_of, versions_ranges, with_link}
 use Rattle.elf.specs.Headers.{entry_size, if_found}
 use Rattle.elf.specs.StreamFile.{stream_file}
 use Rattle.elf.specs.ObjectFile.{ObjectFile, table_of}
 use Rattle.elf.specs.Headers.{section_range}
 use Rattle.elf.specs.Readers.{AreAlike}
-use Rattle.elf.specs.ElfStream.{AreHeld, IsAnswer, Leaves, Seen}
+use Rattle.elf.specs.ElfStream.{AreCached, IsAnswer, Leaves, Seen}
 use Rattle.elf.specs.Versions.{version_definitions, version_needs, version_sections, versions_of}
 use Rattle.elf.specs.declared.headers.VersionSections.{VersionSections}
 use Rattle.elf.specs.inner.Loads.{Loads}
@@ -120,16 +120,16 @@ told_answers None shown one other before now can_fail r same h = tt
 told_answers (Some bytes) shown one other before now can_fail r same h = answers_alike shown (one bytes) (other bytes) before now can_fail r (same bytes) h
 
 told_accepted : {E T Y : Type 0} (told : Option (List ℕ)) (old : Seen E) (rs : List (ℕ × ℕ)) (one other : List ℕ → Result Y ParseError) (r : Result T ParseError) → ((bytes : List ℕ) → AreAlike (one bytes) (other bytes))
-    → IfSome told (λ bytes. IsOk (one bytes) → AreHeld old rs → IsOk r) → IfSome told (λ bytes. IsOk (other bytes) → AreHeld old rs → IsOk r)
+    → IfSome told (λ bytes. IsOk (one bytes) → AreCached old rs → IsOk r) → IfSome told (λ bytes. IsOk (other bytes) → AreCached old rs → IsOk r)
 told_accepted None old rs one other r same h = tt
-told_accepted (Some bytes) old rs one other r same h = λ ok held. h (ok_alike (one bytes) (other bytes) (same bytes) ok) held
+told_accepted (Some bytes) old rs one other r same h = λ ok cached. h (ok_alike (one bytes) (other bytes) (same bytes) ok) cached
 
 pub leaves_alike : {E T Y : Type 0} (old new : Seen E) (rs : List (ℕ × ℕ)) (shown : T → Y) (one other : List ℕ → Result Y ParseError) (r : Result T ParseError) → ((bytes : List ℕ) → AreAlike (one bytes) (other bytes))
     → Leaves rs shown one old new r → Leaves rs shown other old new r
 leaves_alike old new rs shown one other r same h = record {
   keeps = h.keeps;
   loaded = h.loaded;
-  answers = told_answers old.content shown one other old.faults new.faults old.can_fail r same h.answers;
+  answers = told_answers old.content shown one other old.failures new.failures old.can_fail r same h.answers;
   accepted = told_accepted old.content old rs one other r same h.accepted;
   untouched = h.untouched;
   needed = h.needed;
@@ -137,7 +137,7 @@ leaves_alike old new rs shown one other r same h = record {
 
 -- the load of a plan was refused
 pub plan_refused : {E T : Type 0} (little : E → Bool) (old new : Seen E) (shown : T → Option Versions) (plan : VersionPlan) (e : ParseError) (r : Result T ParseError) → r ≡ Err e
-    → version_plan (headers_alone little old) ≡ Ok (Some plan) → Loads (plan_asked plan) old new (Err e) → Leaves (versions_asked (headers_alone little old)) shown (λ bytes. versions_by_plan (stream_file little old bytes)) old new r
+    → version_plan (headers_alone little old) ≡ Ok (Some plan) → Loads (plan_ranges plan) old new (Err e) → Leaves (versions_ranges (headers_alone little old)) shown (λ bytes. versions_by_plan (stream_file little old bytes)) old new r
 plan_refused little old new shown plan e r is chosen loads =
-    chosen_refused old new plan_asked shown (λ choice bytes. choice >>= if_found (versions_by (stream_file little old bytes))) (version_plan (headers_alone little old)) plan e r is chosen
+    chosen_refused old new plan_ranges shown (λ choice bytes. choice >>= if_found (versions_by (stream_file little old bytes))) (version_plan (headers_alone little old)) plan e r is chosen
     (λ bytes ok. plan_needs (stream_file little old bytes) plan (ok_inside Some (versions_by (stream_file little old bytes) plan) ok)) loads

@@ -5,12 +5,12 @@ use Rattle.elf_parts.specs.Number.{bytes_at}
 use Rattle.elf_parts.specs.declared.parse.ParseError.{ParseError}
 use Rattle.elf.specs.Ranges.{if_chosen}
 use Rattle.elf.specs.inner.Loads.{HasReason, AreLow, AreThere, Loads}
-use Rattle.elf.specs.ElfStream.{IsAnswer, IsFor, IsNeeded, IsRefused, Kind, is_held, kind, Seen, AreHeld, IsHeld, Keeps, Leaves}
+use Rattle.elf.specs.ElfStream.{IsAnswer, IsFor, IsNeeded, IsRefused, Kind, is_cached, kind, Seen, AreCached, IsCached, Keeps, Leaves}
 use Rattle.elf.proofs.stream.Pieces.{read_is_within}
 
 pub refused_so : (k : Kind) (P Q : Type 0) (before middle now : ℕ) (can_fail : Bool) → (P → Q) → middle ≡ before → IsRefused middle now can_fail P k → IsRefused before now can_fail Q k
-refused_so Kind.Failure P Q before middle now can_fail so same h = let up = h.0 in (omega arith, h.1)
-refused_so Kind.Want P Q before middle now can_fail so same h = h ∙ same
+refused_so Kind.SourceFailure P Q before middle now can_fail so same h = let up = h.0 in (omega arith, h.1)
+refused_so Kind.AllocationFailure P Q before middle now can_fail so same h = h ∙ same
 refused_so Kind.Refusal P Q before middle now can_fail so same h = (h.0 ∙ same, so h.1)
 
 pub keeps_then : {E : Type 0} (old middle new : Seen E) → Keeps old middle → Keeps middle new → Keeps old new
@@ -21,24 +21,24 @@ keeps_then old middle new a b = record {
   declares_sections = b.declares_sections ∙ a.declares_sections;
   sections = b.sections ∙ a.sections;
   segments = b.segments ∙ a.segments;
-  held = λ start end h. b.held start end (a.held start end h);
+  cached = λ start end h. b.cached start end (a.cached start end h);
 }
 
-still_held : {E : Type 0} (old new : Seen E) (rs : List (ℕ × ℕ)) → Keeps old new → AreHeld old rs → AreHeld new rs
-still_held old new [] keeps h = tt
-still_held old new (r ∷ rs) keeps h = (keeps.held r.0 (r.0 + r.1) h.0, still_held old new rs keeps h.1)
+still_cached : {E : Type 0} (old new : Seen E) (rs : List (ℕ × ℕ)) → Keeps old new → AreCached old rs → AreCached new rs
+still_cached old new [] keeps h = tt
+still_cached old new (r ∷ rs) keeps h = (keeps.cached r.0 (r.0 + r.1) h.0, still_cached old new rs keeps h.1)
 
-held_append : {E : Type 0} (s : Seen E) (rs qs : List (ℕ × ℕ)) → AreHeld s rs → AreHeld s qs → AreHeld s (rs ++ qs)
-held_append s [] qs a b = b
-held_append s (r ∷ rs) qs a b = (a.0, held_append s rs qs a.1 b)
+cached_append : {E : Type 0} (s : Seen E) (rs qs : List (ℕ × ℕ)) → AreCached s rs → AreCached s qs → AreCached s (rs ++ qs)
+cached_append s [] qs a b = b
+cached_append s (r ∷ rs) qs a b = (a.0, cached_append s rs qs a.1 b)
 
-held_front : {E : Type 0} (s : Seen E) (rs qs : List (ℕ × ℕ)) → AreHeld s (rs ++ qs) → AreHeld s rs
-held_front s [] qs h = tt
-held_front s (r ∷ rs) qs h = (h.0, held_front s rs qs h.1)
+cached_front : {E : Type 0} (s : Seen E) (rs qs : List (ℕ × ℕ)) → AreCached s (rs ++ qs) → AreCached s rs
+cached_front s [] qs h = tt
+cached_front s (r ∷ rs) qs h = (h.0, cached_front s rs qs h.1)
 
-held_back : {E : Type 0} (s : Seen E) (rs qs : List (ℕ × ℕ)) → AreHeld s (rs ++ qs) → AreHeld s qs
-held_back s [] qs h = h
-held_back s (r ∷ rs) qs h = held_back s rs qs h.1
+cached_back : {E : Type 0} (s : Seen E) (rs qs : List (ℕ × ℕ)) → AreCached s (rs ++ qs) → AreCached s qs
+cached_back s [] qs h = h
+cached_back s (r ∷ rs) qs h = cached_back s rs qs h.1
 
 low_append : (rs qs : List (ℕ × ℕ)) → AreLow rs → AreLow qs → AreLow (rs ++ qs)
 low_append [] qs a b = b
@@ -59,13 +59,13 @@ there_append bytes (r ∷ rs) qs a b = (a.0, there_append bytes rs qs a.1 b)
 -- ---- which range the source and memory are needed for
 
 for_so : (P Q : Type 0) (k : Kind) → (P → Q) → IsFor P k → IsFor Q k
-for_so P Q Kind.Failure so h = so h
-for_so P Q Kind.Want so h = so h
+for_so P Q Kind.SourceFailure so h = so h
+for_so P Q Kind.AllocationFailure so h = so h
 for_so P Q Kind.Refusal so h = tt
 
 needed_front : {E : Type 0} (bytes : List ℕ) (s : Seen E) (rs qs : List (ℕ × ℕ)) → IsNeeded bytes s rs → IsNeeded bytes s (rs ++ qs)
 needed_front bytes s [] qs h = absurd h
-needed_front bytes s (r ∷ rs) qs h = (h.0, λ held. needed_front bytes s rs qs (h.1 held))
+needed_front bytes s (r ∷ rs) qs h = (h.0, λ cached. needed_front bytes s rs qs (h.1 cached))
 
 needed_back : {E : Type 0} (bytes : List ℕ) (s : Seen E) (rs qs : List (ℕ × ℕ)) → AreThere bytes rs → IsNeeded bytes s qs → IsNeeded bytes s (rs ++ qs)
 needed_back bytes s [] qs there h = h
@@ -77,7 +77,7 @@ pub refused_not : {A E : Type 0} (x : Result A E) → IsErr x → IsOk x → ⊥
 refused_not (Ok a) missing there = cc
 refused_not (Err e) missing there = cc
 
-loaded_one : {E : Type 0} (new : Seen E) (start size : ℕ) (r : Result (Unit {0}) ParseError) → OnOk r ((start + size < 2 ^ 64) × IsHeld new start (start + size)) → OnOk r (AreLow ((start, size) ∷ []) × AreHeld new ((start, size) ∷ []))
+loaded_one : {E : Type 0} (new : Seen E) (start size : ℕ) (r : Result (Unit {0}) ParseError) → OnOk r ((start + size < 2 ^ 64) × IsCached new start (start + size)) → OnOk r (AreLow ((start, size) ∷ []) × AreCached new ((start, size) ∷ []))
 loaded_one new start size (Ok x) h = ((h.0, tt), (h.1, tt))
 loaded_one new start size (Err e) h = tt
 
@@ -88,10 +88,10 @@ reason_one None start size before now can_fail r h = tt
 reason_one (Some bytes) start size before now can_fail (Ok x) h = h.0
 reason_one (Some bytes) start size before now can_fail (Err e) h = refused_so (kind e) _ _ before before now can_fail (λ missing there. refused_not (bytes_at size bytes start) missing there.0) refl h
 
-accepted_one : {E : Type 0} (told : Option (List ℕ)) (old : Seen E) (start size : ℕ) (r : Result (Unit {0}) ParseError) → (start + size < 2 ^ 64 → IsHeld old start (start + size) → IsOk r)
-    → IfSome told (λ bytes. AreThere bytes ((start, size) ∷ []) → AreHeld old ((start, size) ∷ []) → IsOk r)
+accepted_one : {E : Type 0} (told : Option (List ℕ)) (old : Seen E) (start size : ℕ) (r : Result (Unit {0}) ParseError) → (start + size < 2 ^ 64 → IsCached old start (start + size) → IsOk r)
+    → IfSome told (λ bytes. AreThere bytes ((start, size) ∷ []) → AreCached old ((start, size) ∷ []) → IsOk r)
 accepted_one None old start size r h = tt
-accepted_one (Some bytes) old start size r h = λ there held. h (read_is_within bytes start size there.0).0 held.0
+accepted_one (Some bytes) old start size r h = λ there cached. h (read_is_within bytes start size there.0).0 cached.0
 
 there_one : (told : Option (List ℕ)) (start size before now : ℕ) (can_fail : Bool) (r : Result (Unit {0}) ParseError)
     → IfSome told (λ bytes. IsAnswer (λ _. take size (drop start bytes)) (bytes_at size bytes start) can_fail before now r)
@@ -100,33 +100,33 @@ there_one None start size before now can_fail r h = tt
 there_one (Some bytes) start size before now can_fail (Ok x) h = (ap is_ok h.1, tt)
 there_one (Some bytes) start size before now can_fail (Err e) h = tt
 
-not_held : {E : Type 0} (old new : Seen E) (start size : ℕ) (e : ParseError) → new.kept ≡ old.kept → (start + size < 2 ^ 64 → IsHeld old start (start + size) → IsOk {T = Unit {0}} (Err e))
-    → start + size < 2 ^ 64 → IsHeld new start (start + size) → ⊥
-not_held old new start size e same held low h = let ok = held low (subst (λ kept. IsTrue (is_held kept start (start + size))) same h) in cc
+not_cached : {E : Type 0} (old new : Seen E) (start size : ℕ) (e : ParseError) → new.cached ≡ old.cached → (start + size < 2 ^ 64 → IsCached old start (start + size) → IsOk {T = Unit {0}} (Err e))
+    → start + size < 2 ^ 64 → IsCached new start (start + size) → ⊥
+not_cached old new start size e same cached low h = let ok = cached low (subst (λ cached. IsTrue (is_cached cached start (start + size))) same h) in cc
 
-needed_one : {E : Type 0} (told : Option (List ℕ)) (old new : Seen E) (start size : ℕ) (r : Result (Unit {0}) ParseError) → OnErr r (new.kept ≡ old.kept)
-    → (start + size < 2 ^ 64 → IsHeld old start (start + size) → IsOk r)
+needed_one : {E : Type 0} (told : Option (List ℕ)) (old new : Seen E) (start size : ℕ) (r : Result (Unit {0}) ParseError) → OnErr r (new.cached ≡ old.cached)
+    → (start + size < 2 ^ 64 → IsCached old start (start + size) → IsOk r)
     → IfSome told (λ bytes. IfErr r (λ e. IsFor (IsOk (bytes_at size bytes start)) (kind e)))
     → IfSome told (λ bytes. IfErr r (λ e. IsFor (IsNeeded bytes new ((start, size) ∷ [])) (kind e)))
-needed_one None old new start size r same held h = tt
-needed_one (Some bytes) old new start size (Ok x) same held h = tt
-needed_one (Some bytes) old new start size (Err e) same held h =
-    for_so _ _ (kind e) (λ there. (there, not_held old new start size e same held (read_is_within bytes start size there).0)) h
+needed_one None old new start size r same cached h = tt
+needed_one (Some bytes) old new start size (Ok x) same cached h = tt
+needed_one (Some bytes) old new start size (Err e) same cached h =
+    for_so _ _ (kind e) (λ there. (there, not_cached old new start size e same cached (read_is_within bytes start size there).0)) h
 
-pub loads_one : {E : Type 0} (old new : Seen E) (start size : ℕ) (r : Result (Unit {0}) ParseError) → Keeps old new → OnOk r ((start + size < 2 ^ 64) × IsHeld new start (start + size))
-    → (start + size < 2 ^ 64 → IsHeld old start (start + size) → IsOk r)
-    → IfSome old.content (λ bytes. IsAnswer (λ _. take size (drop start bytes)) (bytes_at size bytes start) old.can_fail old.faults new.faults r)
-    → OnErr r (new.kept ≡ old.kept) → (IsHeld old start (start + size) → (new ≡ old) × IfErr r (λ e. kind e ≡ Kind.Refusal))
+pub loads_one : {E : Type 0} (old new : Seen E) (start size : ℕ) (r : Result (Unit {0}) ParseError) → Keeps old new → OnOk r ((start + size < 2 ^ 64) × IsCached new start (start + size))
+    → (start + size < 2 ^ 64 → IsCached old start (start + size) → IsOk r)
+    → IfSome old.content (λ bytes. IsAnswer (λ _. take size (drop start bytes)) (bytes_at size bytes start) old.can_fail old.failures new.failures r)
+    → OnErr r (new.cached ≡ old.cached) → (IsCached old start (start + size) → (new ≡ old) × IfErr r (λ e. kind e ≡ Kind.Refusal))
     → IfSome old.content (λ bytes. IfErr r (λ e. IsFor (IsOk (bytes_at size bytes start)) (kind e)))
     → Loads ((start, size) ∷ []) old new r
-loads_one old new start size r keeps loaded held answer same untouched needed = record {
+loads_one old new start size r keeps loaded cached answer same untouched needed = record {
   keeps = keeps;
   loaded = loaded_one new start size r loaded;
-  there = there_one old.content start size old.faults new.faults old.can_fail r answer;
-  reason = reason_one old.content start size old.faults new.faults old.can_fail r answer;
-  accepted = accepted_one old.content old start size r held;
+  there = there_one old.content start size old.failures new.failures old.can_fail r answer;
+  reason = reason_one old.content start size old.failures new.failures old.can_fail r answer;
+  accepted = accepted_one old.content old start size r cached;
   untouched = λ h. untouched h.0;
-  needed = needed_one old.content old new start size r same held needed;
+  needed = needed_one old.content old new start size r same cached needed;
 }
 
 -- ---- one load after another
@@ -137,9 +137,9 @@ stopped_reason None rs qs before now can_fail e h = tt
 stopped_reason (Some bytes) rs qs before now can_fail e h = refused_so (kind e) _ _ before before now can_fail (λ missing there. missing (there_front bytes rs qs there)) refl h
 
 stopped_accepted : {E : Type 0} (told : Option (List ℕ)) (old : Seen E) (rs qs : List (ℕ × ℕ)) (e : ParseError)
-    → IfSome told (λ bytes. AreThere bytes rs → AreHeld old rs → IsOk {T = Unit {0}} (Err e)) → IfSome told (λ bytes. AreThere bytes (rs ++ qs) → AreHeld old (rs ++ qs) → IsOk {T = Unit {0}} (Err e))
+    → IfSome told (λ bytes. AreThere bytes rs → AreCached old rs → IsOk {T = Unit {0}} (Err e)) → IfSome told (λ bytes. AreThere bytes (rs ++ qs) → AreCached old (rs ++ qs) → IsOk {T = Unit {0}} (Err e))
 stopped_accepted None old rs qs e h = tt
-stopped_accepted (Some bytes) old rs qs e h = λ there held. h (there_front bytes rs qs there) (held_front old rs qs held)
+stopped_accepted (Some bytes) old rs qs e h = λ there cached. h (there_front bytes rs qs there) (cached_front old rs qs cached)
 
 stopped_needed : {E : Type 0} (told : Option (List ℕ)) (new : Seen E) (rs qs : List (ℕ × ℕ)) (e : ParseError)
     → IfSome told (λ bytes. IsFor (IsNeeded bytes new rs) (kind e)) → IfSome told (λ bytes. IsFor (IsNeeded bytes new (rs ++ qs)) (kind e))
@@ -156,14 +156,14 @@ loads_stop old new rs qs e h = record {
   keeps = h.keeps;
   loaded = tt;
   there = none_there old.content rs qs e;
-  reason = stopped_reason old.content rs qs old.faults new.faults old.can_fail e h.reason;
+  reason = stopped_reason old.content rs qs old.failures new.failures old.can_fail e h.reason;
   accepted = stopped_accepted old.content old rs qs e h.accepted;
-  untouched = λ held. h.untouched (held_front old rs qs held);
+  untouched = λ cached. h.untouched (cached_front old rs qs cached);
   needed = stopped_needed old.content new rs qs e h.needed;
 }
 
-then_loaded : {E : Type 0} (middle new : Seen E) (rs qs : List (ℕ × ℕ)) (r : Result (Unit {0}) ParseError) → Keeps middle new → AreLow rs × AreHeld middle rs → OnOk r (AreLow qs × AreHeld new qs) → OnOk r (AreLow (rs ++ qs) × AreHeld new (rs ++ qs))
-then_loaded middle new rs qs (Ok x) keeps a b = (low_append rs qs a.0 b.0, held_append new rs qs (still_held middle new rs keeps a.1) b.1)
+then_loaded : {E : Type 0} (middle new : Seen E) (rs qs : List (ℕ × ℕ)) (r : Result (Unit {0}) ParseError) → Keeps middle new → AreLow rs × AreCached middle rs → OnOk r (AreLow qs × AreCached new qs) → OnOk r (AreLow (rs ++ qs) × AreCached new (rs ++ qs))
+then_loaded middle new rs qs (Ok x) keeps a b = (low_append rs qs a.0 b.0, cached_append new rs qs (still_cached middle new rs keeps a.1) b.1)
 then_loaded middle new rs qs (Err e) keeps a b = tt
 
 then_reason : (told : Option (List ℕ)) (rs qs : List (ℕ × ℕ)) (before middle now : ℕ) (can_fail : Bool) (r : Result (Unit {0}) ParseError) → IfSome told (λ _. middle ≡ before)
@@ -173,9 +173,9 @@ then_reason (Some bytes) rs qs before middle now can_fail (Ok x) same h = h ∙ 
 then_reason (Some bytes) rs qs before middle now can_fail (Err e) same h = refused_so (kind e) _ _ before middle now can_fail (λ missing there. missing (there_back bytes rs qs there)) same h
 
 then_accepted : {E : Type 0} (told : Option (List ℕ)) (old middle : Seen E) (rs qs : List (ℕ × ℕ)) (r : Result (Unit {0}) ParseError) → Keeps old middle
-    → IfSome told (λ bytes. AreThere bytes qs → AreHeld middle qs → IsOk r) → IfSome told (λ bytes. AreThere bytes (rs ++ qs) → AreHeld old (rs ++ qs) → IsOk r)
+    → IfSome told (λ bytes. AreThere bytes qs → AreCached middle qs → IsOk r) → IfSome told (λ bytes. AreThere bytes (rs ++ qs) → AreCached old (rs ++ qs) → IsOk r)
 then_accepted None old middle rs qs r keeps h = tt
-then_accepted (Some bytes) old middle rs qs r keeps h = λ there held. h (there_back bytes rs qs there) (still_held old middle qs keeps (held_back old rs qs held))
+then_accepted (Some bytes) old middle rs qs r keeps h = λ there cached. h (there_back bytes rs qs there) (still_cached old middle qs keeps (cached_back old rs qs cached))
 
 then_there : (told : Option (List ℕ)) (rs qs : List (ℕ × ℕ)) (r : Result (Unit {0}) ParseError) → IfSome told (λ bytes. AreThere bytes rs)
     → IfSome told (λ bytes. OnOk r (AreThere bytes qs)) → IfSome told (λ bytes. OnOk r (AreThere bytes (rs ++ qs)))
@@ -190,10 +190,10 @@ then_needed (Some bytes) new rs qs (Ok x) a b = tt
 then_needed (Some bytes) new rs qs (Err e) a b = for_so _ _ (kind e) (needed_back bytes new rs qs a) b
 
 then_untouched : {E : Type 0} (old middle new : Seen E) (rs qs : List (ℕ × ℕ)) (x : Unit {0}) (r : Result (Unit {0}) ParseError) → Loads rs old middle (Ok x) → Loads qs middle new r
-    → AreHeld old (rs ++ qs) → (new ≡ old) × IfErr r (λ e. kind e ≡ Kind.Refusal)
-then_untouched old middle new rs qs x r a b held =
-    let first = a.untouched (held_front old rs qs held) in
-    let second = b.untouched (subst (λ s. AreHeld s qs) (sym first.0) (held_back old rs qs held)) in
+    → AreCached old (rs ++ qs) → (new ≡ old) × IfErr r (λ e. kind e ≡ Kind.Refusal)
+then_untouched old middle new rs qs x r a b cached =
+    let first = a.untouched (cached_front old rs qs cached) in
+    let second = b.untouched (subst (λ s. AreCached s qs) (sym first.0) (cached_back old rs qs cached)) in
     (second.0 ∙ first.0, second.1)
 
 -- the second load is made after the first
@@ -203,11 +203,11 @@ loads_then {E} old middle new rs qs x r a b =
     let nature : middle.can_fail ≡ old.can_fail = a.keeps.can_fail in record {
       keeps = keeps_then old middle new a.keeps b.keeps;
       loaded = then_loaded middle new rs qs r b.keeps a.loaded b.loaded;
-      reason = then_reason old.content rs qs old.faults middle.faults new.faults old.can_fail r a.reason
-          (subst (λ can_fail. IfSome old.content (λ bytes. HasReason middle.faults new.faults can_fail (AreThere bytes qs → ⊥) r)) nature
-          (subst (λ told. IfSome told (λ bytes. HasReason middle.faults new.faults middle.can_fail (AreThere bytes qs → ⊥) r)) same b.reason));
+      reason = then_reason old.content rs qs old.failures middle.failures new.failures old.can_fail r a.reason
+          (subst (λ can_fail. IfSome old.content (λ bytes. HasReason middle.failures new.failures can_fail (AreThere bytes qs → ⊥) r)) nature
+          (subst (λ told. IfSome told (λ bytes. HasReason middle.failures new.failures middle.can_fail (AreThere bytes qs → ⊥) r)) same b.reason));
       there = then_there old.content rs qs r a.there (subst (λ told. IfSome told (λ bytes. OnOk r (AreThere bytes qs))) same b.there);
-      accepted = then_accepted old.content old middle rs qs r a.keeps (subst (λ told. IfSome told (λ bytes. AreThere bytes qs → AreHeld middle qs → IsOk r)) same b.accepted);
+      accepted = then_accepted old.content old middle rs qs r a.keeps (subst (λ told. IfSome told (λ bytes. AreThere bytes qs → AreCached middle qs → IsOk r)) same b.accepted);
       untouched = then_untouched old middle new rs qs x r a b;
       needed = then_needed old.content new rs qs r a.there (subst (λ told. IfSome told (λ bytes. IfErr r (λ e. IsFor (IsNeeded bytes new qs) (kind e)))) same b.needed);
     }
@@ -224,9 +224,9 @@ refused_answer None rs shown answer before now can_fail e needs h = tt
 refused_answer (Some bytes) rs shown answer before now can_fail e needs h = refused_so (kind e) _ _ before before now can_fail (λ missing. not_ok (answer bytes) (λ ok. missing (needs bytes ok))) refl h
 
 refused_accepted : {E Y : Type 0} (T : Type 0) (told : Option (List ℕ)) (old : Seen E) (rs : List (ℕ × ℕ)) (answer : List ℕ → Result Y ParseError) (e : ParseError) → ((bytes : List ℕ) → IsOk (answer bytes) → AreThere bytes rs)
-    → IfSome told (λ bytes. AreThere bytes rs → AreHeld old rs → IsOk {T = Unit {0}} (Err e)) → IfSome told (λ bytes. IsOk (answer bytes) → AreHeld old rs → IsOk {T = T} (Err e))
+    → IfSome told (λ bytes. AreThere bytes rs → AreCached old rs → IsOk {T = Unit {0}} (Err e)) → IfSome told (λ bytes. IsOk (answer bytes) → AreCached old rs → IsOk {T = T} (Err e))
 refused_accepted T None old rs answer e needs h = tt
-refused_accepted T (Some bytes) old rs answer e needs h = λ ok held. h (needs bytes ok) held
+refused_accepted T (Some bytes) old rs answer e needs h = λ ok cached. h (needs bytes ok) cached
 
 -- the loads were refused of ranges that an accepted answer needs
 pub leaves_refused : {E T Y : Type 0} (old new : Seen E) (rs : List (ℕ × ℕ)) (shown : T → Y) (answer : List ℕ → Result Y ParseError) (e : ParseError) (r : Result T ParseError) → r ≡ Err e
@@ -234,7 +234,7 @@ pub leaves_refused : {E T Y : Type 0} (old new : Seen E) (rs : List (ℕ × ℕ)
 leaves_refused {E} {T} {Y} old new rs shown answer e r is needs h = rw is (record {
   keeps = h.keeps;
   loaded = tt;
-  answers = refused_answer old.content rs shown answer old.faults new.faults old.can_fail e needs h.reason;
+  answers = refused_answer old.content rs shown answer old.failures new.failures old.can_fail e needs h.reason;
   accepted = refused_accepted T old.content old rs answer e needs h.accepted;
   untouched = h.untouched;
   needed = h.needed;

@@ -7,7 +7,7 @@ use Rattle.elf_parts.specs.Record.{◌>>=◌, RecordType, size_of}
 use Rattle.elf_parts.specs.declared.file.FileHeader.{FileHeader}
 use Rattle.elf_parts.specs.Table.{Table, table_in, table_items}
 use Rattle.elf_parts.specs.declared.parse.ParseError.{ParseError}
-use Rattle.elf.specs.ElfStream.{Kind, Want}
+use Rattle.elf.specs.ElfStream.{Kind, AllocationFailure}
 
 -- the identification in the first sixteen bytes
 abbrev pub front_ident : {E : Type 0} → (ℕ → Option E) → List ℕ → Result (Ident E) ParseError
@@ -18,7 +18,7 @@ abbrev pub tail_header : {E : Type 0} → (E → Bool) → List ℕ → Ident E 
 tail_header little bytes ident =
     bytes_at (size_of (tail_fields ident.1)) bytes ei_nident >>= λ tail. header_with_tail little ident tail
 
--- the bytes of a range, which is told by its start and its end
+-- the bytes of a range, given by its start and its end
 abbrev pub range_bytes : List ℕ → ℕ × ℕ → List ℕ
 range_bytes bytes range = take (range.1 - range.0) (drop range.0 bytes)
 
@@ -31,7 +31,7 @@ abbrev pub range_records : {A : Type 0} → RecordType A → Option Table → Li
 range_records reads None = []
 range_records reads (Some t) = table_items reads t
 
--- a refusal that is no want of memory
-abbrev pub IsNoWant : Kind → Type 0
-IsNoWant Want = ⊥
-IsNoWant _ = Unit {0}
+-- an error that is no allocation failure
+abbrev pub IsNoAllocationFailure : Kind → Type 0
+IsNoAllocationFailure AllocationFailure = ⊥
+IsNoAllocationFailure _ = Unit {0}

@@ -1,9 +1,9 @@
--- What the private calls of a stream leave that load ranges and lend nothing.
+-- What the private calls of a stream leave that load ranges and return no borrow.
 use Rattle.std.specs.Prelude.{◌≡◌, ℕ, ◌+◌, ◌^◌, ◌<◌, Bool, List, [], ◌∷◌, Result, Ok, Err}
 use Rattle.std.specs.Prelude.{IfSome, IfErr, OnOk, IsOk, IsErr}
 use Rattle.elf_parts.specs.Number.{bytes_at}
 use Rattle.elf_parts.specs.declared.parse.ParseError.{ParseError}
-use Rattle.elf.specs.ElfStream.{Seen, AreHeld, IsFor, IsNeeded, IsRefused, Keeps, Kind, kind}
+use Rattle.elf.specs.ElfStream.{Seen, AreCached, IsFor, IsNeeded, IsRefused, Keeps, Kind, kind}
 
 -- none of the ranges ends past 64 bits
 abbrev pub AreLow : List (ℕ × ℕ) → Type 0
@@ -15,31 +15,31 @@ abbrev pub AreThere : List ℕ → List (ℕ × ℕ) → Type 0
 AreThere bytes [] = Unit {0}
 AreThere bytes (r ∷ rs) = IsOk (bytes_at r.1 bytes r.0) × AreThere bytes rs
 
--- a refusal has its reason, and an Ok leaves the count of failures
+-- an error has its reason, and an Ok leaves the count of failures
 abbrev pub HasReason : {T : Type 0} → ℕ → ℕ → Bool → Type 0 → Result T ParseError → Type 0
 HasReason before now can_fail none (Ok _) = now ≡ before
 HasReason before now can_fail none (Err e) = IsRefused before now can_fail none (kind e)
 
--- The same file, no held range lost, and after an Ok the ranges there and held. A load is refused for a failure of the
--- source, for want of memory, or where one of the ranges is not there; it is accepted where they are there and were
--- held, and touches the source and memory only for one that is there and was not.
+-- The same file, no cached range lost, and after an Ok the ranges lie in the content and are cached. A load fails for a
+-- failure of the source or of the allocation, or if one of the ranges does not lie in the content. It succeeds if they
+-- lie there and were cached, and it touches the source and memory only for one that lies there and was not cached.
 pub record Loads {E : Type 0} (rs : List (ℕ × ℕ))
     (old new : Seen E) (r : Result (Unit {0}) ParseError) : Type 0 where
   pub keeps : Keeps old new
-  pub loaded : OnOk r (AreLow rs × AreHeld new rs)
+  pub loaded : OnOk r (AreLow rs × AreCached new rs)
   pub there : IfSome old.content (λ bytes. OnOk r (AreThere bytes rs))
-  pub reason : IfSome old.content (λ bytes. HasReason old.faults new.faults old.can_fail (AreThere bytes rs → ⊥) r)
-  pub accepted : IfSome old.content (λ bytes. AreThere bytes rs → AreHeld old rs → IsOk r)
-  pub untouched : AreHeld old rs → (new ≡ old) × IfErr r (λ e. kind e ≡ Kind.Refusal)
+  pub reason : IfSome old.content (λ bytes. HasReason old.failures new.failures old.can_fail (AreThere bytes rs → ⊥) r)
+  pub accepted : IfSome old.content (λ bytes. AreThere bytes rs → AreCached old rs → IsOk r)
+  pub untouched : AreCached old rs → (new ≡ old) × IfErr r (λ e. kind e ≡ Kind.Refusal)
   pub needed : IfSome old.content (λ bytes. IfErr r (λ e. IsFor (IsNeeded bytes new rs) (kind e)))
 
--- The same of a load that is made for an answer: it is refused for a failure, for want, or where the answer is a
--- refusal.
+-- The same of a load that is made for an answer: it fails for a failure of the source or of the allocation, or if the
+-- answer is an error.
 pub record LoadsFor {E Y : Type 0} (rs : List (ℕ × ℕ)) (answer : List ℕ → Result Y ParseError)
     (old new : Seen E) (r : Result (Unit {0}) ParseError) : Type 0 where
   pub keeps : Keeps old new
-  pub loaded : OnOk r (AreLow rs × AreHeld new rs)
-  pub reason : IfSome old.content (λ bytes. HasReason old.faults new.faults old.can_fail (IsErr (answer bytes)) r)
-  pub accepted : IfSome old.content (λ bytes. IsOk (answer bytes) → AreHeld old rs → IsOk r)
-  pub untouched : AreHeld old rs → (new ≡ old) × IfErr r (λ e. kind e ≡ Kind.Refusal)
+  pub loaded : OnOk r (AreLow rs × AreCached new rs)
+  pub reason : IfSome old.content (λ bytes. HasReason old.failures new.failures old.can_fail (IsErr (answer bytes)) r)
+  pub accepted : IfSome old.content (λ bytes. IsOk (answer bytes) → AreCached old rs → IsOk r)
+  pub untouched : AreCached old rs → (new ≡ old) × IfErr r (λ e. kind e ≡ Kind.Refusal)
   pub needed : IfSome old.content (λ bytes. IfErr r (λ e. IsFor (IsNeeded bytes new rs) (kind e)))

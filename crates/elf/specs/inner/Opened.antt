@@ -1,4 +1,4 @@
--- What every stream keeps: its buffers are the content's bytes, and its tables those of the file that the content
+-- What is true of every stream: its buffers are the content's bytes, and its tables those of the file that the content
 -- holds.
 use Rattle.std.specs.Prelude.{◌≡◌, ℕ, Bool, List, Option, Ok, IfSome, is_some}
 use Rattle.elf_parts.specs.declared.section.SectionHeader.{SectionHeader}
@@ -15,8 +15,8 @@ AreTables {E} little of_byte bytes declares_sections sections segments =
     (v : View E) × (opened little of_byte bytes ≡ Ok v) × (declares_sections ≡ is_some v.sections)
     × (sections ≡ section_list v.sections) × (segments ≡ segment_list v.segments)
 
-pub record IsOpened {E : Type 0} (little : E → Bool) (of_byte : ℕ → Option E) (told : Option (List ℕ))
+pub record IsOpened {E : Type 0} (little : E → Bool) (of_byte : ℕ → Option E) (content : Option (List ℕ))
     (size : ℕ) (pieces : List Piece) (declares_sections : Bool)
     (sections : List SectionHeader) (segments : List ProgramHeader) : Type 0 where
-  pub sound : IsSound told size pieces
-  pub tables : IfSome told (λ bytes. AreTables little of_byte bytes declares_sections sections segments)
+  pub sound : IsSound content size pieces
+  pub tables : IfSome content (λ bytes. AreTables little of_byte bytes declares_sections sections segments)

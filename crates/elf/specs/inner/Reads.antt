@@ -3,23 +3,23 @@ use Rattle.std.specs.Prelude.{◌≡◌, ℕ, List, length, Result, IfErr, IfSom
 use Rattle.elf_parts.specs.declared.parse.ParseError.{ParseError}
 use Rattle.elf.specs.ElfStream.{IsAnswer, kind}
 use Rattle.elf.specs.declared.source.StreamSource as source
-use Rattle.elf.specs.inner.HeaderSteps.{IsNoWant}
+use Rattle.elf.specs.inner.HeaderSteps.{IsNoAllocationFailure}
 
 -- where the content is known, this is its length
 abbrev pub HasLength : {S : Type 0} → source.Ghosts S → S → ℕ → Type 0
-HasLength told s len = IfSome (told.content s) (λ bytes. len ≡ length bytes)
+HasLength ghosts s len = IfSome (ghosts.content s) (λ bytes. len ≡ length bytes)
 
 -- The source is the same one, the answer is the content's, and no memory was wanted.
-pub record ReadsAs {S T Y : Type 0} (told : source.Ghosts S) (shown : List ℕ → T → Y)
+pub record ReadsAs {S T Y : Type 0} (ghosts : source.Ghosts S) (shown : List ℕ → T → Y)
     (gives : List ℕ → Result Y ParseError) (old new : S) (r : Result T ParseError) : Type 0 where
-  pub content : told.content new ≡ told.content old
-  pub nature : told.can_fail new ≡ told.can_fail old
-  pub answer : IfSome (told.content old) (λ bytes.
-      IsAnswer (shown bytes) (gives bytes) (told.can_fail old) (told.faults old) (told.faults new) r)
-  pub memory : IfErr r (λ e. IsNoWant (kind e))
+  pub content : ghosts.content new ≡ ghosts.content old
+  pub nature : ghosts.can_fail new ≡ ghosts.can_fail old
+  pub answer : IfSome (ghosts.content old) (λ bytes.
+      IsAnswer (shown bytes) (gives bytes) (ghosts.can_fail old) (ghosts.failures old) (ghosts.failures new) r)
+  pub memory : IfErr r (λ e. IsNoAllocationFailure (kind e))
 
 -- the same of a result that is the content's answer
 abbrev pub Reads :
     {S Y : Type 0} → source.Ghosts S → (List ℕ → Result Y ParseError) →
     S → S → Result Y ParseError → Type 0
-Reads told gives old new r = ReadsAs told (λ _ x. x) gives old new r
+Reads ghosts gives old new r = ReadsAs ghosts (λ _ x. x) gives old new r

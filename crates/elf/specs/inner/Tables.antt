@@ -31,7 +31,7 @@ declared_segments h = record {
   word = ShInfo;
 }
 
--- the word of the first section header that a count stands in
+-- the word of the first section header that has a count
 abbrev pub count_word : CountWord → SectionHeader → ℕ
 count_word ShSize first = first.sh_size
 count_word ShInfo first = first.sh_info

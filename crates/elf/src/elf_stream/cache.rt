@@ -6,7 +6,7 @@ ghost use Rattle.std.specs.BTreeMap.{get_by};
 ghost use Rattle.std.specs.Ordering.{nat_cmp};
 ghost use Rattle.elf.specs.inner.Piece.{Piece, AreSpread, IsPartOf, IsPut, covers, end_of, is_within, piece_of};
 ghost use Rattle.elf.specs.inner.Piece.{range_of};
-ghost use Rattle.elf.specs.ElfStream.{is_held};
+ghost use Rattle.elf.specs.ElfStream.{is_cached};
 ghost use Rattle.elf_parts.specs.declared.parse.ParseError.{ParseError};
 
 use elf_parts::parse::ParseError;
@@ -44,7 +44,7 @@ impl<A: Allocator> Cache<A> {
 
     /// Whether one buffer has all bytes from `start` to `end`.
     pub(super) fn holds(&self, start: u64, end: u64) -> bool
-        ensures { result ≡ is_held (map range_of self.now) start end }
+        ensures { result ≡ is_cached (map range_of self.now) start end }
     {
         self.find(start, end).is_some()
     }
@@ -52,7 +52,7 @@ impl<A: Allocator> Cache<A> {
     // The buffer that has all bytes from `start` to `end`. Of the buffers that start at or before `start` the last one
     // also ends last, so no other buffer can have them.
     fn find(&self, start: u64, end: u64) -> Option<(u64, &[u8])>
-        ensures held { is_some result ≡ is_held (map range_of self.now) start end }
+        ensures cached { is_some result ≡ is_cached (map range_of self.now) start end }
         ensures covers { IfSome result (λ r. Contains self.now (record { start = r.0; bytes = r.1.now })
             × IsTrue (covers start end (record { start = r.0; bytes = r.1.now }))) }
     {
@@ -66,7 +66,7 @@ impl<A: Allocator> Cache<A> {
     /// The bytes from `start` to `end`, which must lie in one buffer.
     pub(super) fn bytes(&self, start: u64, end: u64) -> &[u8]
         requires ordered { start ≤ end }
-        requires held { IsTrue (is_held (map range_of self.now) start end) }
+        requires cached { IsTrue (is_cached (map range_of self.now) start end) }
         ensures { IsPartOf self.now start end result.now }
     {
         match self.find(start, end) {
@@ -82,7 +82,7 @@ impl<A: Allocator> Cache<A> {
     where
         A: Copy,
         requires low { start + length bytes.items < 2 ^ 64 }
-        requires new { is_held (map range_of self.old) start (start + length bytes.items) ≡ false }
+        requires new { is_cached (map range_of self.old) start (start + length bytes.items) ≡ false }
         ensures put { OnOk result (IsPut (record { start = start; bytes = bytes.items }) self.old self.new) }
         ensures refused { IfErr result (λ e. (e ≡ ParseError.OutOfMemory) × (self.new ≡ self.old)) }
     {

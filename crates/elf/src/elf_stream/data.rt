@@ -8,10 +8,10 @@ ghost use Rattle.elf_parts.specs.Table.{items_left, table_items};
 ghost use Rattle.elf.specs.Answers.{relas_left, rels_left, section_data_as_notes};
 ghost use Rattle.elf.specs.Data.{content, content_of_type, section_data, data_view};
 ghost use Rattle.elf.specs.Answers.{section_data_as_relas, section_data_as_rels, section_data_as_strtab};
-ghost use Rattle.elf.specs.Ranges.{section_asked, typed_section_asked};
+ghost use Rattle.elf.specs.Ranges.{section_ranges, typed_section_ranges};
 ghost use Rattle.elf.specs.StreamFile.{stream_file};
 ghost use Rattle.elf.specs.ObjectFile.{table_of};
-ghost use Rattle.elf.specs.ElfStream.{AreHeld, Kind, kind};
+ghost use Rattle.elf.specs.ElfStream.{AreCached, Kind, kind};
 ghost use Rattle.elf.specs.inner.Loads.{AreLow, Loads, LoadsFor};
 
 use super::ElfStream;
@@ -33,7 +33,7 @@ impl<E: EndianParse, S: StreamSource, A: Allocator + Copy> ElfStream<E, S, A> {
 
     // Reads the range of a section into the cache, if the section has bytes.
     pub(super) fn load_section_data(&mut self, shdr: &SectionHeader) -> Result<(), ParseError>
-        ensures { Loads (section_asked shdr.now) self.old self.new result }
+        ensures { Loads (section_ranges shdr.now) self.old self.new result }
     {
         if shdr.sh_type == abi::SHT_NOBITS {
             return Ok(());
@@ -47,8 +47,8 @@ impl<E: EndianParse, S: StreamSource, A: Allocator + Copy> ElfStream<E, S, A> {
         &self,
         shdr: &SectionHeader,
     ) -> Result<(&[u8], Option<CompressionHeader>), ParseError>
-        requires low { AreLow (section_asked shdr.now) }
-        requires held { AreHeld self.now (section_asked shdr.now) }
+        requires low { AreLow (section_ranges shdr.now) }
+        requires cached { AreCached self.now (section_ranges shdr.now) }
         ensures value { IfSome self.now.content (λ bytes.
             ok_map data_view result ≡ section_data (stream_file E.little self.now bytes) shdr.now) }
         ensures within { IfOk result (λ found.
@@ -81,7 +81,7 @@ impl<E: EndianParse, S: StreamSource, A: Allocator + Copy> ElfStream<E, S, A> {
         shdr: &SectionHeader,
     ) -> Result<(&[u8], Option<CompressionHeader>), ParseError>
         ensures* leaves { sem 𝓛 (Lends E.row S.row A.row E.EndianParse S.StreamSource A.Allocator self.entry
-            (λ _. section_asked shdr.now) data_view (λ file. section_data file shdr.now) result) }
+            (λ _. section_ranges shdr.now) data_view (λ file. section_data file shdr.now) result) }
     {
         self.load_section_data(shdr)?;
         self.cached_section_data(shdr)
@@ -89,11 +89,11 @@ impl<E: EndianParse, S: StreamSource, A: Allocator + Copy> ElfStream<E, S, A> {
 
     // Reads the range of a section into the cache. The section must have a given type.
     fn load_content(&mut self, shdr: &SectionHeader, sh_type: u32) -> Result<(), ParseError>
-        ensures loads { LoadsFor (typed_section_asked sh_type shdr.now)
+        ensures loads { LoadsFor (typed_section_ranges sh_type shdr.now)
             (λ bytes. content_of_type sh_type (stream_file E.little self.old bytes) shdr.now)
             self.old self.new result }
         ensures of_type { OnOk result (shdr.now.sh_type ≡ sh_type) }
-        ensures loaded { OnOk result (AreLow (section_asked shdr.now) × AreHeld self.new (section_asked shdr.now)) }
+        ensures loaded { OnOk result (AreLow (section_ranges shdr.now) × AreCached self.new (section_ranges shdr.now)) }
     {
         if shdr.sh_type != sh_type {
             return Err(ParseError::UnexpectedSectionType((shdr.sh_type, sh_type)));
@@ -103,8 +103,8 @@ impl<E: EndianParse, S: StreamSource, A: Allocator + Copy> ElfStream<E, S, A> {
 
     // The cached bytes of a section, without its compression header.
     fn cached_content(&self, shdr: &SectionHeader) -> Result<&[u8], ParseError>
-        requires low { AreLow (section_asked shdr.now) }
-        requires held { AreHeld self.now (section_asked shdr.now) }
+        requires low { AreLow (section_ranges shdr.now) }
+        requires cached { AreCached self.now (section_ranges shdr.now) }
         ensures value { IfSome self.now.content (λ bytes. ok_map (λ part. part.now) result
             ≡ content (stream_file E.little self.now bytes) shdr.now) }
         ensures within { IfOk result (λ part. IfSome self.now.content (λ bytes. length part.now ≤ length bytes)) }
@@ -117,8 +117,8 @@ impl<E: EndianParse, S: StreamSource, A: Allocator + Copy> ElfStream<E, S, A> {
     // The strings of a section, whose bytes are cached.
     fn cached_strtab(&self, shdr: &SectionHeader) -> Result<StringTable<'_>, ParseError>
         requires of_type { shdr.now.sh_type ≡ sht_strtab }
-        requires low { AreLow (section_asked shdr.now) }
-        requires held { AreHeld self.now (section_asked shdr.now) }
+        requires low { AreLow (section_ranges shdr.now) }
+        requires cached { AreCached self.now (section_ranges shdr.now) }
         ensures value { IfSome self.now.content (λ bytes.
             ok_map strings_view result ≡ section_data_as_strtab (stream_file E.little self.now bytes) shdr.now) }
         ensures plain { IfErr result (λ e. kind e ≡ Kind.Refusal) }
@@ -137,7 +137,7 @@ impl<E: EndianParse, S: StreamSource, A: Allocator + Copy> ElfStream<E, S, A> {
         shdr: &SectionHeader,
     ) -> Result<StringTable<'_>, ParseError>
         ensures* leaves { sem 𝓛 (Lends E.row S.row A.row E.EndianParse S.StreamSource A.Allocator self.entry
-            (λ _. typed_section_asked sht_strtab shdr.now) strings_view
+            (λ _. typed_section_ranges sht_strtab shdr.now) strings_view
             (λ file. section_data_as_strtab file shdr.now) result) }
     {
         self.load_content(shdr, abi::SHT_STRTAB)?;
@@ -149,8 +149,8 @@ impl<E: EndianParse, S: StreamSource, A: Allocator + Copy> ElfStream<E, S, A> {
         &self,
         shdr: &SectionHeader,
     ) -> Result<ParsingIterator<'_, E, P>, ParseError>
-        requires low { AreLow (section_asked shdr.now) }
-        requires held { AreHeld self.now (section_asked shdr.now) }
+        requires low { AreLow (section_ranges shdr.now) }
+        requires cached { AreCached self.now (section_ranges shdr.now) }
         ensures value { IfSome self.now.content (λ bytes. ok_map (items_left P.reads) result
             ≡ ok_map (λ part. table_items P.reads (table_of (stream_file E.little self.now bytes) part))
             (content (stream_file E.little self.now bytes) shdr.now)) }
@@ -174,7 +174,7 @@ impl<E: EndianParse, S: StreamSource, A: Allocator + Copy> ElfStream<E, S, A> {
         shdr: &SectionHeader,
     ) -> Result<RelIterator<'_, E>, ParseError>
         ensures* leaves { sem 𝓛 (Lends E.row S.row A.row E.EndianParse S.StreamSource A.Allocator self.entry
-            (λ _. typed_section_asked sht_rel shdr.now) rels_left
+            (λ _. typed_section_ranges sht_rel shdr.now) rels_left
             (λ file. section_data_as_rels file shdr.now) result) }
         ensures few { IfOk result (λ rels.
             IfSome self.old.content (λ bytes. length (rels_left rels) ≤ length bytes)) }
@@ -195,7 +195,7 @@ impl<E: EndianParse, S: StreamSource, A: Allocator + Copy> ElfStream<E, S, A> {
         shdr: &SectionHeader,
     ) -> Result<RelaIterator<'_, E>, ParseError>
         ensures* leaves { sem 𝓛 (Lends E.row S.row A.row E.EndianParse S.StreamSource A.Allocator self.entry
-            (λ _. typed_section_asked sht_rela shdr.now) relas_left
+            (λ _. typed_section_ranges sht_rela shdr.now) relas_left
             (λ file. section_data_as_relas file shdr.now) result) }
         ensures few { IfOk result (λ relas.
             IfSome self.old.content (λ bytes. length (relas_left relas) ≤ length bytes)) }
@@ -208,8 +208,8 @@ impl<E: EndianParse, S: StreamSource, A: Allocator + Copy> ElfStream<E, S, A> {
     // The notes of a section, whose bytes are cached.
     fn cached_notes(&self, shdr: &SectionHeader) -> Result<NoteIterator<'_, E>, ParseError>
         requires of_type { shdr.now.sh_type ≡ sht_note }
-        requires low { AreLow (section_asked shdr.now) }
-        requires held { AreHeld self.now (section_asked shdr.now) }
+        requires low { AreLow (section_ranges shdr.now) }
+        requires cached { AreCached self.now (section_ranges shdr.now) }
         ensures value { IfSome self.now.content (λ bytes.
             ok_map notes_left result ≡ section_data_as_notes (stream_file E.little self.now bytes) shdr.now) }
         ensures plain { IfErr result (λ e. kind e ≡ Kind.Refusal) }
@@ -237,7 +237,7 @@ impl<E: EndianParse, S: StreamSource, A: Allocator + Copy> ElfStream<E, S, A> {
         shdr: &SectionHeader,
     ) -> Result<NoteIterator<'_, E>, ParseError>
         ensures* leaves { sem 𝓛 (Lends E.row S.row A.row E.EndianParse S.StreamSource A.Allocator self.entry
-            (λ _. typed_section_asked sht_note shdr.now) notes_left
+            (λ _. typed_section_ranges sht_note shdr.now) notes_left
             (λ file. section_data_as_notes file shdr.now) result) }
         ensures few { IfOk result (λ notes.
             IfSome self.old.content (λ bytes. length (notes_left notes) ≤ length bytes)) }

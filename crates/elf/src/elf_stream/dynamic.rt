@@ -7,11 +7,11 @@ ghost use Rattle.std.specs.Option.{option_map};
 ghost use Rattle.elf_parts.specs.Number.{ok_map};
 ghost use Rattle.elf_parts.specs.Table.{table_view};
 ghost use Rattle.elf.specs.Answers.{dynamic, section_dynamic, segment_dynamic};
-ghost use Rattle.elf.specs.Ranges.{dynamic_asked, headers_alone, if_there, section_asked, section_dynamic_asked};
-ghost use Rattle.elf.specs.Ranges.{segment_asked};
+ghost use Rattle.elf.specs.Ranges.{dynamic_ranges, headers_alone, if_there, section_ranges, section_dynamic_ranges};
+ghost use Rattle.elf.specs.Ranges.{segment_ranges};
 ghost use Rattle.elf.specs.Headers.{first_section_of, first_segment_of, if_found};
 ghost use Rattle.elf.specs.StreamFile.{stream_file};
-ghost use Rattle.elf.specs.ElfStream.{AreHeld, Kind, kind};
+ghost use Rattle.elf.specs.ElfStream.{AreCached, Kind, kind};
 ghost use Rattle.elf.specs.inner.Loads.{AreLow, LoadsFor};
 
 use super::ElfStream;
@@ -31,10 +31,10 @@ impl<E: EndianParse, S: StreamSource, A: Allocator + Copy> ElfStream<E, S, A> {
 
     // Reads the range of a section of dynamic entries into the cache.
     fn load_dynamic(&mut self, shdr: &SectionHeader) -> Result<(), ParseError>
-        ensures loads { LoadsFor (section_dynamic_asked (headers_alone E.little self.old) shdr.now)
+        ensures loads { LoadsFor (section_dynamic_ranges (headers_alone E.little self.old) shdr.now)
             (λ bytes. section_dynamic (stream_file E.little self.old bytes) shdr.now) self.old self.new result }
         ensures sized { OnOk result (shdr.now.sh_entsize ≡ size_by dyn_layout self.old.ehdr.class) }
-        ensures loaded { OnOk result (AreLow (section_asked shdr.now) × AreHeld self.new (section_asked shdr.now)) }
+        ensures loaded { OnOk result (AreLow (section_ranges shdr.now) × AreCached self.new (section_ranges shdr.now)) }
     {
         Dyn::validate_entsize(self.ehdr.class, shdr.sh_entsize as usize)?;
         self.load_section_data(shdr)
@@ -46,8 +46,8 @@ impl<E: EndianParse, S: StreamSource, A: Allocator + Copy> ElfStream<E, S, A> {
         shdr: &SectionHeader,
     ) -> Result<Option<DynamicTable<'_, E>>, ParseError>
         requires sized { shdr.now.sh_entsize ≡ size_by dyn_layout self.now.ehdr.class }
-        requires low { AreLow (section_asked shdr.now) }
-        requires held { AreHeld self.now (section_asked shdr.now) }
+        requires low { AreLow (section_ranges shdr.now) }
+        requires cached { AreCached self.now (section_ranges shdr.now) }
         ensures value { IfSome self.now.content (λ bytes. ok_map (option_map table_view) result
             ≡ ok_map Some (section_dynamic (stream_file E.little self.now bytes) shdr.now)) }
         ensures plain { IfErr result (λ e. kind e ≡ Kind.Refusal) }
@@ -62,7 +62,7 @@ impl<E: EndianParse, S: StreamSource, A: Allocator + Copy> ElfStream<E, S, A> {
         shdr: &SectionHeader,
     ) -> Result<Option<DynamicTable<'_, E>>, ParseError>
         ensures* leaves { sem 𝓛 (Lends E.row S.row A.row E.EndianParse S.StreamSource A.Allocator self.entry
-            (λ file. section_dynamic_asked file shdr.now) (option_map table_view)
+            (λ file. section_dynamic_ranges file shdr.now) (option_map table_view)
             (λ file. ok_map Some (section_dynamic file shdr.now)) result) }
     {
         self.load_dynamic(shdr)?;
@@ -71,8 +71,8 @@ impl<E: EndianParse, S: StreamSource, A: Allocator + Copy> ElfStream<E, S, A> {
 
     // The dynamic entries of a segment, whose bytes are cached.
     fn cached_segment_dynamic(&self, phdr: &ProgramHeader) -> DynamicTable<'_, E>
-        requires low { AreLow (segment_asked phdr.now) }
-        requires held { AreHeld self.now (segment_asked phdr.now) }
+        requires low { AreLow (segment_ranges phdr.now) }
+        requires cached { AreCached self.now (segment_ranges phdr.now) }
         ensures { IfSome self.now.content (λ bytes.
             segment_dynamic (stream_file E.little self.now bytes) phdr.now ≡ Ok (table_view result)) }
     {
@@ -83,7 +83,7 @@ impl<E: EndianParse, S: StreamSource, A: Allocator + Copy> ElfStream<E, S, A> {
     // The dynamic entries of the first section of type `SHT_DYNAMIC`.
     fn first_section_dynamic(&mut self) -> Result<Option<DynamicTable<'_, E>>, ParseError>
         ensures* leaves { sem 𝓛 (Lends E.row S.row A.row E.EndianParse S.StreamSource A.Allocator self.entry
-            (λ file. if_there (section_dynamic_asked file) (first_section_of sht_dynamic file.sections))
+            (λ file. if_there (section_dynamic_ranges file) (first_section_of sht_dynamic file.sections))
             (option_map table_view)
             (λ file. if_found (section_dynamic file) (first_section_of sht_dynamic file.sections)) result) }
     {
@@ -96,7 +96,7 @@ impl<E: EndianParse, S: StreamSource, A: Allocator + Copy> ElfStream<E, S, A> {
     // The dynamic entries of the first segment of type `PT_DYNAMIC`.
     fn first_segment_dynamic(&mut self) -> Result<Option<DynamicTable<'_, E>>, ParseError>
         ensures* leaves { sem 𝓛 (Lends E.row S.row A.row E.EndianParse S.StreamSource A.Allocator self.entry
-            (λ file. if_there segment_asked (first_segment_of pt_dynamic file.segments)) (option_map table_view)
+            (λ file. if_there segment_ranges (first_segment_of pt_dynamic file.segments)) (option_map table_view)
             (λ file. if_found (segment_dynamic file) (first_segment_of pt_dynamic file.segments)) result) }
     {
         let Some(phdr) = self.first_segment_of(abi::PT_DYNAMIC) else {
@@ -114,7 +114,7 @@ impl<E: EndianParse, S: StreamSource, A: Allocator + Copy> ElfStream<E, S, A> {
     /// no range requested; those of `section_data`. Errors of a segment: those of `segment_data`.
     pub fn dynamic(&mut self) -> Result<Option<DynamicTable<'_, E>>, ParseError>
         ensures* leaves { sem 𝓛 (Lends E.row S.row A.row E.EndianParse S.StreamSource A.Allocator self.entry
-            dynamic_asked (option_map table_view) dynamic result) }
+            dynamic_ranges (option_map table_view) dynamic result) }
     {
         if self.declares_sections {
             self.first_section_dynamic()

@@ -3,8 +3,8 @@ ghost use Rattle.std.specs.Prelude.{◌≡◌, IfSome, Ok, None, Some, option_co
 ghost use Rattle.elf_parts.specs.Number.{ok_map};
 ghost use Rattle.elf_parts.specs.StringTable.{strings_view};
 ghost use Rattle.elf.specs.Answers.{first_named, section_header_by_name};
-ghost use Rattle.elf.specs.Ranges.{names_asked, whole_section};
-ghost use Rattle.elf.specs.ElfStream.{AreHeld};
+ghost use Rattle.elf.specs.Ranges.{names_ranges, whole_section};
+ghost use Rattle.elf.specs.ElfStream.{AreCached};
 ghost use Rattle.elf.specs.inner.Loads.{AreLow};
 ghost use Rattle.elf.specs.Names.{headers_with_names};
 ghost use Rattle.elf.specs.Headers.{section_range};
@@ -47,7 +47,7 @@ impl<E: EndianParse, S: StreamSource, A: Allocator + Copy> ElfStream<E, S, A> {
         names: &SectionHeader,
     ) -> (&Vec<SectionHeader, A>, Option<StringTable<'_>>)
         requires low { AreLow (whole_section names.now) }
-        requires held { AreHeld self.now (whole_section names.now) }
+        requires cached { AreCached self.now (whole_section names.now) }
         ensures { IfSome self.now.content (λ bytes.
             ok_map (λ strings. (self.now.sections, Some strings)) (section_range bytes names.now)
             ≡ Ok (listed_view result)) }
@@ -68,7 +68,7 @@ impl<E: EndianParse, S: StreamSource, A: Allocator + Copy> ElfStream<E, S, A> {
         &mut self,
     ) -> Result<(&Vec<SectionHeader, A>, Option<StringTable<'_>>), ParseError>
         ensures* leaves { sem 𝓛 (Lends E.row S.row A.row E.EndianParse S.StreamSource A.Allocator self.entry
-            names_asked listed_view headers_with_names result) }
+            names_ranges listed_view headers_with_names result) }
     {
         let Some(names) = self.name_section()? else {
             return Ok(self.headers_without_names());
@@ -80,7 +80,7 @@ impl<E: EndianParse, S: StreamSource, A: Allocator + Copy> ElfStream<E, S, A> {
     // The first section with a name. The names are in a section whose range is cached.
     fn header_by_cached_name(&self, names: &SectionHeader, name: &str) -> Option<&SectionHeader>
         requires low { AreLow (whole_section names.now) }
-        requires held { AreHeld self.now (whole_section names.now) }
+        requires cached { AreCached self.now (whole_section names.now) }
         ensures { IfSome self.now.content (λ bytes.
             ok_map (λ strings. first_named self.now.sections name.now (Some strings)) (section_range bytes names.now)
             ≡ Ok (option_copied result)) }
@@ -99,7 +99,7 @@ impl<E: EndianParse, S: StreamSource, A: Allocator + Copy> ElfStream<E, S, A> {
         name: &str,
     ) -> Result<Option<&SectionHeader>, ParseError>
         ensures* leaves { sem 𝓛 (Lends E.row S.row A.row E.EndianParse S.StreamSource A.Allocator self.entry
-            names_asked option_copied (λ file. section_header_by_name file name.now) result) }
+            names_ranges option_copied (λ file. section_header_by_name file name.now) result) }
     {
         let Some(names) = self.name_section()? else {
             return Ok(None);

@@ -8,7 +8,8 @@ ghost use Rattle.elf_parts.specs.Record.{size_by, size_of};
 ghost use Rattle.elf_parts.specs.Section.{section_header_layout};
 ghost use Rattle.elf_parts.specs.Table.{table_items, table_view};
 ghost use Rattle.elf.specs.ElfStream.{IsAnswer, kind};
-ghost use Rattle.elf.specs.inner.HeaderSteps.{IsNoWant, front_ident, range_bytes, range_records, range_table};
+ghost use Rattle.elf.specs.inner.HeaderSteps.{IsNoAllocationFailure, front_ident, range_bytes, range_records};
+ghost use Rattle.elf.specs.inner.HeaderSteps.{range_table};
 ghost use Rattle.elf.specs.inner.HeaderSteps.{tail_header};
 ghost use Rattle.elf.specs.inner.Reads.{HasLength, Reads, ReadsAs};
 ghost use Rattle.elf.specs.inner.Tables.{declared_count, declared_table};
@@ -158,11 +159,11 @@ fn locate_records<P: ParseAt>(
     count: u64,
     offset: u64,
 ) -> Result<(u64, u64), ParseError>
-    ensures answer { (bytes : List ℕ) (can_fail : Bool) (faults : ℕ) → len ≡ length bytes →
+    ensures answer { (bytes : List ℕ) (can_fail : Bool) (failures : ℕ) → len ≡ length bytes →
         IsAnswer (range_bytes bytes) (table_bytes (P.reads.size class) entsize count offset bytes)
-        can_fail faults faults result }
+        can_fail failures failures result }
     ensures within { IfOk result (λ range. (range.0 ≤ range.1) × (range.1 ≤ len)) }
-    ensures memory { IfErr result (λ e. IsNoWant (kind e)) }
+    ensures memory { IfErr result (λ e. IsNoAllocationFailure (kind e)) }
 {
     let size = P::validate_entsize(class, entsize as usize)? as u64;
     let Some(length) = size.checked_mul(count) else {
@@ -250,7 +251,7 @@ pub(super) fn read_records<E: EndianParse, P: ParseAt + Drop, S: StreamSource, A
     ensures nature { S.can_fail source.new ≡ S.can_fail source.old }
     ensures answer { IfSome (S.content source.old) (λ bytes. IsAnswer (λ v. v.items)
         (Ok (range_records P.reads (option_map (range_table E.little ehdr.now bytes) found)))
-        (S.can_fail source.old) (S.faults source.old) (S.faults source.new) result) }
+        (S.can_fail source.old) (S.failures source.old) (S.failures source.new) result) }
 {
     let Some((start, end)) = found else {
         return Ok(Vec::new(alloc));

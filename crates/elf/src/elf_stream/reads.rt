@@ -2,7 +2,7 @@
 ghost use Rattle.std.specs.Prelude.{◌≡◌, ◌+◌, ◌-◌, ◌<◌, ◌≤◌, length, take, drop, IfErr, IfOk};
 ghost use Rattle.std.specs.Prelude.{IfSome, OnOk};
 ghost use Rattle.elf.specs.ElfStream.{kind};
-ghost use Rattle.elf.specs.inner.HeaderSteps.{IsNoWant};
+ghost use Rattle.elf.specs.inner.HeaderSteps.{IsNoAllocationFailure};
 ghost use Rattle.elf.specs.inner.Loads.{HasReason};
 
 use crate::source::StreamSource;
@@ -16,11 +16,11 @@ fn fill<S: StreamSource>(source: &mut S, buf: &mut [u8], end: u64) -> Result<(),
     ensures bytes { OnOk result (IfSome (S.content source.old)
         (λ bytes. buf.new ≡ take (length buf.old) (drop (S.position source.old) bytes))) }
     ensures reason { IfSome (S.content source.old)
-        (λ bytes. HasReason (S.faults source.old) (S.faults source.new) (S.can_fail source.old)
+        (λ bytes. HasReason (S.failures source.old) (S.failures source.new) (S.can_fail source.old)
         (length bytes < S.position source.old + length buf.old) result) }
     ensures position { OnOk result (IfSome (S.content source.old)
         (λ _. S.position source.new ≡ S.position source.old + length buf.old)) }
-    ensures memory { IfErr result (λ e. IsNoWant (kind e)) }
+    ensures memory { IfErr result (λ e. IsNoAllocationFailure (kind e)) }
 {
     let mut done = 0;
     while done < buf.len() {
@@ -49,9 +49,9 @@ pub(super) fn read_at<S: StreamSource>(
     ensures bytes { OnOk result (IfSome (S.content source.old)
         (λ bytes. buf.new ≡ take (length buf.old) (drop start bytes))) }
     ensures reason { IfSome (S.content source.old)
-        (λ bytes. HasReason (S.faults source.old) (S.faults source.new) (S.can_fail source.old)
+        (λ bytes. HasReason (S.failures source.old) (S.failures source.new) (S.can_fail source.old)
         (length bytes < start + length buf.old) result) }
-    ensures memory { IfErr result (λ e. IsNoWant (kind e)) }
+    ensures memory { IfErr result (λ e. IsNoAllocationFailure (kind e)) }
 {
     if let Err(e) = source.seek_start(start) {
         return Err(ParseError::IOError(e));
@@ -77,7 +77,7 @@ pub(super) fn fetch<S: StreamSource, A: Allocator + Copy>(
     ensures bytes { IfOk result (λ v. IfSome (S.content source.old)
         (λ bytes. v.items ≡ take (end - start) (drop start bytes))) }
     ensures reason { IfSome (S.content source.old)
-        (λ bytes. HasReason (S.faults source.old) (S.faults source.new) (S.can_fail source.old)
+        (λ bytes. HasReason (S.failures source.old) (S.failures source.new) (S.can_fail source.old)
         (length bytes < end) result) }
 {
     let size = (end - start) as usize;

@@ -3,9 +3,9 @@ ghost use Rattle.std.specs.Prelude.{◌≡◌, ◌≤◌, ◌<◌, ◌^◌, IfOk
 ghost use Rattle.elf_abi.specs.Values.{pt_note};
 ghost use Rattle.elf_parts.specs.Note.{notes_left};
 ghost use Rattle.elf.specs.Answers.{segment_data, segment_data_as_notes};
-ghost use Rattle.elf.specs.Ranges.{segment_asked, segment_notes_asked};
+ghost use Rattle.elf.specs.Ranges.{segment_ranges, segment_notes_ranges};
 ghost use Rattle.elf.specs.StreamFile.{stream_file};
-ghost use Rattle.elf.specs.ElfStream.{AreHeld};
+ghost use Rattle.elf.specs.ElfStream.{AreCached};
 ghost use Rattle.elf.specs.inner.Loads.{AreLow};
 
 use super::ElfStream;
@@ -23,8 +23,8 @@ impl<E: EndianParse, S: StreamSource, A: Allocator + Copy> ElfStream<E, S, A> {
 
     // The bytes of a segment, which are cached.
     pub(super) fn cached_segment(&self, phdr: &ProgramHeader) -> &[u8]
-        requires low { AreLow (segment_asked phdr.now) }
-        requires held { AreHeld self.now (segment_asked phdr.now) }
+        requires low { AreLow (segment_ranges phdr.now) }
+        requires cached { AreCached self.now (segment_ranges phdr.now) }
         ensures within { IfSome self.now.content (λ bytes. length result.now ≤ length bytes) }
         ensures value { IfSome self.now.content (λ bytes.
             segment_data (stream_file E.little self.now bytes) phdr.now ≡ Ok result.now) }
@@ -36,7 +36,7 @@ impl<E: EndianParse, S: StreamSource, A: Allocator + Copy> ElfStream<E, S, A> {
     /// Header"). Requests the range of the segment. The error is that of the range.
     pub fn segment_data(&mut self, phdr: &ProgramHeader) -> Result<&[u8], ParseError>
         ensures* leaves { sem 𝓛 (Lends E.row S.row A.row E.EndianParse S.StreamSource A.Allocator self.entry
-            (λ _. segment_asked phdr.now) (λ part. part.now) (λ file. segment_data file phdr.now) result) }
+            (λ _. segment_ranges phdr.now) (λ part. part.now) (λ file. segment_data file phdr.now) result) }
     {
         self.load_segment(phdr)?;
         Ok(self.cached_segment(phdr))
@@ -45,8 +45,8 @@ impl<E: EndianParse, S: StreamSource, A: Allocator + Copy> ElfStream<E, S, A> {
     // The notes of a segment, whose bytes are cached.
     fn cached_segment_notes(&self, phdr: &ProgramHeader) -> NoteIterator<'_, E>
         requires of_type { phdr.now.p_type ≡ pt_note }
-        requires low { AreLow (segment_asked phdr.now) }
-        requires held { AreHeld self.now (segment_asked phdr.now) }
+        requires low { AreLow (segment_ranges phdr.now) }
+        requires cached { AreCached self.now (segment_ranges phdr.now) }
         ensures value { IfSome self.now.content (λ bytes.
             segment_data_as_notes (stream_file E.little self.now bytes) phdr.now ≡ Ok (notes_left result)) }
         ensures few { IfSome self.now.content (λ bytes. length (notes_left result) ≤ length bytes) }
@@ -72,7 +72,7 @@ impl<E: EndianParse, S: StreamSource, A: Allocator + Copy> ElfStream<E, S, A> {
         phdr: &ProgramHeader,
     ) -> Result<NoteIterator<'_, E>, ParseError>
         ensures* leaves { sem 𝓛 (Lends E.row S.row A.row E.EndianParse S.StreamSource A.Allocator self.entry
-            (λ _. segment_notes_asked phdr.now) notes_left (λ file. segment_data_as_notes file phdr.now) result) }
+            (λ _. segment_notes_ranges phdr.now) notes_left (λ file. segment_data_as_notes file phdr.now) result) }
         ensures few { IfOk result (λ notes.
             IfSome self.old.content (λ bytes. length (notes_left notes) ≤ length bytes)) }
         ensures bound { IfOk result (λ notes. length (notes_left notes) < 2 ^ 64) }

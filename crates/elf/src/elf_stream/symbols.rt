@@ -4,9 +4,9 @@ ghost use Rattle.std.specs.Option.{option_map};
 ghost use Rattle.elf_abi.specs.Values.{sht_dynsym, sht_symtab};
 ghost use Rattle.elf_parts.specs.Number.{ok_map};
 ghost use Rattle.elf.specs.Answers.{dynamic_symbol_table, first_symbols, symbol_table, symbols_in, symbols_view};
-ghost use Rattle.elf.specs.Ranges.{both_sections, symbols_asked};
+ghost use Rattle.elf.specs.Ranges.{both_sections, symbols_ranges};
 ghost use Rattle.elf.specs.StreamFile.{stream_file};
-ghost use Rattle.elf.specs.ElfStream.{AreHeld};
+ghost use Rattle.elf.specs.ElfStream.{AreCached};
 ghost use Rattle.elf.specs.inner.Loads.{AreLow, Loads};
 
 use super::ElfStream;
@@ -43,7 +43,7 @@ impl<E: EndianParse, S: StreamSource, A: Allocator + Copy> ElfStream<E, S, A> {
         linked: &SectionHeader,
     ) -> (SymbolTable<'_, E>, StringTable<'_>)
         requires low { AreLow (both_sections (shdr.now, linked.now)) }
-        requires held { AreHeld self.now (both_sections (shdr.now, linked.now)) }
+        requires cached { AreCached self.now (both_sections (shdr.now, linked.now)) }
         ensures { IfSome self.now.content (λ bytes.
             symbols_in (stream_file E.little self.now bytes) (shdr.now, linked.now) ≡ Ok (symbols_view result)) }
     {
@@ -61,7 +61,7 @@ impl<E: EndianParse, S: StreamSource, A: Allocator + Copy> ElfStream<E, S, A> {
         sh_type: u32,
     ) -> Result<Option<(SymbolTable<'_, E>, StringTable<'_>)>, ParseError>
         ensures* leaves { sem 𝓛 (Lends E.row S.row A.row E.EndianParse S.StreamSource A.Allocator self.entry
-            (symbols_asked sh_type) (option_map symbols_view) (first_symbols sh_type) result) }
+            (symbols_ranges sh_type) (option_map symbols_view) (first_symbols sh_type) result) }
     {
         let Some((shdr, linked)) = self.symbol_sections(sh_type)? else {
             return Ok(None);
@@ -80,7 +80,7 @@ impl<E: EndianParse, S: StreamSource, A: Allocator + Copy> ElfStream<E, S, A> {
         &mut self,
     ) -> Result<Option<(SymbolTable<'_, E>, StringTable<'_>)>, ParseError>
         ensures* leaves { sem 𝓛 (Lends E.row S.row A.row E.EndianParse S.StreamSource A.Allocator self.entry
-            (symbols_asked sht_symtab) (option_map symbols_view) symbol_table result) }
+            (symbols_ranges sht_symtab) (option_map symbols_view) symbol_table result) }
     {
         self.first_symbols(abi::SHT_SYMTAB)
     }
@@ -91,7 +91,7 @@ impl<E: EndianParse, S: StreamSource, A: Allocator + Copy> ElfStream<E, S, A> {
         &mut self,
     ) -> Result<Option<(SymbolTable<'_, E>, StringTable<'_>)>, ParseError>
         ensures* leaves { sem 𝓛 (Lends E.row S.row A.row E.EndianParse S.StreamSource A.Allocator self.entry
-            (symbols_asked sht_dynsym) (option_map symbols_view) dynamic_symbol_table result) }
+            (symbols_ranges sht_dynsym) (option_map symbols_view) dynamic_symbol_table result) }
     {
         self.first_symbols(abi::SHT_DYNSYM)
     }

@@ -1,10 +1,10 @@
 //! The versions of symbols (GNU symbol versioning).
 ghost use Rattle.std.specs.Prelude.{◌≡◌, IfErr, IfSome, Ok};
 ghost use Rattle.elf.specs.Answers.{symbol_version_table};
-ghost use Rattle.elf.specs.Ranges.{headers_alone, whole_section, both_sections, if_there, plan_asked, version_plan};
-ghost use Rattle.elf.specs.Ranges.{versions_asked, with_link};
+ghost use Rattle.elf.specs.Ranges.{headers_alone, whole_section, both_sections, if_there, plan_ranges, version_plan};
+ghost use Rattle.elf.specs.Ranges.{versions_ranges, with_link};
 ghost use Rattle.elf.specs.StreamFile.{stream_file};
-ghost use Rattle.elf.specs.ElfStream.{AreHeld, Kind, kind};
+ghost use Rattle.elf.specs.ElfStream.{AreCached, Kind, kind};
 ghost use Rattle.elf.specs.inner.Loads.{AreLow, Loads};
 ghost use Rattle.elf.specs.Headers.{if_found};
 ghost use Rattle.std.specs.Option.{option_map};
@@ -74,7 +74,7 @@ impl<E: EndianParse, S: StreamSource, A: Allocator + Copy> ElfStream<E, S, A> {
 
     // Reads the ranges of up to five sections into the cache.
     fn load_plan(&mut self, plan: VersionPlan) -> Result<(), ParseError>
-        ensures { Loads (plan_asked plan) self.old self.new result }
+        ensures { Loads (plan_ranges plan) self.old self.new result }
     {
         self.load_section(&plan.0)?;
         self.load_both_if(plan.1)?;
@@ -87,7 +87,7 @@ impl<E: EndianParse, S: StreamSource, A: Allocator + Copy> ElfStream<E, S, A> {
         linked: Option<LinkedSections>,
     ) -> Option<(VerNeedIterator<'_, E>, StringTable<'_>)>
         requires low { AreLow (if_there both_sections linked) }
-        requires held { AreHeld self.now (if_there both_sections linked) }
+        requires cached { AreCached self.now (if_there both_sections linked) }
         ensures { IfSome self.now.content (λ bytes.
             if_found (needs_by (stream_file E.little self.now bytes)) linked ≡ Ok (option_map needs_view result)) }
     {
@@ -110,7 +110,7 @@ impl<E: EndianParse, S: StreamSource, A: Allocator + Copy> ElfStream<E, S, A> {
         linked: Option<LinkedSections>,
     ) -> Option<(VerDefIterator<'_, E>, StringTable<'_>)>
         requires low { AreLow (if_there both_sections linked) }
-        requires held { AreHeld self.now (if_there both_sections linked) }
+        requires cached { AreCached self.now (if_there both_sections linked) }
         ensures { IfSome self.now.content (λ bytes.
             if_found (definitions_by (stream_file E.little self.now bytes)) linked
             ≡ Ok (option_map definitions_view result)) }
@@ -131,11 +131,11 @@ impl<E: EndianParse, S: StreamSource, A: Allocator + Copy> ElfStream<E, S, A> {
     // The versions in the sections of a plan, whose ranges are cached.
     fn cached_versions(&self, plan: VersionPlan) -> SymbolVersionTable<'_, E>
         requires low { AreLow (whole_section plan.0) }
-        requires held { AreHeld self.now (whole_section plan.0) }
+        requires cached { AreCached self.now (whole_section plan.0) }
         requires low_needs { AreLow (if_there both_sections plan.1) }
-        requires held_needs { AreHeld self.now (if_there both_sections plan.1) }
+        requires cached_needs { AreCached self.now (if_there both_sections plan.1) }
         requires low_definitions { AreLow (if_there both_sections plan.2) }
-        requires held_definitions { AreHeld self.now (if_there both_sections plan.2) }
+        requires cached_definitions { AreCached self.now (if_there both_sections plan.2) }
         ensures { IfSome self.now.content (λ bytes.
             versions_by (stream_file E.little self.now bytes) plan ≡ Ok (versions_view result)) }
     {
@@ -149,7 +149,7 @@ impl<E: EndianParse, S: StreamSource, A: Allocator + Copy> ElfStream<E, S, A> {
     // The versions in the sections of the plan, or `None` if there is no plan.
     fn versions_by_plan(&mut self) -> Result<Option<SymbolVersionTable<'_, E>>, ParseError>
         ensures* leaves { sem 𝓛 (Lends E.row S.row A.row E.EndianParse S.StreamSource A.Allocator self.entry
-            versions_asked (option_map versions_view) versions_by_plan result) }
+            versions_ranges (option_map versions_view) versions_by_plan result) }
     {
         let Some(plan) = self.version_plan()? else {
             return Ok(None);
@@ -169,7 +169,7 @@ impl<E: EndianParse, S: StreamSource, A: Allocator + Copy> ElfStream<E, S, A> {
     /// the definitions, and of their strings.
     pub fn symbol_version_table(&mut self) -> Result<Option<SymbolVersionTable<'_, E>>, ParseError>
         ensures* leaves { sem 𝓛 (Lends E.row S.row A.row E.EndianParse S.StreamSource A.Allocator self.entry
-            versions_asked (option_map versions_view) symbol_version_table result) }
+            versions_ranges (option_map versions_view) symbol_version_table result) }
     {
         self.versions_by_plan()
     }

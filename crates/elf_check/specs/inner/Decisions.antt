@@ -1,5 +1,5 @@
 -- Whether a statement holds, found out. A decision is right by its type: it holds a proof of the statement, or one
--- that it does not hold. So a hash section is told sound or not, and how that is found out need not be read.
+-- that it does not hold. So a hash section is found sound or not, and how that is decided need not be read.
 use Rattle.std.specs.Prelude.{◌≡◌, ℕ, zero, suc, ◌+◌, ◌%◌, ◌/◌, ◌^◌, ◌<◌, ◌≤◌, ◌⊎◌, length, Option, Some, None, refl}
 use Rattle.std.specs.Option.{IsSomeAnd}
 use Rattle.std.proofs.Common.{ap, subst, inl, inr, arith}

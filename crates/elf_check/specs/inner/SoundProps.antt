@@ -1,4 +1,4 @@
--- That a section is sound, and that its words can be read, is true in one way only: so a checked table can keep it.
+-- That a section is sound, and that its words can be read, is true in one way only: so a checked table can store it.
 use Rattle.std.specs.Prelude.{◌≡◌, ℕ, ◌<◌, ◌≤◌, Option}
 use Rattle.std.specs.Coded.{Coded-set, codes, le_prop, Π_prop}
 use Rattle.std.specs.Option.{IsSomeAnd, IsSomeAnd-prop}

@@ -26,7 +26,7 @@ pub enum HashSection {
 }
 
 /// A table of either kind of hash section.
-// The two are type parameters, since an enum that lends bytes may not hold a struct with a ghost field by its name.
+// The two are type parameters, since an enum that borrows bytes may not have a struct with a ghost field by its name.
 #[derive(Debug, Drop)]
 pub enum HashKind<S: Drop, G: Drop> {
     /// A table of a gABI hash section.

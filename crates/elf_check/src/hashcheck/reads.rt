@@ -33,8 +33,8 @@ impl Reads {
 
     // Reads a symbol, and gives its name where both can be read. Inlined, since a name that is returned by a call goes
     // through memory.
-    #[inline(always)]
     #[tactic(auto, unfolding(crate::specs::WithSymbols::named, elf_parts::specs::Hash::named_symbol))]
+    #[inline(always)]
     pub(crate) fn name_at<'data, E: EndianParse>(
         &mut self,
         symtab: &SymbolTable<'data, E>,

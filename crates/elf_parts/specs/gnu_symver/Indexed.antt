@@ -1,4 +1,4 @@
--- Tables of what stands first for each version index.
+-- Tables of the first entry with each version index.
 use Rattle.std.specs.Prelude.{◌≡◌, ◌≤◌, ◌^◌, ℕ, length, List, [], Option, Some, None, MatchOption, slice_index_or}
 use Rattle.std.specs.Option.{option_map}
 use Rattle.elf_parts.specs.gnu_symver.Lists.{ver_defs_left}
@@ -10,17 +10,17 @@ use Rattle.elf_parts.specs.declared.gnu_symver.records.VerNeed.{VerNeed}
 use Rattle.elf_parts.specs.declared.gnu_symver.records.VerNeedAux.{VerNeedAux}
 use Rattle.elf_parts.specs.declared.gnu_symver.table.Needed.{Needed}
 
--- what stands for an index, if something does
+-- the entry of an index, if it has one
 abbrev pub slot : {X : Type 0} → List (Option X) → ℕ → Option X
 slot slots index = slice_index_or slots index None
 
--- the first needed version of each index stands for it, in no more places than there are indexes of two bytes
+-- the entry of an index is its first needed version; there are no more places than indexes of two bytes
 abbrev pub AreNeeded : List (Option Needed) → List (VerNeed × List VerNeedAux) → Type 0
 AreNeeded slots needs =
     ((k : ℕ) → slot slots k ≡ option_map needed_of (needed_version k needs)) × (length slots ≤ 2 ^ 16)
 
--- for the index of a definition an iterator stands that gives the first one with the index first, in no more places
--- than there are indexes of two bytes
+-- the entry of an index is an iterator that yields the first definition with this index first; there are no more places
+-- than indexes of two bytes
 abbrev pub AreDefined : {E : Type 0} → List (Option (EntryIterator E VerDef VerDefAux)) →
     List (VerDef × List VerDefAux) → Type 0
 AreDefined slots definitions =

@@ -1,4 +1,4 @@
--- The linked records of version sections: each one tells how far behind its own start the next one begins.
+-- The linked records of version sections: each one gives the distance from its own start to the next one.
 use Rattle.std.specs.Prelude.{ℕ, ◌+◌, ◌^◌, if◌then◌else◌, ◌==◌, ◌||◌, nat_le, Bool, Option, Some, None}
 use Rattle.std.specs.Prelude.{List, map, Result}
 use Rattle.elf_parts.specs.Link.{links}
@@ -11,7 +11,7 @@ use Rattle.elf_parts.specs.declared.parse.ParseError.{ParseError}
 abbrev pub next_start : ℕ → ℕ → Option ℕ
 next_start o distance = if distance == 0 || nat_le (2 ^ 64) (o + distance) then None else Some (o + distance)
 
--- ---- a type of records, by the record at an offset and the distance to the next one that it tells
+-- ---- a type of records, by the record at an offset and the distance to the next one that it gives
 
 module _ {A : Type 0} (record_at : Bool → Class → List ℕ → ℕ → Result A ParseError) (distance : A → ℕ) where
   -- the linked records of these bytes
@@ -28,7 +28,7 @@ records_of {A = A} list = map (λ (link : ℕ × A). link.1) list
 abbrev pub links_view : {E R : Type 0} → Links E R → Table
 links_view s = table_in s.little s.class s.«data».now
 
--- the records that an iterator is still to give
+-- the records that an iterator has left to yield
 abbrev pub links_left : {E R : Type 0} → (Bool → Class → List ℕ → ℕ → Result R ParseError) → (R → ℕ) → Links E R →
     List (ℕ × R)
 links_left record_at distance s = links_in record_at distance (links_view s) s.count s.offset

@@ -21,11 +21,11 @@ module _ {A : Type 0} (record_at : Bool → Class → List ℕ → ℕ → Resul
   abbrev pub aux_records : Table → ℕ → ℕ → List A
   aux_records t count start = records_of (links_in record_at distance t count start)
 
-  -- an entry with its auxiliary entries: it tells how many they are, and how far behind its own start they begin
+  -- an entry with its auxiliary entries: it gives their number, and the distance from its own start to the first
   abbrev pub with_aux_records : {V : Type 0} → (V → ℕ) → (V → ℕ) → Table → ℕ × V → V × List A
   with_aux_records count aux t link = (link.1, aux_records t (count link.1) (link.0 + aux link.1))
 
-  -- those that an iterator is still to give
+  -- those that an iterator has left to yield
   abbrev pub aux_left : {E : Type 0} → AuxIterator E A → List A
   aux_left s = records_of (links_left record_at distance s.links)
 
@@ -45,7 +45,7 @@ module _ {V A : Type 0} (record_at : Bool → Class → List ℕ → ℕ → Res
   abbrev pub entries_in : Table → ℕ → ℕ → List (V × List A)
   entries_in t count start = map (with_aux t) (links_in record_at distance t count start)
 
-  -- those that an iterator is still to give
+  -- those that an iterator has left to yield
   abbrev pub entries_left : {E : Type 0} → EntryIterator E V A → List (V × List A)
   entries_left s = map (with_aux (links_view s.links)) (links_left record_at distance s.links)
 

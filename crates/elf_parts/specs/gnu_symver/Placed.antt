@@ -1,4 +1,4 @@
--- Places of some version indexes, and what stands first for each.
+-- Places of some version indexes, and the first entry with each.
 use Rattle.std.specs.Prelude.{◌≡◌, ◌<◌, ℕ, ⊤, length, List, Option, Some, None, MatchOption}
 use Rattle.std.specs.Option.{option_map}
 use Rattle.elf_parts.specs.gnu_symver.Indexed.{slot}
@@ -11,12 +11,12 @@ use Rattle.elf_parts.specs.declared.gnu_symver.records.VerNeed.{VerNeed}
 use Rattle.elf_parts.specs.declared.gnu_symver.records.VerNeedAux.{VerNeedAux}
 use Rattle.elf_parts.specs.declared.gnu_symver.table.Needed.{Needed}
 
--- the first needed version of each index stands in the place of the index, if it has one
+-- the place of each index, if it has one, holds the first needed version with this index
 abbrev pub HoldNeeded : List (Option Needed) → List (VerNeed × List VerNeedAux) → Type 0
 HoldNeeded slots needs =
     (k : ℕ) → k < length slots → slot slots k ≡ option_map needed_of (needed_version k needs)
 
--- in the place of the index of a definition, if it has one, an iterator stands that gives the first one with the
+-- the place of the index of a definition, if it has one, holds an iterator that yields the first one with this
 -- index first
 abbrev pub HoldDefined : {E : Type 0} → List (Option (EntryIterator E VerDef VerDefAux)) →
     List (VerDef × List VerDefAux) → Type 0

@@ -1,5 +1,5 @@
 -- The records of GNU symbol versioning: the needs, the definitions, and the version indexes of symbols. The field
--- tables are the same in both classes; the version of a record is not kept.
+-- tables are the same in both classes; the version of a record is not stored.
 use Rattle.std.specs.Prelude.{refl, ℕ, ◌%◌, ◌^◌, nat_le, Bool, List, [], ◌∷◌, slice_index}
 use Rattle.elf_abi.specs.Values.{ver_def_current, ver_need_current}
 use Rattle.elf_parts.specs.Record.{Field, field, version_field, Layout, RecordType}

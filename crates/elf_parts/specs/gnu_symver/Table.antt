@@ -39,7 +39,7 @@ pub record Versions : Type 0 where
   pub needs : Option Needs
   pub definitions : Option Definitions
 
--- the version index of symbol i, or why it cannot be had
+-- the version index of symbol i, or the error
 abbrev pub index_of : Versions → ℕ → Result VersionIndex ParseError
 index_of versions i = table_get version_index_reads versions.indexes i
 
@@ -58,7 +58,7 @@ version_with index versions = find (λ aux. aux.vna_other == index) versions
 unfoldable pub needed_version : ℕ → List (VerNeed × List VerNeedAux) → Option (VerNeed × VerNeedAux)
 needed_version index needs = find (λ pair. pair.1.vna_other == index) (needed_versions needs)
 
--- what a symbol needs: the raw names of the file and of the version, each of which may be refused, and what stands
+-- what a symbol needs: the raw names of the file and of the version, each of which may be an error, and the fields
 -- beside them
 pub record Requirement : Type 0 where
   pub file : Result (List ℕ) ParseError
@@ -67,7 +67,7 @@ pub record Requirement : Type 0 where
   pub flags : ℕ
   pub hidden : Bool
 
--- what is kept of a needed version, the name of its file being at this offset
+-- what is stored of a needed version; the name of its file is at this offset
 abbrev pub kept : ℕ → VerNeedAux → Needed
 kept file version = record {
   file = file;
@@ -101,17 +101,17 @@ abbrev pub requirement_among : Option Needs → Result VersionIndex ParseError �
 requirement_among None version = Ok None
 requirement_among (Some needs) version = ok_map (requirement_with needs) version
 
--- what symbol i needs: nothing where there are no needs, whatever its index; else the refusal of its index; else the
+-- what symbol i needs: nothing where there are no needs, whatever its index; else the error of its index; else the
 -- first needed version with this index, if there is one
 abbrev pub requirement : Versions → ℕ → Result (Option Requirement) ParseError
 requirement versions i = requirement_among versions.needs (index_of versions i)
 
--- e refuses the first text, or the second where the first is one
+-- e is the error of the first text, or of the second where the first is a text
 abbrev pub RefusesText : Result (List ℕ) ParseError → Result (List ℕ) ParseError → ParseError → Type 0
 RefusesText first second e =
     GivesText first (Err e) ⊎ ((text : Bor (List ℕ)) × GivesText first (Ok text) × GivesText second (Err e))
 
--- the file's name and the version's name as texts, read in this order, with what stands beside them
+-- the file's name and the version's name as texts, read in this order, with the fields beside them
 abbrev pub GivesTexts : Requirement → Result SymbolRequirement ParseError → Type 0
 GivesTexts needed result =
     MatchResult result
@@ -139,11 +139,11 @@ GivesRequirement (Ok (Some needed)) result = OfSome (GivesTexts needed) result
 unfoldable pub defined_version : ℕ → List (VerDef × List VerDefAux) → Option (VerDef × List VerDefAux)
 defined_version index definitions = find (λ definition. definition.0.vd_ndx == index) definitions
 
--- the raw names of a version, each of which may be refused
+-- the raw names of a version, each of which may be an error
 abbrev pub raw_names : List ℕ → List VerDefAux → List (Result (List ℕ) ParseError)
 raw_names strings names = map (λ (aux : VerDefAux). string_at strings aux.vda_name) names
 
--- what a symbol is defined with: the raw names of its version, and what stands beside them
+-- what a symbol is defined with: the raw names of its version, and the fields beside them
 pub record Definition : Type 0 where
   pub hash : ℕ
   pub flags : ℕ
@@ -169,7 +169,7 @@ abbrev pub definition_among : Option Definitions → Result VersionIndex ParseEr
 definition_among None version = Ok None
 definition_among (Some defs) version = ok_map (definition_with defs) version
 
--- what symbol i is defined with: nothing where there are no definitions, whatever its index; else the refusal of its
+-- what symbol i is defined with: nothing where there are no definitions, whatever its index; else the error of its
 -- index; else the first definition with this index, if there is one
 abbrev pub definition : Versions → ℕ → Result (Option Definition) ParseError
 definition versions i = definition_among versions.definitions (index_of versions i)
@@ -189,7 +189,7 @@ versions_view table = record {
   definitions = option_map definitions_view table.definitions;
 }
 
--- the raw names that an iterator is still to give as texts
+-- the raw names that an iterator has left to yield as texts
 abbrev pub names_left : {E : Type 0} → SymbolNamesIterator E → List (Result (List ℕ) ParseError)
 names_left s = raw_names (strings_view s.strings.now) (ver_def_aux_left s.records)
 
@@ -207,7 +207,7 @@ HasFewNames (Ok (Some found)) = length (names_left found.names) < 2 ^ 16
 HasFewNames (Ok None) = ⊤
 HasFewNames (Err e) = ⊤
 
--- a call from s gave the first name that was left, as a text or with its own refusal, or nothing was left
+-- a call from s gave the first name that was left, as a text or as its own error, or nothing was left
 abbrev pub YieldsName : {E : Type 0} → SymbolNamesIterator E → Option (Result (Bor (List ℕ)) ParseError) →
     SymbolNamesIterator E → Type 0
 YieldsName s r t =

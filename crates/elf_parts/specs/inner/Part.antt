@@ -44,7 +44,7 @@ back_fields class =
     field (12 + 4 * address_size class) 4 ∷
     class_fields class (16 + 4 * address_size class) 2
 
--- a program header: p_offset to p_memsz, which stand in one order in both classes
+-- a program header: p_offset to p_memsz, which have the same order in both classes
 abbrev pub extent_fields : Class → List Field
 extent_fields class = class_fields class (address_size class) 5
 

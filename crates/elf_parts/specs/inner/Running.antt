@@ -1,4 +1,4 @@
--- A record read by an offset that moves from field to field, as the code reads it. What a record is stands in Record.
+-- A record read by an offset that moves from field to field, as the code reads it. A record is defined in Record.
 use Rattle.std.specs.Prelude.{ℕ, ◌+◌, Bool, List, [], ◌∷◌, if◌then◌else◌, Result, Ok, Err, is_ok}
 use Rattle.elf_parts.specs.declared.parse.ParseError.{ParseError}
 use Rattle.elf_parts.specs.Number.{number_at}

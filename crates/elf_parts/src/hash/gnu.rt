@@ -286,7 +286,7 @@ impl<'data, E: EndianParse> GnuHashTable<'data, E> {
     }
 
     // The index and the symbol of a name with this hash, in the bucket of the hash.
-    #[inline(never)]
+    #[inline(always)]
     fn find_in_bucket(
         &self,
         hash: usize,
@@ -316,9 +316,10 @@ impl<'data, E: EndianParse> GnuHashTable<'data, E> {
     /// caller raised `hdr.nbloom`; `ParsingTable::get` for a symbol whose chain word fits the hash;
     /// `StringTable::get_raw` for its name. It is `IntegerOverflow` if the second bloom bit is needed and the shift is
     /// 32 or more.
-    // Inlined, so that a name that the bloom word excludes needs no call, and its `None` no room for an error.
-    #[inline(always)]
+    // Inlined with its parts. A result has some hundred bytes, since `ParseError` can hold an `io::Error`: a call would
+    // fill and copy that room for each look-up.
     #[tactic(auto, unfolding(crate::specs::GnuFind::gnu_find))]
+    #[inline(always)]
     pub fn find(
         &self,
         name: &[u8],

@@ -107,7 +107,7 @@ impl<'data, E: EndianParse> SysVHashTable<'data, E> {
     }
 
     // The index and the symbol of a name, along the chain that starts at an index.
-    #[inline(never)]
+    #[inline(always)]
     fn find_along(
         &self,
         start: usize,
@@ -115,8 +115,8 @@ impl<'data, E: EndianParse> SysVHashTable<'data, E> {
         symtab: &SymbolTable<'data, E>,
         strtab: &StringTable<'data>,
     ) -> Found
-        ensures { let t = sysv_view self.now in
-            result ≡ find_along t (table_view symtab.now) (strings_view strtab.now) name.now (word_count t.chains) start }
+        ensures { let t = sysv_view self.now in let limit = word_count t.chains in
+            result ≡ find_along t (table_view symtab.now) (strings_view strtab.now) name.now limit start }
     {
         let mut index = start;
         for _ in 0..word_count(&self.chains) {
@@ -143,9 +143,10 @@ impl<'data, E: EndianParse> SysVHashTable<'data, E> {
     ///
     /// The error is that of the first read on the way that fails: `ParsingTable::get` for the symbol,
     /// `StringTable::get_raw` for its name, or `ParsingTable::get` for the chain word.
-    // Inlined, so that an empty bucket needs no call, and its `None` no room for an error.
-    #[inline(always)]
+    // Inlined with its parts. A result has some hundred bytes, since `ParseError` can hold an `io::Error`: a call would
+    // fill and copy that room for each look-up.
     #[tactic(auto, using(crate::proofs::Walks::along_ended), unfolding(crate::specs::SysvFind::sysv_find))]
+    #[inline(always)]
     pub fn find(
         &self,
         name: &[u8],

@@ -31,7 +31,7 @@ pub(crate) fn read_record<P: ParseAt>(
 
 /// A table of records of one type, each directly behind the one before it. It borrows the bytes, copies none of
 /// them, and reads a record when it is requested.
-// The order is kept as a bool, which is all that the reading of a record depends on.
+// The order is stored as a bool, which is all that the reading of a record depends on.
 #[derive(Debug)]
 #[derive_where(Copy)]
 pub struct ParsingTable<'data, E: EndianParse, P: ParseAt> {

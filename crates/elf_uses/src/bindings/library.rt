@@ -8,8 +8,9 @@ ghost use Rattle.elf.specs.ObjectFile.{ObjectFile};
 ghost use Rattle.elf_check.specs.CheckedTable.{object_view};
 ghost use Rattle.elf_check.specs.ObjectTable.{GivesObjectTable, object_of};
 ghost use Rattle.elf_check.specs.VersionedView.{versioned_view};
-ghost use Rattle.elf_uses.specs.Library.{GivesFrom, IsLibraryOf, definitions_in, hash_kept, lent, lent_hash, needs_in};
-ghost use Rattle.elf_uses.specs.Library.{object_kept, symbols_kept, told, versions_in, versions_kept};
+ghost use Rattle.elf_uses.specs.Library.{GivesFrom, IsLibraryOf, definitions_in, library_hash, needs_in};
+ghost use Rattle.elf_uses.specs.Library.{part_result, shown_hash};
+ghost use Rattle.elf_uses.specs.Library.{library_object, library_symbols, object_result, versions_in, library_versions};
 ghost use Rattle.elf_uses.specs.declared.bindings.library.LibraryFault.TheVariants.{Unread as IsUnread};
 
 use elf::ParseError;
@@ -85,7 +86,7 @@ impl<'a> From<&'a ParseError> for LibraryFault<'a> {
 impl<E: EndianParse> Library<E> {
     /// The hash section, if there is one, or the error of reading it.
     fn hash_section(&self) -> Result<Option<(HashSection, &[u8])>, &ParseError>
-        ensures { lent (option_map lent_hash) result ≡ hash_kept self.now }
+        ensures { part_result (option_map shown_hash) result ≡ library_hash self.now }
     {
         match &self.hash {
             Ok(Some(hash)) => Ok(Some((hash.kind, hash.section.as_slice()))),
@@ -98,7 +99,7 @@ impl<E: EndianParse> Library<E> {
     pub fn dynamic_symbol_table(
         &self,
     ) -> Result<Option<(SymbolTable<'_, E>, StringTable<'_>)>, &ParseError>
-        ensures { lent (option_map symbols_view) result ≡ symbols_kept E.little self.now }
+        ensures { part_result (option_map symbols_view) result ≡ library_symbols E.little self.now }
     {
         match &self.symbols {
             Ok(Some(bytes)) => Ok(Some((
@@ -178,7 +179,7 @@ impl<E: EndianParse> Library<E> {
 
     /// Returns the versions of the symbols, if there are any, or the error with which they were read.
     pub fn symbol_version_table(&self) -> Result<Option<SymbolVersionTable<'_, E>>, &ParseError>
-        ensures { lent (option_map versions_view) result ≡ versions_kept E.little self.now }
+        ensures { part_result (option_map versions_view) result ≡ library_versions E.little self.now }
     {
         match &self.versions {
             Ok(Some(bytes)) => Ok(Some(self.versions(bytes))),
@@ -189,7 +190,7 @@ impl<E: EndianParse> Library<E> {
 
     // The checked table, if there is a hash section.
     fn table(&self) -> Result<Option<AnyChecked<'_, E>>, LibraryFault<'_>>
-        ensures { GivesObjectTable object_view (object_kept E.little self.now) (told result) }
+        ensures { GivesObjectTable object_view (library_object E.little self.now) (object_result result) }
     {
         let Some((kind, section)) = self.hash_section()? else {
             return Ok(None);
@@ -211,7 +212,8 @@ impl<E: EndianParse> Library<E> {
     /// read; `Table` if there are no dynamic symbols; `Table` if `new` of the table returns an error; `Table` with a
     /// fault that is true of the section; `Unread` if the versions could not be read.
     pub fn object(&self) -> Result<Option<VersionedObject<'_, E>>, LibraryFault<'_>>
-        ensures { GivesFrom versioned_view (object_kept E.little self.now) (versions_kept E.little self.now) (told result) }
+        ensures { GivesFrom versioned_view (library_object E.little self.now) (library_versions E.little self.now)
+            (object_result result) }
     {
         let Some(table) = self.table()? else {
             return Ok(None);
@@ -223,8 +225,8 @@ impl<E: EndianParse> Library<E> {
     pub fn is_object_of(&self)
         ensures { (file : ObjectFile) (can_fail : Bool) → IsLibraryOf E.little can_fail file self.now
             → IsOk self.now.hash → IsOk self.now.symbols → IsOk self.now.versions
-            → (object_kept E.little self.now ≡ object_of file)
-            × (versions_kept E.little self.now ≡ symbol_version_table file) }
+            → (library_object E.little self.now ≡ object_of file)
+            × (library_versions E.little self.now ≡ symbol_version_table file) }
     {
         let _ = &self.class;
     }

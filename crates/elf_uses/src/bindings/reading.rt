@@ -26,7 +26,7 @@ use std::alloc::Global;
 // A copy of the bytes.
 fn copied(alloc: Global, bytes: &[u8]) -> Result<Vec<u8>, ParseError>
     ensures same { IfOk result (λ copy. copy.items ≡ bytes.now) }
-    ensures memory { IfErr result (λ e. kind e ≡ Kind.Want) }
+    ensures memory { IfErr result (λ e. kind e ≡ Kind.AllocationFailure) }
 {
     match bytes.to_vec(alloc) {
         Ok(copy) => Ok(copy),
@@ -121,7 +121,8 @@ fn read_symbols_of<E: EndianParse, S: StreamSource>(
     section: &SectionHeader,
     linked: &SectionHeader,
 ) -> Result<SymbolBytes, ParseError>
-    ensures { Reads stream.old stream.new result (symbols_in (E.little stream.old.ehdr.endianness) stream.old.ehdr.class)
+    ensures { Reads stream.old stream.new result
+        (symbols_in (E.little stream.old.ehdr.endianness) stream.old.ehdr.class)
         (λ bytes. symbols_in_file (stream_file E.little stream.old bytes) (section.now, linked.now)) }
 {
     let symbols = read_range(alloc, stream, section)?;

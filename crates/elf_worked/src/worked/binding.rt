@@ -29,8 +29,8 @@ pub fn definitions()
 {}
 
 /// The version of a symbol goes by its version index without bit 15. What is defined for the file itself is no version,
-/// and a version without a name that can be read is refused, as is a symbol without a version index. A symbol whose index
-/// no definition has has the version that it needs.
+/// and a version without a name that can be read is refused, as is a symbol without a version index. A symbol whose
+/// index no definition has has the version that it needs.
 pub fn versions_of_symbols()
     ensures hidden { version_of library_versions 0 ≡ Ok (Some v) }
     ensures shown { version_of library_versions 1 ≡ Ok (Some w) }
@@ -79,7 +79,7 @@ pub fn taken_without_a_version()
     ensures none { Takes (Some library_versions) [] Any (Ok None) }
 {}
 
-/// Of two objects the second is bound to where none in the first serves, and the first where both have one. An object of
+/// Of two objects the second is bound to if none in the first serves, and the first if both have one. An object of
 /// which it is not known stops the look-up.
 pub fn bound_in_two()
     ensures second { (one two : VersionedObject) (name : List ℕ) (wanted : Wanted) (found : ℕ × Symbol)

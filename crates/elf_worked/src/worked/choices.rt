@@ -5,7 +5,7 @@ ghost use Rattle.elf.specs.Versions.{version_sections};
 ghost use Rattle.elf_worked.specs.Objects.{definitions_at, indexes_at, needs_at};
 
 /// Of the three types of sections of versions the last of each is taken, among those up to the first section by which
-/// all three were seen: what stands behind that is not looked at.
+/// all three were seen: what follows is not looked at.
 pub fn version_sections_taken()
     ensures in_order { version_sections (indexes_at 1 ∷ needs_at 2 ∷ definitions_at 3 ∷ indexes_at 4 ∷ needs_at 5 ∷ [])
         ≡ record { indexes = Some (indexes_at 1); needs = Some (needs_at 2); definitions = Some (definitions_at 3) } }

@@ -54,7 +54,7 @@ pub fn hashes_found()
         }) }
 {}
 
-/// The first refusal of a section refuses all: a link to a section that there is not, and entries of another size.
+/// The first error of a section is returned: a link to a section that there is not, and entries of another size.
 pub fn common_data_refused()
     ensures link { find_common_data (object_with counted
         (linked_section_of 2 0 16 9 16 ∷ linked_section_of 2 0 16 0 24 ∷ []) [])

@@ -30,7 +30,7 @@ pub fn ident_magic()
 {}
 
 /// Behind the magic number the version is looked at first, then the class, then the order: what is
-/// wrong first in this order is told.
+/// wrong first in this order is the error.
 pub fn ident_refusals()
     ensures six_bytes { ident_of any_of_byte (0x7f ∷ 0x45 ∷ 0x4c ∷ 0x46 ∷ 9 ∷ 9 ∷ [])
         ≡ Err (SliceReadError (0, 16)) }
@@ -143,7 +143,7 @@ pub fn section_header_of_32_bits()
     ensures moved { offset_by section_header_layout true ELF32 counted 24 ≡ 64 }
 {}
 
-/// A 64-bit program header of the bytes 00 to 37: its flags stand behind its type.
+/// A 64-bit program header of the bytes 00 to 37: its flags follow its type.
 pub fn program_header_of_64_bits()
     ensures little { record_by program_header_layout true ELF64 (take 56 counted) 0 ≡ Ok (record {
       p_type = 0x03020100;
@@ -168,7 +168,7 @@ pub fn program_header_of_64_bits()
     ensures moved { offset_by program_header_layout true ELF64 counted 0 ≡ 56 }
 {}
 
-/// A 32-bit program header of the bytes 00 to 1f: its flags stand before its alignment.
+/// A 32-bit program header of the bytes 00 to 1f: its flags come before its alignment.
 pub fn program_header_of_32_bits()
     ensures little { record_by program_header_layout true ELF32 (take 32 counted) 0 ≡ Ok (record {
       p_type = 0x03020100;
@@ -202,7 +202,7 @@ pub fn sizes_of_records()
 {}
 
 /// Section headers that do not fit into what is there: the first field that ends behind the bytes is
-/// told.
+/// the error.
 pub fn refused_records()
     ensures fourth_field { record_by section_header_layout true ELF64 (take 20 counted) 0
         ≡ Err (SliceReadError (16, 24)) }
@@ -222,7 +222,7 @@ pub fn refused_records()
         ≡ Err (SliceReadError (18446744073709551611, 18446744073709551615)) }
 {}
 
-/// A refused record leaves the offset at the field that is told.
+/// A refused record leaves the offset at the field of the error.
 pub fn offsets_of_refused_records()
     ensures fourth_field { offset_by section_header_layout true ELF64 (take 20 counted) 0 ≡ 16 }
     ensures fourth_field_later { offset_by section_header_layout true ELF64 (take 20 counted) 3 ≡ 19 }

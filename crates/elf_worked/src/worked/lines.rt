@@ -1,4 +1,4 @@
-//! The lines of a listing, of records put together by hand.
+//! The lines of a listing, of records whose fields are given.
 ghost use Rattle.std.specs.Prelude.{◌≡◌, [], ◌∷◌, ◌++◌, Ok, Err, Some, None, codes, negsuc, pos};
 ghost use Rattle.elf_parts.specs.Note.{AbiTag, BuildId, Other};
 ghost use Rattle.elf_parts.specs.declared.parse.ParseError.TheVariants.{BadOffset};

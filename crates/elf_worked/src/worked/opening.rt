@@ -85,7 +85,7 @@ pub fn sections_counted_by_size()
     ensures many { opening (counted_by_size (zeros 7 ++ 0x10 ∷ [])) ≡ Err IntegerOverflow }
 {}
 
-/// Where the table has no records, the header that e_shstrndx names cannot be had.
+/// Where the table has no records, the header that e_shstrndx names cannot be read.
 pub fn names_without_sections()
     ensures empty { ok_map names_in (opening (counted_by_size (zeros 8)))
         ≡ Ok (Err (BadOffset 1)) }
@@ -107,7 +107,7 @@ pub fn segment_tables()
         ≡ Err (SliceReadError (64, 120)) }
 {}
 
-/// What is refused first is told: of the sections their number, which the first header may have to tell,
+/// The first error is returned: of the sections their number, which may be in the first header,
 /// then the size of an entry, then the place of the table; then the same of the segments, and nothing is
 /// behind this header.
 pub fn refusals_of_tables()
@@ -182,7 +182,7 @@ pub fn names_by_first_section()
         ≡ Ok (Ok (Some two_names)) }
 {}
 
-/// The file once opened, with another e_shstrndx set in its header: 0 stands for no names, 2 is the
+/// The file once opened, with another e_shstrndx set in its header: 0 means no names, 2 is the
 /// place behind the table, 3 is further on, and 0xffff leads to section 0, which has no bytes.
 pub fn names_by_standing_header()
     ensures none { names_in (two_view_with 0) ≡ Ok None }

@@ -14,7 +14,7 @@ ghost use Rattle.elf_worked.specs.Files.{counted, in_eight, ones};
 ghost use Rattle.elf_worked.specs.Objects.{symbol_with};
 
 /// A symbol of the bytes 00 to 17 in 64 bits, where the name is followed by the three small numbers, and of the
-/// bytes 00 to 0f in 32 bits, where value and size stand before them.
+/// bytes 00 to 0f in 32 bits, where value and size come before them.
 pub fn symbols()
     ensures little_64 { record_by symbol_layout true ELF64 counted 0 ≡ Ok (record {
       st_name = 0x03020100;
@@ -64,7 +64,7 @@ pub fn parts_of_symbols()
     ensures protected { symbol_visibility (symbol_with 0xaf 0xff) ≡ 3 }
 {}
 
-/// In 32 bits the type of a relocation is the lowest byte of r_info and the symbol stands in the others; in 64 bits
+/// In 32 bits the type of a relocation is the lowest byte of r_info and the symbol is in the others; in 64 bits
 /// each has one half.
 pub fn relocations()
     ensures little_32 { record_by rel_layout true ELF32 counted 0
@@ -109,13 +109,16 @@ pub fn dynamic_entries()
 
 /// A user's own record with a signed number: fe ff ff ff is -2 in little order, and ff ff ff fe is in big order.
 pub fn branches()
-    ensures negative_little { record_by branch_layout true ELF64 (7 ∷ 0 ∷ 0xfe ∷ ones 3) 0 ≡ Ok (record { line = 7; distance = negsuc 1 }) }
-    ensures negative_big { record_by branch_layout false ELF32 (0 ∷ 7 ∷ (ones 3 ++ 0xfe ∷ [])) 0 ≡ Ok (record { line = 7; distance = negsuc 1 }) }
-    ensures positive { record_by branch_layout true ELF64 (take 6 counted) 0 ≡ Ok (record { line = 0x0100; distance = pos 0x05040302 }) }
+    ensures negative_little { record_by branch_layout true ELF64 (7 ∷ 0 ∷ 0xfe ∷ ones 3) 0
+        ≡ Ok (record { line = 7; distance = negsuc 1 }) }
+    ensures negative_big { record_by branch_layout false ELF32 (0 ∷ 7 ∷ (ones 3 ++ 0xfe ∷ [])) 0
+        ≡ Ok (record { line = 7; distance = negsuc 1 }) }
+    ensures positive { record_by branch_layout true ELF64 (take 6 counted) 0
+        ≡ Ok (record { line = 0x0100; distance = pos 0x05040302 }) }
     ensures size { size_by branch_layout ELF64 ≡ 6 }
 {}
 
-/// In 64 bits a reserved word stands behind the type and is not kept.
+/// In 64 bits a reserved word follows the type and is not stored.
 pub fn compression_headers()
     ensures little_32 { record_by compression_header_layout true ELF32 counted 0
         ≡ Ok (record { ch_type = 0x03020100; ch_size = 0x07060504; ch_addralign = 0x0b0a0908 }) }

@@ -1,4 +1,4 @@
-//! The bytes that a section stands for.
+//! The bytes of a section.
 ghost use Rattle.std.specs.Prelude.{◌≡◌, ◌-◌, ◌^◌, [], ◌∷◌, Ok, Err, Some, None};
 ghost use Rattle.elf.specs.Data.{content_of_type, section_data};
 ghost use Rattle.elf_parts.specs.declared.parse.ParseError.TheVariants.{IntegerOverflow, SliceReadError};

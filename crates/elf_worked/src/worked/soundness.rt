@@ -21,7 +21,7 @@ pub fn sysv_section_is_sound()
     ensures cut { sysv_cut 8 (sysv_bytes 4 (in_four 0)) ≡ Ok (sysv_with 8 (in_four 0)) }
     ensures sound { IsOkAnd (sysv_cut 8 (sysv_bytes 4 (in_four 0))) SoundSysv }
     ensures no_fault { (fault : HashFault) → ¬ IsTrueOfSysv (sysv_with 8 (in_four 0)) fault }
-    ensures told { ok_map (λ s. verdict_line (verdict_of (BySysv s))) (sysv_cut 8 (sysv_bytes 4 (in_four 0)))
+    ensures verdict { ok_map (λ s. verdict_line (verdict_of (BySysv s))) (sysv_cut 8 (sysv_bytes 4 (in_four 0)))
         ≡ Ok (codes "sound indexed=3\n") }
 {}
 
@@ -34,7 +34,7 @@ pub fn sysv_sections_with_a_fault()
     ensures past_chains { IsOkAnd (sysv_cut 8 (sysv_bytes 3 [])) (HasSysvFault (PastChains 0 3)) }
     ensures unreadable { IsOkAnd (sysv_cut 11 (sysv_bytes 4 (in_four 0))) (HasSysvFault (Unreadable 3)) }
     ensures wrong_bucket { IsOkAnd (sysv_cut 8 (sysv_bytes 4 (in_four 2))) (HasSysvFault (WrongBucket 0 2)) }
-    ensures told { ok_map (λ s. verdict_line (verdict_of (BySysv s))) (sysv_cut 8 (sysv_bytes 4 (in_four 1)))
+    ensures verdict { ok_map (λ s. verdict_line (verdict_of (BySysv s))) (sysv_cut 8 (sysv_bytes 4 (in_four 1)))
         ≡ Ok (codes "faulty\n") }
 {}
 
@@ -43,7 +43,7 @@ pub fn gnu_section_is_sound()
     ensures cut { gnu_cut 3 (gnu_bytes 5 0xc0 0x06 0x09) ≡ Ok (gnu_with 3 5 0xc0 0x06 0x09) }
     ensures sound { IsOkAnd (gnu_cut 3 (gnu_bytes 5 0xc0 0x06 0x09)) SoundGnu }
     ensures no_fault { (fault : HashFault) → ¬ IsTrueOfGnu (gnu_with 3 5 0xc0 0x06 0x09) fault }
-    ensures told { ok_map (λ s. verdict_line (verdict_of (ByGnu s))) (gnu_cut 3 (gnu_bytes 5 0xc0 0x06 0x09))
+    ensures verdict { ok_map (λ s. verdict_line (verdict_of (ByGnu s))) (gnu_cut 3 (gnu_bytes 5 0xc0 0x06 0x09))
         ≡ Ok (codes "sound indexed=3\n") }
 {}
 
@@ -56,6 +56,6 @@ pub fn gnu_sections_with_a_fault()
     ensures wrong_hash { IsOkAnd (gnu_cut 3 (gnu_bytes 5 0xc0 0x06 0x0b)) (HasGnuFault (WrongHash 2)) }
     ensures no_bloom_bit { IsOkAnd (gnu_cut 3 (gnu_bytes 5 0x40 0x06 0x09)) (HasGnuFault (NoBloomBit 3)) }
     ensures not_in_run { IsOkAnd (gnu_cut 3 (gnu_bytes 5 0xc0 0x07 0x09)) (HasGnuFault (NotInRun 2)) }
-    ensures told { ok_map (λ s. verdict_line (verdict_of (ByGnu s))) (gnu_cut 3 (gnu_bytes 5 0xc0 0x07 0x09))
+    ensures verdict { ok_map (λ s. verdict_line (verdict_of (ByGnu s))) (gnu_cut 3 (gnu_bytes 5 0xc0 0x07 0x09))
         ≡ Ok (codes "faulty\n") }
 {}

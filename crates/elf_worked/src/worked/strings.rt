@@ -35,7 +35,7 @@ pub fn of_no_bytes()
 
 /// The string "ELF" is a text: whatever is answered for it as a text is that text. Where the string is
 /// refused, so is the text, for the same reason.
-pub fn text_asked()
+pub fn a_string_as_text()
     ensures accepted { (answer : Result (Bor (List ℕ)) ParseError) →
         GivesText (string_at (0x00 ∷ 0x45 ∷ 0x4c ∷ 0x46 ∷ 0x00 ∷ []) 1) answer →
         IsOkAnd answer (λ text. text.now ≡ codes "ELF") }
@@ -45,7 +45,7 @@ pub fn text_asked()
 
 /// The bytes 00 c3 28 00 hold the string c3 28, which is no UTF-8: whatever is answered for it as a text
 /// is a `Utf8Error`.
-pub fn broken_text_asked()
+pub fn a_broken_string_as_text()
     ensures string { string_at (0x00 ∷ 0xc3 ∷ 0x28 ∷ 0x00 ∷ []) 1 ≡ Ok (0xc3 ∷ 0x28 ∷ []) }
     ensures no_text { ¬ IsUtf8 (0xc3 ∷ 0x28 ∷ []) }
     ensures answered { (answer : Result (Bor (List ℕ)) ParseError) →

@@ -18,7 +18,7 @@ pub fn numbers_written()
     ensures hex_greatest { hex (2 ^ 64 - 1) ≡ codes "0xffffffffffffffff" }
 {}
 
-/// Names: visible characters stand for themselves, but for the backslash; all other bytes, the space
+/// Names: visible characters are written as they are, but for the backslash; all other bytes, the space
 /// among them, are written by their numbers.
 pub fn names_written()
     ensures plain { escaped (0x21 ∷ 0x2e ∷ 0x73 ∷ 0x7e ∷ []) ≡ codes "!.s~" }
@@ -38,7 +38,7 @@ pub fn small_file_listed()
         ) }
 {}
 
-/// No calls write nothing, and a call that stands twice is written twice.
+/// No calls write nothing, and a call that is given twice is written twice.
 pub fn calls_joined()
     ensures none { listing small_file [] ≡ Ok [] }
     ensures twice { listing small_file (Sections ∷ Sections ∷ []) ≡ Ok (codes "end 0\nend 0\n") }
@@ -55,7 +55,7 @@ pub fn two_sections_listed()
         ) }
 {}
 
-/// The same file with all numbers in big order has the same sections, and a header that tells the
+/// The same file with all numbers in big order has the same sections, and a header that gives the
 /// order.
 pub fn two_sections_in_big_order()
     ensures sections { listing two_sections_big (Sections ∷ []) ≡ listing two_sections (Sections ∷ []) }

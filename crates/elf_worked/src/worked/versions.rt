@@ -10,7 +10,7 @@ ghost use Rattle.elf_worked.specs.Files.{in_four, in_two, zeros};
 ghost use Rattle.elf_worked.specs.Parts.{base_definition, definitions, first_need, needs};
 ghost use Rattle.elf_worked.specs.Parts.{second_definition, second_need, versions};
 
-/// Two files, the first with two versions and the second with none: each record lies where the one before it tells.
+/// Two files, the first with two versions and the second with none: each record lies where the one before it says.
 /// With a count of 1 only the first is a need; no count gives more than there are.
 pub fn needed_files()
     ensures both { ver_needs (table_in true ELF64 needs) 2 0 ≡ first_need ∷ second_need ∷ [] }

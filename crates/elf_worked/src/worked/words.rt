@@ -1,4 +1,4 @@
-//! What the words of a command line ask for.
+//! What the words of a command line request.
 ghost use Rattle.std.specs.Prelude.{◌≡◌, [], ◌∷◌, ◌++◌, Some, None, codes};
 ghost use Rattle.elf_check.specs.declared.hashcheck.any.HashSection.TheVariants.{Gnu, Sysv};
 ghost use Rattle.elfshow.specs.calls.Question.{Data, DynSyms, Dynamic, Hash, Header, Name, Notes, Relas, Rels};
@@ -60,7 +60,7 @@ pub fn numbers_of_words()
     ensures empty { index_of [] ≡ None }
 {}
 
-/// The readers, what both write, and the exit status of words that ask for nothing.
+/// The readers, what both write, and the exit status of words that request nothing.
 pub fn modes()
     ensures bytes { mode_of (codes "bytes") ≡ Some Bytes }
     ensures stream { mode_of (codes "stream") ≡ Some Stream }

@@ -14,8 +14,8 @@ ghost use Rattle.elf_worked.specs.Known.{names_header, null_header, two_header_w
 ghost use Rattle.elf_worked.specs.WrittenFiles.{IsWritten, NamesLie, segments_of};
 ghost use Rattle.elf_worked.specs.WrittenFiles.{written_sections, written_segments, written_view};
 
-/// A file that holds a header at its front, and the tables that the header tells of where it says that they lie, is
-/// opened with this header and these tables. Either number of headers may stand in the first section header.
+/// A file that holds a header at its front, and the tables that the header declares where it says that they lie, is
+/// opened with this header and these tables. Either number of headers may be in the first section header.
 pub fn written_files_are_opened<E>()
     ensures view { (little : E → Bool) (of_byte : ℕ → Option E) (h : FileHeader E) (sections : List SectionHeader)
         (segments : Option (List ProgramHeader)) (bytes : List ℕ) → IsWritten little h of_byte sections segments bytes →
@@ -33,7 +33,7 @@ pub fn written_files_are_opened<E>()
 {}
 
 /// The file with two sections is written so; and so is a file with one section and one segment, both of whose numbers
-/// stand in its first section header.
+/// are in its first section header.
 pub fn files_that_are_written()
     ensures two { IsWritten any_is_little (two_header_with 1) any_of_byte (null_header ∷ names_header ∷ []) None
         two_sections }

@@ -2,7 +2,7 @@
 use Rattle.std.specs.Prelude.{◌≡◌, ℕ, ◌<◌, Bool, List, length, take, Option, Result, Ok, Err, IsOk}
 use Rattle.std.specs.Io.KnownBytes.{Appends}
 use Rattle.elf.specs.StreamFile.{stream_file}
-use Rattle.elf.specs.ElfStream.{AreHeld, IsRefused, Seen, kind}
+use Rattle.elf.specs.ElfStream.{AreCached, IsRefused, Seen, kind}
 use Rattle.elf_parts.specs.declared.parse.ParseError.{ParseError}
 use Rattle.elfshow.specs.calls.Question.{Question}
 use Rattle.elfshow.specs.calls.Ranges.{TakesNoMemory, call_ranges}
@@ -11,8 +11,8 @@ use Rattle.elfshow.specs.declared.calls.RunError.{RunError}
 use Rattle.elfshow.specs.declared.calls.RunError.TheVariants.{Fault, Open, Write}
 
 -- At Ok the whole text was written, and the source did not fail. A fault is a failure of the source, which its count
--- shows, or want of memory; then the text of the calls that were done was written. Of what a writer holds that failed
--- nothing is said. A run over a stream opens no file.
+-- shows, or an allocation failure; then the text of the calls that were done was written. Of what a failed writer has
+-- nothing is stated. A run over a stream opens no file.
 abbrev pub Ran : {C : Type 0} → (List C → List ℕ) → List C → Option (List ℕ) → Option (List ℕ) → Bool → ℕ → ℕ →
     Result (Unit {0}) RunError → Type 0
 Ran texts calls old new can_fail before now (Ok _) = (now ≡ before) × Appends old new (texts calls)
@@ -37,11 +37,11 @@ IsFaultless (Err (Write done e)) = Unit {0}
 abbrev pub stream_answer : {E : Type 0} → (E → Bool) → Seen E → List ℕ → Question → Result (List ℕ) ParseError
 stream_answer little s bytes call = call_answer s.ehdr (stream_file little s bytes) call
 
--- where the call is answered its ranges are held
+-- where the call is answered its ranges are cached
 abbrev pub IsLoaded : {E : Type 0} → (E → Bool) → Seen E → List ℕ → Question → Type 0
-IsLoaded little s bytes call = IsOk (stream_answer little s bytes call) → AreHeld s (call_ranges little s call)
+IsLoaded little s bytes call = IsOk (stream_answer little s bytes call) → AreCached s (call_ranges little s call)
 
--- the call is answered, by what is held and without memory
+-- the call is answered, by what is cached and without memory
 abbrev pub IsAtHand : {E : Type 0} → (E → Bool) → Seen E → List ℕ → Question → Type 0
 IsAtHand little s bytes call =
-    TakesNoMemory call × AreHeld s (call_ranges little s call) × IsOk (stream_answer little s bytes call)
+    TakesNoMemory call × AreCached s (call_ranges little s call) × IsOk (stream_answer little s bytes call)

@@ -80,7 +80,7 @@ checked_as kind file s =
 
 -- ---- calls
 
--- an object file, and the file header as it stands
+-- an object file, and the file header as it is now
 module _ {E : Type 0} (header : FileHeader E) (file : ObjectFile) where
   -- what is answered for section i, or for segment i
   abbrev pub of_section : ℕ → (SectionHeader → Result (List ℕ) ParseError) → Result (List ℕ) ParseError

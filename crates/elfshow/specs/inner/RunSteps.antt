@@ -4,7 +4,7 @@ use Rattle.std.specs.Io.KnownBytes.{Appends}
 use Rattle.elf.specs.Answers.{dynamic_symbol_table}
 use Rattle.elf.specs.Data.{section_data}
 use Rattle.elf.specs.ObjectFile.{ObjectFile}
-use Rattle.elf.specs.ElfStream.{AreHeld, IsAnswer, IsRefused, Keeps, Kind, Seen, kind}
+use Rattle.elf.specs.ElfStream.{AreCached, IsAnswer, IsRefused, Keeps, Kind, Seen, kind}
 use Rattle.elf_parts.specs.Number.{ok_map}
 use Rattle.elf_parts.specs.Record.{◌>>=◌}
 use Rattle.elf_parts.specs.declared.section.SectionHeader.{SectionHeader}
@@ -43,12 +43,12 @@ RanOne answer old new can_fail before now (Err (stop.Fault e)) =
     KeepsBytes old new × IsRefused before now can_fail ⊥ (kind e)
 RanOne answer old new can_fail before now (Err (stop.Write e)) = now ≡ before
 
--- the same file, the text of the call, no fault where it is answered at hand, and at Ok its ranges where it is answered
+-- the same file, the text of the call, no fault if the cache answers it, and at Ok its ranges if it is answered
 pub record RanCall {E : Type 0} (little : E → Bool) (call : Question) (old new : Seen E)
     (before after : Option (List ℕ)) (r : Result (Unit {0}) Stop) : Type 0 where
   pub keeps : Keeps old new
   pub ran : IfSome old.content (λ bytes.
-      RanOne (stream_answer little old bytes call) before after old.can_fail old.faults new.faults r)
+      RanOne (stream_answer little old bytes call) before after old.can_fail old.failures new.failures r)
   pub no_fault : IfSome old.content (λ bytes. IsAtHand little old bytes call → IsFaultlessCall r)
   pub loaded : OnOk r (IfSome old.content (λ bytes. IsLoaded little new bytes call))
 
@@ -61,17 +61,17 @@ TriedOne answer old new can_fail before now (Ok written) =
 TriedOne answer old new can_fail before now (Err e) =
     (new ≡ old) × IsRefused before now can_fail (IsErr answer) (kind e)
 
--- the same file, the text of the call or a refusal, and no refusal where it is answered at hand; its ranges are held
+-- the same file, the text of the call or an error, and no error if the cache answers it; its ranges are cached
 -- where it is not refused
 pub record TriedCall {E X : Type 0} (little : E → Bool) (call : Question) (old new : Seen E)
     (before after : Option (List ℕ)) (r : Result (Result (Unit {0}) X) ParseError) : Type 0 where
   pub keeps : Keeps old new
   pub tried : IfSome old.content (λ bytes.
-      TriedOne (stream_answer little old bytes call) before after old.can_fail old.faults new.faults r)
+      TriedOne (stream_answer little old bytes call) before after old.can_fail old.failures new.failures r)
   pub accepted : IfSome old.content (λ bytes. IsAtHand little old bytes call → IsOk r)
-  pub loaded : OnOk r (AreHeld new (call_ranges little old call))
+  pub loaded : OnOk r (AreCached new (call_ranges little old call))
 
--- what was written, as a run tells it
+-- what was written, as a run returns it
 abbrev pub IsWritten : {A E : Type 0} → Result A E → Result (Unit {0}) Stop → Type 0
 IsWritten (Ok _) (Ok _) = Unit {0}
 IsWritten (Err _) (Err (stop.Write e)) = Unit {0}
@@ -83,37 +83,37 @@ IsUnfailing (Open e) = Unit {0}
 IsUnfailing (Fault done e) = Unit {0}
 IsUnfailing (Write done e) = ⊥
 
--- a refusal of this kind is a fault
+-- an error of this kind is a fault
 abbrev pub IsFaultOf : Kind → Result (Unit {0}) Stop → Type 0
 IsFaultOf k (Err (stop.Fault e)) = kind e ≡ k
 IsFaultOf k _ = ⊥
 
 -- the line `refused` was written
-abbrev pub IsToldRefused : Option (List ℕ) → Option (List ℕ) → Result (Unit {0}) Stop → Type 0
-IsToldRefused old new (Ok _) = Appends old new refused_line
-IsToldRefused old new (Err (stop.Write e)) = Unit {0}
-IsToldRefused old new _ = ⊥
+abbrev pub WritesRefused : Option (List ℕ) → Option (List ℕ) → Result (Unit {0}) Stop → Type 0
+WritesRefused old new (Ok _) = Appends old new refused_line
+WritesRefused old new (Err (stop.Write e)) = Unit {0}
+WritesRefused old new _ = ⊥
 
--- what a refusal leads to: a fault, and nothing is written; or the line `refused`
+-- what an error leads to: a fault, and nothing is written; or the line `refused`
 abbrev pub LeadsTo : Kind → Option (List ℕ) → Option (List ℕ) → Result (Unit {0}) Stop → Type 0
-LeadsTo Kind.Failure old new r = KeepsBytes old new × IsFaultOf Kind.Failure r
-LeadsTo Kind.Want old new r = KeepsBytes old new × IsFaultOf Kind.Want r
-LeadsTo Kind.Refusal old new r = IsToldRefused old new r
+LeadsTo Kind.SourceFailure old new r = KeepsBytes old new × IsFaultOf Kind.SourceFailure r
+LeadsTo Kind.AllocationFailure old new r = KeepsBytes old new × IsFaultOf Kind.AllocationFailure r
+LeadsTo Kind.Refusal old new r = WritesRefused old new r
 
--- ---- calls that ask a stream more than once
+-- ---- calls that call a stream more than once
 
--- the same file, and the answer that the content gives, for which the asked ranges are held, or a refusal
-pub record Gives {E T Y : Type 0} (asked : List (ℕ × ℕ)) (shown : T → Y) (answer : List ℕ → Result Y ParseError)
+-- the same file, and the answer that the content gives, for which the requested ranges are cached, or an error
+pub record Gives {E T Y : Type 0} (requested : List (ℕ × ℕ)) (shown : T → Y) (answer : List ℕ → Result Y ParseError)
     (old new : Seen E) (r : Result T ParseError) : Type 0 where
   pub keeps : Keeps old new
-  pub loaded : OnOk r (AreHeld new asked)
-  pub answers : IfSome old.content (λ bytes. IsAnswer shown (answer bytes) old.can_fail old.faults new.faults r)
+  pub loaded : OnOk r (AreCached new requested)
+  pub answers : IfSome old.content (λ bytes. IsAnswer shown (answer bytes) old.can_fail old.failures new.failures r)
 
 -- the bytes of a section
 abbrev pub section_bytes : ObjectFile → SectionHeader → Result (List ℕ) ParseError
 section_bytes file s = ok_map (λ found. found.0) (section_data file s)
 
--- what a checker says of a section, if there are symbols to check it for; its refusal stands apart from a stream's
+-- what a checker says of a section, if there are symbols to check it for; its error is apart from a stream's
 abbrev pub checked_apart : HashSection → ObjectFile → SectionHeader →
     Result (Option (Result Verdict ParseError)) ParseError
 checked_apart kind file s =

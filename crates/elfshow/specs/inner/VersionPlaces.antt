@@ -10,7 +10,7 @@ abbrev pub is_index_from : ℕ → Result VersionIndex ParseError → Bool
 is_index_from least (Ok version) = nat_le least (version_index version)
 is_index_from least (Err e) = false
 
--- whether one of so many symbols has such a version index
+-- whether one of n symbols has such a version index
 abbrev pub has_index_from : ℕ → ℕ → Versions → Bool
 has_index_from least zero versions = false
 has_index_from least (suc n) versions =

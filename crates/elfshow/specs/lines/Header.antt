@@ -8,7 +8,7 @@ use Rattle.elfshow.specs.Pieces.{◌⧺◌, newline, hex}
 abbrev pub order_name : Bool → List ℕ
 order_name little = if little then codes "little" else codes "big"
 
--- the fields that the identification tells, and the version
+-- the fields of the identification, and the version
 unfoldable pub ident_fields : {E : Type 0} → Bool → FileHeader E → List ℕ
 ident_fields little h =
     codes "class=" ⧺ decimal (address_bits h.class) ⧺ codes " order=" ⧺ order_name little

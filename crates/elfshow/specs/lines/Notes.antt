@@ -1,4 +1,4 @@
--- The lines of notes, which tell no numbers.
+-- The lines of notes, which have no numbers.
 use Rattle.std.specs.Prelude.{ℕ, List, codes}
 use Rattle.std.specs.Fmt.{decimal}
 use Rattle.elf_parts.specs.Note.{NoteContent, AbiTag, BuildId, Other}

@@ -25,6 +25,6 @@ strings_from (suc limit) bytes o =
 abbrev pub strings_of : List ℕ → List (ℕ × List ℕ)
 strings_of bytes = strings_from (length bytes) bytes 0
 
--- a string tells its offset in place of its number
+-- the line of a string has its offset in place of its number
 abbrev pub string_line : ℕ → ℕ × List ℕ → List ℕ
 string_line k (o, string) = codes "string " ⧺ decimal o ⧺ codes " name=" ⧺ escaped string ⧺ newline

@@ -19,7 +19,7 @@ abbrev pub text_shown : Result (Bor (List ℕ)) ParseError → Option (List ℕ)
 text_shown (Ok text) = Some text.now
 text_shown (Err e) = None
 
--- what stands beside the names of a version
+-- the fields beside the names of a version
 abbrev pub version_fields : ℕ → ℕ → Bool → List ℕ
 version_fields hash flags hidden =
     codes " hash=" ⧺ hex hash ⧺ codes " flags=" ⧺ decimal flags

@@ -3,12 +3,12 @@ ghost use Rattle.std.specs.Prelude.{◌≡◌, ℕ, OnOk, IfSome, slice_get};
 ghost use Rattle.std.specs.Io.KnownBytes.{Appends};
 ghost use Rattle.elf_abi.specs.Values.{sht_dynsym};
 ghost use Rattle.elf.specs.Answers.{dynamic_symbol_table};
-ghost use Rattle.elf.specs.Ranges.{headers_alone, section_asked, symbols_asked};
+ghost use Rattle.elf.specs.Ranges.{headers_alone, section_ranges, symbols_ranges};
 ghost use Rattle.elf.specs.StreamFile.{stream_file};
 ghost use Rattle.elf.specs.ElfStream.{Leaves, kind};
 ghost use Rattle.elf_parts.specs.Number.{ok_map};
 ghost use Rattle.elfshow.specs.calls.Question.{Question, question};
-ghost use Rattle.elfshow.specs.calls.Ranges.{checked_asked};
+ghost use Rattle.elfshow.specs.calls.Ranges.{checked_ranges};
 ghost use Rattle.elfshow.specs.calls.Text.{symbol_count};
 ghost use Rattle.elfshow.specs.inner.RunSteps.{Gives, IsWritten, LeadsTo, RanCall, TriedCall, checked_apart};
 ghost use Rattle.elfshow.specs.inner.RunSteps.{section_bytes};
@@ -47,7 +47,7 @@ pub(super) fn write_call<E: EndianParse, S: StreamSource, A: Allocator + Copy, W
         (W.contents out.old) (W.contents out.new) result }
 {
     match try_call(stream, call, out) {
-        Ok(written) => told(written),
+        Ok(written) => or_stop(written),
         Err(error) => refuse(error, out),
     }
 }
@@ -83,7 +83,7 @@ fn try_call<E: EndianParse, S: StreamSource, A: Allocator + Copy, W: Write>(
 }
 
 // The result of a write, as that of a call of a run.
-fn told(written: io::Result<()>) -> Result<(), Stop>
+fn or_stop(written: io::Result<()>) -> Result<(), Stop>
     ensures { IsWritten written result }
 {
     match written {
@@ -99,7 +99,7 @@ fn refuse<W: Write>(error: ParseError, out: &mut W) -> Result<(), Stop>
     match error {
         ParseError::IOError(error) => Err(Stop::Fault(ParseError::IOError(error))),
         ParseError::OutOfMemory => Err(Stop::Fault(ParseError::OutOfMemory)),
-        _ => told(write_refused(out)),
+        _ => or_stop(write_refused(out)),
     }
 }
 
@@ -336,7 +336,7 @@ fn write_dynamic<E: EndianParse, S: StreamSource, A: Allocator + Copy, W: Write>
 fn dynamic_symbol_count<E: EndianParse, S: StreamSource, A: Allocator + Copy>(
     stream: &mut ElfStream<E, S, A>,
 ) -> Result<usize, ParseError>
-    ensures { Leaves (symbols_asked sht_dynsym (headers_alone E.little stream.old)) (λ count. count)
+    ensures { Leaves (symbols_ranges sht_dynsym (headers_alone E.little stream.old)) (λ count. count)
         (λ bytes. ok_map symbol_count (dynamic_symbol_table (stream_file E.little stream.old bytes)))
         stream.old stream.new result }
 {
@@ -373,7 +373,7 @@ fn section_copy<E: EndianParse, S: StreamSource, A: Allocator + Copy>(
     stream: &mut ElfStream<E, S, A>,
     section: &SectionHeader,
 ) -> Result<Vec<u8, A>, ParseError>
-    ensures { Gives (section_asked section.now) (λ copy. copy.items)
+    ensures { Gives (section_ranges section.now) (λ copy. copy.items)
         (λ bytes. section_bytes (stream_file E.little stream.old bytes) section.now) stream.old stream.new result }
 {
     let alloc = *stream.section_headers().allocator();
@@ -387,13 +387,13 @@ fn section_copy<E: EndianParse, S: StreamSource, A: Allocator + Copy>(
 }
 
 // The result of checking a section as a hash section of the symbols for dynamic linking, if there are any. An error of
-// the check is kept apart from one of the stream.
+// the check is apart from one of the stream.
 fn section_verdict<E: EndianParse, S: StreamSource, A: Allocator + Copy>(
     stream: &mut ElfStream<E, S, A>,
     kind: HashSection,
     section: &SectionHeader,
 ) -> Result<Option<Result<Verdict, ParseError>>, ParseError>
-    ensures { Gives (checked_asked (headers_alone E.little stream.old) section.now) (λ verdict. verdict)
+    ensures { Gives (checked_ranges (headers_alone E.little stream.old) section.now) (λ verdict. verdict)
         (λ bytes. checked_apart kind (stream_file E.little stream.old bytes) section.now)
         stream.old stream.new result }
 {

@@ -17,7 +17,7 @@ use std::marker::PhantomData;
 /// The line of a note. Its parts borrow from the data.
 #[derive(Clone, Copy)]
 struct NoteLine<'a> {
-    lent: PhantomData<&'a [u8]>,
+    data: PhantomData<&'a [u8]>,
 }
 
 impl<'a> Line for NoteLine<'a> {
@@ -78,5 +78,5 @@ pub(crate) fn write_notes<E: EndianParse, W: Write>(
     ensures { OnOk result (Appends (W.contents out.old) (W.contents out.new)
         (counted_lines note_line (notes_left notes.entry))) }
 {
-    write_list(notes, &NoteLine { lent: PhantomData }, out)
+    write_list(notes, &NoteLine { data: PhantomData }, out)
 }

@@ -1,5 +1,5 @@
 use Rattle.elf.specs.Answers.{segment_data}
-use Rattle.elf.specs.Ranges.{segment_asked}
+use Rattle.elf.specs.Ranges.{segment_ranges}
 use Rattle.elf.specs.StreamFile.{stream_file}
 use Rattle.elf_uses.specs.Needed.{names_in, names_view}
 use Rattle.elf_uses.proofs.Naming.{tells_made}
@@ -9,7 +9,7 @@ pub returns-in-Ok : goal.returns-in-Ok
 returns-in-Ok g c =
     let old = c.args.stream.now in
     let file = stream_file g.E.EndianParse.little old in
-    tells_made old c.segment_data.follows.lender-at-none (segment_asked c.args.part.now) (λ part. part.now)
+    tells_made old c.segment_data.follows.lender-at-none (segment_ranges c.args.part.now) (λ part. part.now)
     (λ bytes. segment_data (file bytes) c.args.part.now) c.segment_data.result c.in-Ok.bytes names_view
     (λ strings. names_in strings c.args.entries.now) c.names_in.result
     c.segment_data.follows.holds-at-none c.in-Ok.is (rw c.new.ensures at c.names_in.ensures)

@@ -7,12 +7,12 @@ use Rattle.elfshow.specs.calls.Run.{IsLoaded}
 use Rattle.elfshow.specs.calls.Text.{text}
 use Rattle.elfshow.proofs.calls.run_stream.Given as goal
 
--- the same file, the text of the calls so far was written, and their ranges are held
+-- the same file, the text of the calls so far was written, and their ranges are cached
 abbrev pub invariant-loop-done : goal.invariant-loop-done
 invariant-loop-done g l = record {
   keeps : Keeps l.initial.stream l.stream;
   written : IfSome l.initial.stream.content (λ bytes.
       Appends (g.W.Write.contents l.initial.out) (g.W.Write.contents l.out) (text l.initial.stream.ehdr (stream_file g.E.EndianParse.little l.initial.stream bytes) (map question (take l.done l.calls)))
-      × (l.stream.faults ≡ l.initial.stream.faults));
+      × (l.stream.failures ≡ l.initial.stream.failures));
   loaded : IfSome l.initial.stream.content (λ bytes. All (λ call. IsLoaded g.E.EndianParse.little l.stream bytes (question call)) (take l.done l.calls));
 }

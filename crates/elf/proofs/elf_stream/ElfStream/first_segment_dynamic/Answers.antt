@@ -5,7 +5,7 @@ use Rattle.std.proofs.lemmas.Result.{err_from_is_err_and}
 use Rattle.elf_parts.specs.Record.{◌>>=◌}
 use Rattle.elf_parts.specs.Table.{table_view}
 use Rattle.elf.specs.Answers.{segment_dynamic}
-use Rattle.elf.specs.Ranges.{segment_asked}
+use Rattle.elf.specs.Ranges.{segment_ranges}
 use Rattle.elf.specs.Headers.{first_segment_of, if_found}
 use Rattle.elf.specs.StreamFile.{stream_file}
 use Rattle.elf.proofs.stream.Needs.{ok_inside, segment_needs}
@@ -20,7 +20,7 @@ returns-in_err-load_segment g c =
       (
         refl,
         (λ _. tt),
-        chosen_refused c.args.self.now c.load_segment.new.self segment_asked (option_map table_view) (λ choice bytes. choice >>= if_found (segment_dynamic (file bytes))) _ c.in-Some.phdr p.0 _ p.1 chosen
+        chosen_refused c.args.self.now c.load_segment.new.self segment_ranges (option_map table_view) (λ choice bytes. choice >>= if_found (segment_dynamic (file bytes))) _ c.in-Some.phdr p.0 _ p.1 chosen
             (λ bytes ok. segment_needs (file bytes) c.in-Some.phdr (ok_inside Some (segment_dynamic (file bytes) c.in-Some.phdr) ok)) (rw p.2 c.in_err-load_segment.ensures),
       ),
       record { leaves = tt },

@@ -10,10 +10,10 @@ returns g c =
     (of_file g.E.EndianParse.little g.E.EndianParse.of_byte _ (record {
       content = g.S.StreamSource.content stream.source;
       can_fail = g.S.StreamSource.can_fail stream.source;
-      faults = g.S.StreamSource.faults stream.source;
+      failures = g.S.StreamSource.failures stream.source;
       ehdr = stream.ehdr;
       declares_sections = stream.declares_sections;
       sections = stream.shdrs.items;
       segments = stream.phdrs.items;
-      kept = map range_of stream.cache;
+      cached = map range_of stream.cache;
     }) c.self.invariant.tables)

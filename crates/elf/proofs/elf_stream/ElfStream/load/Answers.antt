@@ -1,8 +1,8 @@
 use Rattle.std.proofs.Common.{rules, arith, length, ◌≡◌, ◌<◌, ◌+◌, ◌-◌, refl}
 use Rattle.std.specs.Prelude.{◌^◌}
 use Rattle.elf.proofs.stream.Loads.{refused_past_64, refused_past, load_answered, needed_there, refused_for}
-use Rattle.elf.proofs.stream.Kept.{sound_put, held_put, loaded_put}
-use Rattle.elf.proofs.stream.Pieces.{sound_held}
+use Rattle.elf.proofs.stream.Cached.{sound_put, cached_put, loaded_put}
+use Rattle.elf.proofs.stream.Pieces.{sound_cached}
 use Rattle.elf.proofs.elf_stream.ElfStream.load.Goals as goal
 
 pub returns-in_default-clause-answer : goal.returns-in_default-clause-answer
@@ -10,7 +10,7 @@ returns-in_default-clause-answer g c = refused_past_64 _ c.args.start c.args.siz
 
 pub returns-then-holds-clause-answer : goal.returns-then-holds-clause-answer
 returns-then-holds-clause-answer g c =
-    rw (← c.self.view_is) (sound_held _ c.self.inside.len c.self.inside.cache c.args.start c.args.size _ c.self.invariant.sound (omega (arith, c.in-Some.ensures)) (search rules))
+    rw (← c.self.view_is) (sound_cached _ c.self.inside.len c.self.inside.cache c.args.start c.args.size _ c.self.invariant.sound (omega (arith, c.in-Some.ensures)) (search rules))
 
 pub returns-then-end-self-clause-answer : goal.returns-then-end-self-clause-answer
 returns-then-end-self-clause-answer g c =
@@ -34,7 +34,7 @@ returns-clause-keeps g c =
       declares_sections = refl;
       sections = refl;
       segments = refl;
-      held = held_put c.self.inside.cache c.put.new.self (record { start = c.args.start; bytes = c.in_ok-bytes.bytes.items }) c.put.result c.put.ensures.put c.put.ensures.refused;
+      cached = cached_put c.self.inside.cache c.put.new.self (record { start = c.args.start; bytes = c.in_ok-bytes.bytes.items }) c.put.result c.put.ensures.put c.put.ensures.refused;
     }
 
 pub returns-clause-loaded : goal.returns-clause-loaded

@@ -2,7 +2,7 @@ use Rattle.std.proofs.lemmas.Result.{err_from_is_err_and}
 use Rattle.std.proofs.Common.{refl}
 use Rattle.elf_parts.specs.Relocation.{rela_reads}
 use Rattle.elf.specs.Answers.{relas_left, section_data_as_relas}
-use Rattle.elf.specs.Ranges.{typed_section_asked}
+use Rattle.elf.specs.Ranges.{typed_section_ranges}
 use Rattle.elf.specs.StreamFile.{stream_file}
 use Rattle.elf.specs.ObjectFile.{records_of}
 use Rattle.elf.specs.Data.{content_of_type}
@@ -16,7 +16,7 @@ returns-in_err-load_content g c =
       (
         refl,
         (λ _. tt),
-        leaves_refused_for c.args.self.now c.load_content.new.self (typed_section_asked 4 c.args.shdr.now) relas_left (λ bytes. content_of_type 4 (file bytes) c.args.shdr.now) (λ bytes. section_data_as_relas (file bytes) c.args.shdr.now) p.0 _ p.1
+        leaves_refused_for c.args.self.now c.load_content.new.self (typed_section_ranges 4 c.args.shdr.now) relas_left (λ bytes. content_of_type 4 (file bytes) c.args.shdr.now) (λ bytes. section_data_as_relas (file bytes) c.args.shdr.now) p.0 _ p.1
             (λ bytes. ok_of_map (records_of rela_reads (file bytes)) (content_of_type 4 (file bytes) c.args.shdr.now)) (rw p.2 c.in_err-load_content.ensures.loads),
       ),
       record { leaves = tt; few = rw p.1 tt; bound = rw p.1 tt },

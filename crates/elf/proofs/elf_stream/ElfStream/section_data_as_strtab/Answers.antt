@@ -2,7 +2,7 @@ use Rattle.std.proofs.lemmas.Result.{err_from_is_err_and}
 use Rattle.std.proofs.Common.{refl}
 use Rattle.elf_parts.specs.StringTable.{strings_view}
 use Rattle.elf.specs.Answers.{section_data_as_strtab}
-use Rattle.elf.specs.Ranges.{typed_section_asked}
+use Rattle.elf.specs.Ranges.{typed_section_ranges}
 use Rattle.elf.specs.StreamFile.{stream_file}
 use Rattle.elf.specs.Data.{content_of_type}
 use Rattle.elf.proofs.stream.Lent.{leaves_refused_for}
@@ -15,7 +15,7 @@ returns-in_err-load_content g c =
       (
         refl,
         (λ _. tt),
-        leaves_refused_for c.args.self.now c.load_content.new.self (typed_section_asked 3 c.args.shdr.now) strings_view (λ bytes. content_of_type 3 (file bytes) c.args.shdr.now) (λ bytes. section_data_as_strtab (file bytes) c.args.shdr.now) p.0 _ p.1
+        leaves_refused_for c.args.self.now c.load_content.new.self (typed_section_ranges 3 c.args.shdr.now) strings_view (λ bytes. content_of_type 3 (file bytes) c.args.shdr.now) (λ bytes. section_data_as_strtab (file bytes) c.args.shdr.now) p.0 _ p.1
             (λ bytes. refl) (rw p.2 c.in_err-load_content.ensures.loads),
       ),
       record { leaves = tt },

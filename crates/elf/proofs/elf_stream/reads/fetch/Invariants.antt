@@ -10,7 +10,7 @@ invariant-loop-bytes g l =
       content : told.content l.source ≡ told.content l.initial.source;
       nature : told.can_fail l.source ≡ told.can_fail l.initial.source;
       filled : IfSome (told.content l.initial.source) (λ bytes.
-          IsFilled bytes l.bytes.items l.start (length l.bytes.items) (told.position l.source) (told.faults l.initial.source) (told.faults l.source));
+          IsFilled bytes l.bytes.items l.start (length l.bytes.items) (told.position l.source) (told.failures l.initial.source) (told.failures l.source));
     }
 
 abbrev pub decreases-loop-bytes : goal.decreases-loop-bytes

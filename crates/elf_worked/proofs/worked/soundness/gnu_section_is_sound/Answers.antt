@@ -23,6 +23,6 @@ returns-clause-sound c = gnu_sound
 pub returns-clause-no_fault : goal.returns-clause-no_fault
 returns-clause-no_fault c = λ fault h. true_fault (gnu_with 3 5 0xc0 0x06 0x09) gnu_sound fault h
 
-pub returns-clause-told : goal.returns-clause-told
+pub returns-clause-verdict : goal.returns-clause-verdict
 unfolding gnu_section bytes_at number_at numbers_at digits
-returns-clause-told c = ap Ok (told_sound (decide (ByGnu (gnu_with 3 5 0xc0 0x06 0x09))) 3 gnu_sound)
+returns-clause-verdict c = ap Ok (told_sound (decide (ByGnu (gnu_with 3 5 0xc0 0x06 0x09))) 3 gnu_sound)

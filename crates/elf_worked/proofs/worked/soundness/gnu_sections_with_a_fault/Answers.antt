@@ -30,6 +30,6 @@ pub returns-clause-not_in_run : goal.returns-clause-not_in_run
 unfolding gnu_section bytes_at number_at numbers_at
 returns-clause-not_in_run c = has_not_in_run
 
-pub returns-clause-told : goal.returns-clause-told
+pub returns-clause-verdict : goal.returns-clause-verdict
 unfolding gnu_section bytes_at number_at numbers_at
-returns-clause-told c = ap Ok (told_faulty (decide (ByGnu (gnu_with 3 5 0xc0 0x07 0x09))) _ has_not_in_run.0)
+returns-clause-verdict c = ap Ok (told_faulty (decide (ByGnu (gnu_with 3 5 0xc0 0x07 0x09))) _ has_not_in_run.0)

@@ -27,6 +27,6 @@ returns-clause-sound c = sysv_sound
 pub returns-clause-no_fault : goal.returns-clause-no_fault
 returns-clause-no_fault c = λ fault h. true_fault (sysv_with 8 (in_four 0)) sysv_sound fault h
 
-pub returns-clause-told : goal.returns-clause-told
+pub returns-clause-verdict : goal.returns-clause-verdict
 unfolding sysv_section bytes_at number_at numbers_at digits chain_lengths word word_at
-returns-clause-told c = ap Ok (told_sound (decide (BySysv (sysv_with 8 (in_four 0)))) 3 sysv_sound)
+returns-clause-verdict c = ap Ok (told_sound (decide (BySysv (sysv_with 8 (in_four 0)))) 3 sysv_sound)

@@ -30,6 +30,6 @@ pub returns-clause-wrong_bucket : goal.returns-clause-wrong_bucket
 unfolding sysv_section bytes_at number_at numbers_at
 returns-clause-wrong_bucket c = has_wrong_bucket
 
-pub returns-clause-told : goal.returns-clause-told
+pub returns-clause-verdict : goal.returns-clause-verdict
 unfolding sysv_section bytes_at number_at numbers_at
-returns-clause-told c = ap Ok (told_faulty (decide (BySysv (sysv_with 8 (in_four 1)))) _ has_endless.0)
+returns-clause-verdict c = ap Ok (told_faulty (decide (BySysv (sysv_with 8 (in_four 1)))) _ has_endless.0)

@@ -1,6 +1,6 @@
 use Rattle.std.specs.Option.{option_map}
 use Rattle.elf.specs.Answers.{dynamic_symbol_table, symbols_view}
-use Rattle.elf.specs.Ranges.{headers_alone, symbols_asked}
+use Rattle.elf.specs.Ranges.{headers_alone, symbols_ranges}
 use Rattle.elf.specs.StreamFile.{stream_file}
 use Rattle.elf_parts.specs.Number.{ok_map}
 use Rattle.elfshow.specs.calls.Text.{symbol_count}
@@ -12,7 +12,7 @@ returns-in-Err g c =
     let little = g.E.EndianParse.little in
     let old = c.args.stream.now in
     let file = stream_file little old in
-    leaves_made old c.dynamic_symbol_table.follows.lender-at-none (symbols_asked 11 (headers_alone little old)) (option_map symbols_view) (λ bytes. dynamic_symbol_table (file bytes)) (λ count. count)
+    leaves_made old c.dynamic_symbol_table.follows.lender-at-none (symbols_ranges 11 (headers_alone little old)) (option_map symbols_view) (λ bytes. dynamic_symbol_table (file bytes)) (λ count. count)
     (λ bytes. ok_map symbol_count (dynamic_symbol_table (file bytes))) c.dynamic_symbol_table.result c.in-Err.error
     (λ bytes. ok_of_map symbol_count (dynamic_symbol_table (file bytes)))
     c.in-Err.is c.dynamic_symbol_table.follows.holds-at-none

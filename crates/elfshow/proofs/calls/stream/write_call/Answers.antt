@@ -4,7 +4,7 @@ use Rattle.elfshow.proofs.calls.stream.write_call.Goals as goal
 
 pub returns-in-Ok : goal.returns-in-Ok
 returns-in-Ok g c =
-    tried_written g.E.EndianParse.little (question c.args.call) c.args.stream.now c.try_call.new.stream _ _ c.try_call.result c.in-Ok.written c.told.result c.try_call.ensures c.in-Ok.is c.told.ensures
+    tried_written g.E.EndianParse.little (question c.args.call) c.args.stream.now c.try_call.new.stream _ _ c.try_call.result c.in-Ok.written c.or_stop.result c.try_call.ensures c.in-Ok.is c.or_stop.ensures
 
 pub returns-in-Err : goal.returns-in-Err
 returns-in-Err g c =

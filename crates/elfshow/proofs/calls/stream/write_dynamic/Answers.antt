@@ -1,6 +1,6 @@
 use Rattle.std.specs.Option.{option_map}
 use Rattle.elf.specs.Answers.{dynamic}
-use Rattle.elf.specs.Ranges.{headers_alone, dynamic_asked}
+use Rattle.elf.specs.Ranges.{headers_alone, dynamic_ranges}
 use Rattle.elf.specs.StreamFile.{stream_file}
 use Rattle.elfshow.specs.calls.Question.{Dynamic}
 use Rattle.elf_parts.specs.Table.{table_view}
@@ -13,7 +13,7 @@ returns-in-Err g c =
     let little = g.E.EndianParse.little in
     let old = c.args.stream.now in
     let file = stream_file little old in
-    call_refused little Dynamic old c.dynamic.follows.lender-at-none (dynamic_asked (headers_alone little old)) (option_map table_view) (λ bytes. dynamic (file bytes)) c.dynamic.result c.in-Err.error _
+    call_refused little Dynamic old c.dynamic.follows.lender-at-none (dynamic_ranges (headers_alone little old)) (option_map table_view) (λ bytes. dynamic (file bytes)) c.dynamic.result c.in-Err.error _
     (λ bytes refused. outer_refused (unless_none dynamic_text) (dynamic (file bytes)) refused)
-    (λ held. held)
+    (λ cached. cached)
     c.dynamic.follows.holds-at-none c.in-Err.is

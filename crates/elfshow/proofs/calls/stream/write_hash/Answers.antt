@@ -10,7 +10,7 @@ use Rattle.elf_parts.specs.declared.section.SectionHeader.{SectionHeader}
 use Rattle.elf_check.specs.Object.{object_in}
 use Rattle.elfshow.specs.Verdicts.{verdict_of}
 use Rattle.elfshow.specs.calls.Question.{Hash}
-use Rattle.elfshow.specs.calls.Ranges.{checked_asked}
+use Rattle.elfshow.specs.calls.Ranges.{checked_ranges}
 use Rattle.elfshow.specs.calls.Text.{checked_as, checked_for, unless_absent, unless_none}
 use Rattle.elfshow.specs.inner.RunSteps.{checked_apart}
 use Rattle.elfshow.specs.lines.Hashes.{verdict_line}
@@ -28,7 +28,7 @@ returns-in-Err g c =
     let says = λ (bytes : List ℕ) (s : SectionHeader). checked_as kind (file bytes) s in
     let there = sym c.section_header.ensures ∙ c.in-Some.is in
     let refuses = λ (bytes : List ℕ). apart_refused (section_data (file bytes) section) (λ found. found.0) (dynamic_symbol_table (file bytes)) (λ part symbols. option_map (λ found. ok_map verdict_of (object part found.0 found.1)) symbols) (λ part symbols. checked_for (object part) symbols) in
-    call_refused_given little (Hash kind c.args.index) old c.section_verdict.new.stream (checked_asked (headers_alone little old) section) (λ verdict. verdict) (λ bytes. checked_apart kind (file bytes) section) c.section_verdict.result c.in-Err.error _
+    call_refused_given little (Hash kind c.args.index) old c.section_verdict.new.stream (checked_ranges (headers_alone little old) section) (λ verdict. verdict) (λ bytes. checked_apart kind (file bytes) section) c.section_verdict.result c.in-Err.error _
     (λ bytes refused. subst IsErr (sym (ap (unless_absent (λ s. ok_map (unless_none verdict_line) (says bytes s))) there))
     (outer_refused (unless_none verdict_line) (says bytes section) (refuses bytes refused)))
     (λ bytes ready. ready.0)

@@ -1,6 +1,6 @@
 use Rattle.std.proofs.Common.{refl, sym, ◌∙◌}
 use Rattle.elfshow.proofs.StreamRuns.{segment_refused}
-use Rattle.elf.specs.Ranges.{segment_asked}
+use Rattle.elf.specs.Ranges.{segment_ranges}
 use Rattle.elfshow.specs.calls.Question.{Seg}
 use Rattle.elf.specs.Answers.{segment_data}
 use Rattle.elfshow.specs.lines.Data.{segment_data_line}
@@ -8,5 +8,5 @@ use Rattle.elfshow.proofs.calls.stream.write_seg.Goals as goal
 
 pub returns-in-Err : goal.returns-in-Err
 returns-in-Err g c =
-    segment_refused g.E.EndianParse.little (Seg c.args.index) c.args.stream.now c.segment_data.follows.lender-at-none (λ part. part.now) segment_data_line segment_asked c.args.index c.in-Some.segment segment_data c.segment_data.result c.in-Err.error _
-    (λ bytes. refl) (λ held. held) (sym c.program_header.ensures ∙ c.in-Some.is) c.segment_data.follows.holds-at-none c.in-Err.is
+    segment_refused g.E.EndianParse.little (Seg c.args.index) c.args.stream.now c.segment_data.follows.lender-at-none (λ part. part.now) segment_data_line segment_ranges c.args.index c.in-Some.segment segment_data c.segment_data.result c.in-Err.error _
+    (λ bytes. refl) (λ cached. cached) (sym c.program_header.ensures ∙ c.in-Some.is) c.segment_data.follows.holds-at-none c.in-Err.is

@@ -1,4 +1,4 @@
--- From what stands for an index on, or else from what is left on, the first definition with it stays the same.
+-- From the entry of an index on, or else from what is left on, the first definition with it stays the same.
 use Rattle.std.proofs.Common.{refl, ap, ◌∙◌}
 use Rattle.std.specs.Option.{unwrap_or}
 use Rattle.elf_parts.specs.gnu_symver.Indexed.{slot}

@@ -5,7 +5,7 @@ use Rattle.elf_parts.specs.gnu_symver.Lists.{ver_defs_left}
 use Rattle.elf_parts.specs.gnu_symver.Table.{defined_version}
 use Rattle.elf_parts.proofs.gnu_symver.table.indexed.index_definitions.Given as goal
 
--- from what stands for an index on, or else from what is left on, its definition is the first one
+-- from the entry of an index on, or else from what is left on, its definition is the first one
 abbrev pub invariant-loop-definition : goal.invariant-loop-definition
 invariant-loop-definition g l =
     (l.start ≡ l.left) ×

@@ -1,4 +1,4 @@
--- What stands for an index, or else what is left for it, stays the same from need to need.
+-- The entry of an index, or else what is left for it, stays the same from need to need.
 use Rattle.std.proofs.Common.{sym, ap, ◌∙◌}
 use Rattle.std.specs.Option.{option_map, option_or}
 use Rattle.elf_parts.specs.gnu_symver.Indexed.{slot}

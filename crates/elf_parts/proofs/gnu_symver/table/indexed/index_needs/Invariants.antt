@@ -5,7 +5,7 @@ use Rattle.elf_parts.specs.gnu_symver.Lists.{ver_needs_left}
 use Rattle.elf_parts.specs.gnu_symver.Table.{needed_of, needed_version}
 use Rattle.elf_parts.proofs.gnu_symver.table.indexed.index_needs.Given as goal
 
--- what stands for an index, or else what is left for it, is what it is at the end
+-- the entry of an index, or else what is left for it, is what it is at the end
 abbrev pub invariant-loop-need : goal.invariant-loop-need
 invariant-loop-need g l =
     (goal.iterator-loop-need g).can_next l.need-iterator ×

@@ -5,7 +5,7 @@ use Rattle.elf_parts.specs.gnu_symver.Lists.{ver_need_aux_left}
 use Rattle.elf_parts.specs.gnu_symver.Table.{kept, version_with}
 use Rattle.elf_parts.proofs.gnu_symver.table.indexed.put_versions.Given as goal
 
--- what stands for an index, or else what is left for it, is what it is at the end
+-- the entry of an index, or else what is left for it, is what it is at the end
 abbrev pub invariant-loop-version : goal.invariant-loop-version
 invariant-loop-version g l =
     (goal.iterator-loop-version g).can_next l.version-iterator ×

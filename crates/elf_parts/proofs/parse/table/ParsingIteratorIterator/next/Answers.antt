@@ -1,4 +1,4 @@
--- A record that is read is the first that was left; after a refusal nothing is left.
+-- A record that is read is the first that was left; after an error nothing is left.
 use Rattle.std.proofs.Common.{length, ap, sym, arith}
 use Rattle.elf_parts.specs.Table.{items_left}
 use Rattle.elf_parts.proofs.Items.{step_read, none_left, items_from-refused}

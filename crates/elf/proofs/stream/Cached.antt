@@ -20,7 +20,7 @@ use Rattle.std.proofs.lemmas.List.Kept.{AllPairs-cons, AllPairs-filter}
 use Rattle.std.proofs.lemmas.Map.Views.{any-filter_same}
 use Rattle.std.proofs.lemmas.List.{get_or_append_left, get_or_push, length_push}
 use Rattle.elf.specs.inner.Piece.{Piece, AreSpread, IsBefore, IsPut, IsOf, IsSound, covers, is_within, piece_of, range_of}
-use Rattle.elf.specs.ElfStream.{is_held}
+use Rattle.elf.specs.ElfStream.{is_cached}
 
 pairs_head : {X : Type 0} (R : X → X → Type 0) (x : X) (xs : List X) → AllPairs R (x ∷ xs) → All (R x) xs
 pairs_head R x xs h = λ j d lt. h zero (suc j) d (omega arith) (omega arith)
@@ -213,25 +213,25 @@ module _ {V : Type 0} (bytes : V → List ℕ) where
       same_less e same none sure = grind (arith, nat_tests)
 
       equal : (e : ℕ × V) (es : List (ℕ × V)) → test new ≡ false → k ≡ e.0 → covers k high (piece_of bytes e) ≡ false → (b : Bool) → test e ≡ b → (b || list_any test es) ≡ true → (test (e.0, v) || list_any test es) ≡ true
-      equal e es none same miss true is held = absurd (true≢false (sym (same_less e same miss is) ∙ none))
-      equal e es none same miss false is held = ap (λ b. test (e.0, v) || b) held ∙ or_true (test (e.0, v))
+      equal e es none same miss true is cached = absurd (true≢false (sym (same_less e same miss is) ∙ none))
+      equal e es none same miss false is cached = ap (λ b. test (e.0, v) || b) cached ∙ or_true (test (e.0, v))
 
       greater : (e : ℕ × V) (es : List (ℕ × V)) → (list_any test es ≡ true → list_any test (put es) ≡ true) → (b : Bool) → (b || list_any test es) ≡ true → (b || list_any test (put es)) ≡ true
-      greater e es rest true held = refl
-      greater e es rest false held = rest held
+      greater e es rest true cached = refl
+      greater e es rest false cached = rest cached
 
       any_put : test new ≡ false → (es : List (ℕ × V)) → list_any (λ e. covers k high (piece_of bytes e)) es ≡ false → list_any test es ≡ true → list_any test (put es) ≡ true
-      any_put none [] miss held = absurd (true≢false (sym held))
-      any_put none (e ∷ es) miss held =
+      any_put none [] miss cached = absurd (true≢false (sym cached))
+      any_put none (e ∷ es) miss cached =
           let split = or_parts _ _ miss in
           step e es (λ xs. list_any test xs ≡ true)
-          (λ _. ap (λ b. test new || b) held ∙ or_true (test new))
-          (λ same. equal e es none same split.0 (test e) refl held)
-          (λ _. greater e es (any_put none es split.1) (test e) held)
+          (λ _. ap (λ b. test new || b) cached ∙ or_true (test new))
+          (λ same. equal e es none same split.0 (test e) refl cached)
+          (λ _. greater e es (any_put none es split.1) (test e) cached)
 
-      pub held_put_by : (b : Bool) → test new ≡ b → (es : List (ℕ × V)) → list_any (λ e. covers k high (piece_of bytes e)) es ≡ false → list_any test es ≡ true → list_any test (filter keep (put es)) ≡ true
-      held_put_by true is es miss held = has_put is es
-      held_put_by false is es miss held = any-filter_same test keep true (λ e sure. within_less e is sure) (put es) ∙ any_put is es miss held
+      pub cached_put_by : (b : Bool) → test new ≡ b → (es : List (ℕ × V)) → list_any (λ e. covers k high (piece_of bytes e)) es ≡ false → list_any test es ≡ true → list_any test (filter keep (put es)) ≡ true
+      cached_put_by true is es miss cached = has_put is es
+      cached_put_by false is es miss cached = any-filter_same test keep true (λ e sure. within_less e is sure) (put es) ∙ any_put is es miss cached
 
   -- ---- the look-up whole
 
@@ -246,21 +246,21 @@ module _ {V : Type 0} (bytes : V → List ℕ) where
   is_front : (start : ℕ) (q : ℕ) → q ≤ start → not (is_lt (nat_cmp start q)) ≡ true
   is_front start q low = grind (arith, nat_tests)
 
-  held_map : (es : List (ℕ × V)) (start end : ℕ) → is_held (map range_of (map (piece_of bytes) es)) start end ≡ list_any (λ x. covers start end (piece_of bytes x)) es
-  held_map [] start end = refl
-  held_map (e ∷ es) start end = ap (λ b. covers start end (piece_of bytes e) || b) (held_map es start end)
+  cached_map : (es : List (ℕ × V)) (start end : ℕ) → is_cached (map range_of (map (piece_of bytes) es)) start end ≡ list_any (λ x. covers start end (piece_of bytes x)) es
+  cached_map [] start end = refl
+  cached_map (e ∷ es) start end = ap (λ b. covers start end (piece_of bytes e) || b) (cached_map es start end)
 
   front_alone : (es : List (ℕ × V)) (start end : ℕ) → list_any (λ x. covers start end (piece_of bytes x)) (filter (λ e. not (is_lt (nat_cmp start e.0))) es) ≡ list_any (λ x. covers start end (piece_of bytes x)) es
   front_alone es start end = any-filter_same (λ x. covers start end (piece_of bytes x)) (λ e. not (is_lt (nat_cmp start e.0))) true (λ e h. is_front start e.0 (leb-true e.0 start (and_parts _ _ h).0)) es
 
-  pub none_held : (es : List (ℕ × V)) (start end : ℕ) → filter (λ e. not (is_lt (nat_cmp start e.0))) es ≡ [] → false ≡ is_held (map range_of (map (piece_of bytes) es)) start end
-  none_held es start end none = sym (held_map es start end ∙ sym (front_alone es start end) ∙ ap (list_any (λ x. covers start end (piece_of bytes x))) none)
+  pub none_cached : (es : List (ℕ × V)) (start end : ℕ) → filter (λ e. not (is_lt (nat_cmp start e.0))) es ≡ [] → false ≡ is_cached (map range_of (map (piece_of bytes) es)) start end
+  none_cached es start end none = sym (cached_map es start end ∙ sym (front_alone es start end) ∙ ap (list_any (λ x. covers start end (piece_of bytes x))) none)
 
-  pub last_held : (es t : List (ℕ × V)) (e : ℕ × V) (start end : ℕ) (b : Bool) → AreSpread bytes es → filter (λ e. not (is_lt (nat_cmp start e.0))) es ≡ t ++ e ∷ [] → covers start end (piece_of bytes e) ≡ b → b ≡ is_held (map range_of (map (piece_of bytes) es)) start end
-  last_held es t e start end b spread is here =
+  pub last_cached : (es t : List (ℕ × V)) (e : ℕ × V) (start end : ℕ) (b : Bool) → AreSpread bytes es → filter (λ e. not (is_lt (nat_cmp start e.0))) es ≡ t ++ e ∷ [] → covers start end (piece_of bytes e) ≡ b → b ≡ is_cached (map range_of (map (piece_of bytes) es)) start end
+  last_cached es t e start end b spread is here =
       let all : All (λ x. not (is_lt (nat_cmp start x.0)) ≡ true) (t ++ e ∷ []) = subst (All (λ x. not (is_lt (nat_cmp start x.0)) ≡ true)) is (filter_passes (λ x. not (is_lt (nat_cmp start x.0))) es) in
       let low : e.0 ≤ start = is_last start e.0 (subst (λ x. not (is_lt (nat_cmp start x.0)) ≡ true) (get_or_push t e e (length t) refl) (all (length t) e (omega (arith, length_push t e)))) in
-      sym (held_map es start end ∙ sym (front_alone es start end) ∙ ap (list_any (λ x. covers start end (piece_of bytes x))) is
+      sym (cached_map es start end ∙ sym (front_alone es start end) ∙ ap (list_any (λ x. covers start end (piece_of bytes x))) is
       ∙ last_covers t e start end (subst (AreSpread bytes) is (AllPairs-filter Before _ es spread)) low b here)
 
   all_of_map : (P : Piece → Type 0) (es : List (ℕ × V)) → All P (map (piece_of bytes) es) → All (λ e. P (piece_of bytes e)) es
@@ -285,14 +285,14 @@ module _ {V : Type 0} (bytes : V → List ℕ) where
   itself : (k : ℕ) (v : V) → covers k (high k v) (piece_of bytes (k, v)) ≡ true
   itself k v = rw (le-leb k k (omega arith), le-leb (k + length (bytes v)) (k + length (bytes v)) (omega arith)) refl
 
-  pub is_put : (k : ℕ) (v : V) (es : List (ℕ × V)) → is_held (map range_of (map (piece_of bytes) es)) k (high k v) ≡ false → IsPut (piece_of bytes (k, v)) (map (piece_of bytes) es) (map (piece_of bytes) (filter (keep k v) (put k v es)))
+  pub is_put : (k : ℕ) (v : V) (es : List (ℕ × V)) → is_cached (map range_of (map (piece_of bytes) es)) k (high k v) ≡ false → IsPut (piece_of bytes (k, v)) (map (piece_of bytes) es) (map (piece_of bytes) (filter (keep k v) (put k v es)))
   is_put k v es miss =
-      let none = sym (held_map es k (high k v)) ∙ miss in
+      let none = sym (cached_map es k (high k v)) ∙ miss in
       let ps : List Piece = map (piece_of bytes) es in
       let Q : ℕ × V → Type 0 = λ e. Contains (piece_of bytes (k, v) ∷ ps) (piece_of bytes e) in
       record {
-        held = λ start end h. held_map (filter (keep k v) (put k v es)) start end ∙ held_put_by k v start end (test k v start end (k, v)) refl es none (sym (held_map es start end) ∙ h);
-        has = held_map (filter (keep k v) (put k v es)) k (high k v) ∙ has_put k v k (high k v) (itself k v) es;
+        cached = λ start end h. cached_map (filter (keep k v) (put k v es)) start end ∙ cached_put_by k v start end (test k v start end (k, v)) refl es none (sym (cached_map es start end) ∙ h);
+        has = cached_map (filter (keep k v) (put k v es)) k (high k v) ∙ has_put k v k (high k v) (itself k v) es;
         from = All-map (Contains (piece_of bytes (k, v) ∷ ps)) (piece_of bytes) (filter (keep k v) (put k v es))
             (All-filter (keep k v) Q (put k v es)
             (all_put k v Q (Contains-append_left (piece_of bytes (k, v) ∷ []) ps _ (Contains-push [] (piece_of bytes (k, v)))) es
@@ -310,8 +310,8 @@ module _ {V : Type 0} (bytes : V → List ℕ) where
   pub spread_behind : (k : ℕ) (v : V) (es : List (ℕ × V)) → AreSpread bytes es → AreSpread bytes (filter (λ e. nat_lt k e.0) (put k v es))
   spread_behind k v es spread = subst (AreSpread bytes) (sym (behind_same k v es)) (AllPairs-filter Before (λ e. nat_lt k e.0) es spread)
 
-  pub miss_of : (k : ℕ) (v : V) (es : List (ℕ × V)) → is_held (map range_of (map (piece_of bytes) es)) k (high k v) ≡ false → list_any (λ e. covers k (high k v) (piece_of bytes e)) es ≡ false
-  miss_of k v es miss = sym (held_map es k (high k v)) ∙ miss
+  pub miss_of : (k : ℕ) (v : V) (es : List (ℕ × V)) → is_cached (map range_of (map (piece_of bytes) es)) k (high k v) ≡ false → list_any (λ e. covers k (high k v) (piece_of bytes e)) es ≡ false
+  miss_of k v es miss = sym (cached_map es k (high k v)) ∙ miss
 
   -- ---- those that are taken out
 
@@ -371,14 +371,14 @@ pub sound_put : (told : Option (List ℕ)) (len : ℕ) (ps qs : List Piece) (sta
 sound_put told len ps qs start end p (Ok x) sound put refused = sound_into told len ps qs start end p sound put
 sound_put told len ps qs start end p (Err e) sound put refused = λ _ _ _ _ _. subst (IsSound told len) (sym refused.1) sound
 
-pub held_put : (ps qs : List Piece) (p : Piece) (r : Result (Unit {0}) ParseError) → OnOk r (IsPut p ps qs) → IfErr r (λ e. (e ≡ OutOfMemory) × (qs ≡ ps))
-    → (start end : ℕ) → IsTrue (is_held (map range_of ps) start end) → IsTrue (is_held (map range_of qs) start end)
-held_put ps qs p (Ok x) put refused = put.held
-held_put ps qs p (Err e) put refused = λ start end held. subst (λ ps. IsTrue (is_held (map range_of ps) start end)) (sym refused.1) held
+pub cached_put : (ps qs : List Piece) (p : Piece) (r : Result (Unit {0}) ParseError) → OnOk r (IsPut p ps qs) → IfErr r (λ e. (e ≡ OutOfMemory) × (qs ≡ ps))
+    → (start end : ℕ) → IsTrue (is_cached (map range_of ps) start end) → IsTrue (is_cached (map range_of qs) start end)
+cached_put ps qs p (Ok x) put refused = put.cached
+cached_put ps qs p (Err e) put refused = λ start end cached. subst (λ ps. IsTrue (is_cached (map range_of ps) start end)) (sym refused.1) cached
 
 pub loaded_put : {L : Type 0} (ps qs : List Piece) (p : Piece) (start end : ℕ) (r : Result (Unit {0}) ParseError) → L → OnOk r (IsPut p ps qs) → p.start ≡ start → p.start + length p.bytes ≡ end
-    → OnOk r (L × IsTrue (is_held (map range_of qs) start end))
-loaded_put ps qs p start end (Ok x) low put from to = (low, subst (λ n. IsTrue (is_held (map range_of qs) start n)) to (subst (λ n. IsTrue (is_held (map range_of qs) n (p.start + length p.bytes))) from put.has))
+    → OnOk r (L × IsTrue (is_cached (map range_of qs) start end))
+loaded_put ps qs p start end (Ok x) low put from to = (low, subst (λ n. IsTrue (is_cached (map range_of qs) start n)) to (subst (λ n. IsTrue (is_cached (map range_of qs) n (p.start + length p.bytes))) from put.has))
 loaded_put ps qs p start end (Err e) low put from to = tt
 
 pub from_ok : {T E : Type 0} (P : Type 0) (r : Result T E) → is_err r ≡ false → OnOk r P → P
@@ -389,5 +389,5 @@ pub from_err : {T E : Type 0} (P : Type 0) (r : Result T E) → is_err r ≡ tru
 from_err P (Ok x) none h = absurd (true≢false (sym none))
 from_err P (Err e) none h = h
 
-pub spread_all : {V : Type 0} (bytes : V → List ℕ) (k : ℕ) (v : V) (es mid final : List (ℕ × V)) (end : ℕ) → AreSpread bytes es → is_held (map range_of (map (piece_of bytes) es)) k (high bytes k v) ≡ false → mid ≡ put bytes k v es → end ≡ high bytes k v → final ≡ filter (λ e. not (is_within k end (piece_of bytes e))) mid → AreSpread bytes final
+pub spread_all : {V : Type 0} (bytes : V → List ℕ) (k : ℕ) (v : V) (es mid final : List (ℕ × V)) (end : ℕ) → AreSpread bytes es → is_cached (map range_of (map (piece_of bytes) es)) k (high bytes k v) ≡ false → mid ≡ put bytes k v es → end ≡ high bytes k v → final ≡ filter (λ e. not (is_within k end (piece_of bytes e))) mid → AreSpread bytes final
 spread_all bytes k v es mid final end spread miss m e f = subst (AreSpread bytes) (sym (f ∙ ap (λ n. filter (λ e. not (is_within k n (piece_of bytes e))) mid) e ∙ ap (filter (keep bytes k v)) m)) (spread_put bytes k v es spread (miss_of bytes k v es miss))
