@@ -55,7 +55,7 @@ class Made:
 
 
 def names_of(count):
-    """The strings of so many symbols behind the first, and the offset of each."""
+    """The strings of `count` symbols behind the first, and the offset of each."""
     strings = bytearray(b"\0")
     offsets = [0]
     for k in range(1, count):
@@ -90,7 +90,7 @@ def add_dynamic(made, count):
 
 
 def add_versions(made, symbols, needs, definitions):
-    """The versions of so many symbols, which name the needs and then the definitions by turns. Each need is a file of its
+    """The versions of some symbols, which name the needs and then the definitions by turns. Each need is a file of its
     own with one version, and each definition has one name."""
     names = b"\0VERSION_1.0\0libneeded.so\0"
     strings = made.add(b".verstr", SHT_STRTAB, names)
@@ -195,7 +195,7 @@ def add_bytes(made, count):
 
 
 def of_each(count):
-    """A file that has something of each kind, so many of each."""
+    """A file that has `count` entries of each kind."""
     made = Made()
     add_bytes(made, 16 * count)
     add_symbols(made, count)
@@ -215,14 +215,14 @@ def many_versions(symbols, needs, definitions):
 
 
 def only(add, count):
-    """A file of so many entries of one kind."""
+    """A file of `count` entries of one kind."""
     made = Made()
     add(made, count)
     return made
 
 
 def sections_of_ranges(count, size, is_falling):
-    """A file of so many sections with a range each. Its header has no room for the count, which is the size of section 0.
+    """A file of `count` sections with a range each. Its header has no room for the count, which is the size of section 0.
     The names of all but the names' own are `.text`, of this `.names`."""
     names = b"\0.text\0.names\0"
     behind = 64 + 64 * (count + 2)

@@ -23,7 +23,7 @@ def built():
 
 
 def build_library_times(folder):
-    """The program that calls the library, beside a copy of the crates that it stands on with what their checks kept."""
+    """The program that calls the library, beside a copy of the crates that it uses, with their outputs."""
     with open(os.path.join(HERE, "library_times", "uses.txt")) as file:
         own = file.read()
     with open(os.path.join(TOP, "crates.txt")) as file:
@@ -69,17 +69,17 @@ def least_seconds(commands):
     return least
 
 
-def told_nanoseconds(commands):
-    """What each program tells of its own work: what it found, and the least nanoseconds of some runs, by turns."""
-    told = [[] for _ in commands]
+def printed_nanoseconds(commands):
+    """What each program prints of its own work: what it found, and the least nanoseconds of some runs, by turns."""
+    printed = [[] for _ in commands]
     for _ in range(RUNS):
-        for command, runs in zip(commands, told):
+        for command, runs in zip(commands, printed):
             runs.append(subprocess.run(command, capture_output=True, check=True, text=True).stdout.split())
-    return [(runs[0][0], min(int(run[1]) for run in runs)) for runs in told]
+    return [(runs[0][0], min(int(run[1]) for run in runs)) for runs in printed]
 
 
 def checked(command):
-    """What checks of a hash section tell: the symbols indexed and read, and the least nanoseconds of a check and of a pass
+    """What checks of a hash section print: the symbols indexed and read, and the least nanoseconds of a check and of a pass
     over the symbols."""
     runs = [subprocess.run(command, capture_output=True, check=True, text=True).stdout.split() for _ in range(RUNS)]
     check, once = (min(int(run[k]) for run in runs) / CHECKS for k in (2, 3))
@@ -88,7 +88,7 @@ def checked(command):
 
 
 def bound(command):
-    """What look-ups over libraries tell: how many found a symbol with its version and without, and the least nanoseconds of
+    """What look-ups over libraries print: how many found a symbol with its version and without, and the least nanoseconds of
     both."""
     runs = [subprocess.run(command, capture_output=True, check=True, text=True).stdout.split() for _ in range(RUNS)]
     return int(runs[0][0]), int(runs[0][1]), min(int(run[2]) for run in runs), min(int(run[3]) for run in runs)
@@ -107,19 +107,19 @@ def kibibytes_at_most(command):
     """The memory of a run at its highest, by GNU time; None where that is not there."""
     if not shutil.which("time"):
         return None
-    told = subprocess.run(["time", "-f", "%M"] + command, stdout=subprocess.DEVNULL, stderr=subprocess.PIPE, text=True)
-    return int(told.stderr.split()[-1])
+    timed = subprocess.run(["time", "-f", "%M"] + command, stdout=subprocess.DEVNULL, stderr=subprocess.PIPE, text=True)
+    return int(timed.stderr.split()[-1])
 
 
 def source_read(command, path):
     """How many reads of a file a run makes, and the bytes that they gave, by strace; None where that is not there."""
     if not shutil.which("strace"):
         return None
-    told = subprocess.run(
+    traced = subprocess.run(
         ["strace", "-f", "-e", "trace=read,readv,pread64", "-P", path] + command,
         stdout=subprocess.DEVNULL,
         stderr=subprocess.PIPE,
         text=True,
     )
-    given = [int(each) for each in re.findall(r"^[^\n]*read[^\n]* = (\d+)$", told.stderr, re.MULTILINE)]
+    given = [int(each) for each in re.findall(r"^[^\n]*read[^\n]* = (\d+)$", traced.stderr, re.MULTILINE)]
     return len(given), sum(given)

@@ -53,8 +53,8 @@ fn show_tail_by<E: EndianParse + Debug>(
 /// `names`: the names of its sections;
 /// `cuts`: what opening answers of the first 0, 1, 2 and so on of its bytes, up to all of them;
 /// any other: what a method of the opened file answers.
-/// A SET, as `shstrndx=2`, changes a field of the header of the opened file, or, as `offset=52`, of the header made by
-/// hand that the method is called with; `name=N` is the name that it is called with.
+/// A SET, as `shstrndx=2`, changes a field of the header of the opened file, or, as `offset=52`, of the header that the
+/// method is called with; `name=N` is the name that it is called with.
 pub(crate) fn show_file(rt: &HostRuntime, kind: &str, words: &mut Words<'_>) -> io::Result<()> {
     let order = words.word();
     let data = words.file(rt);

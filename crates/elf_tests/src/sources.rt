@@ -17,8 +17,8 @@ fn give(bytes: &[u8], at: u64, buf: &mut [u8]) -> usize
     n
 }
 
-/// Gives `step` bytes a read, or one if that is 0, and fails once, behind a number of calls, which whoever lends
-/// their number may change.
+/// Gives `width` bytes a read, or one if that is 0, and fails once, behind `calls_before` calls. The owner of that cell
+/// may change the number.
 #[derive(Drop)]
 pub(crate) struct Halting<'a> {
     bytes: &'a [u8],
@@ -113,7 +113,7 @@ impl Meter {
         }
     }
 
-    /// How many calls there were, and how many bytes were given, since the last call.
+    /// How many calls there were, and how many bytes were given, since `taken` was called last.
     pub(crate) fn taken(&self) -> (u64, u64) {
         (self.calls.replace(0), self.bytes.replace(0))
     }

@@ -128,7 +128,7 @@ abbrev pub library_object : {E : Type 0} → (E → Bool) → Library E → Opti
 library_object little library =
     object_from (little library.endianness) library.class (library_hash library) (library_symbols little library)
 
--- what is part_result of a part, or its error
+-- what a borrow of a part shows, or its error
 abbrev pub part_result : {T Y : Type 0} → (T → Y) → Result T (Bor ParseError) → Result Y ParseError
 part_result shown (Ok x) = Ok (shown x)
 part_result shown (Err e) = Err e.now

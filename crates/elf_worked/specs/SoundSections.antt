@@ -48,7 +48,7 @@ abbrev pub sysv_cut : ℕ → List ℕ → Result (WithSymbols SysvTable) ParseE
 sysv_cut third section =
     with_symbols (table_in true ELF32 (sysv_symbols third)) sysv_names (sysv_section true ELF32 section)
 
--- the same with fields of its own
+-- the same, as a record of its parts
 abbrev pub sysv_with : ℕ → List ℕ → WithSymbols SysvTable
 sysv_with third last = record {
   table = record { buckets = table_in true ELF32 sysv_buckets; chains = table_in true ELF32 (sysv_chains ++ last) };
@@ -93,7 +93,7 @@ abbrev pub gnu_cut : ℕ → List ℕ → Result (WithSymbols GnuTable) ParseErr
 gnu_cut second section =
     with_symbols (table_in true ELF32 (gnu_symbols second)) gnu_names (gnu_section true ELF32 section)
 
--- the same with fields of its own
+-- the same, as a record of its parts
 abbrev pub gnu_with : ℕ → ℕ → ℕ → ℕ → ℕ → WithSymbols GnuTable
 gnu_with name shift low first second = record {
   table = record {

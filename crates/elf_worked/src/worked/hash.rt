@@ -29,8 +29,8 @@ pub fn sysv_sections()
     ensures short_exit { short_chain exit ≡ Err (BadOffset 2) }
 {}
 
-/// A GNU section of the one name "a" at index 1: with a shift of 32 the second bloom bit cannot be shifted
-/// to, and the number of bloom words and the first index are those of the header at the time of the call.
+/// A GNU section of the one name "a" at index 1: with a shift of 32 there is no second bloom bit,
+/// and the number of bloom words and the first index are those of the header at the time of the call.
 pub fn gnu_sections()
     ensures a { gnu_finds 5 1 1 a ≡ Ok (Some 1) }
     ensures b { gnu_finds 5 1 1 b ≡ Ok None }

@@ -29,8 +29,8 @@ pub fn ident_magic()
         ≡ Err (BadMagic (0x7f ∷ 0x45 ∷ 0x4c ∷ 0x47 ∷ [])) }
 {}
 
-/// Behind the magic number the version is looked at first, then the class, then the order: what is
-/// wrong first in this order is the error.
+/// Behind the magic number the version is looked at first, then the class, then the order. The error
+/// is that of the first that is wrong.
 pub fn ident_refusals()
     ensures six_bytes { ident_of any_of_byte (0x7f ∷ 0x45 ∷ 0x4c ∷ 0x46 ∷ 9 ∷ 9 ∷ [])
         ≡ Err (SliceReadError (0, 16)) }
@@ -201,8 +201,8 @@ pub fn sizes_of_records()
     ensures segment_64 { size_by program_header_layout ELF64 ≡ 56 }
 {}
 
-/// Section headers that do not fit into what is there: the first field that ends behind the bytes is
-/// the error.
+/// Section headers that do not fit into what is there: the error is that of the first field that ends
+/// behind the bytes.
 pub fn refused_records()
     ensures fourth_field { record_by section_header_layout true ELF64 (take 20 counted) 0
         ≡ Err (SliceReadError (16, 24)) }
