@@ -14,7 +14,7 @@ use Rattle.elf.specs.Names.{name_table}
 use Rattle.elf.specs.ObjectFile.{ObjectFile, object_file}
 use Rattle.elf.specs.Readers.{AreAlike, SameAnswers}
 use Rattle.elf.specs.Opening.{opened}
-use Rattle.elf.specs.ElfStream.{Headers, IsAnswer, IsOfFile, IsRefused, Keeps, Kind, Leaves, Seen, headers_of, kind, shown_headers}
+use Rattle.elf.specs.ElfStream.{Headers, IsAnswer, IsOfFile, IsRefused, Keeps, Kind, Leaves, Seen, headers_of, kind}
 use Rattle.elf.specs.ElfBytes.{View, with_header}
 
 names_alike : {A : Type 0} (one other : List SectionHeader) (x y : Result A ParseError) → one ≡ other → AreAlike x y → AreAlike {A = List SectionHeader × A} (ok_map (λ names. (one, names)) x) (ok_map (λ names. (other, names)) y)
@@ -64,20 +64,20 @@ told : (bytes : List ℕ) (content : Option (List ℕ)) (P : List ℕ → Type 0
 told bytes content P is h = subst (λ content. IfSome content P) is h
 
 -- the headers stay, and another one may be put in
-put_in : {E : Type 0} (v : View E) (s : Seen E) (h : FileHeader E) → shown_headers s ≡ headers_of (with_header v s.ehdr) → shown_headers (record s { ehdr = h }) ≡ headers_of (with_header v h)
+put_in : {E : Type 0} (v : View E) (s : Seen E) (h : FileHeader E) → s.headers ≡ headers_of (with_header v s.headers.ehdr) → record s.headers { ehdr = h } ≡ headers_of (with_header v h)
 put_in v s h same = ap (λ (headers : Headers _). record headers { ehdr = h }) same
 
-stay : {E : Type 0} (v : View E) (old new : Seen E) → Keeps old new → shown_headers old ≡ headers_of (with_header v old.ehdr) → shown_headers new ≡ headers_of (with_header v new.ehdr)
-stay v old new keeps same = rw (keeps.ehdr, keeps.declares_sections, keeps.sections, keeps.segments) same
+stay : {E : Type 0} (v : View E) (old new : Seen E) → Keeps old new → old.headers ≡ headers_of (with_header v old.headers.ehdr) → new.headers ≡ headers_of (with_header v new.headers.ehdr)
+stay v old new keeps same = rw keeps.headers same
 
 module _ {E : Type 0} (little : E → Bool) (bytes : List ℕ) (v : View E)
-    (law : (header : FileHeader E) (s : Seen E) → shown_headers s ≡ headers_of (with_header v header) → SameAnswers (object_file little (with_header v header)) (stream_file little s bytes)) where
-  pub calls_alike : (s : Seen E) (calls : List (Call E)) → s.content ≡ Some bytes → shown_headers s ≡ headers_of (with_header v s.ehdr) → AreMade little s calls → All (IsAnsweredAlike little v) calls
+    (law : (header : FileHeader E) (s : Seen E) → s.headers ≡ headers_of (with_header v header) → SameAnswers (object_file little (with_header v header)) (stream_file little s bytes)) where
+  pub calls_alike : (s : Seen E) (calls : List (Call E)) → s.content ≡ Some bytes → s.headers ≡ headers_of (with_header v s.headers.ehdr) → AreMade little s calls → All (IsAnsweredAlike little v) calls
   calls_alike s [] content headers made = All-nil (IsAnsweredAlike little v)
   calls_alike s (call ∷ calls) content headers made =
-      let old : Seen E = record s { ehdr = call.header } in
+      let old : Seen E = record s { headers = record s.headers { ehdr = call.header } } in
       let leaves : Leaves (requested call.method (headers_alone little old)) (λ x. x) (λ bytes. answer call.method (stream_file little old bytes)) old call.new call.result = made.0 in
-      let now : shown_headers old ≡ headers_of (with_header v old.ehdr) = put_in v s call.header headers in
+      let now : old.headers ≡ headers_of (with_header v old.headers.ehdr) = put_in v s call.header headers in
       All-cons (IsAnsweredAlike little v) call calls
       (one_call (answer call.method (object_file little (with_header v call.header))) (answer call.method (stream_file little old bytes)) old.can_fail old.failures call.new.failures call.result
       (alike (object_file little (with_header v call.header)) (stream_file little old bytes) (law call.header old now) call.method)
@@ -85,8 +85,8 @@ module _ {E : Type 0} (little : E → Bool) (bytes : List ℕ) (v : View E)
       (calls_alike call.new calls (leaves.keeps.content ∙ content) (stay v old call.new leaves.keeps now) made.1)
 
 pub stream_alike : {E : Type 0} (little : E → Bool) (of_byte : ℕ → Option E) (s : Seen E) (told : Option (List ℕ))
-    → ((bytes : List ℕ) (v : View E) (header : FileHeader E) (s : Seen E) → opened little of_byte bytes ≡ Ok v → shown_headers s ≡ headers_of (with_header v header) → SameAnswers (object_file little (with_header v header)) (stream_file little s bytes))
+    → ((bytes : List ℕ) (v : View E) (header : FileHeader E) (s : Seen E) → opened little of_byte bytes ≡ Ok v → s.headers ≡ headers_of (with_header v header) → SameAnswers (object_file little (with_header v header)) (stream_file little s bytes))
     → IfSome told (λ bytes. IsOfFile little of_byte bytes s)
-    → IfSome told (λ bytes. (v : View E) × (opened little of_byte bytes ≡ Ok v) × SameAnswers (object_file little (with_header v s.ehdr)) (stream_file little s bytes))
+    → IfSome told (λ bytes. (v : View E) × (opened little of_byte bytes ≡ Ok v) × SameAnswers (object_file little (with_header v s.headers.ehdr)) (stream_file little s bytes))
 stream_alike little of_byte s None law h = tt
-stream_alike little of_byte s (Some bytes) law h = (h.0, h.1, law bytes h.0 s.ehdr s h.1 h.2)
+stream_alike little of_byte s (Some bytes) law h = (h.0, h.1, law bytes h.0 s.headers.ehdr s h.1 h.2)

@@ -23,7 +23,7 @@ use Rattle.elf.specs.Opening.{header_at_front, opened, section_count, section_ta
 use Rattle.elf.specs.Data.{section_data}
 use Rattle.elf.specs.Headers.{section_at, section_range}
 use Rattle.elf.specs.Readers.{AreAlike, SameAnswers}
-use Rattle.elf.specs.ElfStream.{Seen, headers_of, shown_headers}
+use Rattle.elf.specs.ElfStream.{Seen, headers_of}
 use Rattle.elf.specs.Versions.{linked_strings, version_definitions, version_indexes, version_needs, version_sections, versions_of}
 use Rattle.elf.specs.ElfBytes.{View, section_list, with_header}
 use Rattle.elf.specs.declared.headers.VersionSections.{VersionSections}
@@ -196,7 +196,7 @@ module _ (law : (t : Table) (i : ℕ) → length t.bytes < 2 ^ 64 → slice_get 
 
   pub list_answers :
       {E : Type 0} (little : E → Bool) (of_byte : ℕ → Option E) (bytes : List ℕ) (v : View E) (h : FileHeader E) (s : Seen E) →
-      opened little of_byte bytes ≡ Ok v → shown_headers s ≡ headers_of (with_header v h) →
+      opened little of_byte bytes ≡ Ok v → s.headers ≡ headers_of (with_header v h) →
       SameAnswers (object_file little (with_header v h)) (stream_file little s bytes)
   list_answers little of_byte bytes v h s read shown =
       let known = opened_is little of_byte bytes v read in

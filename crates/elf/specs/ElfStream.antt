@@ -11,38 +11,26 @@ use Rattle.elf_parts.specs.declared.segment.ProgramHeader.{ProgramHeader}
 use Rattle.elf.specs.Opening.{opened}
 use Rattle.elf.specs.ElfBytes.{View, section_list, segment_list, with_header}
 
--- a stream: the content of its source, if known, whether the source can fail and how often it did; the
--- file header as it is now, whether a table of section headers is declared, the section and the program headers;
--- and the ranges of the source that are cached, each by its start and its end
-pub record Seen (E : Type 0) : Type 0 where
-  pub content : Option (List ℕ)
-  pub can_fail : Bool
-  pub failures : ℕ
-  pub ehdr : FileHeader E
-  pub declares_sections : Bool
-  pub sections : List SectionHeader
-  pub segments : List ProgramHeader
-  pub cached : List (ℕ × ℕ)
-
--- ---- its headers
-
--- the headers of a file, in memory
+-- the headers of a file, in memory: the file header as it is now, whether a table of section headers is declared, the
+-- section headers, and the program headers
 pub record Headers (E : Type 0) : Type 0 where
   pub ehdr : FileHeader E
   pub declares_sections : Bool
   pub sections : List SectionHeader
   pub segments : List ProgramHeader
 
--- those of a stream
-abbrev pub shown_headers : {E : Type 0} → Seen E → Headers E
-shown_headers s = record {
-  ehdr = s.ehdr;
-  declares_sections = s.declares_sections;
-  sections = s.sections;
-  segments = s.segments;
-}
+-- a stream: the content of its source, if known, whether the source can fail and how often it did; its headers; and the
+-- ranges of the source that are cached, each by its start and its end
+pub record Seen (E : Type 0) : Type 0 where
+  pub content : Option (List ℕ)
+  pub can_fail : Bool
+  pub failures : ℕ
+  pub headers : Headers E
+  pub cached : List (ℕ × ℕ)
 
--- those of a file that was opened
+-- ---- its headers
+
+-- the headers of a file that was opened
 abbrev pub headers_of : {E : Type 0} → View E → Headers E
 headers_of v = record {
   ehdr = v.ehdr;
@@ -55,7 +43,7 @@ headers_of v = record {
 -- in it now
 abbrev pub IsOfFile : {E : Type 0} → (E → Bool) → (ℕ → Option E) → List ℕ → Seen E → Type 0
 IsOfFile {E} little of_byte bytes s =
-    (v : View E) × (opened little of_byte bytes ≡ Ok v) × (shown_headers s ≡ headers_of (with_header v s.ehdr))
+    (v : View E) × (opened little of_byte bytes ≡ Ok v) × (s.headers ≡ headers_of (with_header v s.headers.ehdr))
 
 -- ---- which ranges are cached
 
@@ -76,10 +64,7 @@ AreCached s (r ∷ rs) = IsCached s r.0 (r.0 + r.1) × AreCached s rs
 pub record Keeps {E : Type 0} (old new : Seen E) : Type 0 where
   pub content : new.content ≡ old.content
   pub can_fail : new.can_fail ≡ old.can_fail
-  pub ehdr : new.ehdr ≡ old.ehdr
-  pub declares_sections : new.declares_sections ≡ old.declares_sections
-  pub sections : new.sections ≡ old.sections
-  pub segments : new.segments ≡ old.segments
+  pub headers : new.headers ≡ old.headers
   pub cached : (start end : ℕ) → IsCached old start end → IsCached new start end
 
 -- ---- why a call is refused
@@ -143,6 +128,6 @@ MayRefuse can_fail some none Refusal = none
 
 -- a stream with the headers that the content gives, over a source that did not fail; or an error
 abbrev pub IsOpening :
-    {E Y : Type 0} → (Seen E → Y) → Result Y ParseError → Bool → ℕ → Result (Seen E) ParseError → Type 0
-IsOpening shown answer can_fail before (Ok s) = (s.failures ≡ before) × (answer ≡ Ok (shown s))
-IsOpening shown answer can_fail before (Err e) = MayRefuse can_fail (IsOk answer) (IsErr answer) (kind e)
+    {E : Type 0} → Result (Headers E) ParseError → Bool → ℕ → Result (Seen E) ParseError → Type 0
+IsOpening answer can_fail before (Ok s) = (s.failures ≡ before) × (answer ≡ Ok s.headers)
+IsOpening answer can_fail before (Err e) = MayRefuse can_fail (IsOk answer) (IsErr answer) (kind e)

@@ -135,7 +135,7 @@ pub record Call (E : Type 0) : Type 0 where
 abbrev pub AreMade : {E : Type 0} → (E → Bool) → Seen E → List (Call E) → Type 0
 AreMade little s [] = Unit {0}
 AreMade little s (call ∷ calls) =
-    let old = record s { ehdr = call.header } in
+    let old = record s { headers = record s.headers { ehdr = call.header } } in
     Leaves (requested call.method (headers_alone little old)) (λ x. x)
     (λ bytes. answer call.method (stream_file little old bytes)) old call.new call.result
     × AreMade little call.new calls

@@ -4,7 +4,7 @@ use Rattle.elf_parts.specs.declared.parse.ParseError.{ParseError}
 use Rattle.elf_parts.specs.declared.parse.ParseError.TheVariants.{BadOffset}
 use Rattle.elf_parts.specs.declared.section.SectionHeader.{SectionHeader}
 use Rattle.elf.specs.ObjectFile.{ObjectFile}
-use Rattle.elf.specs.ElfStream.{Headers, Seen, shown_headers}
+use Rattle.elf.specs.ElfStream.{Headers, Seen}
 
 -- member i of the list, or that there is none
 abbrev pub listed_at : List SectionHeader → ℕ → Result SectionHeader ParseError
@@ -25,4 +25,4 @@ listed_file little h bytes = record {
 
 -- what a stream is to its answers, over these bytes
 abbrev pub stream_file : {E : Type 0} → (E → Bool) → Seen E → List ℕ → ObjectFile
-stream_file little s bytes = listed_file little (shown_headers s) bytes
+stream_file little s bytes = listed_file little s.headers bytes

@@ -5,7 +5,6 @@ ghost use Rattle.elf_parts.specs.Number.{bytes_at, ok_map};
 ghost use Rattle.elf.specs.Ranges.{range_of_section, range_of_segment};
 ghost use Rattle.elf.specs.Opening.{opened};
 ghost use Rattle.elf.specs.ElfStream.{IsAnswer, IsFor, IsOfFile, Kind, headers_of, Keeps, IsCached, IsOpening, kind};
-ghost use Rattle.elf.specs.ElfStream.{shown_headers};
 ghost use Rattle.elf.specs.inner.Loads.{Loads};
 
 use crate::source::StreamSource;
@@ -73,10 +72,12 @@ impl<E: EndianParse, S: StreamSource, A: Allocator + Copy> Model for ElfStream<E
       content = S.content s.source;
       can_fail = S.can_fail s.source;
       failures = S.failures s.source;
-      ehdr = s.ehdr;
-      declares_sections = s.declares_sections;
-      sections = s.shdrs.items;
-      segments = s.phdrs.items;
+      headers = record {
+        ehdr = s.ehdr;
+        declares_sections = s.declares_sections;
+        sections = s.shdrs.items;
+        segments = s.phdrs.items;
+      };
       cached = map range_of s.cache;
     } };
 
@@ -96,7 +97,7 @@ impl<E: EndianParse, S: StreamSource, A: Allocator + Copy> ElfStream<E, S, A> {
     pub fn open_stream(alloc: A, mut reader: S) -> Result<Self, ParseError>
         ensures content { IfOk result (λ s. (s.content ≡ S.content reader) × (s.can_fail ≡ S.can_fail reader)) }
         ensures cached { IfOk result (λ s. s.cached ≡ []) }
-        ensures opening { IfSome (S.content reader) (λ bytes. IsOpening shown_headers
+        ensures opening { IfSome (S.content reader) (λ bytes. IsOpening
             (ok_map headers_of (opened E.little E.of_byte bytes)) (S.can_fail reader) (S.failures reader) result) }
     {
         let len = match reader.seek_end() {
@@ -136,14 +137,14 @@ impl<E: EndianParse, S: StreamSource, A: Allocator + Copy> ElfStream<E, S, A> {
 
     /// Returns the program headers. There are none if the file declares none.
     pub fn segments(&self) -> &Vec<ProgramHeader, A>
-        ensures { result.now.items ≡ self.now.segments }
+        ensures { result.now.items ≡ self.now.headers.segments }
     {
         &self.phdrs
     }
 
     /// Returns the section headers. There are none if the file declares none.
     pub fn section_headers(&self) -> &Vec<SectionHeader, A>
-        ensures { result.now.items ≡ self.now.sections }
+        ensures { result.now.items ≡ self.now.headers.sections }
     {
         &self.shdrs
     }

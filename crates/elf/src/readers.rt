@@ -5,7 +5,7 @@ ghost use Rattle.elf.specs.StreamFile.{stream_file};
 ghost use Rattle.elf.specs.ObjectFile.{object_file};
 ghost use Rattle.elf.specs.Opening.{opened};
 ghost use Rattle.elf.specs.Readers.{SameAnswers};
-ghost use Rattle.elf.specs.ElfStream.{Seen, headers_of, shown_headers};
+ghost use Rattle.elf.specs.ElfStream.{Seen, headers_of};
 ghost use Rattle.elf.specs.ElfBytes.{View, with_header};
 ghost use Rattle.elf_parts.specs.declared.file.FileHeader.{FileHeader};
 
@@ -21,7 +21,7 @@ use std::alloc::Allocator;
 /// in `ehdr`, if it is the same in both.
 pub fn list_answers_as_table<E: EndianParse>()
     ensures { (bytes : List ℕ) (v : View E) (header : FileHeader E) (s : Seen E) →
-        opened E.little E.of_byte bytes ≡ Ok v → shown_headers s ≡ headers_of (with_header v header) →
+        opened E.little E.of_byte bytes ≡ Ok v → s.headers ≡ headers_of (with_header v header) →
         SameAnswers (object_file E.little (with_header v header)) (stream_file E.little s bytes) }
 {
     list_is_what_get_gives::<SectionHeader>();
@@ -34,7 +34,7 @@ pub fn list_answers_as_table<E: EndianParse>()
 pub fn calls_answer_alike<E: EndianParse>()
     ensures { (bytes : List ℕ) (v : View E) (s : Seen E) (calls : List (Call E)) →
         opened E.little E.of_byte bytes ≡ Ok v → s.content ≡ Some bytes →
-        shown_headers s ≡ headers_of (with_header v s.ehdr) → AreMade E.little s calls →
+        s.headers ≡ headers_of (with_header v s.headers.ehdr) → AreMade E.little s calls →
         All (IsAnsweredAlike E.little v) calls }
 {
     list_answers_as_table::<E>();
@@ -46,7 +46,8 @@ pub fn stream_answers_as_bytes<E: EndianParse, S: StreamSource, A: Allocator + C
     stream: &ElfStream<E, S, A>,
 )
     ensures { IfSome stream.now.content (λ bytes. (v : View E) × (opened E.little E.of_byte bytes ≡ Ok v)
-        × SameAnswers (object_file E.little (with_header v stream.now.ehdr)) (stream_file E.little stream.now bytes)) }
+        × SameAnswers (object_file E.little (with_header v stream.now.headers.ehdr))
+        (stream_file E.little stream.now bytes)) }
 {
     stream.is_of_file();
     list_answers_as_table::<E>();

@@ -11,7 +11,7 @@ use Rattle.elf_parts.specs.declared.parse.ParseError.{ParseError}
 use Rattle.elf_parts.specs.declared.section.SectionHeader.{SectionHeader}
 use Rattle.elf.specs.Answers.{dynamic_symbol_table, symbol_version_table}
 use Rattle.elf.specs.Data.{section_data}
-use Rattle.elf.specs.ElfStream.{Headers, IsOpening, Keeps, Seen, headers_of, shown_headers}
+use Rattle.elf.specs.ElfStream.{Headers, IsOpening, Keeps, Seen, headers_of}
 use Rattle.elf.specs.Opening.{opened}
 use Rattle.elf.specs.Headers.{first_section_of}
 use Rattle.elf.specs.ObjectFile.{ObjectFile}
@@ -29,16 +29,13 @@ use Rattle.elf_uses.proofs.Readings.{reads_behind}
 
 -- ---- readings one behind the other
 
-same_headers : {E : Type 0} (old middle : Seen E) → Keeps old middle → shown_headers middle ≡ shown_headers old
-same_headers old middle keeps = rw (keeps.ehdr, keeps.declares_sections, keeps.sections, keeps.segments) refl
-
 pub reads_of_file : {E T Y : Type 0} (little : E → Bool) (old middle new : Seen E) (r : Result T ParseError) (shown : Bool → Class → T → Y) (answer : ObjectFile → Result Y ParseError) → Keeps old middle
-    → Reads middle new r (shown (little middle.ehdr.endianness) middle.ehdr.class) (λ bytes. answer (stream_file little middle bytes))
-    → Reads old new r (shown (little old.ehdr.endianness) old.ehdr.class) (λ bytes. answer (stream_file little old bytes))
+    → Reads middle new r (shown (little middle.headers.ehdr.endianness) middle.headers.ehdr.class) (λ bytes. answer (stream_file little middle bytes))
+    → Reads old new r (shown (little old.headers.ehdr.endianness) old.headers.ehdr.class) (λ bytes. answer (stream_file little old bytes))
 reads_of_file {E} {T} {Y} little old middle new r shown answer keeps reads =
     let Such : Headers E → Type 0 = λ h. Reads middle new r (shown (little h.ehdr.endianness) h.ehdr.class) (λ bytes. answer (listed_file little h bytes)) in
-    reads_behind old middle new r (shown (little old.ehdr.endianness) old.ehdr.class) (λ bytes. answer (stream_file little old bytes)) keeps
-    (subst Such (same_headers old middle keeps) reads)
+    reads_behind old middle new r (shown (little old.headers.ehdr.endianness) old.headers.ehdr.class) (λ bytes. answer (stream_file little old bytes)) keeps
+    (subst Such keeps.headers reads)
 
 pub all_told : (told : Option (List ℕ)) (P Q R S : List ℕ → Type 0) → ((bytes : List ℕ) → P bytes → Q bytes → R bytes → S bytes) → IfSome told P → IfSome told Q → IfSome told R → IfSome told S
 all_told None P Q R S so p q r = tt
@@ -87,10 +84,10 @@ module _ {E : Type 0} (little : E → Bool) (can_fail : Bool) (file : ObjectFile
 
 -- the library of a stream that was opened
 pub opened_told : {E : Type 0} (little : E → Bool) (of_byte : ℕ → Option E) (can_fail : Bool) (before : ℕ) (told : Option (List ℕ)) (s : Seen E) (library : Library E) → s.content ≡ told → s.can_fail ≡ can_fail
-    → IfSome told (λ bytes. IsOpening shown_headers (ok_map headers_of (opened little of_byte bytes)) can_fail before (Ok s))
+    → IfSome told (λ bytes. IsOpening (ok_map headers_of (opened little of_byte bytes)) can_fail before (Ok s))
     → IfSome s.content (λ bytes. IsLibraryOf little s.can_fail (stream_file little s bytes) library)
     → IfSome told (λ bytes. IsOpened little of_byte can_fail bytes (Ok library))
 opened_told little of_byte can_fail before None s library is same opening parts = tt
 opened_told little of_byte can_fail before (Some bytes) s library is same opening parts =
     let here = subst (λ (told : Option (List ℕ)). IfSome told (λ content. IsLibraryOf little s.can_fail (stream_file little s content) library)) is parts in
-    (shown_headers s, opening.1, subst (λ (fails : Bool). IsLibraryOf little fails (stream_file little s bytes) library) same here)
+    (s.headers, opening.1, subst (λ (fails : Bool). IsLibraryOf little fails (stream_file little s bytes) library) same here)

@@ -13,6 +13,7 @@ use Rattle.elf_uses.specs.Needed.{IsGiven, IsNamesAnswer, IsUnreadable, GivesNam
 use Rattle.elf_uses.specs.declared.needed.Names.{Names}
 use Rattle.elf_uses.specs.declared.needed.NamesError.{NamesError}
 use Rattle.elf_uses.specs.declared.needed.NamesError.TheVariants.{Memory, Name, NoAddress, NoSize, NotLoaded, Read}
+use Rattle.elf_uses.proofs.Readings.{keeps_then, same_file}
 
 -- ---- what is found passes the test
 
@@ -46,20 +47,6 @@ tells_made old new asked shown answer r x shows made given leaves is g =
     record { keeps = leaves.keeps; answers = told_made old.content shown answer old.can_fail old.failures new.failures x shows made given answers g }
 
 -- ---- a call of a stream behind another that was not refused
-
-same_file : {E : Type 0} (little : E → Bool) (old new : Seen E) (bytes : List ℕ) → Keeps old new → stream_file little new bytes ≡ stream_file little old bytes
-same_file little old new bytes keeps = rw (keeps.ehdr, keeps.declares_sections, keeps.sections, keeps.segments) refl
-
-keeps_then : {E : Type 0} (old middle new : Seen E) → Keeps old middle → Keeps middle new → Keeps old new
-keeps_then old middle new a b = record {
-  content = b.content ∙ a.content;
-  can_fail = b.can_fail ∙ a.can_fail;
-  ehdr = b.ehdr ∙ a.ehdr;
-  declares_sections = b.declares_sections ∙ a.declares_sections;
-  sections = b.sections ∙ a.sections;
-  segments = b.segments ∙ a.segments;
-  cached = λ start end h. b.cached start end (a.cached start end h);
-}
 
 refused_so : (k : Kind) (P Q : Type 0) (before middle now : ℕ) (can_fail : Bool) → (P → Q) → middle ≡ before → IsRefused middle now can_fail P k → IsRefused before now can_fail Q k
 refused_so Kind.SourceFailure P Q before middle now can_fail so same h = let up = h.0 in (omega arith, h.1)

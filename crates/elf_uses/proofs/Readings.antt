@@ -16,16 +16,13 @@ use Rattle.elf_uses.specs.Readings.{IsRead, Reads}
 -- ---- a stream that keeps its file
 
 pub same_file : {E : Type 0} (little : E → Bool) (old new : Seen E) (bytes : List ℕ) → Keeps old new → stream_file little new bytes ≡ stream_file little old bytes
-same_file little old new bytes keeps = rw (keeps.ehdr, keeps.declares_sections, keeps.sections, keeps.segments) refl
+same_file little old new bytes keeps = rw keeps.headers refl
 
 pub keeps_then : {E : Type 0} (old middle new : Seen E) → Keeps old middle → Keeps middle new → Keeps old new
 keeps_then old middle new a b = record {
   content = b.content ∙ a.content;
   can_fail = b.can_fail ∙ a.can_fail;
-  ehdr = b.ehdr ∙ a.ehdr;
-  declares_sections = b.declares_sections ∙ a.declares_sections;
-  sections = b.sections ∙ a.sections;
-  segments = b.segments ∙ a.segments;
+  headers = b.headers ∙ a.headers;
   cached = λ start end h. b.cached start end (a.cached start end h);
 }
 

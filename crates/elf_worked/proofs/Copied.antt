@@ -7,7 +7,7 @@ use Rattle.elf_parts.specs.declared.parse.ParseError.{ParseError}
 use Rattle.elf_parts.specs.declared.section.SectionHeader.{SectionHeader}
 use Rattle.elf.specs.Data.{section_data}
 use Rattle.elf.specs.ElfBytes.{View, with_header}
-use Rattle.elf.specs.ElfStream.{Seen, headers_of, shown_headers}
+use Rattle.elf.specs.ElfStream.{Seen, headers_of}
 use Rattle.elf.specs.ObjectFile.{object_file}
 use Rattle.elf.specs.Opening.{opened}
 use Rattle.elf.specs.Readers.{SameAnswers}
@@ -18,15 +18,15 @@ ok_is : {A : Type 0} (r : Result A ParseError) (x : A) → result_ok r ≡ Some 
 ok_is (Ok y) x e = let same : y ≡ x = cc in ap Ok same
 ok_is (Err f) x e = cc
 
-same_header : {E : Type 0} (v : View E) (s : Seen E) (r : Result (View E) ParseError) → r ≡ Ok v → ok_map headers_of r ≡ Ok (shown_headers s) → v.ehdr ≡ s.ehdr
+same_header : {E : Type 0} (v : View E) (s : Seen E) (r : Result (View E) ParseError) → r ≡ Ok v → ok_map headers_of r ≡ Ok s.headers → v.ehdr ≡ s.headers.ehdr
 same_header v s r is told =
-    let both : Ok (headers_of v) ≡ Ok (shown_headers s) = ap (ok_map headers_of) (sym is) ∙ told in
-    let same : headers_of v ≡ shown_headers s = cc in ap (λ h. h.ehdr) same
+    let both : Ok (headers_of v) ≡ Ok s.headers = ap (ok_map headers_of) (sym is) ∙ told in
+    let same : headers_of v ≡ s.headers = cc in ap (λ h. h.ehdr) same
 
 -- by the headers that the opening gave, that both readers answer alike, and what the stream gave
 pub copied : {E : Type 0} (little : E → Bool) (of_byte : ℕ → Option E) (bytes : List ℕ) (s : Seen E) (shdr : SectionHeader) (found : List ℕ × Option CompressionHeader) (copy : List ℕ)
-    → ok_map headers_of (opened little of_byte bytes) ≡ Ok (shown_headers s)
-    → ((v : View E) × (opened little of_byte bytes ≡ Ok v) × SameAnswers (object_file little (with_header v s.ehdr)) (stream_file little s bytes))
+    → ok_map headers_of (opened little of_byte bytes) ≡ Ok s.headers
+    → ((v : View E) × (opened little of_byte bytes ≡ Ok v) × SameAnswers (object_file little (with_header v s.headers.ehdr)) (stream_file little s bytes))
     → section_data (stream_file little s bytes) shdr ≡ Ok found → found.0 ≡ copy → IsSectionOf little of_byte bytes shdr copy
 copied little of_byte bytes s shdr found copy headers alike gave is =
     let v = alike.0 in

@@ -17,7 +17,7 @@ use Rattle.elf.specs.Names.{name_table}
 use Rattle.elf.specs.StreamFile.{stream_file}
 use Rattle.elf.specs.ObjectFile.{ObjectFile, object_file}
 use Rattle.elf.specs.Readers.{AreAlike, SameAnswers}
-use Rattle.elf.specs.ElfStream.{Seen, headers_of, shown_headers}
+use Rattle.elf.specs.ElfStream.{Seen, headers_of}
 use Rattle.elf.specs.ElfBytes.{View}
 use Rattle.elf_check.specs.Object.{object_in}
 use Rattle.elf_check.specs.declared.hashcheck.any.HashSection.{HashSection}
@@ -131,10 +131,10 @@ module _ {E : Type 0} (h : FileHeader E) (one other : ObjectFile) (little : one.
 
 -- ---- of a file, and of a stream that shows its headers
 
-pub text_of_both : {E : Type 0} (little : E → Bool) (bytes : List ℕ) (v : View E) (s : Seen E) (calls : List Question) → shown_headers s ≡ headers_of v
-    → SameAnswers (object_file little v) (stream_file little s bytes) → text v.ehdr (object_file little v) calls ≡ text s.ehdr (stream_file little s bytes) calls
+pub text_of_both : {E : Type 0} (little : E → Bool) (bytes : List ℕ) (v : View E) (s : Seen E) (calls : List Question) → s.headers ≡ headers_of v
+    → SameAnswers (object_file little v) (stream_file little s bytes) → text v.ehdr (object_file little v) calls ≡ text s.headers.ehdr (stream_file little s bytes) calls
 text_of_both {E} little bytes v s calls shown same =
-    let header : s.ehdr ≡ v.ehdr = ap (λ h. h.ehdr) shown in
+    let header : s.headers.ehdr ≡ v.ehdr = ap (λ h. h.ehdr) shown in
     let little_same = ap (λ (h : FileHeader E). little h.endianness) (sym header) in
     let class_same = ap (λ (h : FileHeader E). h.class) (sym header) in
     text_same v.ehdr (object_file little v) (stream_file little s bytes) little_same class_same same calls

@@ -28,16 +28,13 @@ use Rattle.elfshow.proofs.Writing.{appends_more}
 -- ---- a stream that keeps its file
 
 same_file : {E : Type 0} (little : E → Bool) (old new : Seen E) (bytes : List ℕ) → Keeps old new → stream_file little new bytes ≡ stream_file little old bytes
-same_file little old new bytes keeps = rw (keeps.ehdr, keeps.declares_sections, keeps.sections, keeps.segments) refl
+same_file little old new bytes keeps = rw keeps.headers refl
 
 pub keeps_then : {E : Type 0} (old middle new : Seen E) → Keeps old middle → Keeps middle new → Keeps old new
 keeps_then old middle new a b = record {
   content = b.content ∙ a.content;
   can_fail = b.can_fail ∙ a.can_fail;
-  ehdr = b.ehdr ∙ a.ehdr;
-  declares_sections = b.declares_sections ∙ a.declares_sections;
-  sections = b.sections ∙ a.sections;
-  segments = b.segments ∙ a.segments;
+  headers = b.headers ∙ a.headers;
   cached = λ start end h. b.cached start end (a.cached start end h);
 }
 
@@ -264,7 +261,7 @@ tried_refusal X (Some bytes) answer old new before now can_fail e h = h.1
 
 same_answer : {E : Type 0} (little : E → Bool) (call : Question) (old new : Seen E) (bytes : List ℕ) → Keeps old new → stream_answer little new bytes call ≡ stream_answer little old bytes call
 same_answer little call old new bytes keeps =
-    ap (λ h. call_answer h (stream_file little new bytes) call) keeps.ehdr ∙ ap (λ file. call_answer old.ehdr file call) (same_file little old new bytes keeps)
+    ap (λ h. call_answer h (stream_file little new bytes) call) (ap (λ h. h.ehdr) keeps.headers) ∙ ap (λ file. call_answer old.headers.ehdr file call) (same_file little old new bytes keeps)
 
 module _ {E : Type 0} (little : E → Bool) (call : Question) (old new : Seen E) where
   abbrev answer : List ℕ → Result (List ℕ) ParseError
@@ -396,9 +393,9 @@ everywhere (Some bytes) P h = h bytes
 
 module _ {E T Y X : Type 0} (little : E → Bool) (call : Question) (old new : Seen E) (shown : T → Y) (line : Y → List ℕ) where
   pub section_refused : (ranges : SectionHeader → List (ℕ × ℕ)) (i : ℕ) (s : SectionHeader) (answer : ObjectFile → SectionHeader → Result Y ParseError) (whole : Result T ParseError) (e : ParseError) (before : Option (List ℕ))
-      → ((bytes : List ℕ) → stream_answer little old bytes call ≡ unless_absent (λ s. ok_map line (answer (stream_file little old bytes) s)) (slice_get old.sections i))
-      → (AreCached old (call_ranges little old call) → AreCached old (if_there ranges (slice_get old.sections i)))
-      → slice_get old.sections i ≡ Some s → Leaves (ranges s) shown (λ bytes. answer (stream_file little old bytes) s) old new whole → whole ≡ Err e → TriedCall {X = X} little call old new before before (Err e)
+      → ((bytes : List ℕ) → stream_answer little old bytes call ≡ unless_absent (λ s. ok_map line (answer (stream_file little old bytes) s)) (slice_get old.headers.sections i))
+      → (AreCached old (call_ranges little old call) → AreCached old (if_there ranges (slice_get old.headers.sections i)))
+      → slice_get old.headers.sections i ≡ Some s → Leaves (ranges s) shown (λ bytes. answer (stream_file little old bytes) s) old new whole → whole ≡ Err e → TriedCall {X = X} little call old new before before (Err e)
   section_refused ranges i s answer whole e before texts cached there leaves is =
       call_refused little call old new (ranges s) shown (λ bytes. answer (stream_file little old bytes) s) whole e before
       (λ bytes refused. subst IsErr (sym (texts bytes ∙ ap (unless_absent (λ s. ok_map line (answer (stream_file little old bytes) s))) there)) (outer_refused line (answer (stream_file little old bytes) s) refused))
@@ -406,9 +403,9 @@ module _ {E T Y X : Type 0} (little : E → Bool) (call : Question) (old new : S
       leaves is
 
   pub section_written : (ranges : SectionHeader → List (ℕ × ℕ)) (i : ℕ) (s : SectionHeader) (answer : ObjectFile → SectionHeader → Result Y ParseError) (whole : Result T ParseError) (x : T) (written : List ℕ) (before after : Option (List ℕ)) (w : Result (Unit {0}) X)
-      → ((bytes : List ℕ) → stream_answer little old bytes call ≡ unless_absent (λ s. ok_map line (answer (stream_file little old bytes) s)) (slice_get old.sections i))
-      → call_ranges little old call ≡ if_there ranges (slice_get old.sections i)
-      → slice_get old.sections i ≡ Some s → Leaves (ranges s) shown (λ bytes. answer (stream_file little old bytes) s) old new whole → whole ≡ Ok x → line (shown x) ≡ written → OnOk w (Appends before after written) → TriedCall little call old new before after (Ok w)
+      → ((bytes : List ℕ) → stream_answer little old bytes call ≡ unless_absent (λ s. ok_map line (answer (stream_file little old bytes) s)) (slice_get old.headers.sections i))
+      → call_ranges little old call ≡ if_there ranges (slice_get old.headers.sections i)
+      → slice_get old.headers.sections i ≡ Some s → Leaves (ranges s) shown (λ bytes. answer (stream_file little old bytes) s) old new whole → whole ≡ Ok x → line (shown x) ≡ written → OnOk w (Appends before after written) → TriedCall little call old new before after (Ok w)
   section_written ranges i s answer whole x written before after w texts requested there leaves is text wrote =
       let found = λ (bytes : List ℕ) (e : answer (stream_file little old bytes) s ≡ Ok (shown x)).
       texts bytes ∙ ap (unless_absent (λ s. ok_map line (answer (stream_file little old bytes) s))) there ∙ ap (ok_map line) e ∙ ap Ok text in
@@ -418,9 +415,9 @@ module _ {E T Y X : Type 0} (little : E → Bool) (call : Question) (old new : S
       (record { keeps = leaves.keeps; loaded = cached; answers = leaves.answers }) is wrote
 
   pub segment_refused : (ranges : ProgramHeader → List (ℕ × ℕ)) (i : ℕ) (p : ProgramHeader) (answer : ObjectFile → ProgramHeader → Result Y ParseError) (whole : Result T ParseError) (e : ParseError) (before : Option (List ℕ))
-      → ((bytes : List ℕ) → stream_answer little old bytes call ≡ unless_absent (λ p. ok_map line (answer (stream_file little old bytes) p)) (slice_get old.segments i))
-      → (AreCached old (call_ranges little old call) → AreCached old (if_there ranges (slice_get old.segments i)))
-      → slice_get old.segments i ≡ Some p → Leaves (ranges p) shown (λ bytes. answer (stream_file little old bytes) p) old new whole → whole ≡ Err e → TriedCall {X = X} little call old new before before (Err e)
+      → ((bytes : List ℕ) → stream_answer little old bytes call ≡ unless_absent (λ p. ok_map line (answer (stream_file little old bytes) p)) (slice_get old.headers.segments i))
+      → (AreCached old (call_ranges little old call) → AreCached old (if_there ranges (slice_get old.headers.segments i)))
+      → slice_get old.headers.segments i ≡ Some p → Leaves (ranges p) shown (λ bytes. answer (stream_file little old bytes) p) old new whole → whole ≡ Err e → TriedCall {X = X} little call old new before before (Err e)
   segment_refused ranges i p answer whole e before texts cached there leaves is =
       call_refused little call old new (ranges p) shown (λ bytes. answer (stream_file little old bytes) p) whole e before
       (λ bytes refused. subst IsErr (sym (texts bytes ∙ ap (unless_absent (λ p. ok_map line (answer (stream_file little old bytes) p))) there)) (outer_refused line (answer (stream_file little old bytes) p) refused))
@@ -475,40 +472,40 @@ kept_appends (Some xs) (Some ys) None bytes h kept = kept
 kept_appends (Some xs) (Some ys) (Some zs) bytes h kept = kept ∙ h
 
 told_more : {E : Type 0} (little : E → Bool) (old middle : Seen E) (told : Option (List ℕ)) (calls : List Call) (i : ℕ) (d : Call) (now : ℕ) (u v w z : Option (List ℕ)) (x : Unit {0}) → Keeps old middle → i < length calls → KeepsBytes w z
-    → IfSome told (λ bytes. Appends u v (text old.ehdr (stream_file little old bytes) (map question (take i calls))) × (middle.failures ≡ old.failures))
+    → IfSome told (λ bytes. Appends u v (text old.headers.ehdr (stream_file little old bytes) (map question (take i calls))) × (middle.failures ≡ old.failures))
     → IfSome told (λ bytes. RanOne (stream_answer little middle bytes (question (get_or calls i d))) v w middle.can_fail middle.failures now (Ok x))
-    → IfSome told (λ bytes. Appends u z (text old.ehdr (stream_file little old bytes) (map question (take (i + 1) calls))) × (now ≡ old.failures))
+    → IfSome told (λ bytes. Appends u z (text old.headers.ehdr (stream_file little old bytes) (map question (take (i + 1) calls))) × (now ≡ old.failures))
 told_more little old middle None calls i d now u v w z x keeps within kept all one = tt
 told_more little old middle (Some bytes) calls i d now u v w z x keeps within kept all one =
-    let front = text old.ehdr (stream_file little old bytes) (map question (take i calls)) in
+    let front = text old.headers.ehdr (stream_file little old bytes) (map question (take i calls)) in
     let here = question (get_or calls i d) in
     let piece : Appends v w (or_refused (stream_answer little old bytes here)) = subst (λ answer. Appends v w (or_refused answer)) (same_answer little here old middle bytes keeps) one.1 in
     let both = appends_more u v w front (or_refused (stream_answer little old bytes here)) all.0 piece in
-    let whole = ap (λ cs. text old.ehdr (stream_file little old bytes) (map question cs)) (take_more calls i d within) ∙ text_more old.ehdr (stream_file little old bytes) (take i calls) (get_or calls i d) in
-    (kept_appends u w z (text old.ehdr (stream_file little old bytes) (map question (take (i + 1) calls))) (subst (λ t. Appends u w t) (sym whole) both) kept, one.0 ∙ all.1)
+    let whole = ap (λ cs. text old.headers.ehdr (stream_file little old bytes) (map question cs)) (take_more calls i d within) ∙ text_more old.headers.ehdr (stream_file little old bytes) (take i calls) (get_or calls i d) in
+    (kept_appends u w z (text old.headers.ehdr (stream_file little old bytes) (map question (take (i + 1) calls))) (subst (λ t. Appends u w t) (sym whole) both) kept, one.0 ∙ all.1)
 
 pub more_written : {E : Type 0} (little : E → Bool) (old middle : Seen E) (told : Option (List ℕ)) (calls : List Call) (i : ℕ) (d : Call) (now : ℕ) (u v w z : Option (List ℕ)) (r : Result (Unit {0}) Stop) (x : Unit {0}) → Keeps old middle → i < length calls → KeepsBytes w z → r ≡ Ok x
-    → IfSome told (λ bytes. Appends u v (text old.ehdr (stream_file little old bytes) (map question (take i calls))) × (middle.failures ≡ old.failures))
+    → IfSome told (λ bytes. Appends u v (text old.headers.ehdr (stream_file little old bytes) (map question (take i calls))) × (middle.failures ≡ old.failures))
     → IfSome told (λ bytes. RanOne (stream_answer little middle bytes (question (get_or calls i d))) v w middle.can_fail middle.failures now r)
-    → IfSome told (λ bytes. Appends u z (text old.ehdr (stream_file little old bytes) (map question (take (i + 1) calls))) × (now ≡ old.failures))
+    → IfSome told (λ bytes. Appends u z (text old.headers.ehdr (stream_file little old bytes) (map question (take (i + 1) calls))) × (now ≡ old.failures))
 more_written little old middle told calls i d now u v w z r x keeps within kept is all one =
     told_more little old middle told calls i d now u v w z x keeps within kept all (subst (λ o. IfSome told (λ bytes. RanOne (stream_answer little middle bytes (question (get_or calls i d))) v w middle.can_fail middle.failures now o)) is one)
 
 stopped_by : {E : Type 0} (little : E → Bool) (old middle : Seen E) (told : Option (List ℕ)) (calls : List Call) (i : ℕ) (d : Call) (now : ℕ) (u v w : Option (List ℕ)) (s : Stop) → Keeps old middle → i < length calls
-    → IfSome told (λ bytes. Appends u v (text old.ehdr (stream_file little old bytes) (map question (take i calls))) × (middle.failures ≡ old.failures))
+    → IfSome told (λ bytes. Appends u v (text old.headers.ehdr (stream_file little old bytes) (map question (take i calls))) × (middle.failures ≡ old.failures))
     → IfSome told (λ bytes. RanOne (stream_answer little middle bytes (question (get_or calls i d))) v w middle.can_fail middle.failures now (Err s))
-    → IfSome told (λ bytes. Ran (λ calls. text old.ehdr (stream_file little old bytes) (map question calls)) calls u w old.can_fail old.failures now (Err (stopped_after i s)))
+    → IfSome told (λ bytes. Ran (λ calls. text old.headers.ehdr (stream_file little old bytes) (map question calls)) calls u w old.can_fail old.failures now (Err (stopped_after i s)))
 stopped_by little old middle None calls i d now u v w s keeps within all one = tt
 stopped_by little old middle (Some bytes) calls i d now u v w (stop.Fault e) keeps within all one =
     let refused = subst (λ count. IsRefused count now old.can_fail ⊥ (kind e)) all.1 (subst (λ can_fail. IsRefused middle.failures now can_fail ⊥ (kind e)) keeps.can_fail one.1) in
-    (within, kept_appends u v w (text old.ehdr (stream_file little old bytes) (map question (take i calls))) all.0 one.0, refused)
+    (within, kept_appends u v w (text old.headers.ehdr (stream_file little old bytes) (map question (take i calls))) all.0 one.0, refused)
 stopped_by little old middle (Some bytes) calls i d now u v w (stop.Write e) keeps within all one = (within, one ∙ all.1)
 
 -- a call that stopped the run behind i others
 pub stopped : {E : Type 0} (little : E → Bool) (old middle : Seen E) (told : Option (List ℕ)) (calls : List Call) (i : ℕ) (d : Call) (now : ℕ) (u v w : Option (List ℕ)) (r : Result (Unit {0}) Stop) (s : Stop) → Keeps old middle → i < length calls → r ≡ Err s
-    → IfSome told (λ bytes. Appends u v (text old.ehdr (stream_file little old bytes) (map question (take i calls))) × (middle.failures ≡ old.failures))
+    → IfSome told (λ bytes. Appends u v (text old.headers.ehdr (stream_file little old bytes) (map question (take i calls))) × (middle.failures ≡ old.failures))
     → IfSome told (λ bytes. RanOne (stream_answer little middle bytes (question (get_or calls i d))) v w middle.can_fail middle.failures now r)
-    → IfSome told (λ bytes. Ran (λ calls. text old.ehdr (stream_file little old bytes) (map question calls)) calls u w old.can_fail old.failures now (Err (stopped_after i s)))
+    → IfSome told (λ bytes. Ran (λ calls. text old.headers.ehdr (stream_file little old bytes) (map question calls)) calls u w old.can_fail old.failures now (Err (stopped_after i s)))
 stopped little old middle told calls i d now u v w r s keeps within is all one =
     stopped_by little old middle told calls i d now u v w s keeps within all (subst (λ o. IfSome told (λ bytes. RanOne (stream_answer little middle bytes (question (get_or calls i d))) v w middle.can_fail middle.failures now o)) is one)
 

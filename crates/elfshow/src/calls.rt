@@ -151,8 +151,9 @@ pub fn run_stream<E: EndianParse, S: StreamSource, A: Allocator + Copy, W: Write
 ) -> Result<(), RunError>
     ensures keeps { Keeps stream.old stream.new }
     ensures ran { IfSome stream.old.content (λ bytes.
-        Ran (λ calls. text stream.old.ehdr (stream_file E.little stream.old bytes) (map question calls)) calls.now
-        (W.contents out.old) (W.contents out.new) stream.old.can_fail stream.old.failures stream.new.failures result) }
+        Ran (λ calls. text stream.old.headers.ehdr (stream_file E.little stream.old bytes) (map question calls))
+        calls.now (W.contents out.old) (W.contents out.new)
+        stream.old.can_fail stream.old.failures stream.new.failures result) }
     ensures no_fault { IfSome stream.old.content (λ bytes.
         All (λ call. IsAtHand E.little stream.old bytes (question call)) calls.now → IsFaultless result) }
     ensures loaded { OnOk result (IfSome stream.old.content (λ bytes.

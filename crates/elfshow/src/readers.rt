@@ -3,7 +3,7 @@ ghost use Rattle.std.specs.Prelude.{◌≡◌, ℕ, List, Ok};
 ghost use Rattle.elf.specs.StreamFile.{stream_file};
 ghost use Rattle.elf.specs.ObjectFile.{object_file};
 ghost use Rattle.elf.specs.Opening.{opened};
-ghost use Rattle.elf.specs.ElfStream.{Seen, headers_of, shown_headers};
+ghost use Rattle.elf.specs.ElfStream.{Seen, headers_of};
 ghost use Rattle.elf.specs.ElfBytes.{View, with_header};
 ghost use Rattle.elf_parts.specs.declared.file.FileHeader.{FileHeader};
 ghost use Rattle.elfshow.specs.calls.Question.{Question};
@@ -16,9 +16,9 @@ use elf::readers::list_answers_as_table;
 /// an `ElfStream`, whatever header both have in `ehdr`.
 pub fn texts_are_the_same<E: EndianParse>()
     ensures { (bytes : List ℕ) (v : View E) (header : FileHeader E) (s : Seen E) (calls : List Question) →
-        opened E.little E.of_byte bytes ≡ Ok v → shown_headers s ≡ headers_of (with_header v header) →
+        opened E.little E.of_byte bytes ≡ Ok v → s.headers ≡ headers_of (with_header v header) →
         text header (object_file E.little (with_header v header)) calls
-        ≡ text s.ehdr (stream_file E.little s bytes) calls }
+        ≡ text s.headers.ehdr (stream_file E.little s bytes) calls }
 {
     list_answers_as_table::<E>();
 }

@@ -87,9 +87,9 @@ pub value_of : {Y : Type 0} (told : Option (List ℕ)) (answer : List ℕ → Re
 value_of None answer y before now h = tt
 value_of (Some bytes) answer y before now h = h.1
 
-of_file_at : {E : Type 0} (little : E → Bool) (of_byte : ℕ → Option E) (bytes : List ℕ) (s : Seen E) → AreTables little of_byte bytes s.declares_sections s.sections s.segments → IsOfFile little of_byte bytes s
+of_file_at : {E : Type 0} (little : E → Bool) (of_byte : ℕ → Option E) (bytes : List ℕ) (s : Seen E) → AreTables little of_byte bytes s.headers.declares_sections s.headers.sections s.headers.segments → IsOfFile little of_byte bytes s
 of_file_at little of_byte bytes s t = (t.0, t.1, rw (t.2, t.3, t.4) refl)
 
-pub of_file : {E : Type 0} (little : E → Bool) (of_byte : ℕ → Option E) (told : Option (List ℕ)) (s : Seen E) → IfSome told (λ bytes. AreTables little of_byte bytes s.declares_sections s.sections s.segments) → IfSome told (λ bytes. IsOfFile little of_byte bytes s)
+pub of_file : {E : Type 0} (little : E → Bool) (of_byte : ℕ → Option E) (told : Option (List ℕ)) (s : Seen E) → IfSome told (λ bytes. AreTables little of_byte bytes s.headers.declares_sections s.headers.sections s.headers.segments) → IfSome told (λ bytes. IsOfFile little of_byte bytes s)
 of_file little of_byte None s h = tt
 of_file little of_byte (Some bytes) s h = of_file_at little of_byte bytes s h

@@ -17,10 +17,7 @@ pub keeps_then : {E : Type 0} (old middle new : Seen E) → Keeps old middle →
 keeps_then old middle new a b = record {
   content = b.content ∙ a.content;
   can_fail = b.can_fail ∙ a.can_fail;
-  ehdr = b.ehdr ∙ a.ehdr;
-  declares_sections = b.declares_sections ∙ a.declares_sections;
-  sections = b.sections ∙ a.sections;
-  segments = b.segments ∙ a.segments;
+  headers = b.headers ∙ a.headers;
   cached = λ start end h. b.cached start end (a.cached start end h);
 }
 

@@ -33,7 +33,7 @@ impl<E: EndianParse, S: StreamSource, A: Allocator + Copy> ElfStream<E, S, A> {
     fn load_dynamic(&mut self, shdr: &SectionHeader) -> Result<(), ParseError>
         ensures loads { LoadsFor (section_dynamic_ranges (headers_alone E.little self.old) shdr.now)
             (λ bytes. section_dynamic (stream_file E.little self.old bytes) shdr.now) self.old self.new result }
-        ensures sized { OnOk result (shdr.now.sh_entsize ≡ size_by dyn_layout self.old.ehdr.class) }
+        ensures sized { OnOk result (shdr.now.sh_entsize ≡ size_by dyn_layout self.old.headers.ehdr.class) }
         ensures loaded { OnOk result (AreLow (section_ranges shdr.now) × AreCached self.new (section_ranges shdr.now)) }
     {
         Dyn::validate_entsize(self.ehdr.class, shdr.sh_entsize as usize)?;
@@ -45,7 +45,7 @@ impl<E: EndianParse, S: StreamSource, A: Allocator + Copy> ElfStream<E, S, A> {
         &self,
         shdr: &SectionHeader,
     ) -> Result<Option<DynamicTable<'_, E>>, ParseError>
-        requires sized { shdr.now.sh_entsize ≡ size_by dyn_layout self.now.ehdr.class }
+        requires sized { shdr.now.sh_entsize ≡ size_by dyn_layout self.now.headers.ehdr.class }
         requires low { AreLow (section_ranges shdr.now) }
         requires cached { AreCached self.now (section_ranges shdr.now) }
         ensures value { IfSome self.now.content (λ bytes. ok_map (option_map table_view) result

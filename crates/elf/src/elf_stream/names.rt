@@ -36,7 +36,7 @@ impl<E: EndianParse, S: StreamSource, A: Allocator + Copy> ElfStream<E, S, A> {
 
     // The section headers, without a table of names.
     fn headers_without_names(&self) -> (&Vec<SectionHeader, A>, Option<StringTable<'_>>)
-        ensures { listed_view result ≡ (self.now.sections, None) }
+        ensures { listed_view result ≡ (self.now.headers.sections, None) }
     {
         (self.section_headers(), None)
     }
@@ -49,7 +49,7 @@ impl<E: EndianParse, S: StreamSource, A: Allocator + Copy> ElfStream<E, S, A> {
         requires low { AreLow (whole_section names.now) }
         requires cached { AreCached self.now (whole_section names.now) }
         ensures { IfSome self.now.content (λ bytes.
-            ok_map (λ strings. (self.now.sections, Some strings)) (section_range bytes names.now)
+            ok_map (λ strings. (self.now.headers.sections, Some strings)) (section_range bytes names.now)
             ≡ Ok (listed_view result)) }
     {
         let bytes = self.cached_bytes(names.sh_offset, names.sh_size);
@@ -82,8 +82,8 @@ impl<E: EndianParse, S: StreamSource, A: Allocator + Copy> ElfStream<E, S, A> {
         requires low { AreLow (whole_section names.now) }
         requires cached { AreCached self.now (whole_section names.now) }
         ensures { IfSome self.now.content (λ bytes.
-            ok_map (λ strings. first_named self.now.sections name.now (Some strings)) (section_range bytes names.now)
-            ≡ Ok (option_copied result)) }
+            ok_map (λ strings. first_named self.now.headers.sections name.now (Some strings))
+            (section_range bytes names.now) ≡ Ok (option_copied result)) }
     {
         let bytes = self.cached_bytes(names.sh_offset, names.sh_size);
         let strings = StringTable::new(bytes);

@@ -122,7 +122,7 @@ fn read_symbols_of<E: EndianParse, S: StreamSource>(
     linked: &SectionHeader,
 ) -> Result<SymbolBytes, ParseError>
     ensures { Reads stream.old stream.new result
-        (symbols_in (E.little stream.old.ehdr.endianness) stream.old.ehdr.class)
+        (symbols_in (E.little stream.old.headers.ehdr.endianness) stream.old.headers.ehdr.class)
         (λ bytes. symbols_in_file (stream_file E.little stream.old bytes) (section.now, linked.now)) }
 {
     let symbols = read_range(alloc, stream, section)?;
@@ -136,7 +136,7 @@ fn read_symbols<E: EndianParse, S: StreamSource>(
     stream: &mut ElfStream<E, S, Global>,
 ) -> Result<Option<SymbolBytes>, ParseError>
     ensures { Reads stream.old stream.new result
-        (option_map (symbols_in (E.little stream.old.ehdr.endianness) stream.old.ehdr.class))
+        (option_map (symbols_in (E.little stream.old.headers.ehdr.endianness) stream.old.headers.ehdr.class))
         (λ bytes. dynamic_symbol_table (stream_file E.little stream.old bytes)) }
 {
     match stream.symbol_sections(abi::SHT_DYNSYM) {
@@ -156,10 +156,10 @@ fn read_entries<E: EndianParse, S: StreamSource>(
     section: &SectionHeader,
 ) -> Result<EntryBytes, ParseError>
     ensures needs { Reads stream.old stream.new result
-        (needs_in (E.little stream.old.ehdr.endianness) stream.old.ehdr.class)
+        (needs_in (E.little stream.old.headers.ehdr.endianness) stream.old.headers.ehdr.class)
         (λ bytes. version_needs (stream_file E.little stream.old bytes) section.now) }
     ensures definitions { Reads stream.old stream.new result
-        (definitions_in (E.little stream.old.ehdr.endianness) stream.old.ehdr.class)
+        (definitions_in (E.little stream.old.headers.ehdr.endianness) stream.old.headers.ehdr.class)
         (λ bytes. version_definitions (stream_file E.little stream.old bytes) section.now) }
 {
     let entries = read_range(alloc, stream, section)?;
@@ -179,10 +179,10 @@ fn read_entries_if<E: EndianParse, S: StreamSource>(
     section: Option<SectionHeader>,
 ) -> Result<Option<EntryBytes>, ParseError>
     ensures needs { Reads stream.old stream.new result
-        (option_map (needs_in (E.little stream.old.ehdr.endianness) stream.old.ehdr.class))
+        (option_map (needs_in (E.little stream.old.headers.ehdr.endianness) stream.old.headers.ehdr.class))
         (λ bytes. if_found (version_needs (stream_file E.little stream.old bytes)) section) }
     ensures definitions { Reads stream.old stream.new result
-        (option_map (definitions_in (E.little stream.old.ehdr.endianness) stream.old.ehdr.class))
+        (option_map (definitions_in (E.little stream.old.headers.ehdr.endianness) stream.old.headers.ehdr.class))
         (λ bytes. if_found (version_definitions (stream_file E.little stream.old bytes)) section) }
 {
     match section {
@@ -200,7 +200,7 @@ fn read_versions<E: EndianParse, S: StreamSource>(
     stream: &mut ElfStream<E, S, Global>,
 ) -> Result<Option<VersionBytes>, ParseError>
     ensures { Reads stream.old stream.new result
-        (option_map (versions_in (E.little stream.old.ehdr.endianness) stream.old.ehdr.class))
+        (option_map (versions_in (E.little stream.old.headers.ehdr.endianness) stream.old.headers.ehdr.class))
         (λ bytes. symbol_version_table (stream_file E.little stream.old bytes)) }
 {
     let chosen = stream.version_sections();

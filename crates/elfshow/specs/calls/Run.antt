@@ -35,7 +35,7 @@ IsFaultless (Err (Write done e)) = Unit {0}
 
 -- what a stream answers to a call over a content, by a type of orders of which some are little
 abbrev pub stream_answer : {E : Type 0} → (E → Bool) → Seen E → List ℕ → Question → Result (List ℕ) ParseError
-stream_answer little s bytes call = call_answer s.ehdr (stream_file little s bytes) call
+stream_answer little s bytes call = call_answer s.headers.ehdr (stream_file little s bytes) call
 
 -- where the call is answered its ranges are cached
 abbrev pub IsLoaded : {E : Type 0} → (E → Bool) → Seen E → List ℕ → Question → Type 0

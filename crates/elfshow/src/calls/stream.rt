@@ -108,7 +108,7 @@ fn section_header<E: EndianParse, S: StreamSource, A: Allocator + Copy>(
     stream: &ElfStream<E, S, A>,
     index: u64,
 ) -> Option<SectionHeader>
-    ensures { result ≡ slice_get stream.now.sections index }
+    ensures { result ≡ slice_get stream.now.headers.sections index }
 {
     stream.section_headers().get(index as usize).copied()
 }
@@ -118,7 +118,7 @@ fn program_header<E: EndianParse, S: StreamSource, A: Allocator + Copy>(
     stream: &ElfStream<E, S, A>,
     index: u64,
 ) -> Option<ProgramHeader>
-    ensures { result ≡ slice_get stream.now.segments index }
+    ensures { result ≡ slice_get stream.now.headers.segments index }
 {
     stream.segments().get(index as usize).copied()
 }

@@ -23,7 +23,7 @@ returns-in-Ok-from_slice-clause-same g c =
     let new = c.section_data.follows.lender-at-none in
     let gave = subst (λ r. IfSome s.content (λ bytes. IsAnswer data_view (section_data (stream_file little s bytes) shdr) s.can_fail s.failures new.failures r)) c.in-Ok-section_data.is c.section_data.follows.holds-at-none.answers in
     let here = told_of (λ bytes. IsAnswer data_view (section_data (stream_file little s bytes) shdr) s.can_fail s.failures new.failures (Ok found)) s.content bytes c.in-Ok.ensures.content.0 gave in
-    let alike = told_of (λ bytes. (v : View g.row.E.Denot) × (opened little of_byte bytes ≡ Ok v) × SameAnswers (object_file little (with_header v s.ehdr)) (stream_file little s bytes)) s.content bytes c.in-Ok.ensures.content.0 c.stream_answers_as_bytes.ensures in
+    let alike = told_of (λ bytes. (v : View g.row.E.Denot) × (opened little of_byte bytes ≡ Ok v) × SameAnswers (object_file little (with_header v s.headers.ehdr)) (stream_file little s bytes)) s.content bytes c.in-Ok.ensures.content.0 c.stream_answers_as_bytes.ensures in
     subst (λ b. IsSectionOf little of_byte b shdr c.in-Ok-from_slice.copy.items) c.new-source.ensures.bytes
     (copied little of_byte bytes s shdr (data_view found) c.in-Ok-from_slice.copy.items c.in-Ok.ensures.opening.1 alike here.1
     (sym c.in-Ok-from_slice.ensures.items))

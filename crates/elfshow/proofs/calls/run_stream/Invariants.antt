@@ -12,7 +12,7 @@ abbrev pub invariant-loop-done : goal.invariant-loop-done
 invariant-loop-done g l = record {
   keeps : Keeps l.initial.stream l.stream;
   written : IfSome l.initial.stream.content (λ bytes.
-      Appends (g.W.Write.contents l.initial.out) (g.W.Write.contents l.out) (text l.initial.stream.ehdr (stream_file g.E.EndianParse.little l.initial.stream bytes) (map question (take l.done l.calls)))
+      Appends (g.W.Write.contents l.initial.out) (g.W.Write.contents l.out) (text l.initial.stream.headers.ehdr (stream_file g.E.EndianParse.little l.initial.stream bytes) (map question (take l.done l.calls)))
       × (l.stream.failures ≡ l.initial.stream.failures));
   loaded : IfSome l.initial.stream.content (λ bytes. All (λ call. IsLoaded g.E.EndianParse.little l.stream bytes (question call)) (take l.done l.calls));
 }

@@ -16,7 +16,7 @@ pub returns-in_err-load_segment : goal.returns-in_err-load_segment
 returns-in_err-load_segment g c =
     let p = err_from_is_err_and c.from_residual.result c.from_residual.ensures.1 in
     let file = stream_file g.E.EndianParse.little c.args.self.now in
-    let chosen : Ok (first_segment_of 2 c.args.self.now.segments) ≡ Ok (Some c.in-Some.phdr) = cc (c.first_segment_of.ensures, c.in-Some.is) in (
+    let chosen : Ok (first_segment_of 2 c.args.self.now.headers.segments) ≡ Ok (Some c.in-Some.phdr) = cc (c.first_segment_of.ensures, c.in-Some.is) in (
       (
         refl,
         (λ _. tt),

@@ -11,9 +11,11 @@ returns g c =
       content = g.S.StreamSource.content stream.source;
       can_fail = g.S.StreamSource.can_fail stream.source;
       failures = g.S.StreamSource.failures stream.source;
-      ehdr = stream.ehdr;
-      declares_sections = stream.declares_sections;
-      sections = stream.shdrs.items;
-      segments = stream.phdrs.items;
+      headers = record {
+        ehdr = stream.ehdr;
+        declares_sections = stream.declares_sections;
+        sections = stream.shdrs.items;
+        segments = stream.phdrs.items;
+      };
       cached = map range_of stream.cache;
     }) c.self.invariant.tables)

@@ -10,7 +10,7 @@ use Rattle.elf.proofs.elf_stream.ElfStream.load_dynamic.Goals as goal
 
 pub returns-clause-loads : goal.returns-clause-loads
 returns-clause-loads g c =
-    let is : (c.args.shdr.now.sh_entsize == size_by dyn_layout c.args.self.now.ehdr.class) ≡ true = search rules in
+    let is : (c.args.shdr.now.sh_entsize == size_by dyn_layout c.args.self.now.headers.ehdr.class) ≡ true = search rules in
     loads_if _ c.args.self.now c.load_section_data.new.self (section_ranges c.args.shdr.now) (λ bytes. section_dynamic (stream_file g.E.EndianParse.little c.args.self.now bytes) c.args.shdr.now) c.load_section_data.result is
     (loads_for c.args.self.now c.load_section_data.new.self (section_ranges c.args.shdr.now) (λ bytes. section_dynamic (stream_file g.E.EndianParse.little c.args.self.now bytes) c.args.shdr.now) c.load_section_data.result
     (λ bytes. dynamic_needs (stream_file g.E.EndianParse.little c.args.self.now bytes) c.args.shdr.now) c.load_section_data.ensures)

@@ -20,7 +20,7 @@ returns-in_err-load_section g c =
       (
         refl,
         (λ _. tt),
-        chosen_refused c.args.self.now c.load_section.new.self whole_section option_copied (λ choice bytes. ok_map (first_named c.args.self.now.sections c.args.name.now) (choice >>= if_found (section_range bytes))) _ c.in-Some.names p.0 _ p.1 chosen
+        chosen_refused c.args.self.now c.load_section.new.self whole_section option_copied (λ choice bytes. ok_map (first_named c.args.self.now.headers.sections c.args.name.now) (choice >>= if_found (section_range bytes))) _ c.in-Some.names p.0 _ p.1 chosen
             (λ bytes. names_need bytes c.in-Some.names _) (rw p.2 c.in_err-load_section.ensures),
       ),
       tt,

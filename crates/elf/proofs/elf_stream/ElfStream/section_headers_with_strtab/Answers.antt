@@ -20,7 +20,7 @@ returns-in_err-load_section g c =
       (
         refl,
         (λ _. tt),
-        chosen_refused c.args.self.now c.load_section.new.self whole_section listed_view (λ choice bytes. ok_map (λ names. (c.args.self.now.sections, names)) (choice >>= if_found (section_range bytes))) _ c.in-Some.names p.0 _ p.1 chosen
+        chosen_refused c.args.self.now c.load_section.new.self whole_section listed_view (λ choice bytes. ok_map (λ names. (c.args.self.now.headers.sections, names)) (choice >>= if_found (section_range bytes))) _ c.in-Some.names p.0 _ p.1 chosen
             (λ bytes. names_need bytes c.in-Some.names _) (rw p.2 c.in_err-load_section.ensures),
       ),
       record { leaves = tt },

@@ -17,15 +17,15 @@ returns-clause-parts g c =
     let one = c.read_hash-hash.new.stream in
     let two = c.read_symbols-symbols.new.stream in
     let three = c.read_versions-versions.new.stream in
-    let header : old.ehdr ≡ c.stream.inside.ehdr = sym (ap (λ (s : Seen g.row.E.Denot). s.ehdr) c.stream.view_is) in
+    let header : old.headers.ehdr ≡ c.stream.inside.ehdr = sym (ap (λ (s : Seen g.row.E.Denot). s.headers.ehdr) c.stream.view_is) in
     let first = c.read_hash-hash.ensures.keeps in
     let second = keeps_then old one two first c.read_symbols-symbols.ensures.keeps in
     let symbols = reads_of_file little old one two c.read_symbols-symbols.result (λ l k. option_map (symbols_in l k)) dynamic_symbol_table first c.read_symbols-symbols.ensures in
     let versions = reads_of_file little old two three c.read_versions-versions.result (λ l k. option_map (versions_in l k)) symbol_version_table second c.read_versions-versions.ensures in
     all_told old.content
     (λ bytes. IsRead (option_map hash_in) old.can_fail (hash_section (stream_file little old bytes)) c.read_hash-hash.result)
-    (λ bytes. IsRead (option_map (symbols_in (little old.ehdr.endianness) old.ehdr.class)) old.can_fail (dynamic_symbol_table (stream_file little old bytes)) c.read_symbols-symbols.result)
-    (λ bytes. IsRead (option_map (versions_in (little old.ehdr.endianness) old.ehdr.class)) old.can_fail (symbol_version_table (stream_file little old bytes)) c.read_versions-versions.result)
+    (λ bytes. IsRead (option_map (symbols_in (little old.headers.ehdr.endianness) old.headers.ehdr.class)) old.can_fail (dynamic_symbol_table (stream_file little old bytes)) c.read_symbols-symbols.result)
+    (λ bytes. IsRead (option_map (versions_in (little old.headers.ehdr.endianness) old.headers.ehdr.class)) old.can_fail (symbol_version_table (stream_file little old bytes)) c.read_versions-versions.result)
     _
     (λ bytes h s v. record { order = ap (λ (h : FileHeader g.row.E.Denot). little h.endianness) header; class = ap (λ (h : FileHeader g.row.E.Denot). h.class) header; hash = h; symbols = s; versions = v })
     c.read_hash-hash.ensures.given symbols.given versions.given
