@@ -1,6 +1,11 @@
 -- The hashes of a name, as the code computes them.
-use Rattle.std.proofs.Common.{◌≡◌, ℕ, zero, suc, ◌+◌, ◌*◌, ◌%◌, ◌^◌, ◌≤◌, List, [], ◌∷◌, length, take, drop, get_or, ap, sym, ◌∙◌, refl, arith}
-use Rattle.std.proofs.lemmas.Simd.{length-chunk, get_or-chunk}
+use Rattle.std.proofs.Common.{◌≡◌, ℕ, zero, suc, ◌+◌, ◌*◌, ◌%◌, ◌/◌, ◌^◌, ◌<◌, List, [], ◌∷◌, length, take, drop, get_or, ap, sym, ◌∙◌, refl, arith}
+use Rattle.std.specs.Int.{w64, from_le_bytes}
+use Rattle.std.specs.Int.Bits.{bit_and}
+use Rattle.std.specs.Simd.{first_chunks}
+use Rattle.std.proofs.lemmas.Grind.{and_numeral}
+use Rattle.std.proofs.lemmas.List.{drop-drop}
+use Rattle.std.proofs.lemmas.Nat.{and_block}
 use Rattle.elf_parts.specs.Hash.{folded, gnu_hash_from}
 
 wraps : (h b : ℕ) → ((h * 16) % 2 ^ 32 + b) % 2 ^ 32 ≡ (16 * h + b) % 2 ^ 32
@@ -11,48 +16,156 @@ folded_step h b = ap folded (wraps h b)
 
 pub ruleset hash_steps = (folded_step)
 
--- ---- GNU's hash, four bytes at once
+-- ---- GNU's hash, eight bytes at once. Their word has lanes: pairs of bytes in 16 bits, fours in 32.
 
-gone_on : (x byte : ℕ) → (33 * (x % 2 ^ 32) + byte) % 2 ^ 32 ≡ (33 * x + byte) % 2 ^ 32
-gone_on x byte = omega arith
+abbrev even_bytes : ℕ
+even_bytes = 0x00ff00ff00ff00ff
 
-wrapped : (x k : ℕ) → (x % 2 ^ 32 + k) % 2 ^ 32 ≡ (x + k) % 2 ^ 32
-wrapped x k = omega arith
+abbrev even_pairs : ℕ
+even_pairs = 0x0000ffff0000ffff
 
-multiplied_out : (h a b c d : ℕ) → h * 1185921 + (35937 * a + 1089 * b + (33 * c + d)) ≡ 33 * (33 * (33 * (33 * h + a) + b) + c) + d
-multiplied_out h a b c d = omega arith
+abbrev low_half : ℕ
+low_half = 0xffffffff
 
-four_steps : (h a b c d : ℕ) → ((h * 1185921) % 2 ^ 32 + (35937 * a + 1089 * b + (33 * c + d))) % 2 ^ 32 ≡ gnu_hash_from h (a ∷ b ∷ c ∷ d ∷ [])
+-- four lanes of 16 bits, and two of 32, the lowest first
+abbrev four_lanes : ℕ → ℕ → ℕ → ℕ → ℕ
+four_lanes a b c d = ((d * 65536 + c) * 65536 + b) * 65536 + a
+
+abbrev two_lanes : ℕ → ℕ → ℕ
+two_lanes a b = b * 4294967296 + a
+
+-- what the code makes of a word of bytes, of its pairs, and of its fours
+abbrev pub pairs_of : ℕ → ℕ
+pairs_of word = 33 * bit_and word even_bytes + bit_and (word / 256) even_bytes
+
+abbrev pub fours_of : ℕ → ℕ
+fours_of pairs = 1089 * bit_and pairs even_pairs + bit_and (pairs / 65536) even_pairs
+
+abbrev pub eight_of : ℕ → ℕ
+eight_of fours = 1185921 * bit_and fours low_half + fours / 4294967296
+
+-- ---- the lanes that a mask keeps
+
+kept_byte : (a b : ℕ) → a < 256 → bit_and (b * 256 + a) 255 ≡ a
+kept_byte a b small = and_numeral (b * 256 + a) 254 refl ∙ omega arith
+
+kept_pair : (a b : ℕ) → a < 65536 → bit_and (b * 65536 + a) 65535 ≡ a
+kept_pair a b small = and_numeral (b * 65536 + a) 65534 refl ∙ omega arith
+
+kept_bytes : (a b c d e f g h : ℕ) → a < 256 → b < 256 → c < 256 → d < 256 → e < 256 → f < 256 → g < 256 → h < 256
+    → bit_and (four_lanes (b * 256 + a) (d * 256 + c) (f * 256 + e) (h * 256 + g)) even_bytes ≡ four_lanes a c e g
+kept_bytes a b c d e f g h sa sb sc sd se sf sg sh =
+    let top = h * 256 + g in
+    let upper = top * 65536 + (f * 256 + e) in
+    let most = upper * 65536 + (d * 256 + c) in
+    let two = and_block 16 top 255 (f * 256 + e) 255 (omega arith) (omega arith) ∙ ap (λ (x : ℕ). x * 65536 + bit_and (f * 256 + e) 255) (kept_byte g h sg)
+    ∙ ap (λ (x : ℕ). g * 65536 + x) (kept_byte e f se) in
+    let three = and_block 16 upper 0x00ff00ff (d * 256 + c) 255 (omega arith) (omega arith) ∙ ap (λ (x : ℕ). x * 65536 + bit_and (d * 256 + c) 255) two
+    ∙ ap (λ (x : ℕ). (g * 65536 + e) * 65536 + x) (kept_byte c d sc) in
+    and_block 16 most 0x00ff00ff00ff (b * 256 + a) 255 (omega arith) (omega arith) ∙ ap (λ (x : ℕ). x * 65536 + bit_and (b * 256 + a) 255) three
+    ∙ ap (λ (x : ℕ). ((g * 65536 + e) * 65536 + c) * 65536 + x) (kept_byte a b sa)
+
+kept_pairs : (a b c d : ℕ) → a < 65536 → b < 65536 → c < 65536 → d < 65536 → bit_and (four_lanes a b c d) even_pairs ≡ two_lanes a c
+kept_pairs a b c d sa sb sc sd =
+    let same : four_lanes a b c d ≡ (d * 65536 + c) * 4294967296 + (b * 65536 + a) = omega arith in
+    ap (λ (x : ℕ). bit_and x even_pairs) same ∙ and_block 32 (d * 65536 + c) 65535 (b * 65536 + a) 65535 (omega arith) (omega arith)
+    ∙ ap (λ (x : ℕ). x * 4294967296 + bit_and (b * 65536 + a) 65535) (kept_pair c d sc) ∙ ap (λ (x : ℕ). c * 4294967296 + x) (kept_pair a b sa)
+
+-- ---- what is in the lanes
+
+pairs_are : (a b c d e f g h : ℕ) → a < 256 → b < 256 → c < 256 → d < 256 → e < 256 → f < 256 → g < 256 → h < 256
+    → pairs_of (four_lanes (b * 256 + a) (d * 256 + c) (f * 256 + e) (h * 256 + g)) ≡ four_lanes (33 * a + b) (33 * c + d) (33 * e + f) (33 * g + h)
+pairs_are a b c d e f g h sa sb sc sd se sf sg sh =
+    let word = four_lanes (b * 256 + a) (d * 256 + c) (f * 256 + e) (h * 256 + g) in
+    let moved : word / 256 ≡ four_lanes (c * 256 + b) (e * 256 + d) (g * 256 + f) (0 * 256 + h) = omega arith in
+    let odd = ap (λ (x : ℕ). bit_and x even_bytes) moved ∙ kept_bytes b c d e f g h 0 sb sc sd se sf sg sh (omega arith) in
+    ap (λ (x : ℕ). 33 * x + bit_and (word / 256) even_bytes) (kept_bytes a b c d e f g h sa sb sc sd se sf sg sh)
+    ∙ ap (λ (x : ℕ). 33 * four_lanes a c e g + x) odd ∙ omega arith
+
+fours_are : (a b c d : ℕ) → a < 65536 → b < 65536 → c < 65536 → d < 65536 → fours_of (four_lanes a b c d) ≡ two_lanes (1089 * a + b) (1089 * c + d)
+fours_are a b c d sa sb sc sd =
+    let pairs = four_lanes a b c d in
+    let moved : pairs / 65536 ≡ four_lanes b c d 0 = omega arith in
+    let odd = ap (λ (x : ℕ). bit_and x even_pairs) moved ∙ kept_pairs b c d 0 sb sc sd (omega arith) in
+    ap (λ (x : ℕ). 1089 * x + bit_and (pairs / 65536) even_pairs) (kept_pairs a b c d sa sb sc sd) ∙ ap (λ (x : ℕ). 1089 * two_lanes a c + x) odd ∙ omega arith
+
+eight_is : (a b : ℕ) → a < 4294967296 → eight_of (two_lanes a b) ≡ 1185921 * a + b
+eight_is a b sa =
+    let low : bit_and (two_lanes a b) low_half ≡ a = and_numeral (two_lanes a b) 0xfffffffe refl ∙ omega arith in
+    let high : two_lanes a b / 4294967296 ≡ b = omega arith in
+    ap (λ (x : ℕ). 1185921 * x + two_lanes a b / 4294967296) low ∙ ap (λ (x : ℕ). 1185921 * a + x) high
+
+word_is : (a b c d e f g h : ℕ) → from_le_bytes w64 (a ∷ b ∷ c ∷ d ∷ e ∷ f ∷ g ∷ h ∷ []) ≡ four_lanes (b * 256 + a) (d * 256 + c) (f * 256 + e) (h * 256 + g)
+word_is a b c d e f g h = omega arith
+
+joined : (a b c d e f g h : ℕ) → a < 256 → b < 256 → c < 256 → d < 256 → e < 256 → f < 256 → g < 256 → h < 256
+    → eight_of (fours_of (pairs_of (from_le_bytes w64 (a ∷ b ∷ c ∷ d ∷ e ∷ f ∷ g ∷ h ∷ [])))) ≡ 1185921 * (1089 * (33 * a + b) + (33 * c + d)) + (1089 * (33 * e + f) + (33 * g + h))
+joined a b c d e f g h sa sb sc sd se sf sg sh =
+    ap (λ (x : ℕ). eight_of (fours_of (pairs_of x))) (word_is a b c d e f g h)
+    ∙ ap (λ (x : ℕ). eight_of (fours_of x)) (pairs_are a b c d e f g h sa sb sc sd se sf sg sh)
+    ∙ ap eight_of (fours_are (33 * a + b) (33 * c + d) (33 * e + f) (33 * g + h) (omega arith) (omega arith) (omega arith) (omega arith))
+    ∙ eight_is (1089 * (33 * a + b) + (33 * c + d)) (1089 * (33 * e + f) + (33 * g + h)) (omega arith)
+
+-- ---- the steps of the hash, multiplied out
+
+one_more : (x byte : ℕ) → (33 * (x % 2 ^ 32) + byte) % 2 ^ 32 ≡ (33 * x + byte) % 2 ^ 32
+one_more x byte = omega arith
+
+four_steps : (h a b c d : ℕ) → gnu_hash_from h (a ∷ b ∷ c ∷ d ∷ []) ≡ (h * 1185921 + (1089 * (33 * a + b) + (33 * c + d))) % 2 ^ 32
 four_steps h a b c d =
-    let two = gone_on (33 * h + a) b in
-    let three = ap (λ (n : ℕ). (33 * n + c) % 2 ^ 32) two ∙ gone_on (33 * (33 * h + a) + b) c in
-    let four = ap (λ (n : ℕ). (33 * n + d) % 2 ^ 32) three ∙ gone_on (33 * (33 * (33 * h + a) + b) + c) d in
-    wrapped (h * 1185921) (35937 * a + 1089 * b + (33 * c + d)) ∙ ap (λ (n : ℕ). n % 2 ^ 32) (multiplied_out h a b c d) ∙ sym four
+    let two = one_more (33 * h + a) b in
+    let three = ap (λ (n : ℕ). (33 * n + c) % 2 ^ 32) two ∙ one_more (33 * (33 * h + a) + b) c in
+    let four = ap (λ (n : ℕ). (33 * n + d) % 2 ^ 32) three ∙ one_more (33 * (33 * (33 * h + a) + b) + c) d in
+    four ∙ ap (λ (n : ℕ). n % 2 ^ 32) (omega arith)
 
--- the hash gone on with a list of four bytes
-pub with_four : (h : ℕ) (bytes : List ℕ) → length bytes ≡ 4 →
-    ((h * 1185921) % 2 ^ 32 + (35937 * get_or bytes 0 0 + 1089 * get_or bytes 1 0 + (33 * get_or bytes 2 0 + get_or bytes 3 0))) % 2 ^ 32 ≡ gnu_hash_from h bytes
-with_four h [] long = absurd (omega arith)
-with_four h (a ∷ []) long = absurd (omega arith)
-with_four h (a ∷ b ∷ []) long = absurd (omega arith)
-with_four h (a ∷ b ∷ c ∷ []) long = absurd (omega arith)
-with_four h (a ∷ b ∷ c ∷ d ∷ []) long = four_steps h a b c d
-with_four h (a ∷ b ∷ c ∷ d ∷ e ∷ bytes) long = absurd (omega arith)
+-- two fours, of which the first has the hash so far in it
+two_fours : (h one two : ℕ) → (h * 1954312449 % 2 ^ 32 + (1185921 * one + two) % 2 ^ 32) % 2 ^ 32 ≡ ((h * 1185921 + one) % 2 ^ 32 * 1185921 + two) % 2 ^ 32
+two_fours h one two = omega arith
 
-pub with_four_at : (h : ℕ) (bytes : List ℕ) (place : ℕ) → place + 4 ≤ length bytes →
-    ((h * 1185921) % 2 ^ 32 + (35937 * get_or bytes place 0 + 1089 * get_or bytes (place + 1) 0 + (33 * get_or bytes (place + 2) 0 + get_or bytes (place + 3) 0))) % 2 ^ 32
-    ≡ gnu_hash_from h (take 4 (drop place bytes))
-with_four_at h bytes place room =
-    let all = with_four h (take 4 (drop place bytes)) (length-chunk place 4 bytes room) in
-    let here : place + 0 ≡ place = omega arith in
-    let at0 : get_or (take 4 (drop place bytes)) 0 0 ≡ get_or bytes place 0 = get_or-chunk place 4 bytes 0 0 (omega arith) ∙ ap (λ (k : ℕ). get_or bytes k 0) here in
-    let at1 : get_or (take 4 (drop place bytes)) 1 0 ≡ get_or bytes (place + 1) 0 = get_or-chunk place 4 bytes 1 0 (omega arith) in
-    let at2 : get_or (take 4 (drop place bytes)) 2 0 ≡ get_or bytes (place + 2) 0 = get_or-chunk place 4 bytes 2 0 (omega arith) in
-    let at3 : get_or (take 4 (drop place bytes)) 3 0 ≡ get_or bytes (place + 3) 0 = get_or-chunk place 4 bytes 3 0 (omega arith) in
-    rw (sym at0, sym at1, sym at2, sym at3) all
+eight_steps : (n a b c d e f g h : ℕ) → gnu_hash_from n (a ∷ b ∷ c ∷ d ∷ e ∷ f ∷ g ∷ h ∷ [])
+    ≡ (n * 1954312449 % 2 ^ 32 + (1185921 * (1089 * (33 * a + b) + (33 * c + d)) + (1089 * (33 * e + f) + (33 * g + h))) % 2 ^ 32) % 2 ^ 32
+eight_steps n a b c d e f g h =
+    let one = 1089 * (33 * a + b) + (33 * c + d) in
+    let two = 1089 * (33 * e + f) + (33 * g + h) in
+    ap (λ (m : ℕ). gnu_hash_from m (e ∷ f ∷ g ∷ h ∷ [])) (four_steps n a b c d) ∙ four_steps ((n * 1185921 + one) % 2 ^ 32) e f g h ∙ sym (two_fours n one two)
+
+-- the hash continued over a list of eight bytes
+pub hash_of_eight : (n : ℕ) (bytes : List ℕ) → length bytes ≡ 8 → ((i : ℕ) → get_or bytes i 0 < 256)
+    → (n * 1954312449 % 2 ^ 32 + eight_of (fours_of (pairs_of (from_le_bytes w64 bytes))) % 2 ^ 32) % 2 ^ 32 ≡ gnu_hash_from n bytes
+hash_of_eight n [] long small = absurd (omega arith)
+hash_of_eight n (a ∷ []) long small = absurd (omega arith)
+hash_of_eight n (a ∷ b ∷ []) long small = absurd (omega arith)
+hash_of_eight n (a ∷ b ∷ c ∷ []) long small = absurd (omega arith)
+hash_of_eight n (a ∷ b ∷ c ∷ d ∷ []) long small = absurd (omega arith)
+hash_of_eight n (a ∷ b ∷ c ∷ d ∷ e ∷ []) long small = absurd (omega arith)
+hash_of_eight n (a ∷ b ∷ c ∷ d ∷ e ∷ f ∷ []) long small = absurd (omega arith)
+hash_of_eight n (a ∷ b ∷ c ∷ d ∷ e ∷ f ∷ g ∷ []) long small = absurd (omega arith)
+hash_of_eight n (a ∷ b ∷ c ∷ d ∷ e ∷ f ∷ g ∷ h ∷ []) long small =
+    ap (λ (x : ℕ). (n * 1954312449 % 2 ^ 32 + x % 2 ^ 32) % 2 ^ 32) (joined a b c d e f g h (small 0) (small 1) (small 2) (small 3) (small 4) (small 5) (small 6) (small 7))
+    ∙ sym (eight_steps n a b c d e f g h)
+hash_of_eight n (a ∷ b ∷ c ∷ d ∷ e ∷ f ∷ g ∷ h ∷ i ∷ bytes) long small = absurd (omega arith)
+
+-- ---- the blocks of a name
+
+-- the same of the lower half of what is joined, as a rule
+pub lower_half : (n : ℕ) (bytes : List ℕ) → length bytes ≡ 8 → ((i : ℕ) → get_or bytes i 0 < 256)
+    → (n * 1954312449 % 4294967296 + bit_and (eight_of (fours_of (pairs_of (from_le_bytes w64 bytes)))) low_half) % 4294967296 ≡ gnu_hash_from n bytes
+lower_half n bytes long small =
+    let eight = eight_of (fours_of (pairs_of (from_le_bytes w64 bytes))) in
+    ap (λ (x : ℕ). (n * 1954312449 % 2 ^ 32 + x) % 2 ^ 32) (and_numeral eight 0xfffffffe refl) ∙ hash_of_eight n bytes long small
+
+pub ruleset eight_at_once = (lower_half)
 
 -- the hash of a list by that of its first n
 pub in_two : (n h : ℕ) (bytes : List ℕ) → gnu_hash_from (gnu_hash_from h (take n bytes)) (drop n bytes) ≡ gnu_hash_from h bytes
 in_two zero h bytes = refl
 in_two (suc n) h [] = refl
 in_two (suc n) h (byte ∷ bytes) = in_two n ((33 * h + byte) % 2 ^ 32) bytes
+
+-- block i of k blocks of eight bytes
+pub block_at : (k i : ℕ) (bytes : List ℕ) (none : List ℕ) → i < k → get_or (first_chunks 8 k bytes) i none ≡ take 8 (drop (8 * i) bytes)
+block_at zero i bytes none within = absurd (omega arith)
+block_at (suc k) zero bytes none within = refl
+block_at (suc k) (suc i) bytes none within =
+    let behind : drop (8 * i) (drop 8 bytes) ≡ drop (8 * suc i) bytes = drop-drop (8 * i) 8 bytes ∙ ap (λ (n : ℕ). drop n bytes) (omega arith) in
+    block_at k i (drop 8 bytes) none (omega arith) ∙ ap (take 8) behind

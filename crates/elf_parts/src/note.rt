@@ -139,11 +139,11 @@ fn interpret<'data>(
 ) -> Result<Note<'data>, ParseError>
     ensures { ok_map note_view result ≡ content_of little n_type name.now descriptor.now }
 {
-    if name == abi::ELF_NOTE_GNU && n_type == abi::NT_GNU_ABI_TAG {
+    if n_type == abi::NT_GNU_ABI_TAG && name == abi::ELF_NOTE_GNU {
         let tag = read_record(little, Class::ELF32, &mut 0, descriptor)?;
         return Ok(Note::GnuAbiTag(tag));
     }
-    if name == abi::ELF_NOTE_GNU && n_type == abi::NT_GNU_BUILD_ID {
+    if n_type == abi::NT_GNU_BUILD_ID && name == abi::ELF_NOTE_GNU {
         return Ok(Note::GnuBuildId(NoteGnuBuildId(descriptor)));
     }
     Ok(Note::Unknown(NoteAny {

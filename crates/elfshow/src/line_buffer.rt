@@ -140,11 +140,19 @@ impl LineBuffer {
     }
 
     /// Adds a label and a number with a sign, in decimal.
+    #[inline(always)]
     pub(crate) fn signed<W: Write>(&mut self, label: &str, n: i64, out: &mut W)
         ensures { Adds (W.contents out.old) self.old (W.contents out.new) self.new
             (label.now ⧺ signed_decimal n) }
     {
         self.put(label.as_bytes(), out);
+        self.put_signed(n, out);
+    }
+
+    #[inline(never)]
+    fn put_signed<W: Write>(&mut self, n: i64, out: &mut W)
+        ensures { Adds (W.contents out.old) self.old (W.contents out.new) self.new (signed_decimal n) }
+    {
         if n < 0 {
             self.put(b"-", out);
         }
@@ -162,11 +170,19 @@ impl LineBuffer {
     }
 
     /// Adds a label and a text, escaped.
+    #[inline(always)]
     pub(crate) fn escaped<W: Write>(&mut self, label: &str, text: &[u8], out: &mut W)
         ensures { Adds (W.contents out.old) self.old (W.contents out.new) self.new
             (label.now ⧺ escaped text.now) }
     {
         self.put(label.as_bytes(), out);
+        self.put_text(text, out);
+    }
+
+    #[inline(never)]
+    fn put_text<W: Write>(&mut self, text: &[u8], out: &mut W)
+        ensures { Adds (W.contents out.old) self.old (W.contents out.new) self.new (escaped text.now) }
+    {
         if are_plain(text) {
             self.put(text, out);
             return;
@@ -189,6 +205,7 @@ impl LineBuffer {
     }
 
     /// Adds a label and two digits for each byte, with nothing between them.
+    #[inline(always)]
     pub(crate) fn bytes<W: Write>(&mut self, label: &str, bytes: &[u8], out: &mut W)
         ensures { Adds (W.contents out.old) self.old (W.contents out.new) self.new
             (label.now ⧺ hex_of bytes.now) }
@@ -198,6 +215,7 @@ impl LineBuffer {
     }
 
     // Adds two digits for each byte. Blocks of a known length take fewer instructions than bytes.
+    #[inline(never)]
     fn put_pairs<W: Write>(&mut self, bytes: &[u8], out: &mut W)
         ensures { Adds (W.contents out.old) self.old (W.contents out.new) self.new (hex_of bytes.now) }
     {

@@ -68,15 +68,28 @@ fn hash_bytes(start: u32, bytes: &[u8]) -> u32
     hash
 }
 
-// The hash continued over the four bytes from `place` on. The four steps are multiplied out, with powers of 33 as
-// factors: one by one, each step would wait for the one before it.
-fn hash_four(hash: u32, bytes: &[u8], place: usize) -> u32
-    requires { place + 4 ≤ length bytes.now }
-    ensures { result ≡ gnu_hash_from hash (take 4 (drop place bytes.now)) }
+// Every second byte of a word.
+const EVEN_BYTES: u64 = 0x00ff_00ff_00ff_00ff;
+
+// Every second pair of bytes.
+const EVEN_PAIRS: u64 = 0x0000_ffff_0000_ffff;
+
+// The lower four bytes.
+const LOW_HALF: u64 = 0xffff_ffff;
+
+// The hash continued over eight bytes at once. Neighbours are joined, all in one word: bytes to pairs, pairs to fours,
+// and the two fours. The factors are powers of 33, that of the hash modulo 2^32. Byte by byte, each step would wait for
+// the one before it.
+#[tactic(auto, using(crate::proofs::Hashing::eight_at_once))]
+fn hash_eight(hash: u32, bytes: &[u8; 8]) -> u32
+    ensures { result ≡ gnu_hash_from hash bytes.now }
 {
-    let front = 35_937 * u32::from(bytes[place]) + 1_089 * u32::from(bytes[place + 1]);
-    let back = 33 * u32::from(bytes[place + 2]) + u32::from(bytes[place + 3]);
-    hash.wrapping_mul(1_185_921).wrapping_add(front + back)
+    let word = u64::from_le_bytes(*bytes);
+    let pairs = 33 * (word & EVEN_BYTES) + ((word >> 8) & EVEN_BYTES);
+    let fours = 1_089 * (pairs & EVEN_PAIRS) + ((pairs >> 16) & EVEN_PAIRS);
+    let eight = 1_185_921 * (fours & LOW_HALF) + (fours >> 32);
+    hash.wrapping_mul(1_954_312_449)
+        .wrapping_add((eight & LOW_HALF) as u32)
 }
 
 /// Returns the hash of a name in a GNU hash section, 32 bits.
@@ -84,13 +97,12 @@ fn hash_four(hash: u32, bytes: &[u8], place: usize) -> u32
 pub fn gnu_hash(name: &[u8]) -> u32
     ensures { result ≡ gnu_hash_of name.now }
 {
+    let (blocks, rest) = name.as_chunks();
     let mut hash = 5381u32;
-    let mut place = 0;
-    while 4 <= name.len() - place {
-        hash = hash_four(hash, name, place);
-        place += 4;
+    for block in blocks {
+        hash = hash_eight(hash, block);
     }
-    hash_bytes(hash, &name[place..])
+    hash_bytes(hash, rest)
 }
 
 /// A GNU hash section: bloom words, which exclude most names that are not in the section, and for each bucket a run of
