@@ -17,7 +17,7 @@ use elf_parts::note::NoteGnuAbiTag;
 use std::fmt::Debug;
 use std::io;
 
-/// `record KIND ORDER CLASS ASKED NUMBER BYTES`, where ASKED is
+/// `record KIND ORDER CLASS CALL NUMBER BYTES`, where CALL is
 /// `at`: the record at this offset, and the offset afterwards;
 /// `get`: the length of the table of the bytes, and its item with this index;
 /// `items`: the length of the table, and at most this number of its items;

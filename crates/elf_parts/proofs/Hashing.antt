@@ -1,11 +1,11 @@
 -- The hashes of a name, as the code computes them.
-use Rattle.std.proofs.Common.{◌≡◌, ℕ, zero, suc, ◌+◌, ◌*◌, ◌%◌, ◌/◌, ◌^◌, ◌<◌, List, [], ◌∷◌, length, take, drop, get_or, ap, sym, ◌∙◌, refl, arith}
-use Rattle.std.specs.Int.{w64, from_le_bytes}
+use Rattle.std.proofs.Common.{◌≡◌, ℕ, zero, suc, ◌+◌, ◌-◌, ◌*◌, ◌%◌, ◌/◌, ◌^◌, ◌<◌, List, [], ◌∷◌, length, take, drop, get_or, replicate, ◌++◌, ap, sym, ◌∙◌, refl, arith}
+use Rattle.std.specs.Int.{w64, from_le_bytes, to_le_bytes}
 use Rattle.std.specs.Int.Bits.{bit_and}
 use Rattle.std.specs.Simd.{first_chunks}
 use Rattle.std.proofs.lemmas.Grind.{and_numeral}
 use Rattle.std.proofs.lemmas.List.{drop-drop}
-use Rattle.std.proofs.lemmas.Nat.{and_block}
+use Rattle.std.proofs.lemmas.Nat.{and_block, le_bytes_8}
 use Rattle.elf_parts.specs.Hash.{folded, gnu_hash_from}
 
 wraps : (h b : ℕ) → ((h * 16) % 2 ^ 32 + b) % 2 ^ 32 ≡ (16 * h + b) % 2 ^ 32
@@ -17,6 +17,10 @@ folded_step h b = ap folded (wraps h b)
 pub ruleset hash_steps = (folded_step)
 
 -- ---- GNU's hash, eight bytes at once. Their word has lanes: pairs of bytes in 16 bits, fours in 32.
+
+-- the numbers of a list are bytes
+abbrev pub AreBytes : List ℕ → Type 0
+AreBytes bytes = (i : ℕ) → get_or bytes i 0 < 256
 
 abbrev even_bytes : ℕ
 even_bytes = 0x00ff00ff00ff00ff
@@ -129,32 +133,100 @@ eight_steps n a b c d e f g h =
     let two = 1089 * (33 * e + f) + (33 * g + h) in
     ap (λ (m : ℕ). gnu_hash_from m (e ∷ f ∷ g ∷ h ∷ [])) (four_steps n a b c d) ∙ four_steps ((n * 1185921 + one) % 2 ^ 32) e f g h ∙ sym (two_fours n one two)
 
--- the hash continued over a list of eight bytes
-pub hash_of_eight : (n : ℕ) (bytes : List ℕ) → length bytes ≡ 8 → ((i : ℕ) → get_or bytes i 0 < 256)
-    → (n * 1954312449 % 2 ^ 32 + eight_of (fours_of (pairs_of (from_le_bytes w64 bytes))) % 2 ^ 32) % 2 ^ 32 ≡ gnu_hash_from n bytes
-hash_of_eight n [] long small = absurd (omega arith)
-hash_of_eight n (a ∷ []) long small = absurd (omega arith)
-hash_of_eight n (a ∷ b ∷ []) long small = absurd (omega arith)
-hash_of_eight n (a ∷ b ∷ c ∷ []) long small = absurd (omega arith)
-hash_of_eight n (a ∷ b ∷ c ∷ d ∷ []) long small = absurd (omega arith)
-hash_of_eight n (a ∷ b ∷ c ∷ d ∷ e ∷ []) long small = absurd (omega arith)
-hash_of_eight n (a ∷ b ∷ c ∷ d ∷ e ∷ f ∷ []) long small = absurd (omega arith)
-hash_of_eight n (a ∷ b ∷ c ∷ d ∷ e ∷ f ∷ g ∷ []) long small = absurd (omega arith)
-hash_of_eight n (a ∷ b ∷ c ∷ d ∷ e ∷ f ∷ g ∷ h ∷ []) long small =
-    ap (λ (x : ℕ). (n * 1954312449 % 2 ^ 32 + x % 2 ^ 32) % 2 ^ 32) (joined a b c d e f g h (small 0) (small 1) (small 2) (small 3) (small 4) (small 5) (small 6) (small 7))
-    ∙ sym (eight_steps n a b c d e f g h)
-hash_of_eight n (a ∷ b ∷ c ∷ d ∷ e ∷ f ∷ g ∷ h ∷ i ∷ bytes) long small = absurd (omega arith)
+-- what holds of any eight bytes holds of a list of that length
+of_eight : (P : List ℕ → Type 0) → ((a b c d e f g h : ℕ) → P (a ∷ b ∷ c ∷ d ∷ e ∷ f ∷ g ∷ h ∷ [])) → (bytes : List ℕ) → length bytes ≡ 8 → P bytes
+of_eight P eight [] long = absurd (omega arith)
+of_eight P eight (a ∷ []) long = absurd (omega arith)
+of_eight P eight (a ∷ b ∷ []) long = absurd (omega arith)
+of_eight P eight (a ∷ b ∷ c ∷ []) long = absurd (omega arith)
+of_eight P eight (a ∷ b ∷ c ∷ d ∷ []) long = absurd (omega arith)
+of_eight P eight (a ∷ b ∷ c ∷ d ∷ e ∷ []) long = absurd (omega arith)
+of_eight P eight (a ∷ b ∷ c ∷ d ∷ e ∷ f ∷ []) long = absurd (omega arith)
+of_eight P eight (a ∷ b ∷ c ∷ d ∷ e ∷ f ∷ g ∷ []) long = absurd (omega arith)
+of_eight P eight (a ∷ b ∷ c ∷ d ∷ e ∷ f ∷ g ∷ h ∷ []) long = eight a b c d e f g h
+of_eight P eight (a ∷ b ∷ c ∷ d ∷ e ∷ f ∷ g ∷ h ∷ i ∷ bytes) long = absurd (omega arith)
 
--- ---- the blocks of a name
+-- the hash continued over a list of eight bytes
+hash_of_eight : (n : ℕ) (bytes : List ℕ) → length bytes ≡ 8 → AreBytes bytes
+    → (n * 1954312449 % 2 ^ 32 + eight_of (fours_of (pairs_of (from_le_bytes w64 bytes))) % 2 ^ 32) % 2 ^ 32 ≡ gnu_hash_from n bytes
+hash_of_eight n bytes long = of_eight (λ bytes. AreBytes bytes
+    → (n * 1954312449 % 2 ^ 32 + eight_of (fours_of (pairs_of (from_le_bytes w64 bytes))) % 2 ^ 32) % 2 ^ 32 ≡ gnu_hash_from n bytes)
+    (λ a b c d e f g h small.
+    ap (λ (x : ℕ). (n * 1954312449 % 2 ^ 32 + x % 2 ^ 32) % 2 ^ 32) (joined a b c d e f g h (small 0) (small 1) (small 2) (small 3) (small 4) (small 5) (small 6) (small 7))
+    ∙ sym (eight_steps n a b c d e f g h)) bytes long
 
 -- the same of the lower half of what is joined, as a rule
-pub lower_half : (n : ℕ) (bytes : List ℕ) → length bytes ≡ 8 → ((i : ℕ) → get_or bytes i 0 < 256)
+pub eight_in_word : (n : ℕ) (bytes : List ℕ) → length bytes ≡ 8 → AreBytes bytes
     → (n * 1954312449 % 4294967296 + bit_and (eight_of (fours_of (pairs_of (from_le_bytes w64 bytes)))) low_half) % 4294967296 ≡ gnu_hash_from n bytes
-lower_half n bytes long small =
+eight_in_word n bytes long small =
     let eight = eight_of (fours_of (pairs_of (from_le_bytes w64 bytes))) in
     ap (λ (x : ℕ). (n * 1954312449 % 2 ^ 32 + x) % 2 ^ 32) (and_numeral eight 0xfffffffe refl) ∙ hash_of_eight n bytes long small
 
-pub ruleset eight_at_once = (lower_half)
+pub ruleset eight_at_once = (eight_in_word)
+
+-- ---- the first bytes of a name, behind bytes of 0
+
+-- the first n of eight bytes, behind bytes of 0, and what the code makes of their word
+abbrev padded : ℕ → List ℕ → List ℕ
+padded n bytes = replicate (8 - n) 0 ++ take n bytes
+
+abbrev pub behind_zeros : ℕ → ℕ → ℕ
+behind_zeros n word = word * 2 ^ (56 - 8 * n) % 2 ^ 64 * 2 ^ 8 % 2 ^ 64
+
+-- the hashes from which 8, 7, .. 1 bytes of 0 lead to 5381
+abbrev pub starts : List ℕ
+starts = 3048333317 ∷ 1810751653 ∷ 3920229701 ∷ 518561253 ∷ 4227619461 ∷ 2072488741 ∷ 3967619013 ∷ 2082408549 ∷ []
+
+-- the first n bytes are bytes, and so are bytes of 0 in front of others
+first_small : (n : ℕ) (bytes : List ℕ) → AreBytes bytes → AreBytes (take n bytes)
+first_small zero bytes small i = omega arith
+first_small (suc n) [] small i = small i
+first_small (suc n) (byte ∷ bytes) small zero = small 0
+first_small (suc n) (byte ∷ bytes) small (suc i) = first_small n bytes (λ j. small (suc j)) i
+
+zeros_first : (n : ℕ) (bytes : List ℕ) → AreBytes bytes → AreBytes (replicate n 0 ++ bytes)
+zeros_first zero bytes small i = small i
+zeros_first (suc n) bytes small zero = omega arith
+zeros_first (suc n) bytes small (suc i) = zeros_first n bytes small i
+
+-- the hash over that word is the hash over the bytes that it is to have
+padded_hash : (n : ℕ) (bytes : List ℕ) → AreBytes bytes → length (padded n bytes) ≡ 8
+    → behind_zeros n (from_le_bytes w64 bytes) ≡ from_le_bytes w64 (padded n bytes)
+    → gnu_hash_from (get_or starts n 0) (to_le_bytes w64 (behind_zeros n (from_le_bytes w64 bytes))) ≡ gnu_hash_from (get_or starts n 0) (padded n bytes)
+padded_hash n bytes small long same =
+    ap (gnu_hash_from (get_or starts n 0)) (le_bytes_8 (padded n bytes) _ long (zeros_first (8 - n) (take n bytes) (first_small n bytes small)) same)
+
+-- and so that of the first n bytes, since the bytes of 0 lead to 5381: case by case
+head_of : (n a b c d e f g h : ℕ) → AreBytes (a ∷ b ∷ c ∷ d ∷ e ∷ f ∷ g ∷ h ∷ []) → n < 8
+    → gnu_hash_from (get_or starts n 0) (to_le_bytes w64 (behind_zeros n (from_le_bytes w64 (a ∷ b ∷ c ∷ d ∷ e ∷ f ∷ g ∷ h ∷ []))))
+    ≡ gnu_hash_from 5381 (take n (a ∷ b ∷ c ∷ d ∷ e ∷ f ∷ g ∷ h ∷ []))
+head_of zero a b c d e f g h small within =
+    padded_hash 0 (a ∷ b ∷ c ∷ d ∷ e ∷ f ∷ g ∷ h ∷ []) small refl (omega (arith, small 0, small 1, small 2, small 3, small 4, small 5, small 6, small 7))
+head_of (suc zero) a b c d e f g h small within =
+    padded_hash 1 (a ∷ b ∷ c ∷ d ∷ e ∷ f ∷ g ∷ h ∷ []) small refl (omega (arith, small 0, small 1, small 2, small 3, small 4, small 5, small 6, small 7))
+head_of (suc (suc zero)) a b c d e f g h small within =
+    padded_hash 2 (a ∷ b ∷ c ∷ d ∷ e ∷ f ∷ g ∷ h ∷ []) small refl (omega (arith, small 0, small 1, small 2, small 3, small 4, small 5, small 6, small 7))
+head_of (suc (suc (suc zero))) a b c d e f g h small within =
+    padded_hash 3 (a ∷ b ∷ c ∷ d ∷ e ∷ f ∷ g ∷ h ∷ []) small refl (omega (arith, small 0, small 1, small 2, small 3, small 4, small 5, small 6, small 7))
+head_of (suc (suc (suc (suc zero)))) a b c d e f g h small within =
+    padded_hash 4 (a ∷ b ∷ c ∷ d ∷ e ∷ f ∷ g ∷ h ∷ []) small refl (omega (arith, small 0, small 1, small 2, small 3, small 4, small 5, small 6, small 7))
+head_of (suc (suc (suc (suc (suc zero))))) a b c d e f g h small within =
+    padded_hash 5 (a ∷ b ∷ c ∷ d ∷ e ∷ f ∷ g ∷ h ∷ []) small refl (omega (arith, small 0, small 1, small 2, small 3, small 4, small 5, small 6, small 7))
+head_of (suc (suc (suc (suc (suc (suc zero)))))) a b c d e f g h small within =
+    padded_hash 6 (a ∷ b ∷ c ∷ d ∷ e ∷ f ∷ g ∷ h ∷ []) small refl (omega (arith, small 0, small 1, small 2, small 3, small 4, small 5, small 6, small 7))
+head_of (suc (suc (suc (suc (suc (suc (suc zero))))))) a b c d e f g h small within =
+    padded_hash 7 (a ∷ b ∷ c ∷ d ∷ e ∷ f ∷ g ∷ h ∷ []) small refl (omega (arith, small 0, small 1, small 2, small 3, small 4, small 5, small 6, small 7))
+head_of (suc (suc (suc (suc (suc (suc (suc (suc n)))))))) a b c d e f g h small within = absurd (omega arith)
+
+-- the same of a list of eight bytes, as a rule
+pub head_hash : (n : ℕ) (bytes : List ℕ) → length bytes ≡ 8 → AreBytes bytes → n < 8
+    → gnu_hash_from (get_or starts n 0) (to_le_bytes w64 (behind_zeros n (from_le_bytes w64 bytes))) ≡ gnu_hash_from 5381 (take n bytes)
+head_hash n bytes long = of_eight (λ bytes. AreBytes bytes → n < 8
+    → gnu_hash_from (get_or starts n 0) (to_le_bytes w64 (behind_zeros n (from_le_bytes w64 bytes))) ≡ gnu_hash_from 5381 (take n bytes)) (head_of n) bytes long
+
+pub ruleset head_at_once = (head_hash)
+
+-- ---- the blocks of a name
 
 -- the hash of a list by that of its first n
 pub in_two : (n h : ℕ) (bytes : List ℕ) → gnu_hash_from (gnu_hash_from h (take n bytes)) (drop n bytes) ≡ gnu_hash_from h bytes
