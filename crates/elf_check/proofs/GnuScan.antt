@@ -10,7 +10,7 @@ use Rattle.elf_parts.specs.declared.symbol.Symbol.{Symbol}
 use Rattle.elf_parts.specs.Hash.{ReadsBelowCount, gnu_hash_of, named_symbol, word_at, word_count}
 use Rattle.elf_parts.specs.Class.{address_bits}
 use Rattle.elf_parts.specs.GnuFind.{GnuTable, bloom_of, bloom_word, find_in_bucket, find_in_run, gnu_find, passes, word_decides}
-use Rattle.elf_check.proofs.HashFinds.{run_found, run_ended, run_limit, run_next}
+use Rattle.elf_parts.proofs.Runs.{run_found, run_ended, run_limit, run_next}
 use Rattle.elf_check.specs.Indexed.{IsLeastNamed, ScanGnu}
 use Rattle.elf_check.specs.SoundGnu.{HasBothBits, InRun, SoundGnu}
 use Rattle.elf_check.specs.WithSymbols.{WithSymbols, bloom, named, word}

@@ -1,5 +1,4 @@
 pub mod Reading
-pub mod HashFinds
 pub mod GnuScan
 pub mod GnuVerdicts
 pub mod Intervals

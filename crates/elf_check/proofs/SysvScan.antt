@@ -8,7 +8,7 @@ use Rattle.std.proofs.lemmas.Slice.Eq.{bytes_eq-Decides}
 use Rattle.elf_parts.specs.declared.symbol.Symbol.{Symbol}
 use Rattle.elf_parts.specs.Hash.{ReadsBelowCount, sysv_hash_of, word_at, word_count}
 use Rattle.elf_parts.specs.SysvFind.{SysvTable, find_along, sysv_find}
-use Rattle.elf_check.proofs.HashFinds.{along_found, along_next, along_ended}
+use Rattle.elf_parts.proofs.Walks.{along_found, along_next, along_ended}
 use Rattle.elf_check.specs.Indexed.{HasName, IsFirstNamed, ScanSysv}
 use Rattle.elf_check.specs.SoundSysv.{Belongs, EndsAt, SoundSysv, Visits, chain_word, value}
 use Rattle.elf_check.specs.WithSymbols.{WithSymbols, named}

@@ -15,7 +15,7 @@ module _ (t : GnuTable) (symbols : Table) (strings name : List ℕ) where
   run_cut zero k e some chain = absurd (omega arith)
   run_cut (suc limit) k e some chain = rw chain refl
 
-  -- the place k index_decides
+  -- the place k decides
   pub run_refused : (limit k word : ℕ) (e : ParseError) → 0 < limit → word_at t.chains k ≡ Ok word → word_decides t symbols strings name (t.hdr.table_start_idx + k) word ≡ Err e → find_in_run t symbols strings name limit k ≡ Err e
   unfolding find_in_run
   run_refused zero k word e some chain here = absurd (omega arith)

@@ -9,7 +9,7 @@ use Rattle.elf_parts.specs.Hash.{word_at, named_symbol}
 use Rattle.elf_parts.specs.SysvFind.{SysvTable, find_along}
 
 module _ (t : SysvTable) (symbols : Table) (strings name : List ℕ) where
-  -- the index that a walk is at index_decides
+  -- the index that a walk is at decides
   pub along_refused : (limit v : ℕ) (e : ParseError) → 0 < limit → 0 < v → named_symbol symbols strings v ≡ Err e → find_along t symbols strings name limit v ≡ Err e
   unfolding find_along
   along_refused zero v e some far read = absurd (omega arith)

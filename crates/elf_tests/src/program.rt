@@ -28,7 +28,7 @@ fn assert_run<W: Write>(
     let mut out = BufWriter::new(alloc, Narrow::new(alloc, room, 4096))?;
     let files = MemFile { alloc, bytes: data };
     let status = show(alloc, words, &files, &mut out, err);
-    let is_text = out.get_ref().held.as_slice() == want.1.as_bytes();
+    let is_text = out.get_ref().written.as_slice() == want.1.as_bytes();
     assert!(rt; status == want.0 && is_text, "{status} for {words:?}");
     Ok(())
 }

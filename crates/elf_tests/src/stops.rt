@@ -53,11 +53,11 @@ fn a_run_stops_where_its_writer_is_full(rt: HostRuntime) -> Result<(), Fail> {
             let mut out = Narrow::new(rt.alloc(), room, width);
             let want = expected_in(room, whole.len());
             assert!(rt;
-                run_into(&mut out) == want && out.held.len() == room,
+                run_into(&mut out) == want && out.written.len() == room,
                 "at {room}"
             );
             assert!(rt;
-                whole.as_bytes().starts_with(out.held.as_slice()),
+                whole.as_bytes().starts_with(out.written.as_slice()),
                 "at {room}"
             );
         }
@@ -77,7 +77,7 @@ fn a_buffer_changes_no_count(rt: HostRuntime) -> Result<(), Fail> {
                 assert!(rt; run_into(&mut out) == want, "at {room}");
             }
             assert!(rt;
-                whole.as_bytes().starts_with(inner.held.as_slice()),
+                whole.as_bytes().starts_with(inner.written.as_slice()),
                 "at {room}"
             );
         }
@@ -89,9 +89,9 @@ fn a_buffer_changes_no_count(rt: HostRuntime) -> Result<(), Fail> {
 fn fails_behind(rt: &(impl Abort + AllocGlobal), writes_before: usize, whole: &[u8]) -> bool {
     let mut out = Faulty::at_write(rt.alloc(), writes_before);
     let (done, error) = run_into(&mut out);
-    let held = out.held.as_slice();
-    assert!(rt; whole.starts_with(held) && done == calls_within(held.len()));
-    let is_whole = held.len() == whole.len();
+    let written = out.written.as_slice();
+    assert!(rt; whole.starts_with(written) && done == calls_within(written.len()));
+    let is_whole = written.len() == whole.len();
     assert!(rt;
         error.is_some() == out.has_failed() && (error.is_some() || is_whole),
         "behind {writes_before} writes"
@@ -117,7 +117,7 @@ fn one_failed_write_is_reported(rt: HostRuntime) -> Result<(), AllocError> {
 fn a_failed_flush_is_reported(rt: HostRuntime) {
     let mut out = Faulty::at_flush(rt.alloc());
     assert!(rt; run_into(&mut out) == (0, Some(ErrorKind::BrokenPipe)));
-    assert!(rt; out.held.as_slice() == HEADER_LINE.as_bytes());
+    assert!(rt; out.written.as_slice() == HEADER_LINE.as_bytes());
 }
 
 #[test]
@@ -130,9 +130,9 @@ fn a_writer_that_takes_nothing_is_reported(rt: HostRuntime) {
 fn no_calls_write_nothing(rt: HostRuntime) -> Result<(), Fail> {
     let mut out = Narrow::new(rt.alloc(), 0, 3);
     run_bytes::<AnyEndian, Narrow>(&HEADER_ALONE, &[], &mut out)?;
-    assert!(rt; out.held.is_empty());
+    assert!(rt; out.written.is_empty());
     let mut out = Faulty::at_flush(rt.alloc());
     run_bytes::<AnyEndian, Faulty>(&HEADER_ALONE, &[], &mut out)?;
-    assert!(rt; out.held.is_empty());
+    assert!(rt; out.written.is_empty());
     Ok(())
 }

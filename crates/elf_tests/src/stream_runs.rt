@@ -95,10 +95,10 @@ fn a_full_writer_stops_the_run(rt: HostRuntime) -> Result<(), Fail> {
     let mut out = Narrow::new(alloc, first.len(), 4096);
     let stopped = run_stream(&mut stream, &calls, &mut out);
     assert!(rt; matches!(stopped, Err(RunError::Write { done: 1, .. })));
-    assert!(rt; out.held.as_slice() == first.as_slice());
+    assert!(rt; out.written.as_slice() == first.as_slice());
     let mut out = Faulty::at_flush(alloc);
     let stopped = run_stream(&mut stream, &calls, &mut out);
     assert!(rt; matches!(stopped, Err(RunError::Write { done: 0, .. })));
-    assert!(rt; out.held.as_slice() == first.as_slice());
+    assert!(rt; out.written.as_slice() == first.as_slice());
     Ok(())
 }

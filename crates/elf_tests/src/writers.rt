@@ -8,7 +8,7 @@ use std::io::Write;
 /// Takes a few bytes a write, and fails once it holds as many as it has room for.
 #[derive(Drop)]
 pub(crate) struct Narrow {
-    pub(crate) held: Vec<u8>,
+    pub(crate) written: Vec<u8>,
     room: usize,
     width: usize,
 }
@@ -16,7 +16,7 @@ pub(crate) struct Narrow {
 impl Narrow {
     pub(crate) fn new(alloc: Global, room: usize, width: usize) -> Narrow {
         Narrow {
-            held: Vec::new(alloc),
+            written: Vec::new(alloc),
             room,
             width,
         }
@@ -24,15 +24,15 @@ impl Narrow {
 }
 
 impl Write for Narrow {
-    ghost contents = { λ w. Some w.held.items };
+    ghost contents = { λ w. Some w.written.items };
 
     fn write(&mut self, buf: &[u8]) -> io::Result<usize> {
-        let room = self.room.saturating_sub(self.held.len());
+        let room = self.room.saturating_sub(self.written.len());
         if room == 0 {
             return Err(io::Error::from(io::ErrorKind::StorageFull));
         }
         let count = buf.len().min(room).min(self.width);
-        self.held.extend_from_slice(&buf[..count])?;
+        self.written.extend_from_slice(&buf[..count])?;
         Ok(count)
     }
 
@@ -44,7 +44,7 @@ impl Write for Narrow {
 /// Fails at one write and goes on behind it, or fails at each flush.
 #[derive(Drop)]
 pub(crate) struct Faulty {
-    pub(crate) held: Vec<u8>,
+    pub(crate) written: Vec<u8>,
     writes_before: Option<usize>,
     can_flush: bool,
 }
@@ -53,7 +53,7 @@ impl Faulty {
     /// Fails at the write behind a number of writes.
     pub(crate) fn at_write(alloc: Global, writes_before: usize) -> Faulty {
         Faulty {
-            held: Vec::new(alloc),
+            written: Vec::new(alloc),
             writes_before: Some(writes_before),
             can_flush: true,
         }
@@ -62,7 +62,7 @@ impl Faulty {
     /// Fails at each flush.
     pub(crate) fn at_flush(alloc: Global) -> Faulty {
         Faulty {
-            held: Vec::new(alloc),
+            written: Vec::new(alloc),
             writes_before: None,
             can_flush: false,
         }
@@ -75,7 +75,7 @@ impl Faulty {
 }
 
 impl Write for Faulty {
-    ghost contents = { λ w. Some w.held.items };
+    ghost contents = { λ w. Some w.written.items };
 
     fn write(&mut self, buf: &[u8]) -> io::Result<usize> {
         match self.writes_before {
@@ -86,7 +86,7 @@ impl Write for Faulty {
             Some(count) => self.writes_before = Some(count - 1),
             None => {}
         }
-        self.held.extend_from_slice(buf)?;
+        self.written.extend_from_slice(buf)?;
         Ok(buf.len())
     }
 

@@ -1,8 +1,7 @@
 //! Headers by their index, and the first or last ones of a type.
 ghost use Rattle.std.specs.Prelude.{◌≡◌, Some};
 ghost use Rattle.elf_parts.specs.Table.{table_view};
-ghost use Rattle.elf.specs.ElfBytes.{section_list, segment_list};
-ghost use Rattle.elf.specs.Headers.{first_section_of, first_segment_of};
+ghost use Rattle.elf.specs.ElfBytes.{section_list};
 ghost use Rattle.elf.specs.Versions.{version_sections};
 
 use super::ElfBytes;
@@ -11,37 +10,7 @@ use elf_parts::endian::EndianParse;
 use elf_parts::file::Class;
 use elf_parts::parse::ParseError;
 use elf_parts::section::{SectionHeader, SectionHeaderTable};
-use elf_parts::segment::{ProgramHeader, SegmentTable};
-
-// The first section header of a type.
-fn first_section_in<E: EndianParse>(
-    shdrs: SectionHeaderTable<'_, E>,
-    sh_type: u32,
-) -> Option<SectionHeader>
-    ensures { result ≡ first_section_of sh_type (section_list (Some (table_view shdrs.entry))) }
-{
-    for shdr in shdrs {
-        if shdr.sh_type == sh_type {
-            return Some(shdr);
-        }
-    }
-    None
-}
-
-// The first program header of a type.
-fn first_segment_in<E: EndianParse>(
-    phdrs: SegmentTable<'_, E>,
-    p_type: u32,
-) -> Option<ProgramHeader>
-    ensures { result ≡ first_segment_of p_type (segment_list (Some (table_view phdrs.entry))) }
-{
-    for phdr in phdrs {
-        if phdr.p_type == p_type {
-            return Some(phdr);
-        }
-    }
-    None
-}
+use elf_parts::segment::ProgramHeader;
 
 // The last sections of the three types of version sections, up to the first section that completes the three.
 #[tactic(auto, using(crate::proofs::VersionChoice::found_in_all))]
@@ -84,11 +53,11 @@ impl<'data, E: EndianParse> Headers for ElfBytes<'data, E> {
     }
 
     fn first_section_of(&self, sh_type: u32) -> Option<SectionHeader> {
-        first_section_in(self.shdrs?, sh_type)
+        self.shdrs?.iter().find(|shdr| shdr.sh_type == sh_type)
     }
 
     fn first_segment_of(&self, p_type: u32) -> Option<ProgramHeader> {
-        first_segment_in(self.phdrs?, p_type)
+        self.phdrs?.iter().find(|phdr| phdr.p_type == p_type)
     }
 
     #[tactic(auto, unfolding(crate::specs::Versions::version_sections))]

@@ -25,12 +25,7 @@ fn first_named_in<E: EndianParse>(
     ensures { result
         ≡ first_named (section_list (Some (table_view shdrs.entry))) name.now (Some (strings_view names.now)) }
 {
-    for shdr in shdrs {
-        if has_name(names, name, &shdr) {
-            return Some(shdr);
-        }
-    }
-    None
+    shdrs.iter().find(|shdr| has_name(names, name, shdr))
 }
 
 impl<'data, E: EndianParse> ElfBytes<'data, E> {

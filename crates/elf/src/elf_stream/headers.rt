@@ -1,6 +1,5 @@
 //! Headers by their index, and the first or last ones of a type.
-ghost use Rattle.std.specs.Prelude.{◌≡◌, option_copied};
-ghost use Rattle.elf.specs.Headers.{first_section_of, first_segment_of};
+ghost use Rattle.std.specs.Prelude.{◌≡◌};
 ghost use Rattle.elf.specs.Versions.{version_sections};
 
 use super::ElfStream;
@@ -12,20 +11,6 @@ use elf_parts::parse::ParseError;
 use elf_parts::section::SectionHeader;
 use elf_parts::segment::ProgramHeader;
 use std::alloc::Allocator;
-
-// The first section header of a type.
-fn first_section_in(shdrs: &[SectionHeader], sh_type: u32) -> Option<&SectionHeader>
-    ensures { option_copied result ≡ first_section_of sh_type shdrs.now }
-{
-    shdrs.iter().find(|shdr| shdr.sh_type == sh_type)
-}
-
-// The first program header of a type.
-fn first_segment_in(phdrs: &[ProgramHeader], p_type: u32) -> Option<&ProgramHeader>
-    ensures { option_copied result ≡ first_segment_of p_type phdrs.now }
-{
-    phdrs.iter().find(|phdr| phdr.p_type == p_type)
-}
 
 // The last sections of the three types of version sections, up to the first section that completes the three.
 #[tactic(auto, using(crate::proofs::VersionChoice::found_in_all))]
@@ -67,11 +52,17 @@ impl<E: EndianParse, S: StreamSource, A: Allocator + Copy> Headers for ElfStream
     }
 
     fn first_section_of(&self, sh_type: u32) -> Option<SectionHeader> {
-        first_section_in(&self.shdrs, sh_type).copied()
+        self.shdrs
+            .iter()
+            .find(|shdr| shdr.sh_type == sh_type)
+            .copied()
     }
 
     fn first_segment_of(&self, p_type: u32) -> Option<ProgramHeader> {
-        first_segment_in(&self.phdrs, p_type).copied()
+        self.phdrs
+            .iter()
+            .find(|phdr| phdr.p_type == p_type)
+            .copied()
     }
 
     fn version_sections(&self) -> VersionSections {

@@ -1,0 +1,10 @@
+use Rattle.std.proofs.Common.{◌∙◌, ap, rules, tests}
+use Rattle.std.proofs.lemmas.Iterator.{YieldsList-from_slice}
+use Rattle.std.proofs.lemmas.Iterator.Search.{find_from_yields_List}
+use Rattle.elf.specs.Headers.{is_of_type}
+use Rattle.elf.proofs.elf_stream.headers.ElfStreamHeaders.first_section_of.Goals as goal
+
+pub returns : goal.returns
+returns g c =
+    let shdrs = c.iter.ensures.rest ∙ c.deref.ensures.value ∙ ap (λ stream. stream.headers.sections) c.self.view_is in
+    c.copied.ensures ∙ find_from_yields_List (is_of_type c.args.sh_type) _ _ c.find.result c.find.ensures.ran (YieldsList-from_slice _ shdrs) (λ x b q k. search (rules, tests))
