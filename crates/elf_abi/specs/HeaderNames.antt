@@ -1,6 +1,6 @@
 -- The names of values in the file header.
 use Rattle.std.specs.Prelude.{ℕ, List, [], ◌∷◌, codes}
-use Rattle.elf_abi.specs.Names.{Row}
+use Rattle.elf_abi.specs.Names.{Described, Row, names, words}
 
 -- the operating system's ABI in byte 7 of `e_ident`: gABI chapter 4, "ELF Identification"
 abbrev pub e_osabi_names : List (Row ℕ)
@@ -24,22 +24,20 @@ e_osabi_names =
     (18, codes "ELFOSABI_OPENVOS") ∷
     []
 
--- what an `e_type` says, in words: gABI chapter 4, "ELF Header"
-abbrev pub e_type_human_names : List (Row ℕ)
-e_type_human_names =
-    (0, codes "No file type") ∷
-    (1, codes "Relocatable file") ∷
-    (2, codes "Executable file") ∷
-    (3, codes "Shared object file") ∷
-    (4, codes "Core file") ∷
+-- `e_type`: gABI chapter 4, "ELF Header"
+abbrev pub file_types : List Described
+file_types =
+    (0, codes "ET_NONE", codes "No file type") ∷
+    (1, codes "ET_REL", codes "Relocatable file") ∷
+    (2, codes "ET_EXEC", codes "Executable file") ∷
+    (3, codes "ET_DYN", codes "Shared object file") ∷
+    (4, codes "ET_CORE", codes "Core file") ∷
     []
 
--- `e_type`: gABI chapter 4, "ELF Header"
+-- the names, as `ET_EXEC`
 abbrev pub e_type_names : List (Row ℕ)
-e_type_names =
-    (0, codes "ET_NONE") ∷
-    (1, codes "ET_REL") ∷
-    (2, codes "ET_EXEC") ∷
-    (3, codes "ET_DYN") ∷
-    (4, codes "ET_CORE") ∷
-    []
+e_type_names = names file_types
+
+-- the types of files in words
+abbrev pub e_type_human_names : List (Row ℕ)
+e_type_human_names = words file_types

@@ -1,6 +1,6 @@
 -- Values and their names as lists of rows, and what a look-up in such a list answers.
 use Rattle.std.specs.Prelude.{◌≡◌, ℕ, ◌++◌, ◌&&◌, Bool, true, false, List, []}
-use Rattle.std.specs.Prelude.{◌∷◌, codes, Contains, Option, Some, None, nat_eq, unwrap_or, if◌then◌else◌}
+use Rattle.std.specs.Prelude.{◌∷◌, codes, map, Contains, Option, Some, None, nat_eq, unwrap_or, if◌then◌else◌}
 use Rattle.std.specs.Borrow.{Bor}
 use Rattle.std.specs.Fmt.{digits}
 use Rattle.std.specs.Ordering.{is_lt}
@@ -9,6 +9,18 @@ use Rattle.std.specs.declared.cmp.Ordering.{Ordering}
 -- a value, and its name
 abbrev pub Row : Type 0 → Type 0
 Row K = K × List ℕ
+
+-- a value, its name, and what it says in words
+abbrev pub Described : Type 0
+Described = ℕ × List ℕ × List ℕ
+
+-- the values with their names
+abbrev pub names : List Described → List (Row ℕ)
+names rows = map (λ (row : Described). (row.0, row.1)) rows
+
+-- the values in words
+abbrev pub words : List Described → List (Row ℕ)
+words rows = map (λ (row : Described). (row.0, row.2)) rows
 
 -- the name of the value
 unfoldable pub name_of : {K : Type 0} → (K → K → Bool) → List (Row K) → K → Option (List ℕ)
