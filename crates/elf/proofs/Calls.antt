@@ -6,8 +6,7 @@ use Rattle.elf_parts.specs.Number.{ok_map}
 use Rattle.elf_parts.specs.declared.file.FileHeader.{FileHeader}
 use Rattle.elf_parts.specs.declared.parse.ParseError.{ParseError}
 use Rattle.elf_parts.specs.declared.section.SectionHeader.{SectionHeader}
-use Rattle.elf.specs.Readers.{AreMade, Call, IsAnsweredAlike, IsSame, Method, answer, requested}
-use Rattle.elf.specs.Readers.{Dynamic, DynamicSymbolTable, SectionData, SectionDataAsNotes, SectionDataAsRelas, SectionDataAsRels, SectionDataAsStrtab, SectionHeaderByName, SectionHeadersWithStrtab, SegmentData, SegmentDataAsNotes, SymbolTable, SymbolVersionTable}
+use Rattle.elf.specs.Readers.{AreMade, Call, IsAnsweredAlike, IsSame, answer, requested}
 use Rattle.elf.specs.Ranges.{headers_alone}
 use Rattle.elf.specs.StreamFile.{stream_file}
 use Rattle.elf.specs.Names.{name_table}
@@ -16,28 +15,6 @@ use Rattle.elf.specs.Readers.{AreAlike, SameAnswers}
 use Rattle.elf.specs.Opening.{opened}
 use Rattle.elf.specs.ElfStream.{Headers, IsAnswer, IsOfFile, IsRefused, Keeps, Kind, Leaves, Seen, headers_of, kind}
 use Rattle.elf.specs.ElfBytes.{View, with_header}
-
-names_alike : {A : Type 0} (one other : List SectionHeader) (x y : Result A ParseError) → one ≡ other → AreAlike x y → AreAlike {A = List SectionHeader × A} (ok_map (λ names. (one, names)) x) (ok_map (λ names. (other, names)) y)
-names_alike one other (Ok a) (Ok b) same alike = let there : a ≡ b = cc alike in rw (same, there) refl
-names_alike one other (Ok a) (Err e) same alike = cc
-names_alike one other (Err d) (Ok b) same alike = cc
-names_alike one other (Err d) (Err e) same alike = refl
-
--- each method answers alike
-alike : (one other : ObjectFile) → SameAnswers one other → (m : Method) → AreAlike (answer m one) (answer m other)
-alike one other same SectionHeadersWithStrtab = names_alike one.sections other.sections (name_table one) (name_table other) same.section_headers same.section_names
-alike one other same (SectionHeaderByName name) = same.section_header_by_name name
-alike one other same (SectionData s) = same.section_data s
-alike one other same (SectionDataAsStrtab s) = same.section_data_as_strtab s
-alike one other same (SectionDataAsRels s) = same.section_data_as_rels s
-alike one other same (SectionDataAsRelas s) = same.section_data_as_relas s
-alike one other same (SectionDataAsNotes s) = same.section_data_as_notes s
-alike one other same (SegmentData p) = same.segment_data p
-alike one other same (SegmentDataAsNotes p) = same.segment_data_as_notes p
-alike one other same SymbolTable = same.symbol_table
-alike one other same DynamicSymbolTable = same.dynamic_symbol_table
-alike one other same Dynamic = same.dynamic
-alike one other same SymbolVersionTable = same.symbol_version_table
 
 value_alike : {A : Type 0} (one other : Result A ParseError) (x : A) → AreAlike one other → other ≡ Ok x → one ≡ Ok x
 value_alike (Ok a) (Ok b) x same h = cc
@@ -60,8 +37,8 @@ one_call : {A : Type 0} (one other : Result A ParseError) (can_fail : Bool) (bef
 one_call one other can_fail before now (Ok x) same h = value_alike one other x same h.1
 one_call one other can_fail before now (Err e) same h = λ is. refused_alike one other same (refusal (kind e) before now can_fail (IsErr other) h is)
 
-told : (bytes : List ℕ) (content : Option (List ℕ)) (P : List ℕ → Type 0) → content ≡ Some bytes → IfSome content P → P bytes
-told bytes content P is h = subst (λ content. IfSome content P) is h
+known : (bytes : List ℕ) (content : Option (List ℕ)) (P : List ℕ → Type 0) → content ≡ Some bytes → IfSome content P → P bytes
+known bytes content P is h = subst (λ content. IfSome content P) is h
 
 -- the headers stay, and another one may be put in
 put_in : {E : Type 0} (v : View E) (s : Seen E) (h : FileHeader E) → s.headers ≡ headers_of (with_header v s.headers.ehdr) → record s.headers { ehdr = h } ≡ headers_of (with_header v h)
@@ -80,13 +57,13 @@ module _ {E : Type 0} (little : E → Bool) (bytes : List ℕ) (v : View E)
       let now : old.headers ≡ headers_of (with_header v old.headers.ehdr) = put_in v s call.header headers in
       All-cons (IsAnsweredAlike little v) call calls
       (one_call (answer call.method (object_file little (with_header v call.header))) (answer call.method (stream_file little old bytes)) old.can_fail old.failures call.new.failures call.result
-      (alike (object_file little (with_header v call.header)) (stream_file little old bytes) (law call.header old now) call.method)
-      (told bytes old.content (λ bytes. IsAnswer (λ x. x) (answer call.method (stream_file little old bytes)) old.can_fail old.failures call.new.failures call.result) content leaves.answers))
+      ((law call.header old now).methods call.method)
+      (known bytes old.content (λ bytes. IsAnswer (λ x. x) (answer call.method (stream_file little old bytes)) old.can_fail old.failures call.new.failures call.result) content leaves.answers))
       (calls_alike call.new calls (leaves.keeps.content ∙ content) (stay v old call.new leaves.keeps now) made.1)
 
-pub stream_alike : {E : Type 0} (little : E → Bool) (of_byte : ℕ → Option E) (s : Seen E) (told : Option (List ℕ))
+pub stream_alike : {E : Type 0} (little : E → Bool) (of_byte : ℕ → Option E) (s : Seen E) (known : Option (List ℕ))
     → ((bytes : List ℕ) (v : View E) (header : FileHeader E) (s : Seen E) → opened little of_byte bytes ≡ Ok v → s.headers ≡ headers_of (with_header v header) → SameAnswers (object_file little (with_header v header)) (stream_file little s bytes))
-    → IfSome told (λ bytes. IsOfFile little of_byte bytes s)
-    → IfSome told (λ bytes. (v : View E) × (opened little of_byte bytes ≡ Ok v) × SameAnswers (object_file little (with_header v s.headers.ehdr)) (stream_file little s bytes))
+    → IfSome known (λ bytes. IsOfFile little of_byte bytes s)
+    → IfSome known (λ bytes. (v : View E) × (opened little of_byte bytes ≡ Ok v) × SameAnswers (object_file little (with_header v s.headers.ehdr)) (stream_file little s bytes))
 stream_alike little of_byte s None law h = tt
 stream_alike little of_byte s (Some bytes) law h = (h.0, h.1, law bytes h.0 s.headers.ehdr s h.1 h.2)

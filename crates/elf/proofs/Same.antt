@@ -3,6 +3,7 @@ use Rattle.std.proofs.Common.{◌≡◌, ℕ, ◌*◌, ◌<◌, ◌≤◌, ◌^�
 use Rattle.std.specs.Prelude.{ok_or, slice_get}
 use Rattle.std.specs.Result.{result_ok}
 use Rattle.std.proofs.lemmas.List.{length-take}
+use Rattle.elf_abi.specs.Values.{sht_dynsym, sht_symtab}
 use Rattle.elf_parts.specs.Number.{bytes_at, ok_map}
 use Rattle.elf_parts.specs.Record.{◌>>=◌, size_by}
 use Rattle.elf_parts.specs.Section.{section_header_layout, section_header_reads}
@@ -22,7 +23,8 @@ use Rattle.elf.specs.ObjectFile.{ObjectFile, object_file, table_of}
 use Rattle.elf.specs.Opening.{header_at_front, opened, section_count, section_table, segment_table, table_bytes}
 use Rattle.elf.specs.Data.{section_data}
 use Rattle.elf.specs.Headers.{section_at, section_range}
-use Rattle.elf.specs.Readers.{AreAlike, SameAnswers}
+use Rattle.elf.specs.Readers.{AreAlike, Method, SameAnswers, answer}
+use Rattle.elf.specs.Readers.{Dynamic, DynamicSymbolTable, SectionData, SectionDataAsNotes, SectionDataAsRelas, SectionDataAsRels, SectionDataAsStrtab, SectionHeaderByName, SectionHeadersWithStrtab, SegmentData, SegmentDataAsNotes, SymbolTable, SymbolVersionTable}
 use Rattle.elf.specs.ElfStream.{Seen, headers_of}
 use Rattle.elf.specs.Versions.{linked_strings, version_definitions, version_indexes, version_needs, version_sections, versions_of}
 use Rattle.elf.specs.ElfBytes.{View, section_list, with_header}
@@ -110,25 +112,25 @@ module _ (file : ObjectFile) (gives : ℕ → Result SectionHeader ParseError) (
       let chosen = version_sections file.sections in
       alike_found (versions_of file chosen) (versions_of (with_sections_at file gives) chosen) chosen.indexes (versions_of_alike chosen)
 
-  pub same_answers : SameAnswers file (with_sections_at file gives)
+  -- each method answers alike
+  methods_alike : (m : Method) → AreAlike (answer m file) (answer m (with_sections_at file gives))
   unfolding section_data
-  same_answers = record {
-    segments = refl;
-    section_headers = refl;
-    section_names = name_table_alike;
-    section_header_by_name = λ name. alike_map (first_named file.sections name) (name_table file) (name_table (with_sections_at file gives)) name_table_alike;
-    section_data = λ s. refl;
-    section_data_as_strtab = λ s. refl;
-    section_data_as_rels = λ s. refl;
-    section_data_as_relas = λ s. refl;
-    section_data_as_notes = λ s. refl;
-    segment_data = λ p. refl;
-    segment_data_as_notes = λ p. refl;
-    symbol_table = symbols_alike 2;
-    dynamic_symbol_table = symbols_alike 11;
-    dynamic = refl;
-    symbol_version_table = versions_alike;
-  }
+  methods_alike SectionHeadersWithStrtab = alike_map (λ names. (file.sections, names)) (name_table file) (name_table (with_sections_at file gives)) name_table_alike
+  methods_alike (SectionHeaderByName name) = alike_map (first_named file.sections name) (name_table file) (name_table (with_sections_at file gives)) name_table_alike
+  methods_alike (SectionData s) = refl
+  methods_alike (SectionDataAsStrtab s) = refl
+  methods_alike (SectionDataAsRels s) = refl
+  methods_alike (SectionDataAsRelas s) = refl
+  methods_alike (SectionDataAsNotes s) = refl
+  methods_alike (SegmentData p) = refl
+  methods_alike (SegmentDataAsNotes p) = refl
+  methods_alike SymbolTable = symbols_alike sht_symtab
+  methods_alike DynamicSymbolTable = symbols_alike sht_dynsym
+  methods_alike Dynamic = refl
+  methods_alike SymbolVersionTable = versions_alike
+
+  pub same_answers : SameAnswers file (with_sections_at file gives)
+  same_answers = record { segments = refl; section_headers = refl; section_names = name_table_alike; methods = methods_alike }
 
 -- ---- the tables of a file that is opened have fewer bytes than 2^64
 

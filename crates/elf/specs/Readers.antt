@@ -28,37 +28,7 @@ use Rattle.elf.specs.StreamFile.{stream_file}
 use Rattle.elf.specs.ElfStream.{Kind, Leaves, Seen, kind}
 use Rattle.elf.specs.ElfBytes.{View, with_header}
 
--- ---- two object files
-
--- the same value, or both are refused, for whatever reason
-abbrev pub AreAlike : {A : Type 0} → Result A ParseError → Result A ParseError → Type 0
-AreAlike one other = result_ok one ≡ result_ok other
-
--- the same headers, and of each method alike answers
-pub record SameAnswers (one other : ObjectFile) : Type 0 where
-  pub segments : one.segments ≡ other.segments
-  pub section_headers : one.sections ≡ other.sections
-  pub section_names : AreAlike (name_table one) (name_table other)
-  pub section_header_by_name : (name : List ℕ) →
-      AreAlike (section_header_by_name one name) (section_header_by_name other name)
-  pub section_data : (s : SectionHeader) → AreAlike (section_data one s) (section_data other s)
-  pub section_data_as_strtab : (s : SectionHeader) →
-      AreAlike (section_data_as_strtab one s) (section_data_as_strtab other s)
-  pub section_data_as_rels : (s : SectionHeader) →
-      AreAlike (section_data_as_rels one s) (section_data_as_rels other s)
-  pub section_data_as_relas : (s : SectionHeader) →
-      AreAlike (section_data_as_relas one s) (section_data_as_relas other s)
-  pub section_data_as_notes : (s : SectionHeader) →
-      AreAlike (section_data_as_notes one s) (section_data_as_notes other s)
-  pub segment_data : (p : ProgramHeader) → AreAlike (segment_data one p) (segment_data other p)
-  pub segment_data_as_notes : (p : ProgramHeader) →
-      AreAlike (segment_data_as_notes one p) (segment_data_as_notes other p)
-  pub symbol_table : AreAlike (symbol_table one) (symbol_table other)
-  pub dynamic_symbol_table : AreAlike (dynamic_symbol_table one) (dynamic_symbol_table other)
-  pub dynamic : AreAlike (dynamic one) (dynamic other)
-  pub symbol_version_table : AreAlike (symbol_version_table one) (symbol_version_table other)
-
--- ---- a list of calls
+-- ---- the methods
 
 -- a method that both readers have, with its arguments
 pub data Method : Type 0 where
@@ -123,6 +93,21 @@ requested SymbolTable file = symbols_ranges sht_symtab file
 requested DynamicSymbolTable file = symbols_ranges sht_dynsym file
 requested Dynamic file = dynamic_ranges file
 requested SymbolVersionTable file = versions_ranges file
+
+-- ---- two object files
+
+-- the same value, or both are refused, for whatever reason
+abbrev pub AreAlike : {A : Type 0} → Result A ParseError → Result A ParseError → Type 0
+AreAlike one other = result_ok one ≡ result_ok other
+
+-- the same headers, the same names of sections, and alike answers of each method
+pub record SameAnswers (one other : ObjectFile) : Type 0 where
+  pub segments : one.segments ≡ other.segments
+  pub section_headers : one.sections ≡ other.sections
+  pub section_names : AreAlike (name_table one) (name_table other)
+  pub methods : (m : Method) → AreAlike (answer m one) (answer m other)
+
+-- ---- a list of calls
 
 -- a call of a stream: the header that is set before it, the method, what its result shows, and the stream afterwards
 pub record Call (E : Type 0) : Type 0 where

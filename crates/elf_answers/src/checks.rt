@@ -19,7 +19,7 @@ use std::str::SplitWhitespace;
 /// `verdict ..`: the same without what the section lacks, where that is several things.
 pub(crate) fn show_check(
     rt: &HostRuntime,
-    is_fault_told: bool,
+    is_fault_named: bool,
     words: &mut Words<'_>,
 ) -> io::Result<()> {
     let kind = words.word();
@@ -39,9 +39,9 @@ pub(crate) fn show_check(
         strtab: StringTable::new(strings.as_slice()),
     };
     let reads = if kind == "sysv" {
-        show_sysv(rt, section, is_fault_told, names)
+        show_sysv(rt, section, is_fault_named, names)
     } else {
-        show_gnu(rt, section, is_fault_told, names)
+        show_gnu(rt, section, is_fault_named, names)
     };
     show_reads(rt, reads?, least, most)
 }
@@ -100,7 +100,7 @@ struct Section<'a> {
 fn show_sysv(
     rt: &HostRuntime,
     section: Section<'_>,
-    is_fault_told: bool,
+    is_fault_named: bool,
     names: SplitWhitespace<'_>,
 ) -> io::Result<u64> {
     let mut reads = Reads::new();
@@ -113,7 +113,7 @@ fn show_sysv(
         &mut reads,
     ) {
         Ok(Checked::Sound(table)) => show_sound_sysv(rt, &table, names)?,
-        Ok(Checked::Faulty(fault)) => show_fault(rt, fault, is_fault_told)?,
+        Ok(Checked::Faulty(fault)) => show_fault(rt, fault, is_fault_named)?,
         Err(error) => show_refusal(rt, error)?,
     }
     Ok(reads.count())
@@ -122,7 +122,7 @@ fn show_sysv(
 fn show_gnu(
     rt: &HostRuntime,
     section: Section<'_>,
-    is_fault_told: bool,
+    is_fault_named: bool,
     names: SplitWhitespace<'_>,
 ) -> io::Result<u64> {
     let mut reads = Reads::new();
@@ -135,7 +135,7 @@ fn show_gnu(
         &mut reads,
     ) {
         Ok(Checked::Sound(table)) => show_sound_gnu(rt, &table, names)?,
-        Ok(Checked::Faulty(fault)) => show_fault(rt, fault, is_fault_told)?,
+        Ok(Checked::Faulty(fault)) => show_fault(rt, fault, is_fault_named)?,
         Err(error) => show_refusal(rt, error)?,
     }
     Ok(reads.count())
@@ -173,8 +173,8 @@ fn show_found(rt: &HostRuntime, name: &str, found: Option<(usize, Symbol)>) -> i
     print!(rt; "; {name} {found:?}")
 }
 
-fn show_fault(rt: &HostRuntime, fault: HashFault, is_fault_told: bool) -> io::Result<()> {
-    if is_fault_told {
+fn show_fault(rt: &HostRuntime, fault: HashFault, is_fault_named: bool) -> io::Result<()> {
+    if is_fault_named {
         print!(rt; "faulty {fault:?}")
     } else {
         print!(rt; "faulty")

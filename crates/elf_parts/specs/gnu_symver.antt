@@ -6,7 +6,3 @@ pub mod Records
 pub mod Lists
 -- the versions of the symbols of a file
 pub mod Table
--- tables of the first need and the first definition of each version index
-pub mod Indexed
--- the same in slices of the caller
-pub mod Placed

@@ -1,3 +1,5 @@
 pub mod RecordLaws
 pub mod Running
 pub mod Part
+pub mod Indexed
+pub mod Placed

@@ -63,10 +63,10 @@ fn a_users_order_reads_each_number(rt: HostRuntime) -> Result<(), Fail> {
 }
 
 /// Whether the order has this byte, or else refuses it by its own number.
-fn answers<E: EndianParse>(byte: u8, stands: bool) -> bool {
+fn answers<E: EndianParse>(byte: u8, is_accepted: bool) -> bool {
     match E::from_ei_data(byte) {
-        Ok(_) => stands,
-        Err(ParseError::UnsupportedElfEndianness(told)) => !stands && told == byte,
+        Ok(_) => is_accepted,
+        Err(ParseError::UnsupportedElfEndianness(reported)) => !is_accepted && reported == byte,
         Err(_) => false,
     }
 }

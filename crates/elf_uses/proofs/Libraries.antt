@@ -37,9 +37,9 @@ reads_of_file {E} {T} {Y} little old middle new r shown answer keeps reads =
     reads_behind old middle new r (shown (little old.headers.ehdr.endianness) old.headers.ehdr.class) (λ bytes. answer (stream_file little old bytes)) keeps
     (subst Such keeps.headers reads)
 
-pub all_told : (told : Option (List ℕ)) (P Q R S : List ℕ → Type 0) → ((bytes : List ℕ) → P bytes → Q bytes → R bytes → S bytes) → IfSome told P → IfSome told Q → IfSome told R → IfSome told S
-all_told None P Q R S so p q r = tt
-all_told (Some bytes) P Q R S so p q r = so bytes p q r
+pub all_known : (known : Option (List ℕ)) (P Q R S : List ℕ → Type 0) → ((bytes : List ℕ) → P bytes → Q bytes → R bytes → S bytes) → IfSome known P → IfSome known Q → IfSome known R → IfSome known S
+all_known None P Q R S so p q r = tt
+all_known (Some bytes) P Q R S so p q r = so bytes p q r
 
 -- ---- the object of a file, by its parts
 
@@ -83,11 +83,11 @@ module _ {E : Type 0} (little : E → Bool) (can_fail : Bool) (file : ObjectFile
       subst (λ l. IsIt l library.class) is.order (subst (λ k. IsIt file.little k) is.class here)
 
 -- the library of a stream that was opened
-pub opened_told : {E : Type 0} (little : E → Bool) (of_byte : ℕ → Option E) (can_fail : Bool) (before : ℕ) (told : Option (List ℕ)) (s : Seen E) (library : Library E) → s.content ≡ told → s.can_fail ≡ can_fail
-    → IfSome told (λ bytes. IsOpening (ok_map headers_of (opened little of_byte bytes)) can_fail before (Ok s))
+pub opened_known : {E : Type 0} (little : E → Bool) (of_byte : ℕ → Option E) (can_fail : Bool) (before : ℕ) (known : Option (List ℕ)) (s : Seen E) (library : Library E) → s.content ≡ known → s.can_fail ≡ can_fail
+    → IfSome known (λ bytes. IsOpening (ok_map headers_of (opened little of_byte bytes)) can_fail before (Ok s))
     → IfSome s.content (λ bytes. IsLibraryOf little s.can_fail (stream_file little s bytes) library)
-    → IfSome told (λ bytes. IsOpened little of_byte can_fail bytes (Ok library))
-opened_told little of_byte can_fail before None s library is same opening parts = tt
-opened_told little of_byte can_fail before (Some bytes) s library is same opening parts =
-    let here = subst (λ (told : Option (List ℕ)). IfSome told (λ content. IsLibraryOf little s.can_fail (stream_file little s content) library)) is parts in
+    → IfSome known (λ bytes. IsOpened little of_byte can_fail bytes (Ok library))
+opened_known little of_byte can_fail before None s library is same opening parts = tt
+opened_known little of_byte can_fail before (Some bytes) s library is same opening parts =
+    let here = subst (λ (known : Option (List ℕ)). IfSome known (λ content. IsLibraryOf little s.can_fail (stream_file little s content) library)) is parts in
     (s.headers, opening.1, subst (λ (fails : Bool). IsLibraryOf little fails (stream_file little s bytes) library) same here)

@@ -27,24 +27,24 @@ found_passes p (y ∷ ys) x e = found_or p (p y) y x (find p ys) refl (λ f. fou
 
 -- ---- a call of a stream, and what is made of what it gave
 
-told_made : {T Y U Z : Type 0} (told : Option (List ℕ)) (shown : T → Y) (answer : List ℕ → Result Y ParseError) (can_fail : Bool) (before now : ℕ) (x : T) (shows : U → Z) (made : Y → Result Z NamesError) (given : Result U NamesError)
-    → IfSome told (λ bytes. IsAnswer shown (answer bytes) can_fail before now (Ok x)) → IsGiven shows (made (shown x)) given
-    → IfSome told (λ bytes. IsNamesAnswer shows (or_error Read (answer bytes) >>= made) can_fail before now given)
-told_made None shown answer can_fail before now x shows made given h g = tt
-told_made (Some bytes) shown answer can_fail before now x shows made (Ok u) h g = (h.0, ap (λ r. or_error Read r >>= made) h.1 ∙ g)
-told_made (Some bytes) shown answer can_fail before now x shows made (Err Memory) h g = h.0
-told_made (Some bytes) shown answer can_fail before now x shows made (Err (Read e)) h g = absurd g
-told_made (Some bytes) shown answer can_fail before now x shows made (Err NoAddress) h g = (h.0, ap (λ r. or_error Read r >>= made) h.1 ∙ g)
-told_made (Some bytes) shown answer can_fail before now x shows made (Err NoSize) h g = (h.0, ap (λ r. or_error Read r >>= made) h.1 ∙ g)
-told_made (Some bytes) shown answer can_fail before now x shows made (Err (NotLoaded a)) h g = (h.0, ap (λ r. or_error Read r >>= made) h.1 ∙ g)
-told_made (Some bytes) shown answer can_fail before now x shows made (Err (Name e)) h g = (h.0, ap (λ r. or_error Read r >>= made) h.1 ∙ g)
+known_made : {T Y U Z : Type 0} (known : Option (List ℕ)) (shown : T → Y) (answer : List ℕ → Result Y ParseError) (can_fail : Bool) (before now : ℕ) (x : T) (shows : U → Z) (made : Y → Result Z NamesError) (given : Result U NamesError)
+    → IfSome known (λ bytes. IsAnswer shown (answer bytes) can_fail before now (Ok x)) → IsGiven shows (made (shown x)) given
+    → IfSome known (λ bytes. IsNamesAnswer shows (or_error Read (answer bytes) >>= made) can_fail before now given)
+known_made None shown answer can_fail before now x shows made given h g = tt
+known_made (Some bytes) shown answer can_fail before now x shows made (Ok u) h g = (h.0, ap (λ r. or_error Read r >>= made) h.1 ∙ g)
+known_made (Some bytes) shown answer can_fail before now x shows made (Err Memory) h g = h.0
+known_made (Some bytes) shown answer can_fail before now x shows made (Err (Read e)) h g = absurd g
+known_made (Some bytes) shown answer can_fail before now x shows made (Err NoAddress) h g = (h.0, ap (λ r. or_error Read r >>= made) h.1 ∙ g)
+known_made (Some bytes) shown answer can_fail before now x shows made (Err NoSize) h g = (h.0, ap (λ r. or_error Read r >>= made) h.1 ∙ g)
+known_made (Some bytes) shown answer can_fail before now x shows made (Err (NotLoaded a)) h g = (h.0, ap (λ r. or_error Read r >>= made) h.1 ∙ g)
+known_made (Some bytes) shown answer can_fail before now x shows made (Err (Name e)) h g = (h.0, ap (λ r. or_error Read r >>= made) h.1 ∙ g)
 
-pub tells_made : {E T Y U Z : Type 0} (old new : Seen E) (asked : List (ℕ × ℕ)) (shown : T → Y) (answer : List ℕ → Result Y ParseError) (r : Result T ParseError) (x : T) (shows : U → Z) (made : Y → Result Z NamesError) (given : Result U NamesError)
-    → Leaves asked shown answer old new r → r ≡ Ok x → IsGiven shows (made (shown x)) given
+pub tells_made : {E T Y U Z : Type 0} (old new : Seen E) (requested : List (ℕ × ℕ)) (shown : T → Y) (answer : List ℕ → Result Y ParseError) (r : Result T ParseError) (x : T) (shows : U → Z) (made : Y → Result Z NamesError) (given : Result U NamesError)
+    → Leaves requested shown answer old new r → r ≡ Ok x → IsGiven shows (made (shown x)) given
     → GivesNames shows (λ bytes. or_error Read (answer bytes) >>= made) old new given
-tells_made old new asked shown answer r x shows made given leaves is g =
+tells_made old new requested shown answer r x shows made given leaves is g =
     let answers = subst (λ w. IfSome old.content (λ bytes. IsAnswer shown (answer bytes) old.can_fail old.failures new.failures w)) is leaves.answers in
-    record { keeps = leaves.keeps; answers = told_made old.content shown answer old.can_fail old.failures new.failures x shows made given answers g }
+    record { keeps = leaves.keeps; answers = known_made old.content shown answer old.can_fail old.failures new.failures x shows made given answers g }
 
 -- ---- a call of a stream behind another that was not refused
 
@@ -63,27 +63,27 @@ unreadable_some (Err (NotLoaded a)) u = absurd u
 unreadable_some (Err (Name e)) u = absurd u
 
 -- an error is that of the whole
-told_whole : {U V Z : Type 0} (shows : U → Z) (shown : V → Option Z) (whole : Result (Option Z) NamesError) (inner : Result Z NamesError) (can_fail : Bool) (before middle now : ℕ) (e : NamesError)
+known_whole : {U V Z : Type 0} (shows : U → Z) (shown : V → Option Z) (whole : Result (Option Z) NamesError) (inner : Result Z NamesError) (can_fail : Bool) (before middle now : ℕ) (e : NamesError)
     → whole ≡ ok_map Some inner → middle ≡ before → IsNamesAnswer shows inner can_fail middle now (Err e) → IsNamesAnswer shown whole can_fail before now (Err e)
-told_whole shows shown whole inner can_fail before middle now Memory is same h = h ∙ same
-told_whole shows shown whole inner can_fail before middle now (Read e) is same h =
+known_whole shows shown whole inner can_fail before middle now Memory is same h = h ∙ same
+known_whole shows shown whole inner can_fail before middle now (Read e) is same h =
     refused_so (kind e) (IsUnreadable inner) (IsUnreadable whole) before middle now can_fail (λ u. subst IsUnreadable (sym is) (unreadable_some inner u)) same h
-told_whole shows shown whole inner can_fail before middle now NoAddress is same h = (h.0 ∙ same, is ∙ ap (ok_map Some) h.1)
-told_whole shows shown whole inner can_fail before middle now NoSize is same h = (h.0 ∙ same, is ∙ ap (ok_map Some) h.1)
-told_whole shows shown whole inner can_fail before middle now (NotLoaded a) is same h = (h.0 ∙ same, is ∙ ap (ok_map Some) h.1)
-told_whole shows shown whole inner can_fail before middle now (Name e) is same h = (h.0 ∙ same, is ∙ ap (ok_map Some) h.1)
+known_whole shows shown whole inner can_fail before middle now NoAddress is same h = (h.0 ∙ same, is ∙ ap (ok_map Some) h.1)
+known_whole shows shown whole inner can_fail before middle now NoSize is same h = (h.0 ∙ same, is ∙ ap (ok_map Some) h.1)
+known_whole shows shown whole inner can_fail before middle now (NotLoaded a) is same h = (h.0 ∙ same, is ∙ ap (ok_map Some) h.1)
+known_whole shows shown whole inner can_fail before middle now (Name e) is same h = (h.0 ∙ same, is ∙ ap (ok_map Some) h.1)
 
-told_later : {E T : Type 0} (little : E → Bool) (old middle : Seen E) (now : ℕ) (told : Option (List ℕ)) (shown : T → Option (List Dyn)) (x : T) (entries : List Dyn) (e : NamesError) → Keeps old middle → shown x ≡ Some entries
-    → IfSome told (λ bytes. IsNamesAnswer shown (entries_of (stream_file little old bytes)) old.can_fail old.failures middle.failures (Ok x))
-    → IfSome told (λ bytes. IsNamesAnswer names_view (names_by (stream_file little middle bytes) entries) middle.can_fail middle.failures now (Err e))
-    → IfSome told (λ bytes. IsNamesAnswer (option_map names_view) (names (stream_file little old bytes)) old.can_fail old.failures now (Err e))
-told_later little old middle now None shown x entries e keeps is h k = tt
-told_later little old middle now (Some bytes) shown x entries e keeps is h k =
+known_later : {E T : Type 0} (little : E → Bool) (old middle : Seen E) (now : ℕ) (known : Option (List ℕ)) (shown : T → Option (List Dyn)) (x : T) (entries : List Dyn) (e : NamesError) → Keeps old middle → shown x ≡ Some entries
+    → IfSome known (λ bytes. IsNamesAnswer shown (entries_of (stream_file little old bytes)) old.can_fail old.failures middle.failures (Ok x))
+    → IfSome known (λ bytes. IsNamesAnswer names_view (names_by (stream_file little middle bytes) entries) middle.can_fail middle.failures now (Err e))
+    → IfSome known (λ bytes. IsNamesAnswer (option_map names_view) (names (stream_file little old bytes)) old.can_fail old.failures now (Err e))
+known_later little old middle now None shown x entries e keeps is h k = tt
+known_later little old middle now (Some bytes) shown x entries e keeps is h k =
     let file = stream_file little old bytes in
     let whole = ap (λ r. r >>= λ es. if_some (names_by file) es) (h.1 ∙ ap Ok is) in
     let there = subst (λ f. IsNamesAnswer names_view (names_by f entries) middle.can_fail middle.failures now (Err e)) (same_file little old middle bytes keeps) k in
     let here = subst (λ b. IsNamesAnswer names_view (names_by file entries) b middle.failures now (Err e)) keeps.can_fail there in
-    told_whole names_view (option_map names_view) (names file) (names_by file entries) old.can_fail old.failures middle.failures now e whole h.0 here
+    known_whole names_view (option_map names_view) (names file) (names_by file entries) old.can_fail old.failures middle.failures now e whole h.0 here
 
 pub tells_later : {E T : Type 0} (little : E → Bool) (old middle new : Seen E) (shown : T → Option (List Dyn)) (first : Result T NamesError) (x : T) (entries : List Dyn) (later : Result Names NamesError) (e : NamesError) → first ≡ Ok x → shown x ≡ Some entries → later ≡ Err e
     → GivesNames shown (λ bytes. entries_of (stream_file little old bytes)) old middle first
@@ -92,8 +92,8 @@ pub tells_later : {E T : Type 0} (little : E → Bool) (old middle new : Seen E)
 tells_later little old middle new shown first x entries later e is some refused a b =
     let one = subst (λ r. IfSome old.content (λ bytes. IsNamesAnswer shown (entries_of (stream_file little old bytes)) old.can_fail old.failures middle.failures r)) is a.answers in
     let two = subst (λ r. IfSome middle.content (λ bytes. IsNamesAnswer names_view (names_by (stream_file little middle bytes) entries) middle.can_fail middle.failures new.failures r)) refused b.answers in
-    let here = subst (λ told. IfSome told (λ bytes. IsNamesAnswer names_view (names_by (stream_file little middle bytes) entries) middle.can_fail middle.failures new.failures (Err e))) a.keeps.content two in
+    let here = subst (λ known. IfSome known (λ bytes. IsNamesAnswer names_view (names_by (stream_file little middle bytes) entries) middle.can_fail middle.failures new.failures (Err e))) a.keeps.content two in
     record {
       keeps = keeps_then old middle new a.keeps b.keeps;
-      answers = told_later little old middle new.failures old.content shown x entries e a.keeps some one here;
+      answers = known_later little old middle new.failures old.content shown x entries e a.keeps some one here;
     }

@@ -30,7 +30,7 @@ keeps_then old middle new a b = record {
 pub reads_behind : {E T Y : Type 0} (old middle new : Seen E) (r : Result T ParseError) (shown : T → Y) (answer : List ℕ → Result Y ParseError) → Keeps old middle → Reads middle new r shown answer
     → Reads old new r shown answer
 reads_behind old middle new r shown answer keeps reads =
-    let there = subst (λ (told : Option (List ℕ)). IfSome told (λ bytes. IsRead shown middle.can_fail (answer bytes) r)) keeps.content reads.given in
+    let there = subst (λ (known : Option (List ℕ)). IfSome known (λ bytes. IsRead shown middle.can_fail (answer bytes) r)) keeps.content reads.given in
     let same = subst (λ (can_fail : Bool). IfSome old.content (λ bytes. IsRead shown can_fail (answer bytes) r)) keeps.can_fail there in
     record { keeps = keeps_then old middle new keeps reads.keeps; given = same }
 
@@ -41,14 +41,14 @@ may_refuse Kind.SourceFailure P Q can_fail so h = h
 may_refuse Kind.AllocationFailure P Q can_fail so h = h
 may_refuse Kind.Refusal P Q can_fail so h = so h
 
-stopped_told : {T Y U Z : Type 0} (told : Option (List ℕ)) (shown : T → Y) (answer : List ℕ → Result Y ParseError) (other : U → Z) (whole : List ℕ → Result Z ParseError) (can_fail : Bool) (e : ParseError)
-    → ((bytes : List ℕ) → IsErr (answer bytes) → IsErr (whole bytes)) → IfSome told (λ bytes. IsRead shown can_fail (answer bytes) (Err e)) → IfSome told (λ bytes. IsRead other can_fail (whole bytes) (Err e))
-stopped_told None shown answer other whole can_fail e so h = tt
-stopped_told (Some bytes) shown answer other whole can_fail e so h = may_refuse (kind e) (IsErr (answer bytes)) (IsErr (whole bytes)) can_fail (so bytes) h
+stopped_known : {T Y U Z : Type 0} (known : Option (List ℕ)) (shown : T → Y) (answer : List ℕ → Result Y ParseError) (other : U → Z) (whole : List ℕ → Result Z ParseError) (can_fail : Bool) (e : ParseError)
+    → ((bytes : List ℕ) → IsErr (answer bytes) → IsErr (whole bytes)) → IfSome known (λ bytes. IsRead shown can_fail (answer bytes) (Err e)) → IfSome known (λ bytes. IsRead other can_fail (whole bytes) (Err e))
+stopped_known None shown answer other whole can_fail e so h = tt
+stopped_known (Some bytes) shown answer other whole can_fail e so h = may_refuse (kind e) (IsErr (answer bytes)) (IsErr (whole bytes)) can_fail (so bytes) h
 
 pub stopped : {E T Y U Z : Type 0} (old new : Seen E) (e : ParseError) (shown : T → Y) (answer : List ℕ → Result Y ParseError) (other : U → Z) (whole : List ℕ → Result Z ParseError)
     → ((bytes : List ℕ) → IsErr (answer bytes) → IsErr (whole bytes)) → Reads old new (Err e) shown answer → Reads old new (Err e) other whole
-stopped old new e shown answer other whole so reads = record { keeps = reads.keeps; given = stopped_told old.content shown answer other whole old.can_fail e so reads.given }
+stopped old new e shown answer other whole so reads = record { keeps = reads.keeps; given = stopped_known old.content shown answer other whole old.can_fail e so reads.given }
 
 -- ---- versions need their needs and their definitions
 

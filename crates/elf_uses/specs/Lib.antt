@@ -7,3 +7,4 @@ pub mod Bindings
 pub mod Needed
 pub mod Readings
 pub mod Library
+pub mod inner

@@ -1,15 +1,18 @@
 //! What a loader maps into memory, and at which addresses.
-ghost use Rattle.std.specs.Prelude.{◌≡◌, IfErr, IfOk, MatchOption, length};
+ghost use Rattle.std.specs.Prelude.{◌≡◌, ◌||◌, false, IfErr, IfOk, OnOk, MatchOption, length};
 ghost use Rattle.std.specs.List.{list_any};
 ghost use Rattle.elf.specs.ElfBytes.{segment_list, view};
 ghost use Rattle.elf_uses.specs.LoadPlan.{ApartBefore, FitBefore, IsFirstOverlap, IsFirstUnfit, IsPlan, IsTrueOf};
 ghost use Rattle.elf_uses.specs.LoadPlan.{fits, mapping_of, mappings, overlap};
+ghost use Rattle.elf_uses.specs.inner.Apart.{AreApart, meets};
+ghost use Rattle.elf_uses.specs.declared.load_plan.Mapping.{Mapping};
 ghost use Rattle.elf_uses.specs.declared.load_plan.PlanError.TheVariants.{Memory as IsMemory};
 
 use elf::endian::EndianParse;
 use elf::segment::ProgramHeader;
 use elf::{ElfBytes, abi};
 use std::alloc::{AllocError, Global};
+use std::collections::BTreeMap;
 use thiserror::Error;
 
 /// Bytes of the file that are mapped into memory from an address on; the rest of the memory is 0. Offsets and sizes are
@@ -64,24 +67,6 @@ impl Mapping {
     {
         self.file_size <= self.memory_size
     }
-
-    // Whether an address belongs to both.
-    fn overlaps(&self, other: &Mapping) -> bool
-        ensures { result ≡ overlap self.now other.now }
-    {
-        if self.address <= other.address {
-            other.memory_size > 0 && other.address - self.address < self.memory_size
-        } else {
-            self.memory_size > 0 && self.address - other.address < other.memory_size
-        }
-    }
-
-    // Whether an address also belongs to one of the others.
-    fn overlaps_any(&self, others: &[Mapping]) -> bool
-        ensures { result ≡ list_any (overlap self.now) others.now }
-    {
-        others.iter().any(|other| self.overlaps(other))
-    }
 }
 
 // The mappings of the segments of type `PT_LOAD`.
@@ -113,16 +98,54 @@ fn first_unfit(all: &[Mapping]) -> Option<usize>
     None
 }
 
-// The first mapping that shares an address with an earlier one.
-fn first_overlap(all: &[Mapping]) -> Option<usize>
-    ensures { MatchOption result (ApartBefore all.now (length all.now)) (IsFirstOverlap all.now) }
+// Whether an address of the mapping lies in one of these ranges. Of the ranges that begin before the mapping ends, the
+// last one also ends last, so no other one has to be looked at.
+fn meets_any(mapping: &Mapping, ranges: &BTreeMap<u64, u64>) -> bool
+    requires { AreApart 0 ranges.now.entries }
+    ensures { result ≡ list_any (meets mapping.now) ranges.now.entries }
 {
-    for (place, mapping) in all.iter().enumerate() {
-        if mapping.overlaps_any(&all[..place]) {
-            return Some(place);
-        }
+    if mapping.memory_size == 0 {
+        return false;
     }
-    None
+    let last = mapping.address.saturating_add(mapping.memory_size - 1);
+    match ranges.range(..=last).next_back() {
+        Some((address, size)) => {
+            *address >= mapping.address || mapping.address - *address < *size
+        }
+        None => false,
+    }
+}
+
+// Adds the memory of a mapping that lies in none of the ranges.
+fn add(ranges: &mut BTreeMap<u64, u64>, mapping: &Mapping) -> Result<(), AllocError>
+    requires apart { AreApart 0 ranges.old.entries }
+    requires new { list_any (meets mapping.now) ranges.old.entries ≡ false }
+    ensures apart { OnOk result (AreApart 0 ranges.new.entries) }
+    ensures added { OnOk result ((m : Mapping) → list_any (meets m) ranges.new.entries
+        ≡ (overlap m mapping.now || list_any (meets m) ranges.old.entries)) }
+{
+    if mapping.memory_size == 0 {
+        return Ok(());
+    }
+    match ranges.insert(mapping.address, mapping.memory_size) {
+        Ok(_) => Ok(()),
+        Err(_) => Err(AllocError),
+    }
+}
+
+// The first mapping that shares an address with an earlier one. It costs the number of mappings times its logarithm.
+fn first_overlap(alloc: Global, all: &[Mapping]) -> Result<Option<usize>, AllocError>
+    ensures { IfOk result (λ found.
+        MatchOption found (ApartBefore all.now (length all.now)) (IsFirstOverlap all.now)) }
+{
+    let mut ranges = BTreeMap::new(alloc);
+    for (place, mapping) in all.iter().enumerate() {
+        if meets_any(mapping, &ranges) {
+            return Ok(Some(place));
+        }
+        add(&mut ranges, mapping)?;
+    }
+    Ok(None)
 }
 
 /// Returns the mappings of the segments of type `PT_LOAD`, in order.
@@ -141,7 +164,7 @@ pub fn load_plan<E: EndianParse>(
     if let Some(mapping) = first_unfit(plan.as_slice()) {
         return Err(PlanError::FileSize { mapping });
     }
-    if let Some(mapping) = first_overlap(plan.as_slice()) {
+    if let Some(mapping) = first_overlap(alloc, plan.as_slice())? {
         return Err(PlanError::Overlap { mapping });
     }
     Ok(plan)

@@ -31,10 +31,10 @@ some_other n e = let same : suc n ≡ 0 = cc e in absurd (omega (arith, same))
 
 -- ---- the lines of verdicts
 
-pub told_sound : {S : Type 0} (d : Decided S) (count : ℕ) → S → verdict_line (verdict d count) ≡ codes "sound indexed=" ++ decimal count ++ codes "\n"
-told_sound (inl sound) count h = refl
-told_sound (inr other) count h = absurd (other h)
+pub known_sound : {S : Type 0} (d : Decided S) (count : ℕ) → S → verdict_line (verdict d count) ≡ codes "sound indexed=" ++ decimal count ++ codes "\n"
+known_sound (inl sound) count h = refl
+known_sound (inr other) count h = absurd (other h)
 
-pub told_faulty : {S : Type 0} (d : Decided S) (count : ℕ) → (S → ⊥) → verdict_line (verdict d count) ≡ codes "faulty\n"
-told_faulty (inl sound) count h = absurd (h sound)
-told_faulty (inr other) count h = refl
+pub known_faulty : {S : Type 0} (d : Decided S) (count : ℕ) → (S → ⊥) → verdict_line (verdict d count) ≡ codes "faulty\n"
+known_faulty (inl sound) count h = absurd (h sound)
+known_faulty (inr other) count h = refl

@@ -30,7 +30,7 @@ use Rattle.elf_check.proofs.Reading.{ok_from_some}
 use Rattle.std.proofs.lemmas.Option.{slice_get_within}
 use Rattle.elf.specs.Opening.{first_section, header_at_front, opened, section_count, section_table, segment_count, segment_table, table_bytes}
 use Rattle.elf.specs.ElfBytes.{section_list, segment_list}
-use Rattle.elf_worked.specs.WrittenFiles.{IsWritten, LieAt, NamesLie, SectionsLie, SegmentsLie, TableLies, names_told, phdr_size, sections_told, segments_of, segments_told, shdr_size, written_sections, written_segments, written_view}
+use Rattle.elf_worked.specs.WrittenFiles.{IsWritten, LieAt, NamesLie, SectionsLie, SegmentsLie, TableLies, declared_names, phdr_size, declared_sections, segments_of, declared_segments, shdr_size, written_sections, written_segments, written_view}
 
 -- ---- steps that succeed
 
@@ -46,13 +46,13 @@ declared undeclared count cut make n part e f g = rw (e, f, g) refl
 
 -- a number that the first section header may have
 counted : (elsewhere : Bool) (first : SectionHeader) (found : Result SectionHeader ParseError) (field : SectionHeader → ℕ) (n count : ℕ) → found ≡ Ok first → (if elsewhere then field first else n) ≡ count → (if elsewhere then ok_map field found else Ok n) ≡ Ok count
-counted true first found field n count e told = ap (ok_map field) e ∙ ap Ok told
-counted false first found field n count e told = ap Ok told
+counted true first found field n count e stated = ap (ok_map field) e ∙ ap Ok stated
+counted false first found field n count e stated = ap Ok stated
 
 -- the same without section headers
 counted_here : (elsewhere : Bool) (found : Result SectionHeader ParseError) (field : SectionHeader → ℕ) (n count : ℕ) → (if elsewhere then None else Some n) ≡ Some count → (if elsewhere then ok_map field found else Ok n) ≡ Ok count
-counted_here true found field n count told = cc
-counted_here false found field n count told = let same : n ≡ count = cc told in ap Ok same
+counted_here true found field n count stated = cc
+counted_here false found field n count stated = let same : n ≡ count = cc stated in ap Ok same
 
 -- ---- bytes that lie in others
 
@@ -82,15 +82,15 @@ module _ {A : Type 0} (layout : Layout A) (struct : Class → A → List Member)
       omega (arith, here, joined, more, length-table little class xs)
 
   -- the bytes of a table
-  table_cut : (little : Bool) (class : Class) (size : ℕ) (xs : List A) (bytes : List ℕ) (o entsize : ℕ) (told : Option ℕ) → size ≡ size_by layout class → length bytes < 2 ^ 64 → TableLies little (struct class) size xs bytes o entsize told → table_bytes (size_by layout class) entsize (length xs) o bytes ≡ Ok (table_of little (struct class) xs)
-  table_cut little class size xs bytes o entsize told same small lies =
+  table_cut : (little : Bool) (class : Class) (size : ℕ) (xs : List A) (bytes : List ℕ) (o entsize : ℕ) (stated : Option ℕ) → size ≡ size_by layout class → length bytes < 2 ^ 64 → TableLies little (struct class) size xs bytes o entsize stated → table_bytes (size_by layout class) entsize (length xs) o bytes ≡ Ok (table_of little (struct class) xs)
+  table_cut little class size xs bytes o entsize stated same small lies =
       let right : nat_eq entsize (size_by layout class) ≡ true = let e = lies.entry ∙ same in grind (arith, common_steps, e) in
       let cut = bytes_lie (table_of little (struct class) xs) bytes o (size_by layout class * length xs) small (length-table little class xs) lies.lie in
       rw (right, cut) refl
 
   -- the first record of a table
-  first_read : (little : Bool) (class : Class) (size : ℕ) (first : A) (rest : List A) (bytes : List ℕ) (o entsize : ℕ) (told : Option ℕ) → length bytes < 2 ^ 64 → TableLies little (struct class) size (first ∷ rest) bytes o entsize told → record_by layout little class bytes o ≡ Ok first
-  first_read little class size first rest bytes o entsize told small lies =
+  first_read : (little : Bool) (class : Class) (size : ℕ) (first : A) (rest : List A) (bytes : List ℕ) (o entsize : ℕ) (stated : Option ℕ) → length bytes < 2 ^ 64 → TableLies little (struct class) size (first ∷ rest) bytes o entsize stated → record_by layout little class bytes o ≡ Ok first
+  first_read little class size first rest bytes o entsize stated small lies =
       let here : List ℕ = struct_bytes little (struct class first) in
       let others : List ℕ = table_of little (struct class) rest in
       let before : List ℕ = lies.lie.before in
@@ -114,8 +114,8 @@ phdr_same ELF64 = refl
 
 ident_read : {E : Type 0} (of_byte : ℕ → Option E) (class : Class) (order : ℕ) (endianness : E) (osabi abiversion : ℕ) (padding : List ℕ) → of_byte order ≡ Some endianness → ident_of of_byte (ident_bytes class order osabi abiversion padding) ≡ Ok (endianness, class, osabi, abiversion)
 unfolding ident_of
-ident_read of_byte ELF32 order endianness osabi abiversion padding stands = rw stands refl
-ident_read of_byte ELF64 order endianness osabi abiversion padding stands = rw stands refl
+ident_read of_byte ELF32 order endianness osabi abiversion padding order_named = rw order_named refl
+ident_read of_byte ELF64 order endianness osabi abiversion padding order_named = rw order_named refl
 
 module _ {E : Type 0} (little : E → Bool) (h : FileHeader E) (of_byte : ℕ → Option E) (sections : List SectionHeader) (segments : Option (List ProgramHeader)) (bytes : List ℕ) (w : IsWritten little h of_byte sections segments bytes) where
   front : List ℕ
@@ -142,15 +142,15 @@ module _ {E : Type 0} (little : E → Bool) (h : FileHeader E) (of_byte : ℕ �
       four_steps (bytes_at 16 bytes 0) (ident_of of_byte) (λ ident. bytes_at (size_of (tail_fields ident.1)) bytes 16) (header_with_tail little)
       front (h.endianness, h.class, h.osabi, h.abiversion) tail h
       (bytes_lie front bytes 0 16 w.small sixteen front_lies)
-      (ident_read of_byte h.class w.order h.endianness h.osabi h.abiversion w.padding w.stands)
+      (ident_read of_byte h.class w.order h.endianness h.osabi h.abiversion w.padding w.order_named)
       (bytes_lie tail bytes 16 (size_of (tail_fields h.class)) w.small (tail_long little h) tail_lies)
       (ap (header_with_tail little (h.endianness, h.class, h.osabi, h.abiversion)) (sym (append-nil tail)) ∙ tail_read_back little h [] w.fit)
 
   -- the number of program headers
-  segments_counted : (n : ℕ) (ss : List SectionHeader) → segments_told h ss ≡ Some n → ((first : SectionHeader) (rest : List SectionHeader) → ss ≡ first ∷ rest → first_section little h bytes ≡ Ok first) → segment_count little h bytes ≡ Ok n
-  segments_counted n [] told found = counted_here (nat_eq h.e_phnum 0xffff) (first_section little h bytes) (λ first. first.sh_info) h.e_phnum n told
-  segments_counted n (first ∷ rest) told found =
-      counted (nat_eq h.e_phnum 0xffff) first (first_section little h bytes) (λ f. f.sh_info) h.e_phnum n (found first rest refl) (cc told)
+  segments_counted : (n : ℕ) (ss : List SectionHeader) → declared_segments h ss ≡ Some n → ((first : SectionHeader) (rest : List SectionHeader) → ss ≡ first ∷ rest → first_section little h bytes ≡ Ok first) → segment_count little h bytes ≡ Ok n
+  segments_counted n [] stated found = counted_here (nat_eq h.e_phnum 0xffff) (first_section little h bytes) (λ first. first.sh_info) h.e_phnum n stated
+  segments_counted n (first ∷ rest) stated found =
+      counted (nat_eq h.e_phnum 0xffff) first (first_section little h bytes) (λ f. f.sh_info) h.e_phnum n (found first rest refl) (cc stated)
 
 -- ---- the tables, by cases
 
@@ -160,19 +160,19 @@ sections_read little h [] bytes small lie = rw lie refl
 sections_read little h (first ∷ rest) bytes small lie =
     let there : nat_eq h.e_shoff 0 ≡ false = let e = lie.somewhere in grind (arith, common_steps, e) in
     let n : ℕ = length (first ∷ rest) in
-    let told : sections_told h first ≡ n = cc lie.count in
-    let found = first_read section_header_layout section_header_struct section_header_is_struct (little h.endianness) h.class (shdr_size h.class) first rest bytes h.e_shoff h.e_shentsize (Some (sections_told h first)) small lie in
+    let stated : declared_sections h first ≡ n = cc lie.count in
+    let found = first_read section_header_layout section_header_struct section_header_is_struct (little h.endianness) h.class (shdr_size h.class) first rest bytes h.e_shoff h.e_shentsize (Some (declared_sections h first)) small lie in
     declared (nat_eq h.e_shoff 0) (section_count little h bytes) (λ c. table_bytes (size_by section_header_layout h.class) h.e_shentsize c h.e_shoff bytes) (table_in (little h.endianness) h.class)
     n (table_of (little h.endianness) (section_header_struct h.class) (first ∷ rest)) there
-    (counted (nat_eq h.e_shnum 0) first (first_section little h bytes) (λ f. f.sh_size) h.e_shnum n found told)
-    (table_cut section_header_layout section_header_struct section_header_is_struct (little h.endianness) h.class (shdr_size h.class) (first ∷ rest) bytes h.e_shoff h.e_shentsize (Some (sections_told h first)) (shdr_same h.class) small lie)
+    (counted (nat_eq h.e_shnum 0) first (first_section little h bytes) (λ f. f.sh_size) h.e_shnum n found stated)
+    (table_cut section_header_layout section_header_struct section_header_is_struct (little h.endianness) h.class (shdr_size h.class) (first ∷ rest) bytes h.e_shoff h.e_shentsize (Some (declared_sections h first)) (shdr_same h.class) small lie)
 
 -- the first section header, where there is one
 first_found : {E : Type 0} (little : E → Bool) (h : FileHeader E) (sections : List SectionHeader) (bytes : List ℕ) → length bytes < 2 ^ 64 → SectionsLie little h sections bytes → (first : SectionHeader) (rest : List SectionHeader) → sections ≡ first ∷ rest → first_section little h bytes ≡ Ok first
 first_found little h [] bytes small lie first rest e = cc e
 first_found little h (one ∷ others) bytes small lie first rest e =
     let same : one ≡ first = cc e in
-    first_read section_header_layout section_header_struct section_header_is_struct (little h.endianness) h.class (shdr_size h.class) one others bytes h.e_shoff h.e_shentsize (Some (sections_told h one)) small lie ∙ ap Ok same
+    first_read section_header_layout section_header_struct section_header_is_struct (little h.endianness) h.class (shdr_size h.class) one others bytes h.e_shoff h.e_shentsize (Some (declared_sections h one)) small lie ∙ ap Ok same
 
 segments_read : {E : Type 0} (little : E → Bool) (h : FileHeader E) (of_byte : ℕ → Option E) (sections : List SectionHeader) (segments : Option (List ProgramHeader)) (bytes : List ℕ) → IsWritten little h of_byte sections segments bytes → SegmentsLie little h sections segments bytes → segment_table little h bytes ≡ Ok (written_segments little h segments)
 unfolding segment_table
@@ -183,7 +183,7 @@ segments_read little h of_byte sections (Some segments) bytes w lie =
     declared (nat_eq h.e_phoff 0) (segment_count little h bytes) (λ c. table_bytes (size_by program_header_layout h.class) h.e_phentsize c h.e_phoff bytes) (table_in (little h.endianness) h.class)
     n (table_of (little h.endianness) (program_header_struct h.class) segments) there
     (segments_counted little h of_byte sections (Some segments) bytes w n sections lie.count (first_found little h sections bytes w.small w.sections_lie))
-    (table_cut program_header_layout program_header_struct program_header_is_struct (little h.endianness) h.class (phdr_size h.class) segments bytes h.e_phoff h.e_phentsize (segments_told h sections) (phdr_same h.class) w.small lie)
+    (table_cut program_header_layout program_header_struct program_header_is_struct (little h.endianness) h.class (phdr_size h.class) segments bytes h.e_phoff h.e_phentsize (declared_segments h sections) (phdr_same h.class) w.small lie)
 
 pub file_opened : {E : Type 0} (little : E → Bool) (h : FileHeader E) (of_byte : ℕ → Option E) (sections : List SectionHeader) (segments : Option (List ProgramHeader)) (bytes : List ℕ) → IsWritten little h of_byte sections segments bytes → opened little of_byte bytes ≡ Ok (written_view little h sections segments bytes)
 file_opened little h of_byte sections segments bytes w =
@@ -241,10 +241,10 @@ names_read little h of_byte (first ∷ rest) segments names bytes small lie n =
     let unnamed : nat_eq h.e_shstrndx 0 ≡ false = let e = n.has_names in grind (arith, common_steps, e) in
     let at = section_at (written_sections little h (first ∷ rest)) in
     let one : at 0 ≡ Ok first = section_found little h first rest bytes small lie 0 first refl in
-    let index = counted (nat_eq h.e_shstrndx 0xffff) first (at 0) (λ f. f.sh_link) h.e_shstrndx (names_told little h (first ∷ rest)) one refl in
-    let found = section_found little h first rest bytes small lie (names_told little h (first ∷ rest)) n.section n.there in
+    let index = counted (nat_eq h.e_shstrndx 0xffff) first (at 0) (λ f. f.sh_link) h.e_shstrndx (declared_names little h (first ∷ rest)) one refl in
+    let found = section_found little h first rest bytes small lie (declared_names little h (first ∷ rest)) n.section n.there in
     bind_step (name_section (object_file little (written_view little h (first ∷ rest) segments bytes))) (if_found (section_range bytes)) (Some n.section) (Some names)
-    (named_steps false (nat_eq h.e_shstrndx 0) (name_index (object_file little (written_view little h (first ∷ rest) segments bytes))) at (names_told little h (first ∷ rest)) n.section refl unnamed index found)
+    (named_steps false (nat_eq h.e_shstrndx 0) (name_index (object_file little (written_view little h (first ∷ rest) segments bytes))) at (declared_names little h (first ∷ rest)) n.section refl unnamed index found)
     (ap (ok_map Some) (bytes_lie names bytes n.section.sh_offset n.section.sh_size small (sym n.size) n.lie))
 
 pub names_found : {E : Type 0} (little : E → Bool) (h : FileHeader E) (of_byte : ℕ → Option E) (sections : List SectionHeader) (segments : Option (List ProgramHeader)) (names bytes : List ℕ) → IsWritten little h of_byte sections segments bytes → NamesLie little h sections names bytes → name_table (object_file little (written_view little h sections segments bytes)) ≡ Ok (Some names)

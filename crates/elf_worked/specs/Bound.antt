@@ -57,7 +57,7 @@ v = named_version 7 (codes "v")
 abbrev pub w : NamedVersion
 w = named_version 8 (codes "w")
 
--- a version that is asked for is this one
+-- a version that is requested is this one
 abbrev pub IsFor : Version → NamedVersion → Type 0
 IsFor wanted version = (wanted.name.now ≡ version.name) × (wanted.hash ≡ version.hash)
 

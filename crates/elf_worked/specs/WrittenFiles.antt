@@ -38,13 +38,13 @@ phdr_size ELF32 = 32
 phdr_size ELF64 = 56
 
 -- the number of section headers: e_shnum, or where that is 0 the sh_size of the first one
-abbrev pub sections_told : {E : Type 0} → FileHeader E → SectionHeader → ℕ
-sections_told h first = if h.e_shnum == 0 then first.sh_size else h.e_shnum
+abbrev pub declared_sections : {E : Type 0} → FileHeader E → SectionHeader → ℕ
+declared_sections h first = if h.e_shnum == 0 then first.sh_size else h.e_shnum
 
 -- the number of program headers: e_phnum, or where that is PN_XNUM (0xffff) the sh_info of the first section header
-abbrev pub segments_told : {E : Type 0} → FileHeader E → List SectionHeader → Option ℕ
-segments_told h [] = if h.e_phnum == 0xffff then None else Some h.e_phnum
-segments_told h (first ∷ rest) = Some (if h.e_phnum == 0xffff then first.sh_info else h.e_phnum)
+abbrev pub declared_segments : {E : Type 0} → FileHeader E → List SectionHeader → Option ℕ
+declared_segments h [] = if h.e_phnum == 0xffff then None else Some h.e_phnum
+declared_segments h (first ∷ rest) = Some (if h.e_phnum == 0xffff then first.sh_info else h.e_phnum)
 
 module _ {E : Type 0} (little : E → Bool) (h : FileHeader E) where
   -- the section headers lie at e_shoff, and where that is 0 there are none
@@ -52,14 +52,14 @@ module _ {E : Type 0} (little : E → Bool) (h : FileHeader E) where
   SectionsLie [] bytes = h.e_shoff ≡ 0
   SectionsLie (first ∷ rest) bytes =
       TableLies (little h.endianness) (section_header_struct h.class) (shdr_size h.class) (first ∷ rest) bytes
-      h.e_shoff h.e_shentsize (Some (sections_told h first))
+      h.e_shoff h.e_shentsize (Some (declared_sections h first))
 
   -- the program headers lie at e_phoff; where that is 0 no table is declared
   abbrev pub SegmentsLie : List SectionHeader → Option (List ProgramHeader) → List ℕ → Type 0
   SegmentsLie sections None bytes = h.e_phoff ≡ 0
   SegmentsLie sections (Some segments) bytes =
       TableLies (little h.endianness) (program_header_struct h.class) (phdr_size h.class) segments bytes
-      h.e_phoff h.e_phentsize (segments_told h sections)
+      h.e_phoff h.e_phentsize (declared_segments h sections)
 
   -- the bytes of a file with this header and these tables. In its e_ident a byte gives the order, and the last
   -- seven bytes are any; what else the file holds, and where its tables lie, is open
@@ -69,7 +69,7 @@ module _ {E : Type 0} (little : E → Bool) (h : FileHeader E) where
     pub order : ℕ
     pub padding : List ℕ
     pub rest : List ℕ
-    pub stands : of_byte order ≡ Some h.endianness
+    pub order_named : of_byte order ≡ Some h.endianness
     pub seven : length padding ≡ 7
     pub fit : Fits (tail_struct h.class h)
     pub front :
@@ -100,15 +100,15 @@ module _ {E : Type 0} (little : E → Bool) (h : FileHeader E) where
   }
 
   -- the section of the names: e_shstrndx, or where that is SHN_XINDEX (0xffff) the sh_link of the first section header
-  abbrev pub names_told : List SectionHeader → ℕ
-  names_told [] = h.e_shstrndx
-  names_told (first ∷ rest) = if h.e_shstrndx == 0xffff then first.sh_link else h.e_shstrndx
+  abbrev pub declared_names : List SectionHeader → ℕ
+  declared_names [] = h.e_shstrndx
+  declared_names (first ∷ rest) = if h.e_shstrndx == 0xffff then first.sh_link else h.e_shstrndx
 
   -- the names lie where the header of that section says
   pub record NamesLie (sections : List SectionHeader) (names bytes : List ℕ) : Type 0 where
     pub has_names : h.e_shstrndx ≢ 0
     pub section : SectionHeader
-    pub there : slice_get sections (names_told sections) ≡ Some section
+    pub there : slice_get sections (declared_names sections) ≡ Some section
     pub size : section.sh_size ≡ length names
     pub lie : LieAt names bytes section.sh_offset
 

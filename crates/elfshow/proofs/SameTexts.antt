@@ -17,8 +17,10 @@ use Rattle.elf.specs.Names.{name_table}
 use Rattle.elf.specs.StreamFile.{stream_file}
 use Rattle.elf.specs.ObjectFile.{ObjectFile, object_file}
 use Rattle.elf.specs.Readers.{AreAlike, SameAnswers}
+use Rattle.elf.specs.Readers as readers
 use Rattle.elf.specs.ElfStream.{Seen, headers_of}
 use Rattle.elf.specs.ElfBytes.{View}
+use Rattle.elf.proofs.Alike.{alike_first, alike_later, alike_map}
 use Rattle.elf_check.specs.Object.{object_in}
 use Rattle.elf_check.specs.declared.hashcheck.any.HashSection.{HashSection}
 use Rattle.elfshow.specs.calls.Question.{Question, Header, Sections, Segments, Name, Data, Strings, Rels, Relas, Notes, Seg, SegNotes, Symbols, DynSyms, Dynamic, Versions, Hash}
@@ -34,22 +36,6 @@ use Rattle.elfshow.specs.lines.Strings.{string_line, strings_of}
 use Rattle.elfshow.specs.lines.Versions.{versions_listed}
 
 -- ---- alike answers
-
-alike_map : {A B : Type 0} (f : A → B) (p q : Result A ParseError) → AreAlike p q → AreAlike (ok_map f p) (ok_map f q)
-alike_map f (Ok x) (Ok y) h = let same : x ≡ y = cc in ap (λ z. Some (f z)) same
-alike_map f (Ok x) (Err e) h = cc
-alike_map f (Err e) (Ok y) h = cc
-alike_map f (Err e) (Err d) h = refl
-
-alike_first : {A B : Type 0} (p q : Result A ParseError) (f : A → Result B ParseError) → AreAlike p q → AreAlike (p >>= f) (q >>= f)
-alike_first (Ok x) (Ok y) f h = let same : x ≡ y = cc in ap (λ z. result_ok (f z)) same
-alike_first (Ok x) (Err e) f h = cc
-alike_first (Err e) (Ok y) f h = cc
-alike_first (Err e) (Err d) f h = refl
-
-alike_later : {A B : Type 0} (p : Result A ParseError) (f g : A → Result B ParseError) → ((x : A) → AreAlike (f x) (g x)) → AreAlike (p >>= f) (p >>= g)
-alike_later (Ok x) f g h = h x
-alike_later (Err e) f g h = refl
 
 -- two answers behind one another
 alike_both : {A B C : Type 0} (line : A → B → C) (p q : Result A ParseError) (r s : Result B ParseError) → AreAlike p q → AreAlike r s
@@ -81,9 +67,9 @@ module _ (kind : HashSection) (one other : ObjectFile) (same : SameAnswers one o
   with_alike little class =
       let answer : List ℕ × Option CompressionHeader → Option (Table × List ℕ) → Result (Option Verdict) ParseError = λ found symbols. checked_for (object_in kind little class found.0) symbols in
       let behind : ObjectFile → List ℕ × Option CompressionHeader → Result (Option Verdict) ParseError = λ file found. dynamic_symbol_table file >>= answer found in
-      alike_first (section_data one s) (section_data other s) (behind one) (same.section_data s)
+      alike_first (section_data one s) (section_data other s) (behind one) (same.methods (readers.SectionData s))
       ∙ alike_later (section_data other s) (behind one) (behind other)
-      (λ found. alike_first (dynamic_symbol_table one) (dynamic_symbol_table other) (answer found) same.dynamic_symbol_table)
+      (λ found. alike_first (dynamic_symbol_table one) (dynamic_symbol_table other) (answer found) (same.methods readers.DynamicSymbolTable))
 
   checked_alike : one.little ≡ other.little → one.class ≡ other.class → AreAlike (checked_as kind one s) (checked_as kind other s)
   checked_alike little class =
@@ -106,20 +92,20 @@ module _ {E : Type 0} (h : FileHeader E) (one other : ObjectFile) (little : one.
       ap (λ sections. result_ok (ok_map (λ names. counted_lines (section_line names) sections) (name_table one))) same.section_headers
       ∙ alike_map (λ names. counted_lines (section_line names) other.sections) (name_table one) (name_table other) same.section_names
   call_alike Segments = rw same.segments refl
-  call_alike (Name name) = alike_map (unless_none found_line) (section_header_by_name one name) (section_header_by_name other name) (same.section_header_by_name name)
-  call_alike (Data i) = section_alike i _ _ (λ s. alike_map (λ found. section_data_line found.0 found.1) (section_data one s) (section_data other s) (same.section_data s))
-  call_alike (Strings i) = section_alike i _ _ (λ s. alike_map (λ bytes. counted_lines string_line (strings_of bytes)) (section_data_as_strtab one s) (section_data_as_strtab other s) (same.section_data_as_strtab s))
-  call_alike (Rels i) = section_alike i _ _ (λ s. alike_map (counted_lines rel_line) (section_data_as_rels one s) (section_data_as_rels other s) (same.section_data_as_rels s))
-  call_alike (Relas i) = section_alike i _ _ (λ s. alike_map (counted_lines rela_line) (section_data_as_relas one s) (section_data_as_relas other s) (same.section_data_as_relas s))
-  call_alike (Notes i) = section_alike i _ _ (λ s. alike_map (counted_lines note_line) (section_data_as_notes one s) (section_data_as_notes other s) (same.section_data_as_notes s))
-  call_alike (Seg j) = segment_alike j _ _ (λ p. alike_map segment_data_line (segment_data one p) (segment_data other p) (same.segment_data p))
-  call_alike (SegNotes j) = segment_alike j _ _ (λ p. alike_map (counted_lines note_line) (segment_data_as_notes one p) (segment_data_as_notes other p) (same.segment_data_as_notes p))
-  call_alike Symbols = alike_map (unless_none symbols_text) (symbol_table one) (symbol_table other) same.symbol_table
-  call_alike DynSyms = alike_map (unless_none symbols_text) (dynamic_symbol_table one) (dynamic_symbol_table other) same.dynamic_symbol_table
-  call_alike Dynamic = alike_map (unless_none dynamic_text) (dynamic one) (dynamic other) same.dynamic
+  call_alike (Name name) = alike_map (unless_none found_line) (section_header_by_name one name) (section_header_by_name other name) (same.methods (readers.SectionHeaderByName name))
+  call_alike (Data i) = section_alike i _ _ (λ s. alike_map (λ found. section_data_line found.0 found.1) (section_data one s) (section_data other s) (same.methods (readers.SectionData s)))
+  call_alike (Strings i) = section_alike i _ _ (λ s. alike_map (λ bytes. counted_lines string_line (strings_of bytes)) (section_data_as_strtab one s) (section_data_as_strtab other s) (same.methods (readers.SectionDataAsStrtab s)))
+  call_alike (Rels i) = section_alike i _ _ (λ s. alike_map (counted_lines rel_line) (section_data_as_rels one s) (section_data_as_rels other s) (same.methods (readers.SectionDataAsRels s)))
+  call_alike (Relas i) = section_alike i _ _ (λ s. alike_map (counted_lines rela_line) (section_data_as_relas one s) (section_data_as_relas other s) (same.methods (readers.SectionDataAsRelas s)))
+  call_alike (Notes i) = section_alike i _ _ (λ s. alike_map (counted_lines note_line) (section_data_as_notes one s) (section_data_as_notes other s) (same.methods (readers.SectionDataAsNotes s)))
+  call_alike (Seg j) = segment_alike j _ _ (λ p. alike_map segment_data_line (segment_data one p) (segment_data other p) (same.methods (readers.SegmentData p)))
+  call_alike (SegNotes j) = segment_alike j _ _ (λ p. alike_map (counted_lines note_line) (segment_data_as_notes one p) (segment_data_as_notes other p) (same.methods (readers.SegmentDataAsNotes p)))
+  call_alike Symbols = alike_map (unless_none symbols_text) (symbol_table one) (symbol_table other) (same.methods readers.SymbolTable)
+  call_alike DynSyms = alike_map (unless_none symbols_text) (dynamic_symbol_table one) (dynamic_symbol_table other) (same.methods readers.DynamicSymbolTable)
+  call_alike Dynamic = alike_map (unless_none dynamic_text) (dynamic one) (dynamic other) (same.methods readers.Dynamic)
   call_alike Versions =
       alike_both (λ symbols. unless_none (versions_listed (symbol_count symbols))) (dynamic_symbol_table one) (dynamic_symbol_table other) (symbol_version_table one) (symbol_version_table other)
-      same.dynamic_symbol_table same.symbol_version_table
+      (same.methods readers.DynamicSymbolTable) (same.methods readers.SymbolVersionTable)
   call_alike (Hash kind i) = section_alike i _ _ (λ s. alike_map (unless_none verdict_line) (checked_as kind one s) (checked_as kind other s) (checked_alike kind one other same s little class))
 
   call_same : (call : Question) → call_text h one call ≡ call_text h other call

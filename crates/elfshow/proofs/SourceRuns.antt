@@ -56,29 +56,29 @@ module _ {E : Type 0} (little : E → Bool) (of_byte : ℕ → Option E)
       let written : Appends before after (text v.ehdr (object_file little v) (map question calls)) = subst (λ t. Appends before after t) (sym same) wrote in
       subst (λ (o : Result (View E) ParseError). IsOkAnd o (λ file. Appends before after (text file.ehdr (object_file little file) (map question calls)))) (sym found.1) written
 
-  told_ran : (told : Option (List ℕ)) (s : Seen E) (can_fail : Bool) (failures now : ℕ) (calls : List Call) (before after : Option (List ℕ)) (r : Result (Unit {0}) RunError) → s.can_fail ≡ can_fail
-      → IfSome told (λ bytes. IsOpening (ok_map headers_of (opened little of_byte bytes)) can_fail failures (Ok s))
-      → IfSome told (λ bytes. Ran (λ calls. text s.headers.ehdr (stream_file little s bytes) (map question calls)) calls before after s.can_fail s.failures now r)
-      → IfSome told (λ bytes. RanOver (opened little of_byte bytes) (λ file calls. text file.ehdr (object_file little file) (map question calls)) calls before after can_fail r)
-  told_ran None s can_fail failures now calls before after r may opening ran = tt
-  told_ran (Some bytes) s can_fail failures now calls before after (Ok x) may opening ran = opened_text bytes s can_fail failures calls before after opening ran.1
-  told_ran (Some bytes) s can_fail failures now calls before after (Err (Open e)) may opening ran = absurd ran
-  told_ran (Some bytes) s can_fail failures now calls before after (Err (Fault done e)) may opening ran =
+  known_ran : (known : Option (List ℕ)) (s : Seen E) (can_fail : Bool) (failures now : ℕ) (calls : List Call) (before after : Option (List ℕ)) (r : Result (Unit {0}) RunError) → s.can_fail ≡ can_fail
+      → IfSome known (λ bytes. IsOpening (ok_map headers_of (opened little of_byte bytes)) can_fail failures (Ok s))
+      → IfSome known (λ bytes. Ran (λ calls. text s.headers.ehdr (stream_file little s bytes) (map question calls)) calls before after s.can_fail s.failures now r)
+      → IfSome known (λ bytes. RanOver (opened little of_byte bytes) (λ file calls. text file.ehdr (object_file little file) (map question calls)) calls before after can_fail r)
+  known_ran None s can_fail failures now calls before after r may opening ran = tt
+  known_ran (Some bytes) s can_fail failures now calls before after (Ok x) may opening ran = opened_text bytes s can_fail failures calls before after opening ran.1
+  known_ran (Some bytes) s can_fail failures now calls before after (Err (Open e)) may opening ran = absurd ran
+  known_ran (Some bytes) s can_fail failures now calls before after (Err (Fault done e)) may opening ran =
       (ran.0, opened_text bytes s can_fail failures (take done calls) before after opening ran.1, subst (λ b. MayRefuse b (Unit {0}) ⊥ (kind e)) may (may_fault (kind e) s.failures now s.can_fail ran.2))
-  told_ran (Some bytes) s can_fail failures now calls before after (Err (Write done e)) may opening ran = (ran.0, opens headers_of (opened little of_byte bytes) s.headers opening.1)
+  known_ran (Some bytes) s can_fail failures now calls before after (Err (Write done e)) may opening ran = (ran.0, opens headers_of (opened little of_byte bytes) s.headers opening.1)
 
-  pub source_ran : (told : Option (List ℕ)) (s : Seen E) (can_fail : Bool) (failures now : ℕ) (calls : List Call) (before after : Option (List ℕ)) (r : Result (Unit {0}) RunError) → s.content ≡ told → s.can_fail ≡ can_fail
-      → IfSome told (λ bytes. IsOpening (ok_map headers_of (opened little of_byte bytes)) can_fail failures (Ok s))
+  pub source_ran : (known : Option (List ℕ)) (s : Seen E) (can_fail : Bool) (failures now : ℕ) (calls : List Call) (before after : Option (List ℕ)) (r : Result (Unit {0}) RunError) → s.content ≡ known → s.can_fail ≡ can_fail
+      → IfSome known (λ bytes. IsOpening (ok_map headers_of (opened little of_byte bytes)) can_fail failures (Ok s))
       → IfSome s.content (λ bytes. Ran (λ calls. text s.headers.ehdr (stream_file little s bytes) (map question calls)) calls before after s.can_fail s.failures now r)
-      → IfSome told (λ bytes. RanOver (opened little of_byte bytes) (λ file calls. text file.ehdr (object_file little file) (map question calls)) calls before after can_fail r)
-  source_ran told s can_fail failures now calls before after r same may opening ran =
-      told_ran told s can_fail failures now calls before after r may opening
+      → IfSome known (λ bytes. RanOver (opened little of_byte bytes) (λ file calls. text file.ehdr (object_file little file) (map question calls)) calls before after can_fail r)
+  source_ran known s can_fail failures now calls before after r same may opening ran =
+      known_ran known s can_fail failures now calls before after r may opening
       (subst (λ content. IfSome content (λ bytes. Ran (λ calls. text s.headers.ehdr (stream_file little s bytes) (map question calls)) calls before after s.can_fail s.failures now r)) same ran)
 
 -- a source that is refused: nothing was written
-pub source_refused : {E : Type 0} (little : E → Bool) (of_byte : ℕ → Option E) (told : Option (List ℕ)) (can_fail : Bool) (failures : ℕ) (calls : List Call) (before : Option (List ℕ)) (whole : Result (Seen E) ParseError) (e : ParseError) → whole ≡ Err e
-    → IfSome told (λ bytes. IsOpening (ok_map headers_of (opened little of_byte bytes)) can_fail failures whole)
-    → IfSome told (λ bytes. RanOver (opened little of_byte bytes) (λ file calls. text file.ehdr (object_file little file) (map question calls)) calls before before can_fail (Err (Open e)))
+pub source_refused : {E : Type 0} (little : E → Bool) (of_byte : ℕ → Option E) (known : Option (List ℕ)) (can_fail : Bool) (failures : ℕ) (calls : List Call) (before : Option (List ℕ)) (whole : Result (Seen E) ParseError) (e : ParseError) → whole ≡ Err e
+    → IfSome known (λ bytes. IsOpening (ok_map headers_of (opened little of_byte bytes)) can_fail failures whole)
+    → IfSome known (λ bytes. RanOver (opened little of_byte bytes) (λ file calls. text file.ehdr (object_file little file) (map question calls)) calls before before can_fail (Err (Open e)))
 source_refused little of_byte None can_fail failures calls before whole e is opening = tt
 source_refused {E} little of_byte (Some bytes) can_fail failures calls before whole e is opening =
     let opening_answer = ok_map headers_of (opened little of_byte bytes) in

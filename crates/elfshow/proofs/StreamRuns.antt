@@ -56,9 +56,9 @@ cached_back s (r ∷ rs) qs h = cached_back s rs qs h.1
 
 -- ---- an error
 
-told_refused : (answer : Result (List ℕ) ParseError) → IsErr answer → or_refused answer ≡ refused_line
-told_refused (Ok text) h = cc
-told_refused (Err e) h = refl
+known_refused : (answer : Result (List ℕ) ParseError) → IsErr answer → or_refused answer ≡ refused_line
+known_refused (Ok text) h = cc
+known_refused (Err e) h = refl
 
 ran_by : (k : Kind) (answer : Result (List ℕ) ParseError) (old new : Option (List ℕ)) (before now : ℕ) (can_fail : Bool) (r : Result (Unit {0}) Stop)
     → IsRefused before now can_fail (IsErr answer) k → LeadsTo k old new r → RanOne answer old new can_fail before now r
@@ -68,7 +68,7 @@ ran_by Kind.SourceFailure answer old new before now can_fail (Err (stop.Write e)
 ran_by Kind.AllocationFailure answer old new before now can_fail (Ok x) h leads = absurd leads.1
 ran_by Kind.AllocationFailure answer old new before now can_fail (Err (stop.Fault e)) h leads = (leads.0, subst (λ k. IsRefused before now can_fail ⊥ k) (sym leads.1) h)
 ran_by Kind.AllocationFailure answer old new before now can_fail (Err (stop.Write e)) h leads = absurd leads.1
-ran_by Kind.Refusal answer old new before now can_fail (Ok x) h leads = (h.0, subst (λ bytes. Appends old new bytes) (sym (told_refused answer h.1)) leads)
+ran_by Kind.Refusal answer old new before now can_fail (Ok x) h leads = (h.0, subst (λ bytes. Appends old new bytes) (sym (known_refused answer h.1)) leads)
 ran_by Kind.Refusal answer old new before now can_fail (Err (stop.Fault e)) h leads = absurd leads
 ran_by Kind.Refusal answer old new before now can_fail (Err (stop.Write e)) h leads = h.0
 
@@ -89,16 +89,16 @@ ok_below : {A B : Type 0} (below : Result A ParseError) (above : Result B ParseE
 ok_below (Ok x) above so ok = refl
 ok_below (Err e) above so ok = absurd (ok_or_err above ok (so refl))
 
-told_tried : {T Y : Type 0} (X : Type 0) (told : Option (List ℕ)) (shown : T → Y) (answer : List ℕ → Result Y ParseError) (whole : List ℕ → Result (List ℕ) ParseError) (old : Option (List ℕ)) (before now : ℕ) (can_fail : Bool) (e : ParseError)
-    → IfSome told (λ bytes. IsAnswer shown (answer bytes) can_fail before now (Err e)) → ((bytes : List ℕ) → IsErr (answer bytes) → IsErr (whole bytes))
-    → IfSome told (λ bytes. TriedOne {X = X} (whole bytes) old old can_fail before now (Err e))
-told_tried X None shown answer whole old before now can_fail e h so = tt
-told_tried X (Some bytes) shown answer whole old before now can_fail e h so = (refl, refused_by (kind e) (IsErr (answer bytes)) (IsErr (whole bytes)) before now can_fail (so bytes) h)
+known_tried : {T Y : Type 0} (X : Type 0) (known : Option (List ℕ)) (shown : T → Y) (answer : List ℕ → Result Y ParseError) (whole : List ℕ → Result (List ℕ) ParseError) (old : Option (List ℕ)) (before now : ℕ) (can_fail : Bool) (e : ParseError)
+    → IfSome known (λ bytes. IsAnswer shown (answer bytes) can_fail before now (Err e)) → ((bytes : List ℕ) → IsErr (answer bytes) → IsErr (whole bytes))
+    → IfSome known (λ bytes. TriedOne {X = X} (whole bytes) old old can_fail before now (Err e))
+known_tried X None shown answer whole old before now can_fail e h so = tt
+known_tried X (Some bytes) shown answer whole old before now can_fail e h so = (refl, refused_by (kind e) (IsErr (answer bytes)) (IsErr (whole bytes)) before now can_fail (so bytes) h)
 
-told_accepted : {E Y : Type 0} (T U : Type 0) (told : Option (List ℕ)) (old : Seen E) (ranges : List (ℕ × ℕ)) (hand : List ℕ → Type 0) (answer : List ℕ → Result Y ParseError) (e : ParseError)
-    → IfSome told (λ bytes. IsOk (answer bytes) → AreCached old ranges → IsOk {T = T} (Err e)) → ((bytes : List ℕ) → hand bytes → AreCached old ranges × IsOk (answer bytes)) → IfSome told (λ bytes. hand bytes → IsOk {T = U} (Err e))
-told_accepted T U None old ranges hand answer e h at_hand = tt
-told_accepted T U (Some bytes) old ranges hand answer e h at_hand = λ ready. let p = at_hand bytes ready in h p.1 p.0
+known_accepted : {E Y : Type 0} (T U : Type 0) (known : Option (List ℕ)) (old : Seen E) (ranges : List (ℕ × ℕ)) (hand : List ℕ → Type 0) (answer : List ℕ → Result Y ParseError) (e : ParseError)
+    → IfSome known (λ bytes. IsOk (answer bytes) → AreCached old ranges → IsOk {T = T} (Err e)) → ((bytes : List ℕ) → hand bytes → AreCached old ranges × IsOk (answer bytes)) → IfSome known (λ bytes. hand bytes → IsOk {T = U} (Err e))
+known_accepted T U None old ranges hand answer e h at_hand = tt
+known_accepted T U (Some bytes) old ranges hand answer e h at_hand = λ ready. let p = at_hand bytes ready in h p.1 p.0
 
 -- what a call leaves behind another one, whose ranges may have been loaded before
 pub record LeavesBehind {E T Y : Type 0} (requested : List (ℕ × ℕ)) (shown : T → Y) (answer : List ℕ → Result Y ParseError) (old new : Seen E) (r : Result T ParseError) : Type 0 where
@@ -116,8 +116,8 @@ module _ {E : Type 0} (little : E → Bool) (call : Question) (old new : Seen E)
       let refused : LeavesBehind requested shown answer old new (Err e) = subst (λ w. LeavesBehind requested shown answer old new w) is leaves in
       record {
         keeps = refused.keeps;
-        tried = told_tried X old.content shown answer (λ bytes. stream_answer little old bytes call) before old.failures new.failures old.can_fail e refused.answers so;
-        accepted = told_accepted T (Result (Unit {0}) X) old.content old requested (λ bytes. IsAtHand little old bytes call) answer e refused.accepted
+        tried = known_tried X old.content shown answer (λ bytes. stream_answer little old bytes call) before old.failures new.failures old.can_fail e refused.answers so;
+        accepted = known_accepted T (Result (Unit {0}) X) old.content old requested (λ bytes. IsAtHand little old bytes call) answer e refused.accepted
             (λ bytes ready. (cached ready.1, ok_below (answer bytes) (stream_answer little old bytes call) (so bytes) ready.2));
         loaded = tt;
       }
@@ -154,29 +154,29 @@ ran_written answer old new before now can_fail (Err x) (Ok y) same h is = absurd
 ran_written answer old new before now can_fail (Err x) (Err (stop.Fault e)) same h is = absurd is
 ran_written answer old new before now can_fail (Err x) (Err (stop.Write e)) same h is = same
 
-told_written : {T Y X : Type 0} (told : Option (List ℕ)) (shown : T → Y) (answer : List ℕ → Result Y ParseError) (x : T) (whole : List ℕ → Result (List ℕ) ParseError) (written : List ℕ) (old new : Option (List ℕ)) (before now : ℕ) (can_fail : Bool) (w : Result (Unit {0}) X)
-    → IfSome told (λ bytes. answer bytes ≡ Ok (shown x) → whole bytes ≡ Ok written) → IfSome told (λ bytes. IsAnswer shown (answer bytes) can_fail before now (Ok x)) → OnOk w (Appends old new written) → IfSome told (λ bytes. TriedOne (whole bytes) old new can_fail before now (Ok w))
-told_written None shown answer x whole written old new before now can_fail w text h wrote = tt
-told_written (Some bytes) shown answer x whole written old new before now can_fail w text h wrote = (h.0, subst (λ a. OnOk w (Appends old new (or_refused a))) (sym (text h.1)) wrote)
+known_written : {T Y X : Type 0} (known : Option (List ℕ)) (shown : T → Y) (answer : List ℕ → Result Y ParseError) (x : T) (whole : List ℕ → Result (List ℕ) ParseError) (written : List ℕ) (old new : Option (List ℕ)) (before now : ℕ) (can_fail : Bool) (w : Result (Unit {0}) X)
+    → IfSome known (λ bytes. answer bytes ≡ Ok (shown x) → whole bytes ≡ Ok written) → IfSome known (λ bytes. IsAnswer shown (answer bytes) can_fail before now (Ok x)) → OnOk w (Appends old new written) → IfSome known (λ bytes. TriedOne (whole bytes) old new can_fail before now (Ok w))
+known_written None shown answer x whole written old new before now can_fail w text h wrote = tt
+known_written (Some bytes) shown answer x whole written old new before now can_fail w text h wrote = (h.0, subst (λ a. OnOk w (Appends old new (or_refused a))) (sym (text h.1)) wrote)
 
-told_same : {T Y : Type 0} (told : Option (List ℕ)) (shown : T → Y) (answer : List ℕ → Result Y ParseError) (x : T) (before now : ℕ) (can_fail : Bool) → IfSome told (λ bytes. IsAnswer shown (answer bytes) can_fail before now (Ok x)) → IfSome told (λ _. now ≡ before)
-told_same None shown answer x before now can_fail h = tt
-told_same (Some bytes) shown answer x before now can_fail h = h.0
+known_same : {T Y : Type 0} (known : Option (List ℕ)) (shown : T → Y) (answer : List ℕ → Result Y ParseError) (x : T) (before now : ℕ) (can_fail : Bool) → IfSome known (λ bytes. IsAnswer shown (answer bytes) can_fail before now (Ok x)) → IfSome known (λ _. now ≡ before)
+known_same None shown answer x before now can_fail h = tt
+known_same (Some bytes) shown answer x before now can_fail h = h.0
 
-told_answer : {T Y : Type 0} (told : Option (List ℕ)) (shown : T → Y) (answer : List ℕ → Result Y ParseError) (x : T) (before now : ℕ) (can_fail : Bool) → IfSome told (λ bytes. IsAnswer shown (answer bytes) can_fail before now (Ok x)) → IfSome told (λ bytes. answer bytes ≡ Ok (shown x))
-told_answer None shown answer x before now can_fail h = tt
-told_answer (Some bytes) shown answer x before now can_fail h = h.1
+known_answer : {T Y : Type 0} (known : Option (List ℕ)) (shown : T → Y) (answer : List ℕ → Result Y ParseError) (x : T) (before now : ℕ) (can_fail : Bool) → IfSome known (λ bytes. IsAnswer shown (answer bytes) can_fail before now (Ok x)) → IfSome known (λ bytes. answer bytes ≡ Ok (shown x))
+known_answer None shown answer x before now can_fail h = tt
+known_answer (Some bytes) shown answer x before now can_fail h = h.1
 
 pub gives_of : {E T Y : Type 0} (old new : Seen E) (requested : List (ℕ × ℕ)) (shown : T → Y) (answer : List ℕ → Result Y ParseError) (r : Result T ParseError) → Leaves requested shown answer old new r → Gives requested shown answer old new r
 gives_of old new requested shown answer r h = record { keeps = h.keeps; loaded = h.loaded; answers = h.answers }
 
 pub gives_same : {E T Y : Type 0} (old new : Seen E) (requested : List (ℕ × ℕ)) (shown : T → Y) (answer : List ℕ → Result Y ParseError) (whole : Result T ParseError) (x : T) → whole ≡ Ok x → Gives requested shown answer old new whole → IfSome old.content (λ _. new.failures ≡ old.failures)
-gives_same old new requested shown answer whole x is h = told_same old.content shown answer x old.failures new.failures old.can_fail (subst (λ w. IfSome old.content (λ bytes. IsAnswer shown (answer bytes) old.can_fail old.failures new.failures w)) is h.answers)
+gives_same old new requested shown answer whole x is h = known_same old.content shown answer x old.failures new.failures old.can_fail (subst (λ w. IfSome old.content (λ bytes. IsAnswer shown (answer bytes) old.can_fail old.failures new.failures w)) is h.answers)
 
 pub gives_answer : {E T Y : Type 0} (old new : Seen E) (requested : List (ℕ × ℕ)) (shown : T → Y) (answer : List ℕ → Result Y ParseError) (whole : Result T ParseError) (x : T) → whole ≡ Ok x → Gives requested shown answer old new whole → IfSome old.content (λ bytes. answer bytes ≡ Ok (shown x))
-gives_answer old new requested shown answer whole x is h = told_answer old.content shown answer x old.failures new.failures old.can_fail (subst (λ w. IfSome old.content (λ bytes. IsAnswer shown (answer bytes) old.can_fail old.failures new.failures w)) is h.answers)
+gives_answer old new requested shown answer whole x is h = known_answer old.content shown answer x old.failures new.failures old.can_fail (subst (λ w. IfSome old.content (λ bytes. IsAnswer shown (answer bytes) old.can_fail old.failures new.failures w)) is h.answers)
 
-always_ok : {T : Type 0} (told : Option (List ℕ)) (hand : List ℕ → Type 0) (x : T) → IfSome told (λ bytes. hand bytes → IsOk {E = ParseError} (Ok x))
+always_ok : {T : Type 0} (known : Option (List ℕ)) (hand : List ℕ → Type 0) (x : T) → IfSome known (λ bytes. hand bytes → IsOk {E = ParseError} (Ok x))
 always_ok None hand x = tt
 always_ok (Some bytes) hand x = λ _. refl
 
@@ -188,12 +188,12 @@ module _ {E : Type 0} (little : E → Bool) (call : Question) (old new : Seen E)
       let answers = subst (λ w. IfSome old.content (λ bytes. IsAnswer shown (answer bytes) old.can_fail old.failures new.failures w)) is gives.answers in
       record {
         keeps = gives.keeps;
-        tried = told_written old.content shown answer x (λ bytes. stream_answer little old bytes call) written before after old.failures new.failures old.can_fail w text answers wrote;
+        tried = known_written old.content shown answer x (λ bytes. stream_answer little old bytes call) written before after old.failures new.failures old.can_fail w text answers wrote;
         accepted = always_ok old.content (λ bytes. IsAtHand little old bytes call) w;
         loaded = subst (λ w. OnOk w (AreCached new (call_ranges little old call))) is gives.loaded;
       }
 
-  never_at_hand : {T : Type 0} (told : Option (List ℕ)) (hand : List ℕ → Type 0) (r : Result T ParseError) → ((bytes : List ℕ) → hand bytes → ⊥) → IfSome told (λ bytes. hand bytes → IsOk r)
+  never_at_hand : {T : Type 0} (known : Option (List ℕ)) (hand : List ℕ → Type 0) (r : Result T ParseError) → ((bytes : List ℕ) → hand bytes → ⊥) → IfSome known (λ bytes. hand bytes → IsOk r)
   never_at_hand None hand r h = tt
   never_at_hand (Some bytes) hand r h = λ ready. absurd (h bytes ready)
 
@@ -205,30 +205,30 @@ module _ {E : Type 0} (little : E → Bool) (call : Question) (old new : Seen E)
       let answers = subst (λ w. IfSome old.content (λ bytes. IsAnswer shown (answer bytes) old.can_fail old.failures new.failures w)) is gives.answers in
       record {
         keeps = gives.keeps;
-        tried = told_tried X old.content shown answer (λ bytes. stream_answer little old bytes call) before old.failures new.failures old.can_fail e answers so;
+        tried = known_tried X old.content shown answer (λ bytes. stream_answer little old bytes call) before old.failures new.failures old.can_fail e answers so;
         accepted = never_at_hand {T = Result (Unit {0}) X} old.content (λ bytes. IsAtHand little old bytes call) (Err e) hand;
         loaded = tt;
       }
 
 -- ---- a call that was tried, as a run returns it
 
-ran_tried : {X : Type 0} (told : Option (List ℕ)) (answer : List ℕ → Result (List ℕ) ParseError) (old new : Option (List ℕ)) (before now : ℕ) (can_fail : Bool) (w : Result (Unit {0}) X) (r : Result (Unit {0}) Stop)
-    → IfSome told (λ bytes. TriedOne (answer bytes) old new can_fail before now (Ok w)) → IsWritten w r → IfSome told (λ bytes. RanOne (answer bytes) old new can_fail before now r)
+ran_tried : {X : Type 0} (known : Option (List ℕ)) (answer : List ℕ → Result (List ℕ) ParseError) (old new : Option (List ℕ)) (before now : ℕ) (can_fail : Bool) (w : Result (Unit {0}) X) (r : Result (Unit {0}) Stop)
+    → IfSome known (λ bytes. TriedOne (answer bytes) old new can_fail before now (Ok w)) → IsWritten w r → IfSome known (λ bytes. RanOne (answer bytes) old new can_fail before now r)
 ran_tried None answer old new before now can_fail w r h is = tt
 ran_tried (Some bytes) answer old new before now can_fail w r h is = ran_written (answer bytes) old new before now can_fail w r h.0 h.1 is
 
-told_faultless : (told : Option (List ℕ)) (hand : List ℕ → Type 0) (r : Result (Unit {0}) Stop) → IsFaultlessCall r → IfSome told (λ bytes. hand bytes → IsFaultlessCall r)
-told_faultless None hand r h = tt
-told_faultless (Some bytes) hand r h = λ _. h
+known_faultless : (known : Option (List ℕ)) (hand : List ℕ → Type 0) (r : Result (Unit {0}) Stop) → IsFaultlessCall r → IfSome known (λ bytes. hand bytes → IsFaultlessCall r)
+known_faultless None hand r h = tt
+known_faultless (Some bytes) hand r h = λ _. h
 
-refused_ran : (X : Type 0) (told : Option (List ℕ)) (answer : List ℕ → Result (List ℕ) ParseError) (old middle new : Option (List ℕ)) (before now : ℕ) (can_fail : Bool) (e : ParseError) (r : Result (Unit {0}) Stop)
-    → IfSome told (λ bytes. TriedOne {X = X} (answer bytes) old middle can_fail before now (Err e)) → LeadsTo (kind e) middle new r → IfSome told (λ bytes. RanOne (answer bytes) old new can_fail before now r)
+refused_ran : (X : Type 0) (known : Option (List ℕ)) (answer : List ℕ → Result (List ℕ) ParseError) (old middle new : Option (List ℕ)) (before now : ℕ) (can_fail : Bool) (e : ParseError) (r : Result (Unit {0}) Stop)
+    → IfSome known (λ bytes. TriedOne {X = X} (answer bytes) old middle can_fail before now (Err e)) → LeadsTo (kind e) middle new r → IfSome known (λ bytes. RanOne (answer bytes) old new can_fail before now r)
 refused_ran X None answer old middle new before now can_fail e r h leads = tt
 refused_ran X (Some bytes) answer old middle new before now can_fail e r h leads =
     ran_by (kind e) (answer bytes) old new before now can_fail r h.1 (subst (λ o. LeadsTo (kind e) o new r) h.0 leads)
 
-refused_faultless : (T : Type 0) (told : Option (List ℕ)) (hand : List ℕ → Type 0) (e : ParseError) (r : Result (Unit {0}) Stop)
-    → IfSome told (λ bytes. hand bytes → IsOk {T = T} (Err e)) → IfSome told (λ bytes. hand bytes → IsFaultlessCall r)
+refused_faultless : (T : Type 0) (known : Option (List ℕ)) (hand : List ℕ → Type 0) (e : ParseError) (r : Result (Unit {0}) Stop)
+    → IfSome known (λ bytes. hand bytes → IsOk {T = T} (Err e)) → IfSome known (λ bytes. hand bytes → IsFaultlessCall r)
 refused_faultless T None hand e r h = tt
 refused_faultless T (Some bytes) hand e r h = λ ready. absurd (not_refused T e (h ready))
 
@@ -236,26 +236,26 @@ refused_faultless T (Some bytes) hand e r h = λ ready. absurd (not_refused T e 
 loaded_there : {E : Type 0} (little : E → Bool) (call : Question) (old new : Seen E) → Keeps old new → AreCached new (call_ranges little old call) → AreCached new (call_ranges little new call)
 loaded_there little call old new keeps cached = subst (λ file. AreCached new (ranges_of file call)) (sym (same_file little old new [] keeps)) cached
 
-loaded_told : (told : Option (List ℕ)) (answered : List ℕ → Type 0) (cached : Type 0) (r : Result (Unit {0}) Stop) → cached → OnOk r (IfSome told (λ bytes. answered bytes → cached))
-loaded_told None answered cached (Ok x) h = tt
-loaded_told (Some bytes) answered cached (Ok x) h = λ _. h
-loaded_told told answered cached (Err e) h = tt
+loaded_known : (known : Option (List ℕ)) (answered : List ℕ → Type 0) (cached : Type 0) (r : Result (Unit {0}) Stop) → cached → OnOk r (IfSome known (λ bytes. answered bytes → cached))
+loaded_known None answered cached (Ok x) h = tt
+loaded_known (Some bytes) answered cached (Ok x) h = λ _. h
+loaded_known known answered cached (Err e) h = tt
 
 -- a call that the content has no answer for
-loaded_never : (told : Option (List ℕ)) (answer : List ℕ → Result (List ℕ) ParseError) (there : List ℕ → Type 0) (cached : Type 0) (before now : ℕ) (can_fail : Bool)
-    → IfSome told (λ bytes. IsRefused before now can_fail (IsErr (answer bytes)) Kind.Refusal) → ((bytes : List ℕ) → there bytes → IsOk (answer bytes)) → IfSome told (λ bytes. there bytes → cached)
+loaded_never : (known : Option (List ℕ)) (answer : List ℕ → Result (List ℕ) ParseError) (there : List ℕ → Type 0) (cached : Type 0) (before now : ℕ) (can_fail : Bool)
+    → IfSome known (λ bytes. IsRefused before now can_fail (IsErr (answer bytes)) Kind.Refusal) → ((bytes : List ℕ) → there bytes → IsOk (answer bytes)) → IfSome known (λ bytes. there bytes → cached)
 loaded_never None answer there cached before now can_fail h so = tt
 loaded_never (Some bytes) answer there cached before now can_fail h so = λ ready. absurd (ok_or_err (answer bytes) (so bytes ready) h.1)
 
-loaded_by : (told : Option (List ℕ)) (k : Kind) (answer : List ℕ → Result (List ℕ) ParseError) (there : List ℕ → Type 0) (cached : Type 0) (before after : Option (List ℕ)) (failures now : ℕ) (can_fail : Bool) (r : Result (Unit {0}) Stop)
-    → LeadsTo k before after r → IfSome told (λ bytes. IsRefused failures now can_fail (IsErr (answer bytes)) k) → ((bytes : List ℕ) → there bytes → IsOk (answer bytes)) → OnOk r (IfSome told (λ bytes. there bytes → cached))
-loaded_by told Kind.SourceFailure answer there cached before after failures now can_fail (Ok x) leads h so = absurd leads.1
-loaded_by told Kind.AllocationFailure answer there cached before after failures now can_fail (Ok x) leads h so = absurd leads.1
-loaded_by told Kind.Refusal answer there cached before after failures now can_fail (Ok x) leads h so = loaded_never told answer there cached failures now can_fail h so
-loaded_by told k answer there cached before after failures now can_fail (Err e) leads h so = tt
+loaded_by : (known : Option (List ℕ)) (k : Kind) (answer : List ℕ → Result (List ℕ) ParseError) (there : List ℕ → Type 0) (cached : Type 0) (before after : Option (List ℕ)) (failures now : ℕ) (can_fail : Bool) (r : Result (Unit {0}) Stop)
+    → LeadsTo k before after r → IfSome known (λ bytes. IsRefused failures now can_fail (IsErr (answer bytes)) k) → ((bytes : List ℕ) → there bytes → IsOk (answer bytes)) → OnOk r (IfSome known (λ bytes. there bytes → cached))
+loaded_by known Kind.SourceFailure answer there cached before after failures now can_fail (Ok x) leads h so = absurd leads.1
+loaded_by known Kind.AllocationFailure answer there cached before after failures now can_fail (Ok x) leads h so = absurd leads.1
+loaded_by known Kind.Refusal answer there cached before after failures now can_fail (Ok x) leads h so = loaded_never known answer there cached failures now can_fail h so
+loaded_by known k answer there cached before after failures now can_fail (Err e) leads h so = tt
 
-tried_refusal : (X : Type 0) (told : Option (List ℕ)) (answer : List ℕ → Result (List ℕ) ParseError) (old new : Option (List ℕ)) (before now : ℕ) (can_fail : Bool) (e : ParseError)
-    → IfSome told (λ bytes. TriedOne {X = X} (answer bytes) old new can_fail before now (Err e)) → IfSome told (λ bytes. IsRefused before now can_fail (IsErr (answer bytes)) (kind e))
+tried_refusal : (X : Type 0) (known : Option (List ℕ)) (answer : List ℕ → Result (List ℕ) ParseError) (old new : Option (List ℕ)) (before now : ℕ) (can_fail : Bool) (e : ParseError)
+    → IfSome known (λ bytes. TriedOne {X = X} (answer bytes) old new can_fail before now (Err e)) → IfSome known (λ bytes. IsRefused before now can_fail (IsErr (answer bytes)) (kind e))
 tried_refusal X None answer old new before now can_fail e h = tt
 tried_refusal X (Some bytes) answer old new before now can_fail e h = h.1
 
@@ -272,13 +272,13 @@ module _ {E : Type 0} (little : E → Bool) (call : Question) (old new : Seen E)
 
   pub tried_written : {X : Type 0} (before after : Option (List ℕ)) (whole : Result (Result (Unit {0}) X) ParseError) (w : Result (Unit {0}) X) (r : Result (Unit {0}) Stop)
       → TriedCall little call old new before after whole → whole ≡ Ok w → IsWritten w r → RanCall little call old new before after r
-  tried_written before after whole w r tried is told_so =
+  tried_written before after whole w r tried is known_so =
       let here : TriedCall little call old new before after (Ok w) = subst (λ o. TriedCall little call old new before after o) is tried in
       record {
         keeps = here.keeps;
-        ran = ran_tried old.content answer before after old.failures new.failures old.can_fail w r here.tried told_so;
-        no_fault = told_faultless old.content (λ bytes. IsAtHand little old bytes call) r (faultless w r told_so);
-        loaded = loaded_told old.content later (AreCached new (call_ranges little new call)) r (loaded_there little call old new here.keeps here.loaded);
+        ran = ran_tried old.content answer before after old.failures new.failures old.can_fail w r here.tried known_so;
+        no_fault = known_faultless old.content (λ bytes. IsAtHand little old bytes call) r (faultless w r known_so);
+        loaded = loaded_known old.content later (AreCached new (call_ranges little new call)) r (loaded_there little call old new here.keeps here.loaded);
       }
 
   pub tried_refused : {X : Type 0} (before middle after : Option (List ℕ)) (whole : Result (Result (Unit {0}) X) ParseError) (e : ParseError) (r : Result (Unit {0}) Stop)
@@ -295,8 +295,8 @@ module _ {E : Type 0} (little : E → Bool) (call : Question) (old new : Seen E)
 
 -- ---- one call of a stream behind another
 
-later_answers : {E T Y : Type 0} (little : E → Bool) (old middle new : Seen E) (shown : T → Y) (answer : ObjectFile → Result Y ParseError) (r : Result T ParseError) (told : Option (List ℕ)) → Keeps old middle → IfSome told (λ _. middle.failures ≡ old.failures)
-    → IfSome told (λ bytes. IsAnswer shown (answer (stream_file little middle bytes)) middle.can_fail middle.failures new.failures r) → IfSome told (λ bytes. IsAnswer shown (answer (stream_file little old bytes)) old.can_fail old.failures new.failures r)
+later_answers : {E T Y : Type 0} (little : E → Bool) (old middle new : Seen E) (shown : T → Y) (answer : ObjectFile → Result Y ParseError) (r : Result T ParseError) (known : Option (List ℕ)) → Keeps old middle → IfSome known (λ _. middle.failures ≡ old.failures)
+    → IfSome known (λ bytes. IsAnswer shown (answer (stream_file little middle bytes)) middle.can_fail middle.failures new.failures r) → IfSome known (λ bytes. IsAnswer shown (answer (stream_file little old bytes)) old.can_fail old.failures new.failures r)
 later_answers little old middle new shown answer r None keeps same h = tt
 later_answers little old middle new shown answer r (Some bytes) keeps same h =
     subst (λ file. IsAnswer shown (answer file) old.can_fail old.failures new.failures r) (same_file little old middle bytes keeps)
@@ -309,11 +309,11 @@ gives_later little old middle new requested shown answer r keeps same h = record
   keeps = keeps_then old middle new keeps h.keeps;
   loaded = subst (λ file. OnOk r (AreCached new (requested file))) (same_file little old middle [] keeps) h.loaded;
   answers = later_answers little old middle new shown answer r old.content keeps same
-      (subst (λ told. IfSome told (λ bytes. IsAnswer shown (answer (stream_file little middle bytes)) middle.can_fail middle.failures new.failures r)) keeps.content h.answers);
+      (subst (λ known. IfSome known (λ bytes. IsAnswer shown (answer (stream_file little middle bytes)) middle.can_fail middle.failures new.failures r)) keeps.content h.answers);
 }
 
-later_accepted : {E T Y : Type 0} (little : E → Bool) (old middle : Seen E) (requested : ObjectFile → List (ℕ × ℕ)) (answer : ObjectFile → Result Y ParseError) (r : Result T ParseError) (told : Option (List ℕ)) → Keeps old middle
-    → IfSome told (λ bytes. IsOk (answer (stream_file little middle bytes)) → AreCached middle (requested (headers_alone little middle)) → IsOk r) → IfSome told (λ bytes. IsOk (answer (stream_file little old bytes)) → AreCached old (requested (headers_alone little old)) → IsOk r)
+later_accepted : {E T Y : Type 0} (little : E → Bool) (old middle : Seen E) (requested : ObjectFile → List (ℕ × ℕ)) (answer : ObjectFile → Result Y ParseError) (r : Result T ParseError) (known : Option (List ℕ)) → Keeps old middle
+    → IfSome known (λ bytes. IsOk (answer (stream_file little middle bytes)) → AreCached middle (requested (headers_alone little middle)) → IsOk r) → IfSome known (λ bytes. IsOk (answer (stream_file little old bytes)) → AreCached old (requested (headers_alone little old)) → IsOk r)
 later_accepted little old middle requested answer r None keeps h = tt
 later_accepted little old middle requested answer r (Some bytes) keeps h = λ ok cached.
     h (subst (λ file. IsOk (answer file)) (sym (same_file little old middle bytes keeps)) ok)
@@ -328,7 +328,7 @@ leaves_later {E} {T} {Y} little old middle new requested shown answer r keeps sa
       loaded = given.loaded;
       answers = given.answers;
       accepted = later_accepted little old middle requested answer r old.content keeps
-          (subst (λ told. IfSome told (λ bytes. IsOk (answer (stream_file little middle bytes)) → AreCached middle (requested (headers_alone little middle)) → IsOk r)) keeps.content h.accepted);
+          (subst (λ known. IfSome known (λ bytes. IsOk (answer (stream_file little middle bytes)) → AreCached middle (requested (headers_alone little middle)) → IsOk r)) keeps.content h.accepted);
     }
 
 -- an error is one of what is made of the answer, too
@@ -338,13 +338,13 @@ err_same (Ok x) (Err e) same h = cc
 err_same (Err d) (Ok y) same h = cc
 err_same (Err d) (Err e) same h = refl
 
-made_answers : {T Y U Z : Type 0} (told : Option (List ℕ)) (shown : T → Y) (answer : List ℕ → Result Y ParseError) (shows : U → Z) (made : List ℕ → Result Z ParseError) (before now : ℕ) (can_fail : Bool) (e : ParseError) → ((bytes : List ℕ) → is_ok (made bytes) ≡ is_ok (answer bytes))
-    → IfSome told (λ bytes. IsAnswer shown (answer bytes) can_fail before now (Err e)) → IfSome told (λ bytes. IsAnswer shows (made bytes) can_fail before now (Err e))
+made_answers : {T Y U Z : Type 0} (known : Option (List ℕ)) (shown : T → Y) (answer : List ℕ → Result Y ParseError) (shows : U → Z) (made : List ℕ → Result Z ParseError) (before now : ℕ) (can_fail : Bool) (e : ParseError) → ((bytes : List ℕ) → is_ok (made bytes) ≡ is_ok (answer bytes))
+    → IfSome known (λ bytes. IsAnswer shown (answer bytes) can_fail before now (Err e)) → IfSome known (λ bytes. IsAnswer shows (made bytes) can_fail before now (Err e))
 made_answers None shown answer shows made before now can_fail e same h = tt
 made_answers (Some bytes) shown answer shows made before now can_fail e same h = refused_by (kind e) (IsErr (answer bytes)) (IsErr (made bytes)) before now can_fail (err_same (made bytes) (answer bytes) (same bytes)) h
 
-made_accepted : {E Y Z : Type 0} (T U : Type 0) (told : Option (List ℕ)) (old : Seen E) (requested : List (ℕ × ℕ)) (answer : List ℕ → Result Y ParseError) (made : List ℕ → Result Z ParseError) (e : ParseError) → ((bytes : List ℕ) → is_ok (made bytes) ≡ is_ok (answer bytes))
-    → IfSome told (λ bytes. IsOk (answer bytes) → AreCached old requested → IsOk {T = T} (Err e)) → IfSome told (λ bytes. IsOk (made bytes) → AreCached old requested → IsOk {T = U} (Err e))
+made_accepted : {E Y Z : Type 0} (T U : Type 0) (known : Option (List ℕ)) (old : Seen E) (requested : List (ℕ × ℕ)) (answer : List ℕ → Result Y ParseError) (made : List ℕ → Result Z ParseError) (e : ParseError) → ((bytes : List ℕ) → is_ok (made bytes) ≡ is_ok (answer bytes))
+    → IfSome known (λ bytes. IsOk (answer bytes) → AreCached old requested → IsOk {T = T} (Err e)) → IfSome known (λ bytes. IsOk (made bytes) → AreCached old requested → IsOk {T = U} (Err e))
 made_accepted T U None old requested answer made e same h = tt
 made_accepted T U (Some bytes) old requested answer made e same h = λ ok cached. h (sym (same bytes) ∙ ok) cached
 
@@ -381,13 +381,13 @@ first_refused (Ok x) f h = cc
 first_refused (Err e) f h = refl
 
 -- the text of two answers
-pub both_told : {A B : Type 0} (count : A → ℕ) (line : ℕ → B → List ℕ) (a : Result A ParseError) (b : Result B ParseError) (n : ℕ) (y : B) → ok_map count a ≡ Ok n → b ≡ Ok y → (a >>= λ x. ok_map (line (count x)) b) ≡ Ok (line n y)
-both_told count line (Ok x) b n y counted is = let same : count x ≡ n = cc counted in rw is (ap (λ m. Ok (line m y)) same)
-both_told count line (Err e) b n y counted is = cc counted
+pub both_known : {A B : Type 0} (count : A → ℕ) (line : ℕ → B → List ℕ) (a : Result A ParseError) (b : Result B ParseError) (n : ℕ) (y : B) → ok_map count a ≡ Ok n → b ≡ Ok y → (a >>= λ x. ok_map (line (count x)) b) ≡ Ok (line n y)
+both_known count line (Ok x) b n y counted is = let same : count x ≡ n = cc counted in rw is (ap (λ m. Ok (line m y)) same)
+both_known count line (Err e) b n y counted is = cc counted
 
 -- ---- of a section, and of a segment, that is there
 
-everywhere : (told : Option (List ℕ)) (P : List ℕ → Type 0) → ((bytes : List ℕ) → P bytes) → IfSome told P
+everywhere : (known : Option (List ℕ)) (P : List ℕ → Type 0) → ((bytes : List ℕ) → P bytes) → IfSome known P
 everywhere None P h = tt
 everywhere (Some bytes) P h = h bytes
 
@@ -445,19 +445,19 @@ loaded_later little old new bytes call keeps loaded = λ ready.
     loaded_there little call old new keeps (still_cached old new (call_ranges little old call) keeps cached)
 
 -- the calls so far are loaded, and then one more is
-all_loaded : {E : Type 0} (little : E → Bool) (middle new : Seen E) (told : Option (List ℕ)) (calls : List Call) (i : ℕ) (d : Call) → Keeps middle new → i < length calls
-    → IfSome told (λ bytes. All (λ call. IsLoaded little middle bytes (question call)) (take i calls)) → IfSome told (λ bytes. IsLoaded little new bytes (question (get_or calls i d)))
-    → IfSome told (λ bytes. All (λ call. IsLoaded little new bytes (question call)) (take (i + 1) calls))
+all_loaded : {E : Type 0} (little : E → Bool) (middle new : Seen E) (known : Option (List ℕ)) (calls : List Call) (i : ℕ) (d : Call) → Keeps middle new → i < length calls
+    → IfSome known (λ bytes. All (λ call. IsLoaded little middle bytes (question call)) (take i calls)) → IfSome known (λ bytes. IsLoaded little new bytes (question (get_or calls i d)))
+    → IfSome known (λ bytes. All (λ call. IsLoaded little new bytes (question call)) (take (i + 1) calls))
 all_loaded little middle new None calls i d keeps within all one = tt
 all_loaded little middle new (Some bytes) calls i d keeps within all one =
     let later = All-weaker (λ call. IsLoaded little middle bytes (question call)) (λ call. IsLoaded little new bytes (question call)) (λ call. loaded_later little middle new bytes (question call) keeps) (take i calls) all in
     All-more (λ call. IsLoaded little new bytes (question call)) calls i d within later one
 
-pub more_loaded : {E : Type 0} (little : E → Bool) (middle new : Seen E) (told : Option (List ℕ)) (calls : List Call) (i : ℕ) (d : Call) (r : Result (Unit {0}) Stop) (x : Unit {0}) → Keeps middle new → i < length calls → r ≡ Ok x
-    → IfSome told (λ bytes. All (λ call. IsLoaded little middle bytes (question call)) (take i calls)) → OnOk r (IfSome told (λ bytes. IsLoaded little new bytes (question (get_or calls i d))))
-    → IfSome told (λ bytes. All (λ call. IsLoaded little new bytes (question call)) (take (i + 1) calls))
-more_loaded little middle new told calls i d r x keeps within is all one =
-    all_loaded little middle new told calls i d keeps within all (subst (λ w. OnOk w (IfSome told (λ bytes. IsLoaded little new bytes (question (get_or calls i d))))) is one)
+pub more_loaded : {E : Type 0} (little : E → Bool) (middle new : Seen E) (known : Option (List ℕ)) (calls : List Call) (i : ℕ) (d : Call) (r : Result (Unit {0}) Stop) (x : Unit {0}) → Keeps middle new → i < length calls → r ≡ Ok x
+    → IfSome known (λ bytes. All (λ call. IsLoaded little middle bytes (question call)) (take i calls)) → OnOk r (IfSome known (λ bytes. IsLoaded little new bytes (question (get_or calls i d))))
+    → IfSome known (λ bytes. All (λ call. IsLoaded little new bytes (question call)) (take (i + 1) calls))
+more_loaded little middle new known calls i d r x keeps within is all one =
+    all_loaded little middle new known calls i d keeps within all (subst (λ w. OnOk w (IfSome known (λ bytes. IsLoaded little new bytes (question (get_or calls i d))))) is one)
 
 -- the text of the calls so far was written, and then that of one more
 text_more : {E : Type 0} (header : FileHeader E) (file : ObjectFile) (calls : List Call) (call : Call) → text header file (map question (calls ++ call ∷ [])) ≡ text header file (map question calls) ++ call_text header file (question call)
@@ -471,12 +471,12 @@ kept_appends (Some xs) None w bytes h kept = absurd h
 kept_appends (Some xs) (Some ys) None bytes h kept = kept
 kept_appends (Some xs) (Some ys) (Some zs) bytes h kept = kept ∙ h
 
-told_more : {E : Type 0} (little : E → Bool) (old middle : Seen E) (told : Option (List ℕ)) (calls : List Call) (i : ℕ) (d : Call) (now : ℕ) (u v w z : Option (List ℕ)) (x : Unit {0}) → Keeps old middle → i < length calls → KeepsBytes w z
-    → IfSome told (λ bytes. Appends u v (text old.headers.ehdr (stream_file little old bytes) (map question (take i calls))) × (middle.failures ≡ old.failures))
-    → IfSome told (λ bytes. RanOne (stream_answer little middle bytes (question (get_or calls i d))) v w middle.can_fail middle.failures now (Ok x))
-    → IfSome told (λ bytes. Appends u z (text old.headers.ehdr (stream_file little old bytes) (map question (take (i + 1) calls))) × (now ≡ old.failures))
-told_more little old middle None calls i d now u v w z x keeps within kept all one = tt
-told_more little old middle (Some bytes) calls i d now u v w z x keeps within kept all one =
+known_more : {E : Type 0} (little : E → Bool) (old middle : Seen E) (known : Option (List ℕ)) (calls : List Call) (i : ℕ) (d : Call) (now : ℕ) (u v w z : Option (List ℕ)) (x : Unit {0}) → Keeps old middle → i < length calls → KeepsBytes w z
+    → IfSome known (λ bytes. Appends u v (text old.headers.ehdr (stream_file little old bytes) (map question (take i calls))) × (middle.failures ≡ old.failures))
+    → IfSome known (λ bytes. RanOne (stream_answer little middle bytes (question (get_or calls i d))) v w middle.can_fail middle.failures now (Ok x))
+    → IfSome known (λ bytes. Appends u z (text old.headers.ehdr (stream_file little old bytes) (map question (take (i + 1) calls))) × (now ≡ old.failures))
+known_more little old middle None calls i d now u v w z x keeps within kept all one = tt
+known_more little old middle (Some bytes) calls i d now u v w z x keeps within kept all one =
     let front = text old.headers.ehdr (stream_file little old bytes) (map question (take i calls)) in
     let here = question (get_or calls i d) in
     let piece : Appends v w (or_refused (stream_answer little old bytes here)) = subst (λ answer. Appends v w (or_refused answer)) (same_answer little here old middle bytes keeps) one.1 in
@@ -484,17 +484,17 @@ told_more little old middle (Some bytes) calls i d now u v w z x keeps within ke
     let whole = ap (λ cs. text old.headers.ehdr (stream_file little old bytes) (map question cs)) (take_more calls i d within) ∙ text_more old.headers.ehdr (stream_file little old bytes) (take i calls) (get_or calls i d) in
     (kept_appends u w z (text old.headers.ehdr (stream_file little old bytes) (map question (take (i + 1) calls))) (subst (λ t. Appends u w t) (sym whole) both) kept, one.0 ∙ all.1)
 
-pub more_written : {E : Type 0} (little : E → Bool) (old middle : Seen E) (told : Option (List ℕ)) (calls : List Call) (i : ℕ) (d : Call) (now : ℕ) (u v w z : Option (List ℕ)) (r : Result (Unit {0}) Stop) (x : Unit {0}) → Keeps old middle → i < length calls → KeepsBytes w z → r ≡ Ok x
-    → IfSome told (λ bytes. Appends u v (text old.headers.ehdr (stream_file little old bytes) (map question (take i calls))) × (middle.failures ≡ old.failures))
-    → IfSome told (λ bytes. RanOne (stream_answer little middle bytes (question (get_or calls i d))) v w middle.can_fail middle.failures now r)
-    → IfSome told (λ bytes. Appends u z (text old.headers.ehdr (stream_file little old bytes) (map question (take (i + 1) calls))) × (now ≡ old.failures))
-more_written little old middle told calls i d now u v w z r x keeps within kept is all one =
-    told_more little old middle told calls i d now u v w z x keeps within kept all (subst (λ o. IfSome told (λ bytes. RanOne (stream_answer little middle bytes (question (get_or calls i d))) v w middle.can_fail middle.failures now o)) is one)
+pub more_written : {E : Type 0} (little : E → Bool) (old middle : Seen E) (known : Option (List ℕ)) (calls : List Call) (i : ℕ) (d : Call) (now : ℕ) (u v w z : Option (List ℕ)) (r : Result (Unit {0}) Stop) (x : Unit {0}) → Keeps old middle → i < length calls → KeepsBytes w z → r ≡ Ok x
+    → IfSome known (λ bytes. Appends u v (text old.headers.ehdr (stream_file little old bytes) (map question (take i calls))) × (middle.failures ≡ old.failures))
+    → IfSome known (λ bytes. RanOne (stream_answer little middle bytes (question (get_or calls i d))) v w middle.can_fail middle.failures now r)
+    → IfSome known (λ bytes. Appends u z (text old.headers.ehdr (stream_file little old bytes) (map question (take (i + 1) calls))) × (now ≡ old.failures))
+more_written little old middle known calls i d now u v w z r x keeps within kept is all one =
+    known_more little old middle known calls i d now u v w z x keeps within kept all (subst (λ o. IfSome known (λ bytes. RanOne (stream_answer little middle bytes (question (get_or calls i d))) v w middle.can_fail middle.failures now o)) is one)
 
-stopped_by : {E : Type 0} (little : E → Bool) (old middle : Seen E) (told : Option (List ℕ)) (calls : List Call) (i : ℕ) (d : Call) (now : ℕ) (u v w : Option (List ℕ)) (s : Stop) → Keeps old middle → i < length calls
-    → IfSome told (λ bytes. Appends u v (text old.headers.ehdr (stream_file little old bytes) (map question (take i calls))) × (middle.failures ≡ old.failures))
-    → IfSome told (λ bytes. RanOne (stream_answer little middle bytes (question (get_or calls i d))) v w middle.can_fail middle.failures now (Err s))
-    → IfSome told (λ bytes. Ran (λ calls. text old.headers.ehdr (stream_file little old bytes) (map question calls)) calls u w old.can_fail old.failures now (Err (stopped_after i s)))
+stopped_by : {E : Type 0} (little : E → Bool) (old middle : Seen E) (known : Option (List ℕ)) (calls : List Call) (i : ℕ) (d : Call) (now : ℕ) (u v w : Option (List ℕ)) (s : Stop) → Keeps old middle → i < length calls
+    → IfSome known (λ bytes. Appends u v (text old.headers.ehdr (stream_file little old bytes) (map question (take i calls))) × (middle.failures ≡ old.failures))
+    → IfSome known (λ bytes. RanOne (stream_answer little middle bytes (question (get_or calls i d))) v w middle.can_fail middle.failures now (Err s))
+    → IfSome known (λ bytes. Ran (λ calls. text old.headers.ehdr (stream_file little old bytes) (map question calls)) calls u w old.can_fail old.failures now (Err (stopped_after i s)))
 stopped_by little old middle None calls i d now u v w s keeps within all one = tt
 stopped_by little old middle (Some bytes) calls i d now u v w (stop.Fault e) keeps within all one =
     let refused = subst (λ count. IsRefused count now old.can_fail ⊥ (kind e)) all.1 (subst (λ can_fail. IsRefused middle.failures now can_fail ⊥ (kind e)) keeps.can_fail one.1) in
@@ -502,20 +502,20 @@ stopped_by little old middle (Some bytes) calls i d now u v w (stop.Fault e) kee
 stopped_by little old middle (Some bytes) calls i d now u v w (stop.Write e) keeps within all one = (within, one ∙ all.1)
 
 -- a call that stopped the run behind i others
-pub stopped : {E : Type 0} (little : E → Bool) (old middle : Seen E) (told : Option (List ℕ)) (calls : List Call) (i : ℕ) (d : Call) (now : ℕ) (u v w : Option (List ℕ)) (r : Result (Unit {0}) Stop) (s : Stop) → Keeps old middle → i < length calls → r ≡ Err s
-    → IfSome told (λ bytes. Appends u v (text old.headers.ehdr (stream_file little old bytes) (map question (take i calls))) × (middle.failures ≡ old.failures))
-    → IfSome told (λ bytes. RanOne (stream_answer little middle bytes (question (get_or calls i d))) v w middle.can_fail middle.failures now r)
-    → IfSome told (λ bytes. Ran (λ calls. text old.headers.ehdr (stream_file little old bytes) (map question calls)) calls u w old.can_fail old.failures now (Err (stopped_after i s)))
-stopped little old middle told calls i d now u v w r s keeps within is all one =
-    stopped_by little old middle told calls i d now u v w s keeps within all (subst (λ o. IfSome told (λ bytes. RanOne (stream_answer little middle bytes (question (get_or calls i d))) v w middle.can_fail middle.failures now o)) is one)
+pub stopped : {E : Type 0} (little : E → Bool) (old middle : Seen E) (known : Option (List ℕ)) (calls : List Call) (i : ℕ) (d : Call) (now : ℕ) (u v w : Option (List ℕ)) (r : Result (Unit {0}) Stop) (s : Stop) → Keeps old middle → i < length calls → r ≡ Err s
+    → IfSome known (λ bytes. Appends u v (text old.headers.ehdr (stream_file little old bytes) (map question (take i calls))) × (middle.failures ≡ old.failures))
+    → IfSome known (λ bytes. RanOne (stream_answer little middle bytes (question (get_or calls i d))) v w middle.can_fail middle.failures now r)
+    → IfSome known (λ bytes. Ran (λ calls. text old.headers.ehdr (stream_file little old bytes) (map question calls)) calls u w old.can_fail old.failures now (Err (stopped_after i s)))
+stopped little old middle known calls i d now u v w r s keeps within is all one =
+    stopped_by little old middle known calls i d now u v w s keeps within all (subst (λ o. IfSome known (λ bytes. RanOne (stream_answer little middle bytes (question (get_or calls i d))) v w middle.can_fail middle.failures now o)) is one)
 
 still_faultless : (i : ℕ) (s : Stop) → IsFaultlessCall (Err s) → IsFaultless (Err (stopped_after i s))
 still_faultless i (stop.Fault e) h = absurd h
 still_faultless i (stop.Write e) h = tt
 
 -- a call of the list that the cache answers makes no fault
-pub faulted : {E : Type 0} (little : E → Bool) (old middle : Seen E) (told : Option (List ℕ)) (calls : List Call) (i : ℕ) (d : Call) (r : Result (Unit {0}) Stop) (s : Stop) → Keeps old middle → i < length calls → r ≡ Err s
-    → IfSome told (λ bytes. IsAtHand little middle bytes (question (get_or calls i d)) → IsFaultlessCall r) → IfSome told (λ bytes. All (λ call. IsAtHand little old bytes (question call)) calls → IsFaultless (Err (stopped_after i s)))
+pub faulted : {E : Type 0} (little : E → Bool) (old middle : Seen E) (known : Option (List ℕ)) (calls : List Call) (i : ℕ) (d : Call) (r : Result (Unit {0}) Stop) (s : Stop) → Keeps old middle → i < length calls → r ≡ Err s
+    → IfSome known (λ bytes. IsAtHand little middle bytes (question (get_or calls i d)) → IsFaultlessCall r) → IfSome known (λ bytes. All (λ call. IsAtHand little old bytes (question call)) calls → IsFaultless (Err (stopped_after i s)))
 faulted little old middle None calls i d r s keeps within is h = tt
 faulted little old middle (Some bytes) calls i d r s keeps within is h = λ all.
     let here : IsAtHand little old bytes (question (get_or calls i d)) = All-get_or (λ call. IsAtHand little old bytes (question call)) calls i d within all in

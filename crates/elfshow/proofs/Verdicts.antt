@@ -14,6 +14,6 @@ not_sound : {P : Type 0} (d : Decided P) (indexed : ℕ) → ¬ P → verdict d 
 not_sound (inl sound) indexed other = absurd (other sound)
 not_sound (inr other) indexed also = refl
 
-pub told_faulty : {C : Type 0} (view : C → Object) (object : Result Object ParseError) (fault : HashFault) → GivesVerdict view IsSound IsTrueOf object (Ok (checked.Faulty fault)) → Ok Faulty ≡ ok_map verdict_of object
-told_faulty view (Err e) fault h = cc
-told_faulty view (Ok o) fault h = sym (ap Ok (not_sound (decide o) (indexed_count o) h.0))
+pub known_faulty : {C : Type 0} (view : C → Object) (object : Result Object ParseError) (fault : HashFault) → GivesVerdict view IsSound IsTrueOf object (Ok (checked.Faulty fault)) → Ok Faulty ≡ ok_map verdict_of object
+known_faulty view (Err e) fault h = cc
+known_faulty view (Ok o) fault h = sym (ap Ok (not_sound (decide o) (indexed_count o) h.0))

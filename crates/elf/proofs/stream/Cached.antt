@@ -354,8 +354,8 @@ module _ {V : Type 0} (bytes : V → List ℕ) where
 
 -- ---- what a load leaves
 
-pub sound_into : (told : Option (List ℕ)) (len : ℕ) (ps qs : List Piece) (start end : ℕ) (p : Piece) → IsSound told len ps → IsPut p ps qs → start ≤ end → end ≤ len
-    → p.start ≡ start → length p.bytes ≡ end - start → IfSome told (λ bytes. p.bytes ≡ take (end - start) (drop start bytes)) → IsSound told len qs
+pub sound_into : (known : Option (List ℕ)) (len : ℕ) (ps qs : List Piece) (start end : ℕ) (p : Piece) → IsSound known len ps → IsPut p ps qs → start ≤ end → end ≤ len
+    → p.start ≡ start → length p.bytes ≡ end - start → IfSome known (λ bytes. p.bytes ≡ take (end - start) (drop start bytes)) → IsSound known len qs
 sound_into None len ps qs start end p sound put ordered within from long same = record { len = tt; parts = tt }
 sound_into (Some bytes) len ps qs start end p sound put ordered within from long same =
     let all = sound.len in record {
@@ -366,10 +366,10 @@ sound_into (Some bytes) len ps qs start end p sound put ordered within from long
       }) sound.parts) (put.from i d lt);
     }
 
-pub sound_put : (told : Option (List ℕ)) (len : ℕ) (ps qs : List Piece) (start end : ℕ) (p : Piece) (r : Result (Unit {0}) ParseError) → IsSound told len ps → OnOk r (IsPut p ps qs) → IfErr r (λ e. (e ≡ OutOfMemory) × (qs ≡ ps))
-    → start ≤ end → end ≤ len → p.start ≡ start → length p.bytes ≡ end - start → IfSome told (λ bytes. p.bytes ≡ take (end - start) (drop start bytes)) → IsSound told len qs
-sound_put told len ps qs start end p (Ok x) sound put refused = sound_into told len ps qs start end p sound put
-sound_put told len ps qs start end p (Err e) sound put refused = λ _ _ _ _ _. subst (IsSound told len) (sym refused.1) sound
+pub sound_put : (known : Option (List ℕ)) (len : ℕ) (ps qs : List Piece) (start end : ℕ) (p : Piece) (r : Result (Unit {0}) ParseError) → IsSound known len ps → OnOk r (IsPut p ps qs) → IfErr r (λ e. (e ≡ OutOfMemory) × (qs ≡ ps))
+    → start ≤ end → end ≤ len → p.start ≡ start → length p.bytes ≡ end - start → IfSome known (λ bytes. p.bytes ≡ take (end - start) (drop start bytes)) → IsSound known len qs
+sound_put known len ps qs start end p (Ok x) sound put refused = sound_into known len ps qs start end p sound put
+sound_put known len ps qs start end p (Err e) sound put refused = λ _ _ _ _ _. subst (IsSound known len) (sym refused.1) sound
 
 pub cached_put : (ps qs : List Piece) (p : Piece) (r : Result (Unit {0}) ParseError) → OnOk r (IsPut p ps qs) → IfErr r (λ e. (e ≡ OutOfMemory) × (qs ≡ ps))
     → (start end : ℕ) → IsTrue (is_cached (map range_of ps) start end) → IsTrue (is_cached (map range_of qs) start end)

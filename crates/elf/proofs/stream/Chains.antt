@@ -18,14 +18,14 @@ fetched bytes start size end before now can_fail shown (Ok v) low to within same
 fetched bytes start size end before now can_fail shown (Err e) low to within same reason =
     refused_so (kind e) (length bytes < end) _ before before now can_fail (λ past. read_past bytes start size (omega arith)) refl reason
 
-pub fetch_answered : {T : Type 0} (told : Option (List ℕ)) (len start size end before now : ℕ) (can_fail : Bool) (shown : T → List ℕ) (r : Result T ParseError) → IfSome told (λ bytes. len ≡ length bytes) → start + size < 2 ^ 64 → end ≡ start + size → end ≤ len
-    → IfOk r (λ v. IfSome told (λ bytes. shown v ≡ take (end - start) (drop start bytes))) → IfSome told (λ bytes. HasReason before now can_fail (length bytes < end) r) → IfSome told (λ bytes. IsAnswer shown (bytes_at size bytes start) can_fail before now r)
+pub fetch_answered : {T : Type 0} (known : Option (List ℕ)) (len start size end before now : ℕ) (can_fail : Bool) (shown : T → List ℕ) (r : Result T ParseError) → IfSome known (λ bytes. len ≡ length bytes) → start + size < 2 ^ 64 → end ≡ start + size → end ≤ len
+    → IfOk r (λ v. IfSome known (λ bytes. shown v ≡ take (end - start) (drop start bytes))) → IfSome known (λ bytes. HasReason before now can_fail (length bytes < end) r) → IfSome known (λ bytes. IsAnswer shown (bytes_at size bytes start) can_fail before now r)
 fetch_answered None len start size end before now can_fail shown r whole low to within same reason = tt
 fetch_answered (Some bytes) len start size end before now can_fail shown r whole low to within same reason = fetched bytes start size end before now can_fail shown r low to (omega arith) same reason
 
 -- bytes that were read into room of their length
-pub array_answered : (told : Option (List ℕ)) (len start size end before now : ℕ) (can_fail : Bool) (room part : List ℕ) → IfSome told (λ bytes. len ≡ length bytes) → start + size < 2 ^ 64 → end ≡ start + size → end ≤ len → length room ≡ size
-    → IfSome told (λ bytes. part ≡ take (length room) (drop start bytes)) → IfSome told (λ bytes. now ≡ before) → IfSome told (λ bytes. (now ≡ before) × (bytes_at size bytes start ≡ Ok part))
+pub array_answered : (known : Option (List ℕ)) (len start size end before now : ℕ) (can_fail : Bool) (room part : List ℕ) → IfSome known (λ bytes. len ≡ length bytes) → start + size < 2 ^ 64 → end ≡ start + size → end ≤ len → length room ≡ size
+    → IfSome known (λ bytes. part ≡ take (length room) (drop start bytes)) → IfSome known (λ bytes. now ≡ before) → IfSome known (λ bytes. (now ≡ before) × (bytes_at size bytes start ≡ Ok part))
 array_answered None len start size end before now can_fail room part whole low to within long read count = tt
 array_answered (Some bytes) len start size end before now can_fail room part whole low to within long read count =
     (count, read_within bytes start size low (omega arith) ∙ ap Ok (ap (λ n. take n (drop start bytes)) (sym long) ∙ sym read))
@@ -49,9 +49,9 @@ alike_answer shows x y can_fail before now (Ok a) alike h = (h.0, alike.value (s
 alike_answer shows x y can_fail before now (Err e) alike h = refused_so (kind e) (IsErr y) (IsErr x) before before now can_fail alike.refused refl h
 
 -- the first step was refused
-pub answer_stop : {T U X Y : Type 0} (told : Option (List ℕ)) (answer : List ℕ → Result Y ParseError) (a : List ℕ → Result X ParseError) (f : List ℕ → X → Result Y ParseError) (shown : U → X) (shows : T → Y) (before now : ℕ) (can_fail : Bool) (e : ParseError) (r : Result T ParseError)
-    → IfSome told (λ bytes. AreAlike (answer bytes) (a bytes >>= f bytes)) → r ≡ Err e
-    → IfSome told (λ bytes. IsAnswer shown (a bytes) can_fail before now (Err e)) → IfSome told (λ bytes. IsAnswer shows (answer bytes) can_fail before now r)
+pub answer_stop : {T U X Y : Type 0} (known : Option (List ℕ)) (answer : List ℕ → Result Y ParseError) (a : List ℕ → Result X ParseError) (f : List ℕ → X → Result Y ParseError) (shown : U → X) (shows : T → Y) (before now : ℕ) (can_fail : Bool) (e : ParseError) (r : Result T ParseError)
+    → IfSome known (λ bytes. AreAlike (answer bytes) (a bytes >>= f bytes)) → r ≡ Err e
+    → IfSome known (λ bytes. IsAnswer shown (a bytes) can_fail before now (Err e)) → IfSome known (λ bytes. IsAnswer shows (answer bytes) can_fail before now r)
 answer_stop None answer a f shown shows before now can_fail e r so is h = tt
 answer_stop (Some bytes) answer a f shown shows before now can_fail e r so is h =
     rw is (refused_so (kind e) (IsErr (a bytes)) (IsErr (answer bytes)) before before now can_fail (λ x. so.refused (bind_refused (a bytes) (f bytes) x)) refl h)
@@ -64,17 +64,17 @@ pub given : {X Y : Type 0} (x : Result X ParseError) (v : X) (f : X → Result Y
 given x v f h = ap (λ z. z >>= f) h
 
 -- the first step gave x
-pub answer_then : {T U X Y : Type 0} (told : Option (List ℕ)) (answer : List ℕ → Result Y ParseError) (a : List ℕ → Result X ParseError) (f : List ℕ → X → Result Y ParseError) (shown : U → X) (shows : T → Y) (before middle now : ℕ) (can_fail : Bool) (x : U) (r : Result T ParseError)
-    → IfSome told (λ bytes. AreAlike (answer bytes) (a bytes >>= f bytes))
-    → IfSome told (λ bytes. IsAnswer shown (a bytes) can_fail before middle (Ok x)) → IfSome told (λ bytes. IsAnswer shows (f bytes (shown x)) can_fail middle now r) → IfSome told (λ bytes. IsAnswer shows (answer bytes) can_fail before now r)
+pub answer_then : {T U X Y : Type 0} (known : Option (List ℕ)) (answer : List ℕ → Result Y ParseError) (a : List ℕ → Result X ParseError) (f : List ℕ → X → Result Y ParseError) (shown : U → X) (shows : T → Y) (before middle now : ℕ) (can_fail : Bool) (x : U) (r : Result T ParseError)
+    → IfSome known (λ bytes. AreAlike (answer bytes) (a bytes >>= f bytes))
+    → IfSome known (λ bytes. IsAnswer shown (a bytes) can_fail before middle (Ok x)) → IfSome known (λ bytes. IsAnswer shows (f bytes (shown x)) can_fail middle now r) → IfSome known (λ bytes. IsAnswer shows (answer bytes) can_fail before now r)
 answer_then None answer a f shown shows before middle now can_fail x r so h more = tt
 answer_then (Some bytes) answer a f shown shows before middle now can_fail x r so h more =
     alike_answer shows (answer bytes) (a bytes >>= f bytes) can_fail before now r so
     (subst (λ y. IsAnswer shows y can_fail before now r) (sym (given (a bytes) (shown x) (f bytes) h.1)) (moved shows (f bytes (shown x)) can_fail before middle now r h.0 more))
 
-pub told_alike : {Y : Type 0} (told : Option (List ℕ)) (answer other : List ℕ → Result Y ParseError) → ((bytes : List ℕ) → answer bytes ≡ other bytes) → IfSome told (λ bytes. AreAlike (answer bytes) (other bytes))
-told_alike None answer other same = tt
-told_alike (Some bytes) answer other same = alike_same (answer bytes) (other bytes) (same bytes)
+pub known_alike : {Y : Type 0} (known : Option (List ℕ)) (answer other : List ℕ → Result Y ParseError) → ((bytes : List ℕ) → answer bytes ≡ other bytes) → IfSome known (λ bytes. AreAlike (answer bytes) (other bytes))
+known_alike None answer other same = tt
+known_alike (Some bytes) answer other same = alike_same (answer bytes) (other bytes) (same bytes)
 
 pub bind_assoc : {A B C E : Type 0} (x : Result A E) (f : A → Result B E) (g : B → Result C E) → (x >>= λ a. f a >>= g) ≡ ((x >>= f) >>= g)
 bind_assoc (Ok a) f g = refl
@@ -85,18 +85,18 @@ bind_assoc (Err e) f g = refl
 pub record IsPlain {A : Type 0} (r : Result A ParseError) : Type 0 where
   pub plain : IfErr r (λ e. kind e ≡ Kind.Refusal)
 
-known : {T Y : Type 0} (shows : T → Y) (answer : Result Y ParseError) (can_fail : Bool) (count : ℕ) (r : Result T ParseError) → ok_map shows r ≡ answer → IsPlain answer → IsAnswer shows answer can_fail count count r
-known shows answer can_fail count (Ok x) is plain = (refl, sym is)
-known shows answer can_fail count (Err e) is plain = let p = subst (λ z. IsPlain z) (sym is) plain in rw p.plain (refl, ap is_err (sym is))
+plain_known : {T Y : Type 0} (shows : T → Y) (answer : Result Y ParseError) (can_fail : Bool) (count : ℕ) (r : Result T ParseError) → ok_map shows r ≡ answer → IsPlain answer → IsAnswer shows answer can_fail count count r
+plain_known shows answer can_fail count (Ok x) is plain = (refl, sym is)
+plain_known shows answer can_fail count (Err e) is plain = let p = subst (λ z. IsPlain z) (sym is) plain in rw p.plain (refl, ap is_err (sym is))
 
-pub answer_known : {T Y : Type 0} (told : Option (List ℕ)) (answer : Result Y ParseError) (shows : T → Y) (can_fail : Bool) (count : ℕ) (r : Result T ParseError) → ok_map shows r ≡ answer → IsPlain answer → IfSome told (λ bytes. IsAnswer shows answer can_fail count count r)
+pub answer_known : {T Y : Type 0} (known : Option (List ℕ)) (answer : Result Y ParseError) (shows : T → Y) (can_fail : Bool) (count : ℕ) (r : Result T ParseError) → ok_map shows r ≡ answer → IsPlain answer → IfSome known (λ bytes. IsAnswer shows answer can_fail count count r)
 answer_known None answer shows can_fail count r is plain = tt
-answer_known (Some bytes) answer shows can_fail count r is plain = known shows answer can_fail count r is plain
+answer_known (Some bytes) answer shows can_fail count r is plain = plain_known shows answer can_fail count r is plain
 
 pub ok_map_same : {A E : Type 0} (r : Result A E) → ok_map (λ x. x) r ≡ r
 ok_map_same (Ok x) = refl
 ok_map_same (Err e) = refl
 
 -- an answer that needs no source and is shown as it is
-pub answer_plain : {Y : Type 0} (told : Option (List ℕ)) (answer : Result Y ParseError) (can_fail : Bool) (count : ℕ) (r : Result Y ParseError) → r ≡ answer → IsPlain answer → IfSome told (λ bytes. IsAnswer (λ x. x) answer can_fail count count r)
-answer_plain told answer can_fail count r is plain = answer_known told answer (λ x. x) can_fail count r (ok_map_same r ∙ is) plain
+pub answer_plain : {Y : Type 0} (known : Option (List ℕ)) (answer : Result Y ParseError) (can_fail : Bool) (count : ℕ) (r : Result Y ParseError) → r ≡ answer → IsPlain answer → IfSome known (λ bytes. IsAnswer (λ x. x) answer can_fail count count r)
+answer_plain known answer can_fail count r is plain = answer_known known answer (λ x. x) can_fail count r (ok_map_same r ∙ is) plain

@@ -16,14 +16,14 @@ use Rattle.elf.proofs.stream.Steps.{not_ok, refused_not, refused_so}
 
 -- ---- a load that is made for an answer
 
-for_reason : {Y : Type 0} (told : Option (List ℕ)) (rs : List (ℕ × ℕ)) (answer : List ℕ → Result Y ParseError) (before now : ℕ) (can_fail : Bool) (r : Result (Unit {0}) ParseError) → ((bytes : List ℕ) → IsOk (answer bytes) → AreThere bytes rs)
-    → IfSome told (λ bytes. HasReason before now can_fail (AreThere bytes rs → ⊥) r) → IfSome told (λ bytes. HasReason before now can_fail (IsErr (answer bytes)) r)
+for_reason : {Y : Type 0} (known : Option (List ℕ)) (rs : List (ℕ × ℕ)) (answer : List ℕ → Result Y ParseError) (before now : ℕ) (can_fail : Bool) (r : Result (Unit {0}) ParseError) → ((bytes : List ℕ) → IsOk (answer bytes) → AreThere bytes rs)
+    → IfSome known (λ bytes. HasReason before now can_fail (AreThere bytes rs → ⊥) r) → IfSome known (λ bytes. HasReason before now can_fail (IsErr (answer bytes)) r)
 for_reason None rs answer before now can_fail r needs h = tt
 for_reason (Some bytes) rs answer before now can_fail (Ok x) needs h = h
 for_reason (Some bytes) rs answer before now can_fail (Err e) needs h = refused_so (kind e) _ _ before before now can_fail (λ missing. not_ok (answer bytes) (λ ok. missing (needs bytes ok))) refl h
 
-for_accepted : {E Y : Type 0} (told : Option (List ℕ)) (old : Seen E) (rs : List (ℕ × ℕ)) (answer : List ℕ → Result Y ParseError) (r : Result (Unit {0}) ParseError) → ((bytes : List ℕ) → IsOk (answer bytes) → AreThere bytes rs)
-    → IfSome told (λ bytes. AreThere bytes rs → AreCached old rs → IsOk r) → IfSome told (λ bytes. IsOk (answer bytes) → AreCached old rs → IsOk r)
+for_accepted : {E Y : Type 0} (known : Option (List ℕ)) (old : Seen E) (rs : List (ℕ × ℕ)) (answer : List ℕ → Result Y ParseError) (r : Result (Unit {0}) ParseError) → ((bytes : List ℕ) → IsOk (answer bytes) → AreThere bytes rs)
+    → IfSome known (λ bytes. AreThere bytes rs → AreCached old rs → IsOk r) → IfSome known (λ bytes. IsOk (answer bytes) → AreCached old rs → IsOk r)
 for_accepted None old rs answer r needs h = tt
 for_accepted (Some bytes) old rs answer r needs h = λ ok cached. h (needs bytes ok) cached
 
@@ -42,13 +42,13 @@ pub loads_if : {E Y : Type 0} (is : Bool) (old new : Seen E) (rs : List (ℕ × 
 loads_if true old new rs answer r same h = h
 loads_if false old new rs answer r same h = cc
 
-for_refused : {T X Y : Type 0} (told : Option (List ℕ)) (shown : T → Y) (wanted : List ℕ → Result X ParseError) (answer : List ℕ → Result Y ParseError) (before now : ℕ) (can_fail : Bool) (e : ParseError) → ((bytes : List ℕ) → is_ok (answer bytes) ≡ is_ok (wanted bytes))
-    → IfSome told (λ bytes. IsRefused before now can_fail (IsErr (wanted bytes)) (kind e)) → IfSome told (λ bytes. IsAnswer shown (answer bytes) can_fail before now (Err e))
+for_refused : {T X Y : Type 0} (known : Option (List ℕ)) (shown : T → Y) (wanted : List ℕ → Result X ParseError) (answer : List ℕ → Result Y ParseError) (before now : ℕ) (can_fail : Bool) (e : ParseError) → ((bytes : List ℕ) → is_ok (answer bytes) ≡ is_ok (wanted bytes))
+    → IfSome known (λ bytes. IsRefused before now can_fail (IsErr (wanted bytes)) (kind e)) → IfSome known (λ bytes. IsAnswer shown (answer bytes) can_fail before now (Err e))
 for_refused None shown wanted answer before now can_fail e same h = tt
 for_refused (Some bytes) shown wanted answer before now can_fail e same h = refused_so (kind e) _ _ before before now can_fail (λ missing. not_ok (answer bytes) (λ ok. refused_not (wanted bytes) missing (sym (same bytes) ∙ ok))) refl h
 
-for_accepts : {E X Y : Type 0} (T : Type 0) (told : Option (List ℕ)) (old : Seen E) (rs : List (ℕ × ℕ)) (wanted : List ℕ → Result X ParseError) (answer : List ℕ → Result Y ParseError) (e : ParseError) → ((bytes : List ℕ) → is_ok (answer bytes) ≡ is_ok (wanted bytes))
-    → IfSome told (λ bytes. IsOk (wanted bytes) → AreCached old rs → IsOk {T = Unit {0}} (Err e)) → IfSome told (λ bytes. IsOk (answer bytes) → AreCached old rs → IsOk {T = T} (Err e))
+for_accepts : {E X Y : Type 0} (T : Type 0) (known : Option (List ℕ)) (old : Seen E) (rs : List (ℕ × ℕ)) (wanted : List ℕ → Result X ParseError) (answer : List ℕ → Result Y ParseError) (e : ParseError) → ((bytes : List ℕ) → is_ok (answer bytes) ≡ is_ok (wanted bytes))
+    → IfSome known (λ bytes. IsOk (wanted bytes) → AreCached old rs → IsOk {T = Unit {0}} (Err e)) → IfSome known (λ bytes. IsOk (answer bytes) → AreCached old rs → IsOk {T = T} (Err e))
 for_accepts T None old rs wanted answer e same h = tt
 for_accepts T (Some bytes) old rs wanted answer e same h = λ ok cached. h (sym (same bytes) ∙ ok) cached
 
@@ -74,14 +74,14 @@ ok_first : {A B E : Type 0} (x : Result A E) (f : A → Result B E) → IsOk (x 
 ok_first (Ok a) f h = refl
 ok_first (Err e) f h = cc
 
-payload_needs_by : {A : Type 0} (bytes : List ℕ) (s : SectionHeader) (is_empty : Bool) (none : Result A ParseError) (f : List ℕ → Result A ParseError) → IsOk (if is_empty then none else (section_range bytes s >>= f))
+data_needs_by : {A : Type 0} (bytes : List ℕ) (s : SectionHeader) (is_empty : Bool) (none : Result A ParseError) (f : List ℕ → Result A ParseError) → IsOk (if is_empty then none else (section_range bytes s >>= f))
     → AreThere bytes (if is_empty then [] else range_of_section s ∷ [])
-payload_needs_by bytes s true none f h = tt
-payload_needs_by bytes s false none f h = (ok_first (section_range bytes s) f h, tt)
+data_needs_by bytes s true none f h = tt
+data_needs_by bytes s false none f h = (ok_first (section_range bytes s) f h, tt)
 
 pub section_data_needs : (file : ObjectFile) (s : SectionHeader) → IsOk (section_data file s) → AreThere file.bytes (section_ranges s)
 unfolding section_data
-section_data_needs file s h = payload_needs_by file.bytes s (s.sh_type == 8) _ _ h
+section_data_needs file s h = data_needs_by file.bytes s (s.sh_type == 8) _ _ h
 
 not_refused : (A : Type 0) {E : Type 0} (e : E) → IsOk {T = A} (Err e) → ⊥
 not_refused A e h = cc

@@ -7,11 +7,11 @@ use Rattle.elf_parts.specs.declared.parse.ParseError.TheVariants.{OutOfMemory}
 use Rattle.elf.specs.ElfStream.{IsAnswer, IsFor, Kind, kind}
 use Rattle.elf.proofs.stream.Pieces.{read_within, read_past, read_past_64}
 
-pub refused_past_64 : (told : Option (List ℕ)) (start size count : ℕ) → 2 ^ 64 ≤ start + size → IfSome told (λ bytes. (count ≡ count) × IsErr (bytes_at size bytes start))
+pub refused_past_64 : (known : Option (List ℕ)) (start size count : ℕ) → 2 ^ 64 ≤ start + size → IfSome known (λ bytes. (count ≡ count) × IsErr (bytes_at size bytes start))
 refused_past_64 None start size count past = tt
 refused_past_64 (Some bytes) start size count past = (refl, read_past_64 bytes start size past)
 
-pub refused_past : (told : Option (List ℕ)) (len start size count : ℕ) → IfSome told (λ bytes. len ≡ length bytes) → len < start + size → IfSome told (λ bytes. (count ≡ count) × IsErr (bytes_at size bytes start))
+pub refused_past : (known : Option (List ℕ)) (len start size count : ℕ) → IfSome known (λ bytes. len ≡ length bytes) → len < start + size → IfSome known (λ bytes. (count ≡ count) × IsErr (bytes_at size bytes start))
 refused_past None len start size count whole past = tt
 refused_past (Some bytes) len start size count whole past = (refl, read_past bytes start size (omega arith))
 
@@ -21,8 +21,8 @@ answered bytes start size before now can_fail (Ok x) low within same none = (sam
 answered bytes start size before now can_fail (Err e) low within same none = rw none same
 
 -- a read that was made: the buffer was put in, or memory was refused
-pub load_answered : (told : Option (List ℕ)) (len start size before now : ℕ) (can_fail : Bool) (r : Result (Unit {0}) ParseError) → IfSome told (λ bytes. len ≡ length bytes) → start + size < 2 ^ 64 → start + size ≤ len → IfSome told (λ bytes. now ≡ before) → IfErr r (λ e. e ≡ OutOfMemory)
-    → IfSome told (λ bytes. IsAnswer (λ _. take size (drop start bytes)) (bytes_at size bytes start) can_fail before now r)
+pub load_answered : (known : Option (List ℕ)) (len start size before now : ℕ) (can_fail : Bool) (r : Result (Unit {0}) ParseError) → IfSome known (λ bytes. len ≡ length bytes) → start + size < 2 ^ 64 → start + size ≤ len → IfSome known (λ bytes. now ≡ before) → IfErr r (λ e. e ≡ OutOfMemory)
+    → IfSome known (λ bytes. IsAnswer (λ _. take size (drop start bytes)) (bytes_at size bytes start) can_fail before now r)
 load_answered None len start size before now can_fail r whole low within same none = tt
 load_answered (Some bytes) len start size before now can_fail r whole low within same none = answered bytes start size before now can_fail r low (omega arith) same none
 
@@ -36,8 +36,8 @@ is_for P Kind.AllocationFailure h = h
 is_for P Kind.Refusal h = tt
 
 -- the source and memory are used for a range that is there
-pub needed_there : (told : Option (List ℕ)) (len start size : ℕ) (r : Result (Unit {0}) ParseError) → IfSome told (λ bytes. len ≡ length bytes) → start + size < 2 ^ 64 → start + size ≤ len
-    → IfSome told (λ bytes. IfErr r (λ e. IsFor (IsOk (bytes_at size bytes start)) (kind e)))
+pub needed_there : (known : Option (List ℕ)) (len start size : ℕ) (r : Result (Unit {0}) ParseError) → IfSome known (λ bytes. len ≡ length bytes) → start + size < 2 ^ 64 → start + size ≤ len
+    → IfSome known (λ bytes. IfErr r (λ e. IsFor (IsOk (bytes_at size bytes start)) (kind e)))
 needed_there None len start size r whole low within = tt
 needed_there (Some bytes) len start size (Ok x) whole low within = tt
 needed_there (Some bytes) len start size (Err e) whole low within = is_for _ (kind e) (ap is_ok (read_within bytes start size low (omega arith)))

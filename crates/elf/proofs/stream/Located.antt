@@ -44,13 +44,13 @@ free_of_want : {A B : Type 0} (f : A → B) (r : Result A ParseError) → IfErr 
 free_of_want f (Ok a) h = tt
 free_of_want f (Err e) h = h
 
-pub located : {S E : Type 0} (told : source.Ghosts S) (little : E → Bool) (h : FileHeader E) (size : ℕ) (table : DeclaredTable) (len n : ℕ) (old middle : S) (r : Result (ℕ × ℕ) ParseError)
-    → (table.offset == 0) ≡ false → HasLength told old len → Reads told (declared_count little h table) old middle (Ok n)
+pub located : {S E : Type 0} (ghosts : source.Ghosts S) (little : E → Bool) (h : FileHeader E) (size : ℕ) (table : DeclaredTable) (len n : ℕ) (old middle : S) (r : Result (ℕ × ℕ) ParseError)
+    → (table.offset == 0) ≡ false → HasLength ghosts old len → Reads ghosts (declared_count little h table) old middle (Ok n)
     → ((bytes : List ℕ) (can_fail : Bool) (failures : ℕ) → len ≡ length bytes → IsAnswer (range_bytes bytes) (table_bytes size table.entsize n table.offset bytes) can_fail failures failures r)
-    → IfErr r (λ e. IsNoAllocationFailure (kind e)) → ReadsAs told (λ bytes. option_map (range_table little h bytes)) (declared_table little h size table) old middle (ok_map Some r)
-located told little h size table len n old middle r there whole counted found none = record {
+    → IfErr r (λ e. IsNoAllocationFailure (kind e)) → ReadsAs ghosts (λ bytes. option_map (range_table little h bytes)) (declared_table little h size table) old middle (ok_map Some r)
+located ghosts little h size table len n old middle r there whole counted found none = record {
   content = counted.content;
   nature = counted.nature;
-  answer = found_at little h size table (told.content old) len n (told.failures old) (told.failures middle) (told.can_fail old) r there whole counted.answer found;
+  answer = found_at little h size table (ghosts.content old) len n (ghosts.failures old) (ghosts.failures middle) (ghosts.can_fail old) r there whole counted.answer found;
   memory = free_of_want Some r none;
 }

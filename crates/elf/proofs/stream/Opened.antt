@@ -68,28 +68,28 @@ tables_at little of_byte bytes h places parts sections segments found first seco
     )
 
 -- the steps of an opening gave these
-pub tables : {E : Type 0} (little : E → Bool) (of_byte : ℕ → Option E) (told : Option (List ℕ)) (h : FileHeader E) (places parts : Option (ℕ × ℕ)) (sections : List SectionHeader) (segments : List ProgramHeader)
-    → IfSome told (λ bytes. AreFound little of_byte bytes h places parts)
-    → IfSome told (λ bytes. ok_of (range_records section_header_reads (option_map (range_table little h bytes) places)) ≡ ok_of sections)
-    → IfSome told (λ bytes. ok_of (range_records program_header_reads (option_map (range_table little h bytes) parts)) ≡ ok_of segments)
-    → IfSome told (λ bytes. AreTables little of_byte bytes (is_some places) sections segments)
+pub tables : {E : Type 0} (little : E → Bool) (of_byte : ℕ → Option E) (known : Option (List ℕ)) (h : FileHeader E) (places parts : Option (ℕ × ℕ)) (sections : List SectionHeader) (segments : List ProgramHeader)
+    → IfSome known (λ bytes. AreFound little of_byte bytes h places parts)
+    → IfSome known (λ bytes. ok_of (range_records section_header_reads (option_map (range_table little h bytes) places)) ≡ ok_of sections)
+    → IfSome known (λ bytes. ok_of (range_records program_header_reads (option_map (range_table little h bytes) parts)) ≡ ok_of segments)
+    → IfSome known (λ bytes. AreTables little of_byte bytes (is_some places) sections segments)
 tables little of_byte None h places parts sections segments found first second = tt
 tables little of_byte (Some bytes) h places parts sections segments found first second = tables_at little of_byte bytes h places parts sections segments found first second
 
-pub all_found : {E : Type 0} (little : E → Bool) (of_byte : ℕ → Option E) (told : Option (List ℕ)) (h : FileHeader E) (places parts : Option (ℕ × ℕ))
-    → IfSome told (λ bytes. header_at_front little of_byte bytes ≡ Ok h) → IfSome told (λ bytes. section_table little h bytes ≡ Ok (option_map (range_table little h bytes) places)) → IfSome told (λ bytes. segment_table little h bytes ≡ Ok (option_map (range_table little h bytes) parts))
-    → IfSome told (λ bytes. AreFound little of_byte bytes h places parts)
+pub all_found : {E : Type 0} (little : E → Bool) (of_byte : ℕ → Option E) (known : Option (List ℕ)) (h : FileHeader E) (places parts : Option (ℕ × ℕ))
+    → IfSome known (λ bytes. header_at_front little of_byte bytes ≡ Ok h) → IfSome known (λ bytes. section_table little h bytes ≡ Ok (option_map (range_table little h bytes) places)) → IfSome known (λ bytes. segment_table little h bytes ≡ Ok (option_map (range_table little h bytes) parts))
+    → IfSome known (λ bytes. AreFound little of_byte bytes h places parts)
 all_found little of_byte None h places parts header first second = tt
 all_found little of_byte (Some bytes) h places parts header first second = (header, first, second)
 
 -- of an answer its value
-pub value_of : {Y : Type 0} (told : Option (List ℕ)) (answer : List ℕ → Result Y ParseError) (y : List ℕ → Y) (before now : ℕ) → IfSome told (λ bytes. (now ≡ before) × (answer bytes ≡ Ok (y bytes))) → IfSome told (λ bytes. answer bytes ≡ Ok (y bytes))
+pub value_of : {Y : Type 0} (known : Option (List ℕ)) (answer : List ℕ → Result Y ParseError) (y : List ℕ → Y) (before now : ℕ) → IfSome known (λ bytes. (now ≡ before) × (answer bytes ≡ Ok (y bytes))) → IfSome known (λ bytes. answer bytes ≡ Ok (y bytes))
 value_of None answer y before now h = tt
 value_of (Some bytes) answer y before now h = h.1
 
 of_file_at : {E : Type 0} (little : E → Bool) (of_byte : ℕ → Option E) (bytes : List ℕ) (s : Seen E) → AreTables little of_byte bytes s.headers.declares_sections s.headers.sections s.headers.segments → IsOfFile little of_byte bytes s
 of_file_at little of_byte bytes s t = (t.0, t.1, rw (t.2, t.3, t.4) refl)
 
-pub of_file : {E : Type 0} (little : E → Bool) (of_byte : ℕ → Option E) (told : Option (List ℕ)) (s : Seen E) → IfSome told (λ bytes. AreTables little of_byte bytes s.headers.declares_sections s.headers.sections s.headers.segments) → IfSome told (λ bytes. IsOfFile little of_byte bytes s)
+pub of_file : {E : Type 0} (little : E → Bool) (of_byte : ℕ → Option E) (known : Option (List ℕ)) (s : Seen E) → IfSome known (λ bytes. AreTables little of_byte bytes s.headers.declares_sections s.headers.sections s.headers.segments) → IfSome known (λ bytes. IsOfFile little of_byte bytes s)
 of_file little of_byte None s h = tt
 of_file little of_byte (Some bytes) s h = of_file_at little of_byte bytes s h

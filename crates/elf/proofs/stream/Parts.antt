@@ -52,8 +52,8 @@ part_by reads wherever little class bytes o short (Ok part) is =
     }
 
 pub in_part : {A : Type 0} (reads : RecordType A) → ReadsWherever reads.size reads.record_at
-    → (told : Option (List ℕ)) (len n : ℕ) (little : Bool) (class : Class) (o : ℕ) → IfSome told (λ bytes. len ≡ length bytes) → len < 2 ^ 64 → n ≡ reads.size class
-    → IfSome told (λ bytes. AreAlike (reads.record_at little class bytes o) (bytes_at n bytes o >>= λ part. reads.record_at little class part 0))
+    → (known : Option (List ℕ)) (len n : ℕ) (little : Bool) (class : Class) (o : ℕ) → IfSome known (λ bytes. len ≡ length bytes) → len < 2 ^ 64 → n ≡ reads.size class
+    → IfSome known (λ bytes. AreAlike (reads.record_at little class bytes o) (bytes_at n bytes o >>= λ part. reads.record_at little class part 0))
 in_part reads wherever None len n little class o whole short is = tt
 in_part reads wherever (Some bytes) len n little class o whole short is =
     subst (λ n. AreAlike (reads.record_at little class bytes o) (bytes_at n bytes o >>= λ part. reads.record_at little class part 0)) (sym is)

@@ -64,16 +64,16 @@ pub piece_within : (bytes : List ℕ) (p : Piece) (start end : ℕ) → IsOf byt
 piece_within bytes p start end of at = let within = of.within in let high = at.high in omega arith
 
 -- a cached range is in the content
-pub sound_cached : (told : Option (List ℕ)) (len : ℕ) (ps : List Piece) (start size count : ℕ) → IsSound told len ps → start + size < 2 ^ 64 → IsTrue (is_cached (map range_of ps) start (start + size))
-    → IfSome told (λ bytes. (count ≡ count) × (bytes_at size bytes start ≡ Ok (take size (drop start bytes))))
+pub sound_cached : (known : Option (List ℕ)) (len : ℕ) (ps : List Piece) (start size count : ℕ) → IsSound known len ps → start + size < 2 ^ 64 → IsTrue (is_cached (map range_of ps) start (start + size))
+    → IfSome known (λ bytes. (count ≡ count) × (bytes_at size bytes start ≡ Ok (take size (drop start bytes))))
 sound_cached None len ps start size count sound low cached = tt
 sound_cached (Some bytes) len ps start size count sound low cached =
     let a = Any-from_list_any (covers start (start + size)) ps (sym (list_any-map range_of _ ps) ∙ cached) in
     (refl, read_within bytes start size low (piece_within bytes a.1 start (start + size) (subst (IsOf bytes) a.3 (sound.parts a.0 a.1 a.2)) (reaches a.1 start (start + size) a.4)))
 
 -- the bytes of a range within one of the parts are the content's
-pub part_bytes : (told : Option (List ℕ)) (len : ℕ) (ps : List Piece) (start size : ℕ) (part : List ℕ) → IsSound told len ps → start + size < 2 ^ 64 → IsPartOf ps start (start + size) part
-    → IfSome told (λ bytes. bytes_at size bytes start ≡ Ok part)
+pub part_bytes : (known : Option (List ℕ)) (len : ℕ) (ps : List Piece) (start size : ℕ) (part : List ℕ) → IsSound known len ps → start + size < 2 ^ 64 → IsPartOf ps start (start + size) part
+    → IfSome known (λ bytes. bytes_at size bytes start ≡ Ok part)
 part_bytes None len ps start size part sound low at = tt
 part_bytes (Some bytes) len ps start size part sound low at =
     let p : Piece = at.0 in
@@ -93,7 +93,7 @@ shorter bytes part start size is =
     let same = one_value (bytes_at size bytes start) (take size (drop start bytes)) part (read_within bytes start size there.0 there.1) is in
     subst (λ part. length part ≤ length bytes) same (simp (length-take, length-drop) (omega arith))
 
-pub part_within : (told : Option (List ℕ)) (start size : ℕ) (part : List ℕ) → IfSome told (λ bytes. bytes_at size bytes start ≡ Ok part) → IfSome told (λ bytes. length part ≤ length bytes)
+pub part_within : (known : Option (List ℕ)) (start size : ℕ) (part : List ℕ) → IfSome known (λ bytes. bytes_at size bytes start ≡ Ok part) → IfSome known (λ bytes. length part ≤ length bytes)
 part_within None start size part h = tt
 part_within (Some bytes) start size part h = shorter bytes part start size h
 

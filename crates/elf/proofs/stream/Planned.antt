@@ -114,23 +114,23 @@ ok_alike (Ok y) (Err e) same h = cc
 ok_alike (Err e) (Ok z) same h = cc
 ok_alike (Err e) (Err d) same h = cc
 
-told_answers : {T Y : Type 0} (told : Option (List ℕ)) (shown : T → Y) (one other : List ℕ → Result Y ParseError) (before now : ℕ) (can_fail : Bool) (r : Result T ParseError) → ((bytes : List ℕ) → AreAlike (one bytes) (other bytes))
-    → IfSome told (λ bytes. IsAnswer shown (one bytes) can_fail before now r) → IfSome told (λ bytes. IsAnswer shown (other bytes) can_fail before now r)
-told_answers None shown one other before now can_fail r same h = tt
-told_answers (Some bytes) shown one other before now can_fail r same h = answers_alike shown (one bytes) (other bytes) before now can_fail r (same bytes) h
+known_answers : {T Y : Type 0} (known : Option (List ℕ)) (shown : T → Y) (one other : List ℕ → Result Y ParseError) (before now : ℕ) (can_fail : Bool) (r : Result T ParseError) → ((bytes : List ℕ) → AreAlike (one bytes) (other bytes))
+    → IfSome known (λ bytes. IsAnswer shown (one bytes) can_fail before now r) → IfSome known (λ bytes. IsAnswer shown (other bytes) can_fail before now r)
+known_answers None shown one other before now can_fail r same h = tt
+known_answers (Some bytes) shown one other before now can_fail r same h = answers_alike shown (one bytes) (other bytes) before now can_fail r (same bytes) h
 
-told_accepted : {E T Y : Type 0} (told : Option (List ℕ)) (old : Seen E) (rs : List (ℕ × ℕ)) (one other : List ℕ → Result Y ParseError) (r : Result T ParseError) → ((bytes : List ℕ) → AreAlike (one bytes) (other bytes))
-    → IfSome told (λ bytes. IsOk (one bytes) → AreCached old rs → IsOk r) → IfSome told (λ bytes. IsOk (other bytes) → AreCached old rs → IsOk r)
-told_accepted None old rs one other r same h = tt
-told_accepted (Some bytes) old rs one other r same h = λ ok cached. h (ok_alike (one bytes) (other bytes) (same bytes) ok) cached
+known_accepted : {E T Y : Type 0} (known : Option (List ℕ)) (old : Seen E) (rs : List (ℕ × ℕ)) (one other : List ℕ → Result Y ParseError) (r : Result T ParseError) → ((bytes : List ℕ) → AreAlike (one bytes) (other bytes))
+    → IfSome known (λ bytes. IsOk (one bytes) → AreCached old rs → IsOk r) → IfSome known (λ bytes. IsOk (other bytes) → AreCached old rs → IsOk r)
+known_accepted None old rs one other r same h = tt
+known_accepted (Some bytes) old rs one other r same h = λ ok cached. h (ok_alike (one bytes) (other bytes) (same bytes) ok) cached
 
 pub leaves_alike : {E T Y : Type 0} (old new : Seen E) (rs : List (ℕ × ℕ)) (shown : T → Y) (one other : List ℕ → Result Y ParseError) (r : Result T ParseError) → ((bytes : List ℕ) → AreAlike (one bytes) (other bytes))
     → Leaves rs shown one old new r → Leaves rs shown other old new r
 leaves_alike old new rs shown one other r same h = record {
   keeps = h.keeps;
   loaded = h.loaded;
-  answers = told_answers old.content shown one other old.failures new.failures old.can_fail r same h.answers;
-  accepted = told_accepted old.content old rs one other r same h.accepted;
+  answers = known_answers old.content shown one other old.failures new.failures old.can_fail r same h.answers;
+  accepted = known_accepted old.content old rs one other r same h.accepted;
   untouched = h.untouched;
   needed = h.needed;
 }

@@ -78,21 +78,21 @@ loaded_one : {E : Type 0} (new : Seen E) (start size : ℕ) (r : Result (Unit {0
 loaded_one new start size (Ok x) h = ((h.0, tt), (h.1, tt))
 loaded_one new start size (Err e) h = tt
 
-reason_one : (told : Option (List ℕ)) (start size before now : ℕ) (can_fail : Bool) (r : Result (Unit {0}) ParseError)
-    → IfSome told (λ bytes. IsAnswer (λ _. take size (drop start bytes)) (bytes_at size bytes start) can_fail before now r)
-    → IfSome told (λ bytes. HasReason before now can_fail (AreThere bytes ((start, size) ∷ []) → ⊥) r)
+reason_one : (known : Option (List ℕ)) (start size before now : ℕ) (can_fail : Bool) (r : Result (Unit {0}) ParseError)
+    → IfSome known (λ bytes. IsAnswer (λ _. take size (drop start bytes)) (bytes_at size bytes start) can_fail before now r)
+    → IfSome known (λ bytes. HasReason before now can_fail (AreThere bytes ((start, size) ∷ []) → ⊥) r)
 reason_one None start size before now can_fail r h = tt
 reason_one (Some bytes) start size before now can_fail (Ok x) h = h.0
 reason_one (Some bytes) start size before now can_fail (Err e) h = refused_so (kind e) _ _ before before now can_fail (λ missing there. refused_not (bytes_at size bytes start) missing there.0) refl h
 
-accepted_one : {E : Type 0} (told : Option (List ℕ)) (old : Seen E) (start size : ℕ) (r : Result (Unit {0}) ParseError) → (start + size < 2 ^ 64 → IsCached old start (start + size) → IsOk r)
-    → IfSome told (λ bytes. AreThere bytes ((start, size) ∷ []) → AreCached old ((start, size) ∷ []) → IsOk r)
+accepted_one : {E : Type 0} (known : Option (List ℕ)) (old : Seen E) (start size : ℕ) (r : Result (Unit {0}) ParseError) → (start + size < 2 ^ 64 → IsCached old start (start + size) → IsOk r)
+    → IfSome known (λ bytes. AreThere bytes ((start, size) ∷ []) → AreCached old ((start, size) ∷ []) → IsOk r)
 accepted_one None old start size r h = tt
 accepted_one (Some bytes) old start size r h = λ there cached. h (read_is_within bytes start size there.0).0 cached.0
 
-there_one : (told : Option (List ℕ)) (start size before now : ℕ) (can_fail : Bool) (r : Result (Unit {0}) ParseError)
-    → IfSome told (λ bytes. IsAnswer (λ _. take size (drop start bytes)) (bytes_at size bytes start) can_fail before now r)
-    → IfSome told (λ bytes. OnOk r (AreThere bytes ((start, size) ∷ [])))
+there_one : (known : Option (List ℕ)) (start size before now : ℕ) (can_fail : Bool) (r : Result (Unit {0}) ParseError)
+    → IfSome known (λ bytes. IsAnswer (λ _. take size (drop start bytes)) (bytes_at size bytes start) can_fail before now r)
+    → IfSome known (λ bytes. OnOk r (AreThere bytes ((start, size) ∷ [])))
 there_one None start size before now can_fail r h = tt
 there_one (Some bytes) start size before now can_fail (Ok x) h = (ap is_ok h.1, tt)
 there_one (Some bytes) start size before now can_fail (Err e) h = tt
@@ -101,10 +101,10 @@ not_cached : {E : Type 0} (old new : Seen E) (start size : ℕ) (e : ParseError)
     → start + size < 2 ^ 64 → IsCached new start (start + size) → ⊥
 not_cached old new start size e same cached low h = let ok = cached low (subst (λ cached. IsTrue (is_cached cached start (start + size))) same h) in cc
 
-needed_one : {E : Type 0} (told : Option (List ℕ)) (old new : Seen E) (start size : ℕ) (r : Result (Unit {0}) ParseError) → OnErr r (new.cached ≡ old.cached)
+needed_one : {E : Type 0} (known : Option (List ℕ)) (old new : Seen E) (start size : ℕ) (r : Result (Unit {0}) ParseError) → OnErr r (new.cached ≡ old.cached)
     → (start + size < 2 ^ 64 → IsCached old start (start + size) → IsOk r)
-    → IfSome told (λ bytes. IfErr r (λ e. IsFor (IsOk (bytes_at size bytes start)) (kind e)))
-    → IfSome told (λ bytes. IfErr r (λ e. IsFor (IsNeeded bytes new ((start, size) ∷ [])) (kind e)))
+    → IfSome known (λ bytes. IfErr r (λ e. IsFor (IsOk (bytes_at size bytes start)) (kind e)))
+    → IfSome known (λ bytes. IfErr r (λ e. IsFor (IsNeeded bytes new ((start, size) ∷ [])) (kind e)))
 needed_one None old new start size r same cached h = tt
 needed_one (Some bytes) old new start size (Ok x) same cached h = tt
 needed_one (Some bytes) old new start size (Err e) same cached h =
@@ -128,22 +128,22 @@ loads_one old new start size r keeps loaded cached answer same untouched needed 
 
 -- ---- one load after another
 
-stopped_reason : (told : Option (List ℕ)) (rs qs : List (ℕ × ℕ)) (before now : ℕ) (can_fail : Bool) (e : ParseError)
-    → IfSome told (λ bytes. IsRefused before now can_fail (AreThere bytes rs → ⊥) (kind e)) → IfSome told (λ bytes. IsRefused before now can_fail (AreThere bytes (rs ++ qs) → ⊥) (kind e))
+stopped_reason : (known : Option (List ℕ)) (rs qs : List (ℕ × ℕ)) (before now : ℕ) (can_fail : Bool) (e : ParseError)
+    → IfSome known (λ bytes. IsRefused before now can_fail (AreThere bytes rs → ⊥) (kind e)) → IfSome known (λ bytes. IsRefused before now can_fail (AreThere bytes (rs ++ qs) → ⊥) (kind e))
 stopped_reason None rs qs before now can_fail e h = tt
 stopped_reason (Some bytes) rs qs before now can_fail e h = refused_so (kind e) _ _ before before now can_fail (λ missing there. missing (there_front bytes rs qs there)) refl h
 
-stopped_accepted : {E : Type 0} (told : Option (List ℕ)) (old : Seen E) (rs qs : List (ℕ × ℕ)) (e : ParseError)
-    → IfSome told (λ bytes. AreThere bytes rs → AreCached old rs → IsOk {T = Unit {0}} (Err e)) → IfSome told (λ bytes. AreThere bytes (rs ++ qs) → AreCached old (rs ++ qs) → IsOk {T = Unit {0}} (Err e))
+stopped_accepted : {E : Type 0} (known : Option (List ℕ)) (old : Seen E) (rs qs : List (ℕ × ℕ)) (e : ParseError)
+    → IfSome known (λ bytes. AreThere bytes rs → AreCached old rs → IsOk {T = Unit {0}} (Err e)) → IfSome known (λ bytes. AreThere bytes (rs ++ qs) → AreCached old (rs ++ qs) → IsOk {T = Unit {0}} (Err e))
 stopped_accepted None old rs qs e h = tt
 stopped_accepted (Some bytes) old rs qs e h = λ there cached. h (there_front bytes rs qs there) (cached_front old rs qs cached)
 
-stopped_needed : {E : Type 0} (told : Option (List ℕ)) (new : Seen E) (rs qs : List (ℕ × ℕ)) (e : ParseError)
-    → IfSome told (λ bytes. IsFor (IsNeeded bytes new rs) (kind e)) → IfSome told (λ bytes. IsFor (IsNeeded bytes new (rs ++ qs)) (kind e))
+stopped_needed : {E : Type 0} (known : Option (List ℕ)) (new : Seen E) (rs qs : List (ℕ × ℕ)) (e : ParseError)
+    → IfSome known (λ bytes. IsFor (IsNeeded bytes new rs) (kind e)) → IfSome known (λ bytes. IsFor (IsNeeded bytes new (rs ++ qs)) (kind e))
 stopped_needed None new rs qs e h = tt
 stopped_needed (Some bytes) new rs qs e h = for_so _ _ (kind e) (needed_front bytes new rs qs) h
 
-none_there : (told : Option (List ℕ)) (rs qs : List (ℕ × ℕ)) (e : ParseError) → IfSome told (λ bytes. OnOk {T = Unit {0}} (Err e) (AreThere bytes (rs ++ qs)))
+none_there : (known : Option (List ℕ)) (rs qs : List (ℕ × ℕ)) (e : ParseError) → IfSome known (λ bytes. OnOk {T = Unit {0}} (Err e) (AreThere bytes (rs ++ qs)))
 none_there None rs qs e = tt
 none_there (Some bytes) rs qs e = tt
 
@@ -163,25 +163,25 @@ then_loaded : {E : Type 0} (middle new : Seen E) (rs qs : List (ℕ × ℕ)) (r 
 then_loaded middle new rs qs (Ok x) keeps a b = (low_append rs qs a.0 b.0, cached_append new rs qs (still_cached middle new rs keeps a.1) b.1)
 then_loaded middle new rs qs (Err e) keeps a b = tt
 
-then_reason : (told : Option (List ℕ)) (rs qs : List (ℕ × ℕ)) (before middle now : ℕ) (can_fail : Bool) (r : Result (Unit {0}) ParseError) → IfSome told (λ _. middle ≡ before)
-    → IfSome told (λ bytes. HasReason middle now can_fail (AreThere bytes qs → ⊥) r) → IfSome told (λ bytes. HasReason before now can_fail (AreThere bytes (rs ++ qs) → ⊥) r)
+then_reason : (known : Option (List ℕ)) (rs qs : List (ℕ × ℕ)) (before middle now : ℕ) (can_fail : Bool) (r : Result (Unit {0}) ParseError) → IfSome known (λ _. middle ≡ before)
+    → IfSome known (λ bytes. HasReason middle now can_fail (AreThere bytes qs → ⊥) r) → IfSome known (λ bytes. HasReason before now can_fail (AreThere bytes (rs ++ qs) → ⊥) r)
 then_reason None rs qs before middle now can_fail r same h = tt
 then_reason (Some bytes) rs qs before middle now can_fail (Ok x) same h = h ∙ same
 then_reason (Some bytes) rs qs before middle now can_fail (Err e) same h = refused_so (kind e) _ _ before middle now can_fail (λ missing there. missing (there_back bytes rs qs there)) same h
 
-then_accepted : {E : Type 0} (told : Option (List ℕ)) (old middle : Seen E) (rs qs : List (ℕ × ℕ)) (r : Result (Unit {0}) ParseError) → Keeps old middle
-    → IfSome told (λ bytes. AreThere bytes qs → AreCached middle qs → IsOk r) → IfSome told (λ bytes. AreThere bytes (rs ++ qs) → AreCached old (rs ++ qs) → IsOk r)
+then_accepted : {E : Type 0} (known : Option (List ℕ)) (old middle : Seen E) (rs qs : List (ℕ × ℕ)) (r : Result (Unit {0}) ParseError) → Keeps old middle
+    → IfSome known (λ bytes. AreThere bytes qs → AreCached middle qs → IsOk r) → IfSome known (λ bytes. AreThere bytes (rs ++ qs) → AreCached old (rs ++ qs) → IsOk r)
 then_accepted None old middle rs qs r keeps h = tt
 then_accepted (Some bytes) old middle rs qs r keeps h = λ there cached. h (there_back bytes rs qs there) (still_cached old middle qs keeps (cached_back old rs qs cached))
 
-then_there : (told : Option (List ℕ)) (rs qs : List (ℕ × ℕ)) (r : Result (Unit {0}) ParseError) → IfSome told (λ bytes. AreThere bytes rs)
-    → IfSome told (λ bytes. OnOk r (AreThere bytes qs)) → IfSome told (λ bytes. OnOk r (AreThere bytes (rs ++ qs)))
+then_there : (known : Option (List ℕ)) (rs qs : List (ℕ × ℕ)) (r : Result (Unit {0}) ParseError) → IfSome known (λ bytes. AreThere bytes rs)
+    → IfSome known (λ bytes. OnOk r (AreThere bytes qs)) → IfSome known (λ bytes. OnOk r (AreThere bytes (rs ++ qs)))
 then_there None rs qs r a b = tt
 then_there (Some bytes) rs qs (Ok x) a b = there_append bytes rs qs a b
 then_there (Some bytes) rs qs (Err e) a b = tt
 
-then_needed : {E : Type 0} (told : Option (List ℕ)) (new : Seen E) (rs qs : List (ℕ × ℕ)) (r : Result (Unit {0}) ParseError) → IfSome told (λ bytes. AreThere bytes rs)
-    → IfSome told (λ bytes. IfErr r (λ e. IsFor (IsNeeded bytes new qs) (kind e))) → IfSome told (λ bytes. IfErr r (λ e. IsFor (IsNeeded bytes new (rs ++ qs)) (kind e)))
+then_needed : {E : Type 0} (known : Option (List ℕ)) (new : Seen E) (rs qs : List (ℕ × ℕ)) (r : Result (Unit {0}) ParseError) → IfSome known (λ bytes. AreThere bytes rs)
+    → IfSome known (λ bytes. IfErr r (λ e. IsFor (IsNeeded bytes new qs) (kind e))) → IfSome known (λ bytes. IfErr r (λ e. IsFor (IsNeeded bytes new (rs ++ qs)) (kind e)))
 then_needed None new rs qs r a b = tt
 then_needed (Some bytes) new rs qs (Ok x) a b = tt
 then_needed (Some bytes) new rs qs (Err e) a b = for_so _ _ (kind e) (needed_back bytes new rs qs a) b
@@ -202,11 +202,11 @@ loads_then {E} old middle new rs qs x r a b =
       loaded = then_loaded middle new rs qs r b.keeps a.loaded b.loaded;
       reason = then_reason old.content rs qs old.failures middle.failures new.failures old.can_fail r a.reason
           (subst (λ can_fail. IfSome old.content (λ bytes. HasReason middle.failures new.failures can_fail (AreThere bytes qs → ⊥) r)) nature
-          (subst (λ told. IfSome told (λ bytes. HasReason middle.failures new.failures middle.can_fail (AreThere bytes qs → ⊥) r)) same b.reason));
-      there = then_there old.content rs qs r a.there (subst (λ told. IfSome told (λ bytes. OnOk r (AreThere bytes qs))) same b.there);
-      accepted = then_accepted old.content old middle rs qs r a.keeps (subst (λ told. IfSome told (λ bytes. AreThere bytes qs → AreCached middle qs → IsOk r)) same b.accepted);
+          (subst (λ known. IfSome known (λ bytes. HasReason middle.failures new.failures middle.can_fail (AreThere bytes qs → ⊥) r)) same b.reason));
+      there = then_there old.content rs qs r a.there (subst (λ known. IfSome known (λ bytes. OnOk r (AreThere bytes qs))) same b.there);
+      accepted = then_accepted old.content old middle rs qs r a.keeps (subst (λ known. IfSome known (λ bytes. AreThere bytes qs → AreCached middle qs → IsOk r)) same b.accepted);
       untouched = then_untouched old middle new rs qs x r a b;
-      needed = then_needed old.content new rs qs r a.there (subst (λ told. IfSome told (λ bytes. IfErr r (λ e. IsFor (IsNeeded bytes new qs) (kind e)))) same b.needed);
+      needed = then_needed old.content new rs qs r a.there (subst (λ known. IfSome known (λ bytes. IfErr r (λ e. IsFor (IsNeeded bytes new qs) (kind e)))) same b.needed);
     }
 
 -- ---- a call whose loads were refused
@@ -215,13 +215,13 @@ pub not_ok : {A E : Type 0} (x : Result A E) → (IsOk x → ⊥) → IsErr x
 not_ok (Ok a) h = absurd (h refl)
 not_ok (Err e) h = refl
 
-refused_answer : {T Y : Type 0} (told : Option (List ℕ)) (rs : List (ℕ × ℕ)) (shown : T → Y) (answer : List ℕ → Result Y ParseError) (before now : ℕ) (can_fail : Bool) (e : ParseError) → ((bytes : List ℕ) → IsOk (answer bytes) → AreThere bytes rs)
-    → IfSome told (λ bytes. IsRefused before now can_fail (AreThere bytes rs → ⊥) (kind e)) → IfSome told (λ bytes. IsAnswer shown (answer bytes) can_fail before now (Err e))
+refused_answer : {T Y : Type 0} (known : Option (List ℕ)) (rs : List (ℕ × ℕ)) (shown : T → Y) (answer : List ℕ → Result Y ParseError) (before now : ℕ) (can_fail : Bool) (e : ParseError) → ((bytes : List ℕ) → IsOk (answer bytes) → AreThere bytes rs)
+    → IfSome known (λ bytes. IsRefused before now can_fail (AreThere bytes rs → ⊥) (kind e)) → IfSome known (λ bytes. IsAnswer shown (answer bytes) can_fail before now (Err e))
 refused_answer None rs shown answer before now can_fail e needs h = tt
 refused_answer (Some bytes) rs shown answer before now can_fail e needs h = refused_so (kind e) _ _ before before now can_fail (λ missing. not_ok (answer bytes) (λ ok. missing (needs bytes ok))) refl h
 
-refused_accepted : {E Y : Type 0} (T : Type 0) (told : Option (List ℕ)) (old : Seen E) (rs : List (ℕ × ℕ)) (answer : List ℕ → Result Y ParseError) (e : ParseError) → ((bytes : List ℕ) → IsOk (answer bytes) → AreThere bytes rs)
-    → IfSome told (λ bytes. AreThere bytes rs → AreCached old rs → IsOk {T = Unit {0}} (Err e)) → IfSome told (λ bytes. IsOk (answer bytes) → AreCached old rs → IsOk {T = T} (Err e))
+refused_accepted : {E Y : Type 0} (T : Type 0) (known : Option (List ℕ)) (old : Seen E) (rs : List (ℕ × ℕ)) (answer : List ℕ → Result Y ParseError) (e : ParseError) → ((bytes : List ℕ) → IsOk (answer bytes) → AreThere bytes rs)
+    → IfSome known (λ bytes. AreThere bytes rs → AreCached old rs → IsOk {T = Unit {0}} (Err e)) → IfSome known (λ bytes. IsOk (answer bytes) → AreCached old rs → IsOk {T = T} (Err e))
 refused_accepted T None old rs answer e needs h = tt
 refused_accepted T (Some bytes) old rs answer e needs h = λ ok cached. h (needs bytes ok) cached
 

@@ -1,7 +1,7 @@
 //! The versions of the symbols of a file, looked up by version index without a walk.
 ghost use Rattle.std.specs.Prelude.{◌≡◌, ◌==◌, ◌≤◌, ◌^◌, ℕ, length, if◌then◌else◌, IfOk, OnOk, None, Some};
 ghost use Rattle.std.specs.Option.{option_map, option_or};
-ghost use Rattle.elf_parts.specs.gnu_symver.Indexed.{AreDefined, AreNeeded, slot};
+ghost use Rattle.elf_parts.specs.inner.Indexed.{AreDefined, AreNeeded, slot};
 ghost use Rattle.elf_parts.specs.Number.{ok_map};
 ghost use Rattle.elf_parts.specs.StringTable.{strings_view};
 ghost use Rattle.elf_parts.specs.gnu_symver.Lists.{ver_defs_left, ver_need_aux_left, ver_needs_left};
@@ -29,7 +29,7 @@ pub struct IndexedVersions<'a, 'data, E: EndianParse, A: Allocator> {
 }
 
 impl<'a, 'data, E: EndianParse, A: Allocator> Model for IndexedVersions<'a, 'data, E, A> {
-    ghost use Rattle.elf_parts.specs.gnu_symver.Indexed.{AreDefined, AreNeeded, definitions_listed, needs_listed};
+    ghost use Rattle.elf_parts.specs.inner.Indexed.{AreDefined, AreNeeded, definitions_listed, needs_listed};
     ghost use Rattle.elf_parts.specs.gnu_symver.Table.{Versions, versions_view};
 
     ghost Value = { Versions };

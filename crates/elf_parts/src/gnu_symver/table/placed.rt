@@ -1,8 +1,8 @@
 //! The versions of the symbols of a file by version index, in slices that the caller provides.
 ghost use Rattle.std.specs.Prelude.{◌≡◌, ◌==◌, ◌<◌, ℕ, length, if◌then◌else◌, MatchOption, None, Some};
 ghost use Rattle.std.specs.Option.{option_map, option_or};
-ghost use Rattle.elf_parts.specs.gnu_symver.Indexed.{slot};
-ghost use Rattle.elf_parts.specs.gnu_symver.Placed.{HoldDefined, HoldDefinitions, HoldNeeded, HoldNeeds};
+ghost use Rattle.elf_parts.specs.inner.Indexed.{slot};
+ghost use Rattle.elf_parts.specs.inner.Placed.{HoldDefined, HoldDefinitions, HoldNeeded, HoldNeeds};
 ghost use Rattle.elf_parts.specs.Number.{ok_map};
 ghost use Rattle.elf_parts.specs.gnu_symver.Lists.{ver_defs_left, ver_need_aux_left, ver_needs_left};
 ghost use Rattle.elf_parts.specs.gnu_symver.Table.{defined_version, definition, definition_view, definitions_view};
@@ -32,7 +32,7 @@ pub struct PlacedVersions<'a, 'data, E: EndianParse> {
 }
 
 impl<'a, 'data, E: EndianParse> Model for PlacedVersions<'a, 'data, E> {
-    ghost use Rattle.elf_parts.specs.gnu_symver.Placed.{HoldDefinitions, HoldNeeds};
+    ghost use Rattle.elf_parts.specs.inner.Placed.{HoldDefinitions, HoldNeeds};
     ghost use Rattle.elf_parts.specs.gnu_symver.Table.{Versions, versions_view};
 
     ghost Value = { Versions };

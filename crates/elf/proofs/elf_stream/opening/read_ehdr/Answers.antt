@@ -4,7 +4,7 @@ use Rattle.elf_parts.specs.File.{ident_of}
 use Rattle.elf_parts.specs.Number.{bytes_at}
 use Rattle.elf_parts.specs.Record.{◌>>=◌}
 use Rattle.elf.specs.inner.HeaderSteps.{front_ident, tail_header}
-use Rattle.elf.proofs.stream.Chains.{bind_assoc, told_alike}
+use Rattle.elf.proofs.stream.Chains.{bind_assoc, known_alike}
 use Rattle.elf.proofs.stream.Reads.{reads_stop, reads_then}
 use Rattle.elf.proofs.elf_stream.opening.read_ehdr.Goals as goal
 
@@ -15,7 +15,7 @@ returns-in_err-ident g c =
     let of_byte = g.E.EndianParse.of_byte in
     let p = err_from_is_err_and c.from_residual.result c.from_residual.ensures.1 in
     reads_stop g.S.StreamSource (header_at_front little of_byte) (front_ident of_byte) (tail_header little) c.args.source.now _ p.0 _
-    (told_alike (g.S.StreamSource.content c.args.source.now) (header_at_front little of_byte) (λ bytes. front_ident of_byte bytes >>= tail_header little bytes)
+    (known_alike (g.S.StreamSource.content c.args.source.now) (header_at_front little of_byte) (λ bytes. front_ident of_byte bytes >>= tail_header little bytes)
     (λ bytes. bind_assoc (bytes_at 16 bytes 0) (ident_of of_byte) (tail_header little bytes))) p.1 (rw p.2 c.in_err-ident.ensures)
 
 pub returns : goal.returns
@@ -24,5 +24,5 @@ returns g c =
     let little = g.E.EndianParse.little in
     let of_byte = g.E.EndianParse.of_byte in
     reads_then g.S.StreamSource (header_at_front little of_byte) (front_ident of_byte) (tail_header little) c.args.source.now _ _ c.in_ok-ident.ident c.read_tail.result
-    (told_alike (g.S.StreamSource.content c.args.source.now) (header_at_front little of_byte) (λ bytes. front_ident of_byte bytes >>= tail_header little bytes)
+    (known_alike (g.S.StreamSource.content c.args.source.now) (header_at_front little of_byte) (λ bytes. front_ident of_byte bytes >>= tail_header little bytes)
     (λ bytes. bind_assoc (bytes_at 16 bytes 0) (ident_of of_byte) (tail_header little bytes))) c.in_ok-ident.ensures c.read_tail.ensures

@@ -3,7 +3,7 @@ use Rattle.elf_parts.specs.File.{ident_of}
 use Rattle.elf_parts.specs.Number.{bytes_at}
 use Rattle.elf_parts.specs.Record.{◌>>=◌}
 use Rattle.elf.specs.inner.HeaderSteps.{front_ident}
-use Rattle.elf.proofs.stream.Chains.{told_alike}
+use Rattle.elf.proofs.stream.Chains.{known_alike}
 use Rattle.elf.proofs.stream.Plain.{plain_ident}
 use Rattle.elf.proofs.stream.Reads.{reads_known}
 use Rattle.elf.proofs.elf_stream.opening.read_ident.Goals as goal
@@ -12,5 +12,5 @@ pub returns : goal.returns
 returns g c =
     let of_byte = g.E.EndianParse.of_byte in
     reads_known g.S.StreamSource (front_ident of_byte) (λ bytes. bytes_at 16 bytes 0) (ident_of of_byte) c.args.source.now _ c.in_ok-front.front c.parse_ident.result
-    (told_alike (g.S.StreamSource.content c.args.source.now) (front_ident of_byte) (λ bytes. bytes_at 16 bytes 0 >>= ident_of of_byte) (λ _. refl))
+    (known_alike (g.S.StreamSource.content c.args.source.now) (front_ident of_byte) (λ bytes. bytes_at 16 bytes 0 >>= ident_of of_byte) (λ _. refl))
     c.in_ok-front.ensures c.parse_ident.ensures (plain_ident of_byte c.in_ok-front.front)

@@ -3,7 +3,7 @@ use Rattle.elf_parts.specs.File.{header_with_tail, tail_layout}
 use Rattle.elf_parts.specs.Number.{bytes_at}
 use Rattle.elf_parts.specs.Record.{◌>>=◌}
 use Rattle.elf.specs.inner.HeaderSteps.{tail_header}
-use Rattle.elf.proofs.stream.Chains.{told_alike}
+use Rattle.elf.proofs.stream.Chains.{known_alike}
 use Rattle.elf.proofs.stream.Plain.{plain_record_by}
 use Rattle.elf.proofs.stream.Reads.{reads_known}
 use Rattle.elf.proofs.elf_stream.opening.read_tail_of.Goals as goal
@@ -13,6 +13,6 @@ returns g c =
     let little = g.E.EndianParse.little in
     let header = header_with_tail little c.args.ident in
     reads_known g.S.StreamSource (λ bytes. tail_header little bytes c.args.ident) (λ bytes. bytes_at _ bytes 16) header c.args.source.now _ c.in_ok-tail.tail c.parse_tail.result
-    (told_alike (g.S.StreamSource.content c.args.source.now) (λ bytes. tail_header little bytes c.args.ident) (λ bytes. bytes_at _ bytes 16 >>= header)
+    (known_alike (g.S.StreamSource.content c.args.source.now) (λ bytes. tail_header little bytes c.args.ident) (λ bytes. bytes_at _ bytes 16 >>= header)
     (λ bytes. ap (λ n. bytes_at n bytes 16 >>= header) (sym c.requires.size))) c.in_ok-tail.ensures
     c.parse_tail.ensures (plain_record_by (tail_layout c.args.ident) (little c.args.ident.0) c.args.ident.1 c.in_ok-tail.tail 0)

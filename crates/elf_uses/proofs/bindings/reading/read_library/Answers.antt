@@ -6,7 +6,7 @@ use Rattle.elf.specs.Answers.{dynamic_symbol_table, symbol_version_table}
 use Rattle.elf.specs.StreamFile.{stream_file}
 use Rattle.elf_uses.specs.Library.{hash_in, hash_section, symbols_in, versions_in}
 use Rattle.elf_uses.specs.Readings.{IsRead}
-use Rattle.elf_uses.proofs.Libraries.{all_told, reads_of_file}
+use Rattle.elf_uses.proofs.Libraries.{all_known, reads_of_file}
 use Rattle.elf_uses.proofs.Readings.{keeps_then}
 use Rattle.elf_uses.proofs.bindings.reading.read_library.Goals as goal
 
@@ -22,7 +22,7 @@ returns-clause-parts g c =
     let second = keeps_then old one two first c.read_symbols-symbols.ensures.keeps in
     let symbols = reads_of_file little old one two c.read_symbols-symbols.result (λ l k. option_map (symbols_in l k)) dynamic_symbol_table first c.read_symbols-symbols.ensures in
     let versions = reads_of_file little old two three c.read_versions-versions.result (λ l k. option_map (versions_in l k)) symbol_version_table second c.read_versions-versions.ensures in
-    all_told old.content
+    all_known old.content
     (λ bytes. IsRead (option_map hash_in) old.can_fail (hash_section (stream_file little old bytes)) c.read_hash-hash.result)
     (λ bytes. IsRead (option_map (symbols_in (little old.headers.ehdr.endianness) old.headers.ehdr.class)) old.can_fail (dynamic_symbol_table (stream_file little old bytes)) c.read_symbols-symbols.result)
     (λ bytes. IsRead (option_map (versions_in (little old.headers.ehdr.endianness) old.headers.ehdr.class)) old.can_fail (symbol_version_table (stream_file little old bytes)) c.read_versions-versions.result)

@@ -14,7 +14,7 @@ use Rattle.std.proofs.Common.{ap, ℕ, List, [], ◌++◌, Result, Ok}
 use Rattle.elf_parts.specs.declared.parse.ParseError.{ParseError}
 use Rattle.elf_check.specs.Object.{ByGnu, BySysv}
 use Rattle.elf_check.specs.inner.Decisions.{decide}
-use Rattle.elf_worked.proofs.Below.{told_faulty, told_sound}
+use Rattle.elf_worked.proofs.Below.{known_faulty, known_sound}
 use Rattle.elf_worked.proofs.HashesOfA.{gnu_of_a_sound, sysv_of_a_cyclic, sysv_of_a_sound}
 use Rattle.elf_worked.specs.HashesOfA.{gnu_of_a, sysv_of_a}
 use Rattle.elf_worked.proofs.worked.calls.hash_sections_listed.Goals as goal
@@ -25,15 +25,15 @@ written line = Ok (line ++ [])
 
 pub returns-clause-sysv : goal.returns-clause-sysv
 unfolding bytes_at ident_of numbers_at number_at header_at_front section_table segment_table section_data sysv_section chain_lengths word word_at digits
-returns-clause-sysv c = ap written (told_sound (decide (BySysv (sysv_of_a 0))) 1 sysv_of_a_sound)
+returns-clause-sysv c = ap written (known_sound (decide (BySysv (sysv_of_a 0))) 1 sysv_of_a_sound)
 
 pub returns-clause-gnu : goal.returns-clause-gnu
 unfolding bytes_at ident_of numbers_at number_at header_at_front section_table segment_table section_data gnu_section digits
-returns-clause-gnu c = ap written (told_sound (decide (ByGnu gnu_of_a)) 1 gnu_of_a_sound)
+returns-clause-gnu c = ap written (known_sound (decide (ByGnu gnu_of_a)) 1 gnu_of_a_sound)
 
 pub returns-clause-faulty : goal.returns-clause-faulty
 unfolding bytes_at ident_of numbers_at number_at header_at_front section_table segment_table section_data sysv_section chain_lengths word word_at digits
-returns-clause-faulty c = ap written (told_faulty (decide (BySysv (sysv_of_a 1))) _ sysv_of_a_cyclic)
+returns-clause-faulty c = ap written (known_faulty (decide (BySysv (sysv_of_a 1))) _ sysv_of_a_cyclic)
 
 pub returns-clause-refused : goal.returns-clause-refused
 unfolding bytes_at ident_of numbers_at number_at header_at_front section_table segment_table section_data sysv_section gnu_section

@@ -8,7 +8,7 @@ use Rattle.elf_check.specs.Object.{ByGnu}
 use Rattle.elf_check.specs.inner.Decisions.{decide}
 use Rattle.std.specs.Prelude.{Ok}
 use Rattle.elf_worked.specs.SoundSections.{gnu_with}
-use Rattle.elf_worked.proofs.Below.{told_sound}
+use Rattle.elf_worked.proofs.Below.{known_sound}
 use Rattle.elf_worked.proofs.GnuSound.{gnu_sound}
 use Rattle.elf_worked.proofs.worked.soundness.gnu_section_is_sound.Goals as goal
 
@@ -25,4 +25,4 @@ returns-clause-no_fault c = λ fault h. true_fault (gnu_with 3 5 0xc0 0x06 0x09)
 
 pub returns-clause-verdict : goal.returns-clause-verdict
 unfolding gnu_section bytes_at number_at numbers_at digits
-returns-clause-verdict c = ap Ok (told_sound (decide (ByGnu (gnu_with 3 5 0xc0 0x06 0x09))) 3 gnu_sound)
+returns-clause-verdict c = ap Ok (known_sound (decide (ByGnu (gnu_with 3 5 0xc0 0x06 0x09))) 3 gnu_sound)

@@ -6,7 +6,7 @@ use Rattle.elf_check.specs.Object.{ByGnu}
 use Rattle.elf_check.specs.inner.Decisions.{decide}
 use Rattle.std.specs.Prelude.{Ok}
 use Rattle.elf_worked.specs.SoundSections.{gnu_with}
-use Rattle.elf_worked.proofs.Below.{told_faulty}
+use Rattle.elf_worked.proofs.Below.{known_faulty}
 use Rattle.elf_worked.proofs.GnuSound.{has_no_bloom_bit, has_not_in_run, has_shift, has_unreadable, has_wrong_hash}
 use Rattle.elf_worked.proofs.worked.soundness.gnu_sections_with_a_fault.Goals as goal
 
@@ -32,4 +32,4 @@ returns-clause-not_in_run c = has_not_in_run
 
 pub returns-clause-verdict : goal.returns-clause-verdict
 unfolding gnu_section bytes_at number_at numbers_at
-returns-clause-verdict c = ap Ok (told_faulty (decide (ByGnu (gnu_with 3 5 0xc0 0x07 0x09))) _ has_not_in_run.0)
+returns-clause-verdict c = ap Ok (known_faulty (decide (ByGnu (gnu_with 3 5 0xc0 0x07 0x09))) _ has_not_in_run.0)

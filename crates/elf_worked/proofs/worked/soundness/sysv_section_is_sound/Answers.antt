@@ -12,7 +12,7 @@ use Rattle.elf_check.specs.inner.Decisions.{decide}
 use Rattle.std.specs.Prelude.{Ok}
 use Rattle.elf_worked.specs.Files.{in_four}
 use Rattle.elf_worked.specs.SoundSections.{sysv_with}
-use Rattle.elf_worked.proofs.Below.{told_sound}
+use Rattle.elf_worked.proofs.Below.{known_sound}
 use Rattle.elf_worked.proofs.SysvSound.{sysv_sound}
 use Rattle.elf_worked.proofs.worked.soundness.sysv_section_is_sound.Goals as goal
 
@@ -29,4 +29,4 @@ returns-clause-no_fault c = λ fault h. true_fault (sysv_with 8 (in_four 0)) sys
 
 pub returns-clause-verdict : goal.returns-clause-verdict
 unfolding sysv_section bytes_at number_at numbers_at digits chain_lengths word word_at
-returns-clause-verdict c = ap Ok (told_sound (decide (BySysv (sysv_with 8 (in_four 0)))) 3 sysv_sound)
+returns-clause-verdict c = ap Ok (known_sound (decide (BySysv (sysv_with 8 (in_four 0)))) 3 sysv_sound)

@@ -7,7 +7,7 @@ use Rattle.elf_check.specs.Object.{BySysv}
 use Rattle.elf_check.specs.inner.Decisions.{decide}
 use Rattle.elf_worked.specs.Files.{in_four}
 use Rattle.elf_worked.specs.SoundSections.{sysv_with}
-use Rattle.elf_worked.proofs.Below.{told_faulty}
+use Rattle.elf_worked.proofs.Below.{known_faulty}
 use Rattle.elf_worked.proofs.SysvSound.{has_endless, has_past_chains, has_unreadable, has_wrong_bucket, other_bucket}
 use Rattle.elf_worked.proofs.worked.soundness.sysv_sections_with_a_fault.Goals as goal
 
@@ -32,4 +32,4 @@ returns-clause-wrong_bucket c = has_wrong_bucket
 
 pub returns-clause-verdict : goal.returns-clause-verdict
 unfolding sysv_section bytes_at number_at numbers_at
-returns-clause-verdict c = ap Ok (told_faulty (decide (BySysv (sysv_with 8 (in_four 1)))) _ has_endless.0)
+returns-clause-verdict c = ap Ok (known_faulty (decide (BySysv (sysv_with 8 (in_four 1)))) _ has_endless.0)

@@ -13,7 +13,7 @@ use Rattle.elfshow.specs.calls.Ranges.{call_ranges}
 use Rattle.elfshow.specs.calls.Text.{symbol_count, unless_none}
 use Rattle.elfshow.specs.inner.RunSteps.{Gives}
 use Rattle.elfshow.specs.lines.Versions.{versions_listed}
-use Rattle.elfshow.proofs.StreamRuns.{behind_refused, both_refused, both_told, call_refused, call_written, first_refused, gives_answer, gives_of, gives_same, cached_back, cached_both, cached_front, inner_refused, leaves_later, still_cached}
+use Rattle.elfshow.proofs.StreamRuns.{behind_refused, both_refused, both_known, call_refused, call_written, first_refused, gives_answer, gives_of, gives_same, cached_back, cached_both, cached_front, inner_refused, leaves_later, still_cached}
 use Rattle.elfshow.proofs.calls.stream.write_symbol_versions.Goals as goal
 
 pub returns-in-Err : goal.returns-in-Err
@@ -65,5 +65,5 @@ returns-in-Ok-Some g c =
     let both = cached_both new (symbols_ranges 11 (headers_alone little old)) (versions_ranges (headers_alone little old)) front back in
     let given : Gives (call_ranges little old Versions) (option_map versions_view) versions old new (Ok (Some c.in-Ok-Some.versions)) = record { keeps = leaves.keeps; loaded = both; answers = subst (λ w. IfSome old.content (λ bytes. IsAnswer (option_map versions_view) (versions bytes) old.can_fail old.failures new.failures w)) found leaves.answers } in
     call_written little Versions old new (option_map versions_view) versions (Ok (Some c.in-Ok-Some.versions)) (Some c.in-Ok-Some.versions) (versions_listed c.in-Ok.symbols (versions_view c.in-Ok-Some.versions)) _ _ c.write_versions.result
-    (IfSome_then old.content number (λ bytes count answer. both_told symbol_count (λ n. unless_none (versions_listed n)) (symbols bytes) (versions bytes) c.in-Ok.symbols (Some (versions_view c.in-Ok-Some.versions)) count answer))
+    (IfSome_then old.content number (λ bytes count answer. both_known symbol_count (λ n. unless_none (versions_listed n)) (symbols bytes) (versions bytes) c.in-Ok.symbols (Some (versions_view c.in-Ok-Some.versions)) count answer))
     given refl c.write_versions.ensures

@@ -1,6 +1,6 @@
 use Rattle.std.proofs.Common.{◌≡◌, ◌≤◌, ◌^◌, length, ℕ}
 use Rattle.std.specs.Option.{option_map, option_or}
-use Rattle.elf_parts.specs.gnu_symver.Indexed.{slot}
+use Rattle.elf_parts.specs.inner.Indexed.{slot}
 use Rattle.elf_parts.specs.gnu_symver.Lists.{ver_need_aux_left}
 use Rattle.elf_parts.specs.gnu_symver.Table.{kept, version_with}
 use Rattle.elf_parts.proofs.gnu_symver.table.indexed.put_versions.Given as goal

@@ -1,7 +1,7 @@
 -- What the place of an index holds, or else what is left for it, stays the same from need to need.
 use Rattle.std.proofs.Common.{◌<◌, sym, ap, ◌∙◌, subst}
 use Rattle.std.specs.Option.{option_map, option_or}
-use Rattle.elf_parts.specs.gnu_symver.Indexed.{slot}
+use Rattle.elf_parts.specs.inner.Indexed.{slot}
 use Rattle.elf_parts.specs.gnu_symver.Lists.{ver_need_aux_left, ver_needs_left}
 use Rattle.elf_parts.specs.gnu_symver.Table.{needed_of, needed_version}
 use Rattle.elf_parts.proofs.Indexed.{needed_end, needed_front}

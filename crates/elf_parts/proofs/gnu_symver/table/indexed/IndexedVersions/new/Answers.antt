@@ -1,6 +1,6 @@
 use Rattle.std.proofs.Common.{[], sym, subst, arith}
 use Rattle.std.specs.Option.{option_map}
-use Rattle.elf_parts.specs.gnu_symver.Indexed.{AreDefined, AreNeeded, listed_definitions, listed_needs}
+use Rattle.elf_parts.specs.inner.Indexed.{AreDefined, AreNeeded, listed_definitions, listed_needs}
 use Rattle.elf_parts.specs.gnu_symver.Lists.{ver_defs_left, ver_needs_left}
 use Rattle.elf_parts.specs.gnu_symver.Table.{definitions_view, needs_view}
 use Rattle.elf_parts.proofs.Indexed.{none_defined, none_needed}

@@ -1,7 +1,7 @@
 -- Places of some version indexes, and the first entry with each.
 use Rattle.std.specs.Prelude.{◌≡◌, ◌<◌, ℕ, ⊤, length, List, Option, Some, None, MatchOption}
 use Rattle.std.specs.Option.{option_map}
-use Rattle.elf_parts.specs.gnu_symver.Indexed.{slot}
+use Rattle.elf_parts.specs.inner.Indexed.{slot}
 use Rattle.elf_parts.specs.gnu_symver.Lists.{ver_defs_left}
 use Rattle.elf_parts.specs.gnu_symver.Table.{Definitions, Needs, defined_version, needed_of, needed_version}
 use Rattle.elf_parts.specs.declared.gnu_symver.records.VerDef.{VerDef}

@@ -1,0 +1,2 @@
+-- mappings that share no address, as the entries of a map
+pub mod Apart
