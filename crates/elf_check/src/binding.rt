@@ -64,9 +64,10 @@ pub struct BindingFault {
     pub symbol: usize,
 }
 
-/// An object in a look-up with versions: its checked hash table, and the versions of its symbols, if it has any.
+/// An object in a look-up with versions: its checked hash table, and the versions of its symbols, if it has any. These
+/// are a `SymbolVersionTable` or, so that a look-up needs no walk, an `IndexedVersions` or a `PlacedVersions`.
 #[derive(Debug, Drop)]
-pub struct VersionedObject<'data, E: EndianParse> {
+pub struct VersionedObject<'data, E: EndianParse, V = SymbolVersionTable<'data, E>> {
     pub table: AnyChecked<'data, E>,
-    pub versions: Option<SymbolVersionTable<'data, E>>,
+    pub versions: Option<V>,
 }

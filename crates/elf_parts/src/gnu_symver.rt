@@ -13,5 +13,5 @@ pub use lists::{
 pub use records::{VerDef, VerDefAux, VerNeed, VerNeedAux, VersionIndex, VersionIndexTable};
 pub use table::{
     IndexedVersions, Needed, PlacedVersions, SymbolDefinition, SymbolNamesIterator,
-    SymbolRequirement, SymbolVersionTable,
+    SymbolRequirement, SymbolVersionTable, SymbolVersions,
 };

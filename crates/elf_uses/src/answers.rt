@@ -7,8 +7,9 @@ use crate::hash_lint::lint;
 use crate::load_plan::{Mapping, load_plan};
 use crate::needed_lines::print_needed_of_bytes;
 use crate::resolver::{definition, tables};
+use crate::versions::indexed;
 use elf::endian::AnyEndian;
-use elf::gnu_symver::SymbolVersionTable;
+use elf::gnu_symver::{IndexedVersions, SymbolVersionTable};
 use elf::section::SectionHeader;
 use elf::string_table::StringTable;
 use elf::symbol::{Symbol, SymbolTable};
@@ -104,9 +105,10 @@ fn print_all<W: Write>(
     versions: Option<&SymbolVersionTable<'_, AnyEndian>>,
 ) -> io::Result<()> {
     let found = functions(alloc, symbols)?;
+    let versions = indexed(alloc, versions)?;
     for (index, symbol) in &found {
         print_function(out, symbol, strings)?;
-        print_version(out, *index, versions)?;
+        print_version(out, *index, versions.as_ref())?;
     }
     Ok(())
 }
@@ -127,7 +129,7 @@ fn print_function<W: Write>(
 fn print_version<W: Write>(
     out: &mut W,
     index: usize,
-    versions: Option<&SymbolVersionTable<'_, AnyEndian>>,
+    versions: Option<&IndexedVersions<'_, '_, AnyEndian, Global>>,
 ) -> io::Result<()> {
     let Some(versions) = versions else {
         return writeln!(out);

@@ -2,12 +2,12 @@
 ghost use Rattle.std.specs.Prelude.{◌≡◌, IfOk, filter};
 ghost use Rattle.std.specs.List.{enumerate_from};
 ghost use Rattle.elf_parts.specs.Symbol.{symbol_reads};
-ghost use Rattle.elf_parts.specs.gnu_symver.Table.{definition, definition_view, versions_view};
+ghost use Rattle.elf_parts.specs.gnu_symver.Table.{definition, definition_view};
 ghost use Rattle.elf_parts.specs.Table.{table_items, table_view};
 ghost use Rattle.elf_uses.specs.Functions.{GivesVersion, GivesVersionOf, is_defined_function};
 
 use elf::endian::EndianParse;
-use elf::gnu_symver::{SymbolDefinition, SymbolVersionTable};
+use elf::gnu_symver::{SymbolDefinition, SymbolVersions};
 use elf::symbol::{Symbol, SymbolTable};
 use elf::{ParseError, abi};
 use std::alloc::{AllocError, Global};
@@ -70,11 +70,11 @@ fn version_in<'a, E: EndianParse>(
 /// definition, or one without a name, or only that of the file itself (`VER_FLG_BASE`).
 ///
 /// Errors, in order: that of `get_definition`; that of the first name of the definition.
-pub fn version_of<'a, E: EndianParse>(
-    versions: &'a SymbolVersionTable<'_, E>,
+pub fn version_of<'a, E: EndianParse, V: SymbolVersions<E>>(
+    versions: &'a V,
     symbol: usize,
 ) -> Result<Option<Version<'a>>, ParseError>
-    ensures { GivesVersion (definition (versions_view versions.now) symbol) result }
+    ensures { GivesVersion (definition (V.versions versions.now) symbol) result }
 {
     match versions.get_definition(symbol) {
         Ok(Some(definition)) => version_in(definition),

@@ -16,6 +16,7 @@ mod load_plan;
 mod needed;
 mod needed_lines;
 mod resolver;
+mod versions;
 
 use answers::print_answers;
 use bindings::lines::print_bindings;

@@ -1,6 +1,6 @@
 //! What a user's functions can promise of notes and of the versions of symbols, whatever the order is. Each
 //! uses the contracts of the iterators alone: a `for` has its invariant, and nothing else is proved here.
-ghost use Rattle.std.specs.Prelude.{◌≡◌, ◌==◌, ◌<◌, ◌^◌, length};
+ghost use Rattle.std.specs.Prelude.{◌≡◌, ◌==◌, ◌<◌, ◌^◌, length, IfOk};
 ghost use Rattle.std.specs.List.{find};
 ghost use Rattle.std.specs.Option.{option_map};
 ghost use Rattle.elf_parts.specs.Note.{notes_in};
@@ -13,11 +13,12 @@ ghost use Rattle.elf_parts.specs.Table.{table_in};
 use elf_parts::endian::EndianParse;
 use elf_parts::file::Class;
 use elf_parts::gnu_symver::{
-    SymbolNamesIterator, SymbolVersionTable, VerDefAuxIterator, VerDefIterator, VerNeedAuxIterator,
-    VerNeedIterator,
+    IndexedVersions, SymbolNamesIterator, SymbolVersionTable, SymbolVersions, VerDefAuxIterator,
+    VerDefIterator, VerNeedAuxIterator, VerNeedIterator,
 };
 use elf_parts::note::NoteIterator;
 use elf_parts::parse::ParseError;
+use std::alloc::{AllocError, Global};
 
 /// How many notes the data hold.
 pub fn count_notes<E: EndianParse>(endian: E, class: Class, align: usize, data: &[u8]) -> usize
@@ -91,16 +92,29 @@ pub fn count_names<E: EndianParse>(names: SymbolNamesIterator<'_, E>) -> u64
 }
 
 /// How many names the definition of a symbol has. They are always few enough to be counted.
-pub fn count_names_of<E: EndianParse>(
-    versions: &SymbolVersionTable<'_, E>,
+pub fn count_names_of<E: EndianParse, V: SymbolVersions<E>>(
+    versions: &V,
     symbol: usize,
 ) -> Result<Option<u64>, ParseError>
     ensures { result ≡ ok_map (option_map (λ found. length found.names))
-        (definition (versions_view versions.now) symbol) }
+        (definition (V.versions versions.now) symbol) }
 {
     match versions.get_definition(symbol) {
         Ok(Some(found)) => Ok(Some(count_names(found.names))),
         Ok(None) => Ok(None),
         Err(err) => Err(err),
     }
+}
+
+/// The same, by an index of these versions. The outer error is a failed allocation.
+pub fn count_names_by_index<E: EndianParse>(
+    alloc: Global,
+    versions: &SymbolVersionTable<'_, E>,
+    symbol: usize,
+) -> Result<Result<Option<u64>, ParseError>, AllocError>
+    ensures { IfOk result (λ counted. counted ≡ ok_map (option_map (λ found. length found.names))
+        (definition (versions_view versions.now) symbol)) }
+{
+    let index = IndexedVersions::new(alloc, versions)?;
+    Ok(count_names_of(&index, symbol))
 }

@@ -1,6 +1,5 @@
 //! Finds the symbol to which a reference binds, in one object and in a list of objects.
 ghost use Rattle.std.specs.Prelude.{◌≡◌};
-ghost use Rattle.elf_parts.specs.gnu_symver.Table.{versions_view};
 ghost use Rattle.std.specs.Option.{option_map};
 ghost use Rattle.elf_check.specs.Binding.{IsBinding, first_serving, serves_in};
 ghost use Rattle.elf_check.specs.VersionedView.{versioned_view};
@@ -10,16 +9,16 @@ use crate::binding::versions::serves;
 use crate::binding::{BindingFault, Rule, Unreadable, VersionedObject, Wanted, is_definition};
 use crate::hashcheck::NamedSymbols;
 use elf_parts::endian::EndianParse;
-use elf_parts::gnu_symver::SymbolVersionTable;
+use elf_parts::gnu_symver::SymbolVersions;
 use elf_parts::symbol::Symbol;
 
 // Whether a definition serves; all of a file without versions do.
-fn serves_in<E: EndianParse>(
-    versions: Option<&SymbolVersionTable<'_, E>>,
+fn serves_in<E: EndianParse, V: SymbolVersions<E>>(
+    versions: Option<&V>,
     rule: &Rule<'_>,
     symbol: usize,
 ) -> Result<bool, Unreadable>
-    ensures { result ≡ serves_in (option_map (λ table. versions_view table.now) versions.entry) rule.now symbol }
+    ensures { result ≡ serves_in (option_map (λ table. V.versions table.now) versions.entry) rule.now symbol }
 {
     match versions {
         Some(versions) => serves(versions, rule, symbol),
@@ -28,12 +27,12 @@ fn serves_in<E: EndianParse>(
 }
 
 // The first of these symbols that is a definition and serves.
-fn first_serving<E: EndianParse>(
-    versions: Option<&SymbolVersionTable<'_, E>>,
+fn first_serving<E: EndianParse, V: SymbolVersions<E>>(
+    versions: Option<&V>,
     rule: &Rule<'_>,
     named: NamedSymbols<'_, '_, E>,
 ) -> Result<Option<(usize, Symbol)>, Unreadable>
-    ensures { result ≡ first_serving (serves_in (option_map (λ table. versions_view table.now) versions.entry) rule.now)
+    ensures { result ≡ first_serving (serves_in (option_map (λ table. V.versions table.now) versions.entry) rule.now)
         (named_left named.entry) }
 {
     for (index, symbol) in named {
@@ -44,7 +43,7 @@ fn first_serving<E: EndianParse>(
     Ok(None)
 }
 
-impl<'data, E: EndianParse> VersionedObject<'data, E> {
+impl<'data, E: EndianParse, V: SymbolVersions<E>> VersionedObject<'data, E, V> {
     ghost use Rattle.elf_check.specs.Binding.{IsChosen, IsFirstServing};
 
     // The first symbol of the name that serves.
@@ -53,7 +52,7 @@ impl<'data, E: EndianParse> VersionedObject<'data, E> {
         name: &[u8],
         rule: Rule<'_>,
     ) -> Result<Option<(usize, Symbol)>, Unreadable>
-        ensures { IsFirstServing (versioned_view self.now) name.now rule.entry result }
+        ensures { IsFirstServing (versioned_view V.versions self.now) name.now rule.entry result }
     {
         first_serving(self.versions.as_ref(), &rule, self.table.find_all(name))
     }
@@ -69,7 +68,7 @@ impl<'data, E: EndianParse> VersionedObject<'data, E> {
         name: &[u8],
         wanted: &Wanted<'_>,
     ) -> Result<Option<(usize, Symbol)>, Unreadable>
-        ensures { IsChosen (versioned_view self.now) name.now wanted.now result }
+        ensures { IsChosen (versioned_view V.versions self.now) name.now wanted.now result }
     {
         match wanted {
             Wanted::Compatible(version) => self.first_serving(name, Rule::Versioned(*version)),
@@ -87,12 +86,12 @@ impl<'data, E: EndianParse> VersionedObject<'data, E> {
 ///
 /// The error is that of the first object whose `find` returns an error, if no object before it has a definition
 /// that serves.
-pub fn bind<E: EndianParse>(
-    objects: &[VersionedObject<'_, E>],
+pub fn bind<E: EndianParse, V: SymbolVersions<E>>(
+    objects: &[VersionedObject<'_, E, V>],
     name: &[u8],
     wanted: &Wanted<'_>,
 ) -> Result<Option<(usize, usize, Symbol)>, BindingFault>
-    ensures { IsBinding versioned_view objects.now name.now wanted.now result }
+    ensures { IsBinding (versioned_view V.versions) objects.now name.now wanted.now result }
 {
     for (object, candidate) in objects.iter().enumerate() {
         match candidate.find(name, wanted) {

@@ -10,7 +10,7 @@ use crate::binding::{Unreadable, VersionedObject, Wanted, version_of};
 use crate::resolve::{ObjectFault, object_table};
 use elf::ElfBytes;
 use elf::endian::EndianParse;
-use elf::gnu_symver::SymbolVersionTable;
+use elf::gnu_symver::SymbolVersions;
 
 /// Returns the checked hash table of a file with the versions of its symbols, if it has version indexes. Returns
 /// `None` exactly if the file has no hash section.
@@ -19,7 +19,7 @@ use elf::gnu_symver::SymbolVersionTable;
 pub fn versioned_object<'data, E: EndianParse>(
     file: &ElfBytes<'data, E>,
 ) -> Result<Option<VersionedObject<'data, E>>, ObjectFault>
-    ensures { GivesVersioned versioned_view (object_file E.little (view file.now)) result }
+    ensures { GivesVersioned (versioned_view versions_view) (object_file E.little (view file.now)) result }
 {
     match object_table(file)? {
         Some(table) => {
@@ -32,11 +32,11 @@ pub fn versioned_object<'data, E: EndianParse>(
 
 /// Returns what an undefined symbol, counted from 0, requests: the version that it has in its file, as
 /// `Compatible`, or `Any` if it has none. The error is that of `version_of`.
-pub fn reference<'a, E: EndianParse>(
-    versions: Option<&'a SymbolVersionTable<'_, E>>,
+pub fn reference<'a, E: EndianParse, V: SymbolVersions<E>>(
+    versions: Option<&'a V>,
     symbol: usize,
 ) -> Result<Wanted<'a>, Unreadable>
-    ensures { IsReference (option_map (λ table. versions_view table.now) versions.entry) symbol result }
+    ensures { IsReference (option_map (λ table. V.versions table.now) versions.entry) symbol result }
 {
     let Some(versions) = versions else {
         return Ok(Wanted::Any);

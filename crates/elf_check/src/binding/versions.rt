@@ -2,7 +2,7 @@
 ghost use Rattle.std.specs.Prelude.{◌≡◌};
 ghost use Rattle.std.specs.Option.{option_map};
 ghost use Rattle.elf_parts.specs.Number.{ok_map};
-ghost use Rattle.elf_parts.specs.gnu_symver.Table.{definition_view, names_left, requirement, versions_view};
+ghost use Rattle.elf_parts.specs.gnu_symver.Table.{definition_view, names_left, requirement};
 ghost use Rattle.elf_check.specs.Binding.{defined_as, first_name, is_base, is_version};
 ghost use Rattle.elf_check.specs.Binding.{needed_as, serves, serves_exactly, serves_version};
 ghost use Rattle.elf_check.specs.Binding.{version_index_of, version_of, version_view};
@@ -10,9 +10,7 @@ ghost use Rattle.elf_check.specs.Binding.{version_index_of, version_of, version_
 use crate::binding::{Rule, Unreadable, Version};
 use elf_abi::abi;
 use elf_parts::endian::EndianParse;
-use elf_parts::gnu_symver::{
-    SymbolDefinition, SymbolNamesIterator, SymbolVersionTable, VersionIndex,
-};
+use elf_parts::gnu_symver::{SymbolDefinition, SymbolNamesIterator, SymbolVersions, VersionIndex};
 
 // A version by the first of its names.
 fn first_name<'a, E: EndianParse>(
@@ -44,12 +42,12 @@ fn defined_as<'a, E: EndianParse>(
 
 // The version that a symbol needs.
 #[tactic(auto, using(crate::proofs::Bindings::needed_given, crate::proofs::Bindings::needed_none))]
-fn needed_as<'a, E: EndianParse>(
-    versions: &'a SymbolVersionTable<'_, E>,
+fn needed_as<'a, E: EndianParse, V: SymbolVersions<E>>(
+    versions: &'a V,
     symbol: usize,
 ) -> Result<Option<Version<'a>>, Unreadable>
     ensures { ok_map (option_map version_view) result
-        ≡ needed_as symbol (requirement (versions_view versions.now) symbol) }
+        ≡ needed_as symbol (requirement (V.versions versions.now) symbol) }
 {
     match versions.get_requirement(symbol) {
         Ok(Some(needed)) => Ok(Some(Version {
@@ -67,11 +65,11 @@ fn needed_as<'a, E: EndianParse>(
 ///
 /// The error is `Unreadable` if the version index or a name cannot be read (of a need also the name of its file),
 /// or if the definition has no names.
-pub fn version_of<'a, E: EndianParse>(
-    versions: &'a SymbolVersionTable<'_, E>,
+pub fn version_of<'a, E: EndianParse, V: SymbolVersions<E>>(
+    versions: &'a V,
     symbol: usize,
 ) -> Result<Option<Version<'a>>, Unreadable>
-    ensures { ok_map (option_map version_view) result ≡ version_of (versions_view versions.now) symbol }
+    ensures { ok_map (option_map version_view) result ≡ version_of (V.versions versions.now) symbol }
 {
     match versions.get_definition(symbol) {
         Ok(Some(definition)) => defined_as(definition, symbol),
@@ -81,11 +79,11 @@ pub fn version_of<'a, E: EndianParse>(
 }
 
 // The version index of a symbol.
-fn version_index_of<E: EndianParse>(
-    versions: &SymbolVersionTable<'_, E>,
+fn version_index_of<E: EndianParse, V: SymbolVersions<E>>(
+    versions: &V,
     symbol: usize,
 ) -> Result<VersionIndex, Unreadable>
-    ensures { result ≡ version_index_of (versions_view versions.now) symbol }
+    ensures { result ≡ version_index_of (V.versions versions.now) symbol }
 {
     match versions.get_index(symbol) {
         Ok(index) => Ok(index),
@@ -127,12 +125,12 @@ fn is_base(index: VersionIndex) -> bool
 }
 
 // Whether a definition serves.
-pub(crate) fn serves<E: EndianParse>(
-    versions: &SymbolVersionTable<'_, E>,
+pub(crate) fn serves<E: EndianParse, V: SymbolVersions<E>>(
+    versions: &V,
     rule: &Rule<'_>,
     symbol: usize,
 ) -> Result<bool, Unreadable>
-    ensures { result ≡ serves (versions_view versions.now) rule.now symbol }
+    ensures { result ≡ serves (V.versions versions.now) rule.now symbol }
 {
     match rule {
         Rule::Versioned(wanted) => {

@@ -16,6 +16,7 @@ ghost use Rattle.elf_parts.specs.gnu_symver.Table.{GivesRequirement, GivesTexts,
 ghost use Rattle.elf_parts.specs.Table.{table_view};
 
 mod indexed;
+mod look_up;
 mod placed;
 
 use super::{
@@ -26,6 +27,7 @@ use crate::endian::EndianParse;
 use crate::parse::ParseError;
 use crate::string_table::StringTable;
 pub use indexed::IndexedVersions;
+pub use look_up::SymbolVersions;
 pub use placed::PlacedVersions;
 
 /// The version of a symbol that another file must have: the name of that file, the name, the hash and the flags of

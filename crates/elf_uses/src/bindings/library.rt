@@ -212,8 +212,8 @@ impl<E: EndianParse> Library<E> {
     /// read; `Table` if there are no dynamic symbols; `Table` if `new` of the table returns an error; `Table` with a
     /// fault that is true of the section; `Unread` if the versions could not be read.
     pub fn object(&self) -> Result<Option<VersionedObject<'_, E>>, LibraryFault<'_>>
-        ensures { GivesFrom versioned_view (library_object E.little self.now) (library_versions E.little self.now)
-            (object_result result) }
+        ensures { GivesFrom (versioned_view versions_view) (library_object E.little self.now)
+            (library_versions E.little self.now) (object_result result) }
     {
         let Some(table) = self.table()? else {
             return Ok(None);

@@ -1,6 +1,7 @@
 //! What the references of a list of libraries bind to, as lines.
 use crate::bindings::library::Library;
-use crate::bindings::{Bound, bind_reference, references};
+use crate::bindings::{Bound, IndexedObject, bind_reference, references, with_index};
+use crate::versions::indexed;
 use elf::ParseError;
 use elf::endian::AnyEndian;
 use elf::string_table::StringTable;
@@ -16,7 +17,7 @@ pub type Opened = Result<Library<AnyEndian>, ParseError>;
 /// The objects in which references are bound, and for each object the place of its library in the list of libraries.
 #[derive(Drop)]
 struct Scope<'a, 'data> {
-    objects: &'a [VersionedObject<'data, AnyEndian>],
+    objects: &'a [IndexedObject<'a, 'data, AnyEndian>],
     places: &'a [usize],
 }
 
@@ -26,13 +27,19 @@ pub fn print_bindings<W: Write>(
     out: &mut W,
     libraries: &[Opened],
 ) -> io::Result<()> {
-    let mut objects = Vec::new(alloc);
+    let mut tables = Vec::new(alloc);
+    let mut versions = Vec::new(alloc);
     let mut places = Vec::new(alloc);
     for (place, library) in libraries.iter().enumerate() {
         if let Some(object) = print_object(out, place, library)? {
-            objects.push(object)?;
+            tables.push(object.table)?;
+            versions.push(object.versions)?;
             places.push(place)?;
         }
+    }
+    let mut objects = Vec::new(alloc);
+    for (table, versions) in tables.into_iter().zip(versions.iter()) {
+        objects.push(with_index(alloc, table, versions.as_ref())?)?;
     }
     let scope = Scope {
         objects: objects.as_slice(),
@@ -85,6 +92,7 @@ fn print_bindings_of<W: Write>(
     let Ok(versions) = library.symbol_version_table() else {
         return Ok(());
     };
+    let versions = indexed(alloc, versions.as_ref())?;
     let found = references(alloc, &symbols)?;
     for (index, symbol) in &found {
         write!(out, "object {place}: symbol {index} ")?;

@@ -5,13 +5,14 @@ ghost use Rattle.elf_parts.specs.inner.Indexed.{AreDefined, AreNeeded, slot};
 ghost use Rattle.elf_parts.specs.Number.{ok_map};
 ghost use Rattle.elf_parts.specs.StringTable.{strings_view};
 ghost use Rattle.elf_parts.specs.gnu_symver.Lists.{ver_defs_left, ver_need_aux_left, ver_needs_left};
-ghost use Rattle.elf_parts.specs.gnu_symver.Table.{definition, definition_view, kept, requirement};
+ghost use Rattle.elf_parts.specs.gnu_symver.Table.{definition, definition_view, index_of, kept, requirement};
 ghost use Rattle.elf_parts.specs.gnu_symver.Table.{version_with, versions_view};
 ghost use Rattle.elf_parts.specs.gnu_symver.Table.{GivesRequirement, HasFewNames};
 
 use super::{
     Needed, SymbolDefinition, SymbolRequirement, SymbolVersionTable, VerDefIterator,
-    VerNeedAuxIterator, VerNeedIterator, first_defined, kept, read_definition, read_requirement,
+    VerNeedAuxIterator, VerNeedIterator, VersionIndex, first_defined, kept, read_definition,
+    read_requirement,
 };
 use crate::endian::EndianParse;
 use crate::parse::ParseError;
@@ -141,6 +142,13 @@ fn slot<T: Copy>(slots: &[Option<T>], index: u16) -> Option<T>
 }
 
 impl<'a, 'data, E: EndianParse, A: Allocator> IndexedVersions<'a, 'data, E, A> {
+    /// Returns what `SymbolVersionTable::get_index` returns, value or error.
+    pub fn get_index(&self, symbol: usize) -> Result<VersionIndex, ParseError>
+        ensures { result ≡ index_of self.now symbol }
+    {
+        self.versions.get_index(symbol)
+    }
+
     /// Returns what `SymbolVersionTable::get_requirement` returns, value or error, without a walk.
     pub fn get_requirement(
         &self,
