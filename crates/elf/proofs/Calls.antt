@@ -2,15 +2,12 @@
 use Rattle.std.proofs.Common.{◌≡◌, ℕ, Bool, List, [], ◌∷◌, refl, ap, ◌∙◌, subst, Option, Some, None, IfSome}
 use Rattle.std.specs.Prelude.{Result, Ok, Err, IsErr, All}
 use Rattle.std.proofs.lemmas.List.Elements.{All-cons, All-nil}
-use Rattle.elf_parts.specs.Number.{ok_map}
 use Rattle.elf_parts.specs.declared.file.FileHeader.{FileHeader}
 use Rattle.elf_parts.specs.declared.parse.ParseError.{ParseError}
-use Rattle.elf_parts.specs.declared.section.SectionHeader.{SectionHeader}
 use Rattle.elf.specs.Readers.{AreMade, Call, IsAnsweredAlike, IsSame, answer, requested}
 use Rattle.elf.specs.Ranges.{headers_alone}
 use Rattle.elf.specs.StreamFile.{stream_file}
-use Rattle.elf.specs.Names.{name_table}
-use Rattle.elf.specs.ObjectFile.{ObjectFile, object_file}
+use Rattle.elf.specs.ObjectFile.{object_file}
 use Rattle.elf.specs.Readers.{AreAlike, SameAnswers}
 use Rattle.elf.specs.Opening.{opened}
 use Rattle.elf.specs.ElfStream.{Headers, IsAnswer, IsOfFile, IsRefused, Keeps, Kind, Leaves, Seen, headers_of, kind}

@@ -1,6 +1,6 @@
 -- Ranges of memory that share no address: one of them decides whether a mapping meets any, and one more keeps them apart.
 use Rattle.std.proofs.Common.{◌≡◌, ℕ, zero, suc, ◌+◌, ◌-◌, ◌^◌, ◌<◌, ◌≤◌, Bool, true, false, ◌||◌, ◌==◌, not, List, [], ◌∷◌, ◌++◌, length, refl, sym, ap, ◌∙◌, arith, subst, Some, inl, inr}
-use Rattle.std.specs.Prelude.{cond, nat_lt, min, max, take, slice_get}
+use Rattle.std.specs.Prelude.{cond, nat_lt, take, slice_get}
 use Rattle.std.specs.List.{All, list_any, filter}
 use Rattle.std.proofs.lemmas.List.{get_or_push, length_push}
 use Rattle.std.proofs.lemmas.List.Elements.{filter_passes}

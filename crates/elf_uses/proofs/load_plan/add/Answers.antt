@@ -1,4 +1,4 @@
-use Rattle.std.proofs.Common.{rules, arith, ◌<◌, ◌≤◌, ◌^◌}
+use Rattle.std.proofs.Common.{rules, arith}
 use Rattle.std.proofs.lemmas.Bool.Decides.{nat_tests}
 use Rattle.elf_uses.specs.inner.Apart.{meets}
 use Rattle.elf_uses.proofs.Apart.{any_of_one_more, one_more_apart}

@@ -1,4 +1,4 @@
-use Rattle.std.proofs.Common.{arith, sym, ◌∙◌, ◌<◌, ◌+◌, ◌≤◌, ◌^◌, le-leb}
+use Rattle.std.proofs.Common.{arith, sym, ◌∙◌, le-leb}
 use Rattle.std.proofs.lemmas.Bool.Decides.{nat_tests}
 use Rattle.elf_uses.proofs.Apart.{last_above, last_below, none_meets_any, none_up_to}
 use Rattle.elf_uses.proofs.load_plan.meets_any.Goals as goal
