@@ -89,9 +89,9 @@ def checked(command):
 
 def bound(command):
     """What look-ups over libraries print: how many found a symbol with its version and without, and the least nanoseconds of
-    both."""
+    both; then the same with an index of the versions."""
     runs = [subprocess.run(command, capture_output=True, check=True, text=True).stdout.split() for _ in range(RUNS)]
-    return int(runs[0][0]), int(runs[0][1]), min(int(run[2]) for run in runs), min(int(run[3]) for run in runs)
+    return [(int(runs[0][k]), int(runs[0][k + 1]), *(min(int(run[k + j]) for run in runs) for j in (2, 3))) for k in (0, 4)]
 
 
 def text_of(command):
