@@ -8,7 +8,7 @@ use Rattle.std.proofs.lemmas.Slice.Eq.{bytes_eq-Decides}
 use Rattle.elf_parts.specs.declared.symbol.Symbol.{Symbol}
 use Rattle.elf_parts.specs.Hash.{ReadsBelowCount, sysv_hash_of, word_at, word_count}
 use Rattle.elf_parts.specs.SysvFind.{SysvTable, find_along, sysv_find}
-use Rattle.elf_parts.proofs.Walks.{along_found, along_next, along_ended}
+use Rattle.elf_parts.proofs.Walks.{along_found, along_next, along_ended, with_another, with_name}
 use Rattle.elf_check.specs.Indexed.{HasName, IsFirstNamed, ScanSysv}
 use Rattle.elf_check.specs.SoundSysv.{Belongs, EndsAt, SoundSysv, Visits, chain_word, value}
 use Rattle.elf_check.specs.WithSymbols.{WithSymbols, named}
@@ -100,7 +100,7 @@ module _ (s : WithSymbols SysvTable) (name : List ℕ) (bucket last : ℕ) (ends
         let e : v.found.1 ≡ name = (bytes_eq-Decides v.found.1 name).0 same in
         record {
           found = Some (v.index, v.found.0);
-          is = along_found s.table s.symbols s.strings name (suc limit) v.index v.found (omega arith) v.positive (named_ok s.symbols s.strings v.index v.found v.named) same;
+          is = along_found s.table s.symbols s.strings name (suc limit) v.index (v.index, v.found.0) (omega arith) v.positive (with_name s.table s.symbols s.strings name v.index v.found (named_ok s.symbols s.strings v.index v.found v.named) same);
           answer = record {
             place = i;
             from = omega arith;
@@ -114,7 +114,7 @@ module _ (s : WithSymbols SysvTable) (name : List ℕ) (bucket last : ℕ) (ends
       found = rest.found;
       is =
           let less : suc limit - 1 ≡ limit = omega arith in
-          along_next s.table s.symbols s.strings name (suc limit) v.index next v.found (omega arith) v.positive (named_ok s.symbols s.strings v.index v.found v.named) other chain
+          along_next s.table s.symbols s.strings name (suc limit) v.index next (omega arith) v.positive (with_another s.table s.symbols s.strings name v.index v.found (named_ok s.symbols s.strings v.index v.found v.named) other) chain
           ∙ ap (λ n. find_along s.table s.symbols s.strings name n next) less ∙ rest.is;
       answer = widen i rest.found (other_name i v.index v.found v.is v.named other) rest.answer;
     }

@@ -1,18 +1,25 @@
 -- The hashes of a name, as the code computes them.
 use Rattle.std.proofs.Common.{◌≡◌, ℕ, zero, suc, ◌+◌, ◌-◌, ◌*◌, ◌%◌, ◌/◌, ◌^◌, ◌<◌, List, [], ◌∷◌, length, take, drop, get_or, replicate, ◌++◌, ap, sym, ◌∙◌, refl, arith}
 use Rattle.std.specs.Int.{w64, from_le_bytes, to_le_bytes}
-use Rattle.std.specs.Int.Bits.{bit_and}
+use Rattle.std.specs.Prelude.{bit_and, bit_xor}
 use Rattle.std.specs.Simd.{first_chunks}
 use Rattle.std.proofs.lemmas.Grind.{and_numeral}
 use Rattle.std.proofs.lemmas.List.{drop-drop}
-use Rattle.std.proofs.lemmas.Nat.{and_block, le_bytes_8}
+use Rattle.std.proofs.lemmas.Nat.{and_block, and_mask, and_shr, le_bytes_8}
 use Rattle.elf_parts.specs.Hash.{folded, gnu_hash_from}
 
-wraps : (h b : ℕ) → ((h * 16) % 2 ^ 32 + b) % 2 ^ 32 ≡ (16 * h + b) % 2 ^ 32
+wraps : (h b : ℕ) → ((h * 16) % 2 ^ 32 + b) % 2 ^ 32 ≡ (16 * (h % 2 ^ 28) + b) % 2 ^ 32
 wraps h b = omega arith
 
-pub folded_step : (h b : ℕ) → folded (((h * 16) % 2 ^ 32 + b) % 2 ^ 32) ≡ folded ((16 * h + b) % 2 ^ 32)
+-- the top four bits of a hash do not matter for the next one
+pub folded_step : (h b : ℕ) → folded (((h * 16) % 2 ^ 32 + b) % 2 ^ 32) ≡ folded ((16 * (h % 2 ^ 28) + b) % 2 ^ 32)
 folded_step h b = ap folded (wraps h b)
+
+-- the top four bits are taken off last
+pub fold_top : (h : ℕ) → bit_xor h (bit_and (h / 2 ^ 24) 0xf0) % 2 ^ 28 ≡ folded h
+fold_top h = rw (and_shr h 0xf0000000 24) (sym (and_mask (bit_xor h (bit_and (h / 2 ^ 24) 0xf0)) 28))
+
+pub ruleset fold_steps = (fold_top)
 
 pub ruleset hash_steps = (folded_step)
 

@@ -11,12 +11,14 @@ pub mod NoteNames
 pub mod Multiples
 pub mod Hashing
 pub mod HashWords
+pub mod Powers
 pub mod Walks
 pub mod Runs
 pub mod Named
 pub mod ReadBack
 pub mod ReadStructs
 pub mod Nuls
+pub mod Terminated
 pub mod ReadStrings
 pub mod ReadNotes
 pub mod ReadChains

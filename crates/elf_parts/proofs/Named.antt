@@ -1,15 +1,16 @@
 -- What a look-up finds has the name.
-use Rattle.std.proofs.Common.{◌≡◌, ℕ, ◌+◌, ◌-◌, ◌/◌, ◌%◌, zero, suc, Bool, true, false, if◌then◌else◌, nat_eq, nat_lt, ◌||◌, List, ◌∷◌, map, Option, Some, None, Result, Ok, Err, refl, ap, sym, ◌∙◌, inl, inr}
+use Rattle.std.proofs.Common.{◌≡◌, ℕ, ◌+◌, ◌-◌, ◌/◌, ◌%◌, zero, suc, Bool, true, false, if◌then◌else◌, nat_eq, nat_lt, ◌||◌, List, ◌∷◌, map, Option, Some, None, Result, Ok, Err, ap, sym, ◌∙◌, inl, inr}
 use Rattle.std.specs.Str.{bytes_eq}
 use Rattle.std.proofs.lemmas.Bool.{cases_Bool}
 use Rattle.std.proofs.lemmas.Slice.Eq.{bytes_eq-Decides}
 use Rattle.elf_parts.specs.Table.{Table}
 use Rattle.elf_parts.specs.inner.RecordLaws.{bind-ok, ok_map-ok}
+use Rattle.elf_parts.specs.Number.{ok_map}
 use Rattle.elf_parts.specs.Record.{◌>>=◌}
 use Rattle.elf_parts.specs.declared.parse.ParseError.{ParseError}
 use Rattle.elf_parts.specs.declared.symbol.Symbol.{Symbol}
 use Rattle.elf_parts.specs.Hash.{sysv_hash_of, gnu_hash_of}
-use Rattle.elf_parts.specs.Hash.{IsNamed, named_symbol, symbol_at, word_at, word_count}
+use Rattle.elf_parts.specs.Hash.{IsNamed, if_named, named_symbol, symbol_at, word_at, word_count}
 use Rattle.elf_parts.specs.StringTable.{string_at}
 use Rattle.elf_parts.specs.SysvFind.{SysvTable, decided_by, index_decides, find_along, first_decided, sysv_find, walk, walk_on}
 use Rattle.elf_parts.specs.GnuFind.{GnuTable, find_in_bucket, find_in_run, gnu_find, passes, place_decides, run, run_on, word_decides}
@@ -42,14 +43,27 @@ module _ (symbols : Table) (strings name : List ℕ) where
       let c : found ≡ (x.1, name) = ap (λ (n : Symbol). (n, found.1)) b ∙ ap (λ (n : List ℕ). (x.1, n)) name_same in
       ap (λ n. named_symbol symbols strings n) (sym a) ∙ read ∙ ap Ok c
 
+  chosen : (index : ℕ) (x : Symbol × List ℕ) (found : ℕ × Symbol) → named_symbol symbols strings index ≡ Ok x → if_named name index x ≡ Some found → named_symbol symbols strings found.0 ≡ Ok (found.1, name)
+  chosen index x found read e = elim (cases_Bool (bytes_eq x.1 name)) [
+    | inl same ↦ let y = rw same at e in this_named index x found read same (cc y)
+    | inr other ↦ let y = rw other at e in cc y
+  ]
+
+  chosen_named : (index : ℕ) → Named symbols strings name (ok_map (if_named name index) (named_symbol symbols strings index))
+  chosen_named index = λ found e.
+      let x = ok_map-ok (if_named name index) (named_symbol symbols strings index) (Some found) e in
+      chosen index x.0 found x.1 x.2
+
   -- ---- SysV
 
-  decided_named : (t : SysvTable) (v : ℕ) (r : Result (Symbol × List ℕ) ParseError) → named_symbol symbols strings v ≡ r → Named symbols strings name (decided_by t symbols strings name v r)
-  decided_named t v (Err d) read = λ found e. cc
-  decided_named t v (Ok x) read = λ found e. elim (cases_Bool (bytes_eq x.1 name)) [
-    | inl same ↦ let y = rw same at e in this_named v x found read same (cc y)
-    | inr other ↦ let y = rw other at e in let w = bind-ok {A = ℕ} {B = Option (ℕ × Symbol)} (word_at t.chains v) (λ _. Ok None) (Some found) y in cc w.2
-  ]
+  decided_named : (t : SysvTable) (v : ℕ) (o : Option (ℕ × Symbol)) (found : ℕ × Symbol) → decided_by t symbols strings name v o ≡ Ok (Some found) → o ≡ Some found
+  decided_named t v (Some x) found e = cc
+  decided_named t v None found e = let w = bind-ok {A = ℕ} {B = Option (ℕ × Symbol)} (word_at t.chains v) (λ _. Ok None) (Some found) e in cc w.2
+
+  index_named : (t : SysvTable) (v : ℕ) → Named symbols strings name (index_decides t symbols strings name v)
+  index_named t v = λ found e.
+      let o = bind-ok {A = Option (ℕ × Symbol)} {B = Option (ℕ × Symbol)} (ok_map (if_named name v) (named_symbol symbols strings v)) (decided_by t symbols strings name v) (Some found) e in
+      chosen_named v found (o.1 ∙ ap Ok (decided_named t v o.0 found o.2))
 
   walk_on_named : (t : SysvTable) (rest : ℕ → List ℕ) → ((next : ℕ) → Named symbols strings name (first_decided (map (index_decides t symbols strings name) (rest next)))) → (r : Result ℕ ParseError) → Named symbols strings name (first_decided (map (index_decides t symbols strings name) (walk_on r rest)))
   walk_on_named t rest there (Ok next) = there next
@@ -58,7 +72,7 @@ module _ (symbols : Table) (strings name : List ℕ) where
   walk_named : (t : SysvTable) (limit v : ℕ) → Named symbols strings name (first_decided (map (index_decides t symbols strings name) (walk t.chains limit v)))
   walk_named t zero v = λ found e. cc
   walk_named t (suc limit) v =
-      let there = first_named (index_decides t symbols strings name v) (map (index_decides t symbols strings name) (walk_on (word_at t.chains v) (walk t.chains limit))) (decided_named t v (named_symbol symbols strings v) refl) (walk_on_named t (walk t.chains limit) (λ next. walk_named t limit next) (word_at t.chains v)) in
+      let there = first_named (index_decides t symbols strings name v) (map (index_decides t symbols strings name) (walk_on (word_at t.chains v) (walk t.chains limit))) (index_named t v) (walk_on_named t (walk t.chains limit) (λ next. walk_named t limit next) (word_at t.chains v)) in
       λ found e. elim (cases_Bool (nat_eq v 0)) [
         | inl at_end ↦ let y = rw at_end at e in cc y
         | inr far ↦ let y = rw far at e in there found y
@@ -79,22 +93,9 @@ module _ (symbols : Table) (strings name : List ℕ) where
 
   -- ---- GNU
 
-  -- the symbol of an index, where it has the name
-  abbrev if_named : ℕ → Symbol × List ℕ → Option (ℕ × Symbol)
-  if_named index found = if bytes_eq found.1 name then Some (index, found.0) else None
-
-  chosen : (index : ℕ) (x : Symbol × List ℕ) (found : ℕ × Symbol) → named_symbol symbols strings index ≡ Ok x → if_named index x ≡ Some found → named_symbol symbols strings found.0 ≡ Ok (found.1, name)
-  chosen index x found read e = elim (cases_Bool (bytes_eq x.1 name)) [
-    | inl same ↦ let y = rw same at e in this_named index x found read same (cc y)
-    | inr other ↦ let y = rw other at e in cc y
-  ]
-
   word_named : (t : GnuTable) (index w : ℕ) → Named symbols strings name (word_decides t symbols strings name index w)
   word_named t index w = λ found e. elim (cases_Bool (nat_eq (w / 2) (gnu_hash_of name / 2))) [
-    | inl same ↦
-        let y = rw same at e in
-        let x = ok_map-ok (if_named index) (named_symbol symbols strings index) (Some found) y in
-        chosen index x.0 found x.1 x.2
+    | inl same ↦ let y = rw same at e in chosen_named index found y
     | inr other ↦ let y = rw other at e in cc y
   ]
 

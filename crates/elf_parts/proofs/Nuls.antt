@@ -37,15 +37,16 @@ module _ (bytes : List ℕ) (n : ℕ) (low : n ≤ length bytes) (none : NoneBef
       let long = length-drop n bytes in
       grind (arith, common_steps)
 
-module _ (bytes : List ℕ) (start n : ℕ) (room : start + n ≤ length bytes) (none : NoneBefore bytes start) where
-  here : (k : ℕ) → start ≤ k → k < start + before_nul bytes start n → k < start + n → is_nul (get_or bytes k 0) ≡ false
-  here k from to inside =
-      let back : start + (k - start) ≡ k = omega arith in
-      let at = get_or-chunk start n bytes (k - start) 0 (omega arith) ∙ ap (λ (j : ℕ). get_or bytes j 0) back in
-      subst (λ byte. is_nul byte ≡ false) at (not-true _ (prefix_len_passes (λ byte. not (is_nul byte)) (take n (drop start bytes)) (k - start) 0 (omega arith)))
+-- none of the bytes that come before the first 0 byte of a group is 0
+pub none_in_group : (bytes : List ℕ) (start n k : ℕ) → start ≤ k → k < start + before_nul bytes start n → k < start + n → is_nul (get_or bytes k 0) ≡ false
+none_in_group bytes start n k from to inside =
+    let back : start + (k - start) ≡ k = omega arith in
+    let at = get_or-chunk start n bytes (k - start) 0 (omega arith) ∙ ap (λ (j : ℕ). get_or bytes j 0) back in
+    subst (λ byte. is_nul byte ≡ false) at (not-true _ (prefix_len_passes (λ byte. not (is_nul byte)) (take n (drop start bytes)) (k - start) 0 (omega arith)))
 
+module _ (bytes : List ℕ) (start n : ℕ) (room : start + n ≤ length bytes) (none : NoneBefore bytes start) where
   pub none_here : (m : ℕ) → m ≤ before_nul bytes start n → m ≤ n → NoneBefore bytes (start + m)
-  none_here m few within k low = elim (cases_lt k start) [ inl early ↦ none k early | inr late ↦ here k (omega arith) (omega arith) (omega arith) ]
+  none_here m few within k low = elim (cases_lt k start) [ inl early ↦ none k early | inr late ↦ none_in_group bytes start n k (omega arith) (omega arith) (omega arith) ]
 
   pub found_here : (m : ℕ) → m ≡ before_nul bytes start n → m < n → Some (start + m) ≡ position is_nul bytes
   found_here m e short =

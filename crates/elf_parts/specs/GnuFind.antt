@@ -1,10 +1,10 @@
 -- GNU hash sections, and what is found by them.
 use Rattle.std.specs.Prelude.{ℕ, ◌+◌, ◌-◌, ◌*◌, ◌/◌, ◌%◌, ◌^◌, ◌<◌, zero, suc, Bool, false, ◌||◌, if◌then◌else◌, ◌==◌}
-use Rattle.std.specs.Prelude.{nat_lt, nat_le, List, [], ◌∷◌, drop, map, Option, Some, None, Result, Ok, Err, IsOk}
+use Rattle.std.specs.Prelude.{nat_lt, nat_le, List, [], ◌∷◌, drop, map, Option, None, Result, Ok, Err, IsOk}
 use Rattle.std.specs.Int.{bit_at}
-use Rattle.std.specs.Str.{bytes_eq}
 use Rattle.elf_parts.specs.Class.{address_bits, address_size}
-use Rattle.elf_parts.specs.Hash.{gnu_hash_of, gnu_header_layout, long_word_at, named_symbol, word_at, word_count}
+use Rattle.elf_parts.specs.Hash.{gnu_hash_of, gnu_header_layout, if_named, long_word_at, named_symbol, word_at}
+use Rattle.elf_parts.specs.Hash.{word_count}
 use Rattle.elf_parts.specs.Number.{bytes_at, ok_map}
 use Rattle.elf_parts.specs.Record.{◌>>=◌, record_by}
 use Rattle.elf_parts.specs.SysvFind.{first_decided}
@@ -82,15 +82,12 @@ module _ (t : GnuTable) where
   ReadsBloom = (i : ℕ) → i < t.hdr.nbloom → IsOk (bloom_word t.bloom i)
 
 module _ (t : GnuTable) (symbols : Table) (strings name : List ℕ) where
-  -- the symbol of an index, where it has the name
-  abbrev pub if_named : ℕ → Symbol × List ℕ → Option (ℕ × Symbol)
-  if_named index found = if bytes_eq found.1 name then Some (index, found.0) else None
-
   -- what a chain word decides, at the index of its symbol: where it is the hash apart from bit 0, the error of
   -- the symbol or its name, or the symbol where it has the name
   abbrev pub word_decides : ℕ → ℕ → Result (Option (ℕ × Symbol)) ParseError
   word_decides index word =
-      if word / 2 == gnu_hash_of name / 2 then ok_map (if_named index) (named_symbol symbols strings index) else Ok None
+      if word / 2 == gnu_hash_of name / 2 then ok_map (if_named name index) (named_symbol symbols strings index)
+      else Ok None
 
   abbrev pub place_decides : ℕ → Result (Option (ℕ × Symbol)) ParseError
   place_decides place = word_at t.chains place >>= word_decides (t.hdr.table_start_idx + place)

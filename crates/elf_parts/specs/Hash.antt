@@ -1,7 +1,8 @@
 -- The two hashes of a name (gABI, chapter "Hash Table", and GNU's), and what a hash section is read by: its header,
 -- words, and symbols with their names.
 use Rattle.std.specs.Prelude.{◌≡◌, ◌↔◌, ℕ, ◌+◌, ◌*◌, ◌/◌, ◌%◌, ◌^◌, ◌<◌, List, [], ◌∷◌, slice_index, length, refl}
-use Rattle.std.specs.Prelude.{bit_and, bit_xor, Result, Ok, IsOk}
+use Rattle.std.specs.Prelude.{bit_and, bit_xor, if◌then◌else◌, Option, Some, None, Result, Ok, IsOk}
+use Rattle.std.specs.Str.{bytes_eq}
 use Rattle.elf_parts.specs.Record.{◌>>=◌, Field, field, Layout, RecordType}
 use Rattle.elf_parts.specs.StringTable.{string_at}
 use Rattle.elf_parts.specs.Symbol.{symbol_reads}
@@ -97,6 +98,10 @@ unfoldable pub named_symbol : Table → List ℕ → ℕ → Result (Symbol × L
 named_symbol symbols strings i =
     symbol_at symbols i >>= λ symbol.
     string_at strings symbol.st_name >>= λ name. Ok (symbol, name)
+
+-- an index and its symbol, where that has the name
+abbrev pub if_named : List ℕ → ℕ → Symbol × List ℕ → Option (ℕ × Symbol)
+if_named name i found = if bytes_eq found.1 name then Some (i, found.0) else None
 
 -- an index and a symbol are those of a symbol of this name
 abbrev pub IsNamed : Table → List ℕ → List ℕ → ℕ × Symbol → Type 0

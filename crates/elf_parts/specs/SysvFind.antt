@@ -1,9 +1,8 @@
 -- SysV hash sections, and what is found by them (gABI, chapter "Hash Table").
 use Rattle.std.specs.Prelude.{ℕ, ◌+◌, ◌*◌, ◌%◌, zero, suc, Bool, if◌then◌else◌, ◌==◌, List, [], ◌∷◌, map, Option, Some}
 use Rattle.std.specs.Prelude.{None, Result, Ok, Err}
-use Rattle.std.specs.Str.{bytes_eq}
-use Rattle.elf_parts.specs.Hash.{named_symbol, sysv_hash_of, sysv_header_layout, word_at, word_count}
-use Rattle.elf_parts.specs.Number.{bytes_at}
+use Rattle.elf_parts.specs.Hash.{if_named, named_symbol, sysv_hash_of, sysv_header_layout, word_at, word_count}
+use Rattle.elf_parts.specs.Number.{bytes_at, ok_map}
 use Rattle.elf_parts.specs.Record.{◌>>=◌, record_by}
 use Rattle.elf_parts.specs.Table.{Table, table_in, table_view}
 use Rattle.elf_parts.specs.declared.file.Class.{Class}
@@ -48,13 +47,12 @@ walk chains (suc limit) index =
 module _ (t : SysvTable) (symbols : Table) (strings name : List ℕ) where
   -- what an index of a walk decides: the error of its symbol or its name, the symbol where it has the name, or
   -- the error of its chain word
-  abbrev pub decided_by : ℕ → Result (Symbol × List ℕ) ParseError → Result (Option (ℕ × Symbol)) ParseError
-  decided_by index (Err e) = Err e
-  decided_by index (Ok found) =
-      if bytes_eq found.1 name then Ok (Some (index, found.0)) else (word_at t.chains index >>= λ _. Ok None)
+  abbrev pub decided_by : ℕ → Option (ℕ × Symbol) → Result (Option (ℕ × Symbol)) ParseError
+  decided_by index (Some found) = Ok (Some found)
+  decided_by index None = word_at t.chains index >>= λ _. Ok None
 
   abbrev pub index_decides : ℕ → Result (Option (ℕ × Symbol)) ParseError
-  index_decides index = decided_by index (named_symbol symbols strings index)
+  index_decides index = ok_map (if_named name index) (named_symbol symbols strings index) >>= decided_by index
 
   -- the index and the symbol of this name, by the first index of the walk that decides
   unfoldable pub find_along : ℕ → ℕ → Result (Option (ℕ × Symbol)) ParseError

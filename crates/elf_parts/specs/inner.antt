@@ -1,5 +1,6 @@
 pub mod RecordLaws
 pub mod Running
 pub mod Part
+pub mod Terminated
 pub mod Indexed
 pub mod Placed

@@ -1,13 +1,12 @@
 //! Hash sections, which find symbols by name: SysV (gABI, chapter "Hash Table") and GNU.
 ghost use Rattle.std.specs.Prelude.{◌≡◌, ◌+◌, ◌<◌, ◌^◌, ◌≤◌, None, OnOk, length};
-ghost use Rattle.elf_parts.specs.Hash.{named_symbol, word_at, word_count};
+ghost use Rattle.elf_parts.specs.Hash.{if_named, named_symbol, word_at, word_count};
 ghost use Rattle.elf_parts.specs.Number.{bytes_at, ok_map};
-ghost use Rattle.elf_parts.specs.StringTable.{strings_view};
 ghost use Rattle.elf_parts.specs.Table.{table_view};
 
 use crate::endian::EndianParse;
 use crate::parse::{ParseError, ParsingTable};
-use crate::string_table::StringTable;
+use crate::string_table::TerminatedStrings;
 use crate::symbol::{Symbol, SymbolTable};
 
 mod gnu;
@@ -56,18 +55,35 @@ fn word_count<E: EndianParse>(words: &U32Table<'_, E>) -> usize
 
 // A symbol and its name.
 #[tactic(auto, unfolding(crate::specs::Hash::named_symbol))]
-#[inline(always)]
 fn named_symbol<'data, E: EndianParse>(
     symtab: &SymbolTable<'data, E>,
-    strtab: &StringTable<'data>,
+    strings: &TerminatedStrings<'data>,
     index: usize,
 ) -> Result<(Symbol, &'data [u8]), ParseError>
-    ensures { ok_map (λ found. (found.0, found.1.now)) result
-        ≡ named_symbol (table_view symtab.now) (strings_view strtab.now) index }
+    ensures { ok_map (λ found. (found.0, found.1.now)) result ≡ named_symbol (table_view symtab.now) strings.now index }
 {
     let symbol = symtab.get(index)?;
-    let name = strtab.get_raw(symbol.st_name as usize)?;
+    let name = strings.get_raw(symbol.st_name as usize)?;
     Ok((symbol, name))
+}
+
+// An index and its symbol, where that has the name.
+#[tactic(auto, unfolding(crate::specs::Hash::named_symbol))]
+#[inline(always)]
+fn if_named<'data, E: EndianParse>(
+    symtab: &SymbolTable<'data, E>,
+    strings: &TerminatedStrings<'data>,
+    name: &[u8],
+    index: usize,
+) -> Found
+    ensures { result ≡ ok_map (if_named name.now index) (named_symbol (table_view symtab.now) strings.now index) }
+{
+    let symbol = symtab.get(index)?;
+    if strings.is(symbol.st_name as usize, name)? {
+        Ok(Some((index, symbol)))
+    } else {
+        Ok(None)
+    }
 }
 
 // The error of a word that cannot be read.
@@ -83,11 +99,11 @@ fn refused_word<E: EndianParse>(words: &U32Table<'_, E>, index: usize) -> Found
 #[inline(never)]
 fn refused_symbol<E: EndianParse>(
     symtab: &SymbolTable<'_, E>,
-    strtab: &StringTable<'_>,
+    strings: &TerminatedStrings<'_>,
     index: usize,
 ) -> Found
-    ensures { result ≡ ok_map (λ _. None) (named_symbol (table_view symtab.now) (strings_view strtab.now) index) }
+    ensures { result ≡ ok_map (λ _. None) (named_symbol (table_view symtab.now) strings.now index) }
 {
-    named_symbol(symtab, strtab, index)?;
+    named_symbol(symtab, strings, index)?;
     Ok(None)
 }

@@ -1,10 +1,13 @@
 //! Tables of strings (gABI, chapter "String Table").
-ghost use Rattle.std.specs.Prelude.{◌≡◌, ◌==◌, ◌+◌, ◌≤◌, drop, length, not, position, take};
+ghost use Rattle.std.specs.Prelude.{◌≡◌, ◌==◌, ◌+◌, ◌≤◌, List, MatchOption, ℕ, drop, false, length, not, position, take};
 ghost use Rattle.std.specs.List.{prefix_len};
+ghost use Rattle.std.specs.Str.{bytes_eq};
 ghost use Rattle.elf_parts.specs.Number.{ok_map};
 ghost use Rattle.elf_parts.specs.StringTable.{string_at, strings_view, GivesText};
+ghost use Rattle.elf_parts.specs.inner.Terminated.{IsTerminated, NoneFrom};
 
 use crate::parse::ParseError;
+use std::marker::Model;
 use std::simd::prelude::*;
 use std::str::from_utf8;
 
@@ -92,5 +95,92 @@ impl<'data> StringTable<'data> {
     {
         let raw = self.get_raw(offset)?;
         Ok(from_utf8(raw)?)
+    }
+}
+
+// Whether the bytes up to the first 0 byte are those that are asked for. No byte behind as many is looked at.
+#[inline(always)]
+fn first_string_is(bytes: &[u8], asked: &[u8]) -> bool
+    ensures { MatchOption (position (λ byte. byte == 0) bytes.now) (result ≡ false)
+        (λ n. result ≡ bytes_eq (take n bytes.now) asked.now) }
+{
+    let end = asked.len();
+    if bytes.get(end) != Some(&0) || first_nul(bytes) != Some(end) {
+        return false;
+    }
+    bytes.split_at(end).0 == asked
+}
+
+// How many bytes are left where the groups of `LANES` bytes at the end that have no 0 byte are dropped.
+fn without_last_groups(bytes: &[u8]) -> usize
+    ensures within { result ≤ length bytes.now }
+    ensures none { NoneFrom bytes.now result }
+{
+    let mut end = bytes.len();
+    while LANES <= end && count_before_nul(bytes, end - LANES) == LANES {
+        end -= LANES;
+    }
+    end
+}
+
+// How many bytes there are up to and with the last 0 byte.
+fn count_terminated(bytes: &[u8]) -> usize
+    ensures { IsTerminated bytes.now result }
+{
+    let mut end = without_last_groups(bytes);
+    while end > 0 && bytes[end - 1] != 0 {
+        end -= 1;
+    }
+    end
+}
+
+/// A table of strings whose last 0 byte is known. So a string is compared without a search for its end, which may be as
+/// far away as the table is long, where the strings of many symbols share their bytes.
+#[derive(Drop)]
+pub(crate) struct TerminatedStrings<'data> {
+    table: StringTable<'data>,
+    terminated: usize,
+}
+
+impl<'data> Model for TerminatedStrings<'data> {
+    ghost Value = { List ℕ };
+
+    ghost view = { λ strings. strings_view strings.table };
+
+    ghost invariant = { λ strings. IsTerminated (strings_view strings.table) strings.terminated };
+}
+
+impl<'data> TerminatedStrings<'data> {
+    #[inline(always)]
+    pub(crate) fn new(table: &StringTable<'data>) -> Self
+        ensures { result ≡ strings_view table.now }
+    {
+        let terminated = match table.data.last() {
+            Some(0) => table.data.len(),
+            _ => count_terminated(table.data),
+        };
+        TerminatedStrings {
+            table: *table,
+            terminated,
+        }
+    }
+
+    /// Returns the bytes of the string at `offset`, or the error, as `StringTable::get_raw` does.
+    pub(crate) fn get_raw(&self, offset: usize) -> Result<&'data [u8], ParseError>
+        ensures { ok_map (λ bytes. bytes.now) result ≡ string_at self.now offset }
+    {
+        self.table.get_raw(offset)
+    }
+
+    /// Whether the string at `offset` is this name. The error is that of `StringTable::get_raw`.
+    #[tactic(auto, unfolding(crate::specs::StringTable::string_at))]
+    #[inline(always)]
+    pub(crate) fn is(&self, offset: usize, name: &[u8]) -> Result<bool, ParseError>
+        ensures { result ≡ ok_map (λ bytes. bytes_eq bytes name.now) (string_at self.now offset) }
+    {
+        if offset >= self.terminated {
+            return Ok(self.get_raw(offset)? == name);
+        }
+        Ok(first_string_is(&self.table.data[offset..], name))
     }
 }

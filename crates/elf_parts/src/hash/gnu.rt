@@ -1,5 +1,5 @@
 //! GNU hash sections.
-ghost use Rattle.std.specs.Prelude.{◌≡◌, ◌+◌, ◌-◌, ◌<◌, ◌≤◌, None, drop, length, take};
+ghost use Rattle.std.specs.Prelude.{◌≡◌, ◌+◌, ◌-◌, ◌%◌, ◌<◌, ◌≤◌, None, drop, length, take};
 ghost use Rattle.elf_parts.specs.Class.{address_bits};
 ghost use Rattle.elf_parts.specs.GnuFind.{bloom_word, find_by_hash, find_in_run, gnu_find, gnu_section};
 ghost use Rattle.elf_parts.specs.GnuFind.{gnu_view, passes, word_decides};
@@ -11,10 +11,10 @@ ghost use Rattle.elf_parts.specs.Table.{table_in, table_view};
 use crate::endian::{BigEndian, EndianParse, LittleEndian};
 use crate::file::Class;
 use crate::hash::{
-    Found, U32Table, get_bytes, named_symbol, refused_symbol, refused_word, word, word_count,
+    Found, U32Table, get_bytes, if_named, refused_symbol, refused_word, word, word_count,
 };
 use crate::parse::{ParseAt, ParseError, ParsingTable};
-use crate::string_table::StringTable;
+use crate::string_table::{StringTable, TerminatedStrings};
 use crate::symbol::{Symbol, SymbolTable};
 
 type U64Table<'data, E> = ParsingTable<'data, E, u64>;
@@ -162,6 +162,20 @@ fn bloom_bits(class: Class) -> u32
     }
 }
 
+// The remainder of a division. Nearly all sections have a power of two of bloom words, which takes no division.
+#[tactic(auto, using(crate::proofs::Powers::masks))]
+#[inline(always)]
+fn remainder(number: u32, divisor: u32) -> u32
+    requires { 0 < divisor }
+    ensures { result ≡ number % divisor }
+{
+    if divisor & (divisor - 1) == 0 {
+        number & (divisor - 1)
+    } else {
+        number % divisor
+    }
+}
+
 // A bloom word: four bytes in a 32-bit file, eight in a 64-bit one.
 #[tactic(auto, unfolding(crate::specs::GnuFind::bloom_word, crate::specs::Hash::word_at, crate::specs::Hash::long_word_at))]
 #[inline(always)]
@@ -252,7 +266,7 @@ impl<'data, E: EndianParse> GnuHashTable<'data, E> {
         ensures { result ≡ passes (gnu_view self.now) hash }
     {
         let bits = bloom_bits(self.class);
-        let word = self.bloom_word((hash / bits % self.hdr.nbloom) as usize)?;
+        let word = self.bloom_word(remainder(hash / bits, self.hdr.nbloom) as usize)?;
         if (word >> (hash % bits)) & 1 == 0 {
             return Ok(false);
         }
@@ -281,19 +295,16 @@ impl<'data, E: EndianParse> GnuHashTable<'data, E> {
         index: usize,
         word: usize,
         symtab: &SymbolTable<'data, E>,
-        strtab: &StringTable<'data>,
+        strings: &TerminatedStrings<'data>,
     ) -> Found
         requires { hash ≡ gnu_hash_of name.now }
-        ensures { let t = gnu_view self.now in
-            result ≡ word_decides t (table_view symtab.now) (strings_view strtab.now) name.now index word }
+        ensures { result ≡ word_decides (gnu_view self.now) (table_view symtab.now) strings.now name.now index word }
     {
         if word / 2 == hash / 2 {
-            let (symbol, raw) = named_symbol(symtab, strtab, index)?;
-            if raw == name {
-                return Ok(Some((index, symbol)));
-            }
+            if_named(symtab, strings, name, index)
+        } else {
+            Ok(None)
         }
-        Ok(None)
     }
 
     // The index and the symbol of a name with this hash, in the run from place `start` on.
@@ -304,21 +315,21 @@ impl<'data, E: EndianParse> GnuHashTable<'data, E> {
         name: &[u8],
         start: usize,
         symtab: &SymbolTable<'data, E>,
-        strtab: &StringTable<'data>,
+        strings: &TerminatedStrings<'data>,
     ) -> Found
         requires { hash ≡ gnu_hash_of name.now }
         ensures { let t = gnu_view self.now in let limit = word_count t.chains - start in
-            result ≡ find_in_run t (table_view symtab.now) (strings_view strtab.now) name.now limit start }
+            result ≡ find_in_run t (table_view symtab.now) strings.now name.now limit start }
     {
         let first = self.hdr.table_start_idx as usize;
         for place in start..word_count(&self.chains) {
             let Ok(word) = word(&self.chains, place) else {
                 return refused_word(&self.chains, place);
             };
-            match self.decide(hash, name, first + place, word, symtab, strtab) {
+            match self.decide(hash, name, first + place, word, symtab, strings) {
                 Ok(Some(found)) => return Ok(Some(found)),
                 Ok(None) => {}
-                Err(_) => return refused_symbol(symtab, strtab, first + place),
+                Err(_) => return refused_symbol(symtab, strings, first + place),
             }
             if word % 2 == 1 {
                 return Ok(None);
@@ -348,7 +359,8 @@ impl<'data, E: EndianParse> GnuHashTable<'data, E> {
         if start < first {
             return Ok(None);
         }
-        self.find_in_run(hash, name, start - first, symtab, strtab)
+        let strings = TerminatedStrings::new(strtab);
+        self.find_in_run(hash, name, start - first, symtab, &strings)
     }
 
     /// Returns the index and the symbol of a name, the first in the run of its bucket. Returns `None` if there are no

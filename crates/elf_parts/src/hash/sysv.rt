@@ -1,5 +1,5 @@
 //! SysV hash sections (gABI, chapter "Hash Table").
-ghost use Rattle.std.specs.Prelude.{◌≡◌};
+ghost use Rattle.std.specs.Prelude.{◌≡◌, ◌%◌, ◌^◌};
 ghost use Rattle.elf_parts.specs.Hash.{folded, sysv_hash_of, word_count};
 ghost use Rattle.elf_parts.specs.Number.{ok_map};
 ghost use Rattle.elf_parts.specs.StringTable.{strings_view};
@@ -9,10 +9,10 @@ ghost use Rattle.elf_parts.specs.Table.{table_view};
 use crate::endian::EndianParse;
 use crate::file::Class;
 use crate::hash::{
-    Found, U32Table, get_bytes, named_symbol, refused_symbol, refused_word, word, word_count,
+    Found, U32Table, get_bytes, if_named, refused_symbol, refused_word, word, word_count,
 };
 use crate::parse::{ParseAt, ParseError, ParsingTable};
-use crate::string_table::StringTable;
+use crate::string_table::{StringTable, TerminatedStrings};
 use crate::symbol::{Symbol, SymbolTable};
 
 /// The header of a SysV hash section: the number of buckets and the number of chain words.
@@ -45,12 +45,12 @@ impl ParseAt for SysVHashHeader {
     }
 }
 
-// Takes the top four bits off, and XORs them in at bit 4.
+// XORs the top four bits in at bit 4. They stay at the top as well: the next step shifts them out.
+#[tactic(auto, using(crate::proofs::Hashing::fold_steps))]
 fn fold_top(hash: u32) -> u32
-    ensures { result ≡ folded hash }
+    ensures { result % 2 ^ 28 ≡ folded hash }
 {
-    let top = hash & 0xf000_0000;
-    (hash ^ (top >> 24)) & 0x0fff_ffff
+    hash ^ ((hash >> 24) & 0xf0)
 }
 
 /// The hash of a name in a SysV hash section (gABI, chapter "Hash Table"): 32 bits, of which the upper four are 0.
@@ -62,7 +62,7 @@ pub fn sysv_hash(name: &[u8]) -> u32
     for byte in name {
         hash = fold_top(hash.wrapping_mul(16).wrapping_add(u32::from(*byte)));
     }
-    hash
+    hash & 0x0fff_ffff
 }
 
 /// A SysV hash section: for each bucket a chain of symbol indexes.
@@ -113,21 +113,20 @@ impl<'data, E: EndianParse> SysVHashTable<'data, E> {
         start: usize,
         name: &[u8],
         symtab: &SymbolTable<'data, E>,
-        strtab: &StringTable<'data>,
+        strings: &TerminatedStrings<'data>,
     ) -> Found
         ensures { let t = sysv_view self.now in let limit = word_count t.chains in
-            result ≡ find_along t (table_view symtab.now) (strings_view strtab.now) name.now limit start }
+            result ≡ find_along t (table_view symtab.now) strings.now name.now limit start }
     {
         let mut index = start;
         for _ in 0..word_count(&self.chains) {
             if index == 0 {
                 return Ok(None);
             }
-            let Ok((symbol, found)) = named_symbol(symtab, strtab, index) else {
-                return refused_symbol(symtab, strtab, index);
-            };
-            if found == name {
-                return Ok(Some((index, symbol)));
+            match if_named(symtab, strings, name, index) {
+                Ok(Some(found)) => return Ok(Some(found)),
+                Ok(None) => {}
+                Err(_) => return refused_symbol(symtab, strings, index),
             }
             let Ok(next) = word(&self.chains, index) else {
                 return refused_word(&self.chains, index);
@@ -162,7 +161,7 @@ impl<'data, E: EndianParse> SysVHashTable<'data, E> {
         let bucket = sysv_hash(name) as usize % nbucket;
         match word(&self.buckets, bucket) {
             Ok(0) => Ok(None),
-            Ok(index) => self.find_along(index, name, symtab, strtab),
+            Ok(index) => self.find_along(index, name, symtab, &TerminatedStrings::new(strtab)),
             Err(_) => refused_word(&self.buckets, bucket),
         }
     }

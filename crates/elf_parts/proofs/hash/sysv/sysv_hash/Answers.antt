@@ -4,7 +4,7 @@ use Rattle.elf_parts.proofs.Hashing.{folded_step}
 use Rattle.elf_parts.proofs.hash.sysv.sysv_hash.Goals as goal
 
 -- one more byte
-more : (hash next i : ℕ) (name : List ℕ) → i < length name → next ≡ folded ((hash * 16 % 2 ^ 32 + get_or name i 0) % 2 ^ 32) → sysv_hash_from next (drop (i + 1) name) ≡ sysv_hash_from hash (drop i name)
+more : (hash next i : ℕ) (name : List ℕ) → i < length name → next % 2 ^ 28 ≡ folded ((hash * 16 % 2 ^ 32 + get_or name i 0) % 2 ^ 32) → sysv_hash_from (next % 2 ^ 28) (drop (i + 1) name) ≡ sysv_hash_from (hash % 2 ^ 28) (drop i name)
 more hash next i name inside e = rw (add-one, drop-cons name i 0, e, folded_step) refl
 
 pub loop-byte-preserved : goal.loop-byte-preserved

@@ -1,5 +1,4 @@
 use Rattle.std.proofs.Common.{◌≡◌, ◌+◌, ◌-◌, sym, ◌∙◌, arith, rules}
-use Rattle.elf_parts.specs.StringTable.{strings_view}
 use Rattle.elf_parts.specs.Table.{table_view}
 use Rattle.elf_parts.specs.Hash.{word_count}
 use Rattle.elf_parts.specs.GnuFind.{gnu_view}
@@ -8,34 +7,34 @@ use Rattle.elf_parts.proofs.hash.gnu.GnuHashTable.find_in_run.Goals as goal
 
 pub returns-in_default : goal.returns-in_default
 returns-in_default g c =
-    let step = run_cut (gnu_view c.args.self.now) (table_view c.args.symtab.now) (strings_view c.args.strtab.now) c.args.name.now (word_count (gnu_view c.args.self.now).chains - c.loop-place.place) c.loop-place.place _ (omega arith) (sym c.in_default.ensures) in
+    let step = run_cut (gnu_view c.args.self.now) (table_view c.args.symtab.now) c.args.strings.now c.args.name.now (word_count (gnu_view c.args.self.now).chains - c.loop-place.place) c.loop-place.place _ (omega arith) (sym c.in_default.ensures) in
     let all = sym step ∙ c.loop-place.invariant in
     search (rules, all)
 
 pub returns-in-Err : goal.returns-in-Err
 returns-in-Err g c =
-    let step = run_refused (gnu_view c.args.self.now) (table_view c.args.symtab.now) (strings_view c.args.strtab.now) c.args.name.now (word_count (gnu_view c.args.self.now).chains - c.loop-place.place) c.loop-place.place c.in-Ok.word _ (omega arith) (sym c.in-Ok.ensures) (sym c.in-Err.ensures) in
+    let step = run_refused (gnu_view c.args.self.now) (table_view c.args.symtab.now) c.args.strings.now c.args.name.now (word_count (gnu_view c.args.self.now).chains - c.loop-place.place) c.loop-place.place c.in-Ok.word _ (omega arith) (sym c.in-Ok.ensures) (sym c.in-Err.ensures) in
     let all = sym step ∙ c.loop-place.invariant in
-    let refused = decides_refused (gnu_view c.args.self.now) (table_view c.args.symtab.now) (strings_view c.args.strtab.now) c.args.name.now _ c.in-Ok.word _ (sym c.in-Err.ensures) in
+    let refused = decides_refused (gnu_view c.args.self.now) (table_view c.args.symtab.now) c.args.strings.now c.args.name.now _ c.in-Ok.word _ (sym c.in-Err.ensures) in
     search (rules, all, refused)
 
 pub returns-in-Ok-Some : goal.returns-in-Ok-Some
 returns-in-Ok-Some g c =
-    let step = run_found (gnu_view c.args.self.now) (table_view c.args.symtab.now) (strings_view c.args.strtab.now) c.args.name.now (word_count (gnu_view c.args.self.now).chains - c.loop-place.place) c.loop-place.place c.in-Ok.word c.in-Ok-Some.found (omega arith) (sym c.in-Ok.ensures) (cc (c.in-Ok-Some.ensures, c.in-Ok-Some.field-0-is)) in
+    let step = run_found (gnu_view c.args.self.now) (table_view c.args.symtab.now) c.args.strings.now c.args.name.now (word_count (gnu_view c.args.self.now).chains - c.loop-place.place) c.loop-place.place c.in-Ok.word c.in-Ok-Some.found (omega arith) (sym c.in-Ok.ensures) (cc (c.in-Ok-Some.ensures, c.in-Ok-Some.field-0-is)) in
     sym step ∙ c.loop-place.invariant
 
 pub returns-then-word-eq1 : goal.returns-then-word-eq1
 returns-then-word-eq1 g c =
-    let step = run_ended (gnu_view c.args.self.now) (table_view c.args.symtab.now) (strings_view c.args.strtab.now) c.args.name.now (word_count (gnu_view c.args.self.now).chains - c.loop-place.place) c.loop-place.place c.in-Ok.word (sym c.in-Ok.ensures) (cc (c.in-Ok-None.ensures, c.in-Ok-None.field-0-is)) (omega arith) in
+    let step = run_ended (gnu_view c.args.self.now) (table_view c.args.symtab.now) c.args.strings.now c.args.name.now (word_count (gnu_view c.args.self.now).chains - c.loop-place.place) c.loop-place.place c.in-Ok.word (sym c.in-Ok.ensures) (cc (c.in-Ok-None.ensures, c.in-Ok-None.field-0-is)) (omega arith) in
     sym step ∙ c.loop-place.invariant
 
 pub loop-place-preserved : goal.loop-place-preserved
 loop-place-preserved g c =
-    let step = run_next (gnu_view c.args.self.now) (table_view c.args.symtab.now) (strings_view c.args.strtab.now) c.args.name.now (word_count (gnu_view c.args.self.now).chains - c.loop-place.place) c.loop-place.place c.in-Ok.word (omega arith) (sym c.in-Ok.ensures) (cc (c.in-Ok-None.ensures, c.in-Ok-None.field-0-is)) (omega arith) in
+    let step = run_next (gnu_view c.args.self.now) (table_view c.args.symtab.now) c.args.strings.now c.args.name.now (word_count (gnu_view c.args.self.now).chains - c.loop-place.place) c.loop-place.place c.in-Ok.word (omega arith) (sym c.in-Ok.ensures) (cc (c.in-Ok-None.ensures, c.in-Ok-None.field-0-is)) (omega arith) in
     let less : word_count (gnu_view c.args.self.now).chains - c.loop-place.place - 1 ≡ word_count (gnu_view c.args.self.now).chains - (c.loop-place.place + 1) = omega arith in
     sym (rw less at step) ∙ c.loop-place.invariant
 
 pub returns : goal.returns
 returns g c =
-    let step = run_limit (gnu_view c.args.self.now) (table_view c.args.symtab.now) (strings_view c.args.strtab.now) c.args.name.now (word_count (gnu_view c.args.self.now).chains - c.loop-place.place) c.loop-place.place (omega arith) in
+    let step = run_limit (gnu_view c.args.self.now) (table_view c.args.symtab.now) c.args.strings.now c.args.name.now (word_count (gnu_view c.args.self.now).chains - c.loop-place.place) c.loop-place.place (omega arith) in
     sym step ∙ c.loop-place.invariant

@@ -1,5 +1,4 @@
 use Rattle.std.proofs.Common.{◌≡◌, ◌-◌}
-use Rattle.elf_parts.specs.StringTable.{strings_view}
 use Rattle.elf_parts.specs.Table.{table_view}
 use Rattle.elf_parts.specs.Hash.{word_count}
 use Rattle.elf_parts.specs.GnuFind.{find_in_run, gnu_view}
@@ -8,5 +7,5 @@ use Rattle.elf_parts.proofs.hash.gnu.GnuHashTable.find_in_run.Given as goal
 -- what the run from here on finds is what is to be found
 abbrev pub invariant-loop-place : goal.invariant-loop-place
 invariant-loop-place g l =
-    find_in_run (gnu_view l.self) (table_view l.symtab) (strings_view l.strtab) l.name (word_count (gnu_view l.self).chains - l.place) l.place
-    ≡ find_in_run (gnu_view l.self) (table_view l.symtab) (strings_view l.strtab) l.name (word_count (gnu_view l.self).chains - l.start) l.start
+    find_in_run (gnu_view l.self) (table_view l.symtab) l.strings l.name (word_count (gnu_view l.self).chains - l.place) l.place
+    ≡ find_in_run (gnu_view l.self) (table_view l.symtab) l.strings l.name (word_count (gnu_view l.self).chains - l.start) l.start

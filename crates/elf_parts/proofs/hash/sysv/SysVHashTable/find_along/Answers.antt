@@ -1,39 +1,39 @@
 use Rattle.std.proofs.Common.{◌≡◌, ◌+◌, ◌-◌, sym, ◌∙◌, arith, rules}
-use Rattle.elf_parts.specs.StringTable.{strings_view}
 use Rattle.elf_parts.specs.Table.{table_view}
 use Rattle.elf_parts.specs.SysvFind.{sysv_view}
-use Rattle.elf_parts.proofs.Walks.{along_refused, along_found, along_cut, along_next, along_ended, along_limit}
+use Rattle.elf_parts.proofs.Walks.{along_refused, along_found, along_cut, along_next, along_ended, along_limit, named_refused}
 use Rattle.elf_parts.proofs.hash.sysv.SysVHashTable.find_along.Goals as goal
 
 pub returns-then-index-eq0 : goal.returns-then-index-eq0
 returns-then-index-eq0 g c =
-    let step = along_ended (sysv_view c.args.self.now) (table_view c.args.symtab.now) (strings_view c.args.strtab.now) c.args.name.now (c.word_count-end.result - c.loop.counter) c.loop.index (omega arith) in
+    let step = along_ended (sysv_view c.args.self.now) (table_view c.args.symtab.now) c.args.strings.now c.args.name.now (c.word_count-end.result - c.loop.counter) c.loop.index (omega arith) in
+    sym step ∙ c.loop.invariant
+
+pub returns-in-Err : goal.returns-in-Err
+returns-in-Err g c =
+    let step = along_refused (sysv_view c.args.self.now) (table_view c.args.symtab.now) c.args.strings.now c.args.name.now (c.word_count-end.result - c.loop.counter) c.loop.index _ (omega arith) (omega arith) (sym c.in-Err.ensures) in
+    let all = sym step ∙ c.loop.invariant in
+    let refused = named_refused (sysv_view c.args.self.now) (table_view c.args.symtab.now) c.args.strings.now c.args.name.now c.loop.index _ (sym c.in-Err.ensures) in
+    search (rules, all, refused)
+
+pub returns-in-Ok-Some : goal.returns-in-Ok-Some
+returns-in-Ok-Some g c =
+    let step = along_found (sysv_view c.args.self.now) (table_view c.args.symtab.now) c.args.strings.now c.args.name.now (c.word_count-end.result - c.loop.counter) c.loop.index c.in-Ok-Some.found (omega arith) (omega arith) (cc (c.in-Ok-Some.ensures, c.in-Ok-Some.field-0-is)) in
     sym step ∙ c.loop.invariant
 
 pub returns-in_default : goal.returns-in_default
 returns-in_default g c =
-    let step = along_refused (sysv_view c.args.self.now) (table_view c.args.symtab.now) (strings_view c.args.strtab.now) c.args.name.now (c.word_count-end.result - c.loop.counter) c.loop.index _ (omega arith) (omega arith) (sym c.in_default.ensures) in
-    let all = sym step ∙ c.loop.invariant in
-    search (rules, all)
-
-pub returns-then-eq : goal.returns-then-eq
-returns-then-eq g c =
-    let step = along_found (sysv_view c.args.self.now) (table_view c.args.symtab.now) (strings_view c.args.strtab.now) c.args.name.now (c.word_count-end.result - c.loop.counter) c.loop.index _ (omega arith) (omega arith) (sym c.in-Ok.ensures) (sym c.eq.ensures ∙ c.if-eq.true) in
-    sym step ∙ c.loop.invariant
-
-pub returns-in_default-word : goal.returns-in_default-word
-returns-in_default-word g c =
-    let step = along_cut (sysv_view c.args.self.now) (table_view c.args.symtab.now) (strings_view c.args.strtab.now) c.args.name.now (c.word_count-end.result - c.loop.counter) c.loop.index _ _ (omega arith) (omega arith) (sym c.in-Ok.ensures) (sym c.eq.ensures ∙ c.if-eq.false) (sym c.in_default-word.ensures) in
+    let step = along_cut (sysv_view c.args.self.now) (table_view c.args.symtab.now) c.args.strings.now c.args.name.now (c.word_count-end.result - c.loop.counter) c.loop.index _ (omega arith) (omega arith) (cc (c.in-Ok-None.ensures, c.in-Ok-None.field-0-is)) (sym c.in_default.ensures) in
     let all = sym step ∙ c.loop.invariant in
     search (rules, all)
 
 pub loop-preserved : goal.loop-preserved
 loop-preserved g c =
-    let step = along_next (sysv_view c.args.self.now) (table_view c.args.symtab.now) (strings_view c.args.strtab.now) c.args.name.now (c.word_count-end.result - c.loop.counter) c.loop.index _ _ (omega arith) (omega arith) (sym c.in-Ok.ensures) (sym c.eq.ensures ∙ c.if-eq.false) (sym c.in-Ok-word.ensures) in
+    let step = along_next (sysv_view c.args.self.now) (table_view c.args.symtab.now) c.args.strings.now c.args.name.now (c.word_count-end.result - c.loop.counter) c.loop.index _ (omega arith) (omega arith) (cc (c.in-Ok-None.ensures, c.in-Ok-None.field-0-is)) (sym c.in-Ok.ensures) in
     let less : c.word_count-end.result - c.loop.counter - 1 ≡ c.word_count-end.result - (c.loop.counter + 1) = omega arith in
     sym (rw less at step) ∙ c.loop.invariant
 
 pub returns : goal.returns
 returns g c =
-    let step = along_limit (sysv_view c.args.self.now) (table_view c.args.symtab.now) (strings_view c.args.strtab.now) c.args.name.now (c.word_count-end.result - c.loop.counter) c.loop.index (omega arith) in
+    let step = along_limit (sysv_view c.args.self.now) (table_view c.args.symtab.now) c.args.strings.now c.args.name.now (c.word_count-end.result - c.loop.counter) c.loop.index (omega arith) in
     sym step ∙ c.loop.invariant
