@@ -6,7 +6,6 @@ use Rattle.std.specs.Str.{bytes_eq}
 use Rattle.elf_parts.specs.GnuFind.{GnuTable}
 use Rattle.elf_parts.specs.Hash.{word_count}
 use Rattle.elf_parts.specs.SysvFind.{SysvTable}
-use Rattle.elf_parts.specs.StringTable.{strings_view}
 use Rattle.elf_parts.specs.Table.{Table, table_view}
 use Rattle.elf_parts.specs.declared.symbol.Symbol.{Symbol}
 use Rattle.elf_check.specs.Object.{ByGnu, BySysv, Indexed, IsFound, Object}
@@ -91,4 +90,4 @@ abbrev pub indices_left : {E : Type 0} → Walk E → List ℕ
 indices_left s = indices_from (index_behind (table_view s.chains) s.links) s.left s.next
 
 abbrev pub named_left : {E : Type 0} → NamedSymbols E → List (ℕ × Symbol)
-named_left s = kept_named (table_view s.symtab) (strings_view s.strtab) s.name.now (indices_left s.walk)
+named_left s = kept_named (table_view s.symtab) s.strings s.name.now (indices_left s.walk)

@@ -135,9 +135,9 @@ fn count_terminated(bytes: &[u8]) -> usize
 }
 
 /// A table of strings whose last 0 byte is known. So a string is compared without a search for its end, which may be as
-/// far away as the table is long, where the strings of many symbols share their bytes.
-#[derive(Drop)]
-pub(crate) struct TerminatedStrings<'data> {
+/// far away as the table is long: in a file of a stranger the strings of many symbols may share their bytes.
+#[derive(Debug, Drop)]
+pub struct TerminatedStrings<'data> {
     table: StringTable<'data>,
     terminated: usize,
 }
@@ -151,8 +151,9 @@ impl<'data> Model for TerminatedStrings<'data> {
 }
 
 impl<'data> TerminatedStrings<'data> {
+    /// The strings of a table. If its last byte is not 0, the last 0 byte is looked for from the end.
     #[inline(always)]
-    pub(crate) fn new(table: &StringTable<'data>) -> Self
+    pub fn new(table: &StringTable<'data>) -> Self
         ensures { result ≡ strings_view table.now }
     {
         let terminated = match table.data.last() {
@@ -165,17 +166,18 @@ impl<'data> TerminatedStrings<'data> {
         }
     }
 
-    /// Returns the bytes of the string at `offset`, or the error, as `StringTable::get_raw` does.
-    pub(crate) fn get_raw(&self, offset: usize) -> Result<&'data [u8], ParseError>
+    /// Returns what `StringTable::get_raw` returns.
+    pub fn get_raw(&self, offset: usize) -> Result<&'data [u8], ParseError>
         ensures { ok_map (λ bytes. bytes.now) result ≡ string_at self.now offset }
     {
         self.table.get_raw(offset)
     }
 
-    /// Whether the string at `offset` is this name. The error is that of `StringTable::get_raw`.
+    /// Whether the string at `offset`, in bytes, is this name. No more bytes are read than the name has, and one. The
+    /// error is that of `StringTable::get_raw`.
     #[tactic(auto, unfolding(crate::specs::StringTable::string_at))]
     #[inline(always)]
-    pub(crate) fn is(&self, offset: usize, name: &[u8]) -> Result<bool, ParseError>
+    pub fn is(&self, offset: usize, name: &[u8]) -> Result<bool, ParseError>
         ensures { result ≡ ok_map (λ bytes. bytes_eq bytes name.now) (string_at self.now offset) }
     {
         if offset >= self.terminated {

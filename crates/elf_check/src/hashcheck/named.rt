@@ -10,7 +10,7 @@ ghost use Rattle.elf_check.specs.WithSymbols.{word};
 use crate::hashcheck::words::{U32Table, word_count, word_of};
 use elf_parts::endian::EndianParse;
 use elf_parts::laws::find::words_read_below_count;
-use elf_parts::string_table::StringTable;
+use elf_parts::string_table::{StringTable, TerminatedStrings};
 use elf_parts::symbol::{Symbol, SymbolTable};
 
 // What leads from one index to the next.
@@ -107,7 +107,7 @@ impl<'data, E: EndianParse> Iterator for Walk<'data, E> {
 pub struct NamedSymbols<'a, 'data, E: EndianParse> {
     walk: Walk<'data, E>,
     symtab: SymbolTable<'data, E>,
-    strtab: StringTable<'data>,
+    strings: TerminatedStrings<'data>,
     name: &'a [u8],
 }
 
@@ -124,7 +124,7 @@ impl<'a, 'data, E: EndianParse> NamedSymbols<'a, 'data, E> {
         NamedSymbols {
             walk,
             symtab,
-            strtab,
+            strings: TerminatedStrings::new(&strtab),
             name,
         }
     }
@@ -133,14 +133,12 @@ impl<'a, 'data, E: EndianParse> NamedSymbols<'a, 'data, E> {
     #[tactic(auto, unfolding(crate::specs::WithSymbols::named, elf_parts::specs::Hash::named_symbol))]
     fn symbol_named(&self, index: usize) -> Option<(usize, Symbol)>
         ensures { let s = self.now in
-            result ≡ symbol_named (table_view s.symtab) (strings_view s.strtab) s.name.now index }
+            result ≡ symbol_named (table_view s.symtab) s.strings s.name.now index }
     {
         let symbol = self.symtab.get(index).ok()?;
-        let name = self.strtab.get_raw(symbol.st_name as usize).ok()?;
-        if name == self.name {
-            Some((index, symbol))
-        } else {
-            None
+        match self.strings.is(symbol.st_name as usize, self.name) {
+            Ok(true) => Some((index, symbol)),
+            _ => None,
         }
     }
 }
