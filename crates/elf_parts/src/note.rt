@@ -1,7 +1,7 @@
 //! Notes (gABI, chapter "Program Header", "Note Section").
 ghost use Rattle.std.specs.Prelude.{◌≡◌, ◌≤◌, ◌<◌, ◌^◌, ◌+◌, length, OnOk};
 ghost use Rattle.std.specs.Iterator.{YieldsFirstBy, item_count};
-ghost use Rattle.elf_parts.specs.Note.{aligned, content_of, note_and_next_view, note_at, note_view, notes_in};
+ghost use Rattle.elf_parts.specs.Note.{aligned, content_of, is_gnu, note_and_next_view, note_at, note_view, notes_in};
 ghost use Rattle.elf_parts.specs.Note.{notes_left, GivesNameText};
 ghost use Rattle.elf_parts.specs.Number.{ok_map};
 
@@ -119,13 +119,21 @@ impl ParseAt for NoteGnuAbiTag {
 fn aligned(align: usize, offset: usize) -> Result<usize, ParseError>
     ensures { result ≡ aligned align offset }
 {
-    // Nearly all files have 4 or 8. A division by a known number takes fewer instructions.
+    // Nearly all files have 4 or 8. A division by a known number takes fewer instructions, and needs no remainder.
     let next = match align {
-        4 => offset.checked_next_multiple_of(4),
-        8 => offset.checked_next_multiple_of(8),
+        4 => offset.checked_add(3).map(|last| last / 4 * 4),
+        8 => offset.checked_add(7).map(|last| last / 8 * 8),
         _ => offset.checked_next_multiple_of(align),
     };
     next.ok_or(ParseError::IntegerOverflow)
+}
+
+// Whether a name is `GNU`, with the 0 byte that ends it. An `==` of two slices would be a call.
+#[inline(always)]
+fn is_gnu(name: &[u8]) -> bool
+    ensures { result ≡ is_gnu name.now }
+{
+    matches!(name, [b'G', b'N', b'U', 0])
 }
 
 // What a note of this type, name and descriptor is.
@@ -139,11 +147,11 @@ fn interpret<'data>(
 ) -> Result<Note<'data>, ParseError>
     ensures { ok_map note_view result ≡ content_of little n_type name.now descriptor.now }
 {
-    if n_type == abi::NT_GNU_ABI_TAG && name == abi::ELF_NOTE_GNU {
+    if n_type == abi::NT_GNU_ABI_TAG && is_gnu(name) {
         let tag = read_record(little, Class::ELF32, &mut 0, descriptor)?;
         return Ok(Note::GnuAbiTag(tag));
     }
-    if n_type == abi::NT_GNU_BUILD_ID && name == abi::ELF_NOTE_GNU {
+    if n_type == abi::NT_GNU_BUILD_ID && is_gnu(name) {
         return Ok(Note::GnuBuildId(NoteGnuBuildId(descriptor)));
     }
     Ok(Note::Unknown(NoteAny {
@@ -212,6 +220,8 @@ impl<'data, E: EndianParse> Iterator for NoteIterator<'data, E> {
 
     ghost remaining = { item_count notes_left };
 
+    // Inlined, so that the caller takes the note where it is made.
+    #[inline(always)]
     fn next(&mut self) -> Option<Note<'data>> {
         match note_at(self.little, self.align, self.offset, self.data) {
             Ok((note, next)) => {

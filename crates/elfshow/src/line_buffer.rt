@@ -7,6 +7,9 @@ ghost use Rattle.std.specs.Io.KnownBytes.{Appends};
 ghost use Rattle.elfshow.specs.Pieces.{◌⧺◌, escape, escaped, hex, hex_of, hex_pair, is_plain};
 ghost use Rattle.elfshow.specs.inner.Adding.{Adds, waiting};
 
+mod pairs;
+
+use crate::line_buffer::pairs::{BLOCK, fill_pairs, pairs_of_block};
 use std::io;
 use std::io::Write;
 use std::marker::Model;
@@ -214,24 +217,36 @@ impl LineBuffer {
         self.put_pairs(bytes, out);
     }
 
-    // Adds two digits for each byte. Blocks of a known length take fewer instructions than bytes.
+    // Adds two digits for each byte. The room is looked at once for all of them.
     #[inline(never)]
     fn put_pairs<W: Write>(&mut self, bytes: &[u8], out: &mut W)
         ensures { Adds (W.contents out.old) self.old (W.contents out.new) self.new (hex_of bytes.now) }
     {
-        let (blocks, rest) = bytes.as_chunks();
-        self.put_blocks::<64, 128, W>(blocks, out);
-        self.put_short_pairs(rest, out);
+        if bytes.len() > (ROOM - self.used) / 2 {
+            self.put_many_pairs(bytes, out);
+            return;
+        }
+        let end = self.used + 2 * bytes.len();
+        fill_pairs(bytes, &mut self.bytes[self.used..end]);
+        self.used = end;
     }
 
-    fn put_short_pairs<W: Write>(&mut self, bytes: &[u8], out: &mut W)
+    // Adds two digits for each byte, where they do not all fit any more.
+    #[inline(never)]
+    fn put_many_pairs<W: Write>(&mut self, bytes: &[u8], out: &mut W)
         ensures { Adds (W.contents out.old) self.old (W.contents out.new) self.new (hex_of bytes.now) }
     {
-        let (long, others) = bytes.as_chunks();
-        let (short, rest) = others.as_chunks();
-        self.put_blocks::<16, 32, W>(long, out);
-        self.put_blocks::<4, 8, W>(short, out);
+        let (blocks, rest) = bytes.as_chunks();
+        self.put_blocks(blocks, out);
         self.put_bytes(rest, out);
+    }
+
+    fn put_blocks<W: Write>(&mut self, blocks: &[[u8; BLOCK]], out: &mut W)
+        ensures { Adds (W.contents out.old) self.old (W.contents out.new) self.new (flat_map hex_of blocks.now) }
+    {
+        for block in blocks {
+            self.put(&pairs_of_block(block).to_array(), out);
+        }
     }
 
     fn put_bytes<W: Write>(&mut self, bytes: &[u8], out: &mut W)
@@ -241,23 +256,6 @@ impl LineBuffer {
             self.put(&hex_digits(*byte), out);
         }
     }
-
-    // Adds two digits for each byte of blocks of `N` bytes, whose digits are `M` bytes.
-    fn put_blocks<const N: usize, const M: usize, W: Write>(
-        &mut self,
-        blocks: &[[u8; N]],
-        out: &mut W,
-    )
-        requires double { M ≡ 2 * N }
-        requires short { M ≤ 128 }
-        ensures { Adds (W.contents out.old) self.old (W.contents out.new) self.new (flat_map hex_of blocks.now) }
-    {
-        for block in blocks {
-            let mut digits = [0; M];
-            fill_pairs(block, &mut digits);
-            self.put(&digits, out);
-        }
-    }
 }
 
 fn write_both<W: Write>(first: &[u8], second: &[u8], out: &mut W) -> io::Result<()>
@@ -265,19 +263,6 @@ fn write_both<W: Write>(first: &[u8], second: &[u8], out: &mut W) -> io::Result<
 {
     out.write_all(first)?;
     out.write_all(second)
-}
-
-/// Fills `room` with two digits for each byte.
-#[inline(always)]
-fn fill_pairs(bytes: &[u8], room: &mut [u8])
-    requires { length room.old ≡ 2 * length bytes.now }
-    ensures { room.new ≡ hex_of bytes.now }
-{
-    for (i, byte) in bytes.iter().enumerate() {
-        let [high, low] = hex_digits(*byte);
-        room[2 * i] = high;
-        room[2 * i + 1] = low;
-    }
 }
 
 /// Fills the end of `room` with the digits of a number, and returns where they begin.
