@@ -307,20 +307,40 @@ fn fill_decimal(n: u64, room: &mut [u8; MAX_DIGITS]) -> usize
     2 * pairs
 }
 
-/// Whether no byte of a text needs an escape. Blocks of a known length take fewer instructions than bytes.
+/// Whether no byte of a text needs an escape. The last block may overlap the one before it. Blocks of a known length
+/// take fewer instructions than bytes.
 fn are_plain(bytes: &[u8]) -> bool
     ensures { result ≡ true → escaped bytes.now ≡ bytes.now }
 {
-    let (blocks, rest) = bytes.as_chunks();
-    are_blocks_plain::<16>(blocks) && is_end_plain(rest)
+    let Some(last) = bytes.last_chunk::<16>() else {
+        return is_short_plain(bytes);
+    };
+    let (blocks, _) = bytes.as_chunks();
+    are_blocks_plain::<16>(blocks) && is_block_plain(last)
 }
 
+// The same of a text of fewer than 16 bytes: of its first and its last 8.
 #[inline(always)]
-fn is_end_plain(bytes: &[u8]) -> bool
+fn is_short_plain(bytes: &[u8]) -> bool
+    requires { length bytes.now < 16 }
     ensures { result ≡ true → escaped bytes.now ≡ bytes.now }
 {
-    let (blocks, rest) = bytes.as_chunks();
-    are_blocks_plain::<4>(blocks) && is_block_plain(rest)
+    let (Some(first), Some(last)) = (bytes.first_chunk::<8>(), bytes.last_chunk::<8>()) else {
+        return are_few_plain(bytes);
+    };
+    is_block_plain(first) && is_block_plain(last)
+}
+
+// The same of fewer than 8 bytes: of the first and the last 4.
+#[inline(always)]
+fn are_few_plain(bytes: &[u8]) -> bool
+    requires { length bytes.now < 8 }
+    ensures { result ≡ true → escaped bytes.now ≡ bytes.now }
+{
+    let (Some(first), Some(last)) = (bytes.first_chunk::<4>(), bytes.last_chunk::<4>()) else {
+        return is_block_plain(bytes);
+    };
+    is_block_plain(first) && is_block_plain(last)
 }
 
 fn are_blocks_plain<const N: usize>(blocks: &[[u8; N]]) -> bool
