@@ -1,6 +1,7 @@
 -- Strings that are compared without a search for their end.
-use Rattle.std.proofs.Common.{◌≡◌, ℕ, ◌+◌, ◌-◌, ◌<◌, ◌≤◌, false, Option, Some, None, List, length, take, drop, get_or, refl, sym, ap, arith, inl, inr, MatchOption}
-use Rattle.std.specs.Prelude.{position}
+use Rattle.std.proofs.Common.{◌≡◌, ℕ, ◌+◌, ◌-◌, ◌<◌, ◌≤◌, Bool, false, Option, Some, None, List, length, take, drop, get_or, refl, sym, ap, ◌∙◌, arith, inl, inr, MatchOption}
+use Rattle.std.specs.Prelude.{◌==◌, position}
+use Rattle.std.specs.Bool.{Decides}
 use Rattle.std.specs.List.{position_or_len}
 use Rattle.std.specs.Str.{bytes_eq}
 use Rattle.std.proofs.lemmas.Grind.{common_steps}
@@ -9,34 +10,49 @@ use Rattle.std.proofs.lemmas.List.{get_or-drop, length-drop, length-take}
 use Rattle.std.proofs.lemmas.List.Quantifiers.{position-Some}
 use Rattle.std.proofs.lemmas.List.Sums.{fails_before_first}
 use Rattle.std.proofs.lemmas.Slice.Eq.{bytes_eq-Decides}
-use Rattle.elf_parts.proofs.Nuls.{before_nul, is_nul, none_in_group}
+use Rattle.elf_parts.proofs.Nuls.{before_nul, none_in_group}
 use Rattle.elf_parts.specs.inner.Terminated.{IsTerminated, NoneFrom}
 
--- where no byte is 0, none before the end is
-none_found : (bytes : List ℕ) (k : ℕ) → position is_nul bytes ≡ None → k < length bytes → is_nul (get_or bytes k 0) ≡ false
-none_found bytes k none low =
-    let far : length bytes ≤ position_or_len is_nul bytes = grind (arith, common_steps) in
-    fails_before_first is_nul bytes k 0 (omega arith)
+-- where none passes, each fails
+none_found : (p : ℕ → Bool) (bytes : List ℕ) (k : ℕ) → position p bytes ≡ None → k < length bytes → p (get_or bytes k 0) ≡ false
+none_found p bytes k none low =
+    let far : length bytes ≤ position_or_len p bytes = grind (arith, common_steps) in
+    fails_before_first p bytes k 0 (omega arith)
 
--- where the first 0 byte is not behind as many bytes as are asked for, they are not those that are asked for
-pub not_as_asked : (bytes asked : List ℕ) (first : Option ℕ) → position is_nul bytes ≡ first → (first ≡ Some (length asked) → ⊥) → MatchOption first (false ≡ false) (λ n. false ≡ bytes_eq (take n bytes) asked)
-not_as_asked bytes asked None found other = refl
-not_as_asked bytes asked (Some n) found other = elim (cases_Bool (bytes_eq (take n bytes) asked)) [
-  | inl hit ↦
-      let at = position-Some is_nul bytes n 0 found in
-      let all = ap (λ (xs : List ℕ). length xs) ((bytes_eq-Decides (take n bytes) asked).0 hit) in
-      let short = length-take n bytes in
-      let here : n ≡ length asked = omega arith in
-      absurd (other (ap Some here))
-  | inr miss ↦ sym miss
-]
+same_place : {n m : ℕ} → Some n ≡ Some m → n ≡ m
+same_place e = cc e
+
+-- whether the first 0 byte is behind as many bytes as are asked for, and they are those, is whether they are equal
+module _ (p : ℕ → Bool) (bytes asked : List ℕ) (r : Bool) (decides : Decides r ((position p bytes ≡ Some (length asked)) × (take (length asked) bytes ≡ asked))) where
+  same_answer : (n : ℕ) → position p bytes ≡ Some n → r ≡ bytes_eq (take n bytes) asked
+  same_answer n found = elim (cases_Bool (bytes_eq (take n bytes) asked)) [
+    | inl hit ↦
+        let at = position-Some p bytes n 0 found in
+        let same = (bytes_eq-Decides (take n bytes) asked).0 hit in
+        let all = ap (λ (xs : List ℕ). length xs) same in
+        let short = length-take n bytes in
+        let here : n ≡ length asked = omega arith in
+        decides.1 (found ∙ ap Some here, rw here at same) ∙ sym hit
+    | inr miss ↦ elim (cases_Bool r) [
+      | inl named ↦
+          let both = decides.0 named in
+          let here = same_place (sym found ∙ both.0) in
+          let hit = (bytes_eq-Decides (take n bytes) asked).1 (rw here both.1) in
+          named ∙ sym hit
+      | inr other ↦ other ∙ sym miss
+    ]
+  ]
+
+  pub same_answer_for : (first : Option ℕ) → position p bytes ≡ first → (first ≡ None → ⊥) → MatchOption first ⊥ (λ n. r ≡ bytes_eq (take n bytes) asked)
+  same_answer_for None found some = some refl
+  same_answer_for (Some n) found some = same_answer n found
 
 -- a 0 byte follows
-pub follows : (bytes : List ℕ) (n o : ℕ) → IsTerminated bytes n → o < n → position is_nul (drop o bytes) ≡ None → ⊥
+pub follows : (bytes : List ℕ) (n o : ℕ) → IsTerminated bytes n → o < n → position (λ (byte : ℕ). byte == 0) (drop o bytes) ≡ None → ⊥
 follows bytes n o terminated low none =
     let long = length-drop o bytes in
     let last = terminated.1 (omega arith) in
-    let passed = none_found (drop o bytes) (n - 1 - o) none (omega arith) in
+    let passed = none_found (λ (byte : ℕ). byte == 0) (drop o bytes) (n - 1 - o) none (omega arith) in
     let at = get_or-drop o bytes (n - 1 - o) 0 in
     let back : o + (n - 1 - o) ≡ n - 1 = omega arith in
     grind (arith, common_steps)

@@ -1,5 +1,6 @@
 //! Tables of strings (gABI, chapter "String Table").
-ghost use Rattle.std.specs.Prelude.{◌≡◌, ◌==◌, ◌+◌, ◌≤◌, List, MatchOption, ℕ, drop, false, length, not, position, take};
+ghost use Rattle.std.specs.Prelude.{◌≡◌, ◌==◌, ◌+◌, ◌≤◌, List, Some, ℕ, drop, length, not, position, take};
+ghost use Rattle.std.specs.Bool.{Decides};
 ghost use Rattle.std.specs.List.{prefix_len};
 ghost use Rattle.std.specs.Str.{bytes_eq};
 ghost use Rattle.elf_parts.specs.Number.{ok_map};
@@ -101,14 +102,14 @@ impl<'data> StringTable<'data> {
 // Whether the bytes up to the first 0 byte are those that are asked for. No byte behind as many is looked at.
 #[inline(always)]
 fn first_string_is(bytes: &[u8], asked: &[u8]) -> bool
-    ensures { MatchOption (position (λ byte. byte == 0) bytes.now) (result ≡ false)
-        (λ n. result ≡ bytes_eq (take n bytes.now) asked.now) }
+    ensures { Decides result ((position (λ byte. byte == 0) bytes.now ≡ Some (length asked.now))
+        × (take (length asked.now) bytes.now ≡ asked.now)) }
 {
     let end = asked.len();
-    if bytes.get(end) != Some(&0) || first_nul(bytes) != Some(end) {
+    if bytes.get(end) != Some(&0) {
         return false;
     }
-    bytes.split_at(end).0 == asked
+    first_nul(bytes) == Some(end) && bytes.split_at(end).0 == asked
 }
 
 // How many bytes are left where the groups of `LANES` bytes at the end that have no 0 byte are dropped.

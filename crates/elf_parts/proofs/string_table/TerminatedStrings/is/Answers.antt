@@ -1,11 +1,16 @@
-use Rattle.std.proofs.Common.{arith}
+use Rattle.std.proofs.Common.{ℕ, drop, refl, arith}
+use Rattle.std.specs.Prelude.{◌==◌, position}
 use Rattle.std.proofs.lemmas.Grind.{common_steps}
+use Rattle.std.proofs.lemmas.List.{take_rest}
 use Rattle.elf_parts.specs.StringTable.{string_at}
-use Rattle.elf_parts.proofs.Terminated.{follows}
+use Rattle.elf_parts.proofs.Terminated.{follows, same_answer_for}
 use Rattle.elf_parts.proofs.string_table.TerminatedStrings.is.Goals as goal
 
 pub returns : goal.returns
 unfolding string_at
 returns c =
-    let there = follows c.self.inside.table.«data».now c.self.inside.terminated c.args.offset c.self.invariant (omega arith) in
+    let bytes = c.self.inside.table.«data».now in
+    let there = follows bytes c.self.inside.terminated c.args.offset c.self.invariant (omega arith) in
+    let nul = λ (byte : ℕ). byte == 0 in
+    let same = same_answer_for nul (drop c.args.offset bytes) c.args.name.now c.first_string_is.result (rw (take_rest bytes c.args.offset) at c.first_string_is.ensures) (position nul (drop c.args.offset bytes)) refl there in
     grind (arith, common_steps)
