@@ -4,7 +4,6 @@
 //! reads its source.
 ghost use Rattle.std.specs.Prelude.{◌≡◌, ◌&&◌, IfErr, is_some};
 ghost use Rattle.elf_parts.specs.Clones.{ClonesExactly};
-ghost use Rattle.elf_parts.specs.StringTable.{strings_view};
 ghost use Rattle.elf.specs.Answers.{symbol_sections, with_linked};
 ghost use Rattle.elf.specs.ElfStream.{Kind, kind};
 ghost use Rattle.elf.specs.Headers.{first_section_of, first_segment_of};
@@ -17,7 +16,7 @@ use elf_parts::file::Class;
 use elf_parts::parse::{ParseAt, ParseError};
 use elf_parts::section::SectionHeader;
 use elf_parts::segment::ProgramHeader;
-use elf_parts::string_table::StringTable;
+use elf_parts::string_table::TerminatedStrings;
 use elf_parts::symbol::Symbol;
 
 /// A section, and the section that its `sh_link` names.
@@ -167,11 +166,11 @@ impl VersionSections {
 }
 
 // Whether a section has this name.
-pub(crate) fn has_name(names: &StringTable<'_>, name: &str, shdr: &SectionHeader) -> bool
-    ensures { result ≡ has_name (strings_view names.now) name.now shdr.now }
+pub(crate) fn has_name(names: &TerminatedStrings<'_>, name: &str, shdr: &SectionHeader) -> bool
+    ensures { result ≡ has_name names.now name.now shdr.now }
 {
-    match names.get_raw(shdr.sh_name as usize) {
-        Ok(raw) => raw == name.as_bytes(),
+    match names.is(shdr.sh_name as usize, name.as_bytes()) {
+        Ok(is_named) => is_named,
         Err(_) => false,
     }
 }

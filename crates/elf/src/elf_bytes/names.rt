@@ -1,7 +1,6 @@
 //! The names of sections.
 ghost use Rattle.std.specs.Prelude.{◌≡◌, Some};
 ghost use Rattle.elf_parts.specs.Number.{ok_map};
-ghost use Rattle.elf_parts.specs.StringTable.{strings_view};
 ghost use Rattle.elf_parts.specs.Table.{table_view};
 ghost use Rattle.elf.specs.Answers.{first_named, section_header_by_name};
 ghost use Rattle.elf.specs.Names.{beside, name_table, named_view};
@@ -14,16 +13,15 @@ use crate::headers::{Headers, has_name};
 use elf_parts::endian::EndianParse;
 use elf_parts::parse::ParseError;
 use elf_parts::section::{SectionHeader, SectionHeaderTable};
-use elf_parts::string_table::StringTable;
+use elf_parts::string_table::{StringTable, TerminatedStrings};
 
 // The first section header with a name.
 fn first_named_in<E: EndianParse>(
     shdrs: SectionHeaderTable<'_, E>,
-    names: &StringTable<'_>,
+    names: &TerminatedStrings<'_>,
     name: &str,
 ) -> Option<SectionHeader>
-    ensures { result
-        ≡ first_named (section_list (Some (table_view shdrs.entry))) name.now (Some (strings_view names.now)) }
+    ensures { result ≡ first_named (section_list (Some (table_view shdrs.entry))) name.now (Some names.now) }
 {
     shdrs.iter().find(|shdr| has_name(names, name, shdr))
 }
@@ -66,6 +64,7 @@ impl<'data, E: EndianParse> ElfBytes<'data, E> {
         let (Some(shdrs), Some(names)) = self.section_headers_with_strtab()? else {
             return Ok(None);
         };
+        let names = TerminatedStrings::new(&names);
         Ok(first_named_in(shdrs, &names, name))
     }
 }

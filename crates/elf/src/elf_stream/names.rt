@@ -1,7 +1,6 @@
 //! The names of sections.
 ghost use Rattle.std.specs.Prelude.{◌≡◌, IfSome, Ok, None, Some, option_copied};
 ghost use Rattle.elf_parts.specs.Number.{ok_map};
-ghost use Rattle.elf_parts.specs.StringTable.{strings_view};
 ghost use Rattle.elf.specs.Answers.{first_named, section_header_by_name};
 ghost use Rattle.elf.specs.Ranges.{names_ranges, whole_section};
 ghost use Rattle.elf.specs.ElfStream.{AreCached};
@@ -15,16 +14,16 @@ use crate::source::StreamSource;
 use elf_parts::endian::EndianParse;
 use elf_parts::parse::ParseError;
 use elf_parts::section::SectionHeader;
-use elf_parts::string_table::StringTable;
+use elf_parts::string_table::{StringTable, TerminatedStrings};
 use std::alloc::Allocator;
 
 // The first section header with a name.
 fn first_named_in<'a>(
     shdrs: &'a [SectionHeader],
-    names: &StringTable<'_>,
+    names: &TerminatedStrings<'_>,
     name: &str,
 ) -> Option<&'a SectionHeader>
-    ensures { option_copied result ≡ first_named shdrs.now name.now (Some (strings_view names.now)) }
+    ensures { option_copied result ≡ first_named shdrs.now name.now (Some names.now) }
 {
     shdrs.iter().find(|shdr| has_name(names, name, *shdr))
 }
@@ -86,7 +85,7 @@ impl<E: EndianParse, S: StreamSource, A: Allocator + Copy> ElfStream<E, S, A> {
             (section_range bytes names.now) ≡ Ok (option_copied result)) }
     {
         let bytes = self.cached_bytes(names.sh_offset, names.sh_size);
-        let strings = StringTable::new(bytes);
+        let strings = TerminatedStrings::new(&StringTable::new(bytes));
         first_named_in(&self.shdrs, &strings, name)
     }
 

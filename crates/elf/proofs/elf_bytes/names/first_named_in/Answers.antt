@@ -4,12 +4,11 @@ use Rattle.std.proofs.lemmas.Iterator.Consumers.{YieldsList-from_first}
 use Rattle.std.proofs.lemmas.Iterator.Search.{find_from_yields_List}
 use Rattle.elf_parts.specs.Table.{items_left, table_items, table_view}
 use Rattle.elf_parts.specs.Section.{section_header_reads}
-use Rattle.elf_parts.specs.StringTable.{strings_view}
 use Rattle.elf.specs.Names.{has_name}
 use Rattle.elf.proofs.elf_bytes.names.first_named_in.Goals as goal
 
 pub returns : goal.returns
 returns g c =
     let all = table_items section_header_reads (table_view c.args.shdrs) in
-    sym (option_map_id c.find.result) ∙ find_from_yields_List (has_name (strings_view c.args.names.now) c.args.name.now) _ _ c.find.result c.find.ensures.ran
+    sym (option_map_id c.find.result) ∙ find_from_yields_List (has_name c.args.names.now c.args.name.now) _ _ c.find.result c.find.ensures.ran
     (YieldsList-from_first (λ x. x) (items_left section_header_reads) all c.iter.ensures.items) (λ x b q k. search (rules, tests))
