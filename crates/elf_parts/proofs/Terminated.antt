@@ -57,17 +57,25 @@ follows bytes n o terminated low none =
     let back : o + (n - 1 - o) ≡ n - 1 = omega arith in
     grind (arith, common_steps)
 
+-- none does
+module _ (bytes : List ℕ) (n o : ℕ) (terminated : IsTerminated bytes n) (behind : n ≤ o) where
+  none_by : (first : Option ℕ) → position (λ (byte : ℕ). byte == 0) (drop o bytes) ≡ first → first ≡ None
+  none_by None found = refl
+  none_by (Some i) found =
+      let there = position-Some (λ (byte : ℕ). byte == 0) (drop o bytes) i 0 found in
+      let long = length-drop o bytes in
+      let at = get_or-drop o bytes i 0 in
+      let other = terminated.2 (o + i) (omega arith) (omega (arith, there.0)) in
+      absurd (grind (arith, common_steps))
+
+  pub none_follows : position (λ (byte : ℕ). byte == 0) (drop o bytes) ≡ None
+  none_follows = none_by (position (λ (byte : ℕ). byte == 0) (drop o bytes)) refl
+
 -- none follows from a group of bytes on, of which none is 0
 pub none_from_group : (bytes : List ℕ) (end : ℕ) → 16 ≤ end → end ≤ length bytes → NoneFrom bytes end → before_nul bytes (end - 16) 16 ≡ 16 → NoneFrom bytes (end - 16)
 none_from_group bytes end some low none all k from inside = elim (cases_lt k end) [
   | inl early ↦
       let other = none_in_group bytes (end - 16) 16 k from (omega (arith, all)) (omega arith) in
       λ nul. grind (arith, common_steps)
-  | inr late ↦ none k (omega arith) inside
-]
-
-pub none_from_one : (bytes : List ℕ) (end : ℕ) → 0 < end → NoneFrom bytes end → (get_or bytes (end - 1) 0 ≡ 0 → ⊥) → NoneFrom bytes (end - 1)
-none_from_one bytes end some none here k from inside = elim (cases_lt k end) [
-  | inl early ↦ let last : k ≡ end - 1 = omega arith in λ nul. here (rw last at nul)
   | inr late ↦ none k (omega arith) inside
 ]

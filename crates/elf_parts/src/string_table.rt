@@ -1,5 +1,5 @@
 //! Tables of strings (gABI, chapter "String Table").
-ghost use Rattle.std.specs.Prelude.{◌≡◌, ◌==◌, ◌+◌, ◌≤◌, List, Some, ℕ, drop, length, not, position, take};
+ghost use Rattle.std.specs.Prelude.{◌≡◌, ◌==◌, ◌+◌, ◌≤◌, Err, List, None, Some, ℕ, drop, length, not, position, take};
 ghost use Rattle.std.specs.Bool.{Decides};
 ghost use Rattle.std.specs.List.{prefix_len};
 ghost use Rattle.std.specs.Str.{bytes_eq};
@@ -97,6 +97,19 @@ impl<'data> StringTable<'data> {
         let raw = self.get_raw(offset)?;
         Ok(from_utf8(raw)?)
     }
+
+    // The error of an offset behind which no byte is 0.
+    #[tactic(auto, unfolding(crate::specs::StringTable::string_at))]
+    fn refused(&self, offset: usize) -> ParseError
+        requires { position (λ byte. byte == 0) (drop offset (strings_view self.now)) ≡ None }
+        ensures { string_at (strings_view self.now) offset ≡ Err result }
+    {
+        if self.data.is_empty() || offset > self.data.len() {
+            ParseError::BadOffset(offset as u64)
+        } else {
+            ParseError::StringTableMissingNul(offset as u64)
+        }
+    }
 }
 
 // Whether the bytes up to the first 0 byte are those that are asked for. No byte behind as many is looked at.
@@ -174,15 +187,15 @@ impl<'data> TerminatedStrings<'data> {
         self.table.get_raw(offset)
     }
 
-    /// Whether the string at `offset`, in bytes, is this name. No more bytes are read than the name has, and one. The
-    /// error is that of `StringTable::get_raw`.
+    /// Whether the string at `offset`, in bytes, is this name. The error is that of `StringTable::get_raw`. The time
+    /// grows with the length of the name alone.
     #[tactic(auto, unfolding(crate::specs::StringTable::string_at))]
     #[inline(always)]
     pub fn is(&self, offset: usize, name: &[u8]) -> Result<bool, ParseError>
         ensures { result ≡ ok_map (λ bytes. bytes_eq bytes name.now) (string_at self.now offset) }
     {
         if offset >= self.terminated {
-            return Ok(self.get_raw(offset)? == name);
+            return Err(self.table.refused(offset));
         }
         Ok(first_string_is(&self.table.data[offset..], name))
     }

@@ -3,8 +3,11 @@ use Rattle.std.specs.Prelude.{◌==◌, position}
 use Rattle.std.proofs.lemmas.Grind.{common_steps}
 use Rattle.std.proofs.lemmas.List.{take_rest}
 use Rattle.elf_parts.specs.StringTable.{string_at}
-use Rattle.elf_parts.proofs.Terminated.{follows, same_answer_for}
+use Rattle.elf_parts.proofs.Terminated.{follows, none_follows, same_answer_for}
 use Rattle.elf_parts.proofs.string_table.TerminatedStrings.is.Goals as goal
+
+pub refused-requires : goal.refused-requires
+refused-requires c = none_follows c.self.inside.table.«data».now c.self.inside.terminated c.args.offset c.self.invariant (omega arith)
 
 pub returns : goal.returns
 unfolding string_at
