@@ -169,6 +169,24 @@ def add_hashes(made, count, prefix=b"symbol"):
     return names
 
 
+# A name that no symbol of a shared string has, and how many symbols share it.
+SHARED_NAME = b"ab"
+SHARING = 16
+
+
+def add_shared_string(made, length):
+    """Dynamic symbols whose names are the ends of one string of about this length, and both hash sections over them. A
+    look-up of `SHARED_NAME` meets each of the symbols: the GNU section has its hash for all."""
+    strings = b"\0" + b"a" * (length + SHARING) + b"\0"
+    symbols = bytes(24) + b"".join(struct.pack("<IBBHQQ", 1 + k, 0x12, 0, 1, 0x401000, 16) for k in range(SHARING))
+    dynsym = made.add(b".dynsym", SHT_DYNSYM, symbols, made.add(b".dynstr", SHT_STRTAB, strings), 1, 24)
+    chains = [0] + [(k + 1) % (SHARING + 1) for k in range(1, SHARING + 1)]
+    made.add(b".hash", SHT_HASH, struct.pack(f"<III{len(chains)}I", 1, len(chains), 1, *chains), dynsym, 0, 4)
+    hashes = [gnu_hash(SHARED_NAME) & ~1 | (k + 1 == SHARING) for k in range(SHARING)]
+    table = struct.pack(f"<IIIIQI{SHARING}I", 1, 1, 1, 6, 2**64 - 1, 1, *hashes)
+    made.add(b".gnu.hash", SHT_GNU_HASH, table, dynsym)
+
+
 def version_name(prefix, number):
     return b"%s_%d.0" % (prefix, number)
 
