@@ -112,7 +112,8 @@ impl<'data> StringTable<'data> {
     }
 }
 
-// Whether the bytes up to the first 0 byte are those that are asked for. No byte behind as many is looked at.
+// Whether the bytes up to the first 0 byte are those that are asked for. The search for that 0 byte takes groups of
+// `LANES` bytes, and ends with the group of the byte behind as many as are asked for.
 #[inline(always)]
 fn first_string_is(bytes: &[u8], asked: &[u8]) -> bool
     ensures { Decides result ((position (λ byte. byte == 0) bytes.now ≡ Some (length asked.now))

@@ -38,7 +38,10 @@ fn plain_structs_have_their_fields(rt: HostRuntime) {
             e_shnum: u16::MAX,
             e_shstrndx: u16::MAX,
         },
-        "Elf32_Ehdr { e_ident: [255, 255, 255, 255, 255, 255, 255, 255, 255, 255, 255, 255, 255, 255, 255, 255], e_type: 65535, e_machine: 65535, e_version: 4294967295, e_entry: 4294967295, e_phoff: 4294967295, e_shoff: 4294967295, e_flags: 4294967295, e_ehsize: 65535, e_phentsize: 65535, e_phnum: 65535, e_shentsize: 65535, e_shnum: 65535, e_shstrndx: 65535 }",
+        "Elf32_Ehdr { e_ident: [255, 255, 255, 255, 255, 255, 255, 255, 255, 255, 255, 255, 255, 255, 255, 255], \
+        e_type: 65535, e_machine: 65535, e_version: 4294967295, e_entry: 4294967295, e_phoff: 4294967295, e_shoff: \
+        4294967295, e_flags: 4294967295, e_ehsize: 65535, e_phentsize: 65535, e_phnum: 65535, e_shentsize: 65535, \
+        e_shnum: 65535, e_shstrndx: 65535 }",
     );
     assert_fields(
         &rt,
@@ -58,7 +61,10 @@ fn plain_structs_have_their_fields(rt: HostRuntime) {
             e_shnum: u16::MAX,
             e_shstrndx: u16::MAX,
         },
-        "Elf64_Ehdr { e_ident: [255, 255, 255, 255, 255, 255, 255, 255, 255, 255, 255, 255, 255, 255, 255, 255], e_type: 65535, e_machine: 65535, e_version: 4294967295, e_entry: 18446744073709551615, e_phoff: 18446744073709551615, e_shoff: 18446744073709551615, e_flags: 4294967295, e_ehsize: 65535, e_phentsize: 65535, e_phnum: 65535, e_shentsize: 65535, e_shnum: 65535, e_shstrndx: 65535 }",
+        "Elf64_Ehdr { e_ident: [255, 255, 255, 255, 255, 255, 255, 255, 255, 255, 255, 255, 255, 255, 255, 255], \
+        e_type: 65535, e_machine: 65535, e_version: 4294967295, e_entry: 18446744073709551615, e_phoff: \
+        18446744073709551615, e_shoff: 18446744073709551615, e_flags: 4294967295, e_ehsize: 65535, e_phentsize: \
+        65535, e_phnum: 65535, e_shentsize: 65535, e_shnum: 65535, e_shstrndx: 65535 }",
     );
     assert_fields(
         &rt,
@@ -74,7 +80,9 @@ fn plain_structs_have_their_fields(rt: HostRuntime) {
             sh_addralign: u32::MAX,
             sh_entsize: u32::MAX,
         },
-        "Elf32_Shdr { sh_name: 4294967295, sh_type: 4294967295, sh_flags: 4294967295, sh_addr: 4294967295, sh_offset: 4294967295, sh_size: 4294967295, sh_link: 4294967295, sh_info: 4294967295, sh_addralign: 4294967295, sh_entsize: 4294967295 }",
+        "Elf32_Shdr { sh_name: 4294967295, sh_type: 4294967295, sh_flags: 4294967295, sh_addr: 4294967295, sh_offset: \
+        4294967295, sh_size: 4294967295, sh_link: 4294967295, sh_info: 4294967295, sh_addralign: 4294967295, \
+        sh_entsize: 4294967295 }",
     );
     assert_fields(
         &rt,
@@ -90,7 +98,9 @@ fn plain_structs_have_their_fields(rt: HostRuntime) {
             sh_addralign: u64::MAX,
             sh_entsize: u64::MAX,
         },
-        "Elf64_Shdr { sh_name: 4294967295, sh_type: 4294967295, sh_flags: 18446744073709551615, sh_addr: 18446744073709551615, sh_offset: 18446744073709551615, sh_size: 18446744073709551615, sh_link: 4294967295, sh_info: 4294967295, sh_addralign: 18446744073709551615, sh_entsize: 18446744073709551615 }",
+        "Elf64_Shdr { sh_name: 4294967295, sh_type: 4294967295, sh_flags: 18446744073709551615, sh_addr: \
+        18446744073709551615, sh_offset: 18446744073709551615, sh_size: 18446744073709551615, sh_link: 4294967295, \
+        sh_info: 4294967295, sh_addralign: 18446744073709551615, sh_entsize: 18446744073709551615 }",
     );
     assert_fields(
         &rt,
@@ -104,7 +114,8 @@ fn plain_structs_have_their_fields(rt: HostRuntime) {
             p_flags: u32::MAX,
             p_align: u32::MAX,
         },
-        "Elf32_Phdr { p_type: 4294967295, p_offset: 4294967295, p_vaddr: 4294967295, p_paddr: 4294967295, p_filesz: 4294967295, p_memsz: 4294967295, p_flags: 4294967295, p_align: 4294967295 }",
+        "Elf32_Phdr { p_type: 4294967295, p_offset: 4294967295, p_vaddr: 4294967295, p_paddr: 4294967295, p_filesz: \
+        4294967295, p_memsz: 4294967295, p_flags: 4294967295, p_align: 4294967295 }",
     );
     assert_fields(
         &rt,
@@ -118,7 +129,9 @@ fn plain_structs_have_their_fields(rt: HostRuntime) {
             p_memsz: u64::MAX,
             p_align: u64::MAX,
         },
-        "Elf64_Phdr { p_type: 4294967295, p_flags: 4294967295, p_offset: 18446744073709551615, p_vaddr: 18446744073709551615, p_paddr: 18446744073709551615, p_filesz: 18446744073709551615, p_memsz: 18446744073709551615, p_align: 18446744073709551615 }",
+        "Elf64_Phdr { p_type: 4294967295, p_flags: 4294967295, p_offset: 18446744073709551615, p_vaddr: \
+        18446744073709551615, p_paddr: 18446744073709551615, p_filesz: 18446744073709551615, p_memsz: \
+        18446744073709551615, p_align: 18446744073709551615 }",
     );
 }
 
@@ -135,7 +148,8 @@ fn plain_structs_of_records_have_their_fields(rt: HostRuntime) {
             st_other: u8::MAX,
             st_shndx: u16::MAX,
         },
-        "Elf32_Sym { st_name: 4294967295, st_value: 4294967295, st_size: 4294967295, st_info: 255, st_other: 255, st_shndx: 65535 }",
+        "Elf32_Sym { st_name: 4294967295, st_value: 4294967295, st_size: 4294967295, st_info: 255, st_other: 255, \
+        st_shndx: 65535 }",
     );
     assert_fields(
         &rt,
@@ -147,7 +161,8 @@ fn plain_structs_of_records_have_their_fields(rt: HostRuntime) {
             st_value: u64::MAX,
             st_size: u64::MAX,
         },
-        "Elf64_Sym { st_name: 4294967295, st_info: 255, st_other: 255, st_shndx: 65535, st_value: 18446744073709551615, st_size: 18446744073709551615 }",
+        "Elf64_Sym { st_name: 4294967295, st_info: 255, st_other: 255, st_shndx: 65535, st_value: \
+        18446744073709551615, st_size: 18446744073709551615 }",
     );
     assert_fields(
         &rt,
@@ -216,6 +231,7 @@ fn plain_structs_of_records_have_their_fields(rt: HostRuntime) {
             ch_size: u64::MAX,
             ch_addralign: u64::MAX,
         },
-        "Elf64_Chdr { ch_type: 4294967295, ch_reserved: 4294967295, ch_size: 18446744073709551615, ch_addralign: 18446744073709551615 }",
+        "Elf64_Chdr { ch_type: 4294967295, ch_reserved: 4294967295, ch_size: 18446744073709551615, ch_addralign: \
+        18446744073709551615 }",
     );
 }

@@ -9,7 +9,8 @@ use std::cell::Cell;
 use std::test::Fail;
 
 const HEADER: &[u8] =
-    b"header class=32 order=little version=0 osabi=0 abiversion=0 type=0 machine=0 entry=0x0 phoff=0 shoff=56 flags=0x0 ehsize=0 phentsize=0 phnum=0 shentsize=40 shnum=2 shstrndx=1\n";
+    b"header class=32 order=little version=0 osabi=0 abiversion=0 type=0 machine=0 entry=0x0 phoff=0 shoff=56 \
+    flags=0x0 ehsize=0 phentsize=0 phnum=0 shentsize=40 shnum=2 shstrndx=1\n";
 
 // The opening read no names, so the second call reads them.
 #[test]

@@ -706,8 +706,8 @@ fn opened<'a>(
     }
 }
 
-/// All calls over a file, of which one may be refused for an allocation failure. `tests/refused-memory` runs this with each
-/// allocation refused.
+/// All calls over a file, of which one may be refused for an allocation failure. `tests/refused-memory` runs this with
+/// each allocation refused.
 fn assert_answered(rt: &(impl Abort + AllocGlobal), bytes: &[u8]) -> Result<usize, ParseError> {
     let file = ElfBytes::minimal_parse(bytes)?;
     let calls_left = Cell::new(u64::MAX);

@@ -21,8 +21,8 @@ const BUFFER: usize = 65536;
 /// How many writes that takes at least, since none has more bytes than the buffer.
 const FEWEST_WRITES: u64 = 108;
 
-/// How many writes that takes at most. Each of them but the last is of a buffer that has no room for the lines that come
-/// next, which have at most 1,024 bytes. So it has at least 64,512 bytes, which go 109 times into the text.
+/// How many writes that takes at most. Each of them but the last is of a buffer that has no room for the lines that
+/// come next, which have at most 1,024 bytes. So it has at least 64,512 bytes, which go 109 times into the text.
 const MOST_WRITES: u64 = 110;
 
 /// The first section has the number of sections, and the second the names.

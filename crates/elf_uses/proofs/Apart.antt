@@ -10,8 +10,8 @@ use Rattle.std.specs.declared.cmp.Ordering.TheVariants.{Less, Equal, Greater}
 use Rattle.std.proofs.lemmas.Bool.{cases_lt, cond_both, true≢false}
 use Rattle.std.proofs.lemmas.Bool.Decides.{nat_tests}
 use Rattle.elf_uses.specs.declared.load_plan.Mapping.{Mapping}
-use Rattle.elf_uses.specs.LoadPlan.{ApartBefore, overlap}
-use Rattle.elf_uses.specs.inner.Apart.{AreApart, meets}
+use Rattle.elf_uses.specs.LoadPlan.{ApartBefore, meets, overlap}
+use Rattle.elf_uses.specs.inner.Apart.{AreApart}
 
 or_absorb : (a b : Bool) → (a ≡ true → b ≡ true) → (a || b) ≡ b
 or_absorb true b h = sym (h refl)

@@ -26,9 +26,14 @@ mappings segments = map mapping_of (filter (λ p. p.p_type == pt_load) segments)
 abbrev pub fits : Mapping → Bool
 fits m = nat_le m.file_size m.memory_size
 
--- some address belongs to both: the later of the two starts lies before the earlier of the two ends
+-- some address belongs to the mapping and to a range, which is an address and a size: the later of the two starts lies
+-- before the earlier of the two ends
+abbrev pub meets : Mapping → ℕ × ℕ → Bool
+meets m range = nat_lt (max m.address range.0) (min (m.address + m.memory_size) (range.0 + range.1))
+
+-- some address belongs to both mappings
 abbrev pub overlap : Mapping → Mapping → Bool
-overlap a b = nat_lt (max a.address b.address) (min (a.address + a.memory_size) (b.address + b.memory_size))
+overlap a b = meets a (b.address, b.memory_size)
 
 -- some address of mapping k belongs to an earlier one as well
 abbrev pub overlaps_earlier : List Mapping → ℕ → Mapping → Bool

@@ -3,8 +3,8 @@ ghost use Rattle.std.specs.Prelude.{◌≡◌, ◌||◌, false, IfErr, IfOk, OnO
 ghost use Rattle.std.specs.List.{list_any};
 ghost use Rattle.elf.specs.ElfBytes.{segment_list, view};
 ghost use Rattle.elf_uses.specs.LoadPlan.{ApartBefore, FitBefore, IsFirstOverlap, IsFirstUnfit, IsPlan, IsTrueOf};
-ghost use Rattle.elf_uses.specs.LoadPlan.{fits, mapping_of, mappings, overlap};
-ghost use Rattle.elf_uses.specs.inner.Apart.{AreApart, meets};
+ghost use Rattle.elf_uses.specs.LoadPlan.{fits, mapping_of, mappings, meets, overlap};
+ghost use Rattle.elf_uses.specs.inner.Apart.{AreApart};
 ghost use Rattle.elf_uses.specs.declared.load_plan.Mapping.{Mapping};
 ghost use Rattle.elf_uses.specs.declared.load_plan.PlanError.TheVariants.{Memory as IsMemory};
 

@@ -1,13 +1,8 @@
 -- The memory of mappings that share no address: ranges in ascending order, each an address and a size in bytes.
-use Rattle.std.specs.Prelude.{ℕ, ◌+◌, ◌^◌, ◌<◌, ◌≤◌, nat_lt, min, max, Bool, List, [], ◌∷◌}
-use Rattle.elf_uses.specs.declared.load_plan.Mapping.{Mapping}
+use Rattle.std.specs.Prelude.{ℕ, ◌+◌, ◌^◌, ◌<◌, ◌≤◌, List, [], ◌∷◌}
 
--- some address belongs to the mapping and to the range
-abbrev pub meets : Mapping → ℕ × ℕ → Bool
-meets m range = nat_lt (max m.address range.0) (min (m.address + m.memory_size) (range.0 + range.1))
-
--- no range is empty, the first begins at this address or behind it, and each ends before the next begins; addresses have
--- 64 bits
+-- no range is empty, the first begins at this address or behind it, and each ends before the next begins; addresses
+-- have 64 bits
 abbrev pub AreApart : ℕ → List (ℕ × ℕ) → Type 0
 AreApart start [] = Unit {0}
 AreApart start (range ∷ ranges) =

@@ -1,6 +1,6 @@
 use Rattle.std.proofs.Common.{rules, arith}
 use Rattle.std.proofs.lemmas.Bool.Decides.{nat_tests}
-use Rattle.elf_uses.specs.inner.Apart.{meets}
+use Rattle.elf_uses.specs.LoadPlan.{meets}
 use Rattle.elf_uses.proofs.Apart.{any_of_one_more, one_more_apart}
 use Rattle.elf_uses.proofs.load_plan.add.Goals as goal
 

@@ -1,9 +1,9 @@
 use Rattle.std.proofs.Common.{◌≡◌}
 use Rattle.std.specs.Prelude.{take}
 use Rattle.std.specs.List.{list_any}
-use Rattle.elf_uses.specs.LoadPlan.{ApartBefore, overlap}
+use Rattle.elf_uses.specs.LoadPlan.{ApartBefore, meets, overlap}
 use Rattle.elf_uses.specs.declared.load_plan.Mapping.{Mapping}
-use Rattle.elf_uses.specs.inner.Apart.{AreApart, meets}
+use Rattle.elf_uses.specs.inner.Apart.{AreApart}
 use Rattle.elf_uses.proofs.load_plan.first_overlap.Given as goal
 
 -- none so far overlaps an earlier one; their ranges are apart, and a mapping meets one of these where it overlaps one so far
