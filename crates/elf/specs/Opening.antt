@@ -1,5 +1,5 @@
 -- How a file is opened (gABI, chapters "ELF Header", "Sections" and "Program Header"): its header is read,
--- and the two tables that it declares are found. The first step that is refused refuses the file.
+-- and the two tables that it declares are found. The file has the error of the first step that has one.
 use Rattle.std.specs.Prelude.{ℕ, ◌*◌, ◌==◌, Bool, if◌then◌else◌, List, Option, Some, None, Result, Ok}
 use Rattle.std.specs.Prelude.{Err}
 use Rattle.elf_abi.specs.Values.{ei_nident, pn_xnum}

@@ -30,6 +30,7 @@ pub trait StreamSource: Drop {
         ensures content { content self.new ≡ content self.old }
         ensures nature { can_fail self.new ≡ can_fail self.old }
         ensures length { IfOk result (λ n. IfSome (content self.old) (λ bytes. n ≡ length bytes)) }
+        ensures moves { OnOk result (IfSome (content self.old) (λ bytes. position self.new ≡ length bytes)) }
         ensures cause { IfSome (content self.old)
             (λ _. HasCause (failures self.old) (failures self.new) (can_fail self.old) result) };
 

@@ -98,14 +98,16 @@ fn ident_byte(data: &[u8], place: usize) -> Result<u8, ParseError>
 fn verify_magic(data: &[u8]) -> Result<(), ParseError>
     ensures { result ≡ magic_in «data».now }
 {
-    let a = ident_byte(data, abi::EI_MAG0)?;
-    let b = ident_byte(data, abi::EI_MAG1)?;
-    let c = ident_byte(data, abi::EI_MAG2)?;
-    let d = ident_byte(data, abi::EI_MAG3)?;
-    if a == abi::ELFMAG0 && b == abi::ELFMAG1 && c == abi::ELFMAG2 && d == abi::ELFMAG3 {
+    let magic = [
+        ident_byte(data, abi::EI_MAG0)?,
+        ident_byte(data, abi::EI_MAG1)?,
+        ident_byte(data, abi::EI_MAG2)?,
+        ident_byte(data, abi::EI_MAG3)?,
+    ];
+    if magic == abi::ELFMAGIC {
         Ok(())
     } else {
-        Err(ParseError::BadMagic([a, b, c, d]))
+        Err(ParseError::BadMagic(magic))
     }
 }
 

@@ -56,7 +56,7 @@ impl NoteAny<'_> {
 }
 
 // The sizes of a note's name and descriptor in bytes, and its type.
-#[derive(Debug, Drop)]
+#[derive(Drop)]
 struct NoteHeader {
     n_namesz: u32,
     n_descsz: u32,

@@ -112,18 +112,18 @@ impl<'data> StringTable<'data> {
     }
 }
 
-// Whether the bytes up to the first 0 byte are those that are asked for. The search for that 0 byte takes groups of
-// `LANES` bytes, and ends with the group of the byte behind as many as are asked for.
+// Whether the bytes up to the first 0 byte are `name`. The search for that 0 byte takes groups of `LANES` bytes, and
+// ends with the group that has the byte at `name.len()`.
 #[inline(always)]
-fn first_string_is(bytes: &[u8], asked: &[u8]) -> bool
-    ensures { Decides result ((position (λ byte. byte == 0) bytes.now ≡ Some (length asked.now))
-        × (take (length asked.now) bytes.now ≡ asked.now)) }
+fn first_string_is(bytes: &[u8], name: &[u8]) -> bool
+    ensures { Decides result ((position (λ byte. byte == 0) bytes.now ≡ Some (length name.now))
+        × (take (length name.now) bytes.now ≡ name.now)) }
 {
-    let end = asked.len();
+    let end = name.len();
     if bytes.get(end) != Some(&0) {
         return false;
     }
-    first_nul(bytes) == Some(end) && bytes.split_at(end).0 == asked
+    first_nul(bytes) == Some(end) && bytes.split_at(end).0 == name
 }
 
 // How many bytes are left where the groups of `LANES` bytes at the end that have no 0 byte are dropped.
@@ -149,8 +149,8 @@ fn count_terminated(bytes: &[u8]) -> usize
     end
 }
 
-/// A table of strings whose last 0 byte is known. So a string is compared without a search for its end, which may be as
-/// far away as the table is long: in a file of a stranger the strings of many symbols may share their bytes.
+/// A table of strings whose last 0 byte is known. So a string is compared without a search for its end, which may be
+/// far away: in an untrusted file many symbols may share one long string.
 #[derive(Debug, Drop)]
 pub struct TerminatedStrings<'data> {
     table: StringTable<'data>,

@@ -1,5 +1,5 @@
-//! The values of the definitions at bytes whose answers are known, each proved by evaluation: the
-//! definitions are checked here apart from the code that was proved to meet them.
+//! The values of the definitions at bytes whose results are known, each proved by evaluation. So the definitions are
+//! checked here without the code that meets them.
 
 pub mod binding;
 pub mod calls;

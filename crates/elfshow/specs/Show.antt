@@ -6,7 +6,7 @@ use Rattle.std.specs.Io.KnownBytes.{Appends, Keeps}
 use Rattle.std.specs.Option.{option_and_then, option_map}
 use Rattle.std.specs.Str.{bytes_eq}
 use denote.Ref.{Bor}
-use Rattle.elf.specs.ElfStream.{MayRefuse, kind}
+use Rattle.elf.specs.ElfStream.{Kind, MayRefuse, kind}
 use Rattle.elf_parts.specs.declared.parse.ParseError.{ParseError}
 use Rattle.elfshow.specs.Pieces.{◌⧺◌, newline}
 use Rattle.elfshow.specs.Words.{call_of}
@@ -54,6 +54,13 @@ RanOver opening texts calls old new can_fail (Err (Fault done e)) =
     (done < length calls) × IsOkAnd opening (λ file. Appends old new (texts file (take done calls)))
     × MayRefuse can_fail (Unit {0}) ⊥ (kind e)
 RanOver opening texts calls old new can_fail (Err (Write done e)) = (done < length calls) × IsOk opening
+
+-- why a run by both readers over bytes in memory stops, if the file opens: an allocation failed, when the stream was
+-- opened or with calls left, or the writer failed
+abbrev pub IsStopOfBoth : ℕ → RunError → Type 0
+IsStopOfBoth count (Open e) = kind e ≡ Kind.AllocationFailure
+IsStopOfBoth count (Fault done e) = (done < count) × (kind e ≡ Kind.AllocationFailure)
+IsStopOfBoth count (Write done e) = done ≡ 0
 
 -- a run that stopped left this as it was, unless a writer failed
 abbrev pub IsUnwritten : {A : Type 0} → A → A → Result (Unit {0}) RunError → Type 0

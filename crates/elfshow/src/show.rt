@@ -1,6 +1,6 @@
 //! The program apart from the operating system: what it does with the words of its command line.
-ghost use Rattle.std.specs.Prelude.{◌≡◌, ◌≤◌, Err, IsErr, IsNone, IsSome, is_some, IfErr, IfOk, IfSome, IsOkAnd};
-ghost use Rattle.std.specs.Prelude.{IsSomeAnd, OnOk, Some, map};
+ghost use Rattle.std.specs.Prelude.{◌≡◌, ◌≤◌, Err, IsErr, IsNone, IsOk, IsSome, is_some, IfErr, IfOk, IfSome, IsOkAnd};
+ghost use Rattle.std.specs.Prelude.{IsSomeAnd, OnOk, Some, length, map};
 ghost use Rattle.std.specs.Io.Buffered.{writer_contents, writer_inner};
 ghost use Rattle.std.specs.Io.KnownBytes.{Appends};
 ghost use Rattle.elf_parts.specs.Endian.{any_is_little, any_of_byte};
@@ -9,9 +9,10 @@ ghost use Rattle.elf.specs.Opening.{opened};
 ghost use Rattle.elfshow.specs.calls.Question.{question};
 ghost use Rattle.elfshow.specs.calls.Text.{text};
 ghost use Rattle.elfshow.specs.Failure.{IsOfFile, run_of, status_of};
-ghost use Rattle.elfshow.specs.inner.RunSteps.{IsUnfailing};
+ghost use Rattle.elfshow.specs.inner.RunSteps.{IsUnfailing, in_memory};
 ghost use Rattle.elfshow.specs.Pieces.{◌⧺◌};
-ghost use Rattle.elfshow.specs.Show.{IsUnwritten, RanOver, agreement, calls_of, mode_of, request_of, shown_by};
+ghost use Rattle.elfshow.specs.Show.{IsStopOfBoth, IsUnwritten, RanOver, agreement, calls_of, mode_of};
+ghost use Rattle.elfshow.specs.Show.{request_of, shown_by};
 ghost use Rattle.elfshow.specs.declared.failure.Failure.TheVariants.{Usage};
 ghost use Rattle.elfshow.specs.declared.show.Mode.TheVariants.{Both, Stream};
 ghost use Rattle.elfshow.specs.declared.show.RequestError.TheVariants.{OutOfMemory};
@@ -264,6 +265,9 @@ pub fn run_both<W: Write>(
     ensures ok { OnOk result (IsOkAnd (opened any_is_little any_of_byte «data».now) (λ file.
         Appends (W.contents out.old) (W.contents out.new)
         (shown_by Both (text file.ehdr (object_file any_is_little file) (map question calls.now))))) }
+    ensures open { IfErr (opened any_is_little any_of_byte «data».now) (λ e. result ≡ Err (RunError.Open e)) }
+    ensures cause { IsOk (opened any_is_little any_of_byte «data».now) →
+        IfErr result (IsStopOfBoth (length calls.now)) }
     ensures stopped { IsUnwritten out.old out.new result }
     ensures refused { IsErr (opened any_is_little any_of_byte «data».now) → out.new ≡ out.old }
 {
@@ -283,7 +287,8 @@ pub fn run_both<W: Write>(
 
 // The error of a run whose text goes to memory. A failed write there is a failed allocation.
 fn in_memory(error: RunError) -> RunError
-    ensures { IsUnfailing result }
+    ensures value { result ≡ in_memory error }
+    ensures unfailing { IsUnfailing result }
 {
     match error {
         RunError::Open(error) => RunError::Open(error),

@@ -5,7 +5,7 @@ use crate::compression::CompressionHeader;
 use crate::dynamic::Dyn;
 use crate::endian::{AnyEndian, BigEndian, EndianParse, LittleEndian};
 use crate::file::{Class, FileHeader};
-use crate::gnu_symver::{VerDefIterator, VerNeedIterator};
+use crate::gnu_symver::{Needed, VerDefIterator, VerNeedIterator};
 use crate::hash::{GnuHashHeader, SysVHashHeader};
 use crate::note::{NoteGnuAbiTag, NoteGnuBuildId};
 use crate::parse::{ParseAt, ParsingTable};
@@ -35,12 +35,13 @@ pub fn clones_of_headers<E: EndianParse>()
     ensures gnu { ClonesExactly ⟦<GnuHashHeader as Clone>⟧.is_clone ⟦<GnuHashHeader as Clone>⟧.is_infallible }
 {}
 
-/// The same of symbols, relocations, dynamic entries, ABI tags and build ids.
+/// The same of symbols, relocations, dynamic entries, needed versions, ABI tags and build ids.
 pub fn clones_of_records()
     ensures symbol { ClonesExactly ⟦<Symbol as Clone>⟧.is_clone ⟦<Symbol as Clone>⟧.is_infallible }
     ensures rel { ClonesExactly ⟦<Rel as Clone>⟧.is_clone ⟦<Rel as Clone>⟧.is_infallible }
     ensures rela { ClonesExactly ⟦<Rela as Clone>⟧.is_clone ⟦<Rela as Clone>⟧.is_infallible }
     ensures entry { ClonesExactly ⟦<Dyn as Clone>⟧.is_clone ⟦<Dyn as Clone>⟧.is_infallible }
+    ensures needed { ClonesExactly ⟦<Needed as Clone>⟧.is_clone ⟦<Needed as Clone>⟧.is_infallible }
     ensures abi_tag { ClonesExactly ⟦<NoteGnuAbiTag as Clone>⟧.is_clone ⟦<NoteGnuAbiTag as Clone>⟧.is_infallible }
     ensures build_id { ClonesExactly
         ⟦<NoteGnuBuildId<'static> as Clone>⟧.is_clone ⟦<NoteGnuBuildId<'static> as Clone>⟧.is_infallible }

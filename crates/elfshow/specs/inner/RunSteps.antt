@@ -14,6 +14,7 @@ use Rattle.elfshow.specs.Verdicts.{verdict_of}
 use Rattle.elfshow.specs.declared.lines.hashes.Verdict.{Verdict}
 use Rattle.std.specs.Option.{option_map}
 use Rattle.elf_parts.specs.declared.parse.ParseError.{ParseError}
+use Rattle.elf_parts.specs.declared.parse.ParseError.TheVariants.{OutOfMemory}
 use Rattle.elfshow.specs.calls.Question.{Question}
 use Rattle.elfshow.specs.calls.Ranges.{call_ranges}
 use Rattle.elfshow.specs.calls.Run.{IsAtHand, IsLoaded, stream_answer}
@@ -29,6 +30,12 @@ use Rattle.std.specs.Io.KnownBytes.{Keeps as KeepsBytes}
 abbrev pub stopped_after : ℕ → Stop → RunError
 stopped_after done (stop.Fault e) = Fault done e
 stopped_after done (stop.Write e) = Write done e
+
+-- the error of a run whose text goes to memory: a failed write there is a failed allocation
+abbrev pub in_memory : RunError → RunError
+in_memory (Open e) = Open e
+in_memory (Fault done e) = Fault done e
+in_memory (Write done e) = Fault 0 OutOfMemory
 
 -- there was no fault
 abbrev pub IsFaultlessCall : Result (Unit {0}) Stop → Type 0

@@ -8,6 +8,6 @@ pub returns-then-ne : goal.returns-then-ne
 returns-then-ne c = (
   λ no. cc no,
   λ both.
-      let at = position-Some (λ (byte : ℕ). byte == 0) c.args.bytes.now (length c.args.asked.now) 0 both.0 in
+      let at = position-Some (λ (byte : ℕ). byte == 0) c.args.bytes.now (length c.args.name.now) 0 both.0 in
       absurd (grind (arith, common_steps)),
 )

@@ -20,8 +20,8 @@ use std::alloc::{AllocError, Allocator};
 use std::marker::Model;
 
 /// The versions of the symbols of a file, with the first need and the first definition of each version index in two
-/// tables. A look-up needs no walk, so the versions of all symbols cost the number of symbols plus needs plus
-/// definitions. Each table has at most 65,536 places.
+/// tables. A look-up needs no walk. Building the tables costs the number of definitions plus the auxiliary entries of
+/// all needs; an entry that several needs share counts for each. Each table has at most 65,536 places.
 #[derive(Debug, Drop)]
 pub struct IndexedVersions<'a, 'data, E: EndianParse, A: Allocator> {
     versions: &'a SymbolVersionTable<'data, E>,

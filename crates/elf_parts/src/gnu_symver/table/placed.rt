@@ -22,8 +22,9 @@ use std::marker::Model;
 
 /// The versions of the symbols of a file. Two slices that the caller provides hold the first need and the first
 /// definition of each version index for which they have a place. Such a version is found without a walk, any other one
-/// as `SymbolVersionTable` finds it. Version indexes have 15 bits: with 32,768 places in each slice the versions of all
-/// symbols cost the number of symbols plus needs plus definitions. Allocates no memory.
+/// as `SymbolVersionTable` finds it. Version indexes have 15 bits, so with 32,768 places in each slice no look-up walks.
+/// Filling the slices costs the number of definitions plus the auxiliary entries of all needs; an entry that several
+/// needs share counts for each. Allocates no memory.
 #[derive(Debug, Drop)]
 pub struct PlacedVersions<'a, 'data, E: EndianParse> {
     versions: &'a SymbolVersionTable<'data, E>,
