@@ -1,13 +1,24 @@
-//! What a caller of a stream can prove of bytes that it copies out of the stream.
-ghost use Rattle.std.specs.Prelude.{◌≡◌, ◌≢◌, IfErr, IfOk};
+//! What callers of both readers can prove: of a file in memory, and of bytes that are copied out of a stream.
+ghost use Rattle.std.specs.Prelude.{◌≡◌, ◌≢◌, IfErr, IfOk, is_some};
+ghost use Rattle.elf_parts.specs.Number.{ok_map};
+ghost use Rattle.elf.specs.Answers.{section_header_by_name};
+ghost use Rattle.elf.specs.ElfBytes.{view};
 ghost use Rattle.elf.specs.ElfStream.{Kind, kind};
+ghost use Rattle.elf.specs.ObjectFile.{object_file};
 ghost use Rattle.elf_worked.specs.Copies.{IsSectionOf};
 
 use elf::endian::EndianParse;
 use elf::readers::stream_answers_as_bytes;
 use elf::section::SectionHeader;
-use elf::{ElfStream, MemSource, ParseError};
+use elf::{ElfBytes, ElfStream, MemSource, ParseError};
 use std::alloc::Global;
+
+/// Whether the file has a section of this name.
+pub fn has_section<E: EndianParse>(file: &ElfBytes<'_, E>, name: &str) -> Result<bool, ParseError>
+    ensures { result ≡ ok_map is_some (section_header_by_name (object_file E.little (view file.now)) name.now) }
+{
+    Ok(file.section_header_by_name(name)?.is_some())
+}
 
 /// A copy of the bytes of a section, which a stream reads from a file in memory. They are the bytes that `ElfBytes`
 /// gives of that section. Returns an error where the file does not open, where the bytes of the section cannot be
