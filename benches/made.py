@@ -232,6 +232,29 @@ def many_versions(symbols, needs, definitions):
     return made
 
 
+def sharing_needs(count):
+    """More symbols than are listed by walks, which have a version index that no need has, and `count` needs that share as
+    many auxiliary entries. A listing walks over these for each need."""
+    made = Made()
+    add_symbols(made, 40, SHT_DYNSYM)
+    strings = made.add(b".verstr", SHT_STRTAB, b"\0VERSION_1.0\0libneeded.so\0")
+    made.add(b".gnu.version", SHT_GNU_VERSYM, struct.pack("<H", 5) * 40, made.first(SHT_DYNSYM), 0, 2)
+    needs = b"".join(
+        struct.pack("<HHIII", 1, min(count, 0xFFFF), 13, 16 * (count - k), 16 if k + 1 < count else 0) for k in range(count)
+    )
+    entries = b"".join(struct.pack("<IHHII", 7, 0, 2, 1, 16 if k + 1 < count else 0) for k in range(count))
+    made.add(b".gnu.version_r", SHT_GNU_VERNEED, needs + entries, strings, count)
+    return made
+
+
+def unterminated_names(count):
+    """Symbols whose names begin a table of strings that has no 0 byte and is as long as the symbols."""
+    made = Made()
+    strings = made.add(b".strtab", SHT_STRTAB, b"a" * (24 * count))
+    made.add(b".symtab", SHT_SYMTAB, struct.pack("<IBBHQQ", 0, 0x12, 0, 1, 0, 0) * count, strings, 1, 24)
+    return made
+
+
 def only(add, count):
     """A file of `count` entries of one kind."""
     made = Made()
