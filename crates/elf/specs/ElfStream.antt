@@ -1,5 +1,5 @@
 -- What contracts see of an `ElfStream`, and what a call of it leaves and answers.
-use Rattle.std.specs.Prelude.{◌≡◌, ℕ, ◌+◌, ◌<◌, ◌&&◌, Bool, IsTrue, nat_le, List, [], ◌∷◌}
+use Rattle.std.specs.Prelude.{◌≡◌, ℕ, ◌+◌, ◌<◌, ◌&&◌, ◌⊎◌, Bool, IsTrue, nat_le, List, [], ◌∷◌, map}
 use Rattle.std.specs.Prelude.{Option, Result, Ok, Err, IfSome, OnOk, IfErr, IsOk, IsErr, is_some}
 use Rattle.std.specs.List.{list_any}
 use Rattle.elf_parts.specs.Number.{bytes_at}
@@ -60,6 +60,10 @@ abbrev pub AreCached : {E : Type 0} → Seen E → List (ℕ × ℕ) → Type 0
 AreCached s [] = Unit {0}
 AreCached s (r ∷ rs) = IsCached s r.0 (r.0 + r.1) × AreCached s rs
 
+-- the bytes from start to end lie within one of these ranges, each given by its start and its size
+abbrev pub IsRequested : List (ℕ × ℕ) → ℕ → ℕ → Type 0
+IsRequested requested start end = IsTrue (is_cached (map (λ r. (r.0, r.0 + r.1)) requested) start end)
+
 -- the same file, and no range that was cached is lost
 pub record Keeps {E : Type 0} (old new : Seen E) : Type 0 where
   pub content : new.content ≡ old.content
@@ -106,13 +110,15 @@ IsFor need AllocationFailure = need
 IsFor need Refusal = Unit {0}
 
 -- What a call leaves whose answer over a content is given: the same file, no cached range lost, and after an Ok the
--- requested ranges are cached. Its answer is the content's. If the requested ranges were cached before, as they are if
--- none is requested, the source and memory are not touched: the stream is as it was, and an error is the content's.
--- Else they are used only for a range that lies in the content.
+-- requested ranges are cached. No range is cached that was not cached before and does not lie within a requested one.
+-- Its answer is the content's. If the requested ranges were cached before, as they are if none is requested, the source
+-- and memory are not touched: the stream is as it was, and an error is the content's. Else they are used only for a
+-- range that lies in the content.
 pub record Leaves {E T Y : Type 0} (requested : List (ℕ × ℕ)) (shown : T → Y)
     (answer : List ℕ → Result Y ParseError) (old new : Seen E) (r : Result T ParseError) : Type 0 where
   pub keeps : Keeps old new
   pub loaded : OnOk r (AreCached new requested)
+  pub only : (start end : ℕ) → IsCached new start end → IsCached old start end ⊎ IsRequested requested start end
   pub answers : IfSome old.content (λ bytes. IsAnswer shown (answer bytes) old.can_fail old.failures new.failures r)
   pub accepted : IfSome old.content (λ bytes. IsOk (answer bytes) → AreCached old requested → IsOk r)
   pub untouched : AreCached old requested → (new ≡ old) × IfErr r (λ e. kind e ≡ Refusal)

@@ -1,10 +1,11 @@
 //! The reader over a source that is read lazily.
-ghost use Rattle.std.specs.Prelude.{◌≡◌, ℕ, ◌≤◌, ◌+◌, ◌^◌, ◌<◌, OnOk, OnErr, IfOk, IfErr};
+ghost use Rattle.std.specs.Prelude.{◌≡◌, ℕ, ◌≤◌, ◌+◌, ◌^◌, ◌<◌, ◌⊎◌, OnOk, OnErr, IfOk, IfErr};
 ghost use Rattle.std.specs.Prelude.{IfSome, Ok, IsOk, length, take, drop, [], ◌∷◌};
 ghost use Rattle.elf_parts.specs.Number.{bytes_at, ok_map};
 ghost use Rattle.elf.specs.Ranges.{range_of_section, range_of_segment};
 ghost use Rattle.elf.specs.Opening.{opened};
 ghost use Rattle.elf.specs.ElfStream.{IsAnswer, IsFor, IsOfFile, Kind, headers_of, Keeps, IsCached, IsOpening, kind};
+ghost use Rattle.elf.specs.ElfStream.{IsRequested};
 ghost use Rattle.elf.specs.inner.Loads.{Loads};
 
 use crate::source::StreamSource;
@@ -38,8 +39,9 @@ use reads::fetch;
 /// headers remain those that were read when the file was opened.
 ///
 /// A call requests the ranges of the sections or segments that it needs. A range that does not lie within a cached one
-/// is read and cached, and the result borrows from the cache. A range stays cached as long as the stream exists. If all
-/// requested ranges are cached, the call needs neither the source nor memory, and changes nothing.
+/// is read and cached, and the result borrows from the cache. A call caches nothing else. A range stays cached as long
+/// as the stream exists. If all requested ranges are cached, the call needs neither the source nor memory, and changes
+/// nothing.
 ///
 /// If the content of the source is known, a method returns the value that the method of `ElfBytes` with the same name
 /// returns over that content, or an error: `IOError` if the source failed in this call; `OutOfMemory` if an allocation
@@ -153,6 +155,8 @@ impl<E: EndianParse, S: StreamSource, A: Allocator + Copy> ElfStream<E, S, A> {
     fn load(&mut self, start: u64, size: u64) -> Result<(), ParseError>
         ensures keeps { Keeps self.old self.new }
         ensures loaded { OnOk result ((start + size < 2 ^ 64) × IsCached self.new start (start + size)) }
+        ensures only { (low high : ℕ) → IsCached self.new low high
+            → IsCached self.old low high ⊎ IsRequested ((start, size) ∷ []) low high }
         ensures refused { OnErr result (self.new.cached ≡ self.old.cached) }
         ensures cached { start + size < 2 ^ 64 → IsCached self.old start (start + size)
             → IsOk result × (self.new ≡ self.old) }

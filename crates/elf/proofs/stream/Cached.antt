@@ -1,5 +1,5 @@
 -- A map of buffers by their starts, none of which lies within another.
-use Rattle.std.proofs.Common.{◌≡◌, ℕ, zero, suc, ◌+◌, ◌-◌, ◌<◌, ◌≤◌, Bool, true, false, ◌&&◌, ◌||◌, List, [], ◌∷◌, ◌++◌, length, map, get_or, refl, sym, ap, ◌∙◌, arith, subst, leb-true, le-leb, not, true≢false}
+use Rattle.std.proofs.Common.{◌≡◌, ℕ, zero, suc, ◌+◌, ◌-◌, ◌<◌, ◌≤◌, Bool, true, false, ◌&&◌, ◌||◌, List, [], ◌∷◌, ◌++◌, length, map, get_or, refl, sym, ap, ◌∙◌, arith, subst, leb-true, le-leb, not, true≢false, ◌⊎◌, inl, inr}
 use Rattle.std.specs.Prelude.{IsTrue, nat_lt}
 use Rattle.std.specs.List.{list_any, filter, All, AllPairs, Contains}
 use Rattle.std.specs.BTreeMap.{insert_entry, is_at}
@@ -14,7 +14,7 @@ use Rattle.std.specs.declared.cmp.Ordering.TheVariants.{Less, Equal, Greater}
 use Rattle.std.specs.Cmp.{ranked}
 use Rattle.std.proofs.lemmas.Bool.{and_parts, cond_both}
 use Rattle.std.proofs.lemmas.Bool.Decides.{nat_tests}
-use Rattle.std.proofs.lemmas.List.Folds.{list_any-append, list_any_none}
+use Rattle.std.proofs.lemmas.List.Folds.{list_any-append, list_any_at, list_any_none}
 use Rattle.std.proofs.lemmas.List.Elements.{All-cons, All-head, All-tail, All-filter, filter_passes, filter_agree, All-nil, All-map, All-contains_itself, All-contains, Contains-append_left, Contains-append_right, Contains-push}
 use Rattle.std.proofs.lemmas.List.Kept.{AllPairs-cons, AllPairs-filter}
 use Rattle.std.proofs.lemmas.Map.Views.{any-filter_same}
@@ -39,7 +39,7 @@ by_order P x y a b c Greater m f g h = h m
 kept_head : {X : Type 0} (t : X → Bool) (x : X) (xs : List X) → t x ≡ true → filter t (x ∷ xs) ≡ x ∷ filter t xs
 kept_head t x xs e = rw e refl
 
-or_true : (b : Bool) → (b || true) ≡ true
+pub or_true : (b : Bool) → (b || true) ≡ true
 or_true true = refl
 or_true false = refl
 
@@ -352,6 +352,35 @@ module _ {V : Type 0} (bytes : V → List ℕ) where
       → AreSpread bytes (filter (λ e. nat_lt start e.0) (remove_entry (is_at (nat_cmp k)) es)) × (filter (λ e. not (is_within start end (piece_of bytes e))) (remove_entry (is_at (nat_cmp k)) es) ≡ filter (λ e. not (is_within start end (piece_of bytes e))) es)
   taken start end k es = taken_by start end k es (lookup (is_at (nat_cmp k)) es) refl
 
+-- ---- nothing but one more range is cached
+
+either : (a b : Bool) → (a || b) ≡ true → (a ≡ true) ⊎ (b ≡ true)
+either true b h = inl refl
+either false b h = inr h
+
+-- if xs passes a test, a list with all its elements does
+one_passes : {X : Type 0} (t : X → Bool) (ys xs : List X) (x : X) → All (Contains ys) (x ∷ xs) → (list_any t xs ≡ true → list_any t ys ≡ true) → (t x ≡ true) ⊎ (list_any t xs ≡ true) → list_any t ys ≡ true
+one_passes t ys xs x all later (inl here) = let there = All-head (Contains ys) x xs all in list_any_at t ys there.0 x there.1 (ap t there.2 ∙ here)
+one_passes t ys xs x all later (inr behind) = later behind
+
+all_pass : {X : Type 0} (t : X → Bool) (ys xs : List X) → All (Contains ys) xs → list_any t xs ≡ true → list_any t ys ≡ true
+all_pass t ys [] all h = absurd (true≢false (sym h))
+all_pass t ys (x ∷ xs) all h = one_passes t ys xs x all (all_pass t ys xs (All-tail (Contains ys) x xs all)) (either (t x) (list_any t xs) h)
+
+pieces_cached : (ps : List Piece) (start end : ℕ) → is_cached (map range_of ps) start end ≡ list_any (covers start end) ps
+pieces_cached [] start end = refl
+pieces_cached (p ∷ ps) start end = ap (λ b. covers start end p || b) (pieces_cached ps start end)
+
+old_or_one : (p : Piece) (ps : List Piece) (start end : ℕ) → (covers start end p ≡ true) ⊎ (list_any (covers start end) ps ≡ true)
+    → IsTrue (is_cached (map range_of ps) start end) ⊎ IsTrue (is_cached (range_of p ∷ []) start end)
+old_or_one p ps start end (inl here) = inr (ap (λ b. b || false) here)
+old_or_one p ps start end (inr there) = inl (pieces_cached ps start end ∙ there)
+
+only_from : (p : Piece) (ps qs : List Piece) → All (Contains (p ∷ ps)) qs → (start end : ℕ) → IsTrue (is_cached (map range_of qs) start end)
+    → IsTrue (is_cached (map range_of ps) start end) ⊎ IsTrue (is_cached (range_of p ∷ []) start end)
+only_from p ps qs from start end h =
+    old_or_one p ps start end (either (covers start end p) (list_any (covers start end) ps) (all_pass (covers start end) (p ∷ ps) qs from (sym (pieces_cached qs start end) ∙ h)))
+
 -- ---- what a load leaves
 
 pub sound_into : (known : Option (List ℕ)) (len : ℕ) (ps qs : List Piece) (start end : ℕ) (p : Piece) → IsSound known len ps → IsPut p ps qs → start ≤ end → end ≤ len
@@ -380,6 +409,13 @@ pub loaded_put : {L : Type 0} (ps qs : List Piece) (p : Piece) (start end : ℕ)
     → OnOk r (L × IsTrue (is_cached (map range_of qs) start end))
 loaded_put ps qs p start end (Ok x) low put from to = (low, subst (λ n. IsTrue (is_cached (map range_of qs) start n)) to (subst (λ n. IsTrue (is_cached (map range_of qs) n (p.start + length p.bytes))) from put.has))
 loaded_put ps qs p start end (Err e) low put from to = tt
+
+pub only_put : (ps qs : List Piece) (p : Piece) (start end : ℕ) (r : Result (Unit {0}) ParseError) → OnOk r (IsPut p ps qs) → IfErr r (λ e. (e ≡ OutOfMemory) × (qs ≡ ps)) → p.start ≡ start → p.start + length p.bytes ≡ end
+    → (low high : ℕ) → IsTrue (is_cached (map range_of qs) low high) → IsTrue (is_cached (map range_of ps) low high) ⊎ IsTrue (is_cached ((start, end) ∷ []) low high)
+only_put ps qs p start end (Ok x) put refused from to low high h =
+    subst (λ n. IsTrue (is_cached (map range_of ps) low high) ⊎ IsTrue (is_cached ((start, n) ∷ []) low high)) to
+    (subst (λ n. IsTrue (is_cached (map range_of ps) low high) ⊎ IsTrue (is_cached ((n, p.start + length p.bytes) ∷ []) low high)) from (only_from p ps qs put.from low high h))
+only_put ps qs p start end (Err e) put refused from to low high h = inl (subst (λ ps. IsTrue (is_cached (map range_of ps) low high)) refused.1 h)
 
 pub from_ok : {T E : Type 0} (P : Type 0) (r : Result T E) → is_err r ≡ false → OnOk r P → P
 from_ok P (Ok x) none h = h

@@ -31,6 +31,7 @@ pub loads_for : {E Y : Type 0} (old new : Seen E) (rs : List (ℕ × ℕ)) (answ
 loads_for old new rs answer r needs h = record {
   keeps = h.keeps;
   loaded = h.loaded;
+  only = h.only;
   reason = for_reason old.content rs answer old.failures new.failures old.can_fail r needs h.reason;
   accepted = for_accepted old.content old rs answer r needs h.accepted;
   untouched = h.untouched;
@@ -58,6 +59,7 @@ pub leaves_refused_for : {E T X Y : Type 0} (old new : Seen E) (rs : List (ℕ �
 leaves_refused_for {E} {T} {X} {Y} old new rs shown wanted answer e r is same h = rw is (record {
   keeps = h.keeps;
   loaded = tt;
+  only = h.only;
   answers = for_refused old.content shown wanted answer old.failures new.failures old.can_fail e same h.reason;
   accepted = for_accepts T old.content old rs wanted answer e same h.accepted;
   untouched = h.untouched;

@@ -129,6 +129,7 @@ pub leaves_alike : {E T Y : Type 0} (old new : Seen E) (rs : List (ℕ × ℕ)) 
 leaves_alike old new rs shown one other r same h = record {
   keeps = h.keeps;
   loaded = h.loaded;
+  only = h.only;
   answers = known_answers old.content shown one other old.failures new.failures old.can_fail r same h.answers;
   accepted = known_accepted old.content old rs one other r same h.accepted;
   untouched = h.untouched;

@@ -1,11 +1,14 @@
 -- One load after another, and what a call leaves whose loads were refused.
-use Rattle.std.proofs.Common.{◌≡◌, ℕ, ◌+◌, ◌<◌, Bool, List, [], ◌∷◌, ◌++◌, refl, sym, ap, ◌∙◌, subst, arith, Option, Some, None, IfSome}
+use Rattle.std.proofs.Common.{◌≡◌, ℕ, ◌+◌, ◌<◌, ◌||◌, ◌⊎◌, inl, inr, Bool, List, [], ◌∷◌, ◌++◌, map, refl, sym, ap, ◌∙◌, subst, arith, Option, Some, None, IfSome}
 use Rattle.std.specs.Prelude.{IsTrue, ◌^◌, Result, Ok, Err, IsErr, IsOk, IfErr, OnOk, OnErr, is_ok, take, drop}
+use Rattle.std.proofs.lemmas.List.{map-append}
+use Rattle.std.proofs.lemmas.List.Folds.{list_any-append}
 use Rattle.elf_parts.specs.Number.{bytes_at}
 use Rattle.elf_parts.specs.declared.parse.ParseError.{ParseError}
 use Rattle.elf.specs.Ranges.{if_chosen}
 use Rattle.elf.specs.inner.Loads.{HasReason, AreLow, AreThere, Loads}
-use Rattle.elf.specs.ElfStream.{IsAnswer, IsFor, IsNeeded, IsRefused, Kind, is_cached, kind, Seen, AreCached, IsCached, Keeps, Leaves}
+use Rattle.elf.specs.ElfStream.{IsAnswer, IsFor, IsNeeded, IsRefused, IsRequested, Kind, is_cached, kind, Seen, AreCached, IsCached, Keeps, Leaves}
+use Rattle.elf.proofs.stream.Cached.{or_true}
 use Rattle.elf.proofs.stream.Pieces.{read_is_within}
 
 pub refused_so : (k : Kind) (P Q : Type 0) (before middle now : ℕ) (can_fail : Bool) → (P → Q) → middle ≡ before → IsRefused middle now can_fail P k → IsRefused before now can_fail Q k
@@ -52,6 +55,37 @@ there_back bytes (r ∷ rs) qs h = there_back bytes rs qs h.1
 pub there_append : (bytes : List ℕ) (rs qs : List (ℕ × ℕ)) → AreThere bytes rs → AreThere bytes qs → AreThere bytes (rs ++ qs)
 there_append bytes [] qs a b = b
 there_append bytes (r ∷ rs) qs a b = (a.0, there_append bytes rs qs a.1 b)
+
+-- ---- nothing but these ranges is cached
+
+abbrev pub Only : {E : Type 0} → List (ℕ × ℕ) → Seen E → Seen E → Type 0
+Only rs old new = (start end : ℕ) → IsCached new start end → IsCached old start end ⊎ IsRequested rs start end
+
+abbrev ends : List (ℕ × ℕ) → List (ℕ × ℕ)
+ends rs = map (λ r. (r.0, r.0 + r.1)) rs
+
+requested_both : (rs qs : List (ℕ × ℕ)) (start end : ℕ) → is_cached (ends (rs ++ qs)) start end ≡ (is_cached (ends rs) start end || is_cached (ends qs) start end)
+requested_both rs qs start end = ap (λ rs. is_cached rs start end) (map-append (λ (r : ℕ × ℕ). (r.0, r.0 + r.1)) rs qs) ∙ list_any-append _ (ends rs) (ends qs)
+
+requested_front : (rs qs : List (ℕ × ℕ)) (start end : ℕ) → IsRequested rs start end → IsRequested (rs ++ qs) start end
+requested_front rs qs start end h = requested_both rs qs start end ∙ ap (λ b. b || is_cached (ends qs) start end) h
+
+requested_back : (rs qs : List (ℕ × ℕ)) (start end : ℕ) → IsRequested qs start end → IsRequested (rs ++ qs) start end
+requested_back rs qs start end h = requested_both rs qs start end ∙ ap (λ b. is_cached (ends rs) start end || b) h ∙ or_true (is_cached (ends rs) start end)
+
+wider : {P : Type 0} (rs qs : List (ℕ × ℕ)) (start end : ℕ) → P ⊎ IsRequested rs start end → P ⊎ IsRequested (rs ++ qs) start end
+wider rs qs start end (inl before) = inl before
+wider rs qs start end (inr there) = inr (requested_front rs qs start end there)
+
+only_wider : {E : Type 0} (old new : Seen E) (rs qs : List (ℕ × ℕ)) → Only rs old new → Only (rs ++ qs) old new
+only_wider old new rs qs only start end h = wider rs qs start end (only start end h)
+
+one_later : {P Q : Type 0} (rs qs : List (ℕ × ℕ)) (start end : ℕ) → (P → Q ⊎ IsRequested rs start end) → P ⊎ IsRequested qs start end → Q ⊎ IsRequested (rs ++ qs) start end
+one_later rs qs start end so (inl before) = wider rs qs start end (so before)
+one_later rs qs start end so (inr there) = inr (requested_back rs qs start end there)
+
+only_then : {E : Type 0} (old middle new : Seen E) (rs qs : List (ℕ × ℕ)) → Only rs old middle → Only qs middle new → Only (rs ++ qs) old new
+only_then old middle new rs qs a b start end h = one_later rs qs start end (a start end) (b start end h)
 
 -- ---- which range the source and memory are needed for
 
@@ -110,15 +144,16 @@ needed_one (Some bytes) old new start size (Ok x) same cached h = tt
 needed_one (Some bytes) old new start size (Err e) same cached h =
     for_so _ _ (kind e) (λ there. (there, not_cached old new start size e same cached (read_is_within bytes start size there).0)) h
 
-pub loads_one : {E : Type 0} (old new : Seen E) (start size : ℕ) (r : Result (Unit {0}) ParseError) → Keeps old new → OnOk r ((start + size < 2 ^ 64) × IsCached new start (start + size))
+pub loads_one : {E : Type 0} (old new : Seen E) (start size : ℕ) (r : Result (Unit {0}) ParseError) → Keeps old new → OnOk r ((start + size < 2 ^ 64) × IsCached new start (start + size)) → Only ((start, size) ∷ []) old new
     → (start + size < 2 ^ 64 → IsCached old start (start + size) → IsOk r)
     → IfSome old.content (λ bytes. IsAnswer (λ _. take size (drop start bytes)) (bytes_at size bytes start) old.can_fail old.failures new.failures r)
     → OnErr r (new.cached ≡ old.cached) → (IsCached old start (start + size) → (new ≡ old) × IfErr r (λ e. kind e ≡ Kind.Refusal))
     → IfSome old.content (λ bytes. IfErr r (λ e. IsFor (IsOk (bytes_at size bytes start)) (kind e)))
     → Loads ((start, size) ∷ []) old new r
-loads_one old new start size r keeps loaded cached answer same untouched needed = record {
+loads_one old new start size r keeps loaded only cached answer same untouched needed = record {
   keeps = keeps;
   loaded = loaded_one new start size r loaded;
+  only = only;
   there = there_one old.content start size old.failures new.failures old.can_fail r answer;
   reason = reason_one old.content start size old.failures new.failures old.can_fail r answer;
   accepted = accepted_one old.content old start size r cached;
@@ -152,6 +187,7 @@ pub loads_stop : {E : Type 0} (old new : Seen E) (rs qs : List (ℕ × ℕ)) (e 
 loads_stop old new rs qs e h = record {
   keeps = h.keeps;
   loaded = tt;
+  only = only_wider old new rs qs h.only;
   there = none_there old.content rs qs e;
   reason = stopped_reason old.content rs qs old.failures new.failures old.can_fail e h.reason;
   accepted = stopped_accepted old.content old rs qs e h.accepted;
@@ -200,6 +236,7 @@ loads_then {E} old middle new rs qs x r a b =
     let nature : middle.can_fail ≡ old.can_fail = a.keeps.can_fail in record {
       keeps = keeps_then old middle new a.keeps b.keeps;
       loaded = then_loaded middle new rs qs r b.keeps a.loaded b.loaded;
+      only = only_then old middle new rs qs a.only b.only;
       reason = then_reason old.content rs qs old.failures middle.failures new.failures old.can_fail r a.reason
           (subst (λ can_fail. IfSome old.content (λ bytes. HasReason middle.failures new.failures can_fail (AreThere bytes qs → ⊥) r)) nature
           (subst (λ known. IfSome known (λ bytes. HasReason middle.failures new.failures middle.can_fail (AreThere bytes qs → ⊥) r)) same b.reason));
@@ -231,6 +268,7 @@ pub leaves_refused : {E T Y : Type 0} (old new : Seen E) (rs : List (ℕ × ℕ)
 leaves_refused {E} {T} {Y} old new rs shown answer e r is needs h = rw is (record {
   keeps = h.keeps;
   loaded = tt;
+  only = h.only;
   answers = refused_answer old.content rs shown answer old.failures new.failures old.can_fail e needs h.reason;
   accepted = refused_accepted T old.content old rs answer e needs h.accepted;
   untouched = h.untouched;

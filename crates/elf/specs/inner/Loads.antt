@@ -1,9 +1,9 @@
 -- What the private calls of a stream leave that load ranges and return no borrow.
-use Rattle.std.specs.Prelude.{◌≡◌, ℕ, ◌+◌, ◌^◌, ◌<◌, Bool, List, [], ◌∷◌, Result, Ok, Err}
+use Rattle.std.specs.Prelude.{◌≡◌, ℕ, ◌+◌, ◌^◌, ◌<◌, ◌⊎◌, Bool, List, [], ◌∷◌, Result, Ok, Err}
 use Rattle.std.specs.Prelude.{IfSome, IfErr, OnOk, IsOk, IsErr}
 use Rattle.elf_parts.specs.Number.{bytes_at}
 use Rattle.elf_parts.specs.declared.parse.ParseError.{ParseError}
-use Rattle.elf.specs.ElfStream.{Seen, AreCached, IsFor, IsNeeded, IsRefused, Keeps, Kind, kind}
+use Rattle.elf.specs.ElfStream.{Seen, AreCached, IsCached, IsFor, IsNeeded, IsRefused, IsRequested, Keeps, Kind, kind}
 
 -- none of the ranges ends past 64 bits
 abbrev pub AreLow : List (ℕ × ℕ) → Type 0
@@ -20,13 +20,15 @@ abbrev pub HasReason : {T : Type 0} → ℕ → ℕ → Bool → Type 0 → Resu
 HasReason before now can_fail none (Ok _) = now ≡ before
 HasReason before now can_fail none (Err e) = IsRefused before now can_fail none (kind e)
 
--- The same file, no cached range lost, and after an Ok the ranges lie in the content and are cached. A load fails for a
--- failure of the source or of the allocation, or if one of the ranges does not lie in the content. It succeeds if they
--- lie there and were cached, and it touches the source and memory only for one that lies there and was not cached.
+-- The same file, no cached range lost, and after an Ok the ranges lie in the content and are cached. No range is cached
+-- that was not cached before and does not lie within one of them. A load fails for a failure of the source or of the
+-- allocation, or if one of the ranges does not lie in the content. It succeeds if they lie there and were cached, and
+-- it touches the source and memory only for one that lies there and was not cached.
 pub record Loads {E : Type 0} (rs : List (ℕ × ℕ))
     (old new : Seen E) (r : Result (Unit {0}) ParseError) : Type 0 where
   pub keeps : Keeps old new
   pub loaded : OnOk r (AreLow rs × AreCached new rs)
+  pub only : (start end : ℕ) → IsCached new start end → IsCached old start end ⊎ IsRequested rs start end
   pub there : IfSome old.content (λ bytes. OnOk r (AreThere bytes rs))
   pub reason : IfSome old.content (λ bytes. HasReason old.failures new.failures old.can_fail (AreThere bytes rs → ⊥) r)
   pub accepted : IfSome old.content (λ bytes. AreThere bytes rs → AreCached old rs → IsOk r)
@@ -39,6 +41,7 @@ pub record LoadsFor {E Y : Type 0} (rs : List (ℕ × ℕ)) (answer : List ℕ �
     (old new : Seen E) (r : Result (Unit {0}) ParseError) : Type 0 where
   pub keeps : Keeps old new
   pub loaded : OnOk r (AreLow rs × AreCached new rs)
+  pub only : (start end : ℕ) → IsCached new start end → IsCached old start end ⊎ IsRequested rs start end
   pub reason : IfSome old.content (λ bytes. HasReason old.failures new.failures old.can_fail (IsErr (answer bytes)) r)
   pub accepted : IfSome old.content (λ bytes. IsOk (answer bytes) → AreCached old rs → IsOk r)
   pub untouched : AreCached old rs → (new ≡ old) × IfErr r (λ e. kind e ≡ Kind.Refusal)

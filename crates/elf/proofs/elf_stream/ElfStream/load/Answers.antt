@@ -1,7 +1,7 @@
 use Rattle.std.proofs.Common.{rules, arith, length, ◌≡◌, ◌<◌, ◌+◌, ◌-◌, refl}
 use Rattle.std.specs.Prelude.{◌^◌}
 use Rattle.elf.proofs.stream.Loads.{refused_past_64, refused_past, load_answered, needed_there, refused_for}
-use Rattle.elf.proofs.stream.Cached.{sound_put, cached_put, loaded_put}
+use Rattle.elf.proofs.stream.Cached.{sound_put, cached_put, loaded_put, only_put}
 use Rattle.elf.proofs.stream.Pieces.{sound_cached}
 use Rattle.elf.proofs.elf_stream.ElfStream.load.Goals as goal
 
@@ -40,6 +40,12 @@ returns-clause-loaded g c =
     let low : c.args.start + c.args.size < 2 ^ 64 = omega (arith, c.in-Some.ensures) in
     let long : length c.in_ok-bytes.bytes.items ≡ c.in-Some.end - c.args.start = c.in_ok-bytes.ensures.len in
     loaded_put c.self.inside.cache c.put.new.self (record { start = c.args.start; bytes = c.in_ok-bytes.bytes.items }) c.args.start (c.args.start + c.args.size) c.put.result low c.put.ensures.put refl (omega arith)
+
+pub returns-clause-only : goal.returns-clause-only
+returns-clause-only g c =
+    let long : length c.in_ok-bytes.bytes.items ≡ c.in-Some.end - c.args.start = c.in_ok-bytes.ensures.len in
+    rw (← c.self.view_is)
+    (only_put c.self.inside.cache c.put.new.self (record { start = c.args.start; bytes = c.in_ok-bytes.bytes.items }) c.args.start (c.args.start + c.args.size) c.put.result c.put.ensures.put c.put.ensures.refused refl (omega arith))
 
 pub returns-clause-answer : goal.returns-clause-answer
 returns-clause-answer g c =
