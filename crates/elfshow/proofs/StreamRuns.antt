@@ -355,6 +355,7 @@ leaves_made {E} {T} {Y} {U} {Z} old new requested shown answer shows made whole 
     record {
       keeps = refused.keeps;
       loaded = tt;
+      only = refused.only;
       answers = made_answers old.content shown answer shows made old.failures new.failures old.can_fail e same refused.answers;
       accepted = made_accepted T U old.content old requested answer made e same refused.accepted;
       untouched = refused.untouched;
