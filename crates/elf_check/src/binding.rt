@@ -5,6 +5,7 @@
 
 mod choice;
 mod definitions;
+pub mod laws;
 mod objects;
 mod versions;
 

@@ -16,6 +16,9 @@ use elf::section::SectionHeader;
 use elf::segment::ProgramHeader;
 use elf::string_table::StringTable;
 use elf::symbol::Symbol;
+use elfshow::calls::Call;
+use elfshow::laws::{equal_calls, equal_modes, equal_request_errors};
+use elfshow::show::{Mode, RequestError};
 use std::alloc::AllocError;
 use std::process::Abort;
 
@@ -220,6 +223,37 @@ fn requirements_are_compared(rt: HostRuntime) {
             requirement("f", "n", 0, 0, true),
         ],
     );
+}
+
+#[test]
+fn calls_modes_and_errors_are_compared_and_cloned(rt: HostRuntime) {
+    let calls = [
+        Call::Header,
+        Call::Name("a"),
+        Call::Name("b"),
+        Call::Data(0),
+        Call::Data(1),
+        Call::Sysv(0),
+        Call::Gnu(0),
+    ];
+    assert_apart(&rt, &calls);
+    for call in &calls {
+        assert_clone(&rt, call);
+        equal_calls(call, &Call::Header);
+        assert!(rt; (*call == Call::Header) == matches!(call, Call::Header));
+    }
+    let modes = [Mode::Bytes, Mode::Stream, Mode::Both];
+    assert_apart(&rt, &modes);
+    for mode in &modes {
+        assert_clone(&rt, mode);
+        equal_modes(*mode, Mode::Both);
+    }
+    let errors = [RequestError::Usage, RequestError::OutOfMemory];
+    assert_apart(&rt, &errors);
+    for error in &errors {
+        assert_clone(&rt, error);
+        equal_request_errors(*error, RequestError::Usage);
+    }
 }
 
 /// Two needs without versions, of the files named at 1 and 2.

@@ -4,6 +4,7 @@
 pub mod calls;
 pub mod failure;
 pub mod file_system;
+pub mod laws;
 mod line_buffer;
 mod lines;
 pub mod readers;

@@ -1,17 +1,21 @@
-//! Laws of sound sections: theorems for the proofs of callers. Each is the contract of a function that computes
-//! nothing; a caller uses the law by calling it.
+//! Laws of sound sections, and of the equality, clones and defaults of the types of this module: theorems for the
+//! proofs of callers. Each is the contract of a function that computes nothing; a caller uses the law by calling it.
 ghost use Rattle.std.specs.Option.{IsSomeAnd};
-ghost use Rattle.std.specs.Prelude.{◌≡◌, ◌↔◌, ◌<◌, ◌≤◌, Bool, List, ℕ, Ok, Some};
+ghost use Rattle.std.specs.Prelude.{◌≡◌, ◌↔◌, ◌<◌, ◌≤◌, Bool, IsTrue, List, ℕ, Ok, Some};
 ghost use Rattle.std.specs.Result.{IsOkAnd};
+ghost use Rattle.elf_parts.specs.Clones.{ClonesExactly};
 ghost use Rattle.elf_parts.specs.GnuFind.{GnuTable, gnu_find, gnu_section};
 ghost use Rattle.elf_parts.specs.Hash.{word_count};
 ghost use Rattle.elf_parts.specs.SysvFind.{SysvTable, sysv_find, sysv_section};
 ghost use Rattle.elf_parts.specs.declared.file.Class.{Class};
 ghost use Rattle.elf_check.specs.Indexed.{IsFirstNamed, IsLeastNamed};
+ghost use Rattle.elf_check.specs.Reads.{read_count};
 ghost use Rattle.elf_check.specs.SoundGnu.{SoundGnu};
 ghost use Rattle.elf_check.specs.SoundSysv.{Belongs, SoundSysv, value};
 ghost use Rattle.elf_check.specs.WithSymbols.{WithSymbols};
+ghost use Rattle.elf_check.specs.declared.hashcheck.reads.Reads.{Reads};
 
+use crate::hashcheck::{HashFault, HashSection, Reads};
 use elf_parts::laws::find::{gnu_words_can_be_read, sysv_words_can_be_read};
 
 /// On a sound GNU section `GnuHashTable::find`, with `hdr` as `new` left it, returns no error. It returns the least
@@ -40,4 +44,32 @@ pub fn sound_sysv_needs_some_end()
     ensures { (s : WithSymbols SysvTable) → SoundSysv s ↔ ((bucket : ℕ) → bucket < word_count s.table.buckets →
         (j : ℕ) × (j ≤ word_count s.table.chains) × (value s.table bucket j ≡ Some 0)
         × ((i : ℕ) → i < j → IsSomeAnd (value s.table bucket i) (Belongs s bucket))) }
+{}
+
+/// Two faults are equal exactly if they are the same fault with the same bucket and index.
+pub fn equal_hash_faults(a: HashFault, b: HashFault)
+    ensures { IsTrue (⟦<HashFault as PartialEq>⟧.eq a b) ↔ (a ≡ b) }
+{}
+
+/// Two kinds of hash sections are equal exactly if they are the same kind.
+pub fn equal_hash_sections(a: HashSection, b: HashSection)
+    ensures { IsTrue (⟦<HashSection as PartialEq>⟧.eq a b) ↔ (a ≡ b) }
+{}
+
+/// Two counts of reads are equal exactly if their numbers are.
+pub fn equal_reads(a: &Reads, b: &Reads)
+    ensures { IsTrue (⟦<Reads as PartialEq>⟧.eq a.now b.now) ↔ (read_count a.now ≡ read_count b.now) }
+{}
+
+/// The default count of reads is 0.
+pub fn default_reads()
+    ensures { (r : Reads) → ⟦<Reads as Default>⟧.is_default r → read_count r ≡ 0 }
+{}
+
+/// The clone of a fault, of a kind of hash section or of a count of reads is the same value, and cloning it cannot
+/// fail.
+pub fn clones()
+    ensures fault { ClonesExactly ⟦<HashFault as Clone>⟧.is_clone ⟦<HashFault as Clone>⟧.is_infallible }
+    ensures kind { ClonesExactly ⟦<HashSection as Clone>⟧.is_clone ⟦<HashSection as Clone>⟧.is_infallible }
+    ensures reads { ClonesExactly ⟦<Reads as Clone>⟧.is_clone ⟦<Reads as Clone>⟧.is_infallible }
 {}
