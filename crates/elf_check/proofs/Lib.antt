@@ -4,6 +4,7 @@ pub mod GnuVerdicts
 pub mod Intervals
 pub mod SysvScan
 pub mod SysvCount
+pub mod SysvReads
 pub mod NamedLists
 pub mod AllNamed
 pub mod Bindings

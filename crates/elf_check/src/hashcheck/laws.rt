@@ -8,11 +8,13 @@ ghost use Rattle.elf_parts.specs.GnuFind.{GnuTable, gnu_find, gnu_section};
 ghost use Rattle.elf_parts.specs.Hash.{word_count};
 ghost use Rattle.elf_parts.specs.SysvFind.{SysvTable, sysv_find, sysv_section};
 ghost use Rattle.elf_parts.specs.declared.file.Class.{Class};
+ghost use Rattle.elf_check.specs.Faults.{IsTrueOfSysv};
 ghost use Rattle.elf_check.specs.Indexed.{IsFirstNamed, IsLeastNamed};
-ghost use Rattle.elf_check.specs.Reads.{read_count};
+ghost use Rattle.elf_check.specs.Reads.{IsCountAt, read_count};
 ghost use Rattle.elf_check.specs.SoundGnu.{SoundGnu};
 ghost use Rattle.elf_check.specs.SoundSysv.{Belongs, SoundSysv, value};
 ghost use Rattle.elf_check.specs.WithSymbols.{WithSymbols};
+ghost use Rattle.elf_check.specs.declared.hashcheck.HashFault.{HashFault};
 ghost use Rattle.elf_check.specs.declared.hashcheck.reads.Reads.{Reads};
 
 use crate::hashcheck::{HashFault, HashSection, Reads};
@@ -44,6 +46,13 @@ pub fn sound_sysv_needs_some_end()
     ensures { (s : WithSymbols SysvTable) → SoundSysv s ↔ ((bucket : ℕ) → bucket < word_count s.table.buckets →
         (j : ℕ) × (j ≤ word_count s.table.chains) × (value s.table bucket j ≡ Some 0)
         × ((i : ℕ) → i < j → IsSomeAnd (value s.table bucket i) (Belongs s bucket))) }
+{}
+
+/// At a fault that is true of a SysV section the count of symbols read is determined by the section, the fault and the
+/// count before the check.
+pub fn one_count_at_a_sysv_fault()
+    ensures { (s : WithSymbols SysvTable) (fault : HashFault) (old one other : ℕ) → IsTrueOfSysv s fault →
+        IsCountAt s fault old one → IsCountAt s fault old other → one ≡ other }
 {}
 
 /// Two faults are equal exactly if they are the same fault with the same bucket and index.

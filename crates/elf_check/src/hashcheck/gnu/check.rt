@@ -1,12 +1,12 @@
 //! The check of a GNU section, in one pass over its chain words.
-ghost use Rattle.std.specs.Prelude.{◌≡◌, ◌↔◌, ◌+◌, ◌<◌, ◌≤◌, ◌^◌, Some, IsTrue, MatchOption, IfNone, IfSome};
+ghost use Rattle.std.specs.Prelude.{◌≡◌, ◌↔◌, ◌+◌, ◌<◌, ◌≤◌, ◌^◌, Some, IsTrue, MatchOption, IfNone, IfOk, IfSome};
 ghost use Rattle.elf_parts.specs.GnuFind.{gnu_section, gnu_view};
 ghost use Rattle.elf_parts.specs.Hash.{word_count};
 ghost use Rattle.elf_parts.specs.StringTable.{strings_view};
 ghost use Rattle.elf_parts.specs.Table.{table_view};
 ghost use Rattle.elf_check.specs.CheckedTable.{checked_gnu_view, gnu_indexed};
 ghost use Rattle.elf_check.specs.Faults.{IsTrueOfGnu};
-ghost use Rattle.elf_check.specs.Reads.{counted, read_count, symbols_of};
+ghost use Rattle.elf_check.specs.Reads.{counted, gnu_reads, read_count, symbols_of};
 ghost use Rattle.elf_check.specs.SoundGnu.{HasBothBits, InRun, SoundGnu, SoundWord};
 ghost use Rattle.elf_check.specs.Verdict.{GivesVerdict, OnFaulty, OnSound, gnu_chain_count};
 ghost use Rattle.elf_check.specs.WithSymbols.{bloom, gnu_with, with_symbols, word};
@@ -91,6 +91,7 @@ fn fault_at<'data, E: EndianParse>(
     ensures verdict { let s = gnu_with table.now symtab.now strtab.now in
         MatchOption result (SoundWord s place chain_word) (IsTrueOfGnu s) }
     ensures count { read_count reads.new ≡ counted (read_count reads.old) 1 }
+    ensures names { IfSome result (λ fault. gnu_reads (gnu_view table.now) fault ≡ place + 1) }
 {
     let index = table.hdr.table_start_idx as usize + place;
     let Some(name) = reads.name_at(symtab, strtab, index) else {
@@ -124,6 +125,10 @@ fn first_fault<'data, E: EndianParse>(
     ensures never_less { read_count reads.old ≤ read_count reads.new }
     ensures at_fault { IfSome result (λ fault.
         counted (read_count reads.old) (symbols_of fault) ≤ read_count reads.new) }
+    ensures exact { IfNone result
+        (read_count reads.new ≡ counted (read_count reads.old) (word_count (gnu_view table.now).chains)) }
+    ensures exact_at_fault { IfSome result (λ fault.
+        read_count reads.new ≡ counted (read_count reads.old) (gnu_reads (gnu_view table.now) fault)) }
 {
     if table.hdr.nshift >= 32 {
         return Some(HashFault::ShiftTooLarge);
@@ -145,8 +150,8 @@ fn first_fault<'data, E: EndianParse>(
 
 /// Checks as `check_gnu` does, and adds the number of symbols that it reads to `reads`.
 ///
-/// It adds at most one for each chain word; for a sound section at least the number of indexed symbols; and at
-/// least one at a fault that names a symbol which was read.
+/// It adds at most one for each chain word. For a sound section it adds exactly the number of indexed symbols. At a
+/// fault that names an index it adds exactly one for each chain word up to that of the index.
 pub fn check_gnu_counted<'data, E: EndianParse>(
     endian: E,
     class: Class,
@@ -165,6 +170,11 @@ pub fn check_gnu_counted<'data, E: EndianParse>(
     ensures never_less { read_count reads.old ≤ read_count reads.new }
     ensures at_fault { OnFaulty result (λ fault.
         counted (read_count reads.old) (symbols_of fault) ≤ read_count reads.new) }
+    ensures exact { OnSound result (λ checked.
+        read_count reads.new ≡ counted (read_count reads.old) (gnu_indexed checked)) }
+    ensures exact_at_fault { let cut = gnu_section (E.little endian) class section.now in
+        IfOk cut (λ table. OnFaulty result (λ fault.
+        read_count reads.new ≡ counted (read_count reads.old) (gnu_reads table fault))) }
 {
     let table = GnuHashTable::new(endian, class, section)?;
     gnu_words_can_be_read(section);

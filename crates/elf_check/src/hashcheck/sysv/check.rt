@@ -3,7 +3,7 @@
 //! A chain whose names all belong to its own bucket shares no index with an earlier one. So all chains that end
 //! have together at most as many indexes as there are chain words. A chain that does not end is left after that
 //! many.
-ghost use Rattle.std.specs.Prelude.{◌≡◌, ◌+◌, ◌*◌, ◌<◌, ◌≤◌, ◌^◌, IfErr, IfOk, MatchResult};
+ghost use Rattle.std.specs.Prelude.{◌≡◌, ◌+◌, ◌*◌, ◌<◌, ◌≤◌, ◌^◌, ℕ, IfErr, IfOk, MatchResult};
 ghost use Rattle.elf_parts.specs.Hash.{word_count};
 ghost use Rattle.elf_parts.specs.StringTable.{strings_view};
 ghost use Rattle.elf_parts.specs.SysvFind.{sysv_section, sysv_view};
@@ -11,7 +11,7 @@ ghost use Rattle.elf_parts.specs.Table.{table_view};
 ghost use Rattle.elf_check.specs.CheckedTable.{checked_sysv_view, sysv_indexed};
 ghost use Rattle.elf_check.specs.Faults.{IsTrueOfSysv};
 ghost use Rattle.elf_check.specs.Indexed.{chain_lengths};
-ghost use Rattle.elf_check.specs.Reads.{counted, read_count, symbols_of};
+ghost use Rattle.elf_check.specs.Reads.{BelongBefore, IsCountAt, IsFaultAt, counted, read_count, symbols_of};
 ghost use Rattle.elf_check.specs.SoundSysv.{EndsAt, SoundSysv};
 ghost use Rattle.elf_check.specs.Verdict.{GivesVerdict, OnFaulty, OnSound, sysv_chain_count};
 ghost use Rattle.elf_check.specs.WithSymbols.{sysv_with, with_symbols};
@@ -43,6 +43,9 @@ fn chain_length<'data, E: EndianParse>(
     ensures never_less { read_count reads.old ≤ read_count reads.new }
     ensures at_fault { IfErr result (λ fault.
         counted (read_count reads.old) (symbols_of fault) ≤ read_count reads.new) }
+    ensures stops { let s = sysv_with table.now symtab.now strtab.now in
+        IfErr result (λ fault. (j : ℕ) × BelongBefore s bucket j × IsFaultAt s bucket j fault
+        × (read_count reads.new ≡ counted (read_count reads.old) (j + symbols_of fault))) }
     ensures short { word_count (sysv_view table.now).chains < 2 ^ 62 }
 {
     let buckets = table.buckets();
@@ -88,6 +91,9 @@ fn first_fault<'data, E: EndianParse>(
     ensures never_less { read_count reads.old ≤ read_count reads.new }
     ensures at_fault { IfErr result (λ fault.
         counted (read_count reads.old) (symbols_of fault) ≤ read_count reads.new) }
+    ensures exact { IfOk result (λ indexed. read_count reads.new ≡ counted (read_count reads.old) indexed) }
+    ensures exact_at_fault { let s = sysv_with table.now symtab.now strtab.now in
+        IfErr result (λ fault. IsCountAt s fault (read_count reads.old) (read_count reads.new)) }
 {
     let mut indexed = 0;
     for bucket in 0..word_count(&table.buckets()) {
@@ -101,8 +107,9 @@ fn first_fault<'data, E: EndianParse>(
 
 /// Checks as `check_sysv` does, and adds the number of symbols that it reads to `reads`.
 ///
-/// It adds at most two for each chain word; for a sound section at least the number of indexed symbols; and at
-/// least one at a fault that names a symbol which was read.
+/// It adds at most two for each chain word. For a sound section it adds exactly the number of indexed symbols. At a
+/// fault it adds exactly the lengths of the chains of the buckets before, the number of indexes before the faulty one
+/// in its chain, and one if the fault names a symbol which was read.
 pub fn check_sysv_counted<'data, E: EndianParse>(
     endian: E,
     class: Class,
@@ -121,6 +128,11 @@ pub fn check_sysv_counted<'data, E: EndianParse>(
     ensures never_less { read_count reads.old ≤ read_count reads.new }
     ensures at_fault { OnFaulty result (λ fault.
         counted (read_count reads.old) (symbols_of fault) ≤ read_count reads.new) }
+    ensures exact { OnSound result (λ checked.
+        read_count reads.new ≡ counted (read_count reads.old) (sysv_indexed checked)) }
+    ensures exact_at_fault { let cut = sysv_section (E.little endian) class section.now in
+        IfOk (with_symbols (table_view symtab.entry) (strings_view strtab.entry) cut) (λ s.
+        OnFaulty result (λ fault. IsCountAt s fault (read_count reads.old) (read_count reads.new))) }
 {
     let table = SysVHashTable::new(endian, class, section)?;
     sysv_words_can_be_read(section);

@@ -28,6 +28,12 @@ returns-in-Err-clause-at_most g c =
     let within = lengths_within s c.loop-bucket.bucket c.loop-bucket.invariant.sound in
     omega (arith, within, c.loop-bucket.invariant.total, c.loop-bucket.invariant.reads, c.in-Err.ensures.at_most)
 
+pub returns-in-Err-clause-exact_at_fault : goal.returns-in-Err-clause-exact_at_fault
+returns-in-Err-clause-exact_at_fault g c =
+    let stops = c.in-Err.ensures.stops in
+    let seen = c.loop-bucket.invariant in
+    (c.loop-bucket.bucket, stops.0, seen.sound, stops.1, stops.2, omega (arith, stops.3, seen.reads, seen.total))
+
 pub loop-bucket-preserved : goal.loop-bucket-preserved
 loop-bucket-preserved g c =
     let s = sysv_with c.args.table.now c.args.symtab.now c.args.strtab.now in
