@@ -1,5 +1,6 @@
 //! The texts of errors that no stored row shows, and of stopped runs.
 use elf::ParseError;
+use elf_check::binding::{BindingFault, Unreadable};
 use elfshow::calls::RunError;
 use std::fmt::Display;
 use std::io;
@@ -76,6 +77,23 @@ fn a_fault_of_a_device_keeps_its_own_words(rt: HostRuntime) {
     let error = ParseError::from(io::Error::from(io::ErrorKind::StorageFull));
     assert!(rt; matches!(&error, ParseError::IOError(_)));
     assert_text(&rt, error, "no storage space");
+}
+
+#[test]
+fn a_version_that_cannot_be_read_has_a_text(rt: HostRuntime) {
+    assert_text(
+        &rt,
+        Unreadable { symbol: 3 },
+        "version of symbol 3 cannot be read",
+    );
+    assert_text(
+        &rt,
+        BindingFault {
+            object: 2,
+            symbol: 3,
+        },
+        "object 2: version of symbol 3 cannot be read",
+    );
 }
 
 #[test]

@@ -65,23 +65,18 @@ fn a_message_that_is_not_taken_changes_nothing(rt: HostRuntime) -> io::Result<()
 
 #[test]
 fn a_full_output_is_reported(rt: HostRuntime) -> io::Result<()> {
-    let words = ["bytes", "F", "header", "sections"];
-    assert_shows(
-        &rt,
-        &words,
-        &HEADER_ALONE,
-        0,
-        (1, ""),
-        "elfshow: stopped after 0 calls: no storage space\n",
-    )?;
-    assert_shows(
-        &rt,
-        &words,
-        &HEADER_ALONE,
-        HEADER_LINE.len(),
-        (1, HEADER_LINE),
-        "elfshow: stopped after 1 calls: no storage space\n",
-    )
+    for mode in ["bytes", "stream", "both"] {
+        let words = [mode, "F", "header", "sections"];
+        let message = "elfshow: stopped after 0 calls: no storage space\n";
+        assert_shows(&rt, &words, &HEADER_ALONE, 0, (1, ""), message)?;
+        let message = match mode {
+            "both" => "elfshow: stopped after 0 calls: no storage space\n",
+            _ => "elfshow: stopped after 1 calls: no storage space\n",
+        };
+        let room = HEADER_LINE.len();
+        assert_shows(&rt, &words, &HEADER_ALONE, room, (1, HEADER_LINE), message)?;
+    }
+    Ok(())
 }
 
 /// Asserts the line and the status of a failure; with a standard error that takes nothing the status is the same.
@@ -220,23 +215,39 @@ fn a_missing_file_is_reported_in_each_mode(rt: HostRuntime) -> io::Result<()> {
     Ok(())
 }
 
-#[test]
-fn a_failed_flush_is_reported_in_each_mode(rt: HostRuntime) -> io::Result<()> {
+/// Asserts the message where each flush fails behind a number of flushes.
+fn assert_flush_reported(
+    rt: &(impl Abort + AllocGlobal),
+    mode: &str,
+    flushes_before: usize,
+    message: &str,
+) -> io::Result<()> {
     let alloc = rt.alloc();
     let files = MemFile {
         alloc,
         bytes: &HEADER_ALONE,
     };
-    for mode in ["bytes", "stream", "both"] {
-        let mut out = BufWriter::new(alloc, Faulty::at_flush(alloc))?;
-        let mut err = Vec::new(alloc);
-        let words = [mode, "F", "header", "sections"];
-        let status = show(alloc, &words, &files, &mut out, &mut err);
-        assert!(rt; status == 1, "{mode}");
-        assert!(rt;
-            err.starts_with(b"elfshow: stopped after 0 calls: "),
-            "{mode}"
-        );
-    }
+    let mut out = BufWriter::new(alloc, Faulty::behind_flushes(alloc, flushes_before))?;
+    let mut err = Vec::new(alloc);
+    let words = [mode, "F", "header", "sections"];
+    let status = show(alloc, &words, &files, &mut out, &mut err);
+    assert!(rt; status == 1, "{mode}");
+    assert!(rt; err.as_slice() == message.as_bytes(), "{mode}");
     Ok(())
+}
+
+// Each call is flushed, or in mode `both` the whole text, and then all that was written.
+#[test]
+fn a_failed_flush_is_reported_in_each_mode(rt: HostRuntime) -> io::Result<()> {
+    let behind_none = "elfshow: stopped after 0 calls: broken pipe\n";
+    for mode in ["bytes", "stream", "both"] {
+        assert_flush_reported(&rt, mode, 0, behind_none)?;
+    }
+    let behind_one = "elfshow: stopped after 1 calls: broken pipe\n";
+    let behind_all = "elfshow: stopped after 2 calls: broken pipe\n";
+    for mode in ["bytes", "stream"] {
+        assert_flush_reported(&rt, mode, 1, behind_one)?;
+        assert_flush_reported(&rt, mode, 2, behind_all)?;
+    }
+    assert_flush_reported(&rt, "both", 1, behind_all)
 }

@@ -17,6 +17,11 @@ fn give(bytes: &[u8], at: u64, buf: &mut [u8]) -> usize
     n
 }
 
+/// Whether an error is the one that a source here fails with.
+pub(crate) fn is_of_source(error: &io::Error) -> bool {
+    error.kind() == ErrorKind::TimedOut
+}
+
 /// Gives `width` bytes a read, or one if that is 0, and fails once, behind `calls_before` calls. The owner of that cell
 /// may change the number.
 #[derive(Drop)]
@@ -48,7 +53,7 @@ impl<'a> Halting<'a> {
         let calls_before = self.calls_before.get();
         if calls_before == 0 && self.failures == 0 {
             self.failures = 1;
-            return Err(io::Error::from(ErrorKind::Other));
+            return Err(io::Error::from(ErrorKind::TimedOut));
         }
         self.calls_before.set(calls_before.saturating_sub(1));
         Ok(())

@@ -1,6 +1,6 @@
 //! A run over a stream whose source fails once a call is done.
 use crate::files::TWO_SECTIONS;
-use crate::sources::Halting;
+use crate::sources::{Halting, is_of_source};
 use elf::endian::AnyEndian;
 use elf::{ElfStream, ParseError};
 use elfshow::calls::{Call, RunError, run_stream};
@@ -21,13 +21,15 @@ fn a_fault_in_the_second_call_is_reported(rt: HostRuntime) -> Result<(), Fail> {
     let mut out = Vec::new(rt.alloc());
     calls_left.set(0);
     let stopped = run_stream(&mut stream, &[Call::Header, Call::Sections], &mut out);
-    let is_fault = matches!(
-        stopped,
-        Err(RunError::Fault {
-            done: 1,
-            error: ParseError::IOError(_)
-        })
-    );
+    let is_fault = match &stopped {
+        Err(
+            RunError::Fault {
+                done: 1,
+                error: ParseError::IOError(error),
+            },
+        ) => is_of_source(error),
+        _ => false,
+    };
     assert!(rt; is_fault && out.as_slice() == HEADER);
     Ok(())
 }

@@ -1,12 +1,13 @@
 //! Runs over streams whose source fails, and to writers that fail.
 use crate::files::{HASHED, TWO_SECTIONS};
-use crate::sources::Halting;
+use crate::sources::{Halting, is_of_source};
 use crate::writers::{Faulty, Narrow};
 use elf::endian::AnyEndian;
 use elf::{ElfStream, MemSource, ParseError};
 use elfshow::calls::{Call, RunError, run_bytes, run_stream};
 use std::alloc::Global;
 use std::cell::Cell;
+use std::io::ErrorKind;
 use std::process::Abort;
 use std::test::Fail;
 
@@ -21,15 +22,18 @@ fn text_of(alloc: Global, data: &[u8], calls: &[Call<'_>], done: usize) -> Resul
     }
 }
 
-fn is_of_source(error: &ParseError) -> bool {
-    matches!(error, ParseError::IOError(_))
+fn is_failure_of_source(error: &ParseError) -> bool {
+    match error {
+        ParseError::IOError(error) => is_of_source(error),
+        _ => false,
+    }
 }
 
 /// How many of the calls were done, where all were or a fault of the source stopped the run.
 fn done_of(stopped: &Result<(), RunError>, all: usize) -> Option<usize> {
     match stopped {
         Ok(()) => Some(all),
-        Err(RunError::Fault { done, error }) if is_of_source(error) => Some(*done),
+        Err(RunError::Fault { done, error }) if is_failure_of_source(error) => Some(*done),
         Err(_) => None,
     }
 }
@@ -81,6 +85,21 @@ fn a_failing_source_stops_the_run(rt: HostRuntime) -> Result<(), Fail> {
     Ok(())
 }
 
+/// Asserts how many calls were done where the writer failed, and by which error.
+fn assert_stopped(
+    rt: &(impl Abort + AllocGlobal),
+    stopped: Result<(), RunError>,
+    want: usize,
+    kind: ErrorKind,
+) {
+    match stopped {
+        Err(RunError::Write { done, error }) => {
+            assert!(rt; done == want && error.kind() == kind, "{done}, {error}");
+        }
+        _ => assert!(rt; false, "no failed write"),
+    }
+}
+
 #[test]
 fn a_full_writer_stops_the_run(rt: HostRuntime) -> Result<(), Fail> {
     let alloc = rt.alloc();
@@ -94,11 +113,11 @@ fn a_full_writer_stops_the_run(rt: HostRuntime) -> Result<(), Fail> {
     };
     let mut out = Narrow::new(alloc, first.len(), 4096);
     let stopped = run_stream(&mut stream, &calls, &mut out);
-    assert!(rt; matches!(stopped, Err(RunError::Write { done: 1, .. })));
+    assert_stopped(&rt, stopped, 1, ErrorKind::StorageFull);
     assert!(rt; out.written.as_slice() == first.as_slice());
     let mut out = Faulty::at_flush(alloc);
     let stopped = run_stream(&mut stream, &calls, &mut out);
-    assert!(rt; matches!(stopped, Err(RunError::Write { done: 0, .. })));
+    assert_stopped(&rt, stopped, 0, ErrorKind::BrokenPipe);
     assert!(rt; out.written.as_slice() == first.as_slice());
     Ok(())
 }

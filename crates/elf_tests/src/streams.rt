@@ -5,7 +5,7 @@ use crate::files::{
 };
 use crate::memory::all_memory;
 use crate::refusals::refusal;
-use crate::sources::{Halting, Meter, Metered, Short};
+use crate::sources::{Halting, Meter, Metered, Short, is_of_source};
 use elf::dynamic::{Dyn, DynamicTable};
 use elf::endian::AnyEndian;
 use elf::gnu_symver::{SymbolDefinition, SymbolRequirement, SymbolVersionTable};
@@ -18,6 +18,7 @@ use elf::symbol::{Symbol, SymbolTable};
 use elf::{ElfBytes, ElfStream, MemSource, ParseError};
 use std::alloc::{AllocError, Global};
 use std::cell::Cell;
+use std::io;
 use std::process::Abort;
 use std::test::Fail;
 
@@ -169,6 +170,15 @@ enum Answer {
     Other,
 }
 
+/// What a failed call is that ended with this error.
+fn failed_with(error: &io::Error) -> Answer {
+    if is_of_source(error) {
+        Answer::Failed
+    } else {
+        Answer::Other
+    }
+}
+
 fn compared<T: PartialEq + Drop>(
     stream: Result<T, ParseError>,
     bytes: Result<T, ParseError>,
@@ -181,7 +191,7 @@ fn compared<T: PartialEq + Drop>(
                 Answer::Other
             }
         }
-        (Err(ParseError::IOError(_)), _) => Answer::Failed,
+        (Err(ParseError::IOError(error)), _) => failed_with(&error),
         (Err(ParseError::OutOfMemory), _) => Answer::Starved,
         (Err(_), Err(_)) => Answer::Same,
         _ => Answer::Other,
@@ -473,7 +483,7 @@ fn run_fails(
     let source = Halting::new(bytes, width, &calls_left);
     let mut stream = match Halted::open_stream(rt.alloc(), source) {
         Ok(stream) => stream,
-        Err(ParseError::IOError(_)) => return Ok(true),
+        Err(ParseError::IOError(error)) => return Ok(is_of_source(&error)),
         Err(error) => return Err(Fail::from(error)),
     };
     let failed = refused_calls(rt, &mut stream, &file, Answer::Failed);
@@ -569,6 +579,53 @@ fn a_source_that_ends_early_is_refused(rt: HostRuntime) -> Result<(), Fail> {
 }
 
 type InMemory<'a> = ElfStream<AnyEndian, MemSource<'a>, Global>;
+
+/// Asserts the name and the numbers of an error.
+fn assert_refused<T: Drop>(
+    rt: &(impl Abort + AllocGlobal),
+    answer: Result<T, ParseError>,
+    want: &str,
+) -> Result<(), AllocError> {
+    let found = refusal(rt.alloc(), answer)?;
+    assert!(rt; found.as_str() == want, "{found}");
+    Ok(())
+}
+
+/// Asserts the error for a range of a section.
+fn assert_no_range(
+    rt: &(impl Abort + AllocGlobal),
+    stream: &mut InMemory<'_>,
+    sh_offset: u64,
+    sh_size: u64,
+    want: &str,
+) -> Result<(), AllocError> {
+    let shdr = SectionHeader {
+        sh_offset,
+        sh_size,
+        ..EMPTY
+    };
+    assert_refused(rt, stream.section_data(&shdr), want)
+}
+
+// No contract says which error a stream returns.
+#[test]
+fn a_stream_says_what_is_wrong(rt: HostRuntime) -> Result<(), Fail> {
+    let mut stream = InMemory::open_stream(rt.alloc(), MemSource::new(&TWO_SECTIONS))?;
+    let rels = stream.section_data_as_rels(&NAMES);
+    assert_refused(&rt, rels, "UnexpectedSectionType((3, 9))")?;
+    let names = stream.section_data_as_strtab(&RELS);
+    assert_refused(&rt, names, "UnexpectedSectionType((9, 3))")?;
+    let phdr = ProgramHeader {
+        p_type: 1,
+        ..NOTE_SEGMENT
+    };
+    let notes = stream.segment_data_as_notes(&phdr);
+    assert_refused(&rt, notes, "UnexpectedSegmentType((1, 4))")?;
+    assert_no_range(&rt, &mut stream, 136, 1, "BadOffset(137)")?;
+    assert_no_range(&rt, &mut stream, 137, 0, "BadOffset(137)")?;
+    assert_no_range(&rt, &mut stream, 1, u64::MAX, "IntegerOverflow")?;
+    Ok(())
+}
 
 fn assert_rel(rt: &(impl Abort + AllocGlobal), rel: Result<Option<Rel>, ParseError>) {
     match rel {

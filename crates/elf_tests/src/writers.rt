@@ -41,12 +41,12 @@ impl Write for Narrow {
     }
 }
 
-/// Fails at one write and goes on behind it, or fails at each flush.
+/// Fails at one write and goes on behind it, or fails at each flush behind some.
 #[derive(Drop)]
 pub(crate) struct Faulty {
     pub(crate) written: Vec<u8>,
     writes_before: Option<usize>,
-    can_flush: bool,
+    flushes_before: usize,
 }
 
 impl Faulty {
@@ -55,16 +55,21 @@ impl Faulty {
         Faulty {
             written: Vec::new(alloc),
             writes_before: Some(writes_before),
-            can_flush: true,
+            flushes_before: usize::MAX,
         }
     }
 
     /// Fails at each flush.
     pub(crate) fn at_flush(alloc: Global) -> Faulty {
+        Faulty::behind_flushes(alloc, 0)
+    }
+
+    /// Fails at each flush behind a number of flushes.
+    pub(crate) fn behind_flushes(alloc: Global, flushes_before: usize) -> Faulty {
         Faulty {
             written: Vec::new(alloc),
             writes_before: None,
-            can_flush: false,
+            flushes_before,
         }
     }
 
@@ -91,11 +96,11 @@ impl Write for Faulty {
     }
 
     fn flush(&mut self) -> io::Result<()> {
-        if self.can_flush {
-            Ok(())
-        } else {
-            Err(io::Error::from(io::ErrorKind::BrokenPipe))
+        if self.flushes_before == 0 {
+            return Err(io::Error::from(io::ErrorKind::BrokenPipe));
         }
+        self.flushes_before -= 1;
+        Ok(())
     }
 }
 
