@@ -181,10 +181,14 @@ impl<'data> TerminatedStrings<'data> {
         }
     }
 
-    /// Returns what `StringTable::get_raw` returns.
+    /// Returns what `StringTable::get_raw` returns. Where no 0 byte follows, the error takes no search for one.
+    #[inline(always)]
     pub fn get_raw(&self, offset: usize) -> Result<&'data [u8], ParseError>
         ensures { ok_map (λ bytes. bytes.now) result ≡ string_at self.now offset }
     {
+        if offset >= self.terminated {
+            return Err(self.table.refused(offset));
+        }
         self.table.get_raw(offset)
     }
 

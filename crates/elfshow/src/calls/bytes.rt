@@ -28,7 +28,7 @@ use elf::endian::EndianParse;
 use elf::laws::tables::{iter_gives_len_records, iter_gives_whatever_get_gives};
 use elf::section::SectionHeader;
 use elf::segment::ProgramHeader;
-use elf::string_table::StringTable;
+use elf::string_table::{StringTable, TerminatedStrings};
 use elf::symbol::SymbolTable;
 use elf::{ElfBytes, ParseError};
 use elf_check::hashcheck::HashSection;
@@ -89,6 +89,7 @@ fn write_sections<E: EndianParse, W: Write>(file: &ElfBytes<'_, E>, out: &mut W)
 {
     match file.section_headers_with_strtab() {
         Ok((Some(sections), names)) => {
+            let names = names.map(|names| TerminatedStrings::new(&names));
             write_records(sections.iter(), &SectionLine { names }, out)
         }
         Ok((None, _)) => write_end(0, out),
@@ -216,6 +217,7 @@ fn write_symbols<E: EndianParse, W: Write>(
 {
     match found {
         Ok(Some((symbols, strings))) => {
+            let strings = TerminatedStrings::new(&strings);
             write_records(symbols.iter(), &SymbolLine { strings }, out)
         }
         Ok(None) => write_none(out),

@@ -31,6 +31,7 @@ use elf::endian::EndianParse;
 use elf::laws::tables::iter_gives_len_records;
 use elf::section::SectionHeader;
 use elf::segment::ProgramHeader;
+use elf::string_table::TerminatedStrings;
 use elf::{ElfStream, ParseError, StreamSource};
 use elf_check::hashcheck::HashSection;
 use std::alloc::Allocator;
@@ -132,6 +133,7 @@ fn write_sections<E: EndianParse, S: StreamSource, A: Allocator + Copy, W: Write
 {
     match stream.section_headers_with_strtab() {
         Ok((sections, names)) => {
+            let names = names.map(|names| TerminatedStrings::new(&names));
             Ok(write_slice(sections.as_slice(), &SectionLine { names }, out))
         }
         Err(error) => Err(error),
@@ -290,11 +292,10 @@ fn write_symbols<E: EndianParse, S: StreamSource, A: Allocator + Copy, W: Write>
         (W.contents out.old) (W.contents out.new) result }
 {
     match stream.symbol_table() {
-        Ok(Some((symbols, strings))) => Ok(write_records(
-            symbols.iter(),
-            &SymbolLine { strings },
-            out,
-        )),
+        Ok(Some((symbols, strings))) => {
+            let strings = TerminatedStrings::new(&strings);
+            Ok(write_records(symbols.iter(), &SymbolLine { strings }, out))
+        }
         Ok(None) => Ok(write_none(out)),
         Err(error) => Err(error),
     }
@@ -308,11 +309,10 @@ fn write_dynsyms<E: EndianParse, S: StreamSource, A: Allocator + Copy, W: Write>
         (W.contents out.old) (W.contents out.new) result }
 {
     match stream.dynamic_symbol_table() {
-        Ok(Some((symbols, strings))) => Ok(write_records(
-            symbols.iter(),
-            &SymbolLine { strings },
-            out,
-        )),
+        Ok(Some((symbols, strings))) => {
+            let strings = TerminatedStrings::new(&strings);
+            Ok(write_records(symbols.iter(), &SymbolLine { strings }, out))
+        }
         Ok(None) => Ok(write_none(out)),
         Err(error) => Err(error),
     }

@@ -1,26 +1,25 @@
 //! The name of an item.
 ghost use Rattle.std.specs.Prelude.{codes};
-ghost use Rattle.std.specs.Option.{option_map};
-ghost use Rattle.elf_parts.specs.StringTable.{string_at, strings_view};
+ghost use Rattle.elf_parts.specs.StringTable.{string_at};
 ghost use Rattle.elfshow.specs.Pieces.{◌⧺◌};
 ghost use Rattle.elfshow.specs.lines.Name.{name_field, name_read};
 ghost use Rattle.elfshow.specs.inner.Adding.{Adds};
 
 use crate::line_buffer::LineBuffer;
-use elf::string_table::StringTable;
+use elf::string_table::TerminatedStrings;
 use std::io;
 use std::io::Write;
 
 /// Adds the name field of an item whose name is at this offset in bytes, behind a space. Without strings it is
 /// `noname`.
 pub(crate) fn add_name<W: Write>(
-    names: Option<StringTable<'_>>,
+    names: &Option<TerminatedStrings<'_>>,
     offset: u32,
     lines: &mut LineBuffer,
     out: &mut W,
 )
     ensures { Adds (W.contents out.old) lines.old (W.contents out.new) lines.new
-        (codes " " ⧺ name_field (option_map strings_view names.entry) offset) }
+        (codes " " ⧺ name_field names.now offset) }
 {
     match names {
         Some(names) => add_name_in(names, offset, lines, out),
@@ -30,13 +29,13 @@ pub(crate) fn add_name<W: Write>(
 
 /// The same for an item whose strings are known to exist.
 pub(crate) fn add_name_in<W: Write>(
-    names: StringTable<'_>,
+    names: &TerminatedStrings<'_>,
     offset: u32,
     lines: &mut LineBuffer,
     out: &mut W,
 )
     ensures { Adds (W.contents out.old) lines.old (W.contents out.new) lines.new
-        (codes " " ⧺ name_read (string_at (strings_view names.entry) offset)) }
+        (codes " " ⧺ name_read (string_at names.now offset)) }
 {
     match names.get_raw(offset as usize) {
         Ok(name) => lines.escaped(" name=", name, out),

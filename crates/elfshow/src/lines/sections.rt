@@ -2,30 +2,28 @@
 ghost use Rattle.std.specs.Prelude.{codes, OnOk};
 ghost use Rattle.std.specs.Fmt.{decimal};
 ghost use Rattle.elfshow.specs.Pieces.{◌⧺◌};
-ghost use Rattle.std.specs.Option.{option_map};
 ghost use Rattle.std.specs.Io.KnownBytes.{Appends};
 ghost use Rattle.elfshow.specs.inner.Adding.{Adds};
-ghost use Rattle.elf_parts.specs.StringTable.{strings_view};
 ghost use Rattle.elfshow.specs.lines.Sections.{found_line, place_fields, reading_fields, section_fields, section_line};
 
 use crate::line_buffer::LineBuffer;
 use crate::lines::counted::Line;
 use crate::lines::name::add_name;
 use elf::section::SectionHeader;
-use elf::string_table::StringTable;
+use elf::string_table::TerminatedStrings;
 use std::io;
 use std::io::Write;
 
 /// The line of a section, with its name in these strings, if there are any.
-#[derive(Clone, Copy)]
+#[derive(Drop)]
 pub(crate) struct SectionLine<'a> {
-    pub(crate) names: Option<StringTable<'a>>,
+    pub(crate) names: Option<TerminatedStrings<'a>>,
 }
 
 impl Line for SectionLine<'_> {
     type Item = SectionHeader;
 
-    ghost line = { λ by. section_line (option_map strings_view by.names) };
+    ghost line = { λ by. section_line by.names };
 
     fn add_line<W: Write>(
         &self,
@@ -35,7 +33,7 @@ impl Line for SectionLine<'_> {
         out: &mut W,
     ) {
         lines.decimal("section ", k, out);
-        add_name(self.names, section.sh_name, lines, out);
+        add_name(&self.names, section.sh_name, lines, out);
         lines.word(" ", out);
         add_section_fields(section, lines, out);
         lines.word("\n", out);

@@ -1,30 +1,29 @@
 //! The lines of symbols.
-ghost use Rattle.elf_parts.specs.StringTable.{strings_view};
 ghost use Rattle.elfshow.specs.lines.Symbols.{symbol_fields, symbol_line};
 ghost use Rattle.elfshow.specs.inner.Adding.{Adds};
 
 use crate::line_buffer::LineBuffer;
 use crate::lines::counted::Line;
 use crate::lines::name::add_name_in;
-use elf::string_table::StringTable;
+use elf::string_table::TerminatedStrings;
 use elf::symbol::Symbol;
 use std::io;
 use std::io::Write;
 
 /// The line of a symbol, with its name in these strings.
-#[derive(Clone, Copy)]
+#[derive(Drop)]
 pub(crate) struct SymbolLine<'a> {
-    pub(crate) strings: StringTable<'a>,
+    pub(crate) strings: TerminatedStrings<'a>,
 }
 
 impl Line for SymbolLine<'_> {
     type Item = Symbol;
 
-    ghost line = { λ by. symbol_line (strings_view by.strings) };
+    ghost line = { λ by. symbol_line by.strings };
 
     fn add_line<W: Write>(&self, k: u64, symbol: &Symbol, lines: &mut LineBuffer, out: &mut W) {
         lines.decimal("symbol ", k, out);
-        add_name_in(self.strings, symbol.st_name, lines, out);
+        add_name_in(&self.strings, symbol.st_name, lines, out);
         add_symbol_fields(symbol, lines, out);
         lines.word("\n", out);
     }
