@@ -1,7 +1,7 @@
 -- What the program does: the request that its words are, the arguments behind its name; what a run leaves that opens
 -- its file; and what is written.
 use Rattle.std.specs.Prelude.{◌≡◌, ℕ, ◌<◌, Bool, if◌then◌else◌, List, [], ◌∷◌, codes, length, take, Option, Some, None}
-use Rattle.std.specs.Prelude.{Result, Ok, Err, IsErr, IsOk, IsOkAnd}
+use Rattle.std.specs.Prelude.{Result, Ok, Err, IfErr, IsErr, IsOk, IsOkAnd}
 use Rattle.std.specs.Io.KnownBytes.{Appends, Keeps}
 use Rattle.std.specs.Option.{option_and_then, option_map}
 use Rattle.std.specs.Str.{bytes_eq}
@@ -55,12 +55,20 @@ RanOver opening texts calls old new can_fail (Err (Fault done e)) =
     × MayRefuse can_fail (Unit {0}) ⊥ (kind e)
 RanOver opening texts calls old new can_fail (Err (Write done e)) = (done < length calls) × IsOk opening
 
--- why a run by both readers over bytes in memory stops, if the file opens: an allocation failed, when the stream was
--- opened or with calls left, or the writer failed
-abbrev pub IsStopOfBoth : ℕ → RunError → Type 0
-IsStopOfBoth count (Open e) = kind e ≡ Kind.AllocationFailure
-IsStopOfBoth count (Fault done e) = (done < count) × (kind e ≡ Kind.AllocationFailure)
-IsStopOfBoth count (Write done e) = done ≡ 0
+-- why a run over bytes in memory stops: the file does not open, for its own reason, or the writer failed with calls
+-- left
+abbrev pub IsStopOfBytes : {F : Type 0} → Result F ParseError → ℕ → RunError → Type 0
+IsStopOfBytes opening count (Open e) = opening ≡ Err e
+IsStopOfBytes opening count (Fault done e) = ⊥
+IsStopOfBytes opening count (Write done e) = IsOk opening × (done < count)
+
+-- why a run by both readers over bytes in memory stops: the file does not open, for its own reason; or it opens, and
+-- an allocation failed, when the stream was opened or with calls left, or the writer failed
+abbrev pub IsStopOfBoth : {F : Type 0} → Result F ParseError → ℕ → RunError → Type 0
+IsStopOfBoth opening count (Open e) =
+    IfErr opening (λ own. e ≡ own) × (IsOk opening → kind e ≡ Kind.AllocationFailure)
+IsStopOfBoth opening count (Fault done e) = IsOk opening × (done < count) × (kind e ≡ Kind.AllocationFailure)
+IsStopOfBoth opening count (Write done e) = IsOk opening × (done ≡ 0)
 
 -- a run that stopped left this as it was, unless a writer failed
 abbrev pub IsUnwritten : {A : Type 0} → A → A → Result (Unit {0}) RunError → Type 0

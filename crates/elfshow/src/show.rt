@@ -11,10 +11,10 @@ ghost use Rattle.elfshow.specs.calls.Text.{text};
 ghost use Rattle.elfshow.specs.Failure.{IsOfFile, run_of, status_of};
 ghost use Rattle.elfshow.specs.inner.RunSteps.{IsUnfailing, in_memory};
 ghost use Rattle.elfshow.specs.Pieces.{◌⧺◌};
-ghost use Rattle.elfshow.specs.Show.{IsStopOfBoth, IsUnwritten, RanOver, agreement, calls_of, mode_of};
+ghost use Rattle.elfshow.specs.Show.{IsStopOfBoth, IsStopOfBytes, IsUnwritten, RanOver, agreement, calls_of, mode_of};
 ghost use Rattle.elfshow.specs.Show.{request_of, shown_by};
 ghost use Rattle.elfshow.specs.declared.failure.Failure.TheVariants.{Usage};
-ghost use Rattle.elfshow.specs.declared.show.Mode.TheVariants.{Both, Stream};
+ghost use Rattle.elfshow.specs.declared.show.Mode.TheVariants.{Both, Bytes, Stream};
 ghost use Rattle.elfshow.specs.declared.show.RequestError.TheVariants.{OutOfMemory};
 
 use crate::calls::{Call, RunError, run_bytes, run_stream};
@@ -208,6 +208,12 @@ pub fn answer<F: FileSystem, W: Write>(
         IfSome (run_of result) (λ run. RanOver (opened any_is_little any_of_byte bytes)
         (λ file calls. text file.ehdr (object_file any_is_little file) (map question calls)) request.now.calls.items
         (W.contents out.old) (W.contents out.new) (F.can_fail files.now request.now.file.now) run)) }
+    ensures bytes { request.now.mode ≡ Bytes → IfSome (F.content files.now request.now.file.now) (λ bytes.
+        IfSome (run_of result) (λ run. IfErr run
+        (IsStopOfBytes (opened any_is_little any_of_byte bytes) (length request.now.calls.items)))) }
+    ensures both { request.now.mode ≡ Both → IfSome (F.content files.now request.now.file.now) (λ bytes.
+        IfSome (run_of result) (λ run. IfErr run
+        (IsStopOfBoth (opened any_is_little any_of_byte bytes) (length request.now.calls.items)))) }
     ensures unwritten { request.now.mode ≡ Both → IfSome (run_of result) (IsUnwritten out.old out.new) }
     ensures cause { IfErr result IsOfFile }
 {
@@ -266,8 +272,7 @@ pub fn run_both<W: Write>(
         Appends (W.contents out.old) (W.contents out.new)
         (shown_by Both (text file.ehdr (object_file any_is_little file) (map question calls.now))))) }
     ensures open { IfErr (opened any_is_little any_of_byte «data».now) (λ e. result ≡ Err (RunError.Open e)) }
-    ensures cause { IsOk (opened any_is_little any_of_byte «data».now) →
-        IfErr result (IsStopOfBoth (length calls.now)) }
+    ensures cause { IfErr result (IsStopOfBoth (opened any_is_little any_of_byte «data».now) (length calls.now)) }
     ensures stopped { IsUnwritten out.old out.new result }
     ensures refused { IsErr (opened any_is_little any_of_byte «data».now) → out.new ≡ out.old }
 {
