@@ -152,6 +152,13 @@ impl<'data, E: EndianParse> ElfBytes<'data, E> {
         })
     }
 
+    /// Returns the bytes of the whole file.
+    pub fn data(&self) -> &'data [u8]
+        ensures { result.now ≡ (view self.now).bytes }
+    {
+        self.data
+    }
+
     /// Returns the program headers, or `None` if the file declares none.
     pub fn segments(&self) -> Option<SegmentTable<'data, E>>
         ensures { option_map table_view result ≡ (view self.now).segments }

@@ -2,13 +2,14 @@
 ghost use Rattle.std.specs.Prelude.{◌≡◌, ◌||◌, false, IfErr, IfOk, OnOk, MatchOption, length};
 ghost use Rattle.std.specs.List.{list_any};
 ghost use Rattle.elf.specs.ElfBytes.{segment_list, view};
-ghost use Rattle.elf_uses.specs.LoadPlan.{ApartBefore, FitBefore, IsFirstOverlap, IsFirstUnfit, IsPlan, IsTrueOf};
-ghost use Rattle.elf_uses.specs.LoadPlan.{fits, mapping_of, mappings, meets, overlap};
+ghost use Rattle.elf_uses.specs.LoadPlan.{ApartBefore, IsFirstOverlap, IsPlan, IsTrueOf, LoadableBefore};
+ghost use Rattle.elf_uses.specs.LoadPlan.{fits, is_addressed, lies_in, mapping_of, mappings, meets, overlap};
 ghost use Rattle.elf_uses.specs.inner.Apart.{AreApart};
 ghost use Rattle.elf_uses.specs.declared.load_plan.Mapping.{Mapping};
 ghost use Rattle.elf_uses.specs.declared.load_plan.PlanError.TheVariants.{Memory as IsMemory};
 
 use elf::endian::EndianParse;
+use elf::file::Class;
 use elf::segment::ProgramHeader;
 use elf::{ElfBytes, abi};
 use std::alloc::{AllocError, Global};
@@ -32,6 +33,12 @@ pub enum PlanError {
     /// The mapping has more bytes in the file than in memory.
     #[error("mapping {mapping} has more bytes in the file than in memory")]
     FileSize { mapping: usize },
+    /// The bytes of the mapping do not lie in the file.
+    #[error("the bytes of mapping {mapping} do not lie in the file")]
+    OutsideFile { mapping: usize },
+    /// The mapping ends past the last address of the file's class.
+    #[error("mapping {mapping} ends past the last address")]
+    AddressSpace { mapping: usize },
     /// An address of the mapping also belongs to an earlier one.
     #[error("mapping {mapping} overlaps an earlier one")]
     Overlap { mapping: usize },
@@ -67,6 +74,24 @@ impl Mapping {
     {
         self.file_size <= self.memory_size
     }
+
+    // Whether these bytes lie in a file of this length.
+    fn lies_in(&self, len: usize) -> bool
+        ensures { result ≡ lies_in len self.now }
+    {
+        self.offset as u128 + self.file_size as u128 <= len as u128
+    }
+
+    // Whether addresses of this class reach to the end of the mapping.
+    fn is_addressed(&self, class: Class) -> bool
+        ensures { result ≡ is_addressed class self.now }
+    {
+        let end = self.address as u128 + self.memory_size as u128;
+        match class {
+            Class::ELF32 => end <= 1 << 32,
+            Class::ELF64 => end <= 1 << 64,
+        }
+    }
 }
 
 // The mappings of the segments of type `PT_LOAD`.
@@ -86,13 +111,19 @@ fn mappings<E: EndianParse>(
     }
 }
 
-// The first mapping that has more bytes in the file than in memory.
-fn first_unfit(all: &[Mapping]) -> Option<usize>
-    ensures { MatchOption result (FitBefore all.now (length all.now)) (IsFirstUnfit all.now) }
+// What is wrong with the first mapping that is not loadable, in a file of this class and length.
+fn first_fault(class: Class, len: usize, all: &[Mapping]) -> Option<PlanError>
+    ensures { MatchOption result (LoadableBefore class len all.now (length all.now)) (IsTrueOf class len all.now) }
 {
     for (place, mapping) in all.iter().enumerate() {
         if !mapping.fits() {
-            return Some(place);
+            return Some(PlanError::FileSize { mapping: place });
+        }
+        if !mapping.lies_in(len) {
+            return Some(PlanError::OutsideFile { mapping: place });
+        }
+        if !mapping.is_addressed(class) {
+            return Some(PlanError::AddressSpace { mapping: place });
         }
     }
     None
@@ -150,19 +181,23 @@ fn first_overlap(alloc: Global, all: &[Mapping]) -> Result<Option<usize>, AllocE
 
 /// Returns the mappings of the segments of type `PT_LOAD`, in order.
 ///
-/// Errors, in order: `Memory` if an allocation failed; `FileSize` with the first mapping that has more bytes in the
-/// file than in memory; `Overlap` with the first mapping that shares an address with an earlier one.
+/// Errors, in order: `Memory` if an allocation failed; of the first mapping for which one of them holds, `FileSize` if
+/// it has more bytes in the file than in memory, `OutsideFile` if its bytes do not lie in the file, and `AddressSpace`
+/// if it ends past the last address of the file's class; `Overlap` with the first mapping that shares an address with
+/// an earlier one.
 pub fn load_plan<E: EndianParse>(
     alloc: Global,
     file: &ElfBytes<'_, E>,
 ) -> Result<Vec<Mapping>, PlanError>
     ensures plan { let all = mappings (segment_list (view file.now).segments) in
-        IfOk result (λ plan. (plan.items ≡ all) × IsPlan all) }
-    ensures refused { IfErr result (IsTrueOf (mappings (segment_list (view file.now).segments))) }
+        IfOk result (λ plan. (plan.items ≡ all) × IsPlan file.now.ehdr.class (length (view file.now).bytes) all) }
+    ensures refused { let all = mappings (segment_list (view file.now).segments) in
+        IfErr result (IsTrueOf file.now.ehdr.class (length (view file.now).bytes) all) }
 {
     let plan = mappings(alloc, file)?;
-    if let Some(mapping) = first_unfit(plan.as_slice()) {
-        return Err(PlanError::FileSize { mapping });
+    let len = file.data().len();
+    if let Some(fault) = first_fault(file.ehdr.class, len, plan.as_slice()) {
+        return Err(fault);
     }
     if let Some(mapping) = first_overlap(alloc, plan.as_slice())? {
         return Err(PlanError::Overlap { mapping });
