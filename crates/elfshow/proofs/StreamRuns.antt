@@ -425,6 +425,18 @@ module _ {E T Y X : Type 0} (little : E → Bool) (call : Question) (old new : S
       (λ ready. subst (λ o. AreCached old (if_there ranges o)) there (cached ready))
       leaves is
 
+  pub segment_written : (ranges : ProgramHeader → List (ℕ × ℕ)) (i : ℕ) (p : ProgramHeader) (answer : ObjectFile → ProgramHeader → Result Y ParseError) (whole : Result T ParseError) (x : T) (written : List ℕ) (before after : Option (List ℕ)) (w : Result (Unit {0}) X)
+      → ((bytes : List ℕ) → stream_answer little old bytes call ≡ unless_absent (λ p. ok_map line (answer (stream_file little old bytes) p)) (slice_get old.headers.segments i))
+      → call_ranges little old call ≡ if_there ranges (slice_get old.headers.segments i)
+      → slice_get old.headers.segments i ≡ Some p → Leaves (ranges p) shown (λ bytes. answer (stream_file little old bytes) p) old new whole → whole ≡ Ok x → line (shown x) ≡ written → OnOk w (Appends before after written) → TriedCall little call old new before after (Ok w)
+  segment_written ranges i p answer whole x written before after w texts requested there leaves is text wrote =
+      let found = λ (bytes : List ℕ) (e : answer (stream_file little old bytes) p ≡ Ok (shown x)).
+      texts bytes ∙ ap (unless_absent (λ p. ok_map line (answer (stream_file little old bytes) p))) there ∙ ap (ok_map line) e ∙ ap Ok text in
+      let cached = subst (λ rs. OnOk whole (AreCached new rs)) (sym (requested ∙ ap (if_there ranges) there)) leaves.loaded in
+      call_written little call old new shown (λ bytes. answer (stream_file little old bytes) p) whole x written before after w
+      (everywhere old.content (λ bytes. answer (stream_file little old bytes) p ≡ Ok (shown x) → stream_answer little old bytes call ≡ Ok written) found)
+      (record { keeps = leaves.keeps; loaded = cached; answers = leaves.answers }) is wrote
+
 -- ---- a section that is checked
 
 pub apart_refused : {A B C D P : Type 0} (a : Result A ParseError) (p : A → P) (b : Result B ParseError) (k : P → B → C) (m : P → B → Result D ParseError)
