@@ -368,6 +368,23 @@ gives_made old new requested shown answer shows made whole e same is gives =
     let answers = subst (λ w. IfSome old.content (λ bytes. IsAnswer shown (answer bytes) old.can_fail old.failures new.failures w)) is gives.answers in
     record { keeps = gives.keeps; loaded = tt; answers = made_answers old.content shown answer shows made old.failures new.failures old.can_fail e same answers }
 
+answers_refused : {T Y U Z : Type 0} (known : Option (List ℕ)) (shown : T → Y) (answer : List ℕ → Result Y ParseError) (shows : U → Z) (made : List ℕ → Result Z ParseError) (before now : ℕ) (can_fail : Bool) (e : ParseError) → ((bytes : List ℕ) → IsErr (answer bytes) → IsErr (made bytes))
+    → IfSome known (λ bytes. IsAnswer shown (answer bytes) can_fail before now (Err e)) → IfSome known (λ bytes. IsAnswer shows (made bytes) can_fail before now (Err e))
+answers_refused None shown answer shows made before now can_fail e so h = tt
+answers_refused (Some bytes) shown answer shows made before now can_fail e so h = refused_by (kind e) (IsErr (answer bytes)) (IsErr (made bytes)) before now can_fail (so bytes) h
+
+-- what is made of an answer is refused where the answer is
+pub gives_refused : {E T Y U Z : Type 0} (old new : Seen E) (requested asked : List (ℕ × ℕ)) (shown : T → Y) (answer : List ℕ → Result Y ParseError) (shows : U → Z) (made : List ℕ → Result Z ParseError) (whole : Result T ParseError) (e : ParseError) → ((bytes : List ℕ) → IsErr (answer bytes) → IsErr (made bytes))
+    → whole ≡ Err e → Gives requested shown answer old new whole → Gives asked shows made old new (Err e)
+gives_refused old new requested asked shown answer shows made whole e so is gives =
+    let answers = subst (λ w. IfSome old.content (λ bytes. IsAnswer shown (answer bytes) old.can_fail old.failures new.failures w)) is gives.answers in
+    record { keeps = gives.keeps; loaded = tt; answers = answers_refused old.content shown answer shows made old.failures new.failures old.can_fail e so answers }
+
+pub second_refused : {A B C : Type 0} (a : Result A ParseError) (b : Result B ParseError) (f : A → B → Result C ParseError) → IsErr b → IsErr (a >>= λ x. b >>= f x)
+second_refused (Ok x) (Ok y) f h = cc
+second_refused (Ok x) (Err e) f h = refl
+second_refused (Err d) b f h = refl
+
 pub ok_of_map : {A B : Type 0} (f : A → B) (x : Result A ParseError) → is_ok (ok_map f x) ≡ is_ok x
 ok_of_map f (Ok a) = refl
 ok_of_map f (Err e) = refl
