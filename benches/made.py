@@ -255,6 +255,28 @@ def unterminated_names(count):
     return made
 
 
+DT_NEEDED, DT_STRTAB, DT_STRSZ = 1, 5, 10
+
+
+def needing_one_name(count):
+    """Dynamic entries that all need the library of one name, which is as long as the entries are. A loaded segment has the
+    string table."""
+    made = Made()
+    strings = b"a" * (16 * count) + b"\0"
+    made.add(b".strings", SHT_PROGBITS, strings)
+    entries = [(DT_STRTAB, 0), (DT_STRSZ, len(strings))] + [(DT_NEEDED, 0)] * count + [(0, 0)]
+    made.add(b".dynamic", SHT_DYNAMIC, b"".join(struct.pack("<qQ", *entry) for entry in entries), 0, 0, 16)
+    return made
+
+
+def segments_in_mixed_order(count):
+    """A file of `count` loaded segments of one byte each, in no order of their addresses."""
+    place = 64 + 56 * count
+    addresses = [0x1000 + 2 * (k * 7919 % count) for k in range(count)]
+    headers = b"".join(struct.pack("<IIQQQQQQ", PT_LOAD, 4, place, each, each, 1, 1, 1) for each in addresses)
+    return file_header(64, count, 0, 0, 0) + headers + b"\0"
+
+
 def only(add, count):
     """A file of `count` entries of one kind."""
     made = Made()

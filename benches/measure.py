@@ -22,6 +22,13 @@ def built():
     return BUILT
 
 
+def built_callers():
+    """The program with the example callers."""
+    crate = os.path.join(TOP, "crates", "elf_uses")
+    subprocess.run(["rt", "run"], cwd=crate, stdout=subprocess.DEVNULL)
+    return os.path.join(crate, "out", "elf_uses")
+
+
 def build_library_times(folder):
     """The program that calls the library, beside a copy of the crates that it uses, with their outputs."""
     with open(os.path.join(HERE, "library_times", "uses.txt")) as file:

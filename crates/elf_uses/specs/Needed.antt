@@ -1,11 +1,10 @@
 -- The names by which the dynamic linker finds a file and the libraries that it needs (gABI, chapter "Dynamic Section"),
 -- and what is answered of them over a stream.
 use Rattle.std.specs.Prelude.{◌≡◌, ℕ, ◌+◌, ◌-◌, ◌^◌, ◌==◌, ◌&&◌, nat_le, nat_lt, not, Bool, ℤ, List, [], ◌∷◌, map}
-use Rattle.std.specs.Prelude.{filter}
+use Rattle.std.specs.Prelude.{filter, take, drop}
 use Rattle.std.specs.Prelude.{Option, Some, None, Result, Ok, Err, IfSome, ok_or}
 use Rattle.std.specs.List.{find, take_while}
 use Rattle.std.specs.Option.{option_map}
-use Rattle.std.specs.Vec.{vec_items}
 use Rattle.elf_abi.specs.Values.{dt_needed, dt_null, dt_rpath, dt_runpath, dt_soname, dt_strsz, dt_strtab, pt_load}
 use Rattle.elf_parts.specs.Dynamic.{d_un_view, dyn_reads, has_tag}
 use Rattle.elf_parts.specs.Number.{ok_map}
@@ -18,9 +17,11 @@ use Rattle.elf_parts.specs.declared.segment.ProgramHeader.{ProgramHeader}
 use Rattle.elf.specs.Answers.{dynamic, segment_data}
 use Rattle.elf.specs.ElfStream.{IsRefused, Keeps, Seen, kind}
 use Rattle.elf.specs.ObjectFile.{ObjectFile}
+use Rattle.elf_uses.specs.declared.needed.Name.{Name}
 use Rattle.elf_uses.specs.declared.needed.Names.{Names}
 use Rattle.elf_uses.specs.declared.needed.NamesError.{NamesError}
-use Rattle.elf_uses.specs.declared.needed.NamesError.TheVariants.{Memory, Name, NoAddress, NoSize, NotLoaded, Read}
+use Rattle.elf_uses.specs.declared.needed.NamesError.TheVariants.{Memory, NoAddress, NoSize, NotLoaded, Read}
+use Rattle.elf_uses.specs.declared.needed.NamesError.TheVariants.{Name as Unnamed}
 
 -- the same value, or another error
 abbrev pub or_error : {A : Type 0} → (ParseError → NamesError) → Result A ParseError → Result A NamesError
@@ -68,7 +69,7 @@ string_part segments entries =
 -- ---- the names: the number of an entry is the offset of its string in the string table
 
 abbrev pub name_of : List ℕ → Dyn → Result (List ℕ) NamesError
-name_of strings entry = or_error Name (string_at strings (d_un_view entry))
+name_of strings entry = or_error Unnamed (string_at strings (d_un_view entry))
 
 -- the name of the first entry with a tag
 abbrev pub first_name : List ℕ → ℤ → List Dyn → Result (Option (List ℕ)) NamesError
@@ -97,14 +98,20 @@ names_in strings entries =
     first_name strings dt_runpath entries >>= λ runpath. first_name strings dt_rpath entries >>= λ rpath.
     Ok (record { soname = soname; needed = needed; runpath = runpath; rpath = rpath })
 
+-- the bytes of a name in the string table
+abbrev pub name_bytes : List ℕ → Name → List ℕ
+name_bytes strings name = take name.len (drop name.start strings)
+
 -- what the result shows
 abbrev pub names_view : Names → Named
-names_view n = record {
-  soname = option_map vec_items n.soname;
-  needed = map vec_items n.needed.items;
-  runpath = option_map vec_items n.runpath;
-  rpath = option_map vec_items n.rpath;
-}
+names_view n =
+    let bytes = name_bytes n.strings.items in
+    record {
+      soname = option_map bytes n.soname;
+      needed = map bytes n.needed.items;
+      runpath = option_map bytes n.runpath;
+      rpath = option_map bytes n.rpath;
+    }
 
 -- the answer, or an allocation failed; nothing is read from a stream
 abbrev pub IsGiven : {T Y : Type 0} → (T → Y) → Result Y NamesError → Result T NamesError → Type 0

@@ -18,7 +18,7 @@ use thiserror::Error;
 
 /// Bytes of the file that are mapped into memory from an address on; the rest of the memory is 0. Offsets and sizes are
 /// in bytes.
-#[derive(Debug, Clone, Copy, PartialEq, Eq)]
+#[derive(Debug, Clone, Copy)]
 pub struct Mapping {
     pub address: u64,
     pub memory_size: u64,

@@ -1,16 +1,15 @@
 //! The names by which the dynamic linker finds a file and the libraries that it needs.
 ghost use Rattle.std.specs.Prelude.{◌≡◌, IfOk, IsTrue, map, option_copied};
-ghost use Rattle.std.specs.Vec.{vec_items};
 ghost use Rattle.std.specs.List.{find};
 ghost use Rattle.std.specs.Option.{option_map};
 ghost use Rattle.elf_parts.specs.Dynamic.{has_tag};
-ghost use Rattle.elf_parts.specs.StringTable.{strings_view};
+ghost use Rattle.elf_parts.specs.Number.{ok_map};
 ghost use Rattle.elf_parts.specs.Table.{table_view};
 ghost use Rattle.elf.specs.StreamFile.{stream_file};
 ghost use Rattle.elf_uses.specs.Needed.{GivesNames, IsGiven};
 ghost use Rattle.elf_uses.specs.Needed.{all_names, entries_in, entries_of, first_entry, first_name};
-ghost use Rattle.elf_uses.specs.Needed.{holds, name_of, names, names_by, names_in, names_of_part, names_view};
-ghost use Rattle.elf_uses.specs.Needed.{part_of, string_part};
+ghost use Rattle.elf_uses.specs.Needed.{holds, name_bytes, name_of, names, names_by, names_in, names_of_part};
+ghost use Rattle.elf_uses.specs.Needed.{names_view, part_of, string_part};
 ghost use Rattle.elf_uses.specs.declared.needed.NamesError.TheVariants.{Memory as IsMemory};
 
 use elf::dynamic::{Dyn, DynamicTable};
@@ -21,16 +20,36 @@ use elf::{ElfStream, ParseError, StreamSource, abi};
 use std::alloc::{AllocError, AllocFailed, Allocator, Global};
 use thiserror::Error;
 
-/// The names that the dynamic entries of a file give, as bytes.
+/// A name in the string table of a file: its offset and its length, in bytes. `Names::bytes` returns its bytes.
+#[derive(Debug, Clone, Copy)]
+pub struct Name {
+    start: usize,
+    len: usize,
+}
+
+/// The names that the dynamic entries of a file give, in one copy of its string table. Many entries may name one long
+/// string, so the names themselves are not copied.
 #[derive(Debug, Drop)]
 pub struct Names {
+    strings: Vec<u8>,
     /// The file's own name, by its first entry `DT_SONAME`.
-    pub soname: Option<Vec<u8>>,
+    pub soname: Option<Name>,
     /// The libraries that it needs, by its entries `DT_NEEDED`, in order.
-    pub needed: Vec<Vec<u8>>,
+    pub needed: Vec<Name>,
     /// The search paths of libraries, by its first entry `DT_RUNPATH` and by its first entry `DT_RPATH`.
-    pub runpath: Option<Vec<u8>>,
-    pub rpath: Option<Vec<u8>>,
+    pub runpath: Option<Name>,
+    pub rpath: Option<Name>,
+}
+
+impl Names {
+    /// Returns the bytes of a name. Of a name of another file it returns those that lie there, possibly none.
+    pub fn bytes(&self, name: &Name) -> &[u8]
+        ensures { result.now ≡ name_bytes self.now.strings.items name.now }
+    {
+        let start = name.start.min(self.strings.len());
+        let len = name.len.min(self.strings.len() - start);
+        &self.strings[start..start + len]
+    }
 }
 
 /// Why the names of a file are not available.
@@ -151,27 +170,26 @@ fn string_part(segments: &[ProgramHeader], entries: &[Dyn]) -> Result<ProgramHea
     }
 }
 
-// A copy of the string that an entry names.
-fn name_of(alloc: Global, strings: &StringTable<'_>, entry: &Dyn) -> Result<Vec<u8>, NamesError>
-    ensures { IsGiven vec_items (name_of (strings_view strings.now) entry.now) result }
+// The string that an entry names.
+fn name_of(strings: &[u8], entry: &Dyn) -> Result<Name, NamesError>
+    ensures { ok_map (name_bytes strings.now) result ≡ name_of strings.now entry.now }
 {
-    match strings.get_raw(entry.d_val() as usize) {
-        Ok(name) => Ok(Vec::from_slice(alloc, name)?),
+    let start = entry.d_val() as usize;
+    match StringTable::new(strings).get_raw(start) {
+        Ok(name) => Ok(Name {
+            start,
+            len: name.len(),
+        }),
         Err(error) => Err(NamesError::Name(error)),
     }
 }
 
 // The string that the first entry with a tag names.
-fn first_name(
-    alloc: Global,
-    strings: &StringTable<'_>,
-    entries: &[Dyn],
-    tag: i64,
-) -> Result<Option<Vec<u8>>, NamesError>
-    ensures { IsGiven (option_map vec_items) (first_name (strings_view strings.now) tag entries.now) result }
+fn first_name(strings: &[u8], entries: &[Dyn], tag: i64) -> Result<Option<Name>, NamesError>
+    ensures { ok_map (option_map (name_bytes strings.now)) result ≡ first_name strings.now tag entries.now }
 {
     match first_entry(entries, tag) {
-        Some(entry) => match name_of(alloc, strings, entry) {
+        Some(entry) => match name_of(strings, entry) {
             Ok(name) => Ok(Some(name)),
             Err(error) => Err(error),
         },
@@ -182,31 +200,33 @@ fn first_name(
 // The strings that the entries with a tag name, in order.
 fn all_names(
     alloc: Global,
-    strings: &StringTable<'_>,
+    strings: &[u8],
     entries: &[Dyn],
     tag: i64,
-) -> Result<Vec<Vec<u8>>, NamesError>
-    ensures { IsGiven (λ names. map vec_items names.items)
-        (all_names (strings_view strings.now) tag entries.now) result }
+) -> Result<Vec<Name>, NamesError>
+    ensures { IsGiven (λ names. map (name_bytes strings.now) names.items)
+        (all_names strings.now tag entries.now) result }
 {
     let mut names = Vec::new(alloc);
     for entry in entries {
         if has_tag(entry, tag) {
-            names.push(name_of(alloc, strings, entry)?)?;
+            names.push(name_of(strings, entry)?)?;
         }
     }
     Ok(names)
 }
 
-// The names that the entries give in a string table.
-fn names_in(alloc: Global, strings: &StringTable<'_>, entries: &[Dyn]) -> Result<Names, NamesError>
-    ensures { IsGiven names_view (names_in (strings_view strings.now) entries.now) result }
+// The names that the entries give in a string table, with a copy of it.
+fn names_in(alloc: Global, table: &[u8], entries: &[Dyn]) -> Result<Names, NamesError>
+    ensures { IsGiven names_view (names_in table.now entries.now) result }
 {
-    let soname = first_name(alloc, strings, entries, abi::DT_SONAME)?;
-    let needed = all_names(alloc, strings, entries, abi::DT_NEEDED)?;
-    let runpath = first_name(alloc, strings, entries, abi::DT_RUNPATH)?;
-    let rpath = first_name(alloc, strings, entries, abi::DT_RPATH)?;
+    let strings = Vec::from_slice(alloc, table)?;
+    let soname = first_name(&strings, entries, abi::DT_SONAME)?;
+    let needed = all_names(alloc, &strings, entries, abi::DT_NEEDED)?;
+    let runpath = first_name(&strings, entries, abi::DT_RUNPATH)?;
+    let rpath = first_name(&strings, entries, abi::DT_RPATH)?;
     Ok(Names {
+        strings,
         soname,
         needed,
         runpath,
@@ -241,7 +261,7 @@ fn names_of_part<E: EndianParse, S: StreamSource, A: Allocator + Copy>(
         stream.old stream.new result }
 {
     match stream.segment_data(part) {
-        Ok(bytes) => names_in(alloc, &StringTable::new(bytes), entries),
+        Ok(bytes) => names_in(alloc, bytes, entries),
         Err(error) => Err(NamesError::Read(error)),
     }
 }

@@ -1,5 +1,5 @@
 //! The results of `needed`, as lines.
-use crate::needed::{Names, NamesError, dynamic_names};
+use crate::needed::{Name, Names, NamesError, dynamic_names};
 use elf::endian::AnyEndian;
 use elf::{ElfStream, FileSource, MemSource, ParseError, StreamSource};
 use std::alloc::Global;
@@ -54,19 +54,24 @@ fn is_empty(names: &Names) -> bool {
 }
 
 fn print_all<W: Write>(out: &mut W, names: &Names) -> io::Result<()> {
-    print_one(out, "soname ", names.soname.as_ref())?;
+    print_one(out, "soname ", names, names.soname.as_ref())?;
     for library in &names.needed {
-        print_one(out, "needed ", Some(library))?;
+        print_one(out, "needed ", names, Some(library))?;
     }
-    print_one(out, "runpath ", names.runpath.as_ref())?;
-    print_one(out, "rpath ", names.rpath.as_ref())
+    print_one(out, "runpath ", names, names.runpath.as_ref())?;
+    print_one(out, "rpath ", names, names.rpath.as_ref())
 }
 
-fn print_one<W: Write>(out: &mut W, word: &str, name: Option<&Vec<u8>>) -> io::Result<()> {
+fn print_one<W: Write>(
+    out: &mut W,
+    word: &str,
+    names: &Names,
+    name: Option<&Name>,
+) -> io::Result<()> {
     let Some(name) = name else {
         return Ok(());
     };
     out.write_all(word.as_bytes())?;
-    out.write_all(name.as_slice())?;
+    out.write_all(names.bytes(name))?;
     writeln!(out)
 }

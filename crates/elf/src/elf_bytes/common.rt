@@ -1,10 +1,12 @@
 //! The sections that are looked up most often, found in one pass.
-ghost use Rattle.std.specs.Prelude.{◌≡◌};
+ghost use Rattle.std.specs.Prelude.{◌≡◌, []};
 ghost use Rattle.elf_parts.specs.Number.{ok_map};
 ghost use Rattle.elf_parts.specs.GnuFind.{gnu_view};
 ghost use Rattle.elf_parts.specs.SysvFind.{sysv_view};
+ghost use Rattle.elf.specs.Common.{common_view, last_of_each};
 ghost use Rattle.elf.specs.ObjectFile.{object_file};
 ghost use Rattle.elf.specs.ElfBytes.{view};
+ghost use Rattle.elf.specs.declared.elf_bytes.common.CommonElfData.{CommonElfData};
 
 use super::ElfBytes;
 use super::data::section_range;
@@ -37,8 +39,16 @@ pub struct CommonElfData<'data, E: EndianParse> {
     pub gnu_hash: Option<GnuHashTable<'data, E>>,
 }
 
+impl<E: EndianParse> CommonElfData<'static, E> {
+    /// States that the default has nothing: each of its fields is `None`.
+    pub fn default_has_nothing()
+        ensures { (found : CommonElfData E) → ⟦<CommonElfData<'static, E> as Default>⟧.is_default found
+            → common_view found ≡ last_of_each [] }
+    {}
+}
+
 impl<'data, E: EndianParse> ElfBytes<'data, E> {
-    ghost use Rattle.elf.specs.Common.{common_of_sections, common_part, common_view, find_common_data};
+    ghost use Rattle.elf.specs.Common.{common_of_sections, common_part, find_common_data};
     ghost use Rattle.elf.specs.Common.{gnu_hash_table_of, sysv_hash_table_of};
     ghost use Rattle.elf.specs.inner.Passes.{with_part};
 

@@ -1,7 +1,5 @@
 use Rattle.std.proofs.Common.{◌≡◌, ◌++◌, List, ℕ, map, drop, Result, Ok, Err}
-use Rattle.std.specs.Vec.{vec_items}
-use Rattle.elf_parts.specs.StringTable.{strings_view}
-use Rattle.elf_uses.specs.Needed.{all_names}
+use Rattle.elf_uses.specs.Needed.{all_names, name_bytes}
 use Rattle.elf_uses.specs.declared.needed.NamesError.{NamesError}
 use Rattle.elf_uses.proofs.needed.all_names.Given as goal
 
@@ -13,5 +11,5 @@ then_names names (Err e) = Err e
 -- with the names of the entries that are left, the names so far are all
 abbrev pub invariant-loop-entry : goal.invariant-loop-entry
 invariant-loop-entry l =
-    let names = all_names (strings_view l.strings) l.tag in
-    names l.entries ≡ then_names (map vec_items l.names.items) (names (drop l.entry-index l.entries))
+    let names = all_names l.strings l.tag in
+    names l.entries ≡ then_names (map (name_bytes l.strings) l.names.items) (names (drop l.entry-index l.entries))

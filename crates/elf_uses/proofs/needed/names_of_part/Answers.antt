@@ -12,4 +12,4 @@ returns-in-Ok g c =
     tells_made old c.segment_data.follows.lender-at-none (segment_ranges c.args.part.now) (λ part. part.now)
     (λ bytes. segment_data (file bytes) c.args.part.now) c.segment_data.result c.in-Ok.bytes names_view
     (λ strings. names_in strings c.args.entries.now) c.names_in.result
-    c.segment_data.follows.holds-at-none c.in-Ok.is (rw c.new.ensures at c.names_in.ensures)
+    c.segment_data.follows.holds-at-none c.in-Ok.is c.names_in.ensures
