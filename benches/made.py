@@ -119,11 +119,14 @@ def sysv_hash(name):
     return value
 
 
-def gnu_hash(name):
-    value = 5381
+def gnu_hash_behind(value, name):
     for byte in name:
         value = (33 * value + byte) & 0xFFFFFFFF
     return value
+
+
+def gnu_hash(name):
+    return gnu_hash_behind(5381, name)
 
 
 def sysv_section(names):
@@ -244,6 +247,34 @@ def sharing_needs(count):
     )
     entries = b"".join(struct.pack("<IHHII", 7, 0, 2, 1, 16 if k + 1 < count else 0) for k in range(count))
     made.add(b".gnu.version_r", SHT_GNU_VERNEED, needs + entries, strings, count)
+    return made
+
+
+def sharing_names(count):
+    """Symbols whose names are the ends of one string of 24 bytes for each symbol, and both hash sections over them, which
+    are sound and have one bucket."""
+    made = Made()
+    length = 24 * count
+    symbols = bytes(24) + b"".join(struct.pack("<IBBHQQ", 1 + k, 0x12, 0, 1, 0x401000, 16) for k in range(count))
+    strings = made.add(b".dynstr", SHT_STRTAB, b"\0" + b"a" * length + b"\0")
+    dynsym = made.add(b".dynsym", SHT_DYNSYM, symbols, strings, 1, 24)
+    chains = [0] + [(k + 1) % (count + 1) for k in range(1, count + 1)]
+    made.add(b".hash", SHT_HASH, struct.pack(f"<III{len(chains)}I", 1, len(chains), 1, *chains), dynsym, 0, 4)
+    value = gnu_hash(b"a" * (length - count))
+    hashes = [value := gnu_hash_behind(value, b"a") for _ in range(count)]
+    words = [each & ~1 | (k + 1 == count) for k, each in enumerate(reversed(hashes))]
+    made.add(b".gnu.hash", SHT_GNU_HASH, struct.pack(f"<IIIIQI{count}I", 1, 1, 1, 6, 2**64 - 1, 1, *words), dynsym)
+    return made
+
+
+def long_version_name(count):
+    """Symbols of one version, whose name is not UTF-8 and has 24 bytes for each symbol."""
+    made = Made()
+    add_symbols(made, count, SHT_DYNSYM)
+    strings = made.add(b".verstr", SHT_STRTAB, b"\0libneeded.so\0" + b"a" * (24 * count) + b"\xff\0")
+    made.add(b".gnu.version", SHT_GNU_VERSYM, struct.pack("<H", 2) * count, made.first(SHT_DYNSYM), 0, 2)
+    need = struct.pack("<HHIII", 1, 1, 1, 16, 0) + struct.pack("<IHHII", 7, 0, 2, 14, 0)
+    made.add(b".gnu.version_r", SHT_GNU_VERNEED, need, strings, 1)
     return made
 
 

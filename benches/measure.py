@@ -25,7 +25,7 @@ def built():
 def built_callers():
     """The program with the example callers."""
     crate = os.path.join(TOP, "crates", "elf_uses")
-    subprocess.run(["rt", "run"], cwd=crate, stdout=subprocess.DEVNULL)
+    subprocess.run(["rt", "run"], cwd=crate, stdout=subprocess.DEVNULL, stderr=subprocess.DEVNULL)
     return os.path.join(crate, "out", "elf_uses")
 
 
