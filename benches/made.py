@@ -6,6 +6,7 @@ SHT_REL, SHT_DYNSYM, SHT_GNU_HASH = 9, 11, 0x6FFFFFF6
 SHT_GNU_VERDEF, SHT_GNU_VERNEED, SHT_GNU_VERSYM = 0x6FFFFFFD, 0x6FFFFFFE, 0x6FFFFFFF
 VER_FLG_BASE = 1
 PT_LOAD, PT_NOTE = 1, 4
+DT_NULL, DT_NEEDED, DT_STRTAB, DT_STRSZ = 0, 1, 5, 10
 
 
 # A section header: name, type, flags, address, offset, size, link, info, alignment, size of an entry.
@@ -120,6 +121,7 @@ def sysv_hash(name):
 
 
 def gnu_hash_behind(value, name):
+    """The hash of a name that goes on behind one with this hash."""
     for byte in name:
         value = (33 * value + byte) & 0xFFFFFFFF
     return value
@@ -286,16 +288,13 @@ def unterminated_names(count):
     return made
 
 
-DT_NEEDED, DT_STRTAB, DT_STRSZ = 1, 5, 10
-
-
 def needing_one_name(count):
     """Dynamic entries that all need the library of one name, which is as long as the entries are. A loaded segment has the
     string table."""
     made = Made()
     strings = b"a" * (16 * count) + b"\0"
     made.add(b".strings", SHT_PROGBITS, strings)
-    entries = [(DT_STRTAB, 0), (DT_STRSZ, len(strings))] + [(DT_NEEDED, 0)] * count + [(0, 0)]
+    entries = [(DT_STRTAB, 0), (DT_STRSZ, len(strings))] + [(DT_NEEDED, 0)] * count + [(DT_NULL, 0)]
     made.add(b".dynamic", SHT_DYNAMIC, b"".join(struct.pack("<qQ", *entry) for entry in entries), 0, 0, 16)
     return made
 
