@@ -1,15 +1,12 @@
 -- What is found passes the test; and what two calls of a stream, one after the other, tell.
-use Rattle.std.proofs.Common.{◌≡◌, ℕ, ◌==◌, if◌then◌else◌, Bool, true, false, List, [], ◌∷◌, length, take, drop, Result, Ok, Err, Option, Some, None, refl, ap, sym, subst, ◌∙◌, arith}
-use Rattle.std.proofs.lemmas.List.{length-take, take_min}
-use Rattle.std.specs.Prelude.{IfSome, cond, nat_lt, ok_or, position}
+use Rattle.std.proofs.Common.{◌≡◌, ℕ, Bool, true, false, List, [], ◌∷◌, Result, Ok, Err, Option, Some, None, refl, ap, sym, subst, ◌∙◌, arith}
+use Rattle.std.specs.Prelude.{IfSome, cond}
 use Rattle.std.specs.List.{find}
 use Rattle.std.specs.Option.{option_map}
 use Rattle.elf_parts.specs.Number.{ok_map}
 use Rattle.elf_parts.specs.Record.{◌>>=◌}
 use Rattle.elf_parts.specs.declared.dynamic.Dyn.{Dyn}
-use Rattle.elf_parts.specs.StringTable.{string_at}
 use Rattle.elf_parts.specs.declared.parse.ParseError.{ParseError}
-use Rattle.elf_parts.specs.declared.parse.ParseError.TheVariants.{BadOffset, StringTableMissingNul}
 use Rattle.elf.specs.ElfStream.{IsAnswer, IsRefused, Keeps, Kind, Leaves, Seen, kind}
 use Rattle.elf.specs.StreamFile.{stream_file}
 use Rattle.elf_uses.specs.Needed.{IsGiven, IsNamesAnswer, IsUnreadable, GivesNames, entries_of, if_some, names, names_by, names_view, or_error}
@@ -27,26 +24,6 @@ found_or p false y x rest is later e = later e
 pub found_passes : {X : Type 0} (p : X → Bool) (xs : List X) (x : X) → find p xs ≡ Some x → p x ≡ true
 found_passes p [] x e = cc
 found_passes p (y ∷ ys) x e = found_or p (p y) y x (find p ys) refl (λ f. found_passes p ys x f) e
-
--- ---- a string is the part of its table that has its offset and its length
-
-part_found : (rest string : List ℕ) (found : Option ℕ) (e : ParseError) → ok_or (option_map (λ n. take n rest) found) e ≡ Ok string → take (length string) rest ≡ string
-part_found rest string (Some n) e is =
-    let same : take n rest ≡ string = cc in
-    subst (λ (s : List ℕ). take (length s) rest ≡ s) same (ap (λ (m : ℕ). take m rest) (length-take n rest) ∙ take_min n rest)
-part_found rest string None e is = cc
-
-let_through : {A : Type 0} (a b : Bool) (d e : ParseError) (r : Result A ParseError) (x : A) → (if a then Err d else if b then Err e else r) ≡ Ok x → r ≡ Ok x
-let_through true b d e r x h = cc
-let_through false true d e r x h = cc
-let_through false false d e r x h = h
-
-pub string_is_part : (bytes : List ℕ) (o : ℕ) (string : List ℕ) → string_at bytes o ≡ Ok string → take (length string) (drop o bytes) ≡ string
-unfolding string_at
-string_is_part bytes o string h =
-    let found = position (λ byte. byte == 0) (drop o bytes) in
-    part_found (drop o bytes) string found (StringTableMissingNul o)
-    (let_through (length bytes == 0) (nat_lt (length bytes) o) (BadOffset o) (BadOffset o) (ok_or (option_map (λ n. take n (drop o bytes)) found) (StringTableMissingNul o)) string h)
 
 -- ---- a call of a stream, and what is made of what it gave
 

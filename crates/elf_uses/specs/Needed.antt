@@ -1,10 +1,11 @@
 -- The names by which the dynamic linker finds a file and the libraries that it needs (gABI, chapter "Dynamic Section"),
 -- and what is answered of them over a stream.
 use Rattle.std.specs.Prelude.{◌≡◌, ℕ, ◌+◌, ◌-◌, ◌^◌, ◌==◌, ◌&&◌, nat_le, nat_lt, not, Bool, ℤ, List, [], ◌∷◌, map}
-use Rattle.std.specs.Prelude.{filter, take, drop}
+use Rattle.std.specs.Prelude.{filter, unwrap_or}
 use Rattle.std.specs.Prelude.{Option, Some, None, Result, Ok, Err, IfSome, ok_or}
 use Rattle.std.specs.List.{find, take_while}
 use Rattle.std.specs.Option.{option_map}
+use Rattle.std.specs.Result.{result_ok}
 use Rattle.elf_abi.specs.Values.{dt_needed, dt_null, dt_rpath, dt_runpath, dt_soname, dt_strsz, dt_strtab, pt_load}
 use Rattle.elf_parts.specs.Dynamic.{d_un_view, dyn_reads, has_tag}
 use Rattle.elf_parts.specs.Number.{ok_map}
@@ -98,9 +99,9 @@ names_in strings entries =
     first_name strings dt_runpath entries >>= λ runpath. first_name strings dt_rpath entries >>= λ rpath.
     Ok (record { soname = soname; needed = needed; runpath = runpath; rpath = rpath })
 
--- the bytes of a name in the string table
+-- the bytes of a name in the string table; none where no string is at its offset
 abbrev pub name_bytes : List ℕ → Name → List ℕ
-name_bytes strings name = take name.len (drop name.start strings)
+name_bytes strings name = unwrap_or (result_ok (string_at strings name.start)) []
 
 -- what the result shows
 abbrev pub names_view : Names → Named

@@ -15,20 +15,19 @@ ghost use Rattle.elf_uses.specs.declared.needed.NamesError.TheVariants.{Memory a
 use elf::dynamic::{Dyn, DynamicTable};
 use elf::endian::EndianParse;
 use elf::segment::ProgramHeader;
-use elf::string_table::StringTable;
+use elf::string_table::{StringTable, TerminatedStrings};
 use elf::{ElfStream, ParseError, StreamSource, abi};
 use std::alloc::{AllocError, AllocFailed, Allocator, Global};
 use thiserror::Error;
 
-/// A name in the string table of a file: its offset and its length, in bytes. `Names::bytes` returns its bytes.
+/// A name in the string table of a file, by its offset in bytes. `Names::bytes` returns its bytes.
 #[derive(Debug, Clone, Copy)]
 pub struct Name {
     start: usize,
-    len: usize,
 }
 
 /// The names that the dynamic entries of a file give, in one copy of its string table. Many entries may name one long
-/// string, so the names themselves are not copied.
+/// string, so a name is neither copied nor read to its end before its bytes are requested.
 #[derive(Debug, Drop)]
 pub struct Names {
     strings: Vec<u8>,
@@ -42,13 +41,15 @@ pub struct Names {
 }
 
 impl Names {
-    /// Returns the bytes of a name. Of a name of another file it returns those that lie there, possibly none.
+    /// Returns the bytes of a name, without the 0 byte that ends it. Of a name of another file it returns the string at
+    /// its offset, or no bytes if there is none. The time grows with the length of the name.
     pub fn bytes(&self, name: &Name) -> &[u8]
         ensures { result.now ≡ name_bytes self.now.strings.items name.now }
     {
-        let start = name.start.min(self.strings.len());
-        let len = name.len.min(self.strings.len() - start);
-        &self.strings[start..start + len]
+        match StringTable::new(&self.strings).get_raw(name.start) {
+            Ok(bytes) => bytes,
+            Err(_) => &[],
+        }
     }
 }
 
@@ -170,22 +171,23 @@ fn string_part(segments: &[ProgramHeader], entries: &[Dyn]) -> Result<ProgramHea
     }
 }
 
-// The string that an entry names.
-fn name_of(strings: &[u8], entry: &Dyn) -> Result<Name, NamesError>
+// The string that an entry names. Comparing it with the empty name gives the error, and reads at most one byte of it.
+fn name_of(strings: &TerminatedStrings<'_>, entry: &Dyn) -> Result<Name, NamesError>
     ensures { ok_map (name_bytes strings.now) result ≡ name_of strings.now entry.now }
 {
     let start = entry.d_val() as usize;
-    match StringTable::new(strings).get_raw(start) {
-        Ok(name) => Ok(Name {
-            start,
-            len: name.len(),
-        }),
+    match strings.is(start, &[]) {
+        Ok(_) => Ok(Name { start }),
         Err(error) => Err(NamesError::Name(error)),
     }
 }
 
 // The string that the first entry with a tag names.
-fn first_name(strings: &[u8], entries: &[Dyn], tag: i64) -> Result<Option<Name>, NamesError>
+fn first_name(
+    strings: &TerminatedStrings<'_>,
+    entries: &[Dyn],
+    tag: i64,
+) -> Result<Option<Name>, NamesError>
     ensures { ok_map (option_map (name_bytes strings.now)) result ≡ first_name strings.now tag entries.now }
 {
     match first_entry(entries, tag) {
@@ -200,7 +202,7 @@ fn first_name(strings: &[u8], entries: &[Dyn], tag: i64) -> Result<Option<Name>,
 // The strings that the entries with a tag name, in order.
 fn all_names(
     alloc: Global,
-    strings: &[u8],
+    strings: &TerminatedStrings<'_>,
     entries: &[Dyn],
     tag: i64,
 ) -> Result<Vec<Name>, NamesError>
@@ -220,13 +222,13 @@ fn all_names(
 fn names_in(alloc: Global, table: &[u8], entries: &[Dyn]) -> Result<Names, NamesError>
     ensures { IsGiven names_view (names_in table.now entries.now) result }
 {
-    let strings = Vec::from_slice(alloc, table)?;
+    let strings = TerminatedStrings::new(&StringTable::new(table));
     let soname = first_name(&strings, entries, abi::DT_SONAME)?;
     let needed = all_names(alloc, &strings, entries, abi::DT_NEEDED)?;
     let runpath = first_name(&strings, entries, abi::DT_RUNPATH)?;
     let rpath = first_name(&strings, entries, abi::DT_RPATH)?;
     Ok(Names {
-        strings,
+        strings: Vec::from_slice(alloc, table)?,
         soname,
         needed,
         runpath,
