@@ -5,7 +5,8 @@ pub mod Places
 pub mod Packed
 pub mod LinkedRecords
 pub mod Versions
-pub mod Indexed
+pub mod Placed
+pub mod Walked
 pub mod NoteLists
 pub mod NoteNames
 pub mod Multiples

@@ -9,7 +9,7 @@ use Rattle.elf_parts.specs.declared.parse.ParseError.{ParseError}
 use Rattle.elf_parts.specs.Record.{RecordType}
 use Rattle.elf_parts.specs.Table.{Table}
 use Rattle.elf_parts.specs.Link.{AreLinked, AreLongest, from_next, linked, links}
-use Rattle.elf_parts.specs.gnu_symver.Links.{links_in, next_start}
+use Rattle.elf_parts.specs.gnu_symver.Links.{front_then, links_in, next_start}
 
 module _ {A : Type 0} (record_at : Bool → Class → List ℕ → ℕ → Result A ParseError) (next : A → ℕ) where
   -- no record where there is to be none
@@ -33,6 +33,14 @@ module _ {A : Type 0} (record_at : Bool → Class → List ℕ → ℕ → Resul
       let less : suc n - 1 ≡ n = omega arith in
       rw (h, less) refl
 
+  -- the same of the first n records, the one behind it being at p
+  pub links_step : (t : Table) (n o p : ℕ) (x : A) → record_at t.little t.class t.bytes o ≡ Ok x →
+      ((m : ℕ) → links_in record_at next t m p ≡ from_next (next_start o (next x)) (links_in record_at next t m)) →
+      links_in record_at next t n o ≡ front_then n o (Some x) (links_in record_at next t (n - 1) p)
+  links_step t zero o p x h behind = links_none t o
+  links_step t (suc n) o p x h behind =
+      links_read t (suc n) o x (omega arith) h ∙ sym (ap (λ xs. (o, x) ∷ xs) (behind (suc n - 1)))
+
 module _ {A : Type 0} (reads : RecordType A) (next : A → ℕ) where
   past : (t : Table) (n o : ℕ) (r : Result A ParseError) → length t.bytes ≤ o →
       reads.record_at t.little t.class t.bytes o ≡ r →
@@ -48,6 +56,20 @@ module _ {A : Type 0} (reads : RecordType A) (next : A → ℕ) where
   unfolding links_in
   links_past t zero o end = refl
   links_past t (suc n) o end = past t n o (reads.record_at t.little t.class t.bytes o) end refl
+
+  -- the end of the data is as good as no next record
+  pub links_at_end : (t : Table) (n : ℕ) (place : Option ℕ) → place ≡ None →
+      links_in reads.record_at next t n (length t.bytes) ≡ from_next place (links_in reads.record_at next t n)
+  links_at_end t n None e = links_past t n (length t.bytes) (omega arith)
+  links_at_end t n (Some o) e = cc
+
+  -- nor, where no record can be read, is there one at the end
+  pub links_stop : (t : Table) (n o p : ℕ) (e : ParseError) → reads.record_at t.little t.class t.bytes o ≡ Err e →
+      p ≡ length t.bytes →
+      links_in reads.record_at next t n o ≡ front_then n o None (links_in reads.record_at next t (n - 1) p)
+  links_stop t zero o p e h end = links_none reads.record_at next t o
+  links_stop t (suc n) o p e h end =
+      links_refused reads.record_at next t (suc n) o e h ∙ sym (links_past t (suc n - 1) p (omega (arith, end)))
 
   next_few : (t : Table) (n o d : ℕ) → ((p : ℕ) → length (links_in reads.record_at next t n p) ≤ length t.bytes - p) →
       length (from_next (next_start o d) (links_in reads.record_at next t n)) ≤ length t.bytes - (o + 1)

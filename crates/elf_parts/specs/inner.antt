@@ -2,5 +2,5 @@ pub mod RecordLaws
 pub mod Running
 pub mod Part
 pub mod Terminated
-pub mod Indexed
 pub mod Placed
+pub mod Walked

@@ -1,6 +1,6 @@
 -- The linked records of version sections: each one gives the distance from its own start to the next one.
 use Rattle.std.specs.Prelude.{ℕ, ◌+◌, ◌^◌, if◌then◌else◌, ◌==◌, ◌||◌, nat_le, Bool, Option, Some, None}
-use Rattle.std.specs.Prelude.{List, map, Result}
+use Rattle.std.specs.Prelude.{List, [], ◌∷◌, map, Result, zero, suc}
 use Rattle.elf_parts.specs.Link.{links}
 use Rattle.elf_parts.specs.Table.{Table, table_in}
 use Rattle.elf_parts.specs.declared.file.Class.{Class}
@@ -21,6 +21,12 @@ module _ {A : Type 0} (record_at : Bool → Class → List ℕ → ℕ → Resul
 -- the records alone, without the offsets where they begin
 abbrev pub records_of : {A : Type 0} → List (ℕ × A) → List A
 records_of {A = A} list = map (λ (link : ℕ × A). link.1) list
+
+-- the first n records: that at the front, if there is one, and those behind it
+abbrev pub front_then : {A : Type 0} → ℕ → ℕ → Option A → List (ℕ × A) → List (ℕ × A)
+front_then zero o front behind = []
+front_then (suc n) o None behind = behind
+front_then (suc n) o (Some x) behind = (o, x) ∷ behind
 
 -- ---- what the struct shows
 

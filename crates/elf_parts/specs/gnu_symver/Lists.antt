@@ -7,6 +7,7 @@ use Rattle.elf_parts.specs.gnu_symver.Links.{links_in, links_left, links_view, r
 use Rattle.elf_parts.specs.gnu_symver.Records.{ver_def_aux_layout, ver_def_layout, ver_need_aux_layout, ver_need_layout}
 use Rattle.elf_parts.specs.declared.file.Class.{Class}
 use Rattle.elf_parts.specs.declared.gnu_symver.lists.AuxIterator.{AuxIterator}
+use Rattle.elf_parts.specs.declared.gnu_symver.links.Links.{Links}
 use Rattle.elf_parts.specs.declared.gnu_symver.lists.EntryIterator.{EntryIterator}
 use Rattle.elf_parts.specs.declared.gnu_symver.records.VerDef.{VerDef}
 use Rattle.elf_parts.specs.declared.gnu_symver.records.VerDefAux.{VerDefAux}
@@ -28,6 +29,10 @@ module _ {A : Type 0} (record_at : Bool → Class → List ℕ → ℕ → Resul
   -- those that an iterator has left to yield
   abbrev pub aux_left : {E : Type 0} → AuxIterator E A → List A
   aux_left s = records_of (links_left record_at distance s.links)
+
+  -- an entry with the links to its auxiliary entries, these taken as the list that they give
+  abbrev pub links_entry : {E V : Type 0} → V × Links E A → V × List A
+  links_entry item = (item.0, records_of (links_left record_at distance item.1))
 
   -- an item of the entries, its iterator taken as the list that it gives
   abbrev pub entry_view : {E V : Type 0} → V × AuxIterator E A → V × List A

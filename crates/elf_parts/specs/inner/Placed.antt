@@ -1,7 +1,6 @@
 -- Places of some version indexes, and the first entry with each.
-use Rattle.std.specs.Prelude.{◌≡◌, ◌<◌, ℕ, ⊤, length, List, Option, Some, None, MatchOption}
+use Rattle.std.specs.Prelude.{◌≡◌, ◌<◌, ℕ, ⊤, length, List, Option, Some, None, MatchOption, slice_index_or}
 use Rattle.std.specs.Option.{option_map}
-use Rattle.elf_parts.specs.inner.Indexed.{slot}
 use Rattle.elf_parts.specs.gnu_symver.Lists.{ver_defs_left}
 use Rattle.elf_parts.specs.gnu_symver.Table.{Definitions, Needs, defined_version, needed_of, needed_version}
 use Rattle.elf_parts.specs.declared.gnu_symver.records.VerDef.{VerDef}
@@ -10,6 +9,10 @@ use Rattle.elf_parts.specs.declared.gnu_symver.lists.EntryIterator.{EntryIterato
 use Rattle.elf_parts.specs.declared.gnu_symver.records.VerNeed.{VerNeed}
 use Rattle.elf_parts.specs.declared.gnu_symver.records.VerNeedAux.{VerNeedAux}
 use Rattle.elf_parts.specs.declared.gnu_symver.table.Needed.{Needed}
+
+-- what the place of an index holds, if it has a place
+abbrev pub slot : {X : Type 0} → List (Option X) → ℕ → Option X
+slot slots index = slice_index_or slots index None
 
 -- the place of each index, if it has one, holds the first needed version with this index
 abbrev pub HoldNeeded : List (Option Needed) → List (VerNeed × List VerNeedAux) → Type 0

@@ -3,7 +3,7 @@ ghost use Rattle.std.specs.Prelude.{◌≡◌, ◌≤◌, ◌+◌, ◌-◌, ℕ,
 ghost use Rattle.std.specs.Iterator.{YieldsFirst, item_count};
 ghost use Rattle.elf_parts.specs.Link.{from_next};
 ghost use Rattle.elf_parts.specs.gnu_symver.Links.{links_in, links_left, links_view, next_start};
-ghost use Rattle.elf_parts.specs.gnu_symver.Links.{records_of};
+ghost use Rattle.elf_parts.specs.gnu_symver.Links.{front_then, records_of};
 ghost use Rattle.elf_parts.specs.Table.{Table, table_in};
 
 use crate::endian::EndianParse;
@@ -35,8 +35,9 @@ pub trait VersionEntry: Linked {
         entries: &Links<'data, E, Self>,
         start: usize,
     ) -> Links<'data, E, Self::Aux>
-        ensures { (self.now, records_of (links_left Self.Aux.reads.record_at Self.Aux.next_distance result))
-            ≡ with_aux (links_view entries.now) (start, self.now) };
+        ensures entries { (self.now, records_of (links_left Self.Aux.reads.record_at Self.Aux.next_distance result))
+            ≡ with_aux (links_view entries.now) (start, self.now) }
+        ensures view { links_view result ≡ links_view entries.now };
 }
 
 // Where the record `distance` bytes behind `start` begins, if there is one.
@@ -97,8 +98,9 @@ impl<'data, E: EndianParse, R: Linked> Links<'data, E, R> {
 
     /// The records of another type that are linked from the one `distance` bytes behind `start`: at most `count`.
     pub fn aux<A: Linked>(&self, start: usize, count: u16, distance: u32) -> Links<'data, E, A>
-        ensures { links_left A.reads.record_at A.next_distance result
+        ensures items { links_left A.reads.record_at A.next_distance result
             ≡ links_in A.reads.record_at A.next_distance (links_view self.now) count (start + distance) }
+        ensures view { links_view result ≡ links_view self.now }
     {
         // No record begins at the end of the data or behind it.
         let offset = start.saturating_add(distance as usize).min(self.data.len());
@@ -119,6 +121,71 @@ impl<'data, E: EndianParse, R: Linked> Links<'data, E, R> {
                 self.offset = offset;
             }
             None => self.count = 0,
+        }
+    }
+
+    /// The offset of the next record, in bytes.
+    pub fn offset(&self) -> usize
+        ensures { result ≡ self.now.offset }
+    {
+        self.offset
+    }
+
+    /// How many records are left at most.
+    pub fn limit(&self) -> u64
+        ensures { result ≡ self.now.count }
+    {
+        self.count
+    }
+
+    /// The length of the data, in bytes.
+    pub fn data_len(&self) -> usize
+        ensures { result ≡ length (links_view self.now).bytes }
+    {
+        self.data.len()
+    }
+
+    /// Goes on to the record at `offset`, which is `steps` records further.
+    pub fn skip_to(&mut self, offset: usize, steps: u64)
+        ensures view { links_view self.new ≡ links_view self.old }
+        ensures offset { self.new.offset ≡ offset }
+        ensures count { self.new.count ≡ self.old.count - steps }
+    {
+        self.offset = offset;
+        self.count = self.count.saturating_sub(steps);
+    }
+
+    // Where the record `distance` bytes behind the next one begins, or the end of the data if there is none.
+    fn behind(&self, distance: u32) -> usize
+        ensures { (n : ℕ) → links_in R.reads.record_at R.next_distance (links_view self.now) n result
+            ≡ from_next (next_start self.now.offset distance)
+            (links_in R.reads.record_at R.next_distance (links_view self.now) n) }
+    {
+        match next_start(self.offset, distance) {
+            Some(offset) => offset,
+            None => self.data.len(),
+        }
+    }
+
+    /// Reads the next record, whatever the count is, and goes on to the one behind it, or to the end of the data if
+    /// there is none.
+    pub fn step(&mut self) -> Option<R>
+        ensures view { links_view self.new ≡ links_view self.old }
+        ensures count { self.new.count ≡ self.old.count - 1 }
+        ensures items { (n : ℕ) → links_in R.reads.record_at R.next_distance (links_view self.old) n self.old.offset
+            ≡ front_then n self.old.offset result
+            (links_in R.reads.record_at R.next_distance (links_view self.old) (n - 1) self.new.offset) }
+    {
+        let mut end = self.offset;
+        match read_record::<R>(self.little, self.class, &mut end, self.data) {
+            Ok(record) => {
+                self.skip_to(self.behind(record.distance()), 1);
+                Some(record)
+            }
+            Err(_) => {
+                self.skip_to(self.data.len(), 1);
+                None
+            }
         }
     }
 }

@@ -1,9 +1,10 @@
 //! Iterators over the entries of the version sections and over their auxiliary entries (GNU symbol versioning).
-ghost use Rattle.std.specs.Prelude.{◌≡◌, ◌≤◌, length};
+ghost use Rattle.std.specs.Prelude.{◌≡◌, ◌≤◌, length, IfSome};
 ghost use Rattle.std.specs.Iterator.{YieldsFirst, YieldsFirstBy, item_count};
 ghost use Rattle.elf_parts.specs.Table.{table_in};
 ghost use Rattle.elf_parts.specs.gnu_symver.Lists.{aux_left, aux_records, aux_view};
-ghost use Rattle.elf_parts.specs.gnu_symver.Lists.{entries_in, entries_left, entry_view};
+ghost use Rattle.elf_parts.specs.gnu_symver.Lists.{entries_in, entries_left, entry_view, links_entry};
+ghost use Rattle.elf_parts.specs.gnu_symver.Links.{links_view};
 
 use super::links::{Linked, Links, VersionEntry};
 use super::records::{VerDef, VerDefAux, VerNeed, VerNeedAux};
@@ -102,6 +103,25 @@ impl<'data, E: EndianParse, V: VersionEntry> EntryIterator<'data, E, V> {
             links: Links::new(endian.is_little(), class, count, starting_offset, data),
         }
     }
+
+    /// The length of the data, in bytes.
+    pub(super) fn data_len(&self) -> usize
+        ensures { result ≡ length (links_view self.now.links).bytes }
+    {
+        self.links.data_len()
+    }
+
+    /// The next entry, with the links to its auxiliary entries, which lie in the same data.
+    pub(super) fn next_links(&mut self) -> Option<(V, Links<'data, E, V::Aux>)>
+        ensures steps { YieldsFirstBy (links_entry V.Aux.reads.record_at V.Aux.next_distance)
+            (entries_left V.reads.record_at V.next_distance V.with_aux) self.old result self.new }
+        ensures view { links_view self.new.links ≡ links_view self.old.links }
+        ensures data { IfSome result (λ item. links_view item.1 ≡ links_view self.old.links) }
+    {
+        let (start, entry) = self.links.next()?;
+        let links = entry.aux(&self.links, start);
+        Some((entry, links))
+    }
 }
 
 impl<'data, E: EndianParse, V: VersionEntry> Iterator for EntryIterator<'data, E, V> {
@@ -113,8 +133,7 @@ impl<'data, E: EndianParse, V: VersionEntry> Iterator for EntryIterator<'data, E
     ghost remaining = { item_count (entries_left V.reads.record_at V.next_distance V.with_aux) };
 
     fn next(&mut self) -> Option<(V, AuxIterator<'data, E, V::Aux>)> {
-        let (start, entry) = self.links.next()?;
-        let links = entry.aux(&self.links, start);
+        let (entry, links) = self.next_links()?;
         Some((entry, AuxIterator { links }))
     }
 }

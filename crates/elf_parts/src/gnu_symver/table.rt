@@ -18,6 +18,7 @@ ghost use Rattle.elf_parts.specs.Table.{table_view};
 mod indexed;
 mod look_up;
 mod placed;
+mod walked;
 
 use super::{
     VerDef, VerDefAuxIterator, VerDefIterator, VerNeed, VerNeedAux, VerNeedAuxIterator,

@@ -19,18 +19,15 @@ use elf::gnu_symver::{
 use std::io;
 use std::io::Write;
 
-// Up to this number of symbols, walks cost less than filling places.
-const FEW_SYMBOLS: usize = 32;
-
 // More places than the version indexes of usual libraries need.
 const FEW_PLACES: usize = 128;
 
 // A place for each version index, which has 15 bits.
 const ALL_PLACES: usize = 32_768;
 
-/// The lines of the versions of the first `symbols` symbols. For more than `FEW_SYMBOLS` of them the cost is
-/// proportional to the number of symbols plus needs plus definitions. Nothing is allocated. The stack takes some
-/// kibibytes, or two mebibytes if a symbol has a version index of `FEW_PLACES` or more, as none has in usual libraries.
+/// The lines of the versions of the first `symbols` symbols. The cost is that of the lines and of
+/// `PlacedVersions::new`. Nothing is allocated. The places take some kibibytes of the stack, or two mebibytes if a symbol
+/// has a version index of `FEW_PLACES` or more, as none has in usual libraries.
 pub(crate) fn write_versions<E: EndianParse, W: Write>(
     symbols: usize,
     versions: &SymbolVersionTable<'_, E>,
@@ -39,9 +36,7 @@ pub(crate) fn write_versions<E: EndianParse, W: Write>(
     ensures { OnOk result (Appends (W.contents out.old) (W.contents out.new)
         (versions_listed symbols (versions_view versions.now))) }
 {
-    if symbols <= FEW_SYMBOLS {
-        write_without_places(symbols, versions, out)
-    } else if has_index_past_few(symbols, versions) {
+    if has_index_past_few(symbols, versions) {
         write_with_all_places(symbols, versions, out)
     } else {
         write_with_few_places(symbols, versions, out)
@@ -68,18 +63,6 @@ fn is_past_few(index: Result<VersionIndex, ParseError>) -> bool
         Ok(index) => FEW_PLACES <= index.index() as usize,
         Err(_) => false,
     }
-}
-
-fn write_without_places<E: EndianParse, W: Write>(
-    symbols: usize,
-    versions: &SymbolVersionTable<'_, E>,
-    out: &mut W,
-) -> io::Result<()>
-    ensures { OnOk result (Appends (W.contents out.old) (W.contents out.new)
-        (versions_listed symbols (versions_view versions.now))) }
-{
-    let placed = PlacedVersions::new(versions, &mut [], &mut []);
-    write_placed(symbols, &placed, out)
 }
 
 fn write_with_few_places<E: EndianParse, W: Write>(

@@ -1,19 +1,19 @@
 //! The versions of the symbols of a file by version index, in slices that the caller provides.
 ghost use Rattle.std.specs.Prelude.{◌≡◌, ◌==◌, ◌<◌, ℕ, length, if◌then◌else◌, MatchOption, None, Some};
 ghost use Rattle.std.specs.Option.{option_map, option_or};
-ghost use Rattle.elf_parts.specs.inner.Indexed.{slot};
-ghost use Rattle.elf_parts.specs.inner.Placed.{HoldDefined, HoldDefinitions, HoldNeeded, HoldNeeds};
+ghost use Rattle.elf_parts.specs.inner.Placed.{HoldDefined, HoldDefinitions, HoldNeeded, HoldNeeds, slot};
 ghost use Rattle.elf_parts.specs.Number.{ok_map};
-ghost use Rattle.elf_parts.specs.gnu_symver.Lists.{ver_defs_left, ver_need_aux_left, ver_needs_left};
+ghost use Rattle.elf_parts.specs.gnu_symver.Lists.{ver_defs_left, ver_needs_left};
 ghost use Rattle.elf_parts.specs.gnu_symver.Table.{defined_version, definition, definition_view, definitions_view};
-ghost use Rattle.elf_parts.specs.gnu_symver.Table.{index_of, kept, needed_of, needed_version, needs_view};
-ghost use Rattle.elf_parts.specs.gnu_symver.Table.{requirement, version_with, versions_view};
+ghost use Rattle.elf_parts.specs.gnu_symver.Table.{index_of, needed_of, needed_version, needs_view};
+ghost use Rattle.elf_parts.specs.gnu_symver.Table.{requirement, versions_view};
 ghost use Rattle.elf_parts.specs.gnu_symver.Table.{GivesRequirement, HasFewNames};
 
+use super::walked::{STRETCHES, Stretch, put_versions};
 use super::{
     Needed, SymbolDefinition, SymbolRequirement, SymbolVersionTable, VerDefIterator,
-    VerNeedAuxIterator, VerNeedIterator, VersionIndex, first_defined, first_needed, kept,
-    read_definition, read_requirement,
+    VerNeedIterator, VersionIndex, first_defined, first_needed, kept, read_definition,
+    read_requirement,
 };
 use crate::endian::EndianParse;
 use crate::parse::ParseError;
@@ -23,8 +23,9 @@ use std::marker::Model;
 /// The versions of the symbols of a file. Two slices that the caller provides hold the first need and the first
 /// definition of each version index for which they have a place. Such a version is found without a walk, any other one
 /// as `SymbolVersionTable` finds it. Version indexes have 15 bits, so with 32,768 places in each slice no look-up walks.
-/// Filling the slices costs the number of definitions plus the auxiliary entries of all needs; an entry that several
-/// needs share counts for each. Allocates no memory.
+/// Filling the slices costs the number of needs, of their auxiliary entries and of definitions. An entry that several
+/// needs share counts once, and each need some hundred steps at most; only in a section of some ten mebibytes a need may
+/// cost more. For a section of more than 16 KiB the call takes 0.4 MiB of the stack. Allocates no memory.
 #[derive(Debug, Drop)]
 pub struct PlacedVersions<'a, 'data, E: EndianParse> {
     versions: &'a SymbolVersionTable<'data, E>,
@@ -44,8 +45,11 @@ impl<'a, 'data, E: EndianParse> Model for PlacedVersions<'a, 'data, E> {
         × HoldDefinitions s.defined.now (versions_view s.versions.now).definitions };
 }
 
+// In a section of up to this number of bytes, walks cost little even if all needs share all auxiliary entries.
+const FEW_BYTES: usize = 16_384;
+
 // Puts a value into the place of an index, if there is one and it is empty.
-fn put<T: Copy>(slots: &mut [Option<T>], index: u16, value: T)
+pub(super) fn put<T: Copy>(slots: &mut [Option<T>], index: u16, value: T)
     ensures values { (k : ℕ) → k < length slots.new → slot slots.new k
         ≡ option_or (slot slots.old k) (if index == k then Some value else None) }
     ensures places { length slots.new ≡ length slots.old }
@@ -56,20 +60,32 @@ fn put<T: Copy>(slots: &mut [Option<T>], index: u16, value: T)
     }
 }
 
-// Puts the versions of one file in. `file` is the offset of the name of the file.
-fn put_versions<E: EndianParse>(
+// Puts the needed versions in, in order. The earlier content of `stretches` is ignored.
+fn put_needs<E: EndianParse>(
     slots: &mut [Option<Needed>],
-    file: u32,
-    versions: VerNeedAuxIterator<'_, E>,
+    stretches: &mut [Option<Stretch>],
+    needs: VerNeedIterator<'_, E>,
 )
-    ensures values { (k : ℕ) → k < length slots.new → slot slots.new k
-        ≡ option_or (slot slots.old k)
-        (option_map (kept file) (version_with k (ver_need_aux_left versions.entry))) }
-    ensures places { length slots.new ≡ length slots.old }
+    ensures { (k : ℕ) → k < length slots.new → slot slots.new k
+        ≡ option_or (slot slots.old k) (option_map needed_of (needed_version k (ver_needs_left needs.entry))) }
 {
-    for version in versions {
-        put(slots, version.vna_other, kept(file, &version));
+    stretches.fill(None);
+    let mut left = needs;
+    while let Some((need, versions)) = left.next_links() {
+        put_versions(slots, stretches, need.vn_file, versions);
     }
+}
+
+// Not inlined, so that only its callers take the stack for the stretches.
+#[inline(never)]
+fn put_needs_in_stretches<E: EndianParse>(
+    slots: &mut [Option<Needed>],
+    needs: VerNeedIterator<'_, E>,
+)
+    ensures { (k : ℕ) → k < length slots.new → slot slots.new k
+        ≡ option_or (slot slots.old k) (option_map needed_of (needed_version k (ver_needs_left needs.entry))) }
+{
+    put_needs(slots, &mut [None; STRETCHES], needs);
 }
 
 // Finds the first needed version of each index that has a place.
@@ -77,8 +93,10 @@ fn place_needed<E: EndianParse>(slots: &mut [Option<Needed>], needs: VerNeedIter
     ensures { HoldNeeded slots.new (ver_needs_left needs.entry) }
 {
     slots.fill(None);
-    for (need, versions) in needs {
-        put_versions(slots, need.vn_file, versions);
+    if needs.data_len() <= FEW_BYTES {
+        put_needs(slots, &mut [], needs);
+    } else {
+        put_needs_in_stretches(slots, needs);
     }
 }
 
@@ -98,7 +116,8 @@ fn place_defined<'data, E: EndianParse>(
     }
 }
 
-fn place_needs<'data, E: EndianParse>(
+/// Finds the first needed version of each index that has a place, if there are needs.
+pub(super) fn place_needs<'data, E: EndianParse>(
     slots: &mut [Option<Needed>],
     needs: &Option<(VerNeedIterator<'data, E>, StringTable<'data>)>,
 )
@@ -109,7 +128,8 @@ fn place_needs<'data, E: EndianParse>(
     }
 }
 
-fn place_definitions<'data, E: EndianParse>(
+/// Finds the first definition of each index that has a place, if there are definitions.
+pub(super) fn place_definitions<'data, E: EndianParse>(
     slots: &mut [Option<VerDefIterator<'data, E>>],
     definitions: &Option<(VerDefIterator<'data, E>, StringTable<'data>)>,
 )
@@ -153,6 +173,48 @@ fn find_defined<'data, E: EndianParse>(
     }
 }
 
+/// What a symbol needs, without a walk if its version index has a place.
+pub(super) fn requirement_by_places<'a, E: EndianParse>(
+    versions: &'a SymbolVersionTable<'_, E>,
+    needed: &[Option<Needed>],
+    symbol: usize,
+) -> Result<Option<SymbolRequirement<'a>>, ParseError>
+    requires { HoldNeeds needed.now (versions_view versions.now).needs }
+    ensures { GivesRequirement (requirement (versions_view versions.now) symbol) result }
+{
+    let Some((needs, strings)) = versions.needs else {
+        return Ok(None);
+    };
+    let index = versions.indexes.get(symbol)?;
+    let Some(needed) = find_needed(needed, needs, index.index()) else {
+        return Ok(None);
+    };
+    Ok(Some(read_requirement(strings, needed, index.is_hidden())?))
+}
+
+/// What a symbol is defined with, without a walk if its version index has a place.
+pub(super) fn definition_by_places<'a, 'data, E: EndianParse>(
+    versions: &'a SymbolVersionTable<'data, E>,
+    defined: &[Option<VerDefIterator<'data, E>>],
+    symbol: usize,
+) -> Result<Option<SymbolDefinition<'a, E>>, ParseError>
+    requires { HoldDefinitions defined.now (versions_view versions.now).definitions }
+    ensures value { ok_map (option_map definition_view) result ≡ definition (versions_view versions.now) symbol }
+    ensures few { HasFewNames result }
+{
+    let Some((definitions, strings)) = &versions.definitions else {
+        return Ok(None);
+    };
+    let index = versions.indexes.get(symbol)?;
+    let Some(first) = find_defined(defined, *definitions, index.index()) else {
+        return Ok(None);
+    };
+    let Some((definition, names)) = first_defined(first, index.index()) else {
+        return Ok(None);
+    };
+    Ok(Some(read_definition(strings, definition, names, index.is_hidden())))
+}
+
 impl<'a, 'data, E: EndianParse> PlacedVersions<'a, 'data, E> {
     /// Fills the places: walks over the needs once and then over the definitions once. The earlier content of the
     /// places is ignored and may be overwritten.
@@ -187,14 +249,7 @@ impl<'a, 'data, E: EndianParse> PlacedVersions<'a, 'data, E> {
     ) -> Result<Option<SymbolRequirement<'_>>, ParseError>
         ensures { GivesRequirement (requirement self.now symbol) result }
     {
-        let Some((needs, strings)) = self.versions.needs else {
-            return Ok(None);
-        };
-        let index = self.versions.indexes.get(symbol)?;
-        let Some(needed) = find_needed(self.needed, needs, index.index()) else {
-            return Ok(None);
-        };
-        Ok(Some(read_requirement(strings, needed, index.is_hidden())?))
+        requirement_by_places(self.versions, self.needed, symbol)
     }
 
     /// Returns what `SymbolVersionTable::get_definition` returns, value or error, without a walk if the version index
@@ -206,16 +261,6 @@ impl<'a, 'data, E: EndianParse> PlacedVersions<'a, 'data, E> {
         ensures value { ok_map (option_map definition_view) result ≡ definition self.now symbol }
         ensures few { HasFewNames result }
     {
-        let Some((definitions, strings)) = &self.versions.definitions else {
-            return Ok(None);
-        };
-        let index = self.versions.indexes.get(symbol)?;
-        let Some(first) = find_defined(self.defined, *definitions, index.index()) else {
-            return Ok(None);
-        };
-        let Some((definition, names)) = first_defined(first, index.index()) else {
-            return Ok(None);
-        };
-        Ok(Some(read_definition(strings, definition, names, index.is_hidden())))
+        definition_by_places(self.versions, self.defined, symbol)
     }
 }

@@ -4,8 +4,8 @@ use Rattle.elf_parts.specs.gnu_symver.Links.{links_view}
 use Rattle.elf_parts.proofs.LinkedRecords.{links_clipped}
 use Rattle.elf_parts.proofs.gnu_symver.links.Links.aux.Goals as goal
 
-pub returns : goal.returns
-returns g c =
+pub returns-clause-items : goal.returns-clause-items
+returns-clause-items g c =
     let s = c.args.self.now in
     let clipped : c.min-offset.result ≡ min (c.args.start + c.args.distance) (length s.«data».now) = omega arith in
     c.new.ensures.items

@@ -1,10 +1,10 @@
 -- From what the place of an index holds on, or else from what is left on, the first definition with it stays the same.
 use Rattle.std.proofs.Common.{◌<◌, refl, ap, ◌∙◌, subst}
 use Rattle.std.specs.Option.{unwrap_or}
-use Rattle.elf_parts.specs.inner.Indexed.{slot}
+use Rattle.elf_parts.specs.inner.Placed.{slot}
 use Rattle.elf_parts.specs.gnu_symver.Lists.{ver_def_view, ver_defs_left}
 use Rattle.elf_parts.specs.gnu_symver.Table.{defined_version}
-use Rattle.elf_parts.proofs.Indexed.{defined_end, defined_front}
+use Rattle.elf_parts.proofs.Placed.{defined_end, defined_front}
 use Rattle.elf_parts.proofs.gnu_symver.table.placed.place_defined.Goals as goal
 
 pub loop-definition-preserved : goal.loop-definition-preserved

@@ -1,6 +1,6 @@
 use Rattle.std.proofs.Common.{◌≡◌, ◌<◌, ℕ, length}
 use Rattle.std.specs.Prelude.{unwrap_or}
-use Rattle.elf_parts.specs.inner.Indexed.{slot}
+use Rattle.elf_parts.specs.inner.Placed.{slot}
 use Rattle.elf_parts.specs.gnu_symver.Lists.{ver_defs_left}
 use Rattle.elf_parts.specs.gnu_symver.Table.{defined_version}
 use Rattle.elf_parts.proofs.gnu_symver.table.placed.place_defined.Given as goal

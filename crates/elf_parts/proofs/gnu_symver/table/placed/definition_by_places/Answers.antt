@@ -5,7 +5,7 @@ use Rattle.elf_parts.specs.gnu_symver.Links.{links_view}
 use Rattle.elf_parts.specs.gnu_symver.Lists.{ver_def_aux_left}
 use Rattle.elf_parts.specs.gnu_symver.Table.{Definition, names_left}
 use Rattle.elf_parts.proofs.Versions.{defined_few}
-use Rattle.elf_parts.proofs.gnu_symver.table.placed.PlacedVersions.get_definition.Goals as goal
+use Rattle.elf_parts.proofs.gnu_symver.table.placed.definition_by_places.Goals as goal
 
 pub returns-clause-few : goal.returns-clause-few
 returns-clause-few g c =

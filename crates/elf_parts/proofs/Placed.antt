@@ -58,12 +58,3 @@ pub defined_end : {I : Type 0} (list : I → List (VerDef × List VerDefAux)) (k
 unfolding defined_version
 defined_end list k (Some x) left all is e = e
 defined_end list k None left all is e = sym e ∙ ap (defined_version k) is
-
--- with nothing put in, no needs and no definitions
-pub none_needed : (k : ℕ) → None ≡ option_map needed_of (needed_version k [])
-unfolding needed_version
-none_needed k = refl
-
-pub none_defined : (k : ℕ) → defined_version k [] ≡ None
-unfolding defined_version
-none_defined k = refl

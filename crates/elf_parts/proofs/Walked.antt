@@ -1,0 +1,55 @@
+-- Walks over the versions that are needed of a file, step by step.
+use Rattle.std.proofs.Common.{◌≡◌, ◌-◌, ◌==◌, ℕ, zero, suc, Some, None, Option, List, ◌∷◌, if◌then◌else◌, refl, sym, ap, ◌∙◌, arith}
+use Rattle.std.specs.Option.{option_map, option_or}
+use Rattle.std.proofs.lemmas.Grind.{common_steps}
+use Rattle.elf_parts.specs.inner.Placed.{slot}
+use Rattle.elf_parts.specs.inner.Walked.{first_with, held_or_left}
+use Rattle.elf_parts.specs.Table.{Table}
+use Rattle.elf_parts.specs.Record.{record_by}
+use Rattle.elf_parts.specs.gnu_symver.Links.{front_then, links_in, records_of}
+use Rattle.elf_parts.specs.gnu_symver.Records.{ver_need_aux_layout}
+use Rattle.elf_parts.proofs.LinkedRecords.{links_none}
+use Rattle.elf_parts.specs.gnu_symver.Table.{kept, version_with}
+use Rattle.elf_parts.specs.declared.gnu_symver.records.VerNeedAux.{VerNeedAux}
+use Rattle.elf_parts.specs.declared.gnu_symver.table.Needed.{Needed}
+
+-- ---- one step: the version at the front of the first n from o on, and those from p on behind it
+
+abbrev pub versions_from : Table → ℕ → ℕ → List (ℕ × VerNeedAux)
+versions_from t n o = links_in (record_by ver_need_aux_layout) (λ x. x.vna_next) t n o
+
+-- the version at the front is not the one with an index whose place is still empty
+not_front : (old new : Option Needed) (k o : ℕ) (x : VerNeedAux) (value : Needed) (list behind : List (ℕ × VerNeedAux)) →
+    list ≡ (o, x) ∷ behind → new ≡ option_or old (if x.vna_other == k then Some value else None) →
+    new ≡ None → version_with k (records_of list) ≡ version_with k (records_of behind)
+not_front old new k o x value list behind is e empty = grind (arith, common_steps)
+
+pub read_passes : (t : Table) (k n o p : ℕ) (x : VerNeedAux) (value : Needed) (front : Option VerNeedAux)
+    (old new : Option Needed) → versions_from t n o ≡ front_then n o front (versions_from t (n - 1) p) →
+    front ≡ Some x → new ≡ option_or old (if x.vna_other == k then Some value else None) → new ≡ None →
+    first_with t k n o ≡ first_with t k (n - 1) p
+read_passes t k zero o p x value front old new list is e empty =
+    ap (λ xs. version_with k (records_of xs)) (list ∙ sym (links_none _ _ t p))
+read_passes t k (suc n) o p x value front old new list is e empty =
+    not_front old new k o x value (versions_from t (suc n) o) (versions_from t (suc n - 1) p)
+    (list ∙ ap (λ f. front_then (suc n) o f (versions_from t (suc n - 1) p)) is) e empty
+
+pub unread_passes : (t : Table) (k n o p : ℕ) (front : Option VerNeedAux) →
+    versions_from t n o ≡ front_then n o front (versions_from t (n - 1) p) → front ≡ None →
+    first_with t k n o ≡ first_with t k (n - 1) p
+unread_passes t k zero o p front list is =
+    ap (λ xs. version_with k (records_of xs)) (list ∙ sym (links_none _ _ t p))
+unread_passes t k (suc n) o p front list is =
+    ap (λ xs. version_with k (records_of xs)) (list ∙ ap (λ f. front_then (suc n) o f (versions_from t (suc n - 1) p)) is)
+
+-- where no version is left
+pub nothing_left : (slots : List (Option Needed)) (file : ℕ) (t : Table) (k n o : ℕ) → n ≡ 0 →
+    held_or_left slots file t k n o ≡ slot slots k
+nothing_left slots file t k n o e =
+    ap (λ m. held_or_left slots file t k m o) e
+    ∙ ap (λ xs. option_or (slot slots k) (option_map (kept file) (version_with k (records_of xs)))) (links_none _ _ t o)
+    ∙ by (slot slots k)
+  where
+    by : (held : Option Needed) → option_or held None ≡ held
+    by None = refl
+    by (Some x) = refl
