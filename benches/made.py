@@ -237,18 +237,20 @@ def many_versions(symbols, needs, definitions):
     return made
 
 
-def sharing_needs(count):
-    """More symbols than are listed by walks, which have a version index that no need has, and `count` needs that share as
-    many auxiliary entries. A listing walks over these for each need."""
+def sharing_needs(count, step=0):
+    """Dynamic symbols with a version index that no need has, and `count` needs that share as many auxiliary entries: all
+    begin at the first entry or, with a step, each this number of entries behind the one before."""
     made = Made()
     add_symbols(made, 40, SHT_DYNSYM)
     strings = made.add(b".verstr", SHT_STRTAB, b"\0VERSION_1.0\0libneeded.so\0")
     made.add(b".gnu.version", SHT_GNU_VERSYM, struct.pack("<H", 5) * 40, made.first(SHT_DYNSYM), 0, 2)
-    needs = b"".join(
-        struct.pack("<HHIII", 1, min(count, 0xFFFF), 13, 16 * (count - k), 16 if k + 1 < count else 0) for k in range(count)
-    )
+    needs = []
+    for k in range(count):
+        first, behind = k * step % count, 16 if k + 1 < count else 0
+        entries = min(count - first, 0xFFFF)
+        needs.append(struct.pack("<HHIII", 1, entries, 13, 16 * (count - k + first), behind))
     entries = b"".join(struct.pack("<IHHII", 7, 0, 2, 1, 16 if k + 1 < count else 0) for k in range(count))
-    made.add(b".gnu.version_r", SHT_GNU_VERNEED, needs + entries, strings, count)
+    made.add(b".gnu.version_r", SHT_GNU_VERNEED, b"".join(needs) + entries, strings, count)
     return made
 
 
