@@ -3,7 +3,7 @@ use crate::files::{HEADER_ALONE, TWO_SECTIONS_BIG};
 use crate::texts::{HEADER_LINE, TWO_SECTION_LINES};
 use elf::ParseError;
 use elf::endian::{AnyEndian, LittleEndian};
-use elf_worked::order::FileOrder;
+use elf_examples::order::FileOrder;
 use elfshow::calls::{Call, RunError, run_bytes};
 use elfshow::file_system::MemFile;
 use elfshow::show::show;

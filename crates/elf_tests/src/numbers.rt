@@ -1,7 +1,7 @@
 //! Numbers in each order.
 use elf::ParseError;
 use elf::endian::{AnyEndian, BigEndian, EndianParse, LittleEndian, NativeEndian};
-use elf_worked::order::FileOrder;
+use elf_examples::order::FileOrder;
 use std::test::Fail;
 
 /// Bytes whose numbers are negative in both orders.

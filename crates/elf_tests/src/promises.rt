@@ -9,8 +9,8 @@ use elf::laws::tables::{get_succeeds_below_len, iter_gives_what_get_gives};
 use elf::parse::{ParseAt, ParsingTable};
 use elf::section::{SectionHeader, SectionHeaderTable};
 use elf::segment::ProgramHeader;
-use elf_worked::even_byte::EvenByte;
-use elf_worked::triple::Triple;
+use elf_examples::even_byte::EvenByte;
+use elf_examples::triple::Triple;
 use std::fmt::Debug;
 use std::process::Abort;
 

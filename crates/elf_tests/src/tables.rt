@@ -4,10 +4,10 @@ use elf::endian::{AnyEndian, BigEndian, EndianParse, LittleEndian};
 use elf::file::Class;
 use elf::parse::{ParseAt, ParsingIterator, ParsingTable};
 use elf::section::SectionHeader;
-use elf_worked::even_byte::EvenByte;
-use elf_worked::loops::{all_items, count_items, item_below};
-use elf_worked::order::FileOrder;
-use elf_worked::triple::Triple;
+use elf_examples::even_byte::EvenByte;
+use elf_examples::loops::{all_items, count_items, item_below};
+use elf_examples::order::FileOrder;
+use elf_examples::triple::Triple;
 use std::alloc::AllocError;
 use std::process::Abort;
 

@@ -3,7 +3,7 @@ use Rattle.std.proofs.Common.{◌≡◌, ◌≢◌, ℕ, zero, suc, ◌<◌, ◌
 use Rattle.std.specs.Fmt.{decimal}
 use Rattle.elfshow.specs.Verdicts.{verdict}
 use Rattle.elf_check.specs.inner.Decisions.{Decided}
-use Rattle.elfshow.specs.lines.Hashes.{verdict_line}
+use Rattle.elfshow.specs.Hashes.{verdict_line}
 
 pub below_one : (P : ℕ → Type 0) → P 0 → (i : ℕ) → i < 1 → P i
 below_one P p zero h = p

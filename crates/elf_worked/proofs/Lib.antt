@@ -11,4 +11,3 @@ pub mod BuiltSound
 pub mod BuiltKnown
 pub mod BuiltBytes
 pub mod BuiltGnuBytes
-pub mod Copied

@@ -1,11 +1,7 @@
 pub mod Bound
-pub mod Branches
 pub mod Built
 pub mod BuiltBytes
 pub mod BuiltSections
-pub mod Copies
-pub mod EvenBytes
-pub mod FileOrders
 pub mod Files
 pub mod HashSections
 pub mod HashesOfA
@@ -16,5 +12,4 @@ pub mod Objects
 pub mod Parts
 pub mod Records
 pub mod SoundSections
-pub mod Triples
 pub mod WrittenFiles

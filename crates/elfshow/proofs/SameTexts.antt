@@ -25,15 +25,15 @@ use Rattle.elf_check.specs.Object.{object_in}
 use Rattle.elf_check.specs.declared.hashcheck.any.HashSection.{HashSection}
 use Rattle.elfshow.specs.calls.Question.{Question, Header, Sections, Segments, Name, Data, Strings, Rels, Relas, Notes, Seg, SegNotes, Symbols, DynSyms, Dynamic, Versions, Hash}
 use Rattle.elfshow.specs.calls.Text.{call_answer, call_text, checked_as, checked_for, dynamic_text, of_section, of_segment, or_refused, symbol_count, symbols_text, text, unless_absent, unless_none}
-use Rattle.elfshow.specs.declared.lines.hashes.Verdict.{Verdict}
-use Rattle.elfshow.specs.lines.Data.{section_data_line, segment_data_line}
-use Rattle.elfshow.specs.lines.Hashes.{verdict_line}
-use Rattle.elfshow.specs.lines.Counted.{counted_lines}
-use Rattle.elfshow.specs.lines.Notes.{note_line}
-use Rattle.elfshow.specs.lines.Relocations.{rel_line, rela_line}
-use Rattle.elfshow.specs.lines.Sections.{found_line, section_line}
-use Rattle.elfshow.specs.lines.Strings.{string_line, strings_of}
-use Rattle.elfshow.specs.lines.Versions.{versions_listed}
+use Rattle.elfshow.specs.declared.hashes.Verdict.{Verdict}
+use Rattle.elf_lines.specs.Data.{section_data_line, segment_data_line}
+use Rattle.elfshow.specs.Hashes.{verdict_line}
+use Rattle.elf_lines.specs.Counted.{counted_lines}
+use Rattle.elf_lines.specs.Notes.{note_line}
+use Rattle.elf_lines.specs.Relocations.{rel_line, rela_line}
+use Rattle.elf_lines.specs.Sections.{found_line, section_line}
+use Rattle.elf_lines.specs.Strings.{string_line, strings_of}
+use Rattle.elf_lines.specs.Versions.{versions_listed}
 
 -- ---- alike answers
 

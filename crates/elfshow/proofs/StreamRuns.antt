@@ -22,8 +22,8 @@ use Rattle.elfshow.specs.declared.calls.Call.{Call}
 use Rattle.elfshow.specs.declared.calls.Stop.{Stop}
 use Rattle.elfshow.specs.declared.calls.Stop.TheVariants as stop
 use Rattle.elfshow.specs.inner.RunSteps.{Gives, IsFaultlessCall, IsWritten, LeadsTo, RanCall, RanOne, TriedCall, TriedOne, stopped_after}
-use Rattle.elfshow.specs.lines.NoAnswer.{refused_line}
-use Rattle.elfshow.proofs.Writing.{appends_more}
+use Rattle.elf_lines.specs.NoAnswer.{refused_line}
+use Rattle.elf_lines.proofs.Writing.{appends_more}
 
 -- ---- a stream that keeps its file
 

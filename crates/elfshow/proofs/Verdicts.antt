@@ -8,7 +8,7 @@ use Rattle.elf_check.specs.declared.hashcheck.Checked.TheVariants as checked
 use Rattle.elf_check.specs.declared.hashcheck.HashFault.{HashFault}
 use Rattle.elf_check.specs.inner.Decisions.{Decided, decide}
 use Rattle.elfshow.specs.Verdicts.{verdict, verdict_of}
-use Rattle.elfshow.specs.declared.lines.hashes.Verdict.TheVariants.{Faulty}
+use Rattle.elfshow.specs.declared.hashes.Verdict.TheVariants.{Faulty}
 
 not_sound : {P : Type 0} (d : Decided P) (indexed : ℕ) → ¬ P → verdict d indexed ≡ Faulty
 not_sound (inl sound) indexed other = absurd (other sound)

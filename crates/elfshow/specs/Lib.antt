@@ -1,9 +1,6 @@
--- pieces of text: numbers, names, bytes
-pub mod Pieces
--- the lines of a listing, a file for each subject
-pub mod lines
--- what a listing says of a checked section
+-- what a listing says of a checked section, and the line of it
 pub mod Verdicts
+pub mod Hashes
 -- calls: what they request, what they write, and what a run of them leaves
 pub mod calls
 -- the call that a word spells

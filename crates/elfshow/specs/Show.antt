@@ -8,7 +8,7 @@ use Rattle.std.specs.Str.{bytes_eq}
 use denote.Ref.{Bor}
 use Rattle.elf.specs.ElfStream.{Kind, MayRefuse, kind}
 use Rattle.elf_parts.specs.declared.parse.ParseError.{ParseError}
-use Rattle.elfshow.specs.Pieces.{◌⧺◌, newline}
+use Rattle.elf_lines.specs.Pieces.{◌⧺◌, newline}
 use Rattle.elfshow.specs.Words.{call_of}
 use Rattle.elfshow.specs.calls.Question.{Question}
 use Rattle.elfshow.specs.declared.calls.RunError.{RunError}

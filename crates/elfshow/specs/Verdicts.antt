@@ -3,8 +3,8 @@ use Rattle.std.specs.Prelude.{ℕ}
 use Rattle.std.proofs.Common.{inl, inr}
 use Rattle.elf_check.specs.Object.{Object, indexed_count}
 use Rattle.elf_check.specs.inner.Decisions.{Decided, decide}
-use Rattle.elfshow.specs.declared.lines.hashes.Verdict.{Verdict}
-use Rattle.elfshow.specs.declared.lines.hashes.Verdict.TheVariants.{Faulty, Sound}
+use Rattle.elfshow.specs.declared.hashes.Verdict.{Verdict}
+use Rattle.elfshow.specs.declared.hashes.Verdict.TheVariants.{Faulty, Sound}
 
 -- of a statement that was decided
 abbrev pub verdict : {P : Type 0} → Decided P → ℕ → Verdict

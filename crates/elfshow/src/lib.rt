@@ -4,9 +4,8 @@
 pub mod calls;
 pub mod failure;
 pub mod file_system;
+mod hashes;
 pub mod laws;
-mod line_buffer;
-mod lines;
 pub mod readers;
 pub mod show;
 mod words;

@@ -10,7 +10,7 @@ ghost use Rattle.elfshow.specs.calls.Question.{question};
 ghost use Rattle.elfshow.specs.calls.Text.{text};
 ghost use Rattle.elfshow.specs.Failure.{IsOfFile, run_of, status_of};
 ghost use Rattle.elfshow.specs.inner.RunSteps.{IsUnfailing, in_memory};
-ghost use Rattle.elfshow.specs.Pieces.{◌⧺◌};
+ghost use Rattle.elf_lines.specs.Pieces.{◌⧺◌};
 ghost use Rattle.elfshow.specs.Show.{IsStopOfBoth, IsStopOfBytes, IsUnwritten, RanOver, agreement, calls_of, mode_of};
 ghost use Rattle.elfshow.specs.Show.{request_of, shown_by};
 ghost use Rattle.elfshow.specs.declared.failure.Failure.TheVariants.{Usage};
@@ -159,7 +159,7 @@ pub fn show<F: FileSystem, W: Write + Drop, V: Write>(
 }
 
 // Writes the text of the requested calls, and flushes the writer.
-#[tactic(auto, using(crate::proofs::Writing::emptied_buffer))]
+#[tactic(auto, using(elf_lines::proofs::Writing::emptied_buffer))]
 fn list<F: FileSystem, W: Write + Drop>(
     alloc: Global,
     words: &[&str],

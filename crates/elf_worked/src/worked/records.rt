@@ -9,7 +9,7 @@ ghost use Rattle.elf_parts.specs.Relocation.{rel_layout, rela_layout};
 ghost use Rattle.elf_parts.specs.Symbol.{symbol_binding, symbol_layout, symbol_type, symbol_visibility};
 ghost use Rattle.elf_parts.specs.declared.file.Class.TheVariants.{ELF32, ELF64};
 ghost use Rattle.elf_parts.specs.declared.parse.ParseError.TheVariants.{SliceReadError};
-ghost use Rattle.elf_worked.specs.Branches.{branch_layout};
+ghost use Rattle.elf_examples.specs.Branches.{branch_layout};
 ghost use Rattle.elf_worked.specs.Files.{counted, in_eight, ones};
 ghost use Rattle.elf_worked.specs.Objects.{symbol_with};
 

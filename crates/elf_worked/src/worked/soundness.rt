@@ -11,7 +11,7 @@ ghost use Rattle.elf_check.specs.declared.hashcheck.HashFault.{HashFault};
 ghost use Rattle.elf_check.specs.declared.hashcheck.HashFault.TheVariants.{Endless, NoBloomBit, NotInRun, PastChains};
 ghost use Rattle.elf_check.specs.declared.hashcheck.HashFault.TheVariants.{ShiftTooLarge, Unreadable, WrongBucket};
 ghost use Rattle.elf_check.specs.declared.hashcheck.HashFault.TheVariants.{WrongHash};
-ghost use Rattle.elfshow.specs.lines.Hashes.{verdict_line};
+ghost use Rattle.elfshow.specs.Hashes.{verdict_line};
 ghost use Rattle.elf_worked.specs.Files.{in_four};
 ghost use Rattle.elf_worked.specs.SoundSections.{HasGnuFault, HasSysvFault, gnu_bytes, gnu_cut};
 ghost use Rattle.elf_worked.specs.SoundSections.{gnu_with, sysv_bytes, sysv_cut, sysv_with};

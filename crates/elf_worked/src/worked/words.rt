@@ -3,7 +3,7 @@ ghost use Rattle.std.specs.Prelude.{◌≡◌, [], ◌∷◌, ◌++◌, Some, No
 ghost use Rattle.elf_check.specs.declared.hashcheck.any.HashSection.TheVariants.{Gnu, Sysv};
 ghost use Rattle.elfshow.specs.calls.Question.{Data, DynSyms, Dynamic, Hash, Header, Name, Notes, Relas, Rels};
 ghost use Rattle.elfshow.specs.calls.Question.{Sections, Seg, SegNotes, Segments, Strings, Symbols, Versions};
-ghost use Rattle.elfshow.specs.Pieces.{newline};
+ghost use Rattle.elf_lines.specs.Pieces.{newline};
 ghost use Rattle.elfshow.specs.Failure.{status_of};
 ghost use Rattle.elfshow.specs.Show.{agreement, mode_of, shown_by};
 ghost use Rattle.elfshow.specs.Words.{call_of, index_of};

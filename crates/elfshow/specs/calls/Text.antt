@@ -22,20 +22,20 @@ use Rattle.elf_check.specs.declared.hashcheck.any.HashSection.{HashSection}
 use Rattle.elfshow.specs.Verdicts.{verdict_of}
 use Rattle.elfshow.specs.calls.Question.{Question, Header, Sections, Segments, Name, Data, Strings, Rels, Relas}
 use Rattle.elfshow.specs.calls.Question.{Notes, Seg, SegNotes, Symbols, DynSyms, Dynamic, Versions, Hash}
-use Rattle.elfshow.specs.declared.lines.hashes.Verdict.{Verdict}
-use Rattle.elfshow.specs.lines.Data.{section_data_line, segment_data_line}
-use Rattle.elfshow.specs.lines.Dynamic.{dyn_line}
-use Rattle.elfshow.specs.lines.Hashes.{verdict_line}
-use Rattle.elfshow.specs.lines.Header.{header_line}
-use Rattle.elfshow.specs.lines.Counted.{counted_lines}
-use Rattle.elfshow.specs.lines.Notes.{note_line}
-use Rattle.elfshow.specs.lines.Relocations.{rel_line, rela_line}
-use Rattle.elfshow.specs.lines.Sections.{found_line, section_line}
-use Rattle.elfshow.specs.lines.Segments.{segment_line}
-use Rattle.elfshow.specs.lines.NoAnswer.{absent_line, none_line, refused_line}
-use Rattle.elfshow.specs.lines.Strings.{string_line, strings_of}
-use Rattle.elfshow.specs.lines.Symbols.{symbol_line}
-use Rattle.elfshow.specs.lines.Versions.{versions_listed}
+use Rattle.elfshow.specs.declared.hashes.Verdict.{Verdict}
+use Rattle.elf_lines.specs.Data.{section_data_line, segment_data_line}
+use Rattle.elf_lines.specs.Dynamic.{dyn_line}
+use Rattle.elfshow.specs.Hashes.{verdict_line}
+use Rattle.elf_lines.specs.Header.{header_line}
+use Rattle.elf_lines.specs.Counted.{counted_lines}
+use Rattle.elf_lines.specs.Notes.{note_line}
+use Rattle.elf_lines.specs.Relocations.{rel_line, rela_line}
+use Rattle.elf_lines.specs.Sections.{found_line, section_line}
+use Rattle.elf_lines.specs.Segments.{segment_line}
+use Rattle.elf_lines.specs.NoAnswer.{absent_line, none_line, refused_line}
+use Rattle.elf_lines.specs.Strings.{string_line, strings_of}
+use Rattle.elf_lines.specs.Symbols.{symbol_line}
+use Rattle.elf_lines.specs.Versions.{versions_listed}
 
 -- ---- what there may be none of
 

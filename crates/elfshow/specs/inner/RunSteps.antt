@@ -11,7 +11,7 @@ use Rattle.elf_parts.specs.declared.section.SectionHeader.{SectionHeader}
 use Rattle.elf_check.specs.Object.{object_in}
 use Rattle.elf_check.specs.declared.hashcheck.any.HashSection.{HashSection}
 use Rattle.elfshow.specs.Verdicts.{verdict_of}
-use Rattle.elfshow.specs.declared.lines.hashes.Verdict.{Verdict}
+use Rattle.elfshow.specs.declared.hashes.Verdict.{Verdict}
 use Rattle.std.specs.Option.{option_map}
 use Rattle.elf_parts.specs.declared.parse.ParseError.{ParseError}
 use Rattle.elf_parts.specs.declared.parse.ParseError.TheVariants.{OutOfMemory}
@@ -23,7 +23,7 @@ use Rattle.elfshow.specs.declared.calls.RunError.{RunError}
 use Rattle.elfshow.specs.declared.calls.RunError.TheVariants.{Fault, Open, Write}
 use Rattle.elfshow.specs.declared.calls.Stop.{Stop}
 use Rattle.elfshow.specs.declared.calls.Stop.TheVariants as stop
-use Rattle.elfshow.specs.lines.NoAnswer.{refused_line}
+use Rattle.elf_lines.specs.NoAnswer.{refused_line}
 use Rattle.std.specs.Io.KnownBytes.{Keeps as KeepsBytes}
 
 -- why a run stopped, by what stopped its call

@@ -4,7 +4,7 @@ use Rattle.elf.specs.ElfBytes.{view}
 use Rattle.elfshow.specs.declared.calls.Call.{Call}
 use Rattle.elfshow.specs.calls.Question.{question}
 use Rattle.elfshow.specs.calls.Text.{text}
-use Rattle.elfshow.proofs.Writing.{Leaves}
+use Rattle.elf_lines.proofs.Writing.{Leaves}
 use Rattle.elfshow.proofs.calls.run_bytes.Given as goal
 
 -- the text so far, and then that of the calls that are left, is the text of all calls

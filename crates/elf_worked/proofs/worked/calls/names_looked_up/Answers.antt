@@ -5,7 +5,7 @@ use Rattle.elf_parts.specs.File.{ident_of}
 use Rattle.elf_parts.specs.Number.{bytes_at, number_at}
 use Rattle.elf_parts.specs.Record.{numbers_at}
 use Rattle.elf_parts.specs.StringTable.{string_at}
-use Rattle.elfshow.specs.lines.Sections.{place_fields, reading_fields}
+use Rattle.elf_lines.specs.Sections.{place_fields, reading_fields}
 use Rattle.std.specs.Fmt.{digits}
 use Rattle.elf_worked.proofs.worked.calls.names_looked_up.Goals as goal
 

@@ -5,7 +5,7 @@ use Rattle.elf_parts.specs.File.{ident_of}
 use Rattle.elf_parts.specs.Number.{bytes_at, number_at}
 use Rattle.elf_parts.specs.Record.{numbers_at}
 use Rattle.elf_parts.specs.StringTable.{string_at}
-use Rattle.elfshow.specs.lines.Symbols.{symbol_fields}
+use Rattle.elf_lines.specs.Symbols.{symbol_fields}
 use Rattle.std.specs.Fmt.{digits}
 use Rattle.elf_worked.proofs.worked.calls.symbols_listed.Goals as goal
 

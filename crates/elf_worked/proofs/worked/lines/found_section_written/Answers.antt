@@ -1,5 +1,5 @@
 use Rattle.std.proofs.Common.{refl}
-use Rattle.elfshow.specs.lines.Sections.{place_fields, reading_fields}
+use Rattle.elf_lines.specs.Sections.{place_fields, reading_fields}
 use Rattle.std.specs.Fmt.{digits}
 use Rattle.elf_worked.proofs.worked.lines.found_section_written.Goals as goal
 

@@ -1,5 +1,5 @@
 use Rattle.std.proofs.Common.{refl}
-use Rattle.elfshow.specs.lines.Segments.{segment_places, segment_sizes}
+use Rattle.elf_lines.specs.Segments.{segment_places, segment_sizes}
 use Rattle.std.specs.Fmt.{digits}
 use Rattle.elf_worked.proofs.worked.lines.segment_written.Goals as goal
 

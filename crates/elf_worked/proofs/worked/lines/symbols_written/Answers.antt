@@ -1,6 +1,6 @@
 use Rattle.std.proofs.Common.{refl}
 use Rattle.elf_parts.specs.StringTable.{string_at}
-use Rattle.elfshow.specs.lines.Symbols.{symbol_fields}
+use Rattle.elf_lines.specs.Symbols.{symbol_fields}
 use Rattle.std.specs.Fmt.{digits}
 use Rattle.elf_worked.proofs.worked.lines.symbols_written.Goals as goal
 

@@ -3,7 +3,7 @@ use Rattle.elfshow.proofs.StreamRuns.{section_refused, section_written}
 use Rattle.elf.specs.Ranges.{section_ranges}
 use Rattle.elfshow.specs.calls.Question.{Data}
 use Rattle.elf.specs.Data.{section_data, data_view}
-use Rattle.elfshow.specs.lines.Data.{section_data_line}
+use Rattle.elf_lines.specs.Data.{section_data_line}
 use Rattle.elfshow.proofs.calls.stream.write_data.Goals as goal
 
 pub returns-in-Err : goal.returns-in-Err

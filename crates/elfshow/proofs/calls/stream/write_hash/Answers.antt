@@ -13,7 +13,7 @@ use Rattle.elfshow.specs.calls.Question.{Hash}
 use Rattle.elfshow.specs.calls.Ranges.{checked_ranges}
 use Rattle.elfshow.specs.calls.Text.{checked_as, checked_for, unless_absent, unless_none}
 use Rattle.elfshow.specs.inner.RunSteps.{checked_apart}
-use Rattle.elfshow.specs.lines.Hashes.{verdict_line}
+use Rattle.elfshow.specs.Hashes.{verdict_line}
 use Rattle.elfshow.proofs.StreamRuns.{apart_refused, call_refused_given, outer_refused}
 use Rattle.elfshow.proofs.calls.stream.write_hash.Goals as goal
 

@@ -3,7 +3,7 @@ use Rattle.elf.specs.Answers.{section_header_by_name}
 use Rattle.elf.specs.Ranges.{headers_alone, names_ranges}
 use Rattle.elf.specs.StreamFile.{stream_file}
 use Rattle.elfshow.specs.calls.Question.{Name}
-use Rattle.elfshow.specs.lines.Sections.{found_line}
+use Rattle.elf_lines.specs.Sections.{found_line}
 use Rattle.elfshow.specs.calls.Text.{unless_none}
 use Rattle.elfshow.proofs.StreamRuns.{call_refused, outer_refused}
 use Rattle.elfshow.proofs.calls.stream.write_named.Goals as goal

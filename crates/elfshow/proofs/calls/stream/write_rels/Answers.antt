@@ -3,8 +3,8 @@ use Rattle.elfshow.proofs.StreamRuns.{section_refused}
 use Rattle.elf.specs.Ranges.{typed_section_ranges}
 use Rattle.elfshow.specs.calls.Question.{Rels}
 use Rattle.elf.specs.Answers.{rels_left, section_data_as_rels}
-use Rattle.elfshow.specs.lines.Counted.{counted_lines}
-use Rattle.elfshow.specs.lines.Relocations.{rel_line}
+use Rattle.elf_lines.specs.Counted.{counted_lines}
+use Rattle.elf_lines.specs.Relocations.{rel_line}
 use Rattle.elfshow.proofs.calls.stream.write_rels.Goals as goal
 
 pub returns-in-Err : goal.returns-in-Err

@@ -4,8 +4,8 @@ use Rattle.elf.specs.Ranges.{typed_section_ranges}
 use Rattle.elfshow.specs.calls.Question.{Notes}
 use Rattle.elf.specs.Answers.{section_data_as_notes}
 use Rattle.elf_parts.specs.Note.{notes_left}
-use Rattle.elfshow.specs.lines.Counted.{counted_lines}
-use Rattle.elfshow.specs.lines.Notes.{note_line}
+use Rattle.elf_lines.specs.Counted.{counted_lines}
+use Rattle.elf_lines.specs.Notes.{note_line}
 use Rattle.elfshow.proofs.calls.stream.write_section_notes.Goals as goal
 
 pub returns-in-Err : goal.returns-in-Err

@@ -4,8 +4,8 @@ use Rattle.elf.specs.Ranges.{typed_section_ranges}
 use Rattle.elfshow.specs.calls.Question.{Strings}
 use Rattle.elf.specs.Answers.{section_data_as_strtab}
 use Rattle.elf_parts.specs.StringTable.{strings_view}
-use Rattle.elfshow.specs.lines.Counted.{counted_lines}
-use Rattle.elfshow.specs.lines.Strings.{string_line, strings_of}
+use Rattle.elf_lines.specs.Counted.{counted_lines}
+use Rattle.elf_lines.specs.Strings.{string_line, strings_of}
 use Rattle.elfshow.proofs.calls.stream.write_section_strings.Goals as goal
 
 pub returns-in-Err : goal.returns-in-Err

@@ -3,8 +3,8 @@ use Rattle.elf.specs.StreamFile.{stream_file}
 use Rattle.elf.specs.Names.{headers_with_names, name_table}
 use Rattle.elf.specs.Names.{listed_view}
 use Rattle.elfshow.specs.calls.Question.{Sections}
-use Rattle.elfshow.specs.lines.Counted.{counted_lines}
-use Rattle.elfshow.specs.lines.Sections.{section_line}
+use Rattle.elf_lines.specs.Counted.{counted_lines}
+use Rattle.elf_lines.specs.Sections.{section_line}
 use Rattle.elfshow.proofs.StreamRuns.{call_refused, inner_refused, outer_refused}
 use Rattle.elfshow.proofs.calls.stream.write_sections.Goals as goal
 

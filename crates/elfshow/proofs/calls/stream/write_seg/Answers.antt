@@ -3,7 +3,7 @@ use Rattle.elfshow.proofs.StreamRuns.{segment_refused, segment_written}
 use Rattle.elf.specs.Ranges.{segment_ranges}
 use Rattle.elfshow.specs.calls.Question.{Seg}
 use Rattle.elf.specs.Answers.{segment_data}
-use Rattle.elfshow.specs.lines.Data.{segment_data_line}
+use Rattle.elf_lines.specs.Data.{segment_data_line}
 use Rattle.elfshow.proofs.calls.stream.write_seg.Goals as goal
 
 pub returns-in-Err : goal.returns-in-Err

@@ -12,7 +12,7 @@ use Rattle.elfshow.specs.calls.Question.{Versions}
 use Rattle.elfshow.specs.calls.Ranges.{call_ranges}
 use Rattle.elfshow.specs.calls.Text.{symbol_count, unless_none}
 use Rattle.elfshow.specs.inner.RunSteps.{Gives}
-use Rattle.elfshow.specs.lines.Versions.{versions_listed}
+use Rattle.elf_lines.specs.Versions.{versions_listed}
 use Rattle.elfshow.proofs.StreamRuns.{behind_refused, both_refused, both_known, call_refused, call_written, first_refused, gives_answer, gives_of, gives_same, cached_back, cached_both, cached_front, inner_refused, leaves_later, still_cached}
 use Rattle.elfshow.proofs.calls.stream.write_symbol_versions.Goals as goal
 

@@ -1,0 +1,9 @@
+pub mod Writing
+pub mod Adding
+pub mod Digits
+pub mod Blocks
+pub mod Pairs
+pub mod Escaping
+pub mod Listing
+pub mod StringWalk
+pub mod VersionTexts

@@ -1,0 +1,10 @@
+use Rattle.std.proofs.Common.{drop}
+use Rattle.elf_lines.specs.Pieces.{escaped}
+use Rattle.elf_lines.proofs.Adding.{Leads}
+use Rattle.elf_lines.proofs.line_buffer.LineBuffer.put_escaped.Given as goal
+
+-- what was added so far, and then the text of the bytes that are left, is the text of all bytes
+abbrev pub invariant-loop-byte : goal.invariant-loop-byte
+invariant-loop-byte g l =
+    Leads (g.W.Write.contents l.initial.out) l.initial.self (g.W.Write.contents l.out) l.self
+    (escaped (drop l.byte-index l.text)) (escaped l.text)
