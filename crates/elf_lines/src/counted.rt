@@ -23,7 +23,7 @@ pub trait Line {
             (line self.now k item.now) };
 }
 
-/// The lines of the items of an iterator, and their number. Stores none of the items.
+/// Writes the lines of the items of an iterator, and their number. Stores none of the items.
 pub fn write_list<L: Line, I: Iterator<Item = L::Item> + Drop, W: Write>(
     items: I,
     line: &L,
@@ -49,7 +49,7 @@ where
     write_end(count, out)
 }
 
-/// The lines of a slice.
+/// Writes the lines of the items of a slice, and their number.
 pub fn write_slice<L: Line, W: Write>(items: &[L::Item], line: &L, out: &mut W) -> io::Result<()>
     ensures { OnOk result (Appends (W.contents out.old) (W.contents out.new)
         (counted_lines (L.line line.now) items.now)) }
@@ -67,14 +67,14 @@ pub fn write_slice<L: Line, W: Write>(items: &[L::Item], line: &L, out: &mut W) 
     write_end(number, out)
 }
 
-/// The last line of a list of `count` items.
+/// Writes the last line of a list of `count` items.
 pub fn write_end<W: Write>(count: u64, out: &mut W) -> io::Result<()>
     ensures { OnOk result (Appends (W.contents out.old) (W.contents out.new) (end_line count)) }
 {
     writeln!(out, "end {count}")
 }
 
-/// The lines of the records of a table.
+/// Writes the lines of the records of a table, and their number.
 pub fn write_records<E: EndianParse, L: Line, W: Write>(
     records: ParsingIterator<'_, E, L::Item>,
     line: &L,

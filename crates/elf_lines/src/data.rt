@@ -10,7 +10,7 @@ use elf_parts::compression::CompressionHeader;
 use std::io;
 use std::io::Write;
 
-/// The line of a section's bytes, and of the compression header in front of them, if there is one.
+/// Writes the line of a section's bytes, and of the compression header in front of them, if there is one.
 pub fn write_section_data<W: Write>(
     bytes: &[u8],
     header: Option<&CompressionHeader>,
@@ -26,7 +26,7 @@ pub fn write_section_data<W: Write>(
     lines.end(out)
 }
 
-/// The line of a segment's bytes.
+/// Writes the line of a segment's bytes.
 pub fn write_segment_data<W: Write>(bytes: &[u8], out: &mut W) -> io::Result<()>
     ensures { OnOk result (Appends (W.contents out.old) (W.contents out.new) (segment_data_line bytes.now)) }
 {

@@ -14,7 +14,7 @@ use elf_parts::file::{Class, FileHeader};
 use std::io;
 use std::io::Write;
 
-/// The line of the header.
+/// Writes the line of the file header.
 pub fn write_header<E: EndianParse, W: Write>(ehdr: &FileHeader<E>, out: &mut W) -> io::Result<()>
     ensures { OnOk result (Appends (W.contents out.old) (W.contents out.new)
         (header_line (E.little ehdr.now.endianness) ehdr.now)) }

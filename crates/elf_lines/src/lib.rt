@@ -1,5 +1,9 @@
-//! The lines of a listing, one module for each subject. A function that writes a line takes what readers return, and
-//! does not depend on the reader.
+//! The lines of a listing, one module for each subject. What writes a line takes what readers return, and does not
+//! depend on the reader.
+//!
+//! A function `write_..` writes whole lines to `out`. Its only error is that of the writer; how much of the text the
+//! writer got is then not stated. A function `add_..` and the methods of `LineBuffer` add to a line in a buffer, whose
+//! `end` writes it and returns the error. Nothing is allocated.
 #![tactic(auto)]
 
 pub mod counted;

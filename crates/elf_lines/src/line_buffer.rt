@@ -39,6 +39,7 @@ impl Model for LineBuffer {
 }
 
 impl LineBuffer {
+    /// A buffer in which nothing waits.
     pub fn empty() -> LineBuffer
         ensures { result ≡ Some [] }
     {

@@ -6,21 +6,21 @@ ghost use Rattle.elf_lines.specs.NoAnswer.{absent_line, none_line, refused_line}
 use std::io;
 use std::io::Write;
 
-/// The line of a call for which the reader returns an error.
+/// Writes the line of a call for which the reader returns an error.
 pub fn write_refused<W: Write>(out: &mut W) -> io::Result<()>
     ensures { OnOk result (Appends (W.contents out.old) (W.contents out.new) refused_line) }
 {
     writeln!(out, "refused")
 }
 
-/// The line of a section or a segment that the file does not have.
+/// Writes the line of a section or a segment that the file does not have.
 pub fn write_absent<W: Write>(out: &mut W) -> io::Result<()>
     ensures { OnOk result (Appends (W.contents out.old) (W.contents out.new) absent_line) }
 {
     writeln!(out, "absent")
 }
 
-/// The line of a kind of data that the file does not have.
+/// Writes the line of a kind of data that the file does not have.
 pub fn write_none<W: Write>(out: &mut W) -> io::Result<()>
     ensures { OnOk result (Appends (W.contents out.old) (W.contents out.new) none_line) }
 {

@@ -69,7 +69,7 @@ fn add_other<W: Write>(note: &NoteAny<'_>, lines: &mut LineBuffer, out: &mut W)
     lines.word("\n", out);
 }
 
-/// The lines of notes.
+/// Writes the lines of notes, and their number.
 pub fn write_notes<E: EndianParse, W: Write>(
     notes: NoteIterator<'_, E>,
     out: &mut W,

@@ -96,7 +96,7 @@ fn add_reading_fields<W: Write>(section: &SectionHeader, lines: &mut LineBuffer,
     lines.decimal(" entsize=", sh_entsize, out);
 }
 
-/// The line of a section that was looked up by name.
+/// Writes the line of a section that was looked up by name.
 pub fn write_found<W: Write>(section: &SectionHeader, out: &mut W) -> io::Result<()>
     ensures { OnOk result (Appends (W.contents out.old) (W.contents out.new) (found_line section.now)) }
 {

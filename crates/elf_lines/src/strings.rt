@@ -12,7 +12,8 @@ use elf_parts::string_table::StringTable;
 use std::io;
 use std::io::Write;
 
-/// The lines of the strings of a table, one after the other, up to the first offset at which no string can be read.
+/// Writes the lines of the strings of a table, one after the other, up to the first offset at which no string can be
+/// read, and their number.
 pub fn write_strings<W: Write>(strings: StringTable<'_>, out: &mut W) -> io::Result<()>
     ensures { OnOk result (Appends (W.contents out.old) (W.contents out.new)
         (counted_lines string_line (strings_of (strings_view strings.entry)))) }
