@@ -4,8 +4,6 @@
 #[cfg(test)]
 mod abi_values;
 #[cfg(test)]
-mod clones;
-#[cfg(test)]
 mod faults;
 #[cfg(test)]
 mod files;
@@ -25,8 +23,6 @@ mod promises;
 mod records;
 #[cfg(test)]
 mod refusals;
-#[cfg(test)]
-mod resolving;
 #[cfg(test)]
 mod shown;
 #[cfg(test)]

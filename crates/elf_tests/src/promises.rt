@@ -2,13 +2,12 @@
 use crate::files::COUNTING;
 use elf::ParseError;
 use elf::endian::{AnyEndian, BigEndian, EndianParse, LittleEndian};
-use elf::file::{Class, FileHeader};
-use elf::laws::equality::{equal_file_headers, equal_program_headers, equal_section_headers};
+use elf::file::Class;
+use elf::laws::equality::equal_section_headers;
 use elf::laws::numbers::big_is_little_reversed;
 use elf::laws::tables::{get_succeeds_below_len, iter_gives_what_get_gives};
 use elf::parse::{ParseAt, ParsingTable};
 use elf::section::{SectionHeader, SectionHeaderTable};
-use elf::segment::ProgramHeader;
 use elf_examples::even_byte::EvenByte;
 use elf_examples::triple::Triple;
 use std::fmt::Debug;
@@ -85,17 +84,6 @@ const SECTION: SectionHeader = SectionHeader {
     sh_entsize: 1,
 };
 
-const SEGMENT: ProgramHeader = ProgramHeader {
-    p_type: 1,
-    p_offset: 1,
-    p_vaddr: 1,
-    p_paddr: 1,
-    p_filesz: 1,
-    p_memsz: 1,
-    p_flags: 1,
-    p_align: 1,
-};
-
 #[test]
 fn section_headers_differ_by_one_field(rt: HostRuntime) {
     let same = SECTION;
@@ -145,150 +133,5 @@ fn section_headers_differ_by_one_field(rt: HostRuntime) {
     ] {
         equal_section_headers(&SECTION, &other);
         assert!(rt; other != SECTION, "{other:?}");
-    }
-}
-
-#[test]
-fn program_headers_differ_by_one_field(rt: HostRuntime) {
-    let same = SEGMENT;
-    equal_program_headers(&SEGMENT, &same);
-    assert!(rt; same == SEGMENT);
-    for other in [
-        ProgramHeader {
-            p_type: 0,
-            ..SEGMENT
-        },
-        ProgramHeader {
-            p_offset: 0,
-            ..SEGMENT
-        },
-        ProgramHeader {
-            p_vaddr: 0,
-            ..SEGMENT
-        },
-        ProgramHeader {
-            p_paddr: 0,
-            ..SEGMENT
-        },
-        ProgramHeader {
-            p_filesz: 0,
-            ..SEGMENT
-        },
-        ProgramHeader {
-            p_memsz: 0,
-            ..SEGMENT
-        },
-        ProgramHeader {
-            p_flags: 0,
-            ..SEGMENT
-        },
-        ProgramHeader {
-            p_align: 0,
-            ..SEGMENT
-        },
-    ] {
-        equal_program_headers(&SEGMENT, &other);
-        assert!(rt; other != SEGMENT, "{other:?}");
-    }
-}
-
-const HEADER: FileHeader<AnyEndian> = FileHeader {
-    class: Class::ELF32,
-    endianness: AnyEndian::Little,
-    version: 1,
-    osabi: 1,
-    abiversion: 1,
-    e_type: 1,
-    e_machine: 1,
-    e_entry: 1,
-    e_phoff: 1,
-    e_shoff: 1,
-    e_flags: 1,
-    e_ehsize: 1,
-    e_phentsize: 1,
-    e_phnum: 1,
-    e_shentsize: 1,
-    e_shnum: 1,
-    e_shstrndx: 1,
-};
-
-/// The header with one field changed, by its number.
-fn changed(field: usize) -> FileHeader<AnyEndian> {
-    match field {
-        0 => FileHeader {
-            class: Class::ELF64,
-            ..HEADER
-        },
-        1 => FileHeader {
-            endianness: AnyEndian::Big,
-            ..HEADER
-        },
-        2 => FileHeader {
-            version: 0,
-            ..HEADER
-        },
-        3 => FileHeader { osabi: 0, ..HEADER },
-        4 => FileHeader {
-            abiversion: 0,
-            ..HEADER
-        },
-        5 => FileHeader {
-            e_type: 0,
-            ..HEADER
-        },
-        6 => FileHeader {
-            e_machine: 0,
-            ..HEADER
-        },
-        7 => FileHeader {
-            e_entry: 0,
-            ..HEADER
-        },
-        8 => FileHeader {
-            e_phoff: 0,
-            ..HEADER
-        },
-        9 => FileHeader {
-            e_shoff: 0,
-            ..HEADER
-        },
-        10 => FileHeader {
-            e_flags: 0,
-            ..HEADER
-        },
-        11 => FileHeader {
-            e_ehsize: 0,
-            ..HEADER
-        },
-        12 => FileHeader {
-            e_phentsize: 0,
-            ..HEADER
-        },
-        13 => FileHeader {
-            e_phnum: 0,
-            ..HEADER
-        },
-        14 => FileHeader {
-            e_shentsize: 0,
-            ..HEADER
-        },
-        15 => FileHeader {
-            e_shnum: 0,
-            ..HEADER
-        },
-        16 => FileHeader {
-            e_shstrndx: 0,
-            ..HEADER
-        },
-        _ => HEADER,
-    }
-}
-
-#[test]
-fn file_headers_differ_by_one_field(rt: HostRuntime) {
-    for field in 0..=17 {
-        let other = changed(field);
-        equal_file_headers(&HEADER, &other);
-        assert!(rt; (other == HEADER) == (field == 17), "{other:?}");
     }
 }

@@ -1,5 +1,5 @@
-//! Values that are shown for a debugger, and values that are copied.
-use crate::files::{HEADER_ALONE, TWO_SECTIONS};
+//! Values that are shown for a debugger.
+use crate::files::TWO_SECTIONS;
 use elf::endian::{AnyEndian, BigEndian, LittleEndian};
 use elf::file::Class;
 use elf::parse::{ParsingIterator, ParsingTable};
@@ -50,30 +50,4 @@ fn files_and_runs_are_shown(rt: HostRuntime) -> Result<(), Fail> {
     );
     assert_shown(&rt, RequestError::Usage, "Usage");
     Ok(())
-}
-
-/// Whether a copy is equal to its original.
-fn copies<T: Copy + Eq + Drop>(value: T) -> bool {
-    let copy = value;
-    copy == value
-}
-
-#[test]
-fn values_are_copied(rt: HostRuntime) -> Result<(), Fail> {
-    let file = ElfBytes::<LittleEndian>::minimal_parse(&HEADER_ALONE)?;
-    assert!(rt; copies(file.ehdr) && copies(file.ehdr.class) && copies(AnyEndian::Big));
-    assert!(rt; copies(LittleEndian) && copies(BigEndian) && copies(FileOrder::LowFirst));
-    assert!(rt; copies(Call::Header) && copies(RequestError::Usage));
-    let names = StringTable::new(b"\0a\0");
-    let again = names;
-    assert!(rt; again.get(1).ok() == Some("a") && names.get(1).ok() == Some("a"));
-    Ok(())
-}
-
-#[test]
-fn other_values_are_not_equal(rt: HostRuntime) {
-    assert!(rt; Class::ELF32 != Class::ELF64 && AnyEndian::Big != AnyEndian::Little);
-    assert!(rt; FileOrder::LowFirst != FileOrder::HighFirst && Call::Header != Call::Sections);
-    assert!(rt; RequestError::Usage != RequestError::OutOfMemory);
-    assert!(rt; StringTable::default().get_raw(0).is_err());
 }
