@@ -1,10 +1,10 @@
 -- What a pass over the sections finds is the last part of each kind.
 use Rattle.std.proofs.Common.{◌≡◌, List, [], ◌∷◌, map, None, Result, Ok, Err, refl, ap, ◌∙◌}
 use Rattle.std.specs.List.{filter_map, last_or}
-use Rattle.elf_parts.specs.Number.{ok_map}
-use Rattle.elf_parts.specs.Record.{◌>>=◌}
-use Rattle.elf_parts.specs.declared.parse.ParseError.{ParseError}
-use Rattle.elf_parts.specs.declared.section.SectionHeader.{SectionHeader}
+use Rattle.elf_records.specs.Number.{ok_map}
+use Rattle.elf_records.specs.Record.{◌>>=◌}
+use Rattle.elf_records.specs.declared.parse.ParseError.{ParseError}
+use Rattle.elf_records.specs.declared.section.SectionHeader.{SectionHeader}
 use Rattle.elf.specs.Common.{CommonData, CommonPart, Symbols, DynamicSymbols, DynamicEntries, SysvHash, GnuHash, Nothing}
 use Rattle.elf.specs.Common.{all_ok, as_dynamic, as_dynsyms, as_dynsyms_strs, as_gnu_hash, as_symtab, as_symtab_strs, as_sysv_hash}
 use Rattle.elf.specs.Common.{common_of_sections, common_part}

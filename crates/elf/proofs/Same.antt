@@ -4,17 +4,17 @@ use Rattle.std.specs.Prelude.{ok_or, slice_get}
 use Rattle.std.specs.Result.{result_ok}
 use Rattle.std.proofs.lemmas.List.{length-take}
 use Rattle.elf_abi.specs.Values.{sht_dynsym, sht_symtab}
-use Rattle.elf_parts.specs.Number.{bytes_at, ok_map}
-use Rattle.elf_parts.specs.Record.{◌>>=◌, size_by}
-use Rattle.elf_parts.specs.Section.{section_header_layout, section_header_reads}
-use Rattle.elf_parts.specs.Symbol.{symbol_layout}
+use Rattle.elf_records.specs.Number.{bytes_at, ok_map}
+use Rattle.elf_records.specs.Record.{◌>>=◌, size_by}
+use Rattle.elf_records.specs.Section.{section_header_layout, section_header_reads}
+use Rattle.elf_records.specs.Symbol.{symbol_layout}
 use Rattle.elf_parts.specs.gnu_symver.Lists.{ver_defs, ver_needs}
 use Rattle.elf_parts.specs.gnu_symver.Table.{Definitions, Needs, Versions}
 use Rattle.elf_parts.specs.Table.{Table, table_get, table_in, table_items}
-use Rattle.elf_parts.specs.declared.file.FileHeader.{FileHeader}
-use Rattle.elf_parts.specs.declared.parse.ParseError.{ParseError}
-use Rattle.elf_parts.specs.declared.section.SectionHeader.{SectionHeader}
-use Rattle.elf_parts.specs.inner.RecordLaws.{bind-ok, bytes_at-ok}
+use Rattle.elf_records.specs.declared.file.FileHeader.{FileHeader}
+use Rattle.elf_records.specs.declared.parse.ParseError.{ParseError}
+use Rattle.elf_records.specs.declared.section.SectionHeader.{SectionHeader}
+use Rattle.elf_records.specs.inner.RecordLaws.{bind-ok, bytes_at-ok}
 use Rattle.elf.specs.Answers.{first_named, first_symbols, symbol_sections, symbols_in, with_linked, symbol_version_table}
 use Rattle.elf.specs.Headers.{entry_size, first_section_of, if_found}
 use Rattle.elf.specs.StreamFile.{listed_at, listed_file, stream_file}

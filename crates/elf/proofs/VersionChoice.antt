@@ -1,7 +1,7 @@
 -- The version sections as a pass over the sections finds them are those that the definition names.
 use Rattle.std.proofs.Common.{◌≡◌, Bool, true, false, ◌&&◌, ◌||◌, if◌then◌else◌, cond, List, [], ◌∷◌, Option, Some, None, is_some, refl, ap, sym, ◌∙◌}
 use Rattle.std.specs.List.{filter, last_or, list_any}
-use Rattle.elf_parts.specs.declared.section.SectionHeader.{SectionHeader}
+use Rattle.elf_records.specs.declared.section.SectionHeader.{SectionHeader}
 use Rattle.elf.specs.Headers.{is_of_type}
 use Rattle.elf.specs.Versions.{up_to, version_sections}
 use Rattle.elf.specs.inner.Passes.{no_version_sections, with_version_section}

@@ -3,22 +3,22 @@ use Rattle.std.specs.Prelude.{ℕ, ◌==◌, if◌then◌else◌, List, Option, 
 use Rattle.std.specs.List.{find}
 use Rattle.elf_abi.specs.Values.{pt_dynamic, pt_note, sht_dynamic, sht_dynsym, sht_note, sht_rel}
 use Rattle.elf_abi.specs.Values.{sht_rela, sht_strtab, sht_symtab}
-use Rattle.elf_parts.specs.Dynamic.{dyn_layout}
+use Rattle.elf_records.specs.Dynamic.{dyn_layout}
 use Rattle.elf_parts.specs.Note.{NoteContent, notes_in}
-use Rattle.elf_parts.specs.Number.{bytes_at, ok_map}
-use Rattle.elf_parts.specs.Record.{◌>>=◌, size_by}
-use Rattle.elf_parts.specs.Relocation.{rel_reads, rela_reads}
-use Rattle.elf_parts.specs.Symbol.{symbol_layout}
+use Rattle.elf_records.specs.Number.{bytes_at, ok_map}
+use Rattle.elf_records.specs.Record.{◌>>=◌, size_by}
+use Rattle.elf_records.specs.Relocation.{rel_reads, rela_reads}
+use Rattle.elf_records.specs.Symbol.{symbol_layout}
 use Rattle.elf_parts.specs.StringTable.{strings_view}
 use Rattle.elf_parts.specs.gnu_symver.Table.{Versions}
 use Rattle.elf_parts.specs.Table.{Table, items_left, table_view}
-use Rattle.elf_parts.specs.declared.parse.ParseError.{ParseError}
-use Rattle.elf_parts.specs.declared.parse.ParseError.TheVariants.{UnexpectedSegmentType}
+use Rattle.elf_records.specs.declared.parse.ParseError.{ParseError}
+use Rattle.elf_records.specs.declared.parse.ParseError.TheVariants.{UnexpectedSegmentType}
 use Rattle.elf_parts.specs.declared.parse.table.ParsingIterator.{ParsingIterator}
 use Rattle.elf_parts.specs.declared.parse.table.ParsingTable.{ParsingTable}
-use Rattle.elf_parts.specs.declared.relocation.Rel.{Rel}
-use Rattle.elf_parts.specs.declared.relocation.Rela.{Rela}
-use Rattle.elf_parts.specs.declared.section.SectionHeader.{SectionHeader}
+use Rattle.elf_records.specs.declared.relocation.Rel.{Rel}
+use Rattle.elf_records.specs.declared.relocation.Rela.{Rela}
+use Rattle.elf_records.specs.declared.section.SectionHeader.{SectionHeader}
 use Rattle.elf_parts.specs.declared.segment.ProgramHeader.{ProgramHeader}
 use Rattle.elf_parts.specs.declared.string_table.StringTable.{StringTable}
 use Rattle.elf.specs.Headers.{entry_size, if_found, first_section_of, first_segment_of}

@@ -5,13 +5,13 @@ use Rattle.std.specs.List.{filter_map, last_or}
 use Rattle.std.specs.Option.{option_map}
 use Rattle.elf_abi.specs.Values.{pt_dynamic, sht_dynamic, sht_dynsym, sht_gnu_hash, sht_hash, sht_symtab}
 use Rattle.elf_parts.specs.GnuFind.{GnuTable, gnu_section, gnu_view}
-use Rattle.elf_parts.specs.Number.{ok_map}
-use Rattle.elf_parts.specs.Record.{◌>>=◌}
+use Rattle.elf_records.specs.Number.{ok_map}
+use Rattle.elf_records.specs.Record.{◌>>=◌}
 use Rattle.elf_parts.specs.StringTable.{strings_view}
 use Rattle.elf_parts.specs.SysvFind.{SysvTable, sysv_section, sysv_view}
 use Rattle.elf_parts.specs.Table.{Table, table_view}
-use Rattle.elf_parts.specs.declared.parse.ParseError.{ParseError}
-use Rattle.elf_parts.specs.declared.section.SectionHeader.{SectionHeader}
+use Rattle.elf_records.specs.declared.parse.ParseError.{ParseError}
+use Rattle.elf_records.specs.declared.section.SectionHeader.{SectionHeader}
 use Rattle.elf.specs.Answers.{section_dynamic, segment_dynamic, symbols_of}
 use Rattle.elf.specs.Headers.{first_segment_of, if_found}
 use Rattle.elf.specs.ObjectFile.{ObjectFile}

@@ -1,11 +1,11 @@
 -- What an opened file shows: its header as it is now, its bytes, and the two tables that it declares.
 use Rattle.std.specs.Prelude.{ℕ, List, [], Option, Some, None}
 use Rattle.std.specs.Option.{option_map}
-use Rattle.elf_parts.specs.Section.{section_header_reads}
+use Rattle.elf_records.specs.Section.{section_header_reads}
 use Rattle.elf_parts.specs.Segment.{program_header_reads}
 use Rattle.elf_parts.specs.Table.{Table, table_items, table_view}
-use Rattle.elf_parts.specs.declared.file.FileHeader.{FileHeader}
-use Rattle.elf_parts.specs.declared.section.SectionHeader.{SectionHeader}
+use Rattle.elf_records.specs.declared.file.FileHeader.{FileHeader}
+use Rattle.elf_records.specs.declared.section.SectionHeader.{SectionHeader}
 use Rattle.elf_parts.specs.declared.segment.ProgramHeader.{ProgramHeader}
 use Rattle.elf.specs.declared.elf_bytes.ElfBytes.{ElfBytes}
 

@@ -2,11 +2,11 @@
 use Rattle.std.specs.Prelude.{◌≡◌, ℕ, ◌+◌, ◌<◌, ◌&&◌, ◌⊎◌, Bool, IsTrue, nat_le, List, [], ◌∷◌, map}
 use Rattle.std.specs.Prelude.{Option, Result, Ok, Err, IfSome, OnOk, IfErr, IsOk, IsErr, is_some}
 use Rattle.std.specs.List.{list_any}
-use Rattle.elf_parts.specs.Number.{bytes_at}
-use Rattle.elf_parts.specs.declared.file.FileHeader.{FileHeader}
-use Rattle.elf_parts.specs.declared.parse.ParseError.{ParseError}
-use Rattle.elf_parts.specs.declared.parse.ParseError.TheVariants.{IOError, OutOfMemory}
-use Rattle.elf_parts.specs.declared.section.SectionHeader.{SectionHeader}
+use Rattle.elf_records.specs.Number.{bytes_at}
+use Rattle.elf_records.specs.declared.file.FileHeader.{FileHeader}
+use Rattle.elf_records.specs.declared.parse.ParseError.{ParseError}
+use Rattle.elf_records.specs.declared.parse.ParseError.TheVariants.{IOError, OutOfMemory}
+use Rattle.elf_records.specs.declared.section.SectionHeader.{SectionHeader}
 use Rattle.elf_parts.specs.declared.segment.ProgramHeader.{ProgramHeader}
 use Rattle.elf.specs.Opening.{opened}
 use Rattle.elf.specs.ElfBytes.{View, section_list, segment_list, with_header}

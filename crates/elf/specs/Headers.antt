@@ -2,12 +2,12 @@
 -- where a method looks for one of a type (gABI, chapters "Sections" and "Program Header").
 use Rattle.std.specs.Prelude.{ℕ, List, Option, Some, None, Result, Err, ◌==◌, if◌then◌else◌, Bool, filter, Ok}
 use Rattle.std.specs.List.{find, last_or}
-use Rattle.elf_parts.specs.Number.{bytes_at, ok_map}
-use Rattle.elf_parts.specs.Section.{section_header_reads}
+use Rattle.elf_records.specs.Number.{bytes_at, ok_map}
+use Rattle.elf_records.specs.Section.{section_header_reads}
 use Rattle.elf_parts.specs.Table.{Table, table_get}
-use Rattle.elf_parts.specs.declared.parse.ParseError.{ParseError}
-use Rattle.elf_parts.specs.declared.parse.ParseError.TheVariants.{BadOffset, BadEntsize}
-use Rattle.elf_parts.specs.declared.section.SectionHeader.{SectionHeader}
+use Rattle.elf_records.specs.declared.parse.ParseError.{ParseError}
+use Rattle.elf_records.specs.declared.parse.ParseError.TheVariants.{BadOffset, BadEntsize}
+use Rattle.elf_records.specs.declared.section.SectionHeader.{SectionHeader}
 use Rattle.elf_parts.specs.declared.segment.ProgramHeader.{ProgramHeader}
 
 -- ---- a header, and its bytes

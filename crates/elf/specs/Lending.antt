@@ -3,7 +3,7 @@ use Rattle.std.specs.Prelude.{ℕ, Bool, List, Option, Result}
 use Rattle.std.specs.Borrow.{Fml, RattleType, MutBor}
 use Rattle.std.specs.Io.BufRead.{Rests}
 use Rattle.std.specs.declared.alloc.Allocator as allocator
-use Rattle.elf_parts.specs.declared.parse.ParseError.{ParseError}
+use Rattle.elf_records.specs.declared.parse.ParseError.{ParseError}
 use Rattle.elf.specs.declared.source.StreamSource as source
 use Rattle.elf.specs.contracts.elf_stream.ElfStream.{the_row}
 use Rattle.elf.specs.Ranges.{headers_alone}

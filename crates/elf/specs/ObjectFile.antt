@@ -1,11 +1,11 @@
 -- An object file as the answers about it take it: headers and bytes, and no word of how a table of
 -- headers lies in the file. So it does not matter which reader has opened it.
 use Rattle.std.specs.Prelude.{ℕ, Bool, List, Result, is_some}
-use Rattle.elf_parts.specs.Record.{RecordType}
+use Rattle.elf_records.specs.Record.{RecordType}
 use Rattle.elf_parts.specs.Table.{Table, table_in, table_items}
-use Rattle.elf_parts.specs.declared.file.Class.{Class}
-use Rattle.elf_parts.specs.declared.parse.ParseError.{ParseError}
-use Rattle.elf_parts.specs.declared.section.SectionHeader.{SectionHeader}
+use Rattle.elf_records.specs.declared.file.Class.{Class}
+use Rattle.elf_records.specs.declared.parse.ParseError.{ParseError}
+use Rattle.elf_records.specs.declared.section.SectionHeader.{SectionHeader}
 use Rattle.elf_parts.specs.declared.segment.ProgramHeader.{ProgramHeader}
 use Rattle.elf.specs.Headers.{section_at}
 use Rattle.elf.specs.ElfBytes.{View, section_list, segment_list}

@@ -3,16 +3,16 @@
 use Rattle.std.specs.Prelude.{ℕ, ◌*◌, ◌==◌, Bool, if◌then◌else◌, List, Option, Some, None, Result, Ok}
 use Rattle.std.specs.Prelude.{Err}
 use Rattle.elf_abi.specs.Values.{ei_nident, pn_xnum}
-use Rattle.elf_parts.specs.Number.{bytes_at, ok_map}
-use Rattle.elf_parts.specs.Record.{◌>>=◌, record_by, size_by, size_of}
-use Rattle.elf_parts.specs.File.{header_with_tail, ident_of, tail_fields}
-use Rattle.elf_parts.specs.Section.{section_header_layout}
+use Rattle.elf_records.specs.Number.{bytes_at, ok_map}
+use Rattle.elf_records.specs.Record.{◌>>=◌, record_by, size_by, size_of}
+use Rattle.elf_records.specs.File.{header_with_tail, ident_of, tail_fields}
+use Rattle.elf_records.specs.Section.{section_header_layout}
 use Rattle.elf_parts.specs.Segment.{program_header_layout}
 use Rattle.elf_parts.specs.Table.{Table, table_in}
-use Rattle.elf_parts.specs.declared.file.FileHeader.{FileHeader}
-use Rattle.elf_parts.specs.declared.section.SectionHeader.{SectionHeader}
-use Rattle.elf_parts.specs.declared.parse.ParseError.{ParseError}
-use Rattle.elf_parts.specs.declared.parse.ParseError.TheVariants.{BadEntsize}
+use Rattle.elf_records.specs.declared.file.FileHeader.{FileHeader}
+use Rattle.elf_records.specs.declared.section.SectionHeader.{SectionHeader}
+use Rattle.elf_records.specs.declared.parse.ParseError.{ParseError}
+use Rattle.elf_records.specs.declared.parse.ParseError.TheVariants.{BadEntsize}
 use Rattle.elf.specs.ElfBytes.{View}
 
 -- n records of this size at an offset, if the header gives this size; `IntegerOverflow`

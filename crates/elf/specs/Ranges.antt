@@ -3,11 +3,11 @@
 use Rattle.std.specs.Prelude.{ℕ, Bool, ◌==◌, if◌then◌else◌, List, [], ◌∷◌, ◌++◌, Option, Some}
 use Rattle.std.specs.Prelude.{None, Result, Ok, Err}
 use Rattle.elf_abi.specs.Values.{pt_dynamic, pt_note, sht_dynamic, sht_nobits}
-use Rattle.elf_parts.specs.Dynamic.{dyn_layout}
-use Rattle.elf_parts.specs.Record.{◌>>=◌, size_by}
+use Rattle.elf_records.specs.Dynamic.{dyn_layout}
+use Rattle.elf_records.specs.Record.{◌>>=◌, size_by}
 use Rattle.elf_parts.specs.gnu_symver.Records.{version_index_layout}
-use Rattle.elf_parts.specs.declared.parse.ParseError.{ParseError}
-use Rattle.elf_parts.specs.declared.section.SectionHeader.{SectionHeader}
+use Rattle.elf_records.specs.declared.parse.ParseError.{ParseError}
+use Rattle.elf_records.specs.declared.section.SectionHeader.{SectionHeader}
 use Rattle.elf_parts.specs.declared.segment.ProgramHeader.{ProgramHeader}
 use Rattle.elf.specs.Answers.{symbol_sections}
 use Rattle.elf.specs.Headers.{entry_size, first_section_of, first_segment_of, if_found}

@@ -1,8 +1,8 @@
 -- An object file whose headers are lists, as a stream has them.
 use Rattle.std.specs.Prelude.{ℕ, Bool, List, Result, ok_or, slice_get}
-use Rattle.elf_parts.specs.declared.parse.ParseError.{ParseError}
-use Rattle.elf_parts.specs.declared.parse.ParseError.TheVariants.{BadOffset}
-use Rattle.elf_parts.specs.declared.section.SectionHeader.{SectionHeader}
+use Rattle.elf_records.specs.declared.parse.ParseError.{ParseError}
+use Rattle.elf_records.specs.declared.parse.ParseError.TheVariants.{BadOffset}
+use Rattle.elf_records.specs.declared.section.SectionHeader.{SectionHeader}
 use Rattle.elf.specs.ObjectFile.{ObjectFile}
 use Rattle.elf.specs.ElfStream.{Headers, Seen}
 

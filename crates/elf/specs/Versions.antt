@@ -3,14 +3,14 @@
 use Rattle.std.specs.Prelude.{ℕ, Bool, ◌&&◌, if◌then◌else◌, List, [], ◌∷◌, Result, Ok}
 use Rattle.std.specs.List.{list_any}
 use Rattle.elf_abi.specs.Values.{sht_gnu_verdef, sht_gnu_verneed, sht_gnu_versym}
-use Rattle.elf_parts.specs.Number.{ok_map}
-use Rattle.elf_parts.specs.Record.{◌>>=◌, size_by}
+use Rattle.elf_records.specs.Number.{ok_map}
+use Rattle.elf_records.specs.Record.{◌>>=◌, size_by}
 use Rattle.elf_parts.specs.gnu_symver.Lists.{ver_defs, ver_needs}
 use Rattle.elf_parts.specs.gnu_symver.Records.{version_index_layout}
 use Rattle.elf_parts.specs.gnu_symver.Table.{Definitions, Needs, Versions}
 use Rattle.elf_parts.specs.Table.{Table}
-use Rattle.elf_parts.specs.declared.parse.ParseError.{ParseError}
-use Rattle.elf_parts.specs.declared.section.SectionHeader.{SectionHeader}
+use Rattle.elf_records.specs.declared.parse.ParseError.{ParseError}
+use Rattle.elf_records.specs.declared.section.SectionHeader.{SectionHeader}
 use Rattle.elf.specs.Headers.{entry_size, if_found, is_of_type, last_section_of}
 use Rattle.elf.specs.ObjectFile.{ObjectFile, table_of}
 use Rattle.elf.specs.Headers.{section_range}

@@ -1,7 +1,7 @@
 //! The reader over a slice of a file's bytes.
 ghost use Rattle.std.specs.Prelude.{◌≡◌, ◌≤◌, IfOk, length};
 ghost use Rattle.std.specs.Option.{option_map};
-ghost use Rattle.elf_parts.specs.Number.{bytes_at, ok_map};
+ghost use Rattle.elf_records.specs.Number.{bytes_at, ok_map};
 ghost use Rattle.elf_parts.specs.Table.{table_view};
 ghost use Rattle.elf.specs.Opening.{first_section, header_at_front, opened, table_bytes};
 ghost use Rattle.elf.specs.inner.Tables.{declared_count, declared_table};
@@ -40,7 +40,7 @@ pub struct ElfBytes<'data, E: EndianParse> {
 }
 
 // `size` bytes of the data from `start` on.
-#[tactic(auto, unfolding(elf_parts::specs::Number::bytes_at))]
+#[tactic(auto, unfolding(elf_records::specs::Number::bytes_at))]
 fn get_bytes<'data>(data: &'data [u8], start: usize, size: usize) -> Result<&'data [u8], ParseError>
     ensures value { ok_map (λ bytes. bytes.now) result ≡ bytes_at size «data».now start }
     ensures within { IfOk result (λ bytes. length bytes.now ≤ length «data».now) }
@@ -91,7 +91,7 @@ fn record_count<E: EndianParse>(
 }
 
 // The bytes of `count` records from `offset` on. `entsize` is their size as the file header gives it.
-#[tactic(auto, unfolding(elf_parts::specs::Number::bytes_at))]
+#[tactic(auto, unfolding(elf_records::specs::Number::bytes_at))]
 fn table_bytes<'data, P: ParseAt>(
     class: Class,
     entsize: u16,

@@ -1,6 +1,6 @@
 //! A record at the front of a slice.
 ghost use Rattle.std.specs.Prelude.{◌≡◌, ◌≤◌, IfOk, length};
-ghost use Rattle.elf_parts.specs.Number.{ok_map};
+ghost use Rattle.elf_records.specs.Number.{ok_map};
 ghost use Rattle.elf.specs.Data.{at_front, data_view};
 
 use elf_parts::endian::EndianParse;

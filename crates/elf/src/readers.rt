@@ -7,7 +7,7 @@ ghost use Rattle.elf.specs.Opening.{opened};
 ghost use Rattle.elf.specs.Readers.{SameAnswers};
 ghost use Rattle.elf.specs.ElfStream.{Seen, headers_of};
 ghost use Rattle.elf.specs.ElfBytes.{View, with_header};
-ghost use Rattle.elf_parts.specs.declared.file.FileHeader.{FileHeader};
+ghost use Rattle.elf_records.specs.declared.file.FileHeader.{FileHeader};
 
 use crate::elf_stream::ElfStream;
 use crate::source::StreamSource;

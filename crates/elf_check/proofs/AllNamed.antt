@@ -4,7 +4,7 @@ use Rattle.std.specs.List.{Contains, filter_map}
 use Rattle.std.specs.Option.{IsSomeAnd}
 use Rattle.std.proofs.lemmas.Bool.{cases_lt}
 use Rattle.std.proofs.lemmas.Grind.{common_steps}
-use Rattle.elf_parts.specs.declared.symbol.Symbol.{Symbol}
+use Rattle.elf_records.specs.declared.symbol.Symbol.{Symbol}
 use Rattle.elf_parts.specs.Hash.{ReadsBelowCount, gnu_hash_of, sysv_hash_of, word_count}
 use Rattle.elf_parts.specs.GnuFind.{GnuTable}
 use Rattle.elf_parts.specs.SysvFind.{SysvTable}

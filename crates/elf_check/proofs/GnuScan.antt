@@ -6,9 +6,9 @@ use Rattle.std.specs.Str.{bytes_eq}
 use Rattle.std.proofs.lemmas.Bool.{cases_Bool, cases_lt, false≢true}
 use Rattle.std.proofs.lemmas.Grind.{common_steps}
 use Rattle.std.proofs.lemmas.Slice.Eq.{bytes_eq-Decides}
-use Rattle.elf_parts.specs.declared.symbol.Symbol.{Symbol}
+use Rattle.elf_records.specs.declared.symbol.Symbol.{Symbol}
 use Rattle.elf_parts.specs.Hash.{ReadsBelowCount, gnu_hash_of, named_symbol, word_at, word_count}
-use Rattle.elf_parts.specs.Class.{address_bits}
+use Rattle.elf_records.specs.Class.{address_bits}
 use Rattle.elf_parts.specs.GnuFind.{GnuTable, bloom_of, bloom_word, find_in_bucket, find_in_run, gnu_find, passes, word_decides}
 use Rattle.elf_parts.proofs.Runs.{run_found, run_ended, run_limit, run_next}
 use Rattle.elf_check.specs.Indexed.{IsLeastNamed, ScanGnu}

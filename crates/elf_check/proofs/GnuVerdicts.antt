@@ -1,6 +1,6 @@
 -- A fault that is true of a GNU section means that the section is not sound.
 use Rattle.std.proofs.Common.{◌≡◌, ℕ, ◌+◌, ◌/◌, List, Some, ap, ◌∙◌, subst, arith}
-use Rattle.elf_parts.specs.declared.symbol.Symbol.{Symbol}
+use Rattle.elf_records.specs.declared.symbol.Symbol.{Symbol}
 use Rattle.elf_parts.specs.GnuFind.{GnuTable}
 use Rattle.elf_parts.specs.Hash.{gnu_hash_of}
 use Rattle.elf_check.specs.Faults.{IsTrueOfGnu, NameIs}

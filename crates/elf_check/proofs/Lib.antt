@@ -7,5 +7,4 @@ pub mod SysvCount
 pub mod SysvReads
 pub mod NamedLists
 pub mod AllNamed
-pub mod Bindings
 pub mod SysvVerdicts

@@ -10,7 +10,7 @@ use Rattle.std.proofs.lemmas.List.Elements.{Contains-append_left, Contains-appen
 use Rattle.std.proofs.lemmas.Map.Keys.{IsDistinct-from_apart}
 use Rattle.std.proofs.lemmas.Map.Made.{is_member-Decides}
 use Rattle.std.proofs.lemmas.Map.Steps.{length-le_from_distinct_below}
-use Rattle.elf_parts.specs.declared.symbol.Symbol.{Symbol}
+use Rattle.elf_records.specs.declared.symbol.Symbol.{Symbol}
 use Rattle.elf_parts.specs.Hash.{sysv_hash_of, word_count}
 use Rattle.elf_parts.specs.SysvFind.{SysvTable}
 use Rattle.elf_check.specs.Indexed.{IndexedBelow, IsNumberOf, chain_lengths, first_zero, is_zero}

@@ -2,7 +2,7 @@
 use Rattle.std.proofs.Common.{◌≡◌, ℕ, zero, suc, ◌%◌, ◌<◌, ◌≤◌, List, Option, Some, None, ap, sym, ◌∙◌, subst, inl, inr, arith}
 use Rattle.std.specs.Option.{IsSomeAnd}
 use Rattle.std.proofs.lemmas.Bool.{cases_lt}
-use Rattle.elf_parts.specs.declared.symbol.Symbol.{Symbol}
+use Rattle.elf_records.specs.declared.symbol.Symbol.{Symbol}
 use Rattle.elf_parts.specs.Hash.{sysv_hash_of, word_count}
 use Rattle.elf_parts.specs.SysvFind.{SysvTable}
 use Rattle.elf_check.specs.Faults.{IsTrueOfSysv, Reaches}

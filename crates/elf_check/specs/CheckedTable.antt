@@ -5,7 +5,7 @@ use Rattle.std.specs.declared.cmp.PartialEq.{Ghosts as PartialEqGhosts}
 use Rattle.std.specs.declared.default.Default.{Ghosts as DefaultGhosts}
 use Rattle.elf_parts.specs.GnuFind.{GnuTable}
 use Rattle.elf_parts.specs.SysvFind.{SysvTable}
-use Rattle.elf_parts.specs.declared.endian.EndianParse.{Ghosts as EndianGhosts}
+use Rattle.elf_records.specs.declared.endian.EndianParse.{Ghosts as EndianGhosts}
 use Rattle.elf_check.specs.Object.{ByGnu, BySysv, Object}
 use Rattle.elf_check.specs.WithSymbols.{WithSymbols, gnu_with, sysv_with}
 use Rattle.elf_check.specs.declared.hashcheck.gnu.CheckedGnuHash.{CheckedGnuHash}

@@ -7,7 +7,7 @@ use Rattle.std.specs.Option.{IsSomeAnd}
 use Rattle.elf_parts.specs.GnuFind.{GnuTable}
 use Rattle.elf_parts.specs.Hash.{word_count}
 use Rattle.elf_parts.specs.SysvFind.{SysvTable}
-use Rattle.elf_parts.specs.declared.symbol.Symbol.{Symbol}
+use Rattle.elf_records.specs.declared.symbol.Symbol.{Symbol}
 use Rattle.elf_check.specs.SoundSysv.{Visits, value}
 use Rattle.elf_check.specs.WithSymbols.{WithSymbols, named}
 

@@ -20,10 +20,5 @@ pub mod NamedSymbols
 pub mod Resolve
 -- which object a file is
 pub mod ObjectTable
--- an object with the versions of its symbols, and what a reference binds to
-pub mod VersionedView
-pub mod Binding
--- which object with versions a file is, and the version that a symbol of a file requires
-pub mod BindingObjects
 -- what only implementations and private functions cite
 pub mod inner

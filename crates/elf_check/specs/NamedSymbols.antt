@@ -7,7 +7,7 @@ use Rattle.elf_parts.specs.GnuFind.{GnuTable}
 use Rattle.elf_parts.specs.Hash.{word_count}
 use Rattle.elf_parts.specs.SysvFind.{SysvTable}
 use Rattle.elf_parts.specs.Table.{Table, table_view}
-use Rattle.elf_parts.specs.declared.symbol.Symbol.{Symbol}
+use Rattle.elf_records.specs.declared.symbol.Symbol.{Symbol}
 use Rattle.elf_check.specs.Object.{ByGnu, BySysv, Indexed, IsFound, Object}
 use Rattle.elf_check.specs.SoundSysv.{Visits}
 use Rattle.elf_check.specs.WithSymbols.{named, word}

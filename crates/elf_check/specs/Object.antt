@@ -2,12 +2,12 @@
 use Rattle.std.specs.Prelude.{ℕ, Bool, List, Option, Result}
 use Rattle.elf_parts.specs.GnuFind.{GnuTable, gnu_section}
 use Rattle.elf_parts.specs.Hash.{word_count}
-use Rattle.elf_parts.specs.Number.{ok_map}
+use Rattle.elf_records.specs.Number.{ok_map}
 use Rattle.elf_parts.specs.SysvFind.{SysvTable, sysv_section}
 use Rattle.elf_parts.specs.Table.{Table}
-use Rattle.elf_parts.specs.declared.file.Class.{Class}
-use Rattle.elf_parts.specs.declared.parse.ParseError.{ParseError}
-use Rattle.elf_parts.specs.declared.symbol.Symbol.{Symbol}
+use Rattle.elf_records.specs.declared.file.Class.{Class}
+use Rattle.elf_records.specs.declared.parse.ParseError.{ParseError}
+use Rattle.elf_records.specs.declared.symbol.Symbol.{Symbol}
 use Rattle.elf_check.specs.Faults.{IsTrueOfGnu, IsTrueOfSysv}
 use Rattle.elf_check.specs.Indexed.{IndexedGnu, IndexedSysv, IsFirstNamed, IsLeastNamed, ScanGnu, ScanSysv}
 use Rattle.elf_check.specs.Indexed.{chain_lengths}

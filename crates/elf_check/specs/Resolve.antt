@@ -1,7 +1,7 @@
 -- A name over an ordered list of objects: which object answers. Each of the list shows what a look-up sees.
 use Rattle.std.specs.Prelude.{ℕ, ◌<◌, List, length, slice_get, Option, Some, None}
 use Rattle.std.specs.Option.{IsSomeAnd}
-use Rattle.elf_parts.specs.declared.symbol.Symbol.{Symbol}
+use Rattle.elf_records.specs.declared.symbol.Symbol.{Symbol}
 use Rattle.elf_check.specs.Object.{Has, IsFound, Object}
 
 module _ {C : Type 0} (view : C → Object) (objects : List C) (name : List ℕ) where

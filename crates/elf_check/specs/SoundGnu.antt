@@ -2,7 +2,7 @@
 use Rattle.std.specs.Prelude.{◌≡◌, ℕ, ◌+◌, ◌/◌, ◌%◌, ◌^◌, ◌<◌, ◌≤◌, Some}
 use Rattle.std.specs.Int.{bit_at}
 use Rattle.std.specs.Option.{IsSomeAnd}
-use Rattle.elf_parts.specs.Class.{address_bits}
+use Rattle.elf_records.specs.Class.{address_bits}
 use Rattle.elf_parts.specs.GnuFind.{GnuTable}
 use Rattle.elf_parts.specs.Hash.{gnu_hash_of, word_count}
 use Rattle.elf_check.specs.WithSymbols.{WithSymbols, bloom, named, word}

@@ -4,7 +4,7 @@ use Rattle.std.specs.Result.{IsOkAnd}
 use Rattle.elf_parts.specs.GnuFind.{GnuTable}
 use Rattle.elf_parts.specs.Hash.{word_count}
 use Rattle.elf_parts.specs.SysvFind.{SysvTable}
-use Rattle.elf_parts.specs.declared.parse.ParseError.{ParseError}
+use Rattle.elf_records.specs.declared.parse.ParseError.{ParseError}
 use Rattle.elf_check.specs.declared.hashcheck.Checked.{Checked}
 use Rattle.elf_check.specs.declared.hashcheck.Checked.TheVariants.{Faulty, Sound}
 use Rattle.elf_check.specs.declared.hashcheck.HashFault.{HashFault}

@@ -1,10 +1,10 @@
 -- What a stream over bytes gives of a section is what `ElfBytes` gives of it.
 use Rattle.std.proofs.Common.{◌≡◌, ℕ, Bool, List, Result, Ok, Err, Option, Some, ap, sym, subst, ◌∙◌, IfSome}
 use Rattle.std.specs.Result.{result_ok}
-use Rattle.elf_parts.specs.Number.{ok_map}
-use Rattle.elf_parts.specs.declared.compression.CompressionHeader.{CompressionHeader}
-use Rattle.elf_parts.specs.declared.parse.ParseError.{ParseError}
-use Rattle.elf_parts.specs.declared.section.SectionHeader.{SectionHeader}
+use Rattle.elf_records.specs.Number.{ok_map}
+use Rattle.elf_records.specs.declared.compression.CompressionHeader.{CompressionHeader}
+use Rattle.elf_records.specs.declared.parse.ParseError.{ParseError}
+use Rattle.elf_records.specs.declared.section.SectionHeader.{SectionHeader}
 use Rattle.elf.specs.Data.{section_data}
 use Rattle.elf.specs.ElfBytes.{View, with_header}
 use Rattle.elf.specs.ElfStream.{Seen, headers_of}

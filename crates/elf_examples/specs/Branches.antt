@@ -1,8 +1,8 @@
 -- The field table of a record with a signed number: a number of two bytes, and a signed one of four.
 use Rattle.std.specs.Prelude.{[], ◌∷◌, slice_index, refl}
-use Rattle.elf_parts.specs.Number.{signed_number}
-use Rattle.elf_parts.specs.Record.{field, Layout, RecordType}
-use Rattle.elf_parts.specs.inner.RecordLaws.{by_layout}
+use Rattle.elf_records.specs.Number.{signed_number}
+use Rattle.elf_records.specs.Record.{field, Layout, RecordType}
+use Rattle.elf_records.specs.inner.RecordLaws.{by_layout}
 use Rattle.elf_examples.specs.declared.branch.Branch.{Branch}
 
 abbrev pub branch_layout : Layout Branch

@@ -1,6 +1,6 @@
 -- The bytes of a section of a file in memory.
 use Rattle.std.specs.Prelude.{◌≡◌, ℕ, Bool, List, Option, Ok}
-use Rattle.elf_parts.specs.declared.section.SectionHeader.{SectionHeader}
+use Rattle.elf_records.specs.declared.section.SectionHeader.{SectionHeader}
 use Rattle.elf.specs.Data.{content}
 use Rattle.elf.specs.ElfBytes.{View}
 use Rattle.elf.specs.ObjectFile.{object_file}

@@ -2,12 +2,12 @@
 use Rattle.std.specs.Prelude.{◌≡◌, ℕ, Bool, ◌≤◌, ◌%◌, if◌then◌else◌, ◌==◌, List, Result, Ok, Err, refl}
 use Rattle.std.proofs.Common.{arith, lit≤, sym, ap, ◌∙◌}
 use Rattle.std.proofs.lemmas.Grind.{common_steps}
-use Rattle.elf_parts.specs.Number.{number, number_at, moved_by, ok_map}
-use Rattle.elf_parts.specs.Record.{ReadsOnly, ReadsWithin, RecordType}
-use Rattle.elf_parts.specs.inner.RecordLaws.{number_at-ok, ok_map-ok}
-use Rattle.elf_parts.specs.declared.file.Class.{Class}
-use Rattle.elf_parts.specs.declared.parse.ParseError.{ParseError}
-use Rattle.elf_parts.specs.declared.parse.ParseError.TheVariants.{BadOffset}
+use Rattle.elf_records.specs.Number.{number, number_at, moved_by, ok_map}
+use Rattle.elf_records.specs.Record.{ReadsOnly, ReadsWithin, RecordType}
+use Rattle.elf_records.specs.inner.RecordLaws.{number_at-ok, ok_map-ok}
+use Rattle.elf_records.specs.declared.file.Class.{Class}
+use Rattle.elf_records.specs.declared.parse.ParseError.{ParseError}
+use Rattle.elf_records.specs.declared.parse.ParseError.TheVariants.{BadOffset}
 use Rattle.elf_examples.specs.declared.even_byte.EvenByte.{EvenByte}
 
 abbrev pub even_byte_size : Class → ℕ

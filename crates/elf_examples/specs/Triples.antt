@@ -1,7 +1,7 @@
 -- The field table of a record of one byte and a number of two.
 use Rattle.std.specs.Prelude.{[], ◌∷◌, slice_index, refl}
-use Rattle.elf_parts.specs.Record.{field, Layout, RecordType}
-use Rattle.elf_parts.specs.inner.RecordLaws.{by_layout}
+use Rattle.elf_records.specs.Record.{field, Layout, RecordType}
+use Rattle.elf_records.specs.inner.RecordLaws.{by_layout}
 use Rattle.elf_examples.specs.declared.triple.Triple.{Triple}
 
 abbrev pub triple_layout : Layout Triple

@@ -16,7 +16,7 @@ impl ParseAt for Branch {
 
     ghost reads = { branch_reads };
 
-    #[tactic(auto, unfolding(elf_parts::specs::Record::numbers_at, elf_parts::specs::Record::numbers_end, elf_parts::specs::Number::signed_number_at))]
+    #[tactic(auto, unfolding(elf_records::specs::Record::numbers_at, elf_records::specs::Record::numbers_end, elf_records::specs::Number::signed_number_at))]
     fn parse_at<E: EndianParse>(
         endian: E,
         _class: Class,
@@ -35,7 +35,7 @@ impl ParseAt for Branch {
 }
 
 impl PlainRecord for Branch {
-    ghost use Rattle.elf_parts.specs.inner.RecordLaws.{wherever_by};
+    ghost use Rattle.elf_records.specs.inner.RecordLaws.{wherever_by};
     ghost use Rattle.elf_examples.specs.Branches.{branch_layout};
     ghost use Rattle.std.specs.Prelude.{refl};
 

@@ -4,7 +4,7 @@ ghost use Rattle.std.specs.Prelude.{◌≡◌, ◌==◌, ◌<◌, ◌^◌, lengt
 ghost use Rattle.std.specs.List.{find};
 ghost use Rattle.std.specs.Option.{option_map};
 ghost use Rattle.elf_parts.specs.Note.{notes_in};
-ghost use Rattle.elf_parts.specs.Number.{ok_map};
+ghost use Rattle.elf_records.specs.Number.{ok_map};
 ghost use Rattle.elf_parts.specs.gnu_symver.Lists.{ver_def_aux_records, ver_defs_left};
 ghost use Rattle.elf_parts.specs.gnu_symver.Table.{definition, names_left, versions_view};
 ghost use Rattle.elf_parts.specs.gnu_symver.Lists.{ver_need_aux_left, ver_needs};

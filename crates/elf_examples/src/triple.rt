@@ -16,7 +16,7 @@ impl ParseAt for Triple {
 
     ghost reads = { triple_reads };
 
-    #[tactic(auto, unfolding(elf_parts::specs::Record::numbers_at, elf_parts::specs::Record::numbers_end))]
+    #[tactic(auto, unfolding(elf_records::specs::Record::numbers_at, elf_records::specs::Record::numbers_end))]
     fn parse_at<E: EndianParse>(
         endian: E,
         _class: Class,
@@ -35,7 +35,7 @@ impl ParseAt for Triple {
 }
 
 impl PlainRecord for Triple {
-    ghost use Rattle.elf_parts.specs.inner.RecordLaws.{wherever_by};
+    ghost use Rattle.elf_records.specs.inner.RecordLaws.{wherever_by};
     ghost use Rattle.elf_examples.specs.Triples.{triple_layout};
     ghost use Rattle.std.specs.Prelude.{refl};
 

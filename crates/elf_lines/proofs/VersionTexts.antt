@@ -5,7 +5,7 @@ use Rattle.std.specs.Str.{is_utf8}
 use Rattle.std.proofs.lemmas.Str.{IsUtf8-from_is_utf8, is_utf8-from_IsUtf8}
 use Rattle.elf_parts.specs.StringTable.{GivesText}
 use Rattle.elf_parts.specs.gnu_symver.Table.{GivesRequirement, GivesTexts, RefusesText, Requirement}
-use Rattle.elf_parts.specs.declared.parse.ParseError.{ParseError}
+use Rattle.elf_records.specs.declared.parse.ParseError.{ParseError}
 use Rattle.elf_parts.specs.declared.gnu_symver.table.SymbolRequirement.{SymbolRequirement}
 use Rattle.elf_lines.specs.Versions.{need_field, needed_field, needed_texts, text_of, text_shown}
 use denote.Ref.{Bor}

@@ -1,7 +1,7 @@
 -- The line of the bytes of a section or a segment.
 use Rattle.std.specs.Prelude.{ℕ, List, [], codes, length, Option, Some, None}
 use Rattle.std.specs.Fmt.{decimal}
-use Rattle.elf_parts.specs.declared.compression.CompressionHeader.{CompressionHeader}
+use Rattle.elf_records.specs.declared.compression.CompressionHeader.{CompressionHeader}
 use Rattle.elf_lines.specs.Pieces.{◌⧺◌, newline, hex_of}
 
 abbrev pub data_fields : List ℕ → List ℕ

@@ -1,8 +1,8 @@
 -- The lines of dynamic entries.
 use Rattle.std.specs.Prelude.{ℕ, List, codes}
 use Rattle.std.specs.Fmt.{decimal, signed_decimal}
-use Rattle.elf_parts.specs.Dynamic.{d_un_view}
-use Rattle.elf_parts.specs.declared.dynamic.Dyn.{Dyn}
+use Rattle.elf_records.specs.Dynamic.{d_un_view}
+use Rattle.elf_records.specs.declared.dynamic.Dyn.{Dyn}
 use Rattle.elf_lines.specs.Pieces.{◌⧺◌, newline, hex}
 
 abbrev pub dyn_line : ℕ → Dyn → List ℕ

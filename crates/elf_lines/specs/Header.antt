@@ -1,8 +1,8 @@
 -- The line of a file header.
 use Rattle.std.specs.Prelude.{ℕ, Bool, if◌then◌else◌, List, codes}
 use Rattle.std.specs.Fmt.{decimal}
-use Rattle.elf_parts.specs.Class.{address_bits}
-use Rattle.elf_parts.specs.declared.file.FileHeader.{FileHeader}
+use Rattle.elf_records.specs.Class.{address_bits}
+use Rattle.elf_records.specs.declared.file.FileHeader.{FileHeader}
 use Rattle.elf_lines.specs.Pieces.{◌⧺◌, newline, hex}
 
 abbrev pub order_name : Bool → List ℕ

@@ -1,7 +1,7 @@
 -- The name field of what has its name at an offset of a table of strings.
 use Rattle.std.specs.Prelude.{ℕ, List, codes, Option, Some, None, Result, Ok, Err}
 use Rattle.elf_parts.specs.StringTable.{string_at}
-use Rattle.elf_parts.specs.declared.parse.ParseError.{ParseError}
+use Rattle.elf_records.specs.declared.parse.ParseError.{ParseError}
 use Rattle.elf_lines.specs.Pieces.{◌⧺◌, escaped}
 
 abbrev pub name_read : Result (List ℕ) ParseError → List ℕ

@@ -1,8 +1,8 @@
 -- The lines of relocations.
 use Rattle.std.specs.Prelude.{ℕ, List, codes}
 use Rattle.std.specs.Fmt.{decimal, signed_decimal}
-use Rattle.elf_parts.specs.declared.relocation.Rel.{Rel}
-use Rattle.elf_parts.specs.declared.relocation.Rela.{Rela}
+use Rattle.elf_records.specs.declared.relocation.Rel.{Rel}
+use Rattle.elf_records.specs.declared.relocation.Rela.{Rela}
 use Rattle.elf_lines.specs.Pieces.{◌⧺◌, newline, hex}
 
 abbrev pub rel_line : ℕ → Rel → List ℕ

@@ -1,7 +1,7 @@
 -- The lines of section headers.
 use Rattle.std.specs.Prelude.{ℕ, List, codes, Option}
 use Rattle.std.specs.Fmt.{decimal}
-use Rattle.elf_parts.specs.declared.section.SectionHeader.{SectionHeader}
+use Rattle.elf_records.specs.declared.section.SectionHeader.{SectionHeader}
 use Rattle.elf_lines.specs.Pieces.{◌⧺◌, newline, hex}
 use Rattle.elf_lines.specs.Name.{name_field}
 

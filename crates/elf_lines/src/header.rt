@@ -2,7 +2,7 @@
 ghost use Rattle.std.specs.Prelude.{◌≡◌, codes, OnOk};
 ghost use Rattle.std.specs.Fmt.{decimal};
 ghost use Rattle.std.specs.Io.KnownBytes.{Appends};
-ghost use Rattle.elf_parts.specs.Class.{address_bits};
+ghost use Rattle.elf_records.specs.Class.{address_bits};
 ghost use Rattle.elf_lines.specs.Pieces.{◌⧺◌};
 ghost use Rattle.elf_lines.specs.Adding.{Adds};
 ghost use Rattle.elf_lines.specs.Header.{file_fields, header_line};

@@ -2,17 +2,17 @@
 use Rattle.std.proofs.Common.{◌≡◌, ℕ, ◌+◌, ◌*◌, ◌/◌, ◌^◌, ◌<◌, ◌≤◌, Bool, List, length, drop, Ok, refl, ap, ◌∙◌, subst, arith, length-drop}
 use Rattle.std.specs.Result.{IsOk}
 use Rattle.std.proofs.lemmas.Grind.{common_steps}
-use Rattle.elf_parts.specs.Class.{address_size}
+use Rattle.elf_records.specs.Class.{address_size}
 use Rattle.elf_parts.specs.GnuFind.{GnuTable, ReadsBloom, bloom_word, bloom_word_by, gnu_section}
 use Rattle.elf_parts.specs.Hash.{ReadsBelowCount, gnu_header_layout, long_word_at, sysv_header_layout, word_at}
-use Rattle.elf_parts.specs.Number.{bytes_at}
-use Rattle.elf_parts.specs.Record.{◌>>=◌, record_by}
+use Rattle.elf_records.specs.Number.{bytes_at}
+use Rattle.elf_records.specs.Record.{◌>>=◌, record_by}
 use Rattle.elf_parts.specs.SysvFind.{SysvTable, sysv_section}
 use Rattle.elf_parts.specs.Table.{Table, table_in}
-use Rattle.elf_parts.specs.Word.{u32_layout, u32_reads, u64_layout, u64_reads}
-use Rattle.elf_parts.specs.inner.RecordLaws.{bind-ok, bytes_at-ok, wherever_by}
-use Rattle.elf_parts.specs.declared.file.Class.{Class}
-use Rattle.elf_parts.specs.declared.file.Class.TheVariants.{ELF32, ELF64}
+use Rattle.elf_records.specs.Word.{u32_layout, u32_reads, u64_layout, u64_reads}
+use Rattle.elf_records.specs.inner.RecordLaws.{bind-ok, bytes_at-ok, wherever_by}
+use Rattle.elf_records.specs.declared.file.Class.{Class}
+use Rattle.elf_records.specs.declared.file.Class.TheVariants.{ELF32, ELF64}
 use Rattle.elf_parts.specs.declared.hash.gnu.GnuHashHeader.{GnuHashHeader}
 use Rattle.elf_parts.specs.declared.hash.sysv.SysVHashHeader.{SysVHashHeader}
 use Rattle.elf_parts.proofs.Items.{lies}

@@ -1,8 +1,8 @@
 -- The list of the records that are left, step by step.
 use Rattle.std.proofs.Common.{◌≡◌, ℕ, Bool, zero, suc, ◌+◌, ◌-◌, ◌≤◌, List, [], ◌∷◌, length, Result, Ok, Err, refl, ap, sym, ◌∙◌, arith}
-use Rattle.elf_parts.specs.declared.parse.ParseError.{ParseError}
-use Rattle.elf_parts.specs.declared.file.Class.{Class}
-use Rattle.elf_parts.specs.Record.{RecordType}
+use Rattle.elf_records.specs.declared.parse.ParseError.{ParseError}
+use Rattle.elf_records.specs.declared.file.Class.{Class}
+use Rattle.elf_records.specs.Record.{RecordType}
 use Rattle.elf_parts.specs.Table.{items_from, unless_refused}
 
 -- a read that succeeds lies in the bytes

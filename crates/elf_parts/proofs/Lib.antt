@@ -1,8 +1,6 @@
-pub mod Numbers
 pub mod Items
-pub mod Parts
+pub mod Segments
 pub mod Places
-pub mod Packed
 pub mod LinkedRecords
 pub mod Versions
 pub mod Placed

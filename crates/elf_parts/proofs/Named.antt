@@ -4,11 +4,11 @@ use Rattle.std.specs.Str.{bytes_eq}
 use Rattle.std.proofs.lemmas.Bool.{cases_Bool}
 use Rattle.std.proofs.lemmas.Slice.Eq.{bytes_eq-Decides}
 use Rattle.elf_parts.specs.Table.{Table}
-use Rattle.elf_parts.specs.inner.RecordLaws.{bind-ok, ok_map-ok}
-use Rattle.elf_parts.specs.Number.{ok_map}
-use Rattle.elf_parts.specs.Record.{◌>>=◌}
-use Rattle.elf_parts.specs.declared.parse.ParseError.{ParseError}
-use Rattle.elf_parts.specs.declared.symbol.Symbol.{Symbol}
+use Rattle.elf_records.specs.inner.RecordLaws.{bind-ok, ok_map-ok}
+use Rattle.elf_records.specs.Number.{ok_map}
+use Rattle.elf_records.specs.Record.{◌>>=◌}
+use Rattle.elf_records.specs.declared.parse.ParseError.{ParseError}
+use Rattle.elf_records.specs.declared.symbol.Symbol.{Symbol}
 use Rattle.elf_parts.specs.Hash.{sysv_hash_of, gnu_hash_of}
 use Rattle.elf_parts.specs.Hash.{IsNamed, if_named, named_symbol, symbol_at, word_at, word_count}
 use Rattle.elf_parts.specs.StringTable.{string_at}

@@ -3,11 +3,11 @@ use Rattle.std.proofs.Common.{◌≡◌, ℕ, zero, suc, ◌+◌, ◌-◌, ◌<�
 use Rattle.std.proofs.Common.{Result, Ok, Err, refl, ap, sym, ◌∙◌, arith}
 use Rattle.std.proofs.lemmas.List.{length-map}
 use Rattle.std.proofs.lemmas.Grind.{common_steps}
-use Rattle.elf_parts.specs.Number.{bytes_at}
-use Rattle.elf_parts.specs.Record.{◌>>=◌, record_by}
-use Rattle.elf_parts.specs.inner.RecordLaws.{bind-ok}
-use Rattle.elf_parts.specs.declared.file.Class.TheVariants.{ELF32}
-use Rattle.elf_parts.specs.declared.parse.ParseError.{ParseError}
+use Rattle.elf_records.specs.Number.{bytes_at}
+use Rattle.elf_records.specs.Record.{◌>>=◌, record_by}
+use Rattle.elf_records.specs.inner.RecordLaws.{bind-ok}
+use Rattle.elf_records.specs.declared.file.Class.TheVariants.{ELF32}
+use Rattle.elf_records.specs.declared.parse.ParseError.{ParseError}
 use Rattle.elf_parts.specs.Link.{AreLinked, linked, links}
 use Rattle.elf_parts.proofs.LinkedRecords.{links_bounded, longest}
 use Rattle.elf_parts.specs.Note.{AreAllNotes, NoteContent, aligned, content_of, note_at, note_header_layout}

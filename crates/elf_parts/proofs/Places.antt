@@ -6,7 +6,7 @@ use Rattle.std.proofs.Math.Nat.{suc-mul, div-lt_iff_lt-mul, mul-le-mul_right}
 use Rattle.std.proofs.lemmas.Bool.{cases_lt}
 use Rattle.std.proofs.lemmas.Option.{slice_get_past}
 use Rattle.std.proofs.lemmas.Grind.{common_steps}
-use Rattle.elf_parts.specs.declared.parse.ParseError.{ParseError}
+use Rattle.elf_records.specs.declared.parse.ParseError.{ParseError}
 use Rattle.elf_parts.specs.Table.{item_at, items, items_from, unless_refused}
 use Rattle.elf_parts.proofs.Items.{LiesWithin}
 

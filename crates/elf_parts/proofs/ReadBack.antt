@@ -9,10 +9,10 @@ use Rattle.std.proofs.lemmas.List.{length-reverse, reverse-append, take_at, drop
 use Rattle.std.proofs.lemmas.Nat.{div_below, pow-add}
 use Rattle.std.proofs.Math.Nat.{mod-add-div, pow-suc, mul_assoc}
 use Rattle.std.proofs.Math.IntN.{+ℤ-neg_ℤ_cancel}
-use Rattle.elf_parts.specs.Number.{number, little_number, big_number, signed_number}
-use Rattle.elf_parts.specs.Record.{Field, accepted, numbers_at, size_of}
+use Rattle.elf_records.specs.Number.{number, little_number, big_number, signed_number}
+use Rattle.elf_records.specs.Record.{Field, accepted, numbers_at, size_of}
 use Rattle.elf_parts.specs.Written.{digits_256, bytes_of, complement, FitsSigned, Member, Unsigned, Signed, Parts, width_of, number_of, FitsMember, Fits, struct_bytes}
-use Rattle.elf_parts.specs.inner.RecordLaws.{and_true, number_at-from}
+use Rattle.elf_records.specs.inner.RecordLaws.{and_true, number_at-from}
 
 -- ---- one number
 

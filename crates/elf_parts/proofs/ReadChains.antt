@@ -2,14 +2,14 @@
 use Rattle.std.proofs.Common.{◌≡◌, ◌≢◌, ℕ, suc, ◌+◌, ◌<◌, ◌≤◌, ◌^◌, Bool, Some, None, List, [], ◌∷◌, ◌++◌, length, map, Ok, refl, ap, sym, ◌∙◌, arith, length-append}
 use Rattle.std.proofs.lemmas.Bool.{ne_eqb}
 use Rattle.std.proofs.lemmas.Grind.{common_steps}
-use Rattle.elf_parts.specs.declared.file.Class.{Class}
+use Rattle.elf_records.specs.declared.file.Class.{Class}
 use Rattle.elf_parts.specs.declared.gnu_symver.records.VerDef.{VerDef}
 use Rattle.elf_parts.specs.declared.gnu_symver.records.VerDefAux.{VerDefAux}
 use Rattle.elf_parts.specs.declared.gnu_symver.records.VerNeed.{VerNeed}
 use Rattle.elf_parts.specs.declared.gnu_symver.records.VerNeedAux.{VerNeedAux}
 use Rattle.elf_parts.specs.Link.{from_next, links}
 use Rattle.elf_parts.specs.gnu_symver.Links.{links_in, next_start}
-use Rattle.elf_parts.specs.Record.{Layout, record_by, size_by}
+use Rattle.elf_records.specs.Record.{Layout, record_by, size_by}
 use Rattle.elf_parts.specs.Structs.{ver_need_struct, ver_need_aux_struct, ver_def_struct, ver_def_aux_struct}
 use Rattle.elf_parts.specs.Structs.{EntriesAreChained, NeedsAreChained, DefinitionsAreChained}
 use Rattle.elf_parts.specs.gnu_symver.Lists.{aux_records, entries_in, ver_defs, ver_needs, with_aux_records}

@@ -7,14 +7,14 @@ use Rattle.std.proofs.Common.{lit≤}
 use Rattle.std.proofs.lemmas.Bool.{ne_eqb}
 use Rattle.std.proofs.lemmas.List.{append-nil}
 use Rattle.std.proofs.lemmas.Grind.{common_steps}
-use Rattle.elf_parts.specs.declared.file.Class.TheVariants.{ELF32}
-use Rattle.elf_parts.specs.declared.parse.ParseError.{ParseError}
+use Rattle.elf_records.specs.declared.file.Class.TheVariants.{ELF32}
+use Rattle.elf_records.specs.declared.parse.ParseError.{ParseError}
 use Rattle.elf_parts.specs.Note.{NoteContent, AbiTag, BuildId, Other, abi_tag_layout, aligned, content_of, is_gnu, note_at, note_header_layout, note_links, notes_from, notes_in}
-use Rattle.elf_parts.specs.Number.{bytes_at, ok_map}
-use Rattle.elf_parts.specs.Record.{record_by}
+use Rattle.elf_records.specs.Number.{bytes_at, ok_map}
+use Rattle.elf_records.specs.Record.{record_by}
 use Rattle.elf_parts.specs.Structs.{abi_tag_struct, gnu_name, note_parts, padding, note_bytes, note_end, notes_bytes, NoteFits, NotesFit}
 use Rattle.elf_parts.specs.Written.{Member, Fits, struct_bytes, word}
-use Rattle.elf_parts.specs.inner.RecordLaws.{bytes_at-from}
+use Rattle.elf_records.specs.inner.RecordLaws.{bytes_at-from}
 use Rattle.elf_parts.proofs.NoteLists.{note_first, note_lies, note_refused}
 use Rattle.elf_parts.proofs.ReadBack.{behind_front}
 use Rattle.elf_parts.proofs.ReadStructs.{note_header_is_struct, abi_tag_is_struct}

@@ -2,10 +2,10 @@
 use Rattle.std.proofs.Common.{◌≡◌, ℕ, ◌+◌, ◌-◌, ◌<◌, ◌%◌, zero, suc, List, Option, Some, None, Ok, Err, refl, arith}
 use Rattle.std.proofs.lemmas.Grind.{common_steps}
 use Rattle.elf_parts.specs.Table.{Table}
-use Rattle.elf_parts.specs.declared.parse.ParseError.{ParseError}
-use Rattle.elf_parts.specs.declared.symbol.Symbol.{Symbol}
+use Rattle.elf_records.specs.declared.parse.ParseError.{ParseError}
+use Rattle.elf_records.specs.declared.symbol.Symbol.{Symbol}
 use Rattle.elf_parts.specs.Hash.{named_symbol, word_at}
-use Rattle.elf_parts.specs.Number.{ok_map}
+use Rattle.elf_records.specs.Number.{ok_map}
 use Rattle.elf_parts.specs.GnuFind.{GnuTable, find_in_run, word_decides}
 
 module _ (t : GnuTable) (symbols : Table) (strings name : List ℕ) where

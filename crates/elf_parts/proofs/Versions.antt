@@ -4,7 +4,7 @@ use Rattle.std.specs.List.{find}
 use Rattle.std.proofs.lemmas.Grind.{common_steps}
 use Rattle.elf_parts.proofs.LinkedRecords.{count_bounds, links_few, map_bounds}
 use Rattle.elf_parts.specs.gnu_symver.Links.{links_in, links_view}
-use Rattle.elf_parts.specs.Record.{record_by}
+use Rattle.elf_records.specs.Record.{record_by}
 use Rattle.elf_parts.specs.gnu_symver.Table.{defined_version, needed_version, needed_versions, version_with}
 use Rattle.elf_parts.specs.gnu_symver.Lists.{aux_view, ver_def_aux_left}
 use Rattle.elf_parts.specs.gnu_symver.Records.{ver_def_aux_layout, ver_def_aux_reads}

@@ -3,10 +3,10 @@ use Rattle.std.proofs.Common.{◌≡◌, ℕ, ◌-◌, ◌<◌, zero, suc, true,
 use Rattle.std.specs.Str.{bytes_eq}
 use Rattle.std.proofs.lemmas.Grind.{common_steps}
 use Rattle.elf_parts.specs.Table.{Table}
-use Rattle.elf_parts.specs.declared.parse.ParseError.{ParseError}
-use Rattle.elf_parts.specs.declared.symbol.Symbol.{Symbol}
+use Rattle.elf_records.specs.declared.parse.ParseError.{ParseError}
+use Rattle.elf_records.specs.declared.symbol.Symbol.{Symbol}
 use Rattle.elf_parts.specs.Hash.{if_named, named_symbol, word_at}
-use Rattle.elf_parts.specs.Number.{ok_map}
+use Rattle.elf_records.specs.Number.{ok_map}
 use Rattle.elf_parts.specs.SysvFind.{SysvTable, find_along}
 
 module _ (t : SysvTable) (symbols : Table) (strings name : List ℕ) where

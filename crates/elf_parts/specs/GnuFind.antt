@@ -2,20 +2,20 @@
 use Rattle.std.specs.Prelude.{ℕ, ◌+◌, ◌-◌, ◌*◌, ◌/◌, ◌%◌, ◌^◌, ◌<◌, zero, suc, Bool, false, ◌||◌, if◌then◌else◌, ◌==◌}
 use Rattle.std.specs.Prelude.{nat_lt, nat_le, List, [], ◌∷◌, drop, map, Option, None, Result, Ok, Err, IsOk}
 use Rattle.std.specs.Int.{bit_at}
-use Rattle.elf_parts.specs.Class.{address_bits, address_size}
+use Rattle.elf_records.specs.Class.{address_bits, address_size}
 use Rattle.elf_parts.specs.Hash.{gnu_hash_of, gnu_header_layout, if_named, long_word_at, named_symbol, word_at}
 use Rattle.elf_parts.specs.Hash.{word_count}
-use Rattle.elf_parts.specs.Number.{bytes_at, ok_map}
-use Rattle.elf_parts.specs.Record.{◌>>=◌, record_by}
+use Rattle.elf_records.specs.Number.{bytes_at, ok_map}
+use Rattle.elf_records.specs.Record.{◌>>=◌, record_by}
 use Rattle.elf_parts.specs.SysvFind.{first_decided}
 use Rattle.elf_parts.specs.Table.{Table, table_in, table_view}
-use Rattle.elf_parts.specs.declared.file.Class.{Class}
-use Rattle.elf_parts.specs.declared.file.Class.TheVariants.{ELF32, ELF64}
+use Rattle.elf_records.specs.declared.file.Class.{Class}
+use Rattle.elf_records.specs.declared.file.Class.TheVariants.{ELF32, ELF64}
 use Rattle.elf_parts.specs.declared.hash.gnu.GnuHashHeader.{GnuHashHeader}
 use Rattle.elf_parts.specs.declared.hash.gnu.GnuHashTable.{GnuHashTable}
-use Rattle.elf_parts.specs.declared.parse.ParseError.{ParseError}
-use Rattle.elf_parts.specs.declared.parse.ParseError.TheVariants.{IntegerOverflow}
-use Rattle.elf_parts.specs.declared.symbol.Symbol.{Symbol}
+use Rattle.elf_records.specs.declared.parse.ParseError.{ParseError}
+use Rattle.elf_records.specs.declared.parse.ParseError.TheVariants.{IntegerOverflow}
+use Rattle.elf_records.specs.declared.symbol.Symbol.{Symbol}
 
 -- the header as it is now, the bloom words, the words of the buckets, and the chain words
 pub record GnuTable : Type 0 where

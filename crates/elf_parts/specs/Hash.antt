@@ -3,16 +3,16 @@
 use Rattle.std.specs.Prelude.{◌≡◌, ◌↔◌, ℕ, ◌+◌, ◌*◌, ◌/◌, ◌%◌, ◌^◌, ◌<◌, List, [], ◌∷◌, slice_index, length, refl}
 use Rattle.std.specs.Prelude.{bit_and, bit_xor, if◌then◌else◌, Option, Some, None, Result, Ok, IsOk}
 use Rattle.std.specs.Str.{bytes_eq}
-use Rattle.elf_parts.specs.Record.{◌>>=◌, Field, field, Layout, RecordType}
+use Rattle.elf_records.specs.Record.{◌>>=◌, Field, field, Layout, RecordType}
 use Rattle.elf_parts.specs.StringTable.{string_at}
-use Rattle.elf_parts.specs.Symbol.{symbol_reads}
+use Rattle.elf_records.specs.Symbol.{symbol_reads}
 use Rattle.elf_parts.specs.Table.{Table, table_get}
-use Rattle.elf_parts.specs.Word.{u32_reads, u64_reads}
-use Rattle.elf_parts.specs.inner.RecordLaws.{by_layout}
+use Rattle.elf_records.specs.Word.{u32_reads, u64_reads}
+use Rattle.elf_records.specs.inner.RecordLaws.{by_layout}
 use Rattle.elf_parts.specs.declared.hash.sysv.SysVHashHeader.{SysVHashHeader}
 use Rattle.elf_parts.specs.declared.hash.gnu.GnuHashHeader.{GnuHashHeader}
-use Rattle.elf_parts.specs.declared.parse.ParseError.{ParseError}
-use Rattle.elf_parts.specs.declared.symbol.Symbol.{Symbol}
+use Rattle.elf_records.specs.declared.parse.ParseError.{ParseError}
+use Rattle.elf_records.specs.declared.symbol.Symbol.{Symbol}
 
 -- ---- the hashes, on 32-bit words that wrap
 

@@ -1,7 +1,7 @@
 -- Linked records: each one gives the place of the next one.
 use Rattle.std.specs.Prelude.{◌≡◌, ◌≤◌, ⊤, length, take, ℕ, zero, suc}
 use Rattle.std.specs.Prelude.{Option, Some, None, List, [], ◌∷◌, Result, Ok, Err}
-use Rattle.elf_parts.specs.declared.parse.ParseError.{ParseError}
+use Rattle.elf_records.specs.declared.parse.ParseError.{ParseError}
 
 -- the list from an offset on, if there is one
 abbrev pub from_next : {X : Type 0} → Option ℕ → (ℕ → List X) → List X

@@ -7,18 +7,18 @@ use Rattle.std.specs.List.{repeat}
 use Rattle.std.specs.Int.{next_multiple_of}
 use Rattle.elf_abi.specs.Values.{nt_gnu_abi_tag, nt_gnu_build_id}
 use Rattle.elf_parts.specs.Link.{AreLinked, links}
-use Rattle.elf_parts.specs.Number.{bytes_at, ok_map}
-use Rattle.elf_parts.specs.Record.{◌>>=◌, Field, field, Layout, record_by, RecordType}
+use Rattle.elf_records.specs.Number.{bytes_at, ok_map}
+use Rattle.elf_records.specs.Record.{◌>>=◌, Field, field, Layout, record_by, RecordType}
 use Rattle.elf_parts.specs.StringTable.{GivesText}
-use Rattle.elf_parts.specs.inner.RecordLaws.{by_layout}
-use Rattle.elf_parts.specs.declared.file.Class.TheVariants.{ELF32}
+use Rattle.elf_records.specs.inner.RecordLaws.{by_layout}
+use Rattle.elf_records.specs.declared.file.Class.TheVariants.{ELF32}
 use Rattle.elf_parts.specs.declared.note.Note.{Note}
 use Rattle.elf_parts.specs.declared.note.Note.TheVariants.{GnuAbiTag, GnuBuildId, Unknown}
 use Rattle.elf_parts.specs.declared.note.NoteGnuAbiTag.{NoteGnuAbiTag}
 use Rattle.elf_parts.specs.declared.note.NoteHeader.{NoteHeader}
 use Rattle.elf_parts.specs.declared.note.NoteIterator.{NoteIterator}
-use Rattle.elf_parts.specs.declared.parse.ParseError.{ParseError}
-use Rattle.elf_parts.specs.declared.parse.ParseError.TheVariants.{IntegerOverflow}
+use Rattle.elf_records.specs.declared.parse.ParseError.{ParseError}
+use Rattle.elf_records.specs.declared.parse.ParseError.TheVariants.{IntegerOverflow}
 use denote.Ref.{Bor}
 
 -- ---- the field tables, which are the same in both classes

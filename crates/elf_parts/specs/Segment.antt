@@ -1,9 +1,9 @@
 -- The field table of a program header (gABI, chapter "Program Header").
 use Rattle.std.specs.Prelude.{ℕ, List, [], ◌∷◌, slice_index, refl}
-use Rattle.elf_parts.specs.Record.{Field, field, Layout, RecordType}
-use Rattle.elf_parts.specs.inner.RecordLaws.{by_layout}
-use Rattle.elf_parts.specs.declared.file.Class.{Class}
-use Rattle.elf_parts.specs.declared.file.Class.TheVariants.{ELF32, ELF64}
+use Rattle.elf_records.specs.Record.{Field, field, Layout, RecordType}
+use Rattle.elf_records.specs.inner.RecordLaws.{by_layout}
+use Rattle.elf_records.specs.declared.file.Class.{Class}
+use Rattle.elf_records.specs.declared.file.Class.TheVariants.{ELF32, ELF64}
 use Rattle.elf_parts.specs.declared.segment.ProgramHeader.{ProgramHeader}
 
 abbrev pub program_header_fields : Class → List Field

@@ -4,8 +4,8 @@ use Rattle.std.specs.Prelude.{Ok, Err, MatchResult, IsUtf8}
 use Rattle.std.specs.Option.{option_map}
 use Rattle.std.specs.Str.{valid_up_to, error_len}
 use Rattle.std.specs.Str.Lossy.{utf8_valid_len, utf8_error_len}
-use Rattle.elf_parts.specs.declared.parse.ParseError.{ParseError}
-use Rattle.elf_parts.specs.declared.parse.ParseError.TheVariants.{BadOffset, StringTableMissingNul, Utf8Error}
+use Rattle.elf_records.specs.declared.parse.ParseError.{ParseError}
+use Rattle.elf_records.specs.declared.parse.ParseError.TheVariants.{BadOffset, StringTableMissingNul, Utf8Error}
 use Rattle.std.specs.declared.str.Utf8Error.{Utf8Error as Fault}
 use Rattle.elf_parts.specs.declared.string_table.StringTable.{StringTable}
 use denote.Ref.{Bor}

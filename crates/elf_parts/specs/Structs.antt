@@ -6,11 +6,11 @@ use Rattle.std.specs.List.{repeat}
 use Rattle.elf_parts.specs.Note.{NoteContent, AbiTag, BuildId, Other}
 use Rattle.elf_parts.specs.Written.{Member, Parts, byte, half, word, xword, sword, sxword, struct_bytes, Fits, LiesAt}
 use Rattle.elf_parts.specs.Written.{IsDistance, AreChained}
-use Rattle.elf_parts.specs.declared.compression.CompressionHeader.{CompressionHeader}
-use Rattle.elf_parts.specs.declared.dynamic.Dyn.{Dyn}
-use Rattle.elf_parts.specs.declared.file.Class.{Class}
-use Rattle.elf_parts.specs.declared.file.Class.TheVariants.{ELF32, ELF64}
-use Rattle.elf_parts.specs.declared.file.FileHeader.{FileHeader}
+use Rattle.elf_records.specs.declared.compression.CompressionHeader.{CompressionHeader}
+use Rattle.elf_records.specs.declared.dynamic.Dyn.{Dyn}
+use Rattle.elf_records.specs.declared.file.Class.{Class}
+use Rattle.elf_records.specs.declared.file.Class.TheVariants.{ELF32, ELF64}
+use Rattle.elf_records.specs.declared.file.FileHeader.{FileHeader}
 use Rattle.elf_parts.specs.declared.gnu_symver.records.VerDef.{VerDef}
 use Rattle.elf_parts.specs.declared.gnu_symver.records.VerDefAux.{VerDefAux}
 use Rattle.elf_parts.specs.declared.gnu_symver.records.VerNeed.{VerNeed}
@@ -20,11 +20,11 @@ use Rattle.elf_parts.specs.declared.hash.gnu.GnuHashHeader.{GnuHashHeader}
 use Rattle.elf_parts.specs.declared.hash.sysv.SysVHashHeader.{SysVHashHeader}
 use Rattle.elf_parts.specs.declared.note.NoteGnuAbiTag.{NoteGnuAbiTag}
 use Rattle.elf_parts.specs.declared.note.NoteHeader.{NoteHeader}
-use Rattle.elf_parts.specs.declared.relocation.Rel.{Rel}
-use Rattle.elf_parts.specs.declared.relocation.Rela.{Rela}
-use Rattle.elf_parts.specs.declared.section.SectionHeader.{SectionHeader}
+use Rattle.elf_records.specs.declared.relocation.Rel.{Rel}
+use Rattle.elf_records.specs.declared.relocation.Rela.{Rela}
+use Rattle.elf_records.specs.declared.section.SectionHeader.{SectionHeader}
 use Rattle.elf_parts.specs.declared.segment.ProgramHeader.{ProgramHeader}
-use Rattle.elf_parts.specs.declared.symbol.Symbol.{Symbol}
+use Rattle.elf_records.specs.declared.symbol.Symbol.{Symbol}
 
 -- Elf32_Shdr and Elf64_Shdr (gABI, "Sections")
 abbrev pub section_header_struct : Class → SectionHeader → List Member

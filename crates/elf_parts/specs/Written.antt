@@ -3,9 +3,9 @@
 use Rattle.std.specs.Prelude.{◌≡◌, ◌≢◌, ℕ, zero, suc, ◌+◌, ◌-◌, ◌*◌, ◌/◌, ◌%◌, ◌^◌, ◌<◌, Bool, if◌then◌else◌, ⊤, ℤ, pos}
 use Rattle.std.specs.Prelude.{negsuc}
 use Rattle.std.specs.Prelude.{List, [], ◌∷◌, ◌++◌, length, reverse, Ok}
-use Rattle.elf_parts.specs.declared.file.Class.{Class}
+use Rattle.elf_records.specs.declared.file.Class.{Class}
 use Rattle.std.specs.List.{sum_by}
-use Rattle.elf_parts.specs.Record.{Field, Layout, record_by, size_by}
+use Rattle.elf_records.specs.Record.{Field, Layout, record_by, size_by}
 use Rattle.elf_parts.specs.Table.{items}
 
 -- ---- numbers

@@ -1,6 +1,4 @@
-pub mod RecordLaws
-pub mod Running
-pub mod Part
+pub mod Extent
 pub mod Terminated
 pub mod Placed
 pub mod Walked

@@ -1,7 +1,7 @@
 //! Hash sections, which find symbols by name: SysV (gABI, chapter "Hash Table") and GNU.
 ghost use Rattle.std.specs.Prelude.{◌≡◌, ◌+◌, ◌<◌, ◌^◌, ◌≤◌, None, OnOk, length};
 ghost use Rattle.elf_parts.specs.Hash.{if_named, named_symbol, word_at, word_count};
-ghost use Rattle.elf_parts.specs.Number.{bytes_at, ok_map};
+ghost use Rattle.elf_records.specs.Number.{bytes_at, ok_map};
 ghost use Rattle.elf_parts.specs.Table.{table_view};
 
 use crate::endian::EndianParse;
@@ -22,7 +22,7 @@ type U32Table<'data, E> = ParsingTable<'data, E, u32>;
 type Found = Result<Option<(usize, Symbol)>, ParseError>;
 
 // `size` bytes of the data from `start` on.
-#[tactic(auto, unfolding(crate::specs::Number::bytes_at))]
+#[tactic(auto, unfolding(elf_records::specs::Number::bytes_at))]
 fn get_bytes<'data>(data: &'data [u8], start: usize, size: usize) -> Result<&'data [u8], ParseError>
     ensures value { ok_map (λ bytes. bytes.now) result ≡ bytes_at size «data».now start }
     ensures within { OnOk result (start + size ≤ length «data».now) }

@@ -1,11 +1,10 @@
-//! The parts of an ELF file, over bytes: numbers, records, tables, strings, notes, versions and hash sections. The
-//! readers of whole files are built on them.
+//! The parts of an ELF file, over bytes: records, tables, strings, notes, versions and hash sections. The readers of
+//! whole files are built on them. The records of one place are those of `elf_records`, under the same names.
 #![tactic(auto)]
 
-pub mod compression;
+pub use elf_records::{compression, endian, file};
+
 pub mod dynamic;
-pub mod endian;
-pub mod file;
 pub mod gnu_symver;
 pub mod hash;
 pub mod laws;

@@ -3,7 +3,7 @@ ghost use Rattle.std.specs.Prelude.{◌≡◌, ◌≤◌, ◌<◌, ◌^◌, ◌+
 ghost use Rattle.std.specs.Iterator.{YieldsFirstBy, item_count};
 ghost use Rattle.elf_parts.specs.Note.{aligned, content_of, is_gnu, note_and_next_view, note_at, note_view, notes_in};
 ghost use Rattle.elf_parts.specs.Note.{notes_left, GivesNameText};
-ghost use Rattle.elf_parts.specs.Number.{ok_map};
+ghost use Rattle.elf_records.specs.Number.{ok_map};
 
 use crate::endian::{EndianParse, next_bytes};
 use crate::file::Class;
@@ -68,7 +68,7 @@ impl ParseAt for NoteHeader {
 
     ghost reads = { note_header_reads };
 
-    #[tactic(auto, unfolding(crate::specs::Record::numbers_at, crate::specs::Record::numbers_end))]
+    #[tactic(auto, unfolding(elf_records::specs::Record::numbers_at, elf_records::specs::Record::numbers_end))]
     #[inline(always)]
     fn parse_at<E: EndianParse>(
         endian: E,
@@ -93,7 +93,7 @@ impl ParseAt for NoteGnuAbiTag {
 
     ghost reads = { abi_tag_reads };
 
-    #[tactic(auto, unfolding(crate::specs::Record::numbers_at, crate::specs::Record::numbers_end))]
+    #[tactic(auto, unfolding(elf_records::specs::Record::numbers_at, elf_records::specs::Record::numbers_end))]
     fn parse_at<E: EndianParse>(
         endian: E,
         _class: Class,

@@ -1,8 +1,9 @@
 //! Program headers (gABI, chapter "Program Header").
 ghost use Rattle.std.specs.Prelude.{◌≡◌, ◌+◌, OnOk};
-ghost use Rattle.elf_parts.specs.Number.{ok_map};
-ghost use Rattle.elf_parts.specs.inner.Part.{extent_fields, five, part_at, part_end};
-ghost use Rattle.elf_parts.specs.inner.Running.{width_of};
+ghost use Rattle.elf_records.specs.Number.{ok_map};
+ghost use Rattle.elf_records.specs.inner.Part.{five, part_at, part_end};
+ghost use Rattle.elf_parts.specs.inner.Extent.{extent_fields};
+ghost use Rattle.elf_records.specs.inner.Running.{width_of};
 
 use crate::endian::EndianParse;
 use crate::file::Class;
@@ -57,7 +58,7 @@ impl ParseAt for ProgramHeader {
 
     ghost reads = { program_header_reads };
 
-    #[tactic(auto, unfolding(crate::specs::Record::numbers_at, crate::specs::Record::numbers_end))]
+    #[tactic(auto, unfolding(elf_records::specs::Record::numbers_at, elf_records::specs::Record::numbers_end))]
     fn parse_at<E: EndianParse>(
         endian: E,
         class: Class,
@@ -109,7 +110,7 @@ impl ParseAt for ProgramHeader {
 }
 
 // p_offset, p_vaddr, p_paddr, p_filesz and p_memsz.
-#[tactic(auto, unfolding(crate::specs::inner::Part::part_at, crate::specs::inner::Part::part_end))]
+#[tactic(auto, unfolding(elf_records::specs::inner::Part::part_at, elf_records::specs::inner::Part::part_end))]
 fn parse_extent<E: EndianParse>(
     endian: E,
     class: Class,

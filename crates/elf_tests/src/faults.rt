@@ -1,6 +1,6 @@
 //! The texts of errors that no stored row shows, and of stopped runs.
 use elf::ParseError;
-use elf_check::binding::{BindingFault, Unreadable};
+use elf_binding::{BindingFault, Unreadable};
 use elfshow::calls::RunError;
 use std::fmt::Display;
 use std::io;

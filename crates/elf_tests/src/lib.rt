@@ -12,13 +12,9 @@ mod listing;
 #[cfg(test)]
 mod memory;
 #[cfg(test)]
-mod numbers;
-#[cfg(test)]
 mod opening;
 #[cfg(test)]
 mod program;
-#[cfg(test)]
-mod promises;
 #[cfg(test)]
 mod records;
 #[cfg(test)]

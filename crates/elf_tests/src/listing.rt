@@ -1,10 +1,8 @@
-//! Runs of a user's own order, of refused files, and of many calls.
+//! Runs of a user's own order and of many calls.
 use crate::files::{HEADER_ALONE, TWO_SECTIONS_BIG};
 use crate::texts::{HEADER_LINE, TWO_SECTION_LINES};
-use elf::ParseError;
-use elf::endian::{AnyEndian, LittleEndian};
 use elf_examples::order::FileOrder;
-use elfshow::calls::{Call, RunError, run_bytes};
+use elfshow::calls::{Call, run_bytes};
 use elfshow::file_system::MemFile;
 use elfshow::show::show;
 use std::alloc::AllocError;
@@ -19,25 +17,10 @@ fn a_users_order_lists_sections(rt: HostRuntime) -> Result<(), Fail> {
     Ok(())
 }
 
-#[test]
-fn a_refused_file_writes_nothing(rt: HostRuntime) {
-    for calls in [&[][..], &[Call::Header]] {
-        let mut out = Vec::new(rt.alloc());
-        let stopped = run_bytes::<LittleEndian, Vec<u8>>(&TWO_SECTIONS_BIG, calls, &mut out);
-        assert!(rt;
-            matches!(
-                stopped,
-                Err(RunError::Open(ParseError::UnsupportedElfEndianness(2)))
-            )
-        );
-        assert!(rt; out.is_empty());
-    }
-}
-
-/// How many pairs of calls the long runs have.
+/// How many pairs of calls the long run has.
 const PAIRS: usize = 300;
 
-/// Asserts that a text is the lines of n pairs of calls for the header and the sections of a header alone.
+/// Asserts that a text is the lines of `PAIRS` pairs of calls for the header and the sections of a header alone.
 fn is_pairs(text: &[u8]) -> bool {
     let mut rest = text;
     for _ in 0..PAIRS {
@@ -57,15 +40,6 @@ fn with_pairs<T: Copy>(mut items: Vec<T>, pair: [T; 2]) -> Result<Vec<T>, AllocE
         items.extend_from_slice(&pair)?;
     }
     Ok(items)
-}
-
-#[test]
-fn many_calls_are_run(rt: HostRuntime) -> Result<(), Fail> {
-    let calls = with_pairs(Vec::new(rt.alloc()), [Call::Header, Call::Sections])?;
-    let mut out = Vec::new(rt.alloc());
-    run_bytes::<AnyEndian, Vec<u8>>(&HEADER_ALONE, calls.as_slice(), &mut out)?;
-    assert!(rt; is_pairs(out.as_slice()));
-    Ok(())
 }
 
 #[test]

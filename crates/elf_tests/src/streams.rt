@@ -801,32 +801,3 @@ fn what_is_cached_needs_no_memory(rt: HostRuntime) -> Result<(), Fail> {
     }
     Ok(())
 }
-
-/// How many of all calls answer as `ElfBytes` does while no memory is left and the source would fail, once each of them
-/// was made.
-fn cached_calls(rt: &(impl Abort + AllocGlobal), bytes: &[u8]) -> Result<usize, Fail> {
-    let file = ElfBytes::minimal_parse(bytes)?;
-    let calls_left = Cell::new(u64::MAX);
-    let mut stream = open(rt.alloc(), bytes, &calls_left)?;
-    assert_eq!(rt; refused_calls(rt, &mut stream, &file, Answer::Starved), 0);
-    calls_left.set(0);
-    let blocks = all_memory(rt.alloc())?;
-    let mut cached = 0usize;
-    for number in 0..CALLS {
-        if let Some(request) = call(number)
-            && answer_of(&mut stream, &file, request) == Answer::Same
-        {
-            cached = cached.saturating_add(1);
-        }
-    }
-    drop(blocks);
-    Ok(cached)
-}
-
-#[test]
-fn what_was_requested_needs_no_memory_and_no_source(rt: HostRuntime) -> Result<(), Fail> {
-    for bytes in FILES {
-        assert_eq!(rt; cached_calls(&rt, bytes)?, CALLS);
-    }
-    Ok(())
-}

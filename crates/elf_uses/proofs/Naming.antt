@@ -3,10 +3,10 @@ use Rattle.std.proofs.Common.{◌≡◌, ℕ, Bool, true, false, List, [], ◌�
 use Rattle.std.specs.Prelude.{IfSome, cond}
 use Rattle.std.specs.List.{find}
 use Rattle.std.specs.Option.{option_map}
-use Rattle.elf_parts.specs.Number.{ok_map}
-use Rattle.elf_parts.specs.Record.{◌>>=◌}
-use Rattle.elf_parts.specs.declared.dynamic.Dyn.{Dyn}
-use Rattle.elf_parts.specs.declared.parse.ParseError.{ParseError}
+use Rattle.elf_records.specs.Number.{ok_map}
+use Rattle.elf_records.specs.Record.{◌>>=◌}
+use Rattle.elf_records.specs.declared.dynamic.Dyn.{Dyn}
+use Rattle.elf_records.specs.declared.parse.ParseError.{ParseError}
 use Rattle.elf.specs.ElfStream.{IsAnswer, IsRefused, Keeps, Kind, Leaves, Seen, kind}
 use Rattle.elf.specs.StreamFile.{stream_file}
 use Rattle.elf_uses.specs.Needed.{IsGiven, IsNamesAnswer, IsUnreadable, GivesNames, entries_of, if_some, names, names_by, names_view, or_error}

@@ -7,7 +7,7 @@ use Rattle.std.specs.List.{slice_get}
 use Rattle.std.specs.Result.{IsOkAnd}
 use Rattle.std.specs.declared.cmp.PartialEq.{Ghosts as PartialEqGhosts}
 use Rattle.std.specs.declared.default.Default.{Ghosts as DefaultGhosts}
-use Rattle.elf_parts.specs.declared.endian.EndianParse.{Ghosts as EndianGhosts}
+use Rattle.elf_records.specs.declared.endian.EndianParse.{Ghosts as EndianGhosts}
 use Rattle.elf.specs.declared.elf_bytes.ElfBytes.{ElfBytes}
 use Rattle.elf_check.specs.CheckedTable.{object_view}
 use Rattle.elf_check.specs.Object.{IsSound, Object}

@@ -1,11 +1,11 @@
 -- Which symbols of a file are references to others, and what they bind to.
 use Rattle.std.specs.Prelude.{◌≡◌, ◌≢◌, ℕ, ◌==◌, ◌&&◌, not, Bool, List, Some, None, Result, Ok, Err}
 use Rattle.elf_abi.specs.Values.{shn_undef, stb_local, stb_weak}
-use Rattle.elf_parts.specs.Symbol.{symbol_binding}
-use Rattle.elf_parts.specs.declared.symbol.Symbol.{Symbol}
-use Rattle.elf_check.specs.Binding.{IsBinding, VersionedObject}
-use Rattle.elf_check.specs.declared.binding.BindingFault.{BindingFault}
-use Rattle.elf_check.specs.declared.binding.Wanted.{Wanted}
+use Rattle.elf_records.specs.Symbol.{symbol_binding}
+use Rattle.elf_records.specs.declared.symbol.Symbol.{Symbol}
+use Rattle.elf_binding.specs.Binding.{IsBinding, VersionedObject}
+use Rattle.elf_binding.specs.declared.BindingFault.{BindingFault}
+use Rattle.elf_binding.specs.declared.Wanted.{Wanted}
 use Rattle.elf_uses.specs.declared.bindings.Bound.{Bound}
 use Rattle.elf_uses.specs.declared.bindings.Bound.TheVariants.{To, Weak, Missing}
 

@@ -4,10 +4,10 @@ use Rattle.std.specs.Prelude.{[], ◌∷◌, Option, Some, None, Result, Ok, Err
 use Rattle.std.specs.Option.{IsSomeAnd}
 use Rattle.elf_abi.specs.Values.{shn_undef, stb_local, stt_func, stt_gnu_ifunc, ver_flg_base}
 use Rattle.elf_parts.specs.StringTable.{GivesText}
-use Rattle.elf_parts.specs.Symbol.{symbol_binding, symbol_type}
+use Rattle.elf_records.specs.Symbol.{symbol_binding, symbol_type}
 use Rattle.elf_parts.specs.gnu_symver.Table.{Definition}
-use Rattle.elf_parts.specs.declared.parse.ParseError.{ParseError}
-use Rattle.elf_parts.specs.declared.symbol.Symbol.{Symbol}
+use Rattle.elf_records.specs.declared.parse.ParseError.{ParseError}
+use Rattle.elf_records.specs.declared.symbol.Symbol.{Symbol}
 use Rattle.elf_uses.specs.declared.functions.Version.{Version}
 
 -- a section defines it, it is not local (STB_LOCAL, 0), and it is a function (STT_FUNC, 2) or one that is chosen when

@@ -3,7 +3,7 @@ use Rattle.std.specs.Prelude.{◌≡◌, ℕ, ◌==◌, if◌then◌else◌, Opt
 use Rattle.std.specs.Option.{IsSomeAnd}
 use Rattle.std.specs.Result.{IsOkAnd}
 use Rattle.elf_abi.specs.Values.{sht_gnu_hash, sht_hash}
-use Rattle.elf_parts.specs.declared.section.SectionHeader.{SectionHeader}
+use Rattle.elf_records.specs.declared.section.SectionHeader.{SectionHeader}
 use Rattle.elf.specs.ObjectFile.{ObjectFile}
 use Rattle.elf_check.specs.Object.{IsSound, Object, indexed_count}
 use Rattle.elf_check.specs.ObjectTable.{IsFaultOf, section_object}

@@ -3,12 +3,12 @@ use Rattle.std.specs.Prelude.{◌≡◌, ℕ, Bool, ◌⊎◌, List, Option, Som
 use Rattle.std.specs.Option.{IsSomeAnd, option_map}
 use Rattle.std.specs.Result.{IsErrAnd, IsOkAnd}
 use Rattle.elf_abi.specs.Values.{sht_gnu_hash, sht_hash}
-use Rattle.elf_parts.specs.Number.{ok_map}
-use Rattle.elf_parts.specs.Record.{◌>>=◌}
+use Rattle.elf_records.specs.Number.{ok_map}
+use Rattle.elf_records.specs.Record.{◌>>=◌}
 use Rattle.elf_parts.specs.Table.{Table, table_in}
-use Rattle.elf_parts.specs.declared.file.Class.{Class}
-use Rattle.elf_parts.specs.declared.parse.ParseError.{ParseError}
-use Rattle.elf_parts.specs.declared.section.SectionHeader.{SectionHeader}
+use Rattle.elf_records.specs.declared.file.Class.{Class}
+use Rattle.elf_records.specs.declared.parse.ParseError.{ParseError}
+use Rattle.elf_records.specs.declared.section.SectionHeader.{SectionHeader}
 use Rattle.elf_parts.specs.gnu_symver.Lists.{ver_defs, ver_needs}
 use Rattle.elf_parts.specs.gnu_symver.Table.{Definitions, Needs, Versions}
 use Rattle.elf.specs.Answers.{dynamic_symbol_table, symbol_version_table}
@@ -18,7 +18,7 @@ use Rattle.elf.specs.Headers.{first_section_of}
 use Rattle.elf.specs.Opening.{opened}
 use Rattle.elf.specs.StreamFile.{listed_file}
 use Rattle.elf.specs.ObjectFile.{ObjectFile}
-use Rattle.elf_check.specs.Binding.{VersionedObject}
+use Rattle.elf_binding.specs.Binding.{VersionedObject}
 use Rattle.elf_check.specs.Object.{IsSound, Object, object_in}
 use Rattle.elf_check.specs.ObjectTable.{IsFaultOf, needed, read}
 use Rattle.elf_check.specs.declared.hashcheck.any.HashSection.{HashSection}

@@ -4,8 +4,8 @@ use Rattle.std.specs.Prelude.{true, false, List, length, map, filter, take, slic
 use Rattle.std.specs.List.{list_any}
 use Rattle.std.specs.Option.{IsSomeAnd}
 use Rattle.elf_abi.specs.Values.{pt_load}
-use Rattle.elf_parts.specs.Class.{address_bits}
-use Rattle.elf_parts.specs.declared.file.Class.{Class}
+use Rattle.elf_records.specs.Class.{address_bits}
+use Rattle.elf_records.specs.declared.file.Class.{Class}
 use Rattle.elf_parts.specs.declared.segment.ProgramHeader.{ProgramHeader}
 use Rattle.elf_uses.specs.declared.load_plan.Mapping.{Mapping}
 use Rattle.elf_uses.specs.declared.load_plan.PlanError.{PlanError}

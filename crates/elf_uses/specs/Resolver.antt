@@ -5,8 +5,8 @@ use Rattle.std.specs.Result.{IsOkAnd}
 use Rattle.std.specs.declared.cmp.PartialEq.{Ghosts as PartialEqGhosts}
 use Rattle.std.specs.declared.default.Default.{Ghosts as DefaultGhosts}
 use Rattle.elf_abi.specs.Values.{shn_undef}
-use Rattle.elf_parts.specs.declared.endian.EndianParse.{Ghosts as EndianGhosts}
-use Rattle.elf_parts.specs.declared.symbol.Symbol.{Symbol}
+use Rattle.elf_records.specs.declared.endian.EndianParse.{Ghosts as EndianGhosts}
+use Rattle.elf_records.specs.declared.symbol.Symbol.{Symbol}
 use Rattle.elf.specs.ObjectFile.{object_file}
 use Rattle.elf.specs.ElfBytes.{view}
 use Rattle.elf.specs.declared.elf_bytes.ElfBytes.{ElfBytes}

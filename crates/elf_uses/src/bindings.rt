@@ -2,11 +2,11 @@
 ghost use Rattle.std.specs.Prelude.{◌≡◌, IfOk, filter};
 ghost use Rattle.std.specs.List.{enumerate_from};
 ghost use Rattle.std.specs.Option.{option_map};
-ghost use Rattle.elf_parts.specs.Symbol.{symbol_reads};
+ghost use Rattle.elf_records.specs.Symbol.{symbol_reads};
 ghost use Rattle.elf_parts.specs.Table.{table_items, table_view};
 ghost use Rattle.elf_parts.specs.gnu_symver.Table.{versions_view};
 ghost use Rattle.elf_check.specs.CheckedTable.{object_view};
-ghost use Rattle.elf_check.specs.VersionedView.{versioned_view};
+ghost use Rattle.elf_binding.specs.VersionedView.{versioned_view};
 ghost use Rattle.elf_uses.specs.Bindings.{IsBound, is_reference};
 
 pub mod library;
@@ -18,7 +18,7 @@ use elf::abi;
 use elf::endian::EndianParse;
 use elf::gnu_symver::{IndexedVersions, SymbolVersionTable, SymbolVersions};
 use elf::symbol::{Symbol, SymbolTable};
-use elf_check::binding::{BindingFault, VersionedObject, Wanted, bind};
+use elf_binding::{BindingFault, VersionedObject, Wanted, bind};
 use elf_check::hashcheck::AnyChecked;
 use std::alloc::{AllocError, Global};
 

@@ -2,8 +2,8 @@
 ghost use Rattle.std.specs.Prelude.{◌≡◌, IfOk, IsTrue, map, option_copied};
 ghost use Rattle.std.specs.List.{find};
 ghost use Rattle.std.specs.Option.{option_map};
-ghost use Rattle.elf_parts.specs.Dynamic.{has_tag};
-ghost use Rattle.elf_parts.specs.Number.{ok_map};
+ghost use Rattle.elf_records.specs.Dynamic.{has_tag};
+ghost use Rattle.elf_records.specs.Number.{ok_map};
 ghost use Rattle.elf_parts.specs.Table.{table_view};
 ghost use Rattle.elf.specs.StreamFile.{stream_file};
 ghost use Rattle.elf_uses.specs.Needed.{GivesNames, IsGiven};

@@ -3,8 +3,8 @@ use Rattle.std.proofs.Common.{◌≡◌, ◌≢◌, ℕ, zero, suc, ◌+◌, ◌
 use Rattle.std.specs.List.{All, AllPairs}
 use Rattle.elf_parts.specs.GnuFind.{GnuTable, bloom_word}
 use Rattle.elf_parts.specs.Hash.{gnu_hash_of, named_symbol, sysv_hash_of, word_at}
-use Rattle.elf_parts.specs.Number.{bytes_at, number_at}
-use Rattle.elf_parts.specs.Record.{numbers_at}
+use Rattle.elf_records.specs.Number.{bytes_at, number_at}
+use Rattle.elf_records.specs.Record.{numbers_at}
 use Rattle.elf_parts.specs.StringTable.{string_at}
 use Rattle.elf_parts.specs.SysvFind.{SysvTable}
 use Rattle.elf_check.specs.WithSymbols.{WithSymbols, bloom, name_at, named, word}

@@ -1,6 +1,6 @@
 -- Two small files are written as files are.
 use Rattle.std.proofs.Common.{[], ◌∷◌, None, Some, drop, take, refl, lit≤}
-use Rattle.elf_parts.specs.Endian.{any_is_little, any_of_byte}
+use Rattle.elf_records.specs.Endian.{any_is_little, any_of_byte}
 use Rattle.elf_worked.proofs.Below.{suc_other}
 use Rattle.elf_worked.specs.Files.{two_names, two_sections, zeros}
 use Rattle.elf_worked.specs.Known.{extended_file, extended_header, extended_section, extended_segment, names_header, null_header, two_header_with}

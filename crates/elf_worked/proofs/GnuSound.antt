@@ -3,8 +3,8 @@ use Rattle.std.proofs.Common.{◌≡◌, ℕ, zero, suc, ◌+◌, ◌*◌, ◌<�
 use Rattle.std.proofs.lemmas.Grind.{common_steps}
 use Rattle.elf_parts.specs.GnuFind.{GnuTable, bloom_word}
 use Rattle.elf_parts.specs.Hash.{gnu_hash_of, named_symbol, word_at}
-use Rattle.elf_parts.specs.Number.{bytes_at, number_at}
-use Rattle.elf_parts.specs.Record.{numbers_at}
+use Rattle.elf_records.specs.Number.{bytes_at, number_at}
+use Rattle.elf_records.specs.Record.{numbers_at}
 use Rattle.elf_parts.specs.StringTable.{string_at}
 use Rattle.elf_parts.specs.Table.{Table}
 use Rattle.elf_check.proofs.GnuVerdicts.{true_fault}

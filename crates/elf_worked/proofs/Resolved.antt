@@ -3,12 +3,12 @@ use Rattle.std.proofs.Common.{◌≡◌, ℕ, [], ◌∷◌, codes, List, Option
 use Rattle.elf_parts.proofs.HashWords.{gnu_section_read, sysv_section_read}
 use Rattle.elf_parts.specs.GnuFind.{bloom_word, find_in_run, gnu_find, gnu_section, passes}
 use Rattle.elf_parts.specs.Hash.{gnu_hash_of, named_symbol, sysv_hash_of, word_at}
-use Rattle.elf_parts.specs.Number.{bytes_at, number_at}
-use Rattle.elf_parts.specs.Record.{numbers_at}
+use Rattle.elf_records.specs.Number.{bytes_at, number_at}
+use Rattle.elf_records.specs.Record.{numbers_at}
 use Rattle.elf_parts.specs.StringTable.{string_at}
 use Rattle.elf_parts.specs.SysvFind.{find_along, sysv_find, sysv_section}
-use Rattle.elf_parts.specs.declared.file.Class.TheVariants.{ELF32}
-use Rattle.elf_parts.specs.declared.symbol.Symbol.{Symbol}
+use Rattle.elf_records.specs.declared.file.Class.TheVariants.{ELF32}
+use Rattle.elf_records.specs.declared.symbol.Symbol.{Symbol}
 use Rattle.elf_check.proofs.GnuScan.{gnu_scan}
 use Rattle.elf_check.proofs.SysvScan.{sysv_scan}
 use Rattle.elf_check.specs.Indexed.{IsFirstNamed, IsLeastNamed}

@@ -3,7 +3,7 @@ use Rattle.std.specs.Prelude.{◌≡◌, ◌≢◌, ℕ, ◌+◌, ◌*◌, ◌/�
 use Rattle.std.specs.Prelude.{◌<◌, ◌≤◌, bit_or, Bool, if◌then◌else◌, ◌==◌, not, ◌||◌}
 use Rattle.std.specs.Prelude.{List, [], ◌∷◌, length, map, slice_index, slice_index_or, Some}
 use Rattle.std.specs.List.{All, AllPairs, position_or_len}
-use Rattle.elf_parts.specs.Class.{address_bits}
+use Rattle.elf_records.specs.Class.{address_bits}
 use Rattle.elf_parts.specs.GnuFind.{GnuTable}
 use Rattle.elf_parts.specs.Hash.{gnu_hash_of, sysv_hash_of, word_count}
 use Rattle.elf_parts.specs.SysvFind.{SysvTable}

@@ -1,11 +1,11 @@
 -- The bytes of the hash sections that a linker builds.
 use Rattle.std.specs.Prelude.{ℕ, Bool, List, [], ◌∷◌, ◌++◌, length, map}
 use Rattle.std.specs.List.{range_with_len}
-use Rattle.elf_parts.specs.Class.{address_bits}
+use Rattle.elf_records.specs.Class.{address_bits}
 use Rattle.elf_parts.specs.Structs.{gnu_header_struct, sysv_header_struct}
 use Rattle.elf_parts.specs.Written.{Member, struct_bytes, table_of, word, xword}
-use Rattle.elf_parts.specs.declared.file.Class.{Class}
-use Rattle.elf_parts.specs.declared.file.Class.TheVariants.{ELF32, ELF64}
+use Rattle.elf_records.specs.declared.file.Class.{Class}
+use Rattle.elf_records.specs.declared.file.Class.TheVariants.{ELF32, ELF64}
 use Rattle.elf_parts.specs.declared.hash.gnu.GnuHashHeader.{GnuHashHeader}
 use Rattle.elf_worked.specs.Built.{bloom_of_all, bucket_after, bucket_word, chain_after, run_word, sysv_bucket}
 

@@ -2,13 +2,13 @@
 use Rattle.std.specs.Prelude.{ℕ, true, List, [], ◌∷◌, ◌++◌, Option, Result}
 use Rattle.std.specs.Option.{option_map}
 use Rattle.elf_parts.specs.GnuFind.{gnu_find, gnu_section}
-use Rattle.elf_parts.specs.Number.{ok_map}
-use Rattle.elf_parts.specs.Record.{◌>>=◌}
+use Rattle.elf_records.specs.Number.{ok_map}
+use Rattle.elf_records.specs.Record.{◌>>=◌}
 use Rattle.elf_parts.specs.SysvFind.{sysv_find, sysv_section}
 use Rattle.elf_parts.specs.Table.{Table, table_in}
-use Rattle.elf_parts.specs.declared.file.Class.TheVariants.{ELF32}
-use Rattle.elf_parts.specs.declared.parse.ParseError.{ParseError}
-use Rattle.elf_parts.specs.declared.symbol.Symbol.{Symbol}
+use Rattle.elf_records.specs.declared.file.Class.TheVariants.{ELF32}
+use Rattle.elf_records.specs.declared.parse.ParseError.{ParseError}
+use Rattle.elf_records.specs.declared.symbol.Symbol.{Symbol}
 
 abbrev pub exit : List ℕ
 exit = 0x65 ∷ 0x78 ∷ 0x69 ∷ 0x74 ∷ []

@@ -1,21 +1,21 @@
 -- What is known of those files: their headers, what they show when they are opened, and their listings.
 use Rattle.std.specs.Prelude.{ℕ, true, List, Option, Some, None, Result, ◌++◌}
-use Rattle.elf_parts.specs.Number.{ok_map}
-use Rattle.elf_parts.specs.Endian.{any_is_little, any_of_byte}
+use Rattle.elf_records.specs.Number.{ok_map}
+use Rattle.elf_records.specs.Endian.{any_is_little, any_of_byte}
 use Rattle.elf_parts.specs.Table.{Table, table_in}
-use Rattle.elf_parts.specs.declared.endian.AnyEndian.{AnyEndian}
-use Rattle.elf_parts.specs.declared.endian.AnyEndian.TheVariants.{Little}
-use Rattle.elf_parts.specs.declared.file.Class.TheVariants.{ELF32, ELF64}
-use Rattle.elf_parts.specs.declared.file.FileHeader.{FileHeader}
-use Rattle.elf_parts.specs.declared.parse.ParseError.{ParseError}
-use Rattle.elf_parts.specs.declared.section.SectionHeader.{SectionHeader}
+use Rattle.elf_records.specs.declared.endian.AnyEndian.{AnyEndian}
+use Rattle.elf_records.specs.declared.endian.AnyEndian.TheVariants.{Little}
+use Rattle.elf_records.specs.declared.file.Class.TheVariants.{ELF32, ELF64}
+use Rattle.elf_records.specs.declared.file.FileHeader.{FileHeader}
+use Rattle.elf_records.specs.declared.parse.ParseError.{ParseError}
+use Rattle.elf_records.specs.declared.section.SectionHeader.{SectionHeader}
 use Rattle.elf_parts.specs.declared.segment.ProgramHeader.{ProgramHeader}
 use Rattle.elf.specs.Names.{name_table}
 use Rattle.elf.specs.ObjectFile.{object_file}
 use Rattle.elf.specs.Opening.{opened}
 use Rattle.elf.specs.ElfBytes.{View}
-use Rattle.elfshow.specs.calls.Question.{Question}
-use Rattle.elfshow.specs.calls.Text.{text}
+use Rattle.elf_calls.specs.Question.{Question}
+use Rattle.elf_calls.specs.Text.{text}
 use Rattle.elf_worked.specs.Files.{elsewhere, header_of_tables, in_eight, in_four, in_two, loaded_segment}
 use Rattle.elf_worked.specs.Files.{names_section, null_section, small_file, two_sections, zeros}
 

@@ -1,9 +1,9 @@
 -- A list of two small objects, and files as objects.
 use Rattle.std.specs.Prelude.{ℕ, List, Option, Result}
-use Rattle.elf_parts.specs.Endian.{any_is_little}
-use Rattle.elf_parts.specs.Number.{ok_map}
-use Rattle.elf_parts.specs.declared.parse.ParseError.{ParseError}
-use Rattle.elf_parts.specs.declared.symbol.Symbol.{Symbol}
+use Rattle.elf_records.specs.Endian.{any_is_little}
+use Rattle.elf_records.specs.Number.{ok_map}
+use Rattle.elf_records.specs.declared.parse.ParseError.{ParseError}
+use Rattle.elf_records.specs.declared.symbol.Symbol.{Symbol}
 use Rattle.elf.specs.ObjectFile.{object_file}
 use Rattle.elf_check.specs.Object.{ByGnu, BySysv, Object}
 use Rattle.elf_check.specs.ObjectTable.{object_of}

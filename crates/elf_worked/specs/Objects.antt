@@ -1,10 +1,10 @@
 -- Object files as the answers about them take them, by a few headers.
 use Rattle.std.specs.Prelude.{ℕ, true, List, [], ok_or, slice_get}
-use Rattle.elf_parts.specs.declared.file.Class.TheVariants.{ELF32}
-use Rattle.elf_parts.specs.declared.parse.ParseError.TheVariants.{BadOffset}
-use Rattle.elf_parts.specs.declared.section.SectionHeader.{SectionHeader}
+use Rattle.elf_records.specs.declared.file.Class.TheVariants.{ELF32}
+use Rattle.elf_records.specs.declared.parse.ParseError.TheVariants.{BadOffset}
+use Rattle.elf_records.specs.declared.section.SectionHeader.{SectionHeader}
 use Rattle.elf_parts.specs.declared.segment.ProgramHeader.{ProgramHeader}
-use Rattle.elf_parts.specs.declared.symbol.Symbol.{Symbol}
+use Rattle.elf_records.specs.declared.symbol.Symbol.{Symbol}
 use Rattle.elf.specs.ObjectFile.{ObjectFile}
 use Rattle.elf_worked.specs.Files.{counted}
 

@@ -1,7 +1,7 @@
 -- Records that are no part of the format, as a user may read them, by their field tables.
 use Rattle.std.specs.Prelude.{ℕ, [], ◌∷◌, slice_index, refl}
-use Rattle.elf_parts.specs.Record.{Layout, RecordType, field, version_field}
-use Rattle.elf_parts.specs.inner.RecordLaws.{by_layout}
+use Rattle.elf_records.specs.Record.{Layout, RecordType, field, version_field}
+use Rattle.elf_records.specs.inner.RecordLaws.{by_layout}
 
 -- one number of four bytes
 abbrev pub word_layout : Layout ℕ

@@ -4,9 +4,9 @@ use Rattle.std.specs.Prelude.{ℕ, true, List, [], ◌∷◌, ◌++◌, codes, R
 use Rattle.elf_parts.specs.GnuFind.{GnuTable, gnu_section}
 use Rattle.elf_parts.specs.SysvFind.{SysvTable, sysv_section}
 use Rattle.elf_parts.specs.Table.{table_in}
-use Rattle.elf_parts.specs.declared.file.Class.TheVariants.{ELF32}
-use Rattle.elf_parts.specs.declared.parse.ParseError.{ParseError}
-use Rattle.elf_parts.specs.declared.symbol.Symbol.{Symbol}
+use Rattle.elf_records.specs.declared.file.Class.TheVariants.{ELF32}
+use Rattle.elf_records.specs.declared.parse.ParseError.{ParseError}
+use Rattle.elf_records.specs.declared.symbol.Symbol.{Symbol}
 use Rattle.elf_check.specs.Faults.{IsTrueOfGnu, IsTrueOfSysv}
 use Rattle.elf_check.specs.SoundGnu.{SoundGnu}
 use Rattle.elf_check.specs.SoundSysv.{SoundSysv}

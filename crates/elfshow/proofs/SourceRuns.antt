@@ -7,18 +7,18 @@ use Rattle.elf.specs.ObjectFile.{object_file}
 use Rattle.elf.specs.Opening.{opened}
 use Rattle.elf.specs.ElfStream.{IsOpening, IsRefused, Kind, MayRefuse, Seen, headers_of, kind}
 use Rattle.elf.specs.ElfBytes.{View, with_header}
-use Rattle.elf_parts.specs.Number.{ok_map}
-use Rattle.elf_parts.specs.declared.file.FileHeader.{FileHeader}
-use Rattle.elf_parts.specs.declared.parse.ParseError.{ParseError}
-use Rattle.elf_parts.specs.inner.RecordLaws.{ok_map-ok}
-use Rattle.elfshow.specs.calls.Question.{Question, question}
+use Rattle.elf_records.specs.Number.{ok_map}
+use Rattle.elf_records.specs.declared.file.FileHeader.{FileHeader}
+use Rattle.elf_records.specs.declared.parse.ParseError.{ParseError}
+use Rattle.elf_records.specs.inner.RecordLaws.{ok_map-ok}
+use Rattle.elf_calls.specs.Question.{Question, question}
 use Rattle.elfshow.specs.Show.{RanOver}
 use Rattle.elfshow.specs.calls.Run.{Ran}
-use Rattle.elfshow.specs.calls.Text.{text}
-use Rattle.elfshow.specs.declared.calls.Call.{Call}
+use Rattle.elf_calls.specs.Text.{text}
+use Rattle.elf_calls.specs.declared.calls.Call.{Call}
 use Rattle.elfshow.specs.declared.calls.RunError.{RunError}
 use Rattle.elfshow.specs.declared.calls.RunError.TheVariants.{Fault, Open, Write}
-use Rattle.elfshow.proofs.StreamRuns.{inner_refused}
+use Rattle.elf_calls.proofs.StreamCalls.{inner_refused}
 
 may_fault : (k : Kind) (before now : ℕ) (can_fail : Bool) → IsRefused before now can_fail ⊥ k → MayRefuse can_fail (Unit {0}) ⊥ k
 may_fault Kind.SourceFailure before now can_fail h = h.1

@@ -1,7 +1,4 @@
--- what a listing says of a checked section, and the line of it
-pub mod Verdicts
-pub mod Hashes
--- calls: what they request, what they write, and what a run of them leaves
+-- what a run of calls leaves
 pub mod calls
 -- the call that a word spells
 pub mod Words

@@ -7,10 +7,10 @@ use Rattle.std.specs.Option.{option_and_then, option_map}
 use Rattle.std.specs.Str.{bytes_eq}
 use denote.Ref.{Bor}
 use Rattle.elf.specs.ElfStream.{Kind, MayRefuse, kind}
-use Rattle.elf_parts.specs.declared.parse.ParseError.{ParseError}
+use Rattle.elf_records.specs.declared.parse.ParseError.{ParseError}
 use Rattle.elf_lines.specs.Pieces.{◌⧺◌, newline}
 use Rattle.elfshow.specs.Words.{call_of}
-use Rattle.elfshow.specs.calls.Question.{Question}
+use Rattle.elf_calls.specs.Question.{Question}
 use Rattle.elfshow.specs.declared.calls.RunError.{RunError}
 use Rattle.elfshow.specs.declared.calls.RunError.TheVariants.{Fault, Open, Write}
 use Rattle.elfshow.specs.declared.show.Mode.{Mode}

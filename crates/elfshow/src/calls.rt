@@ -1,67 +1,27 @@
-//! The calls of a listing, and the text that they write.
+//! The calls of a listing, and runs of them, which write their text.
 ghost use Rattle.std.specs.Prelude.{◌≡◌, ◌≢◌, ℕ, All, List, IsOk, OnOk, IfOk, IfErr, IfSome, Err, length, map};
 ghost use Rattle.std.specs.Io.KnownBytes.{Appends};
 ghost use Rattle.elf.specs.StreamFile.{stream_file};
 ghost use Rattle.elf.specs.ObjectFile.{object_file};
 ghost use Rattle.elf.specs.Opening.{opened};
 ghost use Rattle.elf.specs.ElfStream.{Keeps, Seen};
-ghost use Rattle.elfshow.specs.calls.Question.{question};
-ghost use Rattle.elfshow.specs.calls.Ranges.{TakesNoMemory};
-ghost use Rattle.elfshow.specs.calls.Run.{IsAtHand, IsFaultless, IsLoaded, Ran, StopsWithin, stream_answer};
-ghost use Rattle.elfshow.specs.calls.Text.{text};
+ghost use Rattle.elf_calls.specs.Question.{question};
+ghost use Rattle.elf_calls.specs.Ranges.{TakesNoMemory};
+ghost use Rattle.elf_calls.specs.Stream.{IsAtHand, IsLoaded, stream_answer};
+ghost use Rattle.elf_calls.specs.Text.{text};
+ghost use Rattle.elfshow.specs.calls.Run.{IsFaultless, Ran, StopsWithin};
 ghost use Rattle.elfshow.specs.inner.RunSteps.{stopped_after};
-ghost use Rattle.elf_parts.specs.declared.parse.ParseError.{ParseError};
+ghost use Rattle.elf_records.specs.declared.parse.ParseError.{ParseError};
 
 use elf::endian::EndianParse;
 use elf::{ElfBytes, ElfStream, ParseError, StreamSource};
+pub use elf_calls::Call;
+use elf_calls::stream::Stop;
+use elf_calls::{bytes, stream};
 use std::alloc::Allocator;
 use std::io;
 use std::io::Write;
 use thiserror::Error;
-
-mod bytes;
-mod stream;
-
-use bytes::write_call;
-
-/// A request to a reader of a file. Sections and segments are given by their index, counted from 0.
-#[derive(Clone, Copy, Debug, PartialEq, Eq)]
-pub enum Call<'a> {
-    /// The file header, in one line.
-    Header,
-    /// The section headers with their names, a line each.
-    Sections,
-    /// The program headers, a line each.
-    Segments,
-    /// The first section of this name.
-    Name(&'a str),
-    /// The bytes of a section, without its compression header, whose fields come behind them.
-    Data(u64),
-    /// The strings of a section, one after the other, each with its offset in bytes.
-    Strings(u64),
-    /// The relocations of a section, without addends.
-    Rels(u64),
-    /// The relocations of a section, with addends.
-    Relas(u64),
-    /// The notes of a section.
-    Notes(u64),
-    /// The bytes of a segment.
-    Seg(u64),
-    /// The notes of a segment.
-    SegNotes(u64),
-    /// The symbols of the first symbol table.
-    Symbols,
-    /// The symbols of the first table for dynamic linking.
-    DynSyms,
-    /// The dynamic entries.
-    Dynamic,
-    /// The versions of the symbols for dynamic linking: which is needed, and which is defined.
-    Versions,
-    /// Whether a section is sound as a SysV hash section, for the symbols for dynamic linking.
-    Sysv(u64),
-    /// Whether a section is sound as a GNU hash section, for the symbols for dynamic linking.
-    Gnu(u64),
-}
 
 /// Why a run stopped. `done` is the number of calls whose text was completely written and flushed before.
 #[derive(Debug, Drop, Error)]
@@ -75,27 +35,6 @@ pub enum RunError {
     /// The writer failed.
     #[error("{error}")]
     Write { done: usize, error: io::Error },
-}
-
-// What stopped a call of a run.
-#[derive(Drop)]
-pub(crate) enum Stop {
-    // The source of the file or an allocation failed.
-    Fault(ParseError),
-    // The writer failed.
-    Write(io::Error),
-}
-
-impl Stop {
-    // The error of a run that stopped after `done` complete calls.
-    fn after(self, done: usize) -> RunError
-        ensures { result ≡ stopped_after done self }
-    {
-        match self {
-            Stop::Fault(error) => RunError::Fault { done, error },
-            Stop::Write(error) => RunError::Write { done, error },
-        }
-    }
 }
 
 /// Opens the ELF file in the data, and writes the text of the calls, in order. A call for which the reader returns an
@@ -124,7 +63,7 @@ pub fn run_bytes<E: EndianParse, W: Write>(
     };
     let mut done = 0;
     for call in calls {
-        if let Err(error) = write_call(&file, *call, out) {
+        if let Err(error) = bytes::write_call(&file, *call, out) {
             return Err(RunError::Write { done, error });
         }
         if let Err(error) = out.flush() {
@@ -162,7 +101,7 @@ pub fn run_stream<E: EndianParse, S: StreamSource, A: Allocator + Copy, W: Write
     for (done, call) in calls.iter().enumerate() {
         match stream::write_call(stream, *call, out) {
             Ok(()) => {}
-            Err(stop) => return Err(stop.after(done)),
+            Err(stop) => return Err(stopped_after(done, stop)),
         }
         let flushed = out.flush();
         if let Err(error) = flushed {
@@ -170,6 +109,16 @@ pub fn run_stream<E: EndianParse, S: StreamSource, A: Allocator + Copy, W: Write
         }
     }
     Ok(())
+}
+
+// The error of a run that stopped after `done` complete calls.
+fn stopped_after(done: usize, stop: Stop) -> RunError
+    ensures { result ≡ stopped_after done stop }
+{
+    match stop {
+        Stop::Fault(error) => RunError::Fault { done, error },
+        Stop::Write(error) => RunError::Write { done, error },
+    }
 }
 
 /// States that a run without failures can be repeated. Let the ranges of each call that has a result be cached, as they

@@ -3,11 +3,11 @@ ghost use Rattle.std.specs.Prelude.{◌≡◌, ◌≤◌, Err, IsErr, IsNone, Is
 ghost use Rattle.std.specs.Prelude.{IsSomeAnd, OnOk, Some, length, map};
 ghost use Rattle.std.specs.Io.Buffered.{writer_contents, writer_inner};
 ghost use Rattle.std.specs.Io.KnownBytes.{Appends};
-ghost use Rattle.elf_parts.specs.Endian.{any_is_little, any_of_byte};
+ghost use Rattle.elf_records.specs.Endian.{any_is_little, any_of_byte};
 ghost use Rattle.elf.specs.ObjectFile.{object_file};
 ghost use Rattle.elf.specs.Opening.{opened};
-ghost use Rattle.elfshow.specs.calls.Question.{question};
-ghost use Rattle.elfshow.specs.calls.Text.{text};
+ghost use Rattle.elf_calls.specs.Question.{question};
+ghost use Rattle.elf_calls.specs.Text.{text};
 ghost use Rattle.elfshow.specs.Failure.{IsOfFile, run_of, status_of};
 ghost use Rattle.elfshow.specs.inner.RunSteps.{IsUnfailing, in_memory};
 ghost use Rattle.elf_lines.specs.Pieces.{◌⧺◌};
@@ -20,10 +20,10 @@ ghost use Rattle.elfshow.specs.declared.show.RequestError.TheVariants.{OutOfMemo
 use crate::calls::{Call, RunError, run_bytes, run_stream};
 use crate::failure::{Failure, report};
 use crate::file_system::FileSystem;
-use crate::readers::texts_are_the_same;
 use crate::words::parse_call;
 use elf::endian::AnyEndian;
 use elf::{ElfStream, MemSource, ParseError, StreamSource};
+use elf_calls::readers::texts_are_the_same;
 use std::alloc::{AllocFailed, Global};
 use std::io;
 use std::io::{BufWriter, Write};

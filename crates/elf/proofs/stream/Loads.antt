@@ -1,9 +1,9 @@
 -- Loading a range: its answer at each exit, and what is unchanged after a buffer was inserted or refused.
 use Rattle.std.proofs.Common.{◌≡◌, ℕ, ◌+◌, ◌<◌, ◌≤◌, Bool, List, length, take, drop, refl, ap, arith, Option, Some, None, IfSome}
 use Rattle.std.specs.Prelude.{◌^◌, Result, Ok, Err, IsErr, IsOk, IfErr, is_ok}
-use Rattle.elf_parts.specs.Number.{bytes_at}
-use Rattle.elf_parts.specs.declared.parse.ParseError.{ParseError}
-use Rattle.elf_parts.specs.declared.parse.ParseError.TheVariants.{OutOfMemory}
+use Rattle.elf_records.specs.Number.{bytes_at}
+use Rattle.elf_records.specs.declared.parse.ParseError.{ParseError}
+use Rattle.elf_records.specs.declared.parse.ParseError.TheVariants.{OutOfMemory}
 use Rattle.elf.specs.ElfStream.{IsAnswer, IsFor, Kind, kind}
 use Rattle.elf.proofs.stream.Pieces.{read_within, read_past, read_past_64}
 

@@ -2,11 +2,11 @@
 use Rattle.std.proofs.Common.{◌≡◌, ℕ, Bool, List, length, refl, ap, ◌∙◌, Option, Some, None, IfSome}
 use Rattle.std.specs.Prelude.{◌==◌, false, Result, Ok, Err, IsErr, is_err, IfErr}
 use Rattle.std.specs.Option.{option_map}
-use Rattle.elf_parts.specs.Number.{ok_map}
-use Rattle.elf_parts.specs.Record.{◌>>=◌}
+use Rattle.elf_records.specs.Number.{ok_map}
+use Rattle.elf_records.specs.Record.{◌>>=◌}
 use Rattle.elf_parts.specs.Table.{table_in}
-use Rattle.elf_parts.specs.declared.file.FileHeader.{FileHeader}
-use Rattle.elf_parts.specs.declared.parse.ParseError.{ParseError}
+use Rattle.elf_records.specs.declared.file.FileHeader.{FileHeader}
+use Rattle.elf_records.specs.declared.parse.ParseError.{ParseError}
 use Rattle.elf.specs.Opening.{table_bytes}
 use Rattle.elf.specs.ElfStream.{IsAnswer, kind}
 use Rattle.elf.specs.declared.tables.DeclaredTable.{DeclaredTable}

@@ -2,15 +2,15 @@
 use Rattle.std.proofs.Common.{◌≡◌, ℕ, ◌+◌, ◌-◌, ◌<◌, ◌≤◌, Bool, List, length, take, drop, refl, sym, ap, ◌∙◌, subst, arith, Option, Some, None, IfSome, length-take, length-drop}
 use Rattle.std.specs.Prelude.{◌^◌, Result, Ok, Err, IsErr, IsOk, ◌==◌, ◌*◌, if◌then◌else◌, true, false}
 use Rattle.std.proofs.lemmas.List.{take-take}
-use Rattle.elf_parts.specs.Number.{bytes_at}
-use Rattle.elf_parts.specs.Record.{◌>>=◌, ReadsWherever, RecordType}
-use Rattle.elf_parts.specs.declared.file.Class.{Class}
-use Rattle.elf_parts.specs.declared.parse.ParseError.{ParseError}
+use Rattle.elf_records.specs.Number.{bytes_at}
+use Rattle.elf_records.specs.Record.{◌>>=◌, ReadsWherever, RecordType}
+use Rattle.elf_records.specs.declared.file.Class.{Class}
+use Rattle.elf_records.specs.declared.parse.ParseError.{ParseError}
 use Rattle.elf.proofs.stream.Chains.{AreAlike}
 use Rattle.elf.proofs.stream.Pieces.{one_value, read_past, read_within, read_is_within, read_past_64}
 use Rattle.elf.specs.Opening.{table_bytes}
 use Rattle.elf.specs.inner.HeaderSteps.{range_bytes}
-use Rattle.elf_parts.specs.declared.parse.ParseError.TheVariants.{BadEntsize}
+use Rattle.elf_records.specs.declared.parse.ParseError.TheVariants.{BadEntsize}
 use Rattle.std.proofs.lemmas.Bool.Decides.{nat_tests}
 use Rattle.elf.proofs.stream.Steps.{not_ok, refused_not}
 

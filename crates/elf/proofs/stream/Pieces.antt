@@ -6,7 +6,7 @@ use Rattle.std.proofs.lemmas.Bool.{and_parts}
 use Rattle.std.proofs.lemmas.List.{take-take, drop-take, drop-drop}
 use Rattle.elf.specs.inner.Piece.{Piece, IsPartOf, covers, range_of, IsOf, IsSound}
 use Rattle.elf.specs.ElfStream.{is_cached}
-use Rattle.elf_parts.specs.Number.{bytes_at}
+use Rattle.elf_records.specs.Number.{bytes_at}
 use Rattle.std.proofs.lemmas.Bool.Decides.{nat_tests}
 use Rattle.std.proofs.lemmas.List.Folds.{Any-from_list_any}
 use Rattle.std.proofs.lemmas.List.Elements.{All-contains}

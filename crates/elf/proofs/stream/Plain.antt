@@ -1,16 +1,16 @@
 -- What reads bytes alone is refused for no source and no memory.
 use Rattle.std.proofs.Common.{◌≡◌, ℕ, ◌+◌, ◌*◌, Bool, true, false, List, [], ◌∷◌, refl, sym, subst, Option, Some, None}
-use Rattle.elf_parts.specs.declared.file.Class.TheVariants.{ELF32, ELF64}
-use Rattle.elf_parts.specs.declared.parse.ParseError.TheVariants.{BadOffset, IntegerOverflow, SliceReadError, UnsupportedElfClass}
+use Rattle.elf_records.specs.declared.file.Class.TheVariants.{ELF32, ELF64}
+use Rattle.elf_records.specs.declared.parse.ParseError.TheVariants.{BadOffset, IntegerOverflow, SliceReadError, UnsupportedElfClass}
 use Rattle.std.specs.Prelude.{◌^◌, ◌==◌, nat_le, nat_lt, length, take, drop, Result, Ok, Err, IfErr, ok_or, if◌then◌else◌}
-use Rattle.elf_parts.specs.File.{byte_in, class_of, ident_of, magic_in, order_of, version_in}
-use Rattle.elf_parts.specs.Number.{bytes_at, number_at, ok_map}
-use Rattle.elf_parts.specs.Record.{◌>>=◌, Field, Layout, accepted, numbers_at, record_by, size_by}
-use Rattle.elf_parts.specs.Section.{section_header_layout, section_header_reads}
+use Rattle.elf_records.specs.File.{byte_in, class_of, ident_of, magic_in, order_of, version_in}
+use Rattle.elf_records.specs.Number.{bytes_at, number_at, ok_map}
+use Rattle.elf_records.specs.Record.{◌>>=◌, Field, Layout, accepted, numbers_at, record_by, size_by}
+use Rattle.elf_records.specs.Section.{section_header_layout, section_header_reads}
 use Rattle.elf_parts.specs.Table.{Table, item_at}
-use Rattle.elf_parts.specs.declared.file.Class.{Class}
-use Rattle.elf_parts.specs.declared.parse.ParseError.{ParseError}
-use Rattle.elf_parts.specs.declared.section.SectionHeader.{SectionHeader}
+use Rattle.elf_records.specs.declared.file.Class.{Class}
+use Rattle.elf_records.specs.declared.parse.ParseError.{ParseError}
+use Rattle.elf_records.specs.declared.section.SectionHeader.{SectionHeader}
 use Rattle.elf.specs.ElfStream.{Kind, kind}
 use Rattle.elf.specs.Data.{at_front}
 use Rattle.elf.specs.Headers.{section_at}

@@ -1,14 +1,14 @@
 -- The versions by a plan are those of the definition, the kind of an error aside: a plan looks at all headers first.
 use Rattle.std.proofs.Common.{◌≡◌, ℕ, Bool, List, Option, Some, None, Result, Ok, Err, refl, sym, ap, ◌∙◌}
 use Rattle.std.specs.Prelude.{IsOk, IfSome}
-use Rattle.elf_parts.specs.Number.{ok_map}
-use Rattle.elf_parts.specs.Record.{◌>>=◌, size_by}
+use Rattle.elf_records.specs.Number.{ok_map}
+use Rattle.elf_records.specs.Record.{◌>>=◌, size_by}
 use Rattle.elf_parts.specs.gnu_symver.Lists.{ver_defs, ver_needs}
 use Rattle.elf_parts.specs.gnu_symver.Records.{version_index_layout}
 use Rattle.elf_parts.specs.gnu_symver.Table.{Definitions, Needs, Versions}
 use Rattle.elf_parts.specs.Table.{Table}
-use Rattle.elf_parts.specs.declared.parse.ParseError.{ParseError}
-use Rattle.elf_parts.specs.declared.section.SectionHeader.{SectionHeader}
+use Rattle.elf_records.specs.declared.parse.ParseError.{ParseError}
+use Rattle.elf_records.specs.declared.section.SectionHeader.{SectionHeader}
 use Rattle.elf.specs.Answers.{symbol_version_table}
 use Rattle.elf.specs.Ranges.{LinkedSections, VersionPlan, headers_alone, plan_ranges, version_plan, version_plan_of, versions_ranges, with_link}
 use Rattle.elf.specs.Headers.{entry_size, if_found}

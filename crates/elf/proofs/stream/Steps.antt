@@ -3,8 +3,8 @@ use Rattle.std.proofs.Common.{◌≡◌, ℕ, ◌+◌, ◌<◌, ◌||◌, ◌⊎
 use Rattle.std.specs.Prelude.{IsTrue, ◌^◌, Result, Ok, Err, IsErr, IsOk, IfErr, OnOk, OnErr, is_ok, take, drop}
 use Rattle.std.proofs.lemmas.List.{map-append}
 use Rattle.std.proofs.lemmas.List.Folds.{list_any-append}
-use Rattle.elf_parts.specs.Number.{bytes_at}
-use Rattle.elf_parts.specs.declared.parse.ParseError.{ParseError}
+use Rattle.elf_records.specs.Number.{bytes_at}
+use Rattle.elf_records.specs.declared.parse.ParseError.{ParseError}
 use Rattle.elf.specs.Ranges.{if_chosen}
 use Rattle.elf.specs.inner.Loads.{HasReason, AreLow, AreThere, Loads}
 use Rattle.elf.specs.ElfStream.{IsAnswer, IsFor, IsNeeded, IsRefused, IsRequested, Kind, is_cached, kind, Seen, AreCached, IsCached, Keeps, Leaves}

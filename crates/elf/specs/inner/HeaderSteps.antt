@@ -1,12 +1,12 @@
 -- Steps of an opening, which the contracts of private functions cite.
 use Rattle.std.specs.Prelude.{ℕ, ◌-◌, Bool, List, [], take, drop, Option, None, Some, Result}
 use Rattle.elf_abi.specs.Values.{ei_nident}
-use Rattle.elf_parts.specs.File.{Ident, header_with_tail, ident_of, tail_fields}
-use Rattle.elf_parts.specs.Number.{bytes_at}
-use Rattle.elf_parts.specs.Record.{◌>>=◌, RecordType, size_of}
-use Rattle.elf_parts.specs.declared.file.FileHeader.{FileHeader}
+use Rattle.elf_records.specs.File.{Ident, header_with_tail, ident_of, tail_fields}
+use Rattle.elf_records.specs.Number.{bytes_at}
+use Rattle.elf_records.specs.Record.{◌>>=◌, RecordType, size_of}
+use Rattle.elf_records.specs.declared.file.FileHeader.{FileHeader}
 use Rattle.elf_parts.specs.Table.{Table, table_in, table_items}
-use Rattle.elf_parts.specs.declared.parse.ParseError.{ParseError}
+use Rattle.elf_records.specs.declared.parse.ParseError.{ParseError}
 use Rattle.elf.specs.ElfStream.{Kind, AllocationFailure}
 
 -- the identification in the first sixteen bytes

@@ -1,8 +1,8 @@
 -- What the private calls of a stream leave that load ranges and return no borrow.
 use Rattle.std.specs.Prelude.{◌≡◌, ℕ, ◌+◌, ◌^◌, ◌<◌, ◌⊎◌, Bool, List, [], ◌∷◌, Result, Ok, Err}
 use Rattle.std.specs.Prelude.{IfSome, IfErr, OnOk, IsOk, IsErr}
-use Rattle.elf_parts.specs.Number.{bytes_at}
-use Rattle.elf_parts.specs.declared.parse.ParseError.{ParseError}
+use Rattle.elf_records.specs.Number.{bytes_at}
+use Rattle.elf_records.specs.declared.parse.ParseError.{ParseError}
 use Rattle.elf.specs.ElfStream.{Seen, AreCached, IsCached, IsFor, IsNeeded, IsRefused, IsRequested, Keeps, Kind, kind}
 
 -- none of the ranges ends past 64 bits

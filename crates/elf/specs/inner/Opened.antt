@@ -1,7 +1,7 @@
 -- What is true of every stream: its buffers are the content's bytes, and its tables those of the file that the content
 -- holds.
 use Rattle.std.specs.Prelude.{◌≡◌, ℕ, Bool, List, Option, Ok, IfSome, is_some}
-use Rattle.elf_parts.specs.declared.section.SectionHeader.{SectionHeader}
+use Rattle.elf_records.specs.declared.section.SectionHeader.{SectionHeader}
 use Rattle.elf_parts.specs.declared.segment.ProgramHeader.{ProgramHeader}
 use Rattle.elf.specs.Opening.{opened}
 use Rattle.elf.specs.ElfBytes.{View, section_list, segment_list}

@@ -1,7 +1,7 @@
 -- What a pass over the sections has found so far, with one section more; contracts of private functions speak of it.
 use Rattle.std.specs.Prelude.{if◌then◌else◌, None, Some}
 use Rattle.elf_abi.specs.Values.{sht_gnu_verdef, sht_gnu_verneed, sht_gnu_versym}
-use Rattle.elf_parts.specs.declared.section.SectionHeader.{SectionHeader}
+use Rattle.elf_records.specs.declared.section.SectionHeader.{SectionHeader}
 use Rattle.elf.specs.Headers.{is_of_type}
 use Rattle.elf.specs.Common.{CommonData, CommonPart, Symbols, DynamicSymbols, DynamicEntries, SysvHash, GnuHash}
 use Rattle.elf.specs.Common.{Nothing}

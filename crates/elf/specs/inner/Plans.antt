@@ -1,10 +1,10 @@
 -- What a stream cuts from the ranges of the sections of versions, once they are chosen; contracts of private functions
 -- speak of it.
 use Rattle.std.specs.Prelude.{Option, Result, Ok}
-use Rattle.elf_parts.specs.Record.{◌>>=◌}
+use Rattle.elf_records.specs.Record.{◌>>=◌}
 use Rattle.elf_parts.specs.gnu_symver.Lists.{ver_defs, ver_needs}
 use Rattle.elf_parts.specs.gnu_symver.Table.{Definitions, Needs, Versions}
-use Rattle.elf_parts.specs.declared.parse.ParseError.{ParseError}
+use Rattle.elf_records.specs.declared.parse.ParseError.{ParseError}
 use Rattle.elf.specs.Ranges.{LinkedSections, VersionPlan, version_plan}
 use Rattle.elf.specs.Headers.{if_found}
 use Rattle.elf.specs.ObjectFile.{ObjectFile, table_of}

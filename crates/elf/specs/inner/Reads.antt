@@ -1,6 +1,6 @@
 -- What the steps of an opening do that read a source; contracts of private functions speak of it.
 use Rattle.std.specs.Prelude.{◌≡◌, ℕ, List, length, Result, IfErr, IfSome}
-use Rattle.elf_parts.specs.declared.parse.ParseError.{ParseError}
+use Rattle.elf_records.specs.declared.parse.ParseError.{ParseError}
 use Rattle.elf.specs.ElfStream.{IsAnswer, kind}
 use Rattle.elf.specs.declared.source.StreamSource as source
 use Rattle.elf.specs.inner.HeaderSteps.{IsNoAllocationFailure}

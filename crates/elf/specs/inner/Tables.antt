@@ -1,12 +1,12 @@
 -- A table of headers as the file header declares it; contracts of private functions speak of it.
 use Rattle.std.specs.Prelude.{ℕ, ◌==◌, if◌then◌else◌, Bool, List, Option, None, Some, Result, Ok}
 use Rattle.elf_abi.specs.Values.{pn_xnum}
-use Rattle.elf_parts.specs.Number.{ok_map}
-use Rattle.elf_parts.specs.Record.{◌>>=◌}
+use Rattle.elf_records.specs.Number.{ok_map}
+use Rattle.elf_records.specs.Record.{◌>>=◌}
 use Rattle.elf_parts.specs.Table.{Table, table_in}
-use Rattle.elf_parts.specs.declared.file.FileHeader.{FileHeader}
-use Rattle.elf_parts.specs.declared.parse.ParseError.{ParseError}
-use Rattle.elf_parts.specs.declared.section.SectionHeader.{SectionHeader}
+use Rattle.elf_records.specs.declared.file.FileHeader.{FileHeader}
+use Rattle.elf_records.specs.declared.parse.ParseError.{ParseError}
+use Rattle.elf_records.specs.declared.section.SectionHeader.{SectionHeader}
 use Rattle.elf.specs.Opening.{first_section, table_bytes}
 use Rattle.elf.specs.declared.tables.CountWord.{CountWord}
 use Rattle.elf.specs.declared.tables.CountWord.TheVariants.{ShInfo, ShSize}

@@ -1,6 +1,6 @@
 //! The sections that are looked up most often, found in one pass.
 ghost use Rattle.std.specs.Prelude.{◌≡◌, []};
-ghost use Rattle.elf_parts.specs.Number.{ok_map};
+ghost use Rattle.elf_records.specs.Number.{ok_map};
 ghost use Rattle.elf_parts.specs.GnuFind.{gnu_view};
 ghost use Rattle.elf_parts.specs.SysvFind.{sysv_view};
 ghost use Rattle.elf.specs.Common.{common_view, last_of_each};

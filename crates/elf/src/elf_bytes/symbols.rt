@@ -1,7 +1,7 @@
 //! The symbols of a file, with their strings.
 ghost use Rattle.std.specs.Prelude.{◌≡◌};
 ghost use Rattle.std.specs.Option.{option_map};
-ghost use Rattle.elf_parts.specs.Number.{ok_map};
+ghost use Rattle.elf_records.specs.Number.{ok_map};
 ghost use Rattle.elf.specs.Answers.{dynamic_symbol_table, first_symbols, symbol_table, symbols_in, symbols_of};
 ghost use Rattle.elf.specs.Answers.{symbols_view};
 ghost use Rattle.elf.specs.ObjectFile.{object_file};

@@ -7,7 +7,7 @@ ghost use Rattle.std.specs.Ordering.{nat_cmp};
 ghost use Rattle.elf.specs.inner.Piece.{Piece, AreSpread, IsPartOf, IsPut, covers, end_of, is_within, piece_of};
 ghost use Rattle.elf.specs.inner.Piece.{range_of};
 ghost use Rattle.elf.specs.ElfStream.{is_cached};
-ghost use Rattle.elf_parts.specs.declared.parse.ParseError.{ParseError};
+ghost use Rattle.elf_records.specs.declared.parse.ParseError.{ParseError};
 
 use elf_parts::parse::ParseError;
 use std::alloc::Allocator;

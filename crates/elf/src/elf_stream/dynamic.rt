@@ -1,10 +1,10 @@
 //! The dynamic entries of a stream.
 ghost use Rattle.std.specs.Prelude.{◌≡◌, ℕ, Ok, Some, IfErr, IfSome, OnOk};
 ghost use Rattle.elf_abi.specs.Values.{pt_dynamic, sht_dynamic};
-ghost use Rattle.elf_parts.specs.Dynamic.{dyn_layout};
-ghost use Rattle.elf_parts.specs.Record.{size_by};
+ghost use Rattle.elf_records.specs.Dynamic.{dyn_layout};
+ghost use Rattle.elf_records.specs.Record.{size_by};
 ghost use Rattle.std.specs.Option.{option_map};
-ghost use Rattle.elf_parts.specs.Number.{ok_map};
+ghost use Rattle.elf_records.specs.Number.{ok_map};
 ghost use Rattle.elf_parts.specs.Table.{table_view};
 ghost use Rattle.elf.specs.Answers.{dynamic, section_dynamic, segment_dynamic};
 ghost use Rattle.elf.specs.Ranges.{dynamic_ranges, headers_alone, if_there, section_ranges, section_dynamic_ranges};

@@ -1,6 +1,6 @@
 //! The names of sections.
 ghost use Rattle.std.specs.Prelude.{◌≡◌, IfSome, Ok, None, Some, option_copied};
-ghost use Rattle.elf_parts.specs.Number.{ok_map};
+ghost use Rattle.elf_records.specs.Number.{ok_map};
 ghost use Rattle.elf.specs.Answers.{first_named, section_header_by_name};
 ghost use Rattle.elf.specs.Ranges.{names_ranges, whole_section};
 ghost use Rattle.elf.specs.ElfStream.{AreCached};

@@ -2,10 +2,10 @@
 ghost use Rattle.std.specs.Prelude.{◌≡◌, ℕ, ◌≤◌, Bool, List, Ok, IfOk, IfErr, IfSome, length};
 ghost use Rattle.std.specs.Option.{option_map};
 ghost use Rattle.elf.specs.Opening.{first_section, header_at_front, section_table, segment_table, table_bytes};
-ghost use Rattle.elf_parts.specs.File.{tail_fields};
-ghost use Rattle.elf_parts.specs.Number.{bytes_at};
-ghost use Rattle.elf_parts.specs.Record.{size_by, size_of};
-ghost use Rattle.elf_parts.specs.Section.{section_header_layout};
+ghost use Rattle.elf_records.specs.File.{tail_fields};
+ghost use Rattle.elf_records.specs.Number.{bytes_at};
+ghost use Rattle.elf_records.specs.Record.{size_by, size_of};
+ghost use Rattle.elf_records.specs.Section.{section_header_layout};
 ghost use Rattle.elf_parts.specs.Table.{table_items, table_view};
 ghost use Rattle.elf.specs.ElfStream.{IsAnswer, kind};
 ghost use Rattle.elf.specs.inner.HeaderSteps.{IsNoAllocationFailure, front_ident, range_bytes, range_records};

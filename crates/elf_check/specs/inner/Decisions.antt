@@ -5,7 +5,7 @@ use Rattle.std.specs.Option.{IsSomeAnd}
 use Rattle.std.proofs.Common.{ap, subst, inl, inr, arith}
 use Rattle.std.proofs.lemmas.Bool.{cases_lt}
 use Rattle.std.proofs.lemmas.Grind.{common_steps}
-use Rattle.elf_parts.specs.Class.{address_bits}
+use Rattle.elf_records.specs.Class.{address_bits}
 use Rattle.elf_parts.specs.GnuFind.{GnuTable}
 use Rattle.elf_parts.specs.Hash.{gnu_hash_of, sysv_hash_of, word_at, word_count}
 use Rattle.elf_parts.specs.SysvFind.{SysvTable}

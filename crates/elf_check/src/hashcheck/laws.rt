@@ -7,7 +7,7 @@ ghost use Rattle.elf_parts.specs.Clones.{ClonesExactly};
 ghost use Rattle.elf_parts.specs.GnuFind.{GnuTable, gnu_find, gnu_section};
 ghost use Rattle.elf_parts.specs.Hash.{word_count};
 ghost use Rattle.elf_parts.specs.SysvFind.{SysvTable, sysv_find, sysv_section};
-ghost use Rattle.elf_parts.specs.declared.file.Class.{Class};
+ghost use Rattle.elf_records.specs.declared.file.Class.{Class};
 ghost use Rattle.elf_check.specs.Faults.{IsTrueOfSysv};
 ghost use Rattle.elf_check.specs.Indexed.{IsFirstNamed, IsLeastNamed};
 ghost use Rattle.elf_check.specs.Reads.{IsCountAt, read_count};

@@ -1,6 +1,6 @@
 //! The checked hash table of a file, and the look-up of a name over such tables.
 ghost use Rattle.std.specs.Prelude.{◌≡◌};
-ghost use Rattle.elf_parts.specs.Number.{ok_map};
+ghost use Rattle.elf_records.specs.Number.{ok_map};
 ghost use Rattle.elf.specs.ObjectFile.{object_file};
 ghost use Rattle.elf.specs.ElfBytes.{view};
 ghost use Rattle.elf_check.specs.CheckedTable.{object_view};

@@ -3,7 +3,7 @@ use Rattle.std.specs.Prelude.{nat_le, ℕ, zero, suc, Bool, true, false, if◌th
 use Rattle.elf_parts.specs.gnu_symver.Records.{version_index}
 use Rattle.elf_parts.specs.gnu_symver.Table.{Versions, index_of}
 use Rattle.elf_parts.specs.declared.gnu_symver.records.VersionIndex.{VersionIndex}
-use Rattle.elf_parts.specs.declared.parse.ParseError.{ParseError}
+use Rattle.elf_records.specs.declared.parse.ParseError.{ParseError}
 
 -- whether a version index that was read is this one or a greater one
 abbrev pub is_index_from : ℕ → Result VersionIndex ParseError → Bool

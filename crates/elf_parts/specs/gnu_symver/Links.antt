@@ -3,9 +3,9 @@ use Rattle.std.specs.Prelude.{ℕ, ◌+◌, ◌^◌, if◌then◌else◌, ◌==�
 use Rattle.std.specs.Prelude.{List, [], ◌∷◌, map, Result, zero, suc}
 use Rattle.elf_parts.specs.Link.{links}
 use Rattle.elf_parts.specs.Table.{Table, table_in}
-use Rattle.elf_parts.specs.declared.file.Class.{Class}
+use Rattle.elf_records.specs.declared.file.Class.{Class}
 use Rattle.elf_parts.specs.declared.gnu_symver.links.Links.{Links}
-use Rattle.elf_parts.specs.declared.parse.ParseError.{ParseError}
+use Rattle.elf_records.specs.declared.parse.ParseError.{ParseError}
 
 -- where the next record begins, if there is one: not where the distance to it is 0, nor where it would lie past 64 bits
 abbrev pub next_start : ℕ → ℕ → Option ℕ

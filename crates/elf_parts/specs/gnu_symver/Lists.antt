@@ -1,11 +1,11 @@
 -- The lists of version records: the entries of a section, each with its auxiliary entries. A need is an entry whose
 -- auxiliary entries are the versions that are needed, a definition one whose auxiliary entries are its names.
 use Rattle.std.specs.Prelude.{ℕ, ◌+◌, Bool, List, map, Result}
-use Rattle.elf_parts.specs.Record.{record_by}
+use Rattle.elf_records.specs.Record.{record_by}
 use Rattle.elf_parts.specs.Table.{Table}
 use Rattle.elf_parts.specs.gnu_symver.Links.{links_in, links_left, links_view, records_of}
 use Rattle.elf_parts.specs.gnu_symver.Records.{ver_def_aux_layout, ver_def_layout, ver_need_aux_layout, ver_need_layout}
-use Rattle.elf_parts.specs.declared.file.Class.{Class}
+use Rattle.elf_records.specs.declared.file.Class.{Class}
 use Rattle.elf_parts.specs.declared.gnu_symver.lists.AuxIterator.{AuxIterator}
 use Rattle.elf_parts.specs.declared.gnu_symver.links.Links.{Links}
 use Rattle.elf_parts.specs.declared.gnu_symver.lists.EntryIterator.{EntryIterator}
@@ -13,7 +13,7 @@ use Rattle.elf_parts.specs.declared.gnu_symver.records.VerDef.{VerDef}
 use Rattle.elf_parts.specs.declared.gnu_symver.records.VerDefAux.{VerDefAux}
 use Rattle.elf_parts.specs.declared.gnu_symver.records.VerNeed.{VerNeed}
 use Rattle.elf_parts.specs.declared.gnu_symver.records.VerNeedAux.{VerNeedAux}
-use Rattle.elf_parts.specs.declared.parse.ParseError.{ParseError}
+use Rattle.elf_records.specs.declared.parse.ParseError.{ParseError}
 
 -- ---- auxiliary entries, by the entry at an offset and the distance to the next one
 

@@ -2,8 +2,8 @@
 -- tables are the same in both classes; the version of a record is not stored.
 use Rattle.std.specs.Prelude.{refl, ℕ, ◌%◌, ◌^◌, nat_le, Bool, List, [], ◌∷◌, slice_index}
 use Rattle.elf_abi.specs.Values.{ver_def_current, ver_need_current}
-use Rattle.elf_parts.specs.Record.{Field, field, version_field, Layout, RecordType}
-use Rattle.elf_parts.specs.inner.RecordLaws.{by_layout}
+use Rattle.elf_records.specs.Record.{Field, field, version_field, Layout, RecordType}
+use Rattle.elf_records.specs.inner.RecordLaws.{by_layout}
 use Rattle.elf_parts.specs.declared.gnu_symver.records.VerDef.{VerDef}
 use Rattle.elf_parts.specs.declared.gnu_symver.records.VerDefAux.{VerDefAux}
 use Rattle.elf_parts.specs.declared.gnu_symver.records.VerNeed.{VerNeed}

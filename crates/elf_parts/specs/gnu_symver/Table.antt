@@ -3,7 +3,7 @@ use Rattle.std.specs.Prelude.{◌≡◌, ℕ, ◌^◌, ◌<◌, ◌==◌, Bool, 
 use Rattle.std.specs.Prelude.{List, [], ◌∷◌, ◌++◌, length, map, MatchOption, MatchResult, Result, Ok, Err}
 use Rattle.std.specs.List.{find}
 use Rattle.std.specs.Option.{option_map}
-use Rattle.elf_parts.specs.Number.{ok_map}
+use Rattle.elf_records.specs.Number.{ok_map}
 use Rattle.elf_parts.specs.StringTable.{string_at, strings_view, GivesText}
 use Rattle.elf_parts.specs.Table.{Table, table_get, table_view}
 use Rattle.elf_parts.specs.gnu_symver.Lists.{ver_def_aux_left, ver_defs_left, ver_needs_left}
@@ -19,7 +19,7 @@ use Rattle.elf_parts.specs.declared.gnu_symver.table.SymbolDefinition.{SymbolDef
 use Rattle.elf_parts.specs.declared.gnu_symver.table.SymbolNamesIterator.{SymbolNamesIterator}
 use Rattle.elf_parts.specs.declared.gnu_symver.table.SymbolRequirement.{SymbolRequirement}
 use Rattle.elf_parts.specs.declared.gnu_symver.table.SymbolVersionTable.{SymbolVersionTable}
-use Rattle.elf_parts.specs.declared.parse.ParseError.{ParseError}
+use Rattle.elf_records.specs.declared.parse.ParseError.{ParseError}
 use Rattle.elf_parts.specs.declared.string_table.StringTable.{StringTable}
 use denote.Ref.{Bor}
 

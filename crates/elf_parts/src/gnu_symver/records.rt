@@ -24,7 +24,7 @@ impl ParseAt for VerNeed {
 
     ghost reads = { ver_need_reads };
 
-    #[tactic(auto, unfolding(crate::specs::Record::numbers_at, crate::specs::Record::numbers_end))]
+    #[tactic(auto, unfolding(elf_records::specs::Record::numbers_at, elf_records::specs::Record::numbers_end))]
     fn parse_at<E: EndianParse>(
         endian: E,
         _class: Class,
@@ -91,7 +91,7 @@ impl ParseAt for VerNeedAux {
 
     ghost reads = { ver_need_aux_reads };
 
-    #[tactic(auto, unfolding(crate::specs::Record::numbers_at, crate::specs::Record::numbers_end))]
+    #[tactic(auto, unfolding(elf_records::specs::Record::numbers_at, elf_records::specs::Record::numbers_end))]
     fn parse_at<E: EndianParse>(
         endian: E,
         _class: Class,
@@ -137,7 +137,7 @@ impl ParseAt for VerDef {
 
     ghost reads = { ver_def_reads };
 
-    #[tactic(auto, unfolding(crate::specs::Record::numbers_at, crate::specs::Record::numbers_end))]
+    #[tactic(auto, unfolding(elf_records::specs::Record::numbers_at, elf_records::specs::Record::numbers_end))]
     fn parse_at<E: EndianParse>(
         endian: E,
         _class: Class,
@@ -203,7 +203,7 @@ impl ParseAt for VerDefAux {
 
     ghost reads = { ver_def_aux_reads };
 
-    #[tactic(auto, unfolding(crate::specs::Record::numbers_at, crate::specs::Record::numbers_end))]
+    #[tactic(auto, unfolding(elf_records::specs::Record::numbers_at, elf_records::specs::Record::numbers_end))]
     fn parse_at<E: EndianParse>(
         endian: E,
         _class: Class,
@@ -241,7 +241,7 @@ impl ParseAt for VersionIndex {
 
     ghost reads = { version_index_reads };
 
-    #[tactic(auto, unfolding(crate::specs::Record::numbers_at, crate::specs::Record::numbers_end))]
+    #[tactic(auto, unfolding(elf_records::specs::Record::numbers_at, elf_records::specs::Record::numbers_end))]
     fn parse_at<E: EndianParse>(
         endian: E,
         _class: Class,

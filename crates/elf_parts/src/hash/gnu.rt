@@ -1,10 +1,10 @@
 //! GNU hash sections.
 ghost use Rattle.std.specs.Prelude.{◌≡◌, ◌+◌, ◌-◌, ◌%◌, ◌<◌, ◌≤◌, None, drop, length, take};
-ghost use Rattle.elf_parts.specs.Class.{address_bits};
+ghost use Rattle.elf_records.specs.Class.{address_bits};
 ghost use Rattle.elf_parts.specs.GnuFind.{bloom_word, find_by_hash, find_in_run, gnu_find, gnu_section};
 ghost use Rattle.elf_parts.specs.GnuFind.{gnu_view, passes, word_decides};
 ghost use Rattle.elf_parts.specs.Hash.{gnu_hash_from, gnu_hash_of, word_count};
-ghost use Rattle.elf_parts.specs.Number.{ok_map};
+ghost use Rattle.elf_records.specs.Number.{ok_map};
 ghost use Rattle.elf_parts.specs.StringTable.{strings_view};
 ghost use Rattle.elf_parts.specs.Table.{table_in, table_view};
 
@@ -37,7 +37,7 @@ impl ParseAt for GnuHashHeader {
 
     ghost reads = { gnu_header_reads };
 
-    #[tactic(auto, unfolding(crate::specs::Record::numbers_at, crate::specs::Record::numbers_end))]
+    #[tactic(auto, unfolding(elf_records::specs::Record::numbers_at, elf_records::specs::Record::numbers_end))]
     fn parse_at<E: EndianParse>(
         endian: E,
         class: Class,

@@ -1,7 +1,7 @@
 //! SysV hash sections (gABI, chapter "Hash Table").
 ghost use Rattle.std.specs.Prelude.{◌≡◌, ◌%◌, ◌^◌};
 ghost use Rattle.elf_parts.specs.Hash.{folded, sysv_hash_of, word_count};
-ghost use Rattle.elf_parts.specs.Number.{ok_map};
+ghost use Rattle.elf_records.specs.Number.{ok_map};
 ghost use Rattle.elf_parts.specs.StringTable.{strings_view};
 ghost use Rattle.elf_parts.specs.SysvFind.{find_along, sysv_find, sysv_section, sysv_view};
 ghost use Rattle.elf_parts.specs.Table.{table_view};
@@ -27,7 +27,7 @@ impl ParseAt for SysVHashHeader {
 
     ghost reads = { sysv_header_reads };
 
-    #[tactic(auto, unfolding(crate::specs::Record::numbers_at, crate::specs::Record::numbers_end))]
+    #[tactic(auto, unfolding(elf_records::specs::Record::numbers_at, elf_records::specs::Record::numbers_end))]
     fn parse_at<E: EndianParse>(
         endian: E,
         class: Class,

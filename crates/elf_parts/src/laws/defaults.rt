@@ -1,7 +1,7 @@
 //! Laws of defaults.
 ghost use Rattle.std.specs.Prelude.{◌≡◌, []};
 ghost use Rattle.elf_parts.specs.StringTable.{strings_view};
-ghost use Rattle.elf_parts.specs.declared.endian.AnyEndian.{AnyEndian};
+ghost use Rattle.elf_records.specs.declared.endian.AnyEndian.{AnyEndian};
 ghost use Rattle.elf_parts.specs.declared.string_table.StringTable.{StringTable};
 
 use crate::endian::{AnyEndian, BigEndian, LittleEndian};

@@ -4,8 +4,8 @@ ghost use Rattle.elf_parts.specs.GnuFind.{GnuTable, ReadsBloom, gnu_find, gnu_se
 ghost use Rattle.elf_parts.specs.Hash.{IsNamed, ReadsBelowCount};
 ghost use Rattle.elf_parts.specs.SysvFind.{SysvTable, sysv_find, sysv_section};
 ghost use Rattle.elf_parts.specs.Table.{Table, table_view};
-ghost use Rattle.elf_parts.specs.declared.file.Class.{Class};
-ghost use Rattle.elf_parts.specs.declared.symbol.Symbol.{Symbol};
+ghost use Rattle.elf_records.specs.declared.file.Class.{Class};
+ghost use Rattle.elf_records.specs.declared.symbol.Symbol.{Symbol};
 
 use crate::endian::EndianParse;
 use crate::hash::{GnuHashHeader, SysVHashHeader};
@@ -14,14 +14,14 @@ use crate::parse::ParsingTable;
 
 impl PlainRecord for SysVHashHeader {
     ghost use Rattle.elf_parts.specs.Hash.{sysv_header_layout};
-    ghost use Rattle.elf_parts.specs.inner.RecordLaws.{wherever_by};
+    ghost use Rattle.elf_records.specs.inner.RecordLaws.{wherever_by};
 
     ghost wherever = { wherever_by sysv_header_layout refl };
 }
 
 impl PlainRecord for GnuHashHeader {
     ghost use Rattle.elf_parts.specs.Hash.{gnu_header_layout};
-    ghost use Rattle.elf_parts.specs.inner.RecordLaws.{wherever_by};
+    ghost use Rattle.elf_records.specs.inner.RecordLaws.{wherever_by};
 
     ghost wherever = { wherever_by gnu_header_layout refl };
 }

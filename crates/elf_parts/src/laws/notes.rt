@@ -20,7 +20,7 @@ pub fn parts_begin_at_the_least_multiple(align: usize, offset: usize)
 {}
 
 impl PlainRecord for NoteGnuAbiTag {
-    ghost use Rattle.elf_parts.specs.inner.RecordLaws.{wherever_by};
+    ghost use Rattle.elf_records.specs.inner.RecordLaws.{wherever_by};
     ghost use Rattle.elf_parts.specs.Note.{abi_tag_layout};
 
     ghost wherever = { wherever_by abi_tag_layout refl };

@@ -1,6 +1,6 @@
 //! Laws of symbols.
 ghost use Rattle.std.specs.Prelude.{◌≡◌, ◌+◌, ◌*◌};
-ghost use Rattle.elf_parts.specs.Symbol.{symbol_binding, symbol_type};
+ghost use Rattle.elf_records.specs.Symbol.{symbol_binding, symbol_type};
 
 use crate::symbol::Symbol;
 

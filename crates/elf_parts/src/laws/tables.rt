@@ -1,7 +1,7 @@
 //! Laws of tables: at which indexes `get` succeeds, and which records `iter` yields.
 ghost use Rattle.std.specs.Prelude.{◌≡◌, ◌↔◌, ◌<◌, ◌≤◌, length, slice_get, IsOk, refl};
 ghost use Rattle.std.specs.Result.{result_ok};
-ghost use Rattle.elf_parts.specs.Record.{ReadsWherever};
+ghost use Rattle.elf_records.specs.Record.{ReadsWherever};
 ghost use Rattle.elf_parts.specs.Table.{table_get, table_items, table_len, table_view};
 
 use crate::compression::CompressionHeader;
@@ -19,64 +19,64 @@ pub trait PlainRecord: ParseAt {
 }
 
 impl PlainRecord for u32 {
-    ghost use Rattle.elf_parts.specs.Word.{u32_layout};
-    ghost use Rattle.elf_parts.specs.inner.RecordLaws.{wherever_by};
+    ghost use Rattle.elf_records.specs.Word.{u32_layout};
+    ghost use Rattle.elf_records.specs.inner.RecordLaws.{wherever_by};
 
     ghost wherever = { wherever_by u32_layout refl };
 }
 
 impl PlainRecord for u64 {
-    ghost use Rattle.elf_parts.specs.Word.{u64_layout};
-    ghost use Rattle.elf_parts.specs.inner.RecordLaws.{wherever_by};
+    ghost use Rattle.elf_records.specs.Word.{u64_layout};
+    ghost use Rattle.elf_records.specs.inner.RecordLaws.{wherever_by};
 
     ghost wherever = { wherever_by u64_layout refl };
 }
 
 impl PlainRecord for SectionHeader {
-    ghost use Rattle.elf_parts.specs.inner.RecordLaws.{wherever_by};
-    ghost use Rattle.elf_parts.specs.Section.{section_header_layout};
+    ghost use Rattle.elf_records.specs.inner.RecordLaws.{wherever_by};
+    ghost use Rattle.elf_records.specs.Section.{section_header_layout};
 
     ghost wherever = { wherever_by section_header_layout refl };
 }
 
 impl PlainRecord for ProgramHeader {
-    ghost use Rattle.elf_parts.specs.inner.RecordLaws.{wherever_by};
+    ghost use Rattle.elf_records.specs.inner.RecordLaws.{wherever_by};
     ghost use Rattle.elf_parts.specs.Segment.{program_header_layout};
 
     ghost wherever = { wherever_by program_header_layout refl };
 }
 
 impl PlainRecord for Symbol {
-    ghost use Rattle.elf_parts.specs.Symbol.{symbol_layout};
-    ghost use Rattle.elf_parts.specs.inner.RecordLaws.{wherever_by};
+    ghost use Rattle.elf_records.specs.Symbol.{symbol_layout};
+    ghost use Rattle.elf_records.specs.inner.RecordLaws.{wherever_by};
 
     ghost wherever = { wherever_by symbol_layout refl };
 }
 
 impl PlainRecord for Rel {
-    ghost use Rattle.elf_parts.specs.Relocation.{rel_layout};
-    ghost use Rattle.elf_parts.specs.inner.RecordLaws.{wherever_by};
+    ghost use Rattle.elf_records.specs.Relocation.{rel_layout};
+    ghost use Rattle.elf_records.specs.inner.RecordLaws.{wherever_by};
 
     ghost wherever = { wherever_by rel_layout refl };
 }
 
 impl PlainRecord for Rela {
-    ghost use Rattle.elf_parts.specs.Relocation.{rela_layout};
-    ghost use Rattle.elf_parts.specs.inner.RecordLaws.{wherever_by};
+    ghost use Rattle.elf_records.specs.Relocation.{rela_layout};
+    ghost use Rattle.elf_records.specs.inner.RecordLaws.{wherever_by};
 
     ghost wherever = { wherever_by rela_layout refl };
 }
 
 impl PlainRecord for Dyn {
-    ghost use Rattle.elf_parts.specs.Dynamic.{dyn_layout};
-    ghost use Rattle.elf_parts.specs.inner.RecordLaws.{wherever_by};
+    ghost use Rattle.elf_records.specs.Dynamic.{dyn_layout};
+    ghost use Rattle.elf_records.specs.inner.RecordLaws.{wherever_by};
 
     ghost wherever = { wherever_by dyn_layout refl };
 }
 
 impl PlainRecord for CompressionHeader {
-    ghost use Rattle.elf_parts.specs.Compression.{compression_header_layout};
-    ghost use Rattle.elf_parts.specs.inner.RecordLaws.{wherever_by};
+    ghost use Rattle.elf_records.specs.Compression.{compression_header_layout};
+    ghost use Rattle.elf_records.specs.inner.RecordLaws.{wherever_by};
 
     ghost wherever = { wherever_by compression_header_layout refl };
 }

@@ -50,21 +50,21 @@ pub fn index_and_hidden_bit(version: VersionIndex)
 {}
 
 impl PlainRecord for VerNeedAux {
-    ghost use Rattle.elf_parts.specs.inner.RecordLaws.{wherever_by};
+    ghost use Rattle.elf_records.specs.inner.RecordLaws.{wherever_by};
     ghost use Rattle.elf_parts.specs.gnu_symver.Records.{ver_need_aux_layout};
 
     ghost wherever = { wherever_by ver_need_aux_layout refl };
 }
 
 impl PlainRecord for VerDefAux {
-    ghost use Rattle.elf_parts.specs.inner.RecordLaws.{wherever_by};
+    ghost use Rattle.elf_records.specs.inner.RecordLaws.{wherever_by};
     ghost use Rattle.elf_parts.specs.gnu_symver.Records.{ver_def_aux_layout};
 
     ghost wherever = { wherever_by ver_def_aux_layout refl };
 }
 
 impl PlainRecord for VersionIndex {
-    ghost use Rattle.elf_parts.specs.inner.RecordLaws.{wherever_by};
+    ghost use Rattle.elf_records.specs.inner.RecordLaws.{wherever_by};
     ghost use Rattle.elf_parts.specs.gnu_symver.Records.{version_index_layout};
 
     ghost wherever = { wherever_by version_index_layout refl };

@@ -6,7 +6,7 @@ use elf::ParseError;
 use elf::endian::AnyEndian;
 use elf::string_table::StringTable;
 use elf::symbol::Symbol;
-use elf_check::binding::{Unreadable, VersionedObject, Wanted, reference};
+use elf_binding::{Unreadable, VersionedObject, Wanted, reference};
 use std::alloc::Global;
 use std::io;
 use std::io::Write;

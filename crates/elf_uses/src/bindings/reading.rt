@@ -1,7 +1,7 @@
 //! Reading a library from a stream.
 ghost use Rattle.std.specs.Prelude.{◌≡◌, IfErr, IfOk, IfSome, Some};
 ghost use Rattle.std.specs.Option.{option_map};
-ghost use Rattle.elf_parts.specs.Number.{ok_map};
+ghost use Rattle.elf_records.specs.Number.{ok_map};
 ghost use Rattle.elf.specs.Answers.{dynamic_symbol_table, symbol_version_table};
 ghost use Rattle.elf.specs.Answers.{symbols_in as symbols_in_file};
 ghost use Rattle.elf.specs.Data.{content};

@@ -1,11 +1,11 @@
 //! Which symbols a reference may bind to, and which of them serves it.
 ghost use Rattle.std.specs.Prelude.{◌≡◌, ℕ, List, [], ◌∷◌, true, false, Ok, Err, None, Some};
-ghost use Rattle.elf_check.specs.Binding.{VersionedObject, ChosenAt, IsBinding, is_definition, unreadable};
-ghost use Rattle.elf_check.specs.Binding.{version_of};
-ghost use Rattle.elf_check.specs.declared.binding.Version.{Version};
-ghost use Rattle.elf_check.specs.declared.binding.Wanted.{Wanted};
-ghost use Rattle.elf_check.specs.declared.binding.Wanted.TheVariants.{Any, Compatible, Only};
-ghost use Rattle.elf_parts.specs.declared.symbol.Symbol.{Symbol};
+ghost use Rattle.elf_binding.specs.Binding.{VersionedObject, ChosenAt, IsBinding, is_definition, unreadable};
+ghost use Rattle.elf_binding.specs.Binding.{version_of};
+ghost use Rattle.elf_binding.specs.declared.Version.{Version};
+ghost use Rattle.elf_binding.specs.declared.Wanted.{Wanted};
+ghost use Rattle.elf_binding.specs.declared.Wanted.TheVariants.{Any, Compatible, Only};
+ghost use Rattle.elf_records.specs.declared.symbol.Symbol.{Symbol};
 ghost use Rattle.elf_worked.specs.Bound.{IsFor, Takes, library_versions, symbol_at, takes, v, w};
 ghost use Rattle.elf_worked.specs.Parts.{versions};
 

@@ -1,8 +1,8 @@
 //! What is looked up most often, found in one pass over the sections.
 ghost use Rattle.std.specs.Prelude.{◌≡◌, [], ◌∷◌, ◌++◌, true, Ok, Err, Some, None, drop, take};
 ghost use Rattle.elf_parts.specs.Table.{table_in};
-ghost use Rattle.elf_parts.specs.declared.file.Class.TheVariants.{ELF32};
-ghost use Rattle.elf_parts.specs.declared.parse.ParseError.TheVariants.{BadEntsize, BadOffset};
+ghost use Rattle.elf_records.specs.declared.file.Class.TheVariants.{ELF32};
+ghost use Rattle.elf_records.specs.declared.parse.ParseError.TheVariants.{BadEntsize, BadOffset};
 ghost use Rattle.elf.specs.Common.{find_common_data};
 ghost use Rattle.elf_worked.specs.Files.{counted, zeros};
 ghost use Rattle.elf_worked.specs.Objects.{linked_section_of, object_with, section_of, segment_of};

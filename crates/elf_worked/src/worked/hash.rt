@@ -1,7 +1,7 @@
 //! Both hashes of names, and what small hash sections find.
 ghost use Rattle.std.specs.Prelude.{◌≡◌, ℕ, [], Ok, Err, Some, None};
 ghost use Rattle.elf_parts.specs.Hash.{gnu_hash_of, sysv_hash_of};
-ghost use Rattle.elf_parts.specs.declared.parse.ParseError.TheVariants.{BadOffset, IntegerOverflow, SliceReadError};
+ghost use Rattle.elf_records.specs.declared.parse.ParseError.TheVariants.{BadOffset, IntegerOverflow, SliceReadError};
 ghost use Rattle.elf_worked.specs.HashSections.{a, b, capital_a, cyclic, exit};
 ghost use Rattle.elf_worked.specs.HashSections.{gnu_finds, printf, short_chain, two_names};
 

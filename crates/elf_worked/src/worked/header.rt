@@ -1,17 +1,17 @@
 //! Identifications, records of both classes, and the tail of a header.
-#![tactic(auto, unfolding(elf_parts::specs::Number::bytes_at, elf_parts::specs::Number::number_at, elf_parts::specs::Record::numbers_at, elf_parts::specs::Record::numbers_end, elf_parts::specs::File::ident_of))]
+#![tactic(auto, unfolding(elf_records::specs::Number::bytes_at, elf_records::specs::Number::number_at, elf_records::specs::Record::numbers_at, elf_records::specs::Record::numbers_end, elf_records::specs::File::ident_of))]
 
 ghost use Rattle.std.specs.Prelude.{◌≡◌, ◌-◌, ◌^◌, [], ◌∷◌, ◌++◌, true, false, Ok, Err, take};
-ghost use Rattle.elf_parts.specs.File.{header_with_tail, ident_of};
-ghost use Rattle.elf_parts.specs.Endian.{any_is_little, any_of_byte, big_of_byte, little_of_byte};
-ghost use Rattle.elf_parts.specs.Record.{offset_by, record_by, size_by};
-ghost use Rattle.elf_parts.specs.Section.{section_header_layout};
+ghost use Rattle.elf_records.specs.File.{header_with_tail, ident_of};
+ghost use Rattle.elf_records.specs.Endian.{any_is_little, any_of_byte, big_of_byte, little_of_byte};
+ghost use Rattle.elf_records.specs.Record.{offset_by, record_by, size_by};
+ghost use Rattle.elf_records.specs.Section.{section_header_layout};
 ghost use Rattle.elf_parts.specs.Segment.{program_header_layout};
-ghost use Rattle.elf_parts.specs.declared.endian.AnyEndian.TheVariants.{Big, Little};
-ghost use Rattle.elf_parts.specs.declared.file.Class.TheVariants.{ELF32, ELF64};
-ghost use Rattle.elf_parts.specs.declared.parse.ParseError.TheVariants.{BadMagic, IntegerOverflow};
-ghost use Rattle.elf_parts.specs.declared.parse.ParseError.TheVariants.{SliceReadError, UnsupportedElfClass};
-ghost use Rattle.elf_parts.specs.declared.parse.ParseError.TheVariants.{UnsupportedElfEndianness, UnsupportedVersion};
+ghost use Rattle.elf_records.specs.declared.endian.AnyEndian.TheVariants.{Big, Little};
+ghost use Rattle.elf_records.specs.declared.file.Class.TheVariants.{ELF32, ELF64};
+ghost use Rattle.elf_records.specs.declared.parse.ParseError.TheVariants.{BadMagic, IntegerOverflow};
+ghost use Rattle.elf_records.specs.declared.parse.ParseError.TheVariants.{SliceReadError, UnsupportedElfClass};
+ghost use Rattle.elf_records.specs.declared.parse.ParseError.TheVariants.{UnsupportedElfEndianness, UnsupportedVersion};
 ghost use Rattle.elf_worked.specs.Files.{counted, small_tail};
 ghost use Rattle.elf_worked.specs.Known.{small_header};
 ghost use Rattle.elf_worked.specs.Records.{versioned_layout};

@@ -1,12 +1,12 @@
 //! The lines of a listing, of records whose fields are given.
 ghost use Rattle.std.specs.Prelude.{◌≡◌, [], ◌∷◌, ◌++◌, Ok, Err, Some, None, codes, negsuc, pos};
 ghost use Rattle.elf_parts.specs.Note.{AbiTag, BuildId, Other};
-ghost use Rattle.elf_parts.specs.declared.parse.ParseError.TheVariants.{BadOffset};
+ghost use Rattle.elf_records.specs.declared.parse.ParseError.TheVariants.{BadOffset};
 ghost use Rattle.std.proofs.Common.{inl, inr};
-ghost use Rattle.elfshow.specs.Verdicts.{verdict};
+ghost use Rattle.elf_calls.specs.Verdicts.{verdict};
 ghost use Rattle.elf_lines.specs.Data.{section_data_line, segment_data_line};
 ghost use Rattle.elf_lines.specs.Dynamic.{dyn_line};
-ghost use Rattle.elfshow.specs.Hashes.{verdict_line};
+ghost use Rattle.elf_calls.specs.Hashes.{verdict_line};
 ghost use Rattle.elf_lines.specs.Counted.{counted_lines};
 ghost use Rattle.elf_lines.specs.Notes.{note_line};
 ghost use Rattle.elf_lines.specs.Relocations.{rel_line, rela_line};

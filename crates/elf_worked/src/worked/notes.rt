@@ -1,7 +1,7 @@
 //! Notes: their headers, their padding, and what they say.
 ghost use Rattle.std.specs.Prelude.{◌≡◌, [], ◌∷◌, ◌++◌, true, false, Ok, Err};
 ghost use Rattle.elf_parts.specs.Note.{AbiTag, BuildId, Other, note_at, notes_in};
-ghost use Rattle.elf_parts.specs.declared.parse.ParseError.TheVariants.{IntegerOverflow, SliceReadError};
+ghost use Rattle.elf_records.specs.declared.parse.ParseError.TheVariants.{IntegerOverflow, SliceReadError};
 ghost use Rattle.elf_worked.specs.Files.{in_four, zeros};
 ghost use Rattle.elf_worked.specs.Parts.{abi_tag_note, build_id_note, gnu, odd_note};
 

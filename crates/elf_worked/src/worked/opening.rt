@@ -1,16 +1,16 @@
 //! Files as they are opened: headers, tables and names.
-#![tactic(auto, unfolding(elf_parts::specs::Number::bytes_at, elf_parts::specs::Number::number_at, elf_parts::specs::Record::numbers_at, elf_parts::specs::File::ident_of, elf::specs::Opening::header_at_front, elf::specs::Opening::section_table, elf::specs::Opening::segment_table, elf::specs::Names::name_section, elf::specs::Names::name_table))]
+#![tactic(auto, unfolding(elf_records::specs::Number::bytes_at, elf_records::specs::Number::number_at, elf_records::specs::Record::numbers_at, elf_records::specs::File::ident_of, elf::specs::Opening::header_at_front, elf::specs::Opening::section_table, elf::specs::Opening::segment_table, elf::specs::Names::name_section, elf::specs::Names::name_table))]
 
 ghost use Rattle.std.specs.Prelude.{◌≡◌, [], ◌∷◌, ◌++◌, true, false, None, Some, Ok, Err, length, take};
-ghost use Rattle.elf_parts.specs.Number.{ok_map};
-ghost use Rattle.elf_parts.specs.Endian.{big_of_byte, little_of_byte};
-ghost use Rattle.elf_parts.specs.Section.{section_header_reads};
+ghost use Rattle.elf_records.specs.Number.{ok_map};
+ghost use Rattle.elf_records.specs.Endian.{big_of_byte, little_of_byte};
+ghost use Rattle.elf_records.specs.Section.{section_header_reads};
 ghost use Rattle.elf_parts.specs.Segment.{program_header_reads};
 ghost use Rattle.elf_parts.specs.Table.{table_in, table_items};
-ghost use Rattle.elf_parts.specs.declared.file.Class.TheVariants.{ELF32, ELF64};
-ghost use Rattle.elf_parts.specs.declared.parse.ParseError.TheVariants.{BadEntsize, BadMagic};
-ghost use Rattle.elf_parts.specs.declared.parse.ParseError.TheVariants.{BadOffset, IntegerOverflow};
-ghost use Rattle.elf_parts.specs.declared.parse.ParseError.TheVariants.{SliceReadError, UnsupportedElfEndianness};
+ghost use Rattle.elf_records.specs.declared.file.Class.TheVariants.{ELF32, ELF64};
+ghost use Rattle.elf_records.specs.declared.parse.ParseError.TheVariants.{BadEntsize, BadMagic};
+ghost use Rattle.elf_records.specs.declared.parse.ParseError.TheVariants.{BadOffset, IntegerOverflow};
+ghost use Rattle.elf_records.specs.declared.parse.ParseError.TheVariants.{SliceReadError, UnsupportedElfEndianness};
 ghost use Rattle.elf.specs.Opening.{opened};
 ghost use Rattle.elf.specs.Headers.{section_at};
 ghost use Rattle.elf_worked.specs.Files.{compressed_section, counted_by_info, counted_by_size, elsewhere};

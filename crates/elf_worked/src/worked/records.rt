@@ -1,14 +1,14 @@
 //! Symbols, relocations, dynamic entries, compression headers and the headers of hash sections in the bytes 00, 01 and
 //! so on.
 ghost use Rattle.std.specs.Prelude.{◌≡◌, [], ◌∷◌, ◌++◌, true, false, pos, negsuc, Ok, Err, take};
-ghost use Rattle.elf_parts.specs.Compression.{compression_header_layout};
-ghost use Rattle.elf_parts.specs.Dynamic.{dyn_layout};
+ghost use Rattle.elf_records.specs.Compression.{compression_header_layout};
+ghost use Rattle.elf_records.specs.Dynamic.{dyn_layout};
 ghost use Rattle.elf_parts.specs.Hash.{gnu_header_layout, sysv_header_layout};
-ghost use Rattle.elf_parts.specs.Record.{record_by, size_by};
-ghost use Rattle.elf_parts.specs.Relocation.{rel_layout, rela_layout};
-ghost use Rattle.elf_parts.specs.Symbol.{symbol_binding, symbol_layout, symbol_type, symbol_visibility};
-ghost use Rattle.elf_parts.specs.declared.file.Class.TheVariants.{ELF32, ELF64};
-ghost use Rattle.elf_parts.specs.declared.parse.ParseError.TheVariants.{SliceReadError};
+ghost use Rattle.elf_records.specs.Record.{record_by, size_by};
+ghost use Rattle.elf_records.specs.Relocation.{rel_layout, rela_layout};
+ghost use Rattle.elf_records.specs.Symbol.{symbol_binding, symbol_layout, symbol_type, symbol_visibility};
+ghost use Rattle.elf_records.specs.declared.file.Class.TheVariants.{ELF32, ELF64};
+ghost use Rattle.elf_records.specs.declared.parse.ParseError.TheVariants.{SliceReadError};
 ghost use Rattle.elf_examples.specs.Branches.{branch_layout};
 ghost use Rattle.elf_worked.specs.Files.{counted, in_eight, ones};
 ghost use Rattle.elf_worked.specs.Objects.{symbol_with};

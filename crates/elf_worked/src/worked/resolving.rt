@@ -1,6 +1,6 @@
 //! A name over a list of two objects, and what files are as objects.
 ghost use Rattle.std.specs.Prelude.{◌≡◌, [], ◌∷◌, None, Ok, Err, Some, codes};
-ghost use Rattle.elf_parts.specs.declared.parse.ParseError.TheVariants.{SliceReadError};
+ghost use Rattle.elf_records.specs.declared.parse.ParseError.TheVariants.{SliceReadError};
 ghost use Rattle.elf_check.specs.NamedSymbols.{chain_from, kept_named, run_from};
 ghost use Rattle.elf_check.specs.Object.{ByGnu, BySysv};
 ghost use Rattle.elf_check.specs.ObjectTable.{IsFaultOf, object_of};

@@ -1,8 +1,8 @@
 //! The bytes of a section.
 ghost use Rattle.std.specs.Prelude.{◌≡◌, ◌-◌, ◌^◌, [], ◌∷◌, Ok, Err, Some, None};
 ghost use Rattle.elf.specs.Data.{content_of_type, section_data};
-ghost use Rattle.elf_parts.specs.declared.parse.ParseError.TheVariants.{IntegerOverflow, SliceReadError};
-ghost use Rattle.elf_parts.specs.declared.parse.ParseError.TheVariants.{UnexpectedSectionType};
+ghost use Rattle.elf_records.specs.declared.parse.ParseError.TheVariants.{IntegerOverflow, SliceReadError};
+ghost use Rattle.elf_records.specs.declared.parse.ParseError.TheVariants.{UnexpectedSectionType};
 ghost use Rattle.elf_worked.specs.Objects.{section_of, small_object};
 
 /// The bytes 10 to 1f of the bytes 00 to 3f in 32 bits: as they are; behind the compression header that they begin

@@ -1,17 +1,17 @@
 //! Small hash sections that are sound, and for each fault one that is off by one thing.
 ghost use Rattle.std.specs.Prelude.{◌≡◌, [], Ok, codes};
 ghost use Rattle.std.specs.Result.{IsOkAnd};
-ghost use Rattle.elf_parts.specs.Number.{ok_map};
+ghost use Rattle.elf_records.specs.Number.{ok_map};
 ghost use Rattle.elf_check.specs.Faults.{IsTrueOfGnu, IsTrueOfSysv};
 ghost use Rattle.elf_check.specs.SoundGnu.{SoundGnu};
 ghost use Rattle.elf_check.specs.SoundSysv.{SoundSysv};
 ghost use Rattle.elf_check.specs.Object.{ByGnu, BySysv};
-ghost use Rattle.elfshow.specs.Verdicts.{verdict_of};
+ghost use Rattle.elf_calls.specs.Verdicts.{verdict_of};
 ghost use Rattle.elf_check.specs.declared.hashcheck.HashFault.{HashFault};
 ghost use Rattle.elf_check.specs.declared.hashcheck.HashFault.TheVariants.{Endless, NoBloomBit, NotInRun, PastChains};
 ghost use Rattle.elf_check.specs.declared.hashcheck.HashFault.TheVariants.{ShiftTooLarge, Unreadable, WrongBucket};
 ghost use Rattle.elf_check.specs.declared.hashcheck.HashFault.TheVariants.{WrongHash};
-ghost use Rattle.elfshow.specs.Hashes.{verdict_line};
+ghost use Rattle.elf_calls.specs.Hashes.{verdict_line};
 ghost use Rattle.elf_worked.specs.Files.{in_four};
 ghost use Rattle.elf_worked.specs.SoundSections.{HasGnuFault, HasSysvFault, gnu_bytes, gnu_cut};
 ghost use Rattle.elf_worked.specs.SoundSections.{gnu_with, sysv_bytes, sysv_cut, sysv_with};

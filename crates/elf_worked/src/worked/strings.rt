@@ -3,8 +3,8 @@
 
 ghost use Rattle.std.specs.Prelude.{◌≡◌, [], ◌∷◌, ℕ, List, Result, Ok, Err, IsErrAnd, IsOkAnd, IsUtf8, codes};
 ghost use Rattle.elf_parts.specs.StringTable.{GivesText, string_at};
-ghost use Rattle.elf_parts.specs.declared.parse.ParseError.{ParseError};
-ghost use Rattle.elf_parts.specs.declared.parse.ParseError.TheVariants.{BadOffset, StringTableMissingNul, Utf8Error};
+ghost use Rattle.elf_records.specs.declared.parse.ParseError.{ParseError};
+ghost use Rattle.elf_records.specs.declared.parse.ParseError.TheVariants.{BadOffset, StringTableMissingNul, Utf8Error};
 ghost use Rattle.std.specs.declared.str.Utf8Error.{Utf8Error as Fault};
 ghost use denote.Ref.{Bor};
 

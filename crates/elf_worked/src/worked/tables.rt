@@ -1,12 +1,12 @@
 //! Tables of records that a user may read.
-#![tactic(auto, unfolding(elf_parts::specs::Number::bytes_at, elf_parts::specs::Number::number_at, elf_parts::specs::Record::numbers_at))]
+#![tactic(auto, unfolding(elf_records::specs::Number::bytes_at, elf_records::specs::Number::number_at, elf_records::specs::Record::numbers_at))]
 
 ghost use Rattle.std.specs.Prelude.{◌≡◌, ◌-◌, ◌^◌, [], ◌∷◌, true, false, Ok, Err};
-ghost use Rattle.elf_parts.specs.Number.{number_at};
-ghost use Rattle.elf_parts.specs.Record.{record_by};
+ghost use Rattle.elf_records.specs.Number.{number_at};
+ghost use Rattle.elf_records.specs.Record.{record_by};
 ghost use Rattle.elf_parts.specs.Table.{item_at, items, items_from, table_get, table_in, table_items, table_len};
-ghost use Rattle.elf_parts.specs.declared.file.Class.TheVariants.{ELF32, ELF64};
-ghost use Rattle.elf_parts.specs.declared.parse.ParseError.TheVariants.{BadOffset, IntegerOverflow, SliceReadError};
+ghost use Rattle.elf_records.specs.declared.file.Class.TheVariants.{ELF32, ELF64};
+ghost use Rattle.elf_records.specs.declared.parse.ParseError.TheVariants.{BadOffset, IntegerOverflow, SliceReadError};
 ghost use Rattle.elf_worked.specs.Files.{first_eight};
 ghost use Rattle.elf_worked.specs.Records.{three_byte_layout, three_byte_reads, word_reads};
 

@@ -1,8 +1,8 @@
 //! Listings, byte for byte.
 ghost use Rattle.std.specs.Prelude.{◌≡◌, ◌-◌, ◌^◌, [], ◌∷◌, ◌++◌, Ok, Err, codes, take};
 ghost use Rattle.std.specs.Fmt.{decimal};
-ghost use Rattle.elf_parts.specs.declared.parse.ParseError.TheVariants.{SliceReadError};
-ghost use Rattle.elfshow.specs.calls.Question.{Header, Sections};
+ghost use Rattle.elf_records.specs.declared.parse.ParseError.TheVariants.{SliceReadError};
+ghost use Rattle.elf_calls.specs.Question.{Header, Sections};
 ghost use Rattle.elf_lines.specs.Pieces.{escaped, hex};
 ghost use Rattle.elf_worked.specs.Files.{compressed_section, counted_by_size, elsewhere, in_four, in_two, ones};
 ghost use Rattle.elf_worked.specs.Files.{small_file, two_sections, two_sections_big, two_with, zeros};

@@ -1,12 +1,7 @@
 -- What a run of calls over a stream writes, and why it stops.
-use Rattle.std.specs.Prelude.{◌≡◌, ℕ, ◌<◌, Bool, List, length, take, Option, Result, Ok, Err, IsOk}
+use Rattle.std.specs.Prelude.{◌≡◌, ℕ, ◌<◌, Bool, List, length, take, Option, Result, Ok, Err}
 use Rattle.std.specs.Io.KnownBytes.{Appends}
-use Rattle.elf.specs.StreamFile.{stream_file}
-use Rattle.elf.specs.ElfStream.{AreCached, IsRefused, Seen, kind}
-use Rattle.elf_parts.specs.declared.parse.ParseError.{ParseError}
-use Rattle.elfshow.specs.calls.Question.{Question}
-use Rattle.elfshow.specs.calls.Ranges.{TakesNoMemory, call_ranges}
-use Rattle.elfshow.specs.calls.Text.{call_answer}
+use Rattle.elf.specs.ElfStream.{IsRefused, kind}
 use Rattle.elfshow.specs.declared.calls.RunError.{RunError}
 use Rattle.elfshow.specs.declared.calls.RunError.TheVariants.{Fault, Open, Write}
 
@@ -32,16 +27,3 @@ IsFaultless (Ok _) = Unit {0}
 IsFaultless (Err (Open e)) = Unit {0}
 IsFaultless (Err (Fault done e)) = ⊥
 IsFaultless (Err (Write done e)) = Unit {0}
-
--- what a stream answers to a call over a content, by a type of orders of which some are little
-abbrev pub stream_answer : {E : Type 0} → (E → Bool) → Seen E → List ℕ → Question → Result (List ℕ) ParseError
-stream_answer little s bytes call = call_answer s.headers.ehdr (stream_file little s bytes) call
-
--- where the call is answered its ranges are cached
-abbrev pub IsLoaded : {E : Type 0} → (E → Bool) → Seen E → List ℕ → Question → Type 0
-IsLoaded little s bytes call = IsOk (stream_answer little s bytes call) → AreCached s (call_ranges little s call)
-
--- the call is answered, by what is cached and without memory
-abbrev pub IsAtHand : {E : Type 0} → (E → Bool) → Seen E → List ℕ → Question → Type 0
-IsAtHand little s bytes call =
-    TakesNoMemory call × AreCached s (call_ranges little s call) × IsOk (stream_answer little s bytes call)

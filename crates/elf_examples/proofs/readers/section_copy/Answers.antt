@@ -1,6 +1,6 @@
 use denote.Ref.{Bor}
 use Rattle.std.proofs.Common.{◌≡◌, List, ℕ, Ok, Option, sym, subst, IfSome}
-use Rattle.elf_parts.specs.declared.compression.CompressionHeader.{CompressionHeader}
+use Rattle.elf_records.specs.declared.compression.CompressionHeader.{CompressionHeader}
 use Rattle.elf.specs.Data.{data_view, section_data}
 use Rattle.elf.specs.ElfBytes.{View, with_header}
 use Rattle.elf.specs.ElfStream.{IsAnswer}

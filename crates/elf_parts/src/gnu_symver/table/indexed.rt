@@ -1,9 +1,12 @@
 //! The versions of the symbols of a file, looked up by version index without a walk.
-ghost use Rattle.std.specs.Prelude.{◌≡◌, ◌≤◌, ◌^◌, length, IfOk};
+ghost use Rattle.std.specs.Prelude.{◌≡◌, ◌≤◌, ◌^◌, if◌then◌else◌, is_some, length, IfOk};
 ghost use Rattle.std.specs.Option.{option_map};
-ghost use Rattle.elf_parts.specs.Number.{ok_map};
+ghost use Rattle.elf_records.specs.Number.{ok_map};
 ghost use Rattle.elf_parts.specs.gnu_symver.Table.{definition, definition_view, index_of, requirement, versions_view};
 ghost use Rattle.elf_parts.specs.gnu_symver.Table.{GivesRequirement, HasFewNames};
+ghost use Rattle.elf_parts.specs.gnu_symver.Records.{version_index_reads};
+ghost use Rattle.elf_parts.specs.inner.Placed.{place_count};
+ghost use Rattle.elf_parts.specs.Table.{table_items, table_view};
 
 use super::placed::{definition_by_places, place_definitions, place_needs, requirement_by_places};
 use super::{
@@ -25,8 +28,8 @@ pub struct IndexedVersions<'a, 'data, E: EndianParse, A: Allocator> {
 }
 
 impl<'a, 'data, E: EndianParse, A: Allocator> Model for IndexedVersions<'a, 'data, E, A> {
-    ghost use Rattle.std.specs.Prelude.{◌≤◌, ◌^◌, length};
-    ghost use Rattle.elf_parts.specs.inner.Placed.{HoldDefinitions, HoldNeeds};
+    ghost use Rattle.std.specs.Prelude.{◌≡◌, ◌≤◌, ◌^◌, length};
+    ghost use Rattle.elf_parts.specs.inner.Placed.{HoldDefinitions, HoldNeeds, places_for};
     ghost use Rattle.elf_parts.specs.gnu_symver.Table.{Versions, versions_view};
 
     ghost Value = { Versions };
@@ -35,12 +38,15 @@ impl<'a, 'data, E: EndianParse, A: Allocator> Model for IndexedVersions<'a, 'dat
 
     ghost invariant = { λ s. HoldNeeds s.needed.items (versions_view s.versions.now).needs
         × HoldDefinitions s.defined.items (versions_view s.versions.now).definitions
+        × (length s.needed.items ≡ places_for s.versions.now.needs (versions_view s.versions.now).indexes)
+        × (length s.defined.items ≡ places_for s.versions.now.definitions (versions_view s.versions.now).indexes)
         × (length s.needed.items ≤ 2 ^ 16) × (length s.defined.items ≤ 2 ^ 16) };
 }
 
-// The number of places for the version indexes that the symbols have.
+// The number of places for the version indexes that the symbols have: one more than the greatest.
 fn count_places<E: EndianParse>(indexes: VersionIndexTable<'_, E>) -> usize
-    ensures { result ≤ 2 ^ 16 }
+    ensures count { result ≡ place_count (table_items version_index_reads (table_view indexes.entry)) }
+    ensures bound { result ≤ 2 ^ 16 }
 {
     let mut count = 0;
     for index in indexes {
@@ -56,7 +62,7 @@ fn empty_places<S, T: Copy, A: Allocator>(
     count: usize,
 ) -> Result<Vec<Option<T>, A>, AllocError>
     requires { count ≤ 2 ^ 16 }
-    ensures { IfOk result (λ places. length places.items ≤ 2 ^ 16) }
+    ensures { IfOk result (λ places. length places.items ≡ (if is_some source.now then count else 0)) }
 {
     let mut places = Vec::new(alloc);
     if source.is_some() {

@@ -1,7 +1,7 @@
 //! The look-up of the versions of symbols, with or without a walk.
 ghost use Rattle.std.specs.Prelude.{◌≡◌};
 ghost use Rattle.std.specs.Option.{option_map};
-ghost use Rattle.elf_parts.specs.Number.{ok_map};
+ghost use Rattle.elf_records.specs.Number.{ok_map};
 ghost use Rattle.elf_parts.specs.gnu_symver.Table.{Versions, definition, definition_view, index_of, requirement};
 ghost use Rattle.elf_parts.specs.gnu_symver.Table.{GivesRequirement, HasFewNames, versions_view};
 

@@ -2,7 +2,7 @@
 ghost use Rattle.std.specs.Prelude.{◌≡◌, ◌==◌, ◌<◌, ℕ, length, if◌then◌else◌, MatchOption, None, Some};
 ghost use Rattle.std.specs.Option.{option_map, option_or};
 ghost use Rattle.elf_parts.specs.inner.Placed.{HoldDefined, HoldDefinitions, HoldNeeded, HoldNeeds, slot};
-ghost use Rattle.elf_parts.specs.Number.{ok_map};
+ghost use Rattle.elf_records.specs.Number.{ok_map};
 ghost use Rattle.elf_parts.specs.gnu_symver.Lists.{ver_defs_left, ver_needs_left};
 ghost use Rattle.elf_parts.specs.gnu_symver.Table.{defined_version, definition, definition_view, definitions_view};
 ghost use Rattle.elf_parts.specs.gnu_symver.Table.{index_of, needed_of, needed_version, needs_view};

@@ -1,5 +1,5 @@
 use Rattle.std.proofs.Common.{◌≡◌, map}
-use Rattle.elf_parts.specs.Section.{section_header_reads}
+use Rattle.elf_records.specs.Section.{section_header_reads}
 use Rattle.elf_parts.specs.SysvFind.{first_decided}
 use Rattle.elf_parts.specs.Table.{items_left}
 use Rattle.elf.specs.ObjectFile.{object_file}

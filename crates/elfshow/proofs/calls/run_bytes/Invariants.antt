@@ -1,9 +1,9 @@
 use Rattle.std.proofs.Common.{◌≡◌, List, drop, map}
 use Rattle.elf.specs.ObjectFile.{object_file}
 use Rattle.elf.specs.ElfBytes.{view}
-use Rattle.elfshow.specs.declared.calls.Call.{Call}
-use Rattle.elfshow.specs.calls.Question.{question}
-use Rattle.elfshow.specs.calls.Text.{text}
+use Rattle.elf_calls.specs.declared.calls.Call.{Call}
+use Rattle.elf_calls.specs.Question.{question}
+use Rattle.elf_calls.specs.Text.{text}
 use Rattle.elf_lines.proofs.Writing.{Leaves}
 use Rattle.elfshow.proofs.calls.run_bytes.Given as goal
 

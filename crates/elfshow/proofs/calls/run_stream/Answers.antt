@@ -1,5 +1,6 @@
 use Rattle.std.proofs.Common.{arith}
-use Rattle.elfshow.proofs.StreamRuns.{faulted, keeps_then, more_loaded, more_written, stopped}
+use Rattle.elf_calls.proofs.StreamCalls.{keeps_then}
+use Rattle.elfshow.proofs.StreamRuns.{faulted, more_loaded, more_written, stopped}
 use Rattle.elfshow.proofs.calls.run_stream.Goals as goal
 
 pub loop-done-preserved : goal.loop-done-preserved
@@ -16,11 +17,11 @@ loop-done-preserved g c =
 pub returns-in-Err-clause-ran : goal.returns-in-Err-clause-ran
 returns-in-Err-clause-ran g c =
     let keeps = c.loop-done.invariant.keeps in
-    rw c.after.ensures (stopped g.E.EndianParse.little c.args.stream.now c.loop-done.stream c.args.stream.now.content c.args.calls.now c.loop-done.done _ c.write_call.new.stream.failures _ _ _ c.write_call.result c.in-Err.stop keeps (omega arith) c.in-Err.is c.loop-done.invariant.written
+    rw c.stopped_after.ensures (stopped g.E.EndianParse.little c.args.stream.now c.loop-done.stream c.args.stream.now.content c.args.calls.now c.loop-done.done _ c.write_call.new.stream.failures _ _ _ c.write_call.result c.in-Err.stop keeps (omega arith) c.in-Err.is c.loop-done.invariant.written
     (rw keeps.content at c.write_call.ensures.ran))
 
 pub returns-in-Err-clause-no_fault : goal.returns-in-Err-clause-no_fault
 returns-in-Err-clause-no_fault g c =
     let keeps = c.loop-done.invariant.keeps in
-    rw c.after.ensures (faulted g.E.EndianParse.little c.args.stream.now c.loop-done.stream c.args.stream.now.content c.args.calls.now c.loop-done.done _ c.write_call.result c.in-Err.stop keeps (omega arith) c.in-Err.is
+    rw c.stopped_after.ensures (faulted g.E.EndianParse.little c.args.stream.now c.loop-done.stream c.args.stream.now.content c.args.calls.now c.loop-done.done _ c.write_call.result c.in-Err.stop keeps (omega arith) c.in-Err.is
     (rw keeps.content at c.write_call.ensures.no_fault))

@@ -2,9 +2,9 @@ use Rattle.std.proofs.Common.{◌≡◌, All, map, take, IfSome}
 use Rattle.std.specs.Io.KnownBytes.{Appends}
 use Rattle.elf.specs.StreamFile.{stream_file}
 use Rattle.elf.specs.ElfStream.{Keeps}
-use Rattle.elfshow.specs.calls.Question.{question}
-use Rattle.elfshow.specs.calls.Run.{IsLoaded}
-use Rattle.elfshow.specs.calls.Text.{text}
+use Rattle.elf_calls.specs.Question.{question}
+use Rattle.elf_calls.specs.Stream.{IsLoaded}
+use Rattle.elf_calls.specs.Text.{text}
 use Rattle.elfshow.proofs.calls.run_stream.Given as goal
 
 -- the same file, the text of the calls so far was written, and their ranges are cached

@@ -1,4 +1,4 @@
-use Rattle.elf_parts.specs.Endian.{any_is_little, any_of_byte}
+use Rattle.elf_records.specs.Endian.{any_is_little, any_of_byte}
 use Rattle.elfshow.proofs.SourceRuns.{source_ran, source_refused}
 use Rattle.elfshow.proofs.show.run_source.Goals as goal
 

@@ -1,6 +1,6 @@
 use Rattle.std.proofs.Common.{rules, ◌≡◌, ◌==◌, true}
-use Rattle.elf_parts.specs.Dynamic.{dyn_layout}
-use Rattle.elf_parts.specs.Record.{size_by}
+use Rattle.elf_records.specs.Dynamic.{dyn_layout}
+use Rattle.elf_records.specs.Record.{size_by}
 use Rattle.elf.specs.Answers.{section_dynamic}
 use Rattle.elf.specs.Ranges.{section_ranges}
 use Rattle.elf.specs.StreamFile.{stream_file}

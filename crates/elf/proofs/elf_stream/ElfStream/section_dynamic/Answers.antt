@@ -1,7 +1,7 @@
 use Rattle.std.proofs.lemmas.Result.{err_from_is_err_and}
 use Rattle.std.proofs.Common.{refl, Some}
 use Rattle.std.specs.Option.{option_map}
-use Rattle.elf_parts.specs.Number.{ok_map}
+use Rattle.elf_records.specs.Number.{ok_map}
 use Rattle.elf_parts.specs.Table.{table_view}
 use Rattle.elf.specs.Answers.{section_dynamic}
 use Rattle.elf.specs.Ranges.{headers_alone, section_dynamic_ranges}

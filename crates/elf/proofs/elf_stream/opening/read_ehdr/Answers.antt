@@ -1,8 +1,8 @@
 use Rattle.std.proofs.lemmas.Result.{err_from_is_err_and}
 use Rattle.elf.specs.Opening.{header_at_front}
-use Rattle.elf_parts.specs.File.{ident_of}
-use Rattle.elf_parts.specs.Number.{bytes_at}
-use Rattle.elf_parts.specs.Record.{◌>>=◌}
+use Rattle.elf_records.specs.File.{ident_of}
+use Rattle.elf_records.specs.Number.{bytes_at}
+use Rattle.elf_records.specs.Record.{◌>>=◌}
 use Rattle.elf.specs.inner.HeaderSteps.{front_ident, tail_header}
 use Rattle.elf.proofs.stream.Chains.{bind_assoc, known_alike}
 use Rattle.elf.proofs.stream.Reads.{reads_stop, reads_then}

@@ -1,10 +1,10 @@
 use Rattle.std.proofs.Common.{Bool, refl, arith}
 use Rattle.std.proofs.lemmas.Result.{err_from_is_err_and}
 use Rattle.elf.specs.Opening.{first_section}
-use Rattle.elf_parts.specs.Number.{bytes_at}
-use Rattle.elf_parts.specs.Record.{record_by}
-use Rattle.elf_parts.specs.inner.RecordLaws.{wherever_by}
-use Rattle.elf_parts.specs.Section.{section_header_layout, section_header_reads}
+use Rattle.elf_records.specs.Number.{bytes_at}
+use Rattle.elf_records.specs.Record.{record_by}
+use Rattle.elf_records.specs.inner.RecordLaws.{wherever_by}
+use Rattle.elf_records.specs.Section.{section_header_layout, section_header_reads}
 use Rattle.elf.proofs.stream.Parts.{in_part}
 use Rattle.elf.proofs.stream.Plain.{plain_record_by}
 use Rattle.elf.proofs.stream.Reads.{reads_known, reads_stop}

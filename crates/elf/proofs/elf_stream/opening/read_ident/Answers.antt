@@ -1,7 +1,7 @@
 use Rattle.std.proofs.Common.{refl}
-use Rattle.elf_parts.specs.File.{ident_of}
-use Rattle.elf_parts.specs.Number.{bytes_at}
-use Rattle.elf_parts.specs.Record.{◌>>=◌}
+use Rattle.elf_records.specs.File.{ident_of}
+use Rattle.elf_records.specs.Number.{bytes_at}
+use Rattle.elf_records.specs.Record.{◌>>=◌}
 use Rattle.elf.specs.inner.HeaderSteps.{front_ident}
 use Rattle.elf.proofs.stream.Chains.{known_alike}
 use Rattle.elf.proofs.stream.Plain.{plain_ident}

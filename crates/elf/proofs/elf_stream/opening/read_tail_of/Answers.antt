@@ -1,7 +1,7 @@
 use Rattle.std.proofs.Common.{sym, ap}
-use Rattle.elf_parts.specs.File.{header_with_tail, tail_layout}
-use Rattle.elf_parts.specs.Number.{bytes_at}
-use Rattle.elf_parts.specs.Record.{◌>>=◌}
+use Rattle.elf_records.specs.File.{header_with_tail, tail_layout}
+use Rattle.elf_records.specs.Number.{bytes_at}
+use Rattle.elf_records.specs.Record.{◌>>=◌}
 use Rattle.elf.specs.inner.HeaderSteps.{tail_header}
 use Rattle.elf.proofs.stream.Chains.{known_alike}
 use Rattle.elf.proofs.stream.Plain.{plain_record_by}

@@ -1,7 +1,7 @@
 use Rattle.std.proofs.Common.{ℕ, Option, Result, sym, subst}
 use Rattle.std.specs.Result.{IsOkAnd}
-use Rattle.elf_parts.specs.declared.parse.ParseError.{ParseError}
-use Rattle.elf_parts.specs.declared.symbol.Symbol.{Symbol}
+use Rattle.elf_records.specs.declared.parse.ParseError.{ParseError}
+use Rattle.elf_records.specs.declared.symbol.Symbol.{Symbol}
 use Rattle.elf_check.specs.Indexed.{IsLeastNamed}
 use Rattle.elf_check.proofs.GnuScan.{gnu_scan}
 use Rattle.elf_check.proofs.hashcheck.laws.gnu_find_on_sound.Goals as goal

@@ -1,7 +1,7 @@
 -- Behind the part that is read by a function of its own, the field table is its parts. Named here and not on the
 -- function, since all else that is tried first is slow to fail.
 use Rattle.std.proofs.Common.{arith}
-use Rattle.elf_parts.proofs.Parts.{segment}
+use Rattle.elf_parts.proofs.Segments.{segment}
 use Rattle.elf_parts.proofs.segment.ProgramHeaderParseAt.parse_at.Goals as goal
 
 pub returns-in_err-extent-in-ELF32 : goal.returns-in_err-extent-in-ELF32

@@ -1,5 +1,5 @@
 use Rattle.std.proofs.Common.{◌≡◌, ap, sym}
-use Rattle.elf_parts.specs.declared.file.FileHeader.{FileHeader}
+use Rattle.elf_records.specs.declared.file.FileHeader.{FileHeader}
 use Rattle.elf.specs.ElfStream.{Seen}
 use Rattle.std.specs.Option.{option_map}
 use Rattle.elf.specs.Answers.{dynamic_symbol_table, symbol_version_table}

@@ -1,8 +1,8 @@
 use Rattle.std.proofs.Common.{[], ◌∷◌, refl}
 use Rattle.std.specs.Str.{chars, is_utf8}
 use lib.Utf8.{encode}
-use Rattle.elf_parts.specs.Number.{bytes_at, number_at}
-use Rattle.elf_parts.specs.Record.{numbers_at}
+use Rattle.elf_records.specs.Number.{bytes_at, number_at}
+use Rattle.elf_records.specs.Record.{numbers_at}
 use Rattle.elf_parts.specs.gnu_symver.Links.{links_in}
 use Rattle.elf_parts.specs.StringTable.{string_at}
 use Rattle.elf_parts.specs.gnu_symver.Table.{defined_version, needed_version}

@@ -1,10 +1,10 @@
 use Rattle.std.proofs.Common.{[], ◌∷◌, None, Ok, Err, refl}
-use Rattle.elf_parts.specs.Number.{bytes_at, number_at}
-use Rattle.elf_parts.specs.Record.{numbers_at}
+use Rattle.elf_records.specs.Number.{bytes_at, number_at}
+use Rattle.elf_records.specs.Record.{numbers_at}
 use Rattle.elf_parts.specs.gnu_symver.Links.{links_in}
 use Rattle.elf_parts.specs.StringTable.{string_at}
 use Rattle.elf_parts.specs.gnu_symver.Table.{defined_version, needed_version}
-use Rattle.elf_check.specs.Binding.{unreadable}
+use Rattle.elf_binding.specs.Binding.{unreadable}
 use Rattle.elf_worked.specs.Bound.{functions_of, takes}
 use Rattle.elf_worked.proofs.worked.binding.taken_without_a_version.Goals as goal
 

@@ -1,17 +1,17 @@
 use Rattle.std.proofs.Common.{refl}
 use Rattle.elf.specs.Opening.{header_at_front, section_table, segment_table}
 use Rattle.elf.specs.Data.{section_data}
-use Rattle.elf_parts.specs.File.{ident_of}
+use Rattle.elf_records.specs.File.{ident_of}
 use Rattle.elf_parts.specs.GnuFind.{gnu_section}
 use Rattle.elf_parts.specs.Hash.{word_at}
-use Rattle.elf_parts.specs.Number.{bytes_at, number_at}
-use Rattle.elf_parts.specs.Record.{numbers_at}
+use Rattle.elf_records.specs.Number.{bytes_at, number_at}
+use Rattle.elf_records.specs.Record.{numbers_at}
 use Rattle.elf_parts.specs.SysvFind.{sysv_section}
 use Rattle.elf_check.specs.Indexed.{chain_lengths}
 use Rattle.elf_check.specs.WithSymbols.{word}
 use Rattle.std.specs.Fmt.{digits}
 use Rattle.std.proofs.Common.{ap, ℕ, List, [], ◌++◌, Result, Ok}
-use Rattle.elf_parts.specs.declared.parse.ParseError.{ParseError}
+use Rattle.elf_records.specs.declared.parse.ParseError.{ParseError}
 use Rattle.elf_check.specs.Object.{ByGnu, BySysv}
 use Rattle.elf_check.specs.inner.Decisions.{decide}
 use Rattle.elf_worked.proofs.Below.{known_faulty, known_sound}

@@ -1,10 +1,10 @@
 use Rattle.std.proofs.Common.{refl}
 use Rattle.elf.specs.Opening.{header_at_front, section_table, segment_table}
 use Rattle.elf.specs.Versions.{version_sections}
-use Rattle.elf_parts.specs.File.{ident_of}
+use Rattle.elf_records.specs.File.{ident_of}
 use Rattle.elf_parts.specs.gnu_symver.Links.{links_in}
-use Rattle.elf_parts.specs.Number.{bytes_at, number_at}
-use Rattle.elf_parts.specs.Record.{numbers_at}
+use Rattle.elf_records.specs.Number.{bytes_at, number_at}
+use Rattle.elf_records.specs.Record.{numbers_at}
 use Rattle.elf_parts.specs.StringTable.{string_at}
 use Rattle.elf_parts.specs.gnu_symver.Table.{defined_version, needed_version}
 use lib.Utf8.{encode}

@@ -1,7 +1,7 @@
 use Rattle.std.proofs.Common.{refl}
 use Rattle.elf_parts.specs.Hash.{named_symbol, sysv_hash_of, word_at}
-use Rattle.elf_parts.specs.Number.{bytes_at, number_at}
-use Rattle.elf_parts.specs.Record.{numbers_at}
+use Rattle.elf_records.specs.Number.{bytes_at, number_at}
+use Rattle.elf_records.specs.Record.{numbers_at}
 use Rattle.elf_parts.specs.StringTable.{string_at}
 use Rattle.elf_parts.specs.SysvFind.{find_along, sysv_find, sysv_section}
 use Rattle.elf_worked.specs.HashSections.{cyclic, short_chain, two_names}

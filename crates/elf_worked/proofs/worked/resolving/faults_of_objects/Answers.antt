@@ -1,6 +1,6 @@
 use Rattle.std.proofs.Common.{refl}
 use Rattle.elf.specs.Data.{section_data}
-use Rattle.elf_parts.specs.Number.{bytes_at}
+use Rattle.elf_records.specs.Number.{bytes_at}
 use Rattle.elf_worked.proofs.HashesOfA.{cyclic, sysv_of_a_cyclic}
 use Rattle.elf_worked.proofs.worked.resolving.faults_of_objects.Goals as goal
 

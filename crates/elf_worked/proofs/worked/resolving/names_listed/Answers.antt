@@ -1,7 +1,7 @@
 use Rattle.std.proofs.Common.{refl}
 use Rattle.elf_parts.specs.Hash.{named_symbol, word_at}
-use Rattle.elf_parts.specs.Number.{bytes_at, number_at}
-use Rattle.elf_parts.specs.Record.{numbers_at}
+use Rattle.elf_records.specs.Number.{bytes_at, number_at}
+use Rattle.elf_records.specs.Record.{numbers_at}
 use Rattle.elf_parts.specs.StringTable.{string_at}
 use Rattle.elf_check.specs.WithSymbols.{named, word}
 use Rattle.elf_worked.proofs.worked.resolving.names_listed.Goals as goal

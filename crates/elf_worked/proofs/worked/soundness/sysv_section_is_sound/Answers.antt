@@ -1,8 +1,8 @@
 use Rattle.std.proofs.Common.{refl, ap}
 use Rattle.std.specs.Fmt.{digits}
 use Rattle.elf_parts.specs.Hash.{word_at}
-use Rattle.elf_parts.specs.Number.{bytes_at, number_at}
-use Rattle.elf_parts.specs.Record.{numbers_at}
+use Rattle.elf_records.specs.Number.{bytes_at, number_at}
+use Rattle.elf_records.specs.Record.{numbers_at}
 use Rattle.elf_parts.specs.SysvFind.{sysv_section}
 use Rattle.elf_check.proofs.SysvVerdicts.{true_fault}
 use Rattle.elf_check.specs.Indexed.{chain_lengths}

@@ -6,8 +6,8 @@ use Rattle.std.specs.declared.str.Utf8Error.{Utf8Error as Fault}
 use denote.Ref.{Bor}
 use lib.Utf8.{encode}
 use Rattle.elf_parts.specs.StringTable.{GivesText, string_at}
-use Rattle.elf_parts.specs.declared.parse.ParseError.{ParseError}
-use Rattle.elf_parts.specs.declared.parse.ParseError.TheVariants.{Utf8Error}
+use Rattle.elf_records.specs.declared.parse.ParseError.{ParseError}
+use Rattle.elf_records.specs.declared.parse.ParseError.TheVariants.{Utf8Error}
 use Rattle.elf_worked.proofs.worked.strings.a_broken_string_as_text.Goals as goal
 
 no_text : IsUtf8 (0xc3 ∷ 0x28 ∷ []) → ⊥

@@ -5,7 +5,7 @@ use Rattle.std.specs.Str.{chars, is_utf8}
 use denote.Ref.{Bor}
 use lib.Utf8.{encode}
 use Rattle.elf_parts.specs.StringTable.{GivesText, string_at}
-use Rattle.elf_parts.specs.declared.parse.ParseError.{ParseError}
+use Rattle.elf_records.specs.declared.parse.ParseError.{ParseError}
 use Rattle.elf_worked.proofs.worked.strings.a_string_as_text.Goals as goal
 
 is_text : IsUtf8 (0x45 ∷ 0x4c ∷ 0x46 ∷ [])

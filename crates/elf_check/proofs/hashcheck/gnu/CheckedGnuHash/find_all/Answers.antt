@@ -1,5 +1,5 @@
 use Rattle.std.proofs.Common.{ap, ◌∙◌, ℕ, List, subst, sym}
-use Rattle.elf_parts.specs.declared.symbol.Symbol.{Symbol}
+use Rattle.elf_records.specs.declared.symbol.Symbol.{Symbol}
 use Rattle.elf_check.specs.NamedSymbols.{AreAllNamed, kept_named}
 use Rattle.elf_check.specs.Object.{ByGnu}
 use Rattle.elf_check.specs.WithSymbols.{gnu_with}

@@ -1,5 +1,5 @@
 use Rattle.std.proofs.Common.{◌≡◌, Option, ℕ, subst}
-use Rattle.elf_parts.specs.declared.symbol.Symbol.{Symbol}
+use Rattle.elf_records.specs.declared.symbol.Symbol.{Symbol}
 use Rattle.elf_check.specs.Indexed.{IsFirstNamed}
 use Rattle.elf_check.specs.WithSymbols.{sysv_with}
 use Rattle.elf_check.proofs.SysvScan.{sysv_scan}

@@ -1,0 +1,195 @@
+-- Which symbol of which object a reference binds to, where symbols have versions: the rules of GNU symbol versioning
+-- (LSB, "Symbol Versioning"), and where they say nothing, what the dynamic linker of the GNU C library does.
+use Rattle.std.specs.Prelude.{◌≡◌, ℕ, ◌<◌, if◌then◌else◌, ◌==◌, ◌&&◌, ◌||◌, not, nat_lt, Bool, bit_and}
+use Rattle.std.specs.Prelude.{List, [], ◌∷◌, length, slice_get, Option, Some, None, ok_or, Result, Ok, Err}
+use Rattle.std.specs.Option.{IsSomeAnd, option_map}
+use Rattle.std.specs.Str.{bytes_eq, is_utf8}
+use Rattle.elf_abi.specs.Values.{shn_abs, shn_undef, stb_global, stb_gnu_unique, stb_weak, stt_common, stt_func}
+use Rattle.elf_abi.specs.Values.{stt_gnu_ifunc, stt_notype, stt_object, stt_tls, stv_hidden, stv_internal, ver_flg_base}
+use Rattle.elf_records.specs.Record.{◌>>=◌}
+use Rattle.elf_records.specs.Symbol.{symbol_binding, symbol_type, symbol_visibility}
+use Rattle.elf_parts.specs.gnu_symver.Table.{Definition, Requirement, Versions, definition, index_of, requirement}
+use Rattle.elf_parts.specs.gnu_symver.Records.{version_index, version_is_hidden}
+use Rattle.elf_parts.specs.declared.gnu_symver.records.VersionIndex.{VersionIndex}
+use Rattle.elf_records.specs.declared.parse.ParseError.{ParseError}
+use Rattle.elf_records.specs.declared.symbol.Symbol.{Symbol}
+use Rattle.elf_check.specs.NamedSymbols.{AreAllNamed}
+use Rattle.elf_check.specs.Object.{Object}
+use Rattle.elf_binding.specs.declared.BindingFault.{BindingFault}
+use Rattle.elf_binding.specs.declared.Rule.{Rule}
+use Rattle.elf_binding.specs.declared.Rule.TheVariants.{Versioned, Exact, Base, Shown}
+use Rattle.elf_binding.specs.declared.Unreadable.{Unreadable}
+use Rattle.elf_binding.specs.declared.Version.{Version}
+use Rattle.elf_binding.specs.declared.Wanted.{Wanted}
+use Rattle.elf_binding.specs.declared.Wanted.TheVariants.{Any, Compatible, Only}
+
+-- ---- the symbols that a reference can bind to
+
+-- data, a function or of no type, also common, thread-local or chosen when the file is loaded
+abbrev pub has_definition_type : Symbol → Bool
+has_definition_type s =
+    symbol_type s == stt_notype || symbol_type s == stt_object || symbol_type s == stt_func
+    || symbol_type s == stt_common || symbol_type s == stt_tls || symbol_type s == stt_gnu_ifunc
+
+-- other files can bind to it: it is not local, and its visibility is default or protected
+abbrev pub is_global : Symbol → Bool
+is_global s =
+    (symbol_binding s == stb_global || symbol_binding s == stb_weak || symbol_binding s == stb_gnu_unique)
+    && not (symbol_visibility s == stv_internal) && not (symbol_visibility s == stv_hidden)
+
+-- the file defines it; the value 0 is no address, but may be an absolute value or a place in thread-local storage
+abbrev pub has_place : Symbol → Bool
+has_place s =
+    not (s.st_shndx == shn_undef) && (not (s.st_value == 0) || s.st_shndx == shn_abs || symbol_type s == stt_tls)
+
+abbrev pub is_definition : Symbol → Bool
+is_definition s = has_place s && has_definition_type s && is_global s
+
+-- ---- the version of a symbol in its file
+
+-- a version: its name and the hash of the name, as the file states it
+pub record NamedVersion : Type 0 where
+  pub name : List ℕ
+  pub hash : ℕ
+
+abbrev pub version_view : Version → NamedVersion
+version_view version = record { name = version.name.now; hash = version.hash }
+
+-- the version of symbol i cannot be read
+abbrev pub unreadable : ℕ → Unreadable
+unreadable i = record { symbol = i }
+
+-- the bytes, where they can be read and are text
+abbrev pub text_of : Result (List ℕ) ParseError → Option (List ℕ)
+text_of (Ok bytes) = if is_utf8 bytes then Some bytes else None
+text_of (Err e) = None
+
+abbrev pub named_version : ℕ → List ℕ → NamedVersion
+named_version hash name = record { name = name; hash = hash }
+
+-- the first name of a definition with its hash; what is defined for the file itself (VER_FLG_BASE) is no version
+abbrev pub first_name : ℕ → ℕ → List (Result (List ℕ) ParseError) → Result (Option NamedVersion) Unreadable
+first_name i hash [] = Err (unreadable i)
+first_name i hash (name ∷ others) =
+    ok_or (option_map (λ text. Some (named_version hash text)) (text_of name)) (unreadable i)
+
+abbrev pub defined_as : ℕ → Definition → Result (Option NamedVersion) Unreadable
+defined_as i d = if bit_and d.flags ver_flg_base == 0 then first_name i d.hash d.names else Ok None
+
+-- the name of a need with its hash, where the name of its file can be read too
+abbrev pub needed_by : ℕ → ℕ → Option (List ℕ) → Option (List ℕ) → Result (Option NamedVersion) Unreadable
+needed_by i hash (Some file) (Some name) = Ok (Some (named_version hash name))
+needed_by i hash (Some file) None = Err (unreadable i)
+needed_by i hash None name = Err (unreadable i)
+
+abbrev pub needed_as : ℕ → Result (Option Requirement) ParseError → Result (Option NamedVersion) Unreadable
+needed_as i (Ok (Some r)) = needed_by i r.hash (text_of r.file) (text_of r.name)
+needed_as i (Ok None) = Ok None
+needed_as i (Err e) = Err (unreadable i)
+
+-- by the definition with the version index of the symbol, or where there is none by the need with it. A symbol that is
+-- defined by a need is the copy of one of another file.
+abbrev pub version_by : ℕ → Result (Option Definition) ParseError → Result (Option Requirement) ParseError →
+    Result (Option NamedVersion) Unreadable
+version_by i (Ok (Some d)) needed = defined_as i d
+version_by i (Ok None) needed = needed_as i needed
+version_by i (Err e) needed = Err (unreadable i)
+
+abbrev pub version_of : Versions → ℕ → Result (Option NamedVersion) Unreadable
+version_of versions i = version_by i (definition versions i) (requirement versions i)
+
+-- the version index of symbol i, whose bit 15 says that it is hidden
+abbrev pub index_by : ℕ → Result VersionIndex ParseError → Result VersionIndex Unreadable
+index_by i (Ok index) = Ok index
+index_by i (Err e) = Err (unreadable i)
+
+abbrev pub version_index_of : Versions → ℕ → Result VersionIndex Unreadable
+version_index_of versions i = index_by i (index_of versions i)
+
+-- ---- whether a definition serves a reference
+
+abbrev pub is_version : NamedVersion → NamedVersion → Bool
+is_version own wanted = own.hash == wanted.hash && bytes_eq own.name wanted.name
+
+-- a definition of this version, hidden or not; or one that has no version and is not hidden
+abbrev pub serves_version : NamedVersion → Option NamedVersion → VersionIndex → Bool
+serves_version wanted (Some own) index = is_version own wanted
+serves_version wanted None index = not (version_is_hidden index)
+
+-- a definition of this version alone
+abbrev pub serves_exactly : NamedVersion → Option NamedVersion → Bool
+serves_exactly wanted (Some own) = is_version own wanted
+serves_exactly wanted None = Bool.false
+
+-- of no version, or of the first one that its file defines: the version indexes 0, 1 and 2
+abbrev pub is_base : VersionIndex → Bool
+is_base index = nat_lt (version_index index) 3
+
+abbrev pub serves : Versions → Rule → ℕ → Result Bool Unreadable
+serves versions (Versioned wanted) i =
+    version_of versions i >>= λ own. version_index_of versions i >>= λ index.
+    Ok (serves_version (version_view wanted) own index)
+serves versions (Exact wanted) i =
+    version_of versions i >>= λ own. Ok (serves_exactly (version_view wanted) own)
+serves versions Base i = version_index_of versions i >>= λ index. Ok (is_base index)
+serves versions Shown i = version_index_of versions i >>= λ index. Ok (not (version_is_hidden index))
+
+-- a file without versions serves every reference
+abbrev pub serves_in : Option Versions → Rule → ℕ → Result Bool Unreadable
+serves_in (Some versions) rule i = serves versions rule i
+serves_in None rule i = Ok Bool.true
+
+-- ---- what a reference binds to in one object
+
+-- the first of these symbols that is a definition and serves; refused where that cannot be known of an earlier one
+abbrev pub first_serving : (ℕ → Result Bool Unreadable) → List (ℕ × Symbol) →
+    Result (Option (ℕ × Symbol)) Unreadable
+first_serving serving [] = Ok None
+first_serving serving (one ∷ others) =
+    if is_definition one.1
+    then (serving one.0 >>= λ yes. if yes then Ok (Some one) else first_serving serving others)
+    else first_serving serving others
+
+-- an object whose symbols may have versions
+pub record VersionedObject : Type 0 where
+  pub symbols : Object
+  pub versions : Option Versions
+
+-- among all symbols of the name that the object's table indexes, in the order of its look-up
+abbrev pub IsFirstServing : VersionedObject → List ℕ → Rule → Result (Option (ℕ × Symbol)) Unreadable → Type 0
+IsFirstServing object name rule result =
+    (named : List (ℕ × Symbol)) × AreAllNamed object.symbols name named
+    × (result ≡ first_serving (serves_in object.versions rule) named)
+
+-- what the first search found, or else what the second finds
+abbrev pub IsOrElse : {A E : Type 0} → (Result (Option A) E → Type 0) → Result (Option A) E → Result (Option A) E →
+    Type 0
+IsOrElse IsSecond result (Ok None) = IsSecond result
+IsOrElse IsSecond result (Ok (Some found)) = result ≡ Ok (Some found)
+IsOrElse IsSecond result (Err e) = result ≡ Err e
+
+-- a reference without a version takes a base definition, or else the first that is not hidden
+abbrev pub IsChosen : VersionedObject → List ℕ → Wanted → Result (Option (ℕ × Symbol)) Unreadable → Type 0
+IsChosen object name (Compatible wanted) result = IsFirstServing object name (Versioned wanted) result
+IsChosen object name (Only wanted) result = IsFirstServing object name (Exact wanted) result
+IsChosen object name Any result =
+    (base : Result (Option (ℕ × Symbol)) Unreadable)
+    × IsFirstServing object name Base base × IsOrElse (IsFirstServing object name Shown) result base
+
+-- ---- what it binds to in a list of objects
+
+module _ {C : Type 0} (view : C → VersionedObject) (objects : List C) (name : List ℕ) (wanted : Wanted) where
+  -- the choice in the object at a place
+  abbrev pub ChosenAt : ℕ → Result (Option (ℕ × Symbol)) Unreadable → Type 0
+  ChosenAt place result = IsSomeAnd (slice_get objects place) (λ object. IsChosen (view object) name wanted result)
+
+  -- no object before a place has a symbol that serves
+  abbrev pub NoneServesBefore : ℕ → Type 0
+  NoneServesBefore place = (k : ℕ) → k < place → ChosenAt k (Ok None)
+
+  -- the first object with a symbol that serves, and that symbol; or that no object has one; or the first object of
+  -- which that cannot be known
+  abbrev pub IsBinding : Result (Option (ℕ × ℕ × Symbol)) BindingFault → Type 0
+  IsBinding (Ok None) = NoneServesBefore (length objects)
+  IsBinding (Ok (Some found)) = ChosenAt found.0 (Ok (Some (found.1, found.2))) × NoneServesBefore found.0
+  IsBinding (Err fault) = ChosenAt fault.object (Err (unreadable fault.symbol)) × NoneServesBefore fault.object

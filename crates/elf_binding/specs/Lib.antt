@@ -1,0 +1,5 @@
+-- an object with the versions of its symbols, and what a reference binds to
+pub mod VersionedView
+pub mod Binding
+-- which object with versions a file is, and the version that a symbol of a file requires
+pub mod BindingObjects

@@ -1,0 +1,109 @@
+//! Finds the symbol to which a reference binds, in one object and in a list of objects.
+ghost use Rattle.std.specs.Prelude.{◌≡◌};
+ghost use Rattle.std.specs.Option.{option_map};
+ghost use Rattle.elf_check.specs.NamedSymbols.{named_left};
+ghost use Rattle.elf_binding.specs.Binding.{IsBinding, first_serving, serves_in};
+ghost use Rattle.elf_binding.specs.VersionedView.{versioned_view};
+
+use crate::versions::serves;
+use crate::{BindingFault, Rule, Unreadable, VersionedObject, Wanted, is_definition};
+use elf_check::hashcheck::NamedSymbols;
+use elf_parts::endian::EndianParse;
+use elf_parts::gnu_symver::SymbolVersions;
+use elf_parts::symbol::Symbol;
+
+// Whether a definition serves; all of a file without versions do.
+fn serves_in<E: EndianParse, V: SymbolVersions<E>>(
+    versions: Option<&V>,
+    rule: &Rule<'_>,
+    symbol: usize,
+) -> Result<bool, Unreadable>
+    ensures { result ≡ serves_in (option_map (λ table. V.versions table.now) versions.entry) rule.now symbol }
+{
+    match versions {
+        Some(versions) => serves(versions, rule, symbol),
+        None => Ok(true),
+    }
+}
+
+// The first of these symbols that is a definition and serves.
+fn first_serving<E: EndianParse, V: SymbolVersions<E>>(
+    versions: Option<&V>,
+    rule: &Rule<'_>,
+    named: NamedSymbols<'_, '_, E>,
+) -> Result<Option<(usize, Symbol)>, Unreadable>
+    ensures { result ≡ first_serving (serves_in (option_map (λ table. V.versions table.now) versions.entry) rule.now)
+        (named_left named.entry) }
+{
+    for (index, symbol) in named {
+        if is_definition(&symbol) && serves_in(versions, rule, index)? {
+            return Ok(Some((index, symbol)));
+        }
+    }
+    Ok(None)
+}
+
+impl<'data, E: EndianParse, V: SymbolVersions<E>> VersionedObject<'data, E, V> {
+    ghost use Rattle.elf_binding.specs.Binding.{IsChosen, IsFirstServing};
+
+    // The first symbol of the name that serves.
+    fn first_serving(
+        &self,
+        name: &[u8],
+        rule: Rule<'_>,
+    ) -> Result<Option<(usize, Symbol)>, Unreadable>
+        ensures { IsFirstServing (versioned_view V.versions self.now) name.now rule.entry result }
+    {
+        first_serving(self.versions.as_ref(), &rule, self.table.find_all(name))
+    }
+
+    /// Returns the symbol of the name to which a reference binds in this object, with its index: the first
+    /// definition, in the order of `find_all`, that serves the reference. A reference without a version takes a
+    /// definition with version index 0, 1 or 2, or else the first one that is not hidden. Returns `None` if no
+    /// definition of the name serves.
+    ///
+    /// The error is `Unreadable` for the first definition on the way whose version cannot be read.
+    pub fn find(
+        &self,
+        name: &[u8],
+        wanted: &Wanted<'_>,
+    ) -> Result<Option<(usize, Symbol)>, Unreadable>
+        ensures { IsChosen (versioned_view V.versions self.now) name.now wanted.now result }
+    {
+        match wanted {
+            Wanted::Compatible(version) => self.first_serving(name, Rule::Versioned(*version)),
+            Wanted::Only(version) => self.first_serving(name, Rule::Exact(*version)),
+            Wanted::Any => match self.first_serving(name, Rule::Base)? {
+                Some(found) => Ok(Some(found)),
+                None => self.first_serving(name, Rule::Shown),
+            },
+        }
+    }
+}
+
+/// Returns the first object in the list with a definition of the name that serves the reference: its place, counted
+/// from 0, with the index and the symbol that its `find` returns. Returns `None` exactly if no object has one.
+///
+/// The error is that of the first object whose `find` returns an error, if no object before it has a definition
+/// that serves.
+pub fn bind<E: EndianParse, V: SymbolVersions<E>>(
+    objects: &[VersionedObject<'_, E, V>],
+    name: &[u8],
+    wanted: &Wanted<'_>,
+) -> Result<Option<(usize, usize, Symbol)>, BindingFault>
+    ensures { IsBinding (versioned_view V.versions) objects.now name.now wanted.now result }
+{
+    for (object, candidate) in objects.iter().enumerate() {
+        match candidate.find(name, wanted) {
+            Ok(Some((index, symbol))) => return Ok(Some((object, index, symbol))),
+            Ok(None) => {}
+            Err(fault) => {
+                return Err(BindingFault {
+                    object,
+                    symbol: fault.symbol,
+                });
+            }
+        }
+    }
+    Ok(None)
+}

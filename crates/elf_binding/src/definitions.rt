@@ -1,0 +1,49 @@
+//! The symbols that a reference can bind to.
+ghost use Rattle.std.specs.Prelude.{◌≡◌};
+ghost use Rattle.elf_binding.specs.Binding.{has_definition_type, has_place, is_definition, is_global};
+
+use elf_abi::abi;
+use elf_parts::symbol::Symbol;
+
+// Data, a function or of no type, also common, thread-local or chosen when the file is loaded.
+fn has_definition_type(symbol: &Symbol) -> bool
+    ensures { result ≡ has_definition_type symbol.now }
+{
+    let symtype = symbol.st_symtype();
+    symtype == abi::STT_NOTYPE
+        || symtype == abi::STT_OBJECT
+        || symtype == abi::STT_FUNC
+        || symtype == abi::STT_COMMON
+        || symtype == abi::STT_TLS
+        || symtype == abi::STT_GNU_IFUNC
+}
+
+// Whether other files can bind to it.
+fn is_global(symbol: &Symbol) -> bool
+    ensures { result ≡ is_global symbol.now }
+{
+    let binding = symbol.st_bind();
+    let visibility = symbol.st_vis();
+    (binding == abi::STB_GLOBAL || binding == abi::STB_WEAK || binding == abi::STB_GNU_UNIQUE)
+        && visibility != abi::STV_INTERNAL
+        && visibility != abi::STV_HIDDEN
+}
+
+// Whether the file defines it. The value 0 is no address.
+fn has_place(symbol: &Symbol) -> bool
+    ensures { result ≡ has_place symbol.now }
+{
+    !symbol.is_undefined()
+        && (symbol.st_value != 0
+            || symbol.st_shndx == abi::SHN_ABS
+            || symbol.st_symtype() == abi::STT_TLS)
+}
+
+/// Whether references of other files can bind to the symbol. It must be defined; its value must not be 0, unless it
+/// is absolute or thread-local; its type must be NOTYPE, OBJECT, FUNC, COMMON, TLS or GNU_IFUNC; its binding must
+/// be global, weak or unique; and its visibility must not be internal or hidden.
+pub fn is_definition(symbol: &Symbol) -> bool
+    ensures { result ≡ is_definition symbol.now }
+{
+    has_place(symbol) && has_definition_type(symbol) && is_global(symbol)
+}

@@ -1,0 +1,75 @@
+//! Finds the symbol to which a reference binds if symbols have versions, as a dynamic linker does: the first object
+//! of an ordered list with a definition that serves the reference (GNU symbol versioning).
+//!
+//! An object is given by its checked hash table (`elf_check`) and by the versions of its symbols. Nothing is allocated.
+#![tactic(auto)]
+
+mod choice;
+mod definitions;
+pub mod laws;
+mod objects;
+mod versions;
+
+pub use choice::bind;
+pub use definitions::is_definition;
+use elf_check::resolve::AnyChecked;
+use elf_parts::endian::EndianParse;
+use elf_parts::gnu_symver::SymbolVersionTable;
+pub use objects::{reference, versioned_object};
+use thiserror::Error;
+pub use versions::version_of;
+
+/// A version of a symbol: its name, and the SysV hash of the name as a file states it.
+#[derive(Debug, Clone, Copy)]
+pub struct Version<'a> {
+    pub name: &'a str,
+    pub hash: u32,
+}
+
+/// What a reference requests.
+#[derive(Debug, Clone, Copy)]
+pub enum Wanted<'a> {
+    /// No version.
+    Any,
+    /// A definition of this version, hidden or not, or one that has no version and is not hidden.
+    Compatible(Version<'a>),
+    /// A definition of this version only, as `dlvsym` requests it.
+    Only(Version<'a>),
+}
+
+// When a definition of an object with versions serves.
+#[derive(Debug, Clone, Copy)]
+pub(crate) enum Rule<'a> {
+    // It has this version, or none and is not hidden.
+    Versioned(Version<'a>),
+    // It has this version.
+    Exact(Version<'a>),
+    // It has no version, or the first one of its file.
+    Base,
+    // It is not hidden.
+    Shown,
+}
+
+/// The version of this symbol, counted from 0, cannot be read.
+#[derive(Debug, Clone, Copy, PartialEq, Eq, Error)]
+#[error("version of symbol {symbol} cannot be read")]
+pub struct Unreadable {
+    pub symbol: usize,
+}
+
+/// It cannot be known whether this object, counted from 0, has a definition that serves: the version of this symbol
+/// of it cannot be read.
+#[derive(Debug, Clone, Copy, PartialEq, Eq, Error)]
+#[error("object {object}: version of symbol {symbol} cannot be read")]
+pub struct BindingFault {
+    pub object: usize,
+    pub symbol: usize,
+}
+
+/// An object in a look-up with versions: its checked hash table, and the versions of its symbols, if it has any. These
+/// are a `SymbolVersionTable` or, so that a look-up needs no walk, an `IndexedVersions` or a `PlacedVersions`.
+#[derive(Debug, Drop)]
+pub struct VersionedObject<'data, E: EndianParse, V = SymbolVersionTable<'data, E>> {
+    pub table: AnyChecked<'data, E>,
+    pub versions: Option<V>,
+}

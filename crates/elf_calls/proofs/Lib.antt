@@ -1,0 +1,3 @@
+pub mod SameTexts
+pub mod Verdicts
+pub mod StreamCalls

@@ -1,0 +1,13 @@
+-- what a listing says of a checked section, and the line of it
+pub mod Verdicts
+pub mod Hashes
+-- the question of a call
+pub mod Question
+-- the text of a call over an object file, or why it is refused
+pub mod Text
+-- the ranges that a call requests of a stream
+pub mod Ranges
+-- what a call over a stream writes, and why it stops
+pub mod Stream
+-- what only implementations and private functions cite
+pub mod inner

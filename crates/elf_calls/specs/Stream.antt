@@ -1,0 +1,47 @@
+-- What a call over a stream writes, and why it stops.
+use Rattle.std.specs.Prelude.{◌≡◌, ℕ, Bool, List, Option, Result, Ok, Err, IfSome, IsOk, OnOk}
+use Rattle.std.specs.Io.KnownBytes.{Appends, Keeps as KeepsBytes}
+use Rattle.elf.specs.StreamFile.{stream_file}
+use Rattle.elf.specs.ElfStream.{AreCached, IsRefused, Keeps, Seen, kind}
+use Rattle.elf_records.specs.declared.parse.ParseError.{ParseError}
+use Rattle.elf_calls.specs.Question.{Question}
+use Rattle.elf_calls.specs.Ranges.{TakesNoMemory, call_ranges}
+use Rattle.elf_calls.specs.Text.{call_answer, or_refused}
+use Rattle.elf_calls.specs.declared.stream.Stop.{Stop}
+use Rattle.elf_calls.specs.declared.stream.Stop.TheVariants as stop
+
+-- what a stream answers to a call over a content, by a type of orders of which some are little
+abbrev pub stream_answer : {E : Type 0} → (E → Bool) → Seen E → List ℕ → Question → Result (List ℕ) ParseError
+stream_answer little s bytes call = call_answer s.headers.ehdr (stream_file little s bytes) call
+
+-- where the call is answered its ranges are cached
+abbrev pub IsLoaded : {E : Type 0} → (E → Bool) → Seen E → List ℕ → Question → Type 0
+IsLoaded little s bytes call = IsOk (stream_answer little s bytes call) → AreCached s (call_ranges little s call)
+
+-- the call is answered, by what is cached and without memory
+abbrev pub IsAtHand : {E : Type 0} → (E → Bool) → Seen E → List ℕ → Question → Type 0
+IsAtHand little s bytes call =
+    TakesNoMemory call × AreCached s (call_ranges little s call) × IsOk (stream_answer little s bytes call)
+
+-- there was no fault
+abbrev pub IsFaultlessCall : Result (Unit {0}) Stop → Type 0
+IsFaultlessCall (Err (stop.Fault e)) = ⊥
+IsFaultlessCall _ = Unit {0}
+
+-- At Ok the text of this answer was written, and the source did not fail. A fault is a failure of the source, which its
+-- count shows, or an allocation failure; then nothing was written. Of what a failed writer has nothing is stated.
+abbrev pub RanOne : Result (List ℕ) ParseError → Option (List ℕ) → Option (List ℕ) → Bool → ℕ → ℕ →
+    Result (Unit {0}) Stop → Type 0
+RanOne answer old new can_fail before now (Ok _) = (now ≡ before) × Appends old new (or_refused answer)
+RanOne answer old new can_fail before now (Err (stop.Fault e)) =
+    KeepsBytes old new × IsRefused before now can_fail ⊥ (kind e)
+RanOne answer old new can_fail before now (Err (stop.Write e)) = now ≡ before
+
+-- the same file, the text of the call, no fault if the cache answers it, and at Ok its ranges if it is answered
+pub record RanCall {E : Type 0} (little : E → Bool) (call : Question) (old new : Seen E)
+    (before after : Option (List ℕ)) (r : Result (Unit {0}) Stop) : Type 0 where
+  pub keeps : Keeps old new
+  pub ran : IfSome old.content (λ bytes.
+      RanOne (stream_answer little old bytes call) before after old.can_fail old.failures new.failures r)
+  pub no_fault : IfSome old.content (λ bytes. IsAtHand little old bytes call → IsFaultlessCall r)
+  pub loaded : OnOk r (IfSome old.content (λ bytes. IsLoaded little new bytes call))

@@ -1,0 +1,12 @@
+//! The calls of a listing, and the text that each of them writes: from the results of an `ElfBytes` (`bytes`), and from
+//! those of an `ElfStream` (`stream`).
+#![tactic(auto)]
+
+pub mod bytes;
+mod calls;
+mod hashes;
+pub mod laws;
+pub mod readers;
+pub mod stream;
+
+pub use calls::Call;

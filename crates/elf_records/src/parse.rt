@@ -1,0 +1,169 @@
+//! The error type of the library, and records that are read at an offset.
+ghost use Rattle.std.specs.Prelude.{◌≡◌, if◌then◌else◌, ◌==◌};
+ghost use Rattle.elf_records.specs.Class.{address_size};
+ghost use Rattle.elf_records.specs.Number.{moved_by, number_at};
+ghost use Rattle.elf_records.specs.Record.{RecordType};
+ghost use Rattle.elf_records.specs.declared.parse.ParseError.{ParseError};
+ghost use Rattle.elf_records.specs.declared.parse.ParseError.TheVariants.{IOError as IsIOError, Utf8Error as IsUtf8Error};
+ghost use Rattle.elf_records.specs.declared.parse.ParseError.TheVariants.{TryFromIntError as IsTryFromIntError};
+ghost use Rattle.elf_records.specs.declared.parse.ParseError.TheVariants.{TryFromSliceError as IsTryFromSliceError};
+
+use crate::endian::EndianParse;
+use crate::file::Class;
+use thiserror::Error;
+
+mod words;
+
+/// An error of the library. A pair of numbers is (found, expected), or (start, end) of a range of bytes whose end
+/// is not included.
+#[derive(Debug, Drop, Error)]
+pub enum ParseError {
+    /// The first four bytes are not 7f 45 4c 46. Holds these four bytes.
+    #[error("Invalid Magic Bytes: [{:X}, {:X}, {:X}, {:X}]", .0[0], .0[1], .0[2], .0[3])]
+    BadMagic([u8; 4]),
+    /// The class byte is neither 1 nor 2.
+    #[error("Unsupported ELF Class: {0}")]
+    UnsupportedElfClass(u8),
+    /// The type of byte orders has no order for this order byte.
+    #[error("Unsupported ELF Endianness: {0}")]
+    UnsupportedElfEndianness(u8),
+    /// The version of the identification, of a `VerDef` or of a `VerNeed` is not 1: (found, 1).
+    #[error("Unsupported ELF Version field found: {} expected: {}", .0.0, .0.1)]
+    UnsupportedVersion((u64, u64)),
+    /// An index or an offset that lies past the end of its table; the index of a section header that does not
+    /// exist; or, from an `ElfStream`, the end of a range that lies past the end of the source.
+    #[error("Bad offset: {0:#X}")]
+    BadOffset(u64),
+    /// No 0 byte ends the string at this offset, in bytes.
+    #[error("Could not find terminating NUL byte starting at offset: {0:#X}")]
+    StringTableMissingNul(u64),
+    /// An entry size in a header is not the size of the record, in bytes: (found, expected).
+    #[error("Invalid entsize. Expected: {:#X}, Found: {:#X}", .0.1, .0.0)]
+    BadEntsize((u64, u64)),
+    /// A section header has another type than the method reads: (found, expected).
+    #[error("Could not interpret section of type {} as type {}", .0.0, .0.1)]
+    UnexpectedSectionType((u32, u32)),
+    /// A program header has another type than the method reads: (found, expected).
+    #[error("Could not interpret section of type {} as type {}", .0.0, .0.1)]
+    UnexpectedSegmentType((u32, u32)),
+    /// Never returned; the Rust crate has it. An iterator over notes with an unusable alignment ends instead.
+    #[error("Could not interpret section with unexpected alignment of {0}")]
+    UnexpectedAlignment(usize),
+    /// The bytes from start to end, end not included, do not lie in the data.
+    #[error("Could not read bytes in range [{:#X}, {:#X})", .0.0, .0.1)]
+    SliceReadError((usize, usize)),
+    /// An offset, a size or an end does not fit 64 bits. Also returned by a look-up in a GNU hash section that
+    /// needs the second bloom bit, if the shift is 32 or more.
+    #[error("Integer overflow detected")]
+    IntegerOverflow,
+    /// Bytes that were requested as text are not UTF-8.
+    #[error(transparent)]
+    Utf8Error(std::str::Utf8Error),
+    /// Never returned; the Rust crate has it.
+    #[error(transparent)]
+    TryFromSliceError(std::array::TryFromSliceError),
+    /// Never returned; the Rust crate has it.
+    #[error(transparent)]
+    TryFromIntError(std::num::TryFromIntError),
+    /// The source of an `ElfStream` failed.
+    #[error(transparent)]
+    IOError(std::io::Error),
+    /// An allocation of an `ElfStream` failed.
+    #[error("Out of memory")]
+    OutOfMemory,
+}
+
+impl From<std::str::Utf8Error> for ParseError {
+    ghost from_gives = { λ inner e. e ≡ IsUtf8Error inner };
+
+    fn from(err: std::str::Utf8Error) -> ParseError {
+        ParseError::Utf8Error(err)
+    }
+}
+
+impl From<std::array::TryFromSliceError> for ParseError {
+    ghost from_gives = { λ inner e. e ≡ IsTryFromSliceError inner };
+
+    fn from(err: std::array::TryFromSliceError) -> ParseError {
+        ParseError::TryFromSliceError(err)
+    }
+}
+
+impl From<std::num::TryFromIntError> for ParseError {
+    ghost from_gives = { λ inner e. e ≡ IsTryFromIntError inner };
+
+    fn from(err: std::num::TryFromIntError) -> ParseError {
+        ParseError::TryFromIntError(err)
+    }
+}
+
+impl From<std::io::Error> for ParseError {
+    ghost from_gives = { λ inner e. e ≡ IsIOError inner };
+
+    fn from(err: std::io::Error) -> ParseError {
+        ParseError::IOError(err)
+    }
+}
+
+/// A record that can be read at an offset.
+///
+/// The laws: a record has at least one byte, and its size depends only on the class. The result and the offset
+/// afterwards are determined by the byte order, the class, the offset and the data. A read that succeeds lies
+/// within the data and moves the offset by the size, and its value depends only on those bytes, the order and the
+/// class.
+pub trait ParseAt: Sized {
+    // How a record is read: its size, what is read at an offset, and the laws of these.
+    ghost reads: { RecordType Self };
+
+    /// Returns the record at `offset`, in bytes, and moves `offset` behind it.
+    ///
+    /// A record with a field table returns the error of the first field that has one: `IntegerOverflow` if the end
+    /// of the field does not fit 64 bits, `SliceReadError((start, end))` if the field does not lie in the data, or
+    /// `UnsupportedVersion((found, 1))` for the version of a `VerDef` or `VerNeed`. The error leaves `offset` at
+    /// that field, or behind the version.
+    fn parse_at<E: EndianParse>(
+        endian: E,
+        class: Class,
+        offset: &mut usize,
+        data: &[u8],
+    ) -> Result<Self, ParseError>
+        ensures value { result ≡ reads.record_at (E.little endian) class «data».now offset.old }
+        ensures moved { offset.new ≡ reads.offset_after (E.little endian) class «data».now offset.old };
+
+    /// The size of a record in bytes.
+    fn size_for(class: Class) -> usize
+        ensures { result ≡ reads.size class };
+
+    /// Returns the entry size that a header states, in bytes, if it is the size of the record. Otherwise returns
+    /// `BadEntsize((entsize, size))`.
+    fn validate_entsize(class: Class, entsize: usize) -> Result<usize, ParseError>
+        ensures { result ≡ (if entsize == reads.size class then Ok entsize
+            else Err (ParseError.BadEntsize (entsize, reads.size class))) }
+    {
+        let expected = Self::size_for(class);
+        if entsize == expected {
+            Ok(entsize)
+        } else {
+            Err(ParseError::BadEntsize((entsize as u64, expected as u64)))
+        }
+    }
+}
+
+/// Returns an address, an offset or a size, which has four bytes in a 32-bit file and eight in a 64-bit one, and moves
+/// `offset` behind it. Errors, in order: those of `parse_u32_at` or `parse_u64_at`, which leave `offset` as it is.
+// A call of it costs more than what it does, and a section header has six.
+#[inline(always)]
+pub fn parse_by_class<E: EndianParse>(
+    endian: E,
+    class: Class,
+    offset: &mut usize,
+    data: &[u8],
+) -> Result<u64, ParseError>
+    ensures value { result ≡ number_at (E.little endian) (address_size class) «data».now offset.old }
+    ensures moved { offset.new ≡ moved_by (address_size class) result offset.old }
+{
+    match class {
+        Class::ELF32 => Ok(endian.parse_u32_at(offset, data)? as u64),
+        Class::ELF64 => endian.parse_u64_at(offset, data),
+    }
+}
