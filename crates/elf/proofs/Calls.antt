@@ -9,9 +9,11 @@ use Rattle.elf.specs.Ranges.{headers_alone}
 use Rattle.elf.specs.StreamFile.{stream_file}
 use Rattle.elf.specs.ObjectFile.{object_file}
 use Rattle.elf.specs.Readers.{AreAlike, SameAnswers}
-use Rattle.elf.specs.Opening.{opened}
-use Rattle.elf.specs.ElfStream.{Headers, IsAnswer, IsOfFile, IsRefused, Keeps, Kind, Leaves, Seen, headers_of, kind}
-use Rattle.elf.specs.ElfBytes.{View, with_header}
+use Rattle.elf_reading.specs.Opening.{opened}
+use Rattle.elf.specs.ElfStream.{Headers, IsAnswer, IsOfFile, Keeps, Leaves, Seen, headers_of}
+use Rattle.elf_reading.specs.Refusals.{IsRefused, Kind, kind}
+use Rattle.elf.specs.ElfBytes.{with_header}
+use Rattle.elf_reading.specs.Opening.{View}
 
 value_alike : {A : Type 0} (one other : Result A ParseError) (x : A) → AreAlike one other → other ≡ Ok x → one ≡ Ok x
 value_alike (Ok a) (Ok b) x same h = cc

@@ -1,5 +1,3 @@
-pub mod Left
-mod VersionChoice
 pub mod CommonPass
 pub mod Alike
 pub mod Same

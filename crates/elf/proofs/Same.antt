@@ -20,15 +20,17 @@ use Rattle.elf.specs.Headers.{entry_size, first_section_of, if_found}
 use Rattle.elf.specs.StreamFile.{listed_at, listed_file, stream_file}
 use Rattle.elf.specs.Names.{name_index, name_section, name_table}
 use Rattle.elf.specs.ObjectFile.{ObjectFile, object_file, table_of}
-use Rattle.elf.specs.Opening.{header_at_front, opened, section_count, section_table, segment_table, table_bytes}
+use Rattle.elf_reading.specs.Opening.{header_at_front, opened, section_count, section_table, segment_table, table_bytes}
 use Rattle.elf.specs.Data.{section_data}
 use Rattle.elf.specs.Headers.{section_at, section_range}
 use Rattle.elf.specs.Readers.{AreAlike, Method, SameAnswers, answer}
 use Rattle.elf.specs.Readers.{Dynamic, DynamicSymbolTable, SectionData, SectionDataAsNotes, SectionDataAsRelas, SectionDataAsRels, SectionDataAsStrtab, SectionHeaderByName, SectionHeadersWithStrtab, SegmentData, SegmentDataAsNotes, SymbolTable, SymbolVersionTable}
 use Rattle.elf.specs.ElfStream.{Seen, headers_of}
-use Rattle.elf.specs.Versions.{linked_strings, version_definitions, version_indexes, version_needs, version_sections, versions_of}
-use Rattle.elf.specs.ElfBytes.{View, section_list, with_header}
-use Rattle.elf.specs.declared.headers.VersionSections.{VersionSections}
+use Rattle.elf.specs.Versions.{linked_strings, version_definitions, version_indexes, version_needs, versions_of}
+use Rattle.elf_reading.specs.Versions.{version_sections}
+use Rattle.elf.specs.ElfBytes.{with_header}
+use Rattle.elf_reading.specs.Opening.{View, section_list}
+use Rattle.elf_reading.specs.declared.versions.VersionSections.{VersionSections}
 use Rattle.elf.proofs.Alike.{alike_first, alike_found, alike_if, alike_later, alike_map}
 
 -- ---- a file, and the same with another way to its section headers

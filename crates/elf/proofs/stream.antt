@@ -1,6 +1,4 @@
-pub mod Filling
 pub mod Pieces
-pub mod Cached
 pub mod Loads
 pub mod Reads
 pub mod Located

@@ -26,7 +26,8 @@ use Rattle.elf.specs.Names.{has_name, name_table}
 use Rattle.elf.specs.ObjectFile.{ObjectFile, records_of, table_of}
 use Rattle.elf.specs.Data.{content, content_of_type}
 use Rattle.elf.specs.Headers.{section_range}
-use Rattle.elf.specs.Versions.{version_sections, versions_of}
+use Rattle.elf.specs.Versions.{versions_of}
+use Rattle.elf_reading.specs.Versions.{version_sections}
 
 -- ---- parts of answers
 

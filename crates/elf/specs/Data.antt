@@ -1,5 +1,5 @@
 -- The bytes of a section (gABI, chapter "Sections", "Section Compression").
-use Rattle.std.specs.Prelude.{ℕ, ◌==◌, if◌then◌else◌, bit_and, List, [], drop, Option, Some, None, Result}
+use Rattle.std.specs.Prelude.{ℕ, ◌==◌, if◌then◌else◌, bit_and, List, [], Option, Some, None, Result}
 use Rattle.std.specs.Prelude.{Ok, Err}
 use Rattle.elf_abi.specs.Values.{shf_compressed, sht_nobits}
 use Rattle.elf_records.specs.Compression.{compression_header_layout}
@@ -11,12 +11,7 @@ use Rattle.elf_records.specs.declared.parse.ParseError.TheVariants.{UnexpectedSe
 use Rattle.elf_records.specs.declared.section.SectionHeader.{SectionHeader}
 use Rattle.elf.specs.ObjectFile.{ObjectFile}
 use Rattle.elf.specs.Headers.{section_range}
-use denote.Ref.{Bor}
-
--- the record at the front of some bytes, and what follows it
-abbrev pub at_front : {A : Type 0}
-    → ℕ → (List ℕ → ℕ → Result A ParseError) → List ℕ → Result (List ℕ × A) ParseError
-at_front size gives bytes = gives bytes 0 >>= λ x. Ok (drop size bytes, x)
+use Rattle.elf_reading.specs.Leading.{at_front}
 
 -- a compression header at the front of some bytes, and what follows it
 abbrev pub compressed : ObjectFile → List ℕ → Result (List ℕ × CompressionHeader) ParseError
@@ -41,7 +36,3 @@ content file s = ok_map (λ found. found.0) (section_data file s)
 abbrev pub content_of_type : ℕ → ObjectFile → SectionHeader → Result (List ℕ) ParseError
 content_of_type t file s =
     if s.sh_type == t then content file s else Err (UnexpectedSectionType (s.sh_type, t))
-
--- what borrowed bytes show, with the header in front of them
-abbrev pub data_view : {A : Type 0} → Bor (List ℕ) × A → List ℕ × A
-data_view found = (found.0.now, found.1)

@@ -1,15 +1,16 @@
 -- What contracts see of an `ElfStream`, and what a call of it leaves and answers.
-use Rattle.std.specs.Prelude.{◌≡◌, ℕ, ◌+◌, ◌<◌, ◌&&◌, ◌⊎◌, Bool, IsTrue, nat_le, List, [], ◌∷◌, map}
+use Rattle.std.specs.Prelude.{◌≡◌, ℕ, ◌+◌, ◌⊎◌, Bool, IsTrue, List, [], ◌∷◌, map}
 use Rattle.std.specs.Prelude.{Option, Result, Ok, Err, IfSome, OnOk, IfErr, IsOk, IsErr, is_some}
-use Rattle.std.specs.List.{list_any}
 use Rattle.elf_records.specs.Number.{bytes_at}
 use Rattle.elf_records.specs.declared.file.FileHeader.{FileHeader}
 use Rattle.elf_records.specs.declared.parse.ParseError.{ParseError}
-use Rattle.elf_records.specs.declared.parse.ParseError.TheVariants.{IOError, OutOfMemory}
 use Rattle.elf_records.specs.declared.section.SectionHeader.{SectionHeader}
 use Rattle.elf_parts.specs.declared.segment.ProgramHeader.{ProgramHeader}
-use Rattle.elf.specs.Opening.{opened}
-use Rattle.elf.specs.ElfBytes.{View, section_list, segment_list, with_header}
+use Rattle.elf_reading.specs.Opening.{opened}
+use Rattle.elf.specs.ElfBytes.{with_header}
+use Rattle.elf_reading.specs.Opening.{View, section_list, segment_list}
+use Rattle.elf_reading.specs.Cache.{is_cached}
+use Rattle.elf_reading.specs.Refusals.{IsRefused, Kind, SourceFailure, AllocationFailure, Refusal, kind}
 
 -- the headers of a file, in memory: the file header as it is now, whether a table of section headers is declared, the
 -- section headers, and the program headers
@@ -47,10 +48,6 @@ IsOfFile {E} little of_byte bytes s =
 
 -- ---- which ranges are cached
 
--- whether the bytes from start to end lie within one of the ranges
-abbrev pub is_cached : List (ℕ × ℕ) → ℕ → ℕ → Bool
-is_cached ranges start end = list_any (λ r. nat_le r.0 start && nat_le end r.1) ranges
-
 -- the bytes from start to end lie within one of the cached ranges
 abbrev pub IsCached : {E : Type 0} → Seen E → ℕ → ℕ → Type 0
 IsCached s start end = IsTrue (is_cached s.cached start end)
@@ -72,23 +69,6 @@ pub record Keeps {E : Type 0} (old new : Seen E) : Type 0 where
   pub cached : (start end : ℕ) → IsCached old start end → IsCached new start end
 
 -- ---- why a call is refused
-
--- the source failed, memory was refused, or the content has no answer
-pub data Kind : Type 0 where
-  SourceFailure : Kind
-  AllocationFailure : Kind
-  Refusal : Kind
-
-abbrev pub kind : ParseError → Kind
-kind (IOError _) = SourceFailure
-kind OutOfMemory = AllocationFailure
-kind _ = Refusal
-
--- a failure of the source raises its count, and nothing else does; the content is refused only where it has no answer
-abbrev pub IsRefused : ℕ → ℕ → Bool → Type 0 → Kind → Type 0
-IsRefused before now can_fail none SourceFailure = (before < now) × IsTrue can_fail
-IsRefused before now can_fail none AllocationFailure = now ≡ before
-IsRefused before now can_fail none Refusal = (now ≡ before) × none
 
 -- the answer that the content gives, or an error; if the content's answer is an error, an error of any kind
 abbrev pub IsAnswer :

@@ -1,7 +1,7 @@
 -- Section i of a file and the bytes of its range (gABI, chapter "Sections"), and which section or segment is taken,
 -- where a method looks for one of a type (gABI, chapters "Sections" and "Program Header").
-use Rattle.std.specs.Prelude.{ℕ, List, Option, Some, None, Result, Err, ◌==◌, if◌then◌else◌, Bool, filter, Ok}
-use Rattle.std.specs.List.{find, last_or}
+use Rattle.std.specs.Prelude.{ℕ, List, Option, Some, None, Result, Err, ◌==◌, if◌then◌else◌, Ok}
+use Rattle.std.specs.List.{find}
 use Rattle.elf_records.specs.Number.{bytes_at, ok_map}
 use Rattle.elf_records.specs.Section.{section_header_reads}
 use Rattle.elf_parts.specs.Table.{Table, table_get}
@@ -9,6 +9,7 @@ use Rattle.elf_records.specs.declared.parse.ParseError.{ParseError}
 use Rattle.elf_records.specs.declared.parse.ParseError.TheVariants.{BadOffset, BadEntsize}
 use Rattle.elf_records.specs.declared.section.SectionHeader.{SectionHeader}
 use Rattle.elf_parts.specs.declared.segment.ProgramHeader.{ProgramHeader}
+use Rattle.elf_reading.specs.Versions.{is_of_type}
 
 -- ---- a header, and its bytes
 
@@ -28,16 +29,9 @@ abbrev pub if_found : {A B : Type 0} → (A → Result B ParseError) → Option 
 if_found answer None = Ok None
 if_found answer (Some header) = ok_map Some (answer header)
 
-abbrev pub is_of_type : ℕ → SectionHeader → Bool
-is_of_type t s = s.sh_type == t
-
 -- the first section of a type
 abbrev pub first_section_of : ℕ → List SectionHeader → Option SectionHeader
 first_section_of t sections = find (is_of_type t) sections
-
--- the last section of a type
-abbrev pub last_section_of : ℕ → List SectionHeader → Option SectionHeader
-last_section_of t sections = last_or None (filter (is_of_type t) sections)
 
 -- the first segment of a type
 abbrev pub first_segment_of : ℕ → List ProgramHeader → Option ProgramHeader

@@ -4,7 +4,7 @@ use Rattle.std.specs.Borrow.{Fml, RattleType, MutBor}
 use Rattle.std.specs.Io.BufRead.{Rests}
 use Rattle.std.specs.declared.alloc.Allocator as allocator
 use Rattle.elf_records.specs.declared.parse.ParseError.{ParseError}
-use Rattle.elf.specs.declared.source.StreamSource as source
+use Rattle.elf_reading.specs.declared.source.StreamSource as source
 use Rattle.elf.specs.contracts.elf_stream.ElfStream.{the_row}
 use Rattle.elf.specs.Ranges.{headers_alone}
 use Rattle.elf.specs.StreamFile.{stream_file}

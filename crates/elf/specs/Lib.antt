@@ -4,8 +4,6 @@
 
 -- what an `ElfBytes` shows
 pub mod ElfBytes
--- the header, and the two tables that it declares
-pub mod Opening
 -- section i, the bytes that a header gives a range of, and the first or last header of a type
 pub mod Headers
 -- what the answers take: headers and bytes
@@ -24,8 +22,6 @@ pub mod Answers
 pub mod Common
 -- ---- a stream
 
--- what the calls of a source do, and what a source in memory holds
-pub mod Source
 -- what contracts see of a stream, and what its calls leave
 pub mod ElfStream
 -- the object file of a stream, whose headers are lists

@@ -8,7 +8,7 @@ use Rattle.elf_records.specs.declared.parse.ParseError.{ParseError}
 use Rattle.elf_records.specs.declared.section.SectionHeader.{SectionHeader}
 use Rattle.elf_parts.specs.declared.segment.ProgramHeader.{ProgramHeader}
 use Rattle.elf.specs.Headers.{section_at}
-use Rattle.elf.specs.ElfBytes.{View, section_list, segment_list}
+use Rattle.elf_reading.specs.Opening.{View, section_list, segment_list}
 
 pub record ObjectFile : Type 0 where
   -- of the file header as it is now: whether its order is little, its class, and e_shstrndx

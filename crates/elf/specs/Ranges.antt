@@ -15,8 +15,8 @@ use Rattle.elf.specs.StreamFile.{stream_file}
 use Rattle.elf.specs.Names.{name_section}
 use Rattle.elf.specs.ObjectFile.{ObjectFile}
 use Rattle.elf.specs.ElfStream.{Seen}
-use Rattle.elf.specs.Versions.{version_sections}
-use Rattle.elf.specs.declared.headers.VersionSections.{VersionSections}
+use Rattle.elf_reading.specs.Versions.{version_sections}
+use Rattle.elf_reading.specs.declared.versions.VersionSections.{VersionSections}
 
 abbrev pub range_of_section : SectionHeader → ℕ × ℕ
 range_of_section s = (s.sh_offset, s.sh_size)

@@ -25,8 +25,10 @@ use Rattle.elf.specs.Data as contents
 use Rattle.elf.specs.Ranges.{dynamic_ranges, headers_alone, names_ranges, section_ranges, segment_ranges}
 use Rattle.elf.specs.Ranges.{segment_notes_ranges, symbols_ranges, typed_section_ranges, versions_ranges}
 use Rattle.elf.specs.StreamFile.{stream_file}
-use Rattle.elf.specs.ElfStream.{Kind, Leaves, Seen, kind}
-use Rattle.elf.specs.ElfBytes.{View, with_header}
+use Rattle.elf.specs.ElfStream.{Leaves, Seen}
+use Rattle.elf_reading.specs.Refusals.{Kind, kind}
+use Rattle.elf.specs.ElfBytes.{with_header}
+use Rattle.elf_reading.specs.Opening.{View}
 
 -- ---- the methods
 

@@ -3,34 +3,33 @@ ghost use Rattle.std.specs.Prelude.{◌≡◌, ℕ, ◌≤◌, ◌+◌, ◌^◌,
 ghost use Rattle.std.specs.Prelude.{IfSome, Ok, IsOk, length, take, drop, [], ◌∷◌};
 ghost use Rattle.elf_records.specs.Number.{bytes_at, ok_map};
 ghost use Rattle.elf.specs.Ranges.{range_of_section, range_of_segment};
-ghost use Rattle.elf.specs.Opening.{opened};
-ghost use Rattle.elf.specs.ElfStream.{IsAnswer, IsFor, IsOfFile, Kind, headers_of, Keeps, IsCached, IsOpening, kind};
+ghost use Rattle.elf_reading.specs.Opening.{opened};
+ghost use Rattle.elf.specs.ElfStream.{IsAnswer, IsFor, IsOfFile, headers_of, Keeps, IsCached, IsOpening};
+ghost use Rattle.elf_reading.specs.Refusals.{Kind, kind};
 ghost use Rattle.elf.specs.ElfStream.{IsRequested};
 ghost use Rattle.elf.specs.inner.Loads.{Loads};
 
-use crate::source::StreamSource;
 use elf_parts::endian::EndianParse;
 use elf_parts::file::FileHeader;
 use elf_parts::parse::ParseError;
 use elf_parts::section::SectionHeader;
 use elf_parts::segment::ProgramHeader;
+use elf_reading::cache::Cache;
+use elf_reading::reads::fetch;
+use elf_reading::source::StreamSource;
 use std::alloc::Allocator;
 use std::marker::Model;
 
-mod cache;
 mod data;
 mod dynamic;
 mod headers;
 mod names;
 mod opening;
-mod reads;
 mod segments;
 mod symbols;
 mod versions;
 
-use cache::Cache;
 use opening::{locate_phdrs, locate_shdrs, read_ehdr, read_records};
-use reads::fetch;
 
 /// An ELF file that is read from a source as calls need its bytes. Opening it reads its header and its two tables of
 /// headers. What later calls read is cached.
@@ -66,7 +65,7 @@ impl<E: EndianParse, S: StreamSource, A: Allocator + Copy> Model for ElfStream<E
     ghost use Rattle.std.specs.Prelude.{map};
     ghost use Rattle.elf.specs.ElfStream.{Seen};
     ghost use Rattle.elf.specs.inner.Opened.{IsOpened};
-    ghost use Rattle.elf.specs.inner.Piece.{range_of};
+    ghost use Rattle.elf_reading.specs.Cache.{range_of};
 
     ghost Value = { Seen E };
 

@@ -3,13 +3,12 @@
 //! `ElfBytes` and `ElfStream` implement the trait `Headers`. A stream has its headers in lists, so none of these calls
 //! reads its source.
 ghost use Rattle.std.specs.Prelude.{◌≡◌, ◌&&◌, IfErr, is_some};
-ghost use Rattle.elf_parts.specs.Clones.{ClonesExactly};
 ghost use Rattle.elf.specs.Answers.{symbol_sections, with_linked};
-ghost use Rattle.elf.specs.ElfStream.{Kind, kind};
+ghost use Rattle.elf_reading.specs.Refusals.{Kind, kind};
 ghost use Rattle.elf.specs.Headers.{first_section_of, first_segment_of};
 ghost use Rattle.elf.specs.Names.{has_name, name_index, name_section};
 ghost use Rattle.elf.specs.ObjectFile.{ObjectFile};
-ghost use Rattle.elf.specs.Versions.{version_sections};
+ghost use Rattle.elf_reading.specs.Versions.{version_sections};
 
 use elf_abi::abi;
 use elf_parts::file::Class;
@@ -18,6 +17,7 @@ use elf_parts::section::SectionHeader;
 use elf_parts::segment::ProgramHeader;
 use elf_parts::string_table::TerminatedStrings;
 use elf_parts::symbol::Symbol;
+pub use elf_reading::versions::{VersionSections, clones_of_version_sections};
 
 /// A section, and the section that its `sh_link` names.
 pub type LinkedSections = (SectionHeader, SectionHeader);
@@ -111,57 +111,6 @@ pub trait Headers {
             Some(shdr) => self.with_linked(&shdr).map(Some),
             None => Ok(None),
         }
-    }
-}
-
-/// The sections with the versions of symbols.
-#[derive(Copy, Clone)]
-pub struct VersionSections {
-    /// The version indexes of the symbols (`SHT_GNU_VERSYM`).
-    pub indexes: Option<SectionHeader>,
-    /// The versions that are needed of other files (`SHT_GNU_VERNEED`).
-    pub needs: Option<SectionHeader>,
-    /// The versions that the file defines (`SHT_GNU_VERDEF`).
-    pub definitions: Option<SectionHeader>,
-}
-
-/// The clone of version sections is the same value, and cloning it cannot fail.
-pub fn clones_of_version_sections()
-    ensures { ClonesExactly ⟦<VersionSections as Clone>⟧.is_clone ⟦<VersionSections as Clone>⟧.is_infallible }
-{}
-
-impl VersionSections {
-    ghost use Rattle.elf.specs.inner.Passes.{no_version_sections, with_version_section};
-
-    // No sections.
-    pub(crate) fn none() -> Self
-        ensures { result ≡ no_version_sections }
-    {
-        VersionSections {
-            indexes: None,
-            needs: None,
-            definitions: None,
-        }
-    }
-
-    // The same with one more section, which replaces an earlier one of its type.
-    pub(crate) fn with(mut self, shdr: SectionHeader) -> Self
-        ensures { result ≡ with_version_section self shdr }
-    {
-        match shdr.sh_type {
-            abi::SHT_GNU_VERSYM => self.indexes = Some(shdr),
-            abi::SHT_GNU_VERNEED => self.needs = Some(shdr),
-            abi::SHT_GNU_VERDEF => self.definitions = Some(shdr),
-            _ => {}
-        }
-        self
-    }
-
-    // Whether there are sections of all three types.
-    pub(crate) fn are_all(&self) -> bool
-        ensures { result ≡ (is_some self.now.indexes && is_some self.now.needs && is_some self.now.definitions) }
-    {
-        self.indexes.is_some() && self.needs.is_some() && self.definitions.is_some()
     }
 }
 

@@ -12,11 +12,8 @@ pub use elf_parts::{
 mod elf_bytes;
 mod elf_stream;
 pub mod headers;
-mod leading;
 pub mod readers;
-mod source;
-mod tables;
 
 pub use elf_bytes::{CommonElfData, ElfBytes};
+pub use elf_reading::source::{FileSource, MemSource, StreamSource};
 pub use elf_stream::ElfStream;
-pub use source::{FileSource, MemSource, StreamSource};

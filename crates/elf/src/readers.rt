@@ -3,17 +3,18 @@ ghost use Rattle.std.specs.Prelude.{◌≡◌, ℕ, List, All, IfSome, Ok, Some}
 ghost use Rattle.elf.specs.Readers.{AreMade, Call, IsAnsweredAlike};
 ghost use Rattle.elf.specs.StreamFile.{stream_file};
 ghost use Rattle.elf.specs.ObjectFile.{object_file};
-ghost use Rattle.elf.specs.Opening.{opened};
+ghost use Rattle.elf_reading.specs.Opening.{opened};
 ghost use Rattle.elf.specs.Readers.{SameAnswers};
 ghost use Rattle.elf.specs.ElfStream.{Seen, headers_of};
-ghost use Rattle.elf.specs.ElfBytes.{View, with_header};
+ghost use Rattle.elf.specs.ElfBytes.{with_header};
+ghost use Rattle.elf_reading.specs.Opening.{View};
 ghost use Rattle.elf_records.specs.declared.file.FileHeader.{FileHeader};
 
 use crate::elf_stream::ElfStream;
-use crate::source::StreamSource;
 use elf_parts::endian::EndianParse;
 use elf_parts::laws::lists::list_is_what_get_gives;
 use elf_parts::section::SectionHeader;
+use elf_reading::source::StreamSource;
 use std::alloc::Allocator;
 
 /// States that the methods of an opened file return the same, whether its headers are in the file's tables, as for

@@ -2,7 +2,8 @@
 use Rattle.std.specs.Prelude.{◌≡◌, ℕ, Bool, List, Option, Result, Ok, Err, IfSome, IsOk, OnOk}
 use Rattle.std.specs.Io.KnownBytes.{Appends, Keeps as KeepsBytes}
 use Rattle.elf.specs.StreamFile.{stream_file}
-use Rattle.elf.specs.ElfStream.{AreCached, IsRefused, Keeps, Seen, kind}
+use Rattle.elf.specs.ElfStream.{AreCached, Keeps, Seen}
+use Rattle.elf_reading.specs.Refusals.{IsRefused, kind}
 use Rattle.elf_records.specs.declared.parse.ParseError.{ParseError}
 use Rattle.elf_calls.specs.Question.{Question}
 use Rattle.elf_calls.specs.Ranges.{TakesNoMemory, call_ranges}

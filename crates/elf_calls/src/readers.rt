@@ -2,9 +2,10 @@
 ghost use Rattle.std.specs.Prelude.{◌≡◌, ℕ, List, Ok};
 ghost use Rattle.elf.specs.StreamFile.{stream_file};
 ghost use Rattle.elf.specs.ObjectFile.{object_file};
-ghost use Rattle.elf.specs.Opening.{opened};
+ghost use Rattle.elf_reading.specs.Opening.{opened};
 ghost use Rattle.elf.specs.ElfStream.{Seen, headers_of};
-ghost use Rattle.elf.specs.ElfBytes.{View, with_header};
+ghost use Rattle.elf.specs.ElfBytes.{with_header};
+ghost use Rattle.elf_reading.specs.Opening.{View};
 ghost use Rattle.elf_records.specs.declared.file.FileHeader.{FileHeader};
 ghost use Rattle.elf_calls.specs.Question.{Question};
 ghost use Rattle.elf_calls.specs.Text.{text};

@@ -6,10 +6,11 @@ use Rattle.elf_records.specs.declared.compression.CompressionHeader.{Compression
 use Rattle.elf_records.specs.declared.parse.ParseError.{ParseError}
 use Rattle.elf_records.specs.declared.section.SectionHeader.{SectionHeader}
 use Rattle.elf.specs.Data.{section_data}
-use Rattle.elf.specs.ElfBytes.{View, with_header}
+use Rattle.elf.specs.ElfBytes.{with_header}
+use Rattle.elf_reading.specs.Opening.{View}
 use Rattle.elf.specs.ElfStream.{Seen, headers_of}
 use Rattle.elf.specs.ObjectFile.{object_file}
-use Rattle.elf.specs.Opening.{opened}
+use Rattle.elf_reading.specs.Opening.{opened}
 use Rattle.elf.specs.Readers.{SameAnswers, SectionData}
 use Rattle.elf.specs.StreamFile.{stream_file}
 use Rattle.elf_examples.specs.Copies.{IsSectionOf}

@@ -2,9 +2,9 @@
 use Rattle.std.specs.Prelude.{◌≡◌, ℕ, Bool, List, Option, Ok}
 use Rattle.elf_records.specs.declared.section.SectionHeader.{SectionHeader}
 use Rattle.elf.specs.Data.{content}
-use Rattle.elf.specs.ElfBytes.{View}
+use Rattle.elf_reading.specs.Opening.{View}
 use Rattle.elf.specs.ObjectFile.{object_file}
-use Rattle.elf.specs.Opening.{opened}
+use Rattle.elf_reading.specs.Opening.{opened}
 
 -- `ElfBytes` opens the file, and these are the bytes that it gives of the section
 abbrev pub IsSectionOf : {E : Type 0} → (E → Bool) → (ℕ → Option E) → List ℕ → SectionHeader → List ℕ → Type 0

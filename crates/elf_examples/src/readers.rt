@@ -3,7 +3,7 @@ ghost use Rattle.std.specs.Prelude.{◌≡◌, ◌≢◌, IfErr, IfOk, is_some};
 ghost use Rattle.elf_records.specs.Number.{ok_map};
 ghost use Rattle.elf.specs.Answers.{section_header_by_name};
 ghost use Rattle.elf.specs.ElfBytes.{view};
-ghost use Rattle.elf.specs.ElfStream.{Kind, kind};
+ghost use Rattle.elf_reading.specs.Refusals.{Kind, kind};
 ghost use Rattle.elf.specs.ObjectFile.{object_file};
 ghost use Rattle.elf_examples.specs.Copies.{IsSectionOf};
 

@@ -1,5 +1,5 @@
 //! The parts of an ELF file, over bytes: records, tables, strings, notes, versions and hash sections. The readers of
-//! whole files are built on them. The records of one place are those of `elf_records`, under the same names.
+//! whole files are built on them. Most records are those of `elf_records`, under the same names.
 #![tactic(auto)]
 
 pub use elf_records::{compression, endian, file};

@@ -1,6 +1,6 @@
 //! Sources that give few bytes a read, fail once, count what they gave, or end before their end.
 ghost use Rattle.std.specs.Prelude.{◌≡◌, ◌≤◌, None, Some, length, true};
-ghost use Rattle.elf.specs.Source.{HasCause};
+ghost use Rattle.elf_reading.specs.Source.{HasCause};
 
 use elf::StreamSource;
 use std::cell::Cell;

@@ -12,7 +12,7 @@ use Rattle.elf_records.specs.declared.section.SectionHeader.{SectionHeader}
 use Rattle.elf.specs.Answers.{dynamic_symbol_table, symbol_version_table}
 use Rattle.elf.specs.Data.{section_data}
 use Rattle.elf.specs.ElfStream.{Headers, IsOpening, Keeps, Seen, headers_of}
-use Rattle.elf.specs.Opening.{opened}
+use Rattle.elf_reading.specs.Opening.{opened}
 use Rattle.elf.specs.Headers.{first_section_of}
 use Rattle.elf.specs.ObjectFile.{ObjectFile}
 use Rattle.elf.specs.StreamFile.{listed_file, stream_file}

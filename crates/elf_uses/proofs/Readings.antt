@@ -6,11 +6,13 @@ use Rattle.elf_records.specs.Record.{◌>>=◌}
 use Rattle.elf_records.specs.declared.parse.ParseError.{ParseError}
 use Rattle.elf_records.specs.declared.section.SectionHeader.{SectionHeader}
 use Rattle.elf.specs.Answers.{symbol_version_table}
-use Rattle.elf.specs.ElfStream.{Keeps, Kind, MayRefuse, Seen, kind}
+use Rattle.elf.specs.ElfStream.{Keeps, MayRefuse, Seen}
+use Rattle.elf_reading.specs.Refusals.{Kind, kind}
 use Rattle.elf.specs.Headers.{if_found}
 use Rattle.elf.specs.ObjectFile.{ObjectFile}
 use Rattle.elf.specs.StreamFile.{stream_file}
-use Rattle.elf.specs.Versions.{version_definitions, version_indexes, version_needs, version_sections, versions_of}
+use Rattle.elf.specs.Versions.{version_definitions, version_indexes, version_needs, versions_of}
+use Rattle.elf_reading.specs.Versions.{version_sections}
 use Rattle.elf_uses.specs.Readings.{IsRead, Reads}
 
 -- ---- a stream that keeps its file

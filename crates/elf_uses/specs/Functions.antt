@@ -10,12 +10,13 @@ use Rattle.elf_records.specs.declared.parse.ParseError.{ParseError}
 use Rattle.elf_records.specs.declared.symbol.Symbol.{Symbol}
 use Rattle.elf_uses.specs.declared.functions.Version.{Version}
 
--- a section defines it, it is not local (STB_LOCAL, 0), and it is a function (STT_FUNC, 2) or one that is chosen when
--- the file is loaded (STT_GNU_IFUNC, 10)
+-- it is a function (STT_FUNC, 2) or one that is chosen when the file is loaded (STT_GNU_IFUNC, 10)
+abbrev pub is_function : Symbol → Bool
+is_function s = symbol_type s == stt_func || symbol_type s == stt_gnu_ifunc
+
+-- a section defines it, it is not local (STB_LOCAL, 0), and it is such a function
 abbrev pub is_defined_function : Symbol → Bool
-is_defined_function s =
-    not (s.st_shndx == shn_undef) && not (symbol_binding s == stb_local)
-    && (symbol_type s == stt_func || symbol_type s == stt_gnu_ifunc)
+is_defined_function s = not (s.st_shndx == shn_undef) && not (symbol_binding s == stb_local) && is_function s
 
 -- the first name as text, or why it is none; a version without names is none
 abbrev pub GivesFirst : Bool → List (Result (List ℕ) ParseError) → Result (Option Version) ParseError → Type 0

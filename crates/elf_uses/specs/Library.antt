@@ -13,9 +13,10 @@ use Rattle.elf_parts.specs.gnu_symver.Lists.{ver_defs, ver_needs}
 use Rattle.elf_parts.specs.gnu_symver.Table.{Definitions, Needs, Versions}
 use Rattle.elf.specs.Answers.{dynamic_symbol_table, symbol_version_table}
 use Rattle.elf.specs.Data.{section_data}
-use Rattle.elf.specs.ElfStream.{Headers, MayRefuse, headers_of, kind}
+use Rattle.elf.specs.ElfStream.{Headers, MayRefuse, headers_of}
+use Rattle.elf_reading.specs.Refusals.{kind}
 use Rattle.elf.specs.Headers.{first_section_of}
-use Rattle.elf.specs.Opening.{opened}
+use Rattle.elf_reading.specs.Opening.{opened}
 use Rattle.elf.specs.StreamFile.{listed_file}
 use Rattle.elf.specs.ObjectFile.{ObjectFile}
 use Rattle.elf_binding.specs.Binding.{VersionedObject}

@@ -16,7 +16,8 @@ use Rattle.elf_records.specs.declared.dynamic.Dyn.{Dyn}
 use Rattle.elf_records.specs.declared.parse.ParseError.{ParseError}
 use Rattle.elf_parts.specs.declared.segment.ProgramHeader.{ProgramHeader}
 use Rattle.elf.specs.Answers.{dynamic, segment_data}
-use Rattle.elf.specs.ElfStream.{IsRefused, Keeps, Seen, kind}
+use Rattle.elf.specs.ElfStream.{Keeps, Seen}
+use Rattle.elf_reading.specs.Refusals.{IsRefused, kind}
 use Rattle.elf.specs.ObjectFile.{ObjectFile}
 use Rattle.elf_uses.specs.declared.needed.Name.{Name}
 use Rattle.elf_uses.specs.declared.needed.Names.{Names}

@@ -4,7 +4,7 @@ ghost use Rattle.std.specs.List.{enumerate_from};
 ghost use Rattle.elf_records.specs.Symbol.{symbol_reads};
 ghost use Rattle.elf_parts.specs.gnu_symver.Table.{definition, definition_view};
 ghost use Rattle.elf_parts.specs.Table.{table_items, table_view};
-ghost use Rattle.elf_uses.specs.Functions.{GivesVersion, GivesVersionOf, is_defined_function};
+ghost use Rattle.elf_uses.specs.Functions.{GivesVersion, GivesVersionOf, is_defined_function, is_function};
 
 use elf::endian::EndianParse;
 use elf::gnu_symver::{SymbolDefinition, SymbolVersions};
@@ -20,14 +20,19 @@ pub struct Version<'a> {
     pub hidden: bool,
 }
 
+// Whether the symbol is a function (`STT_FUNC`), or one that is chosen when the file is loaded (`STT_GNU_IFUNC`).
+fn is_function(symbol: &Symbol) -> bool
+    ensures { result ≡ is_function symbol.now }
+{
+    let symtype = symbol.st_symtype();
+    symtype == abi::STT_FUNC || symtype == abi::STT_GNU_IFUNC
+}
+
 /// Whether the symbol is a function that this file defines and other files can call.
 pub fn is_defined_function(symbol: &Symbol) -> bool
     ensures { result ≡ is_defined_function symbol.now }
 {
-    let symtype = symbol.st_symtype();
-    !symbol.is_undefined()
-        && symbol.st_bind() != abi::STB_LOCAL
-        && (symtype == abi::STT_FUNC || symtype == abi::STT_GNU_IFUNC)
+    !symbol.is_undefined() && symbol.st_bind() != abi::STB_LOCAL && is_function(symbol)
 }
 
 /// Returns all such symbols of a table, in order, each with its index. The only error is a failed allocation.

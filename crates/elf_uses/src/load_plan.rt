@@ -1,7 +1,8 @@
 //! What a loader maps into memory, and at which addresses.
 ghost use Rattle.std.specs.Prelude.{◌≡◌, ◌||◌, false, IfErr, IfOk, OnOk, MatchOption, length};
 ghost use Rattle.std.specs.List.{list_any};
-ghost use Rattle.elf.specs.ElfBytes.{segment_list, view};
+ghost use Rattle.elf.specs.ElfBytes.{view};
+ghost use Rattle.elf_reading.specs.Opening.{segment_list};
 ghost use Rattle.elf_uses.specs.LoadPlan.{ApartBefore, IsFirstOverlap, IsPlan, IsTrueOf, LoadableBefore};
 ghost use Rattle.elf_uses.specs.LoadPlan.{fits, is_addressed, lies_in, mapping_of, mappings, meets, overlap};
 ghost use Rattle.elf_uses.specs.inner.Apart.{AreApart};

@@ -28,8 +28,8 @@ use Rattle.elf.specs.ObjectFile.{object_file}
 use Rattle.elf.specs.Headers.{section_at, section_range}
 use Rattle.elf_check.proofs.Reading.{ok_from_some}
 use Rattle.std.proofs.lemmas.Option.{slice_get_within}
-use Rattle.elf.specs.Opening.{first_section, header_at_front, opened, section_count, section_table, segment_count, segment_table, table_bytes}
-use Rattle.elf.specs.ElfBytes.{section_list, segment_list}
+use Rattle.elf_reading.specs.Opening.{first_section, header_at_front, opened, section_count, section_table, segment_count, segment_table, table_bytes}
+use Rattle.elf_reading.specs.Opening.{section_list, segment_list}
 use Rattle.elf_worked.specs.WrittenFiles.{IsWritten, LieAt, NamesLie, SectionsLie, SegmentsLie, TableLies, declared_names, phdr_size, declared_sections, segments_of, declared_segments, shdr_size, written_sections, written_segments, written_view}
 
 -- ---- steps that succeed

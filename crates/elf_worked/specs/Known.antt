@@ -12,8 +12,8 @@ use Rattle.elf_records.specs.declared.section.SectionHeader.{SectionHeader}
 use Rattle.elf_parts.specs.declared.segment.ProgramHeader.{ProgramHeader}
 use Rattle.elf.specs.Names.{name_table}
 use Rattle.elf.specs.ObjectFile.{object_file}
-use Rattle.elf.specs.Opening.{opened}
-use Rattle.elf.specs.ElfBytes.{View}
+use Rattle.elf_reading.specs.Opening.{opened}
+use Rattle.elf_reading.specs.Opening.{View}
 use Rattle.elf_calls.specs.Question.{Question}
 use Rattle.elf_calls.specs.Text.{text}
 use Rattle.elf_worked.specs.Files.{elsewhere, header_of_tables, in_eight, in_four, in_two, loaded_segment}

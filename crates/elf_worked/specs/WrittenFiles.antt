@@ -10,7 +10,7 @@ use Rattle.elf_records.specs.declared.file.Class.TheVariants.{ELF32, ELF64}
 use Rattle.elf_records.specs.declared.file.FileHeader.{FileHeader}
 use Rattle.elf_records.specs.declared.section.SectionHeader.{SectionHeader}
 use Rattle.elf_parts.specs.declared.segment.ProgramHeader.{ProgramHeader}
-use Rattle.elf.specs.ElfBytes.{View}
+use Rattle.elf_reading.specs.Opening.{View}
 
 -- these bytes lie at o
 pub record LieAt (part bytes : List ℕ) (o : ℕ) : Type 0 where

@@ -4,9 +4,11 @@ use Rattle.std.specs.Prelude.{IsErr, IsOk, IsOkAnd}
 use Rattle.std.specs.Io.KnownBytes.{Appends, Keeps as KeepsBytes}
 use Rattle.elf.specs.StreamFile.{stream_file}
 use Rattle.elf.specs.ObjectFile.{object_file}
-use Rattle.elf.specs.Opening.{opened}
-use Rattle.elf.specs.ElfStream.{IsOpening, IsRefused, Kind, MayRefuse, Seen, headers_of, kind}
-use Rattle.elf.specs.ElfBytes.{View, with_header}
+use Rattle.elf_reading.specs.Opening.{opened}
+use Rattle.elf.specs.ElfStream.{IsOpening, MayRefuse, Seen, headers_of}
+use Rattle.elf_reading.specs.Refusals.{IsRefused, Kind, kind}
+use Rattle.elf.specs.ElfBytes.{with_header}
+use Rattle.elf_reading.specs.Opening.{View}
 use Rattle.elf_records.specs.Number.{ok_map}
 use Rattle.elf_records.specs.declared.file.FileHeader.{FileHeader}
 use Rattle.elf_records.specs.declared.parse.ParseError.{ParseError}

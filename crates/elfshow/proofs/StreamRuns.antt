@@ -7,7 +7,8 @@ use Rattle.std.specs.Io.KnownBytes.{Appends, Keeps as KeepsBytes}
 use Rattle.elf.specs.Ranges.{headers_alone}
 use Rattle.elf.specs.StreamFile.{stream_file}
 use Rattle.elf.specs.ObjectFile.{ObjectFile}
-use Rattle.elf.specs.ElfStream.{AreCached, IsRefused, Keeps, Seen, kind}
+use Rattle.elf.specs.ElfStream.{AreCached, Keeps, Seen}
+use Rattle.elf_reading.specs.Refusals.{IsRefused, kind}
 use Rattle.elf_records.specs.declared.file.FileHeader.{FileHeader}
 use Rattle.elf_lines.proofs.Writing.{appends_more}
 use Rattle.elf_calls.specs.Question.{Question, question}

@@ -3,7 +3,7 @@ ghost use Rattle.std.specs.Prelude.{◌≡◌, ◌≢◌, ℕ, All, List, IsOk, 
 ghost use Rattle.std.specs.Io.KnownBytes.{Appends};
 ghost use Rattle.elf.specs.StreamFile.{stream_file};
 ghost use Rattle.elf.specs.ObjectFile.{object_file};
-ghost use Rattle.elf.specs.Opening.{opened};
+ghost use Rattle.elf_reading.specs.Opening.{opened};
 ghost use Rattle.elf.specs.ElfStream.{Keeps, Seen};
 ghost use Rattle.elf_calls.specs.Question.{question};
 ghost use Rattle.elf_calls.specs.Ranges.{TakesNoMemory};

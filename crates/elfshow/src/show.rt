@@ -5,7 +5,7 @@ ghost use Rattle.std.specs.Io.Buffered.{writer_contents, writer_inner};
 ghost use Rattle.std.specs.Io.KnownBytes.{Appends};
 ghost use Rattle.elf_records.specs.Endian.{any_is_little, any_of_byte};
 ghost use Rattle.elf.specs.ObjectFile.{object_file};
-ghost use Rattle.elf.specs.Opening.{opened};
+ghost use Rattle.elf_reading.specs.Opening.{opened};
 ghost use Rattle.elf_calls.specs.Question.{question};
 ghost use Rattle.elf_calls.specs.Text.{text};
 ghost use Rattle.elfshow.specs.Failure.{IsOfFile, run_of, status_of};

@@ -4,8 +4,9 @@ use Rattle.std.specs.Prelude.{◌^◌, Result, Ok, Err, IsErr, is_err, IfOk, IfE
 use Rattle.elf_records.specs.Number.{bytes_at, ok_map}
 use Rattle.elf_records.specs.Record.{◌>>=◌}
 use Rattle.elf_records.specs.declared.parse.ParseError.{ParseError}
-use Rattle.elf.specs.inner.Loads.{HasReason}
-use Rattle.elf.specs.ElfStream.{IsAnswer, Kind, kind}
+use Rattle.elf_reading.specs.Refusals.{HasReason}
+use Rattle.elf.specs.ElfStream.{IsAnswer}
+use Rattle.elf_reading.specs.Refusals.{Kind, kind}
 use Rattle.elf.proofs.stream.Pieces.{read_within, read_past}
 use Rattle.elf.proofs.stream.Steps.{refused_so}
 

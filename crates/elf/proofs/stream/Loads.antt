@@ -4,7 +4,8 @@ use Rattle.std.specs.Prelude.{◌^◌, Result, Ok, Err, IsErr, IsOk, IfErr, is_o
 use Rattle.elf_records.specs.Number.{bytes_at}
 use Rattle.elf_records.specs.declared.parse.ParseError.{ParseError}
 use Rattle.elf_records.specs.declared.parse.ParseError.TheVariants.{OutOfMemory}
-use Rattle.elf.specs.ElfStream.{IsAnswer, IsFor, Kind, kind}
+use Rattle.elf.specs.ElfStream.{IsAnswer, IsFor}
+use Rattle.elf_reading.specs.Refusals.{Kind, kind}
 use Rattle.elf.proofs.stream.Pieces.{read_within, read_past, read_past_64}
 
 pub refused_past_64 : (known : Option (List ℕ)) (start size count : ℕ) → 2 ^ 64 ≤ start + size → IfSome known (λ bytes. (count ≡ count) × IsErr (bytes_at size bytes start))

@@ -7,13 +7,15 @@ use Rattle.elf_records.specs.Record.{◌>>=◌}
 use Rattle.elf_parts.specs.Table.{table_in}
 use Rattle.elf_records.specs.declared.file.FileHeader.{FileHeader}
 use Rattle.elf_records.specs.declared.parse.ParseError.{ParseError}
-use Rattle.elf.specs.Opening.{table_bytes}
-use Rattle.elf.specs.ElfStream.{IsAnswer, kind}
-use Rattle.elf.specs.declared.tables.DeclaredTable.{DeclaredTable}
-use Rattle.elf.specs.declared.source.StreamSource as source
-use Rattle.elf.specs.inner.HeaderSteps.{IsNoAllocationFailure, range_bytes, range_table}
+use Rattle.elf_reading.specs.Opening.{table_bytes}
+use Rattle.elf.specs.ElfStream.{IsAnswer}
+use Rattle.elf_reading.specs.Refusals.{kind}
+use Rattle.elf_reading.specs.declared.tables.DeclaredTable.{DeclaredTable}
+use Rattle.elf_reading.specs.declared.source.StreamSource as source
+use Rattle.elf.specs.inner.HeaderSteps.{range_bytes, range_table}
+use Rattle.elf_reading.specs.Refusals.{IsNoAllocationFailure}
 use Rattle.elf.specs.inner.Reads.{HasLength, Reads, ReadsAs}
-use Rattle.elf.specs.inner.Tables.{declared_count, declared_table}
+use Rattle.elf_reading.specs.Tables.{declared_count, declared_table}
 use Rattle.elf.proofs.stream.Chains.{given}
 use Rattle.elf.proofs.stream.Steps.{refused_so}
 

@@ -10,9 +10,9 @@ use Rattle.elf_records.specs.declared.file.FileHeader.{FileHeader}
 use Rattle.elf_records.specs.declared.parse.ParseError.{ParseError}
 use Rattle.elf_records.specs.declared.section.SectionHeader.{SectionHeader}
 use Rattle.elf_parts.specs.declared.segment.ProgramHeader.{ProgramHeader}
-use Rattle.elf.specs.Opening.{header_at_front, opened, section_table, segment_table}
+use Rattle.elf_reading.specs.Opening.{header_at_front, opened, section_table, segment_table}
 use Rattle.elf.specs.ElfStream.{IsOfFile, Seen}
-use Rattle.elf.specs.ElfBytes.{View, section_list, segment_list}
+use Rattle.elf_reading.specs.Opening.{View, section_list, segment_list}
 use Rattle.elf.specs.inner.HeaderSteps.{range_records, range_table}
 use Rattle.elf.specs.inner.Opened.{AreTables}
 use Rattle.elf.proofs.stream.Chains.{given}

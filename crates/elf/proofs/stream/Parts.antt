@@ -8,7 +8,7 @@ use Rattle.elf_records.specs.declared.file.Class.{Class}
 use Rattle.elf_records.specs.declared.parse.ParseError.{ParseError}
 use Rattle.elf.proofs.stream.Chains.{AreAlike}
 use Rattle.elf.proofs.stream.Pieces.{one_value, read_past, read_within, read_is_within, read_past_64}
-use Rattle.elf.specs.Opening.{table_bytes}
+use Rattle.elf_reading.specs.Opening.{table_bytes}
 use Rattle.elf.specs.inner.HeaderSteps.{range_bytes}
 use Rattle.elf_records.specs.declared.parse.ParseError.TheVariants.{BadEntsize}
 use Rattle.std.proofs.lemmas.Bool.Decides.{nat_tests}

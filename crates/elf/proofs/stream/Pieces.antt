@@ -4,8 +4,8 @@ use Rattle.std.specs.Prelude.{IsTrue, nat_le, ◌^◌, Result, Ok, IsErr, IsOk, 
 use Rattle.std.specs.List.{list_any}
 use Rattle.std.proofs.lemmas.Bool.{and_parts}
 use Rattle.std.proofs.lemmas.List.{take-take, drop-take, drop-drop}
-use Rattle.elf.specs.inner.Piece.{Piece, IsPartOf, covers, range_of, IsOf, IsSound}
-use Rattle.elf.specs.ElfStream.{is_cached}
+use Rattle.elf_reading.specs.Cache.{Piece, IsPartOf, covers, range_of, IsOf, IsSound}
+use Rattle.elf_reading.specs.Cache.{is_cached}
 use Rattle.elf_records.specs.Number.{bytes_at}
 use Rattle.std.proofs.lemmas.Bool.Decides.{nat_tests}
 use Rattle.std.proofs.lemmas.List.Folds.{Any-from_list_any}

@@ -11,10 +11,10 @@ use Rattle.elf_parts.specs.Table.{Table, item_at}
 use Rattle.elf_records.specs.declared.file.Class.{Class}
 use Rattle.elf_records.specs.declared.parse.ParseError.{ParseError}
 use Rattle.elf_records.specs.declared.section.SectionHeader.{SectionHeader}
-use Rattle.elf.specs.ElfStream.{Kind, kind}
-use Rattle.elf.specs.Data.{at_front}
+use Rattle.elf_reading.specs.Refusals.{Kind, kind}
+use Rattle.elf_reading.specs.Leading.{at_front}
 use Rattle.elf.specs.Headers.{section_at}
-use Rattle.elf.specs.inner.HeaderSteps.{IsNoAllocationFailure}
+use Rattle.elf_reading.specs.Refusals.{IsNoAllocationFailure}
 use Rattle.elf.proofs.stream.Chains.{IsPlain}
 
 plain_ok : {A : Type 0} {x : A} → IsPlain (Ok x)

@@ -17,8 +17,9 @@ use Rattle.elf.specs.ObjectFile.{ObjectFile, table_of}
 use Rattle.elf.specs.Headers.{section_range}
 use Rattle.elf.specs.Readers.{AreAlike}
 use Rattle.elf.specs.ElfStream.{AreCached, IsAnswer, Leaves, Seen}
-use Rattle.elf.specs.Versions.{version_definitions, version_needs, version_sections, versions_of}
-use Rattle.elf.specs.declared.headers.VersionSections.{VersionSections}
+use Rattle.elf.specs.Versions.{version_definitions, version_needs, versions_of}
+use Rattle.elf_reading.specs.Versions.{version_sections}
+use Rattle.elf_reading.specs.declared.versions.VersionSections.{VersionSections}
 use Rattle.elf.specs.inner.Loads.{Loads}
 use Rattle.elf.specs.inner.Plans.{definitions_by, needs_by, versions_by_plan, versions_by}
 use Rattle.elf.proofs.Alike.{alike_first, alike_later, alike_map}

@@ -3,7 +3,7 @@ use Rattle.std.proofs.Common.{◌≡◌, ℕ, ◌∙◌, List, IfSome, refl}
 use Rattle.std.specs.Prelude.{Result, Ok, Err}
 use Rattle.elf_records.specs.Record.{◌>>=◌}
 use Rattle.elf_records.specs.declared.parse.ParseError.{ParseError}
-use Rattle.elf.specs.declared.source.StreamSource as source
+use Rattle.elf_reading.specs.declared.source.StreamSource as source
 use Rattle.elf.specs.inner.Reads.{Reads}
 use Rattle.elf.proofs.stream.Chains.{AreAlike, IsPlain, answer_plain, answer_stop, answer_then}
 use Rattle.elf.proofs.stream.Plain.{plain_no_want}

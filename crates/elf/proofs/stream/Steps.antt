@@ -6,9 +6,12 @@ use Rattle.std.proofs.lemmas.List.Folds.{list_any-append}
 use Rattle.elf_records.specs.Number.{bytes_at}
 use Rattle.elf_records.specs.declared.parse.ParseError.{ParseError}
 use Rattle.elf.specs.Ranges.{if_chosen}
-use Rattle.elf.specs.inner.Loads.{HasReason, AreLow, AreThere, Loads}
-use Rattle.elf.specs.ElfStream.{IsAnswer, IsFor, IsNeeded, IsRefused, IsRequested, Kind, is_cached, kind, Seen, AreCached, IsCached, Keeps, Leaves}
-use Rattle.elf.proofs.stream.Cached.{or_true}
+use Rattle.elf.specs.inner.Loads.{AreLow, AreThere, Loads}
+use Rattle.elf_reading.specs.Refusals.{HasReason}
+use Rattle.elf.specs.ElfStream.{IsAnswer, IsFor, IsNeeded, IsRequested, Seen, AreCached, IsCached, Keeps, Leaves}
+use Rattle.elf_reading.specs.Refusals.{IsRefused, Kind, kind}
+use Rattle.elf_reading.specs.Cache.{is_cached}
+use Rattle.elf_reading.proofs.Cached.{or_true}
 use Rattle.elf.proofs.stream.Pieces.{read_is_within}
 
 pub refused_so : (k : Kind) (P Q : Type 0) (before middle now : ℕ) (can_fail : Bool) → (P → Q) → middle ≡ before → IsRefused middle now can_fail P k → IsRefused before now can_fail Q k

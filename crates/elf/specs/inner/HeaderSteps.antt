@@ -7,7 +7,6 @@ use Rattle.elf_records.specs.Record.{◌>>=◌, RecordType, size_of}
 use Rattle.elf_records.specs.declared.file.FileHeader.{FileHeader}
 use Rattle.elf_parts.specs.Table.{Table, table_in, table_items}
 use Rattle.elf_records.specs.declared.parse.ParseError.{ParseError}
-use Rattle.elf.specs.ElfStream.{Kind, AllocationFailure}
 
 -- the identification in the first sixteen bytes
 abbrev pub front_ident : {E : Type 0} → (ℕ → Option E) → List ℕ → Result (Ident E) ParseError
@@ -30,8 +29,3 @@ range_table little h bytes range = table_in (little h.endianness) h.class (range
 abbrev pub range_records : {A : Type 0} → RecordType A → Option Table → List A
 range_records reads None = []
 range_records reads (Some t) = table_items reads t
-
--- an error that is no allocation failure
-abbrev pub IsNoAllocationFailure : Kind → Type 0
-IsNoAllocationFailure AllocationFailure = ⊥
-IsNoAllocationFailure _ = Unit {0}

@@ -1,9 +1,10 @@
 -- What the private calls of a stream leave that load ranges and return no borrow.
-use Rattle.std.specs.Prelude.{◌≡◌, ℕ, ◌+◌, ◌^◌, ◌<◌, ◌⊎◌, Bool, List, [], ◌∷◌, Result, Ok, Err}
+use Rattle.std.specs.Prelude.{◌≡◌, ℕ, ◌+◌, ◌^◌, ◌<◌, ◌⊎◌, List, [], ◌∷◌, Result}
 use Rattle.std.specs.Prelude.{IfSome, IfErr, OnOk, IsOk, IsErr}
 use Rattle.elf_records.specs.Number.{bytes_at}
 use Rattle.elf_records.specs.declared.parse.ParseError.{ParseError}
-use Rattle.elf.specs.ElfStream.{Seen, AreCached, IsCached, IsFor, IsNeeded, IsRefused, IsRequested, Keeps, Kind, kind}
+use Rattle.elf.specs.ElfStream.{Seen, AreCached, IsCached, IsFor, IsNeeded, IsRequested, Keeps}
+use Rattle.elf_reading.specs.Refusals.{HasReason, Kind, kind}
 
 -- none of the ranges ends past 64 bits
 abbrev pub AreLow : List (ℕ × ℕ) → Type 0
@@ -14,11 +15,6 @@ AreLow (r ∷ rs) = (r.0 + r.1 < 2 ^ 64) × AreLow rs
 abbrev pub AreThere : List ℕ → List (ℕ × ℕ) → Type 0
 AreThere bytes [] = Unit {0}
 AreThere bytes (r ∷ rs) = IsOk (bytes_at r.1 bytes r.0) × AreThere bytes rs
-
--- an error has its reason, and an Ok leaves the count of failures
-abbrev pub HasReason : {T : Type 0} → ℕ → ℕ → Bool → Type 0 → Result T ParseError → Type 0
-HasReason before now can_fail none (Ok _) = now ≡ before
-HasReason before now can_fail none (Err e) = IsRefused before now can_fail none (kind e)
 
 -- The same file, no cached range lost, and after an Ok the ranges lie in the content and are cached. No range is cached
 -- that was not cached before and does not lie within one of them. A load fails for a failure of the source or of the

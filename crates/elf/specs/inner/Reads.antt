@@ -1,9 +1,10 @@
 -- What the steps of an opening do that read a source; contracts of private functions speak of it.
 use Rattle.std.specs.Prelude.{◌≡◌, ℕ, List, length, Result, IfErr, IfSome}
 use Rattle.elf_records.specs.declared.parse.ParseError.{ParseError}
-use Rattle.elf.specs.ElfStream.{IsAnswer, kind}
-use Rattle.elf.specs.declared.source.StreamSource as source
-use Rattle.elf.specs.inner.HeaderSteps.{IsNoAllocationFailure}
+use Rattle.elf.specs.ElfStream.{IsAnswer}
+use Rattle.elf_reading.specs.Refusals.{kind}
+use Rattle.elf_reading.specs.declared.source.StreamSource as source
+use Rattle.elf_reading.specs.Refusals.{IsNoAllocationFailure}
 
 -- where the content is known, this is its length
 abbrev pub HasLength : {S : Type 0} → source.Ghosts S → S → ℕ → Type 0

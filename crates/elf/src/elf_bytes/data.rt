@@ -4,14 +4,14 @@ ghost use Rattle.elf_parts.specs.Note.{notes_left};
 ghost use Rattle.elf_records.specs.Number.{ok_map};
 ghost use Rattle.elf_parts.specs.StringTable.{strings_view};
 ghost use Rattle.elf.specs.Answers.{relas_left, rels_left, section_data_as_notes};
-ghost use Rattle.elf.specs.Data.{content_of_type, section_data, data_view};
+ghost use Rattle.elf.specs.Data.{content_of_type, section_data};
+ghost use Rattle.elf_reading.specs.Leading.{data_view};
 ghost use Rattle.elf.specs.Answers.{section_data_as_relas, section_data_as_rels, section_data_as_strtab};
 ghost use Rattle.elf.specs.ObjectFile.{object_file};
 ghost use Rattle.elf.specs.Headers.{section_range};
 ghost use Rattle.elf.specs.ElfBytes.{view};
 
-use super::{ElfBytes, get_bytes};
-use crate::leading::leading_record;
+use super::ElfBytes;
 use elf_abi::abi;
 use elf_parts::compression::CompressionHeader;
 use elf_parts::endian::EndianParse;
@@ -20,6 +20,8 @@ use elf_parts::parse::ParseError;
 use elf_parts::relocation::{RelIterator, RelaIterator};
 use elf_parts::section::SectionHeader;
 use elf_parts::string_table::StringTable;
+use elf_reading::leading::leading_record;
+use elf_reading::opening::get_bytes;
 
 // The bytes in the range of a section header.
 pub(super) fn section_range<'data>(

@@ -1,31 +1,17 @@
 //! Headers by their index, and the first or last ones of a type.
 ghost use Rattle.std.specs.Prelude.{◌≡◌, Some};
 ghost use Rattle.elf_parts.specs.Table.{table_view};
-ghost use Rattle.elf.specs.ElfBytes.{section_list};
-ghost use Rattle.elf.specs.Versions.{version_sections};
+ghost use Rattle.elf_reading.specs.Opening.{section_list};
+ghost use Rattle.elf_reading.specs.Versions.{version_sections};
 
 use super::ElfBytes;
 use crate::headers::{Headers, VersionSections};
 use elf_parts::endian::EndianParse;
 use elf_parts::file::Class;
 use elf_parts::parse::ParseError;
-use elf_parts::section::{SectionHeader, SectionHeaderTable};
+use elf_parts::section::SectionHeader;
 use elf_parts::segment::ProgramHeader;
-
-// The last sections of the three types of version sections, up to the first section that completes the three.
-#[tactic(auto, using(crate::proofs::VersionChoice::found_in_all))]
-fn version_sections<E: EndianParse>(shdrs: SectionHeaderTable<'_, E>) -> VersionSections
-    ensures { result ≡ version_sections (section_list (Some (table_view shdrs.entry))) }
-{
-    let mut found = VersionSections::none();
-    for shdr in shdrs {
-        found = found.with(shdr);
-        if found.are_all() {
-            return found;
-        }
-    }
-    found
-}
+use elf_reading::versions::version_sections_of_table;
 
 impl<'data, E: EndianParse> Headers for ElfBytes<'data, E> {
     ghost use Rattle.elf.specs.ElfBytes.{view};
@@ -60,10 +46,10 @@ impl<'data, E: EndianParse> Headers for ElfBytes<'data, E> {
         self.phdrs?.iter().find(|phdr| phdr.p_type == p_type)
     }
 
-    #[tactic(auto, unfolding(crate::specs::Versions::version_sections))]
+    #[tactic(auto, unfolding(elf_reading::specs::Versions::version_sections))]
     fn version_sections(&self) -> VersionSections {
         match self.shdrs {
-            Some(shdrs) => version_sections(shdrs),
+            Some(shdrs) => version_sections_of_table(shdrs),
             None => VersionSections::none(),
         }
     }

@@ -5,7 +5,8 @@ ghost use Rattle.elf_parts.specs.Table.{table_view};
 ghost use Rattle.elf.specs.Answers.{first_named, section_header_by_name};
 ghost use Rattle.elf.specs.Names.{beside, name_table, named_view};
 ghost use Rattle.elf.specs.ObjectFile.{object_file};
-ghost use Rattle.elf.specs.ElfBytes.{section_list, view};
+ghost use Rattle.elf.specs.ElfBytes.{view};
+ghost use Rattle.elf_reading.specs.Opening.{section_list};
 
 use super::ElfBytes;
 use super::data::section_range;

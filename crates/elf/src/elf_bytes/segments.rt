@@ -6,12 +6,13 @@ ghost use Rattle.elf.specs.Answers.{segment_data, segment_data_as_notes};
 ghost use Rattle.elf.specs.ObjectFile.{object_file};
 ghost use Rattle.elf.specs.ElfBytes.{view};
 
-use super::{ElfBytes, get_bytes};
+use super::ElfBytes;
 use elf_abi::abi;
 use elf_parts::endian::EndianParse;
 use elf_parts::note::NoteIterator;
 use elf_parts::parse::ParseError;
 use elf_parts::segment::ProgramHeader;
+use elf_reading::opening::get_bytes;
 
 impl<'data, E: EndianParse> ElfBytes<'data, E> {
     /// Returns the bytes of a segment in the file: `p_filesz` bytes from `p_offset` on (gABI, chapter "Program

@@ -6,17 +6,17 @@ ghost use Rattle.elf_records.specs.Number.{ok_map};
 ghost use Rattle.elf_parts.specs.StringTable.{strings_view};
 ghost use Rattle.elf_parts.specs.Table.{items_left, table_items};
 ghost use Rattle.elf.specs.Answers.{relas_left, rels_left, section_data_as_notes};
-ghost use Rattle.elf.specs.Data.{content, content_of_type, section_data, data_view};
+ghost use Rattle.elf.specs.Data.{content, content_of_type, section_data};
+ghost use Rattle.elf_reading.specs.Leading.{data_view};
 ghost use Rattle.elf.specs.Answers.{section_data_as_relas, section_data_as_rels, section_data_as_strtab};
 ghost use Rattle.elf.specs.Ranges.{section_ranges, typed_section_ranges};
 ghost use Rattle.elf.specs.StreamFile.{stream_file};
 ghost use Rattle.elf.specs.ObjectFile.{table_of};
-ghost use Rattle.elf.specs.ElfStream.{AreCached, Kind, kind};
+ghost use Rattle.elf.specs.ElfStream.{AreCached};
+ghost use Rattle.elf_reading.specs.Refusals.{Kind, kind};
 ghost use Rattle.elf.specs.inner.Loads.{AreLow, Loads, LoadsFor};
 
 use super::ElfStream;
-use crate::leading::leading_record;
-use crate::source::StreamSource;
 use elf_abi::abi;
 use elf_parts::compression::CompressionHeader;
 use elf_parts::endian::EndianParse;
@@ -25,6 +25,8 @@ use elf_parts::parse::{ParseAt, ParseError, ParsingIterator};
 use elf_parts::relocation::{Rel, RelIterator, Rela, RelaIterator};
 use elf_parts::section::SectionHeader;
 use elf_parts::string_table::StringTable;
+use elf_reading::leading::leading_record;
+use elf_reading::source::StreamSource;
 use std::alloc::Allocator;
 
 impl<E: EndianParse, S: StreamSource, A: Allocator + Copy> ElfStream<E, S, A> {

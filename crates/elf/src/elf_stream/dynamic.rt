@@ -11,18 +11,19 @@ ghost use Rattle.elf.specs.Ranges.{dynamic_ranges, headers_alone, if_there, sect
 ghost use Rattle.elf.specs.Ranges.{segment_ranges};
 ghost use Rattle.elf.specs.Headers.{first_section_of, first_segment_of, if_found};
 ghost use Rattle.elf.specs.StreamFile.{stream_file};
-ghost use Rattle.elf.specs.ElfStream.{AreCached, Kind, kind};
+ghost use Rattle.elf.specs.ElfStream.{AreCached};
+ghost use Rattle.elf_reading.specs.Refusals.{Kind, kind};
 ghost use Rattle.elf.specs.inner.Loads.{AreLow, LoadsFor};
 
 use super::ElfStream;
 use crate::headers::Headers;
-use crate::source::StreamSource;
 use elf_abi::abi;
 use elf_parts::dynamic::{Dyn, DynamicTable};
 use elf_parts::endian::EndianParse;
 use elf_parts::parse::{ParseAt, ParseError};
 use elf_parts::section::SectionHeader;
 use elf_parts::segment::ProgramHeader;
+use elf_reading::source::StreamSource;
 use std::alloc::Allocator;
 
 impl<E: EndianParse, S: StreamSource, A: Allocator + Copy> ElfStream<E, S, A> {

@@ -1,31 +1,17 @@
 //! Headers by their index, and the first or last ones of a type.
 ghost use Rattle.std.specs.Prelude.{◌≡◌};
-ghost use Rattle.elf.specs.Versions.{version_sections};
+ghost use Rattle.elf_reading.specs.Versions.{version_sections};
 
 use super::ElfStream;
 use crate::headers::{Headers, VersionSections};
-use crate::source::StreamSource;
 use elf_parts::endian::EndianParse;
 use elf_parts::file::Class;
 use elf_parts::parse::ParseError;
 use elf_parts::section::SectionHeader;
 use elf_parts::segment::ProgramHeader;
+use elf_reading::source::StreamSource;
+use elf_reading::versions::version_sections_of_list;
 use std::alloc::Allocator;
-
-// The last sections of the three types of version sections, up to the first section that completes the three.
-#[tactic(auto, using(crate::proofs::VersionChoice::found_in_all))]
-fn version_sections(shdrs: &[SectionHeader]) -> VersionSections
-    ensures { result ≡ version_sections shdrs.now }
-{
-    let mut found = VersionSections::none();
-    for shdr in shdrs {
-        found = found.with(*shdr);
-        if found.are_all() {
-            return found;
-        }
-    }
-    found
-}
 
 impl<E: EndianParse, S: StreamSource, A: Allocator + Copy> Headers for ElfStream<E, S, A> {
     ghost use Rattle.elf.specs.Ranges.{headers_alone};
@@ -66,6 +52,6 @@ impl<E: EndianParse, S: StreamSource, A: Allocator + Copy> Headers for ElfStream
     }
 
     fn version_sections(&self) -> VersionSections {
-        version_sections(&self.shdrs)
+        version_sections_of_list(&self.shdrs)
     }
 }

@@ -10,11 +10,11 @@ ghost use Rattle.elf.specs.Headers.{section_range};
 
 use super::ElfStream;
 use crate::headers::{Headers, has_name};
-use crate::source::StreamSource;
 use elf_parts::endian::EndianParse;
 use elf_parts::parse::ParseError;
 use elf_parts::section::SectionHeader;
 use elf_parts::string_table::{StringTable, TerminatedStrings};
+use elf_reading::source::StreamSource;
 use std::alloc::Allocator;
 
 // The first section header with a name.

@@ -1,28 +1,30 @@
 //! Reading the headers of a file from a source. Memory is allocated only for tables that lie in the source.
 ghost use Rattle.std.specs.Prelude.{◌≡◌, ℕ, ◌≤◌, Bool, List, Ok, IfOk, IfErr, IfSome, length};
 ghost use Rattle.std.specs.Option.{option_map};
-ghost use Rattle.elf.specs.Opening.{first_section, header_at_front, section_table, segment_table, table_bytes};
+ghost use Rattle.elf_reading.specs.Opening.{first_section, header_at_front, section_table, segment_table, table_bytes};
 ghost use Rattle.elf_records.specs.File.{tail_fields};
 ghost use Rattle.elf_records.specs.Number.{bytes_at};
 ghost use Rattle.elf_records.specs.Record.{size_by, size_of};
 ghost use Rattle.elf_records.specs.Section.{section_header_layout};
 ghost use Rattle.elf_parts.specs.Table.{table_items, table_view};
-ghost use Rattle.elf.specs.ElfStream.{IsAnswer, kind};
-ghost use Rattle.elf.specs.inner.HeaderSteps.{IsNoAllocationFailure, front_ident, range_bytes, range_records};
+ghost use Rattle.elf.specs.ElfStream.{IsAnswer};
+ghost use Rattle.elf_reading.specs.Refusals.{kind};
+ghost use Rattle.elf.specs.inner.HeaderSteps.{front_ident, range_bytes, range_records};
+ghost use Rattle.elf_reading.specs.Refusals.{IsNoAllocationFailure};
 ghost use Rattle.elf.specs.inner.HeaderSteps.{range_table};
 ghost use Rattle.elf.specs.inner.HeaderSteps.{tail_header};
 ghost use Rattle.elf.specs.inner.Reads.{HasLength, Reads, ReadsAs};
-ghost use Rattle.elf.specs.inner.Tables.{declared_count, declared_table};
+ghost use Rattle.elf_reading.specs.Tables.{declared_count, declared_table};
 
-use super::reads::{fetch, read_at};
-use crate::source::StreamSource;
-use crate::tables::DeclaredTable;
 use elf_abi::abi::EI_NIDENT;
 use elf_parts::endian::EndianParse;
 use elf_parts::file::{Class, ELF32_EHDR_TAILSIZE, ELF64_EHDR_TAILSIZE, FileHeader, parse_ident};
 use elf_parts::parse::{ParseAt, ParseError, ParsingTable};
 use elf_parts::section::SectionHeader;
 use elf_parts::segment::ProgramHeader;
+use elf_reading::reads::{fetch, read_at};
+use elf_reading::source::StreamSource;
+use elf_reading::tables::DeclaredTable;
 use std::alloc::{AllocError, Allocator};
 
 // The sizes of a section header in bytes (gABI, chapter "Sections").
@@ -199,7 +201,7 @@ fn locate<P: ParseAt, E: EndianParse, S: StreamSource>(
 }
 
 /// The start and the end of the section headers, or `None` if the file declares none.
-#[tactic(auto, unfolding(crate::specs::Opening::section_table))]
+#[tactic(auto, unfolding(elf_reading::specs::Opening::section_table))]
 pub(super) fn locate_shdrs<E: EndianParse, S: StreamSource>(
     source: &mut S,
     len: u64,
@@ -214,7 +216,7 @@ pub(super) fn locate_shdrs<E: EndianParse, S: StreamSource>(
 }
 
 /// The start and the end of the program headers, or `None` if the file declares none.
-#[tactic(auto, unfolding(crate::specs::Opening::segment_table))]
+#[tactic(auto, unfolding(elf_reading::specs::Opening::segment_table))]
 pub(super) fn locate_phdrs<E: EndianParse, S: StreamSource>(
     source: &mut S,
     len: u64,

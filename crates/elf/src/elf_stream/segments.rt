@@ -9,12 +9,12 @@ ghost use Rattle.elf.specs.ElfStream.{AreCached};
 ghost use Rattle.elf.specs.inner.Loads.{AreLow};
 
 use super::ElfStream;
-use crate::source::StreamSource;
 use elf_abi::abi;
 use elf_parts::endian::EndianParse;
 use elf_parts::note::NoteIterator;
 use elf_parts::parse::ParseError;
 use elf_parts::segment::ProgramHeader;
+use elf_reading::source::StreamSource;
 use std::alloc::Allocator;
 
 impl<E: EndianParse, S: StreamSource, A: Allocator + Copy> ElfStream<E, S, A> {

@@ -11,13 +11,13 @@ ghost use Rattle.elf.specs.inner.Loads.{AreLow, Loads};
 
 use super::ElfStream;
 use crate::headers::Headers;
-use crate::source::StreamSource;
 use elf_abi::abi;
 use elf_parts::endian::EndianParse;
 use elf_parts::parse::ParseError;
 use elf_parts::section::SectionHeader;
 use elf_parts::string_table::StringTable;
 use elf_parts::symbol::SymbolTable;
+use elf_reading::source::StreamSource;
 use std::alloc::Allocator;
 
 impl<E: EndianParse, S: StreamSource, A: Allocator + Copy> ElfStream<E, S, A> {

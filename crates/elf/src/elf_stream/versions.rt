@@ -4,7 +4,8 @@ ghost use Rattle.elf.specs.Answers.{symbol_version_table};
 ghost use Rattle.elf.specs.Ranges.{headers_alone, whole_section, both_sections, if_there, plan_ranges, version_plan};
 ghost use Rattle.elf.specs.Ranges.{versions_ranges, with_link};
 ghost use Rattle.elf.specs.StreamFile.{stream_file};
-ghost use Rattle.elf.specs.ElfStream.{AreCached, Kind, kind};
+ghost use Rattle.elf.specs.ElfStream.{AreCached};
+ghost use Rattle.elf_reading.specs.Refusals.{Kind, kind};
 ghost use Rattle.elf.specs.inner.Loads.{AreLow, Loads};
 ghost use Rattle.elf.specs.Headers.{if_found};
 ghost use Rattle.std.specs.Option.{option_map};
@@ -13,7 +14,6 @@ ghost use Rattle.elf.specs.inner.Plans.{definitions_by, needs_by, versions_by_pl
 
 use super::ElfStream;
 use crate::headers::{Headers, LinkedSections};
-use crate::source::StreamSource;
 use elf_parts::endian::EndianParse;
 use elf_parts::gnu_symver::{
     SymbolVersionTable, VerDefIterator, VerNeedIterator, VersionIndex, VersionIndexTable,
@@ -21,6 +21,7 @@ use elf_parts::gnu_symver::{
 use elf_parts::parse::{ParseAt, ParseError};
 use elf_parts::section::SectionHeader;
 use elf_parts::string_table::StringTable;
+use elf_reading::source::StreamSource;
 use std::alloc::Allocator;
 
 // The section of the version indexes, that of the needs and that of the definitions, the last two with the sections of

@@ -1,7 +1,8 @@
 //! Which sections are taken, where there are several.
 ghost use Rattle.std.specs.Prelude.{◌≡◌, [], ◌∷◌, Some, None};
-ghost use Rattle.elf.specs.Headers.{first_section_of, last_section_of};
-ghost use Rattle.elf.specs.Versions.{version_sections};
+ghost use Rattle.elf.specs.Headers.{first_section_of};
+ghost use Rattle.elf_reading.specs.Versions.{last_section_of};
+ghost use Rattle.elf_reading.specs.Versions.{version_sections};
 ghost use Rattle.elf_worked.specs.Objects.{definitions_at, indexes_at, needs_at};
 
 /// Of the three types of sections of versions the last of each is taken, among those up to the first section by which

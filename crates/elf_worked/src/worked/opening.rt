@@ -1,5 +1,5 @@
 //! Files as they are opened: headers, tables and names.
-#![tactic(auto, unfolding(elf_records::specs::Number::bytes_at, elf_records::specs::Number::number_at, elf_records::specs::Record::numbers_at, elf_records::specs::File::ident_of, elf::specs::Opening::header_at_front, elf::specs::Opening::section_table, elf::specs::Opening::segment_table, elf::specs::Names::name_section, elf::specs::Names::name_table))]
+#![tactic(auto, unfolding(elf_records::specs::Number::bytes_at, elf_records::specs::Number::number_at, elf_records::specs::Record::numbers_at, elf_records::specs::File::ident_of, elf_reading::specs::Opening::header_at_front, elf_reading::specs::Opening::section_table, elf_reading::specs::Opening::segment_table, elf::specs::Names::name_section, elf::specs::Names::name_table))]
 
 ghost use Rattle.std.specs.Prelude.{◌≡◌, [], ◌∷◌, ◌++◌, true, false, None, Some, Ok, Err, length, take};
 ghost use Rattle.elf_records.specs.Number.{ok_map};
@@ -11,7 +11,7 @@ ghost use Rattle.elf_records.specs.declared.file.Class.TheVariants.{ELF32, ELF64
 ghost use Rattle.elf_records.specs.declared.parse.ParseError.TheVariants.{BadEntsize, BadMagic};
 ghost use Rattle.elf_records.specs.declared.parse.ParseError.TheVariants.{BadOffset, IntegerOverflow};
 ghost use Rattle.elf_records.specs.declared.parse.ParseError.TheVariants.{SliceReadError, UnsupportedElfEndianness};
-ghost use Rattle.elf.specs.Opening.{opened};
+ghost use Rattle.elf_reading.specs.Opening.{opened};
 ghost use Rattle.elf.specs.Headers.{section_at};
 ghost use Rattle.elf_worked.specs.Files.{compressed_section, counted_by_info, counted_by_size, elsewhere};
 ghost use Rattle.elf_worked.specs.Files.{header_as_section, header_of_tables, in_eight, in_four};

@@ -6,8 +6,8 @@ ghost use Rattle.elf_records.specs.declared.section.SectionHeader.{SectionHeader
 ghost use Rattle.elf_parts.specs.declared.segment.ProgramHeader.{ProgramHeader};
 ghost use Rattle.elf.specs.Names.{name_table};
 ghost use Rattle.elf.specs.ObjectFile.{object_file};
-ghost use Rattle.elf.specs.Opening.{opened};
-ghost use Rattle.elf.specs.ElfBytes.{section_list, segment_list};
+ghost use Rattle.elf_reading.specs.Opening.{opened};
+ghost use Rattle.elf_reading.specs.Opening.{section_list, segment_list};
 ghost use Rattle.elf_worked.specs.Files.{two_names, two_sections};
 ghost use Rattle.elf_worked.specs.Known.{extended_file, extended_header, extended_section, extended_segment};
 ghost use Rattle.elf_worked.specs.Known.{names_header, null_header, two_header_with};

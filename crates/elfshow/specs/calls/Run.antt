@@ -1,7 +1,7 @@
 -- What a run of calls over a stream writes, and why it stops.
 use Rattle.std.specs.Prelude.{◌≡◌, ℕ, ◌<◌, Bool, List, length, take, Option, Result, Ok, Err}
 use Rattle.std.specs.Io.KnownBytes.{Appends}
-use Rattle.elf.specs.ElfStream.{IsRefused, kind}
+use Rattle.elf_reading.specs.Refusals.{IsRefused, kind}
 use Rattle.elfshow.specs.declared.calls.RunError.{RunError}
 use Rattle.elfshow.specs.declared.calls.RunError.TheVariants.{Fault, Open, Write}
 

@@ -2,7 +2,8 @@ use Rattle.std.proofs.Common.{refl, sym, ◌∙◌}
 use Rattle.elf_calls.proofs.StreamCalls.{section_refused, section_written}
 use Rattle.elf.specs.Ranges.{section_ranges}
 use Rattle.elf_calls.specs.Question.{Data}
-use Rattle.elf.specs.Data.{section_data, data_view}
+use Rattle.elf.specs.Data.{section_data}
+use Rattle.elf_reading.specs.Leading.{data_view}
 use Rattle.elf_lines.specs.Data.{section_data_line}
 use Rattle.elf_calls.proofs.stream.write_data.Goals as goal
 

@@ -1,11 +1,13 @@
 use denote.Ref.{Bor}
 use Rattle.std.proofs.Common.{◌≡◌, List, ℕ, Ok, Option, sym, subst, IfSome}
 use Rattle.elf_records.specs.declared.compression.CompressionHeader.{CompressionHeader}
-use Rattle.elf.specs.Data.{data_view, section_data}
-use Rattle.elf.specs.ElfBytes.{View, with_header}
+use Rattle.elf.specs.Data.{section_data}
+use Rattle.elf_reading.specs.Leading.{data_view}
+use Rattle.elf.specs.ElfBytes.{with_header}
+use Rattle.elf_reading.specs.Opening.{View}
 use Rattle.elf.specs.ElfStream.{IsAnswer}
 use Rattle.elf.specs.ObjectFile.{object_file}
-use Rattle.elf.specs.Opening.{opened}
+use Rattle.elf_reading.specs.Opening.{opened}
 use Rattle.elf.specs.Readers.{SameAnswers}
 use Rattle.elf.specs.StreamFile.{stream_file}
 use Rattle.elf_examples.specs.Copies.{IsSectionOf}

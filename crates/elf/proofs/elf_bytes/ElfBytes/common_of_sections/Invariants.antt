@@ -3,7 +3,7 @@ use Rattle.elf.specs.Common.{common_of_sections, common_view}
 use Rattle.elf.specs.ObjectFile.{object_file}
 use Rattle.elf.specs.ElfBytes.{view}
 use Rattle.elf.proofs.CommonPass.{common_in}
-use Rattle.elf.proofs.Left.{sections_left}
+use Rattle.elf_reading.proofs.Left.{sections_left}
 use Rattle.elf.proofs.elf_bytes.ElfBytes.common_of_sections.Given as goal
 
 -- with what is found in the sections that are left, it is what is to be found

@@ -1,5 +1,5 @@
 use Rattle.std.proofs.Common.{map}
-use Rattle.elf.specs.inner.Piece.{range_of}
+use Rattle.elf_reading.specs.Cache.{range_of}
 use Rattle.elf.proofs.stream.Opened.{of_file}
 use Rattle.elf.proofs.elf_stream.ElfStream.is_of_file.Goals as goal
 

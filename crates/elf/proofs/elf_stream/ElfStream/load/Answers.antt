@@ -1,7 +1,7 @@
 use Rattle.std.proofs.Common.{rules, arith, length, ◌≡◌, ◌<◌, ◌+◌, ◌-◌, refl}
 use Rattle.std.specs.Prelude.{◌^◌}
 use Rattle.elf.proofs.stream.Loads.{refused_past_64, refused_past, load_answered, needed_there, refused_for}
-use Rattle.elf.proofs.stream.Cached.{sound_put, cached_put, loaded_put, only_put}
+use Rattle.elf_reading.proofs.Cached.{sound_put, cached_put, loaded_put, only_put}
 use Rattle.elf.proofs.stream.Pieces.{sound_cached}
 use Rattle.elf.proofs.elf_stream.ElfStream.load.Goals as goal
 

@@ -2,7 +2,7 @@ use Rattle.std.proofs.Common.{rules, ℕ, List, Option}
 use Rattle.std.specs.Option.{option_map}
 use Rattle.elf_records.specs.Section.{section_header_reads}
 use Rattle.elf_parts.specs.Segment.{program_header_reads}
-use Rattle.elf.specs.Opening.{header_at_front, section_table, segment_table}
+use Rattle.elf_reading.specs.Opening.{header_at_front, section_table, segment_table}
 use Rattle.elf.specs.inner.HeaderSteps.{range_records, range_table}
 use Rattle.elf.proofs.stream.Opened.{all_found, ok_of, tables, value_of}
 use Rattle.elf.proofs.elf_stream.ElfStream.open_stream.Goals as goal

@@ -1,6 +1,7 @@
 use Rattle.std.proofs.lemmas.Result.{err_from_is_err_and}
 use Rattle.std.proofs.Common.{refl}
-use Rattle.elf.specs.Data.{section_data, data_view}
+use Rattle.elf.specs.Data.{section_data}
+use Rattle.elf_reading.specs.Leading.{data_view}
 use Rattle.elf.specs.Ranges.{section_ranges}
 use Rattle.elf.specs.StreamFile.{stream_file}
 use Rattle.elf.proofs.stream.Lent.{section_data_needs}

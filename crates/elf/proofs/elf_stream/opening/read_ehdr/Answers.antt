@@ -1,5 +1,5 @@
 use Rattle.std.proofs.lemmas.Result.{err_from_is_err_and}
-use Rattle.elf.specs.Opening.{header_at_front}
+use Rattle.elf_reading.specs.Opening.{header_at_front}
 use Rattle.elf_records.specs.File.{ident_of}
 use Rattle.elf_records.specs.Number.{bytes_at}
 use Rattle.elf_records.specs.Record.{◌>>=◌}

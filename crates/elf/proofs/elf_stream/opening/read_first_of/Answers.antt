@@ -1,6 +1,6 @@
 use Rattle.std.proofs.Common.{Bool, refl, arith}
 use Rattle.std.proofs.lemmas.Result.{err_from_is_err_and}
-use Rattle.elf.specs.Opening.{first_section}
+use Rattle.elf_reading.specs.Opening.{first_section}
 use Rattle.elf_records.specs.Number.{bytes_at}
 use Rattle.elf_records.specs.Record.{record_by}
 use Rattle.elf_records.specs.inner.RecordLaws.{wherever_by}

@@ -6,7 +6,8 @@ use Rattle.elf.specs.Answers.{symbol_version_table}
 use Rattle.elf.specs.Headers.{if_found}
 use Rattle.elf.specs.ObjectFile.{ObjectFile}
 use Rattle.elf.specs.StreamFile.{stream_file}
-use Rattle.elf.specs.Versions.{version_definitions, version_needs, version_sections}
+use Rattle.elf.specs.Versions.{version_definitions, version_needs}
+use Rattle.elf_reading.specs.Versions.{version_sections}
 use Rattle.elf_uses.specs.Library.{definitions_in, needs_in, versions_in}
 use Rattle.elf_uses.proofs.Readings.{definitions_refused, keeps_then, needs_refused, reads_behind, same_file, stopped}
 use Rattle.elf_uses.proofs.bindings.reading.read_versions.Goals as goal

@@ -1,5 +1,5 @@
 use Rattle.std.proofs.Common.{refl}
-use Rattle.elf.specs.Opening.{header_at_front, section_table, segment_table}
+use Rattle.elf_reading.specs.Opening.{header_at_front, section_table, segment_table}
 use Rattle.elf.specs.Data.{section_data}
 use Rattle.elf_records.specs.File.{ident_of}
 use Rattle.elf_records.specs.Number.{bytes_at, number_at}

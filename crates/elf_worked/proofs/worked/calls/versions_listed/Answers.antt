@@ -1,6 +1,6 @@
 use Rattle.std.proofs.Common.{refl}
-use Rattle.elf.specs.Opening.{header_at_front, section_table, segment_table}
-use Rattle.elf.specs.Versions.{version_sections}
+use Rattle.elf_reading.specs.Opening.{header_at_front, section_table, segment_table}
+use Rattle.elf_reading.specs.Versions.{version_sections}
 use Rattle.elf_records.specs.File.{ident_of}
 use Rattle.elf_parts.specs.gnu_symver.Links.{links_in}
 use Rattle.elf_records.specs.Number.{bytes_at, number_at}

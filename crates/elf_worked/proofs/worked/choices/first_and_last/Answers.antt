@@ -1,5 +1,5 @@
 use Rattle.std.proofs.Common.{refl}
-use Rattle.elf.specs.Versions.{version_sections}
+use Rattle.elf_reading.specs.Versions.{version_sections}
 use Rattle.elf_worked.proofs.worked.choices.first_and_last.Goals as goal
 
 pub returns-clause-first : goal.returns-clause-first

@@ -1,5 +1,5 @@
 use Rattle.std.proofs.Common.{refl}
-use Rattle.elf.specs.Versions.{version_sections}
+use Rattle.elf_reading.specs.Versions.{version_sections}
 use Rattle.elf_worked.proofs.worked.choices.version_sections_taken.Goals as goal
 
 pub returns-clause-in_order : goal.returns-clause-in_order

@@ -2,7 +2,7 @@ use Rattle.std.proofs.Common.{refl}
 use Rattle.elf_records.specs.Number.{bytes_at, number_at}
 use Rattle.elf_records.specs.Record.{numbers_at}
 use Rattle.elf_records.specs.File.{ident_of}
-use Rattle.elf.specs.Opening.{header_at_front, section_table}
+use Rattle.elf_reading.specs.Opening.{header_at_front, section_table}
 use Rattle.elf_worked.proofs.worked.text.no_file_listed.Goals as goal
 
 pub returns-clause-fifteen : goal.returns-clause-fifteen

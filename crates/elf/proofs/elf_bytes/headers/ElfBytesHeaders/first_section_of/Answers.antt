@@ -4,8 +4,9 @@ use Rattle.std.proofs.lemmas.Iterator.Consumers.{YieldsList-from_first}
 use Rattle.std.proofs.lemmas.Iterator.Search.{find_from_yields_List}
 use Rattle.elf_parts.specs.Table.{items_left, table_items, table_view}
 use Rattle.elf_records.specs.Section.{section_header_reads}
-use Rattle.elf.specs.ElfBytes.{section_list}
-use Rattle.elf.specs.Headers.{first_section_of, is_of_type}
+use Rattle.elf_reading.specs.Opening.{section_list}
+use Rattle.elf.specs.Headers.{first_section_of}
+use Rattle.elf_reading.specs.Versions.{is_of_type}
 use Rattle.elf.proofs.elf_bytes.headers.ElfBytesHeaders.first_section_of.Goals as goal
 
 pub returns : goal.returns

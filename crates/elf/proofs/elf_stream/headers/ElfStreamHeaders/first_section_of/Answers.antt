@@ -1,7 +1,7 @@
 use Rattle.std.proofs.Common.{◌∙◌, ap, rules, tests}
 use Rattle.std.proofs.lemmas.Iterator.{YieldsList-from_slice}
 use Rattle.std.proofs.lemmas.Iterator.Search.{find_from_yields_List}
-use Rattle.elf.specs.Headers.{is_of_type}
+use Rattle.elf_reading.specs.Versions.{is_of_type}
 use Rattle.elf.proofs.elf_stream.headers.ElfStreamHeaders.first_section_of.Goals as goal
 
 pub returns : goal.returns

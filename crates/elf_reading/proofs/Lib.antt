@@ -1,0 +1,4 @@
+pub mod Left
+mod VersionChoice
+pub mod Cached
+mod Filling

@@ -1,0 +1,129 @@
+//! The parts of a source that are cached.
+ghost use Rattle.std.specs.Prelude.{◌≡◌, [], ◌∷◌, ◌≤◌, ◌<◌, ◌+◌, ◌^◌, length, map};
+ghost use Rattle.std.specs.Prelude.{false, not, nat_lt, is_some, IsSome, IsTrue, IfSome, IfNone, OnOk, IfErr, ℕ};
+ghost use Rattle.std.specs.List.{filter, All, AllPairs, Contains};
+ghost use Rattle.std.specs.BTreeMap.{get_by};
+ghost use Rattle.std.specs.Ordering.{nat_cmp};
+ghost use Rattle.elf_reading.specs.Cache.{Piece, AreSpread, IsPartOf, IsPut, covers, end_of, is_within, piece_of};
+ghost use Rattle.elf_reading.specs.Cache.{range_of};
+ghost use Rattle.elf_reading.specs.Cache.{is_cached};
+ghost use Rattle.elf_records.specs.declared.parse.ParseError.{ParseError};
+
+use elf_parts::parse::ParseError;
+use std::alloc::Allocator;
+use std::collections::BTreeMap;
+use std::marker::Model;
+use std::ops::Bound;
+
+/// The cached parts of a source, by their starts. None lies within another, so a look-up examines only one of them.
+#[derive(Drop)]
+pub struct Cache<A: Allocator> {
+    buffers: BTreeMap<u64, Vec<u8, A>, A>,
+}
+
+impl<A: Allocator> Model for Cache<A> {
+    ghost use Rattle.std.specs.Prelude.{List, map};
+    ghost use Rattle.elf_reading.specs.Cache.{Piece, AreSpread, piece_of};
+
+    ghost Value = { List Piece };
+
+    ghost view = { λ c. map (piece_of (λ v. v.items)) c.buffers.entries };
+
+    ghost invariant = { λ c. AreSpread (λ v. v.items) c.buffers.entries };
+}
+
+impl<A: Allocator> Cache<A> {
+    /// An empty cache.
+    pub fn new(alloc: A) -> Self
+        ensures { result ≡ [] }
+    {
+        Cache {
+            buffers: BTreeMap::new(alloc),
+        }
+    }
+
+    /// Whether one buffer has all bytes from `start` to `end`.
+    pub fn holds(&self, start: u64, end: u64) -> bool
+        ensures { result ≡ is_cached (map range_of self.now) start end }
+    {
+        self.find(start, end).is_some()
+    }
+
+    // The buffer that has all bytes from `start` to `end`. Of the buffers that start at or before `start` the last one
+    // also ends last, so no other buffer can have them.
+    fn find(&self, start: u64, end: u64) -> Option<(u64, &[u8])>
+        ensures cached { is_some result ≡ is_cached (map range_of self.now) start end }
+        ensures covers { IfSome result (λ r. Contains self.now (record { start = r.0; bytes = r.1.now })
+            × IsTrue (covers start end (record { start = r.0; bytes = r.1.now }))) }
+    {
+        let (from, bytes) = self.buffers.range(..=start).next_back()?;
+        if end.saturating_sub(*from) <= bytes.len() as u64 {
+            return Some((*from, bytes));
+        }
+        None
+    }
+
+    /// The bytes from `start` to `end`, which must lie in one buffer.
+    pub fn bytes(&self, start: u64, end: u64) -> &[u8]
+        requires ordered { start ≤ end }
+        requires cached { IsTrue (is_cached (map range_of self.now) start end) }
+        ensures { IsPartOf self.now start end result.now }
+    {
+        match self.find(start, end) {
+            Some((from, bytes)) => &bytes[(start - from) as usize..(end - from) as usize],
+            None => unreachable!(),
+        }
+    }
+
+    /// Caches a buffer whose range is not cached yet, and drops the buffers that lie within it. Each buffer is dropped
+    /// at most once, so the amortized cost of a call is logarithmic in the number of buffers. The only error is
+    /// `OutOfMemory`, and it leaves the cache as it was.
+    pub fn put(&mut self, start: u64, bytes: Vec<u8, A>) -> Result<(), ParseError>
+    where
+        A: Copy,
+        requires low { start + length bytes.items < 2 ^ 64 }
+        requires new { is_cached (map range_of self.old) start (start + length bytes.items) ≡ false }
+        ensures put { OnOk result (IsPut (record { start = start; bytes = bytes.items }) self.old self.new) }
+        ensures refused { IfErr result (λ e. (e ≡ ParseError.OutOfMemory) × (self.new ≡ self.old)) }
+    {
+        let end = start + bytes.len() as u64;
+        if self.buffers.insert(start, bytes).is_err() {
+            return Err(ParseError::OutOfMemory);
+        }
+        take_within(&mut self.buffers, start, end);
+        Ok(())
+    }
+}
+
+// Drops the buffers that start behind `start` and end at or before `end`.
+fn take_within<A: Allocator>(buffers: &mut BTreeMap<u64, Vec<u8, A>, A>, start: u64, end: u64)
+    requires { AreSpread (λ v. v.items) (filter (λ e. nat_lt start e.0) buffers.old.entries) }
+    ensures { buffers.new.entries
+        ≡ filter (λ e. not (is_within start end (piece_of (λ v. v.items) e))) buffers.old.entries }
+{
+    while let Some(next) = next_within(buffers, start, end) {
+        buffers.remove(&next);
+    }
+}
+
+// The first buffer that starts behind `start`, if it ends at or before `end`. If it does not, no later buffer does.
+fn next_within<A: Allocator>(
+    buffers: &BTreeMap<u64, Vec<u8, A>, A>,
+    start: u64,
+    end: u64,
+) -> Option<u64>
+    requires { AreSpread (λ v. v.items) (filter (λ e. nat_lt start e.0) buffers.now.entries) }
+    ensures one { IfSome result (λ k. IfSome (get_by (nat_cmp k) buffers.now)
+        (λ v. IsTrue (is_within start end (piece_of (λ v. v.items) (k, v))))) }
+    ensures there { IfSome result (λ k. IsSome (get_by (nat_cmp k) buffers.now)) }
+    ensures none { IfNone result
+        (All (λ e. is_within start end (piece_of (λ v. v.items) e) ≡ false) buffers.now.entries) }
+{
+    let (from, bytes) = buffers
+        .range((Bound::Excluded(start), Bound::Unbounded))
+        .next()?;
+    if *from <= end && bytes.len() as u64 <= end - *from {
+        return Some(*from);
+    }
+    None
+}
