@@ -23,10 +23,10 @@ def built():
 
 
 def built_callers():
-    """The program with the example callers."""
-    crate = os.path.join(TOP, "crates", "elf_uses")
-    subprocess.run(["rt", "run"], cwd=crate, stdout=subprocess.DEVNULL, stderr=subprocess.DEVNULL)
-    return os.path.join(crate, "out", "elf_uses")
+    """The program that prints the results of the example callers; for no file it prints none."""
+    crate = os.path.join(TOP, "crates", "elf_answers")
+    subprocess.run(["rt", "run", "--", "build_id"], cwd=crate, stdout=subprocess.DEVNULL, stderr=subprocess.DEVNULL)
+    return os.path.join(crate, "out", "elf_answers")
 
 
 def build_library_times(folder):

@@ -7,7 +7,7 @@ use Rattle.elf_abi.specs.Values.{pt_dynamic, sht_dynamic, sht_dynsym, sht_gnu_ha
 use Rattle.elf_parts.specs.GnuFind.{GnuTable, gnu_section, gnu_view}
 use Rattle.elf_records.specs.Number.{ok_map}
 use Rattle.elf_records.specs.Record.{◌>>=◌}
-use Rattle.elf_parts.specs.StringTable.{strings_view}
+use Rattle.elf_records.specs.StringTable.{strings_view}
 use Rattle.elf_parts.specs.SysvFind.{SysvTable, sysv_section, sysv_view}
 use Rattle.elf_parts.specs.Table.{Table, table_view}
 use Rattle.elf_records.specs.declared.parse.ParseError.{ParseError}

@@ -68,7 +68,7 @@ pub record Keeps {E : Type 0} (old new : Seen E) : Type 0 where
   pub headers : new.headers ≡ old.headers
   pub cached : (start end : ℕ) → IsCached old start end → IsCached new start end
 
--- ---- why a call is refused
+-- ---- what a call answers
 
 -- the answer that the content gives, or an error; if the content's answer is an error, an error of any kind
 abbrev pub IsAnswer :

@@ -1,6 +1,6 @@
 //! What the program `elfshow` answers to words of a command line.
+use crate::rows::RowError;
 use crate::words::Words;
-use elf_rows::RowError;
 use elfshow::file_system::MemFile;
 use elfshow::show::show;
 use std::io::{BufWriter, Write};

@@ -1,11 +1,15 @@
 //! Makes the library's calls of the file `calls`, a line each, and prints what each answers; then does the
-//! same with the cases of command lines of the file `cases`.
+//! same with the cases of command lines of the file `cases`, and with those of example callers of the file `callers`.
+//! `elf_answers CALLER FILE..` prints the results of an example caller for each file instead. `resolver=NAME` looks a
+//! name up in all of them, and `bindings` binds the undefined symbols of all of them, a program and its libraries in
+//! search order.
 //!
 //! Bytes are hexadecimal digits, `-` for none, or `@NAME` for the small file NAME. An answer is shown as `{:?}`
 //! shows it, an error with its text behind it. All is written straight to standard output, since a text that is
 //! built first costs much of the time of a check.
 #![tactic(auto)]
 
+mod callers;
 mod cases;
 mod checks;
 mod common;
@@ -17,21 +21,32 @@ mod names;
 mod notes;
 mod numbers;
 mod records;
+mod rows;
 mod shown;
 mod strings;
 mod versions;
 mod words;
 
-use elf_rows::RowError;
-use std::{fs, io};
+use rows::RowError;
+use std::{env, fs, io};
 use words::Words;
 
 fn main(rt: HostRuntime) -> Result<(), RowError> {
-    let calls = fs::read_to_string(&rt, "calls")?;
-    for call in calls.lines() {
-        show_row(&rt, call)?;
+    let words: Vec<String> = env::args(&rt)?.skip(1).collect(rt.alloc())?;
+    match words.as_slice().split_first() {
+        Some((caller, names)) => callers::show_files(&rt, caller.as_str(), names),
+        None => show_all(&rt),
     }
-    cases::show_cases(&rt)
+}
+
+/// Runs all test cases.
+fn show_all(rt: &HostRuntime) -> Result<(), RowError> {
+    let calls = fs::read_to_string(rt, "calls")?;
+    for call in calls.lines() {
+        show_row(rt, call)?;
+    }
+    cases::show_cases(rt)?;
+    callers::show_rows(rt)
 }
 
 fn show_row(rt: &HostRuntime, row: &str) -> Result<(), RowError> {

@@ -1,7 +1,7 @@
 //! The words of a row, read one after the other.
+use crate::rows::{RowError, bytes_of, changed_file};
 use elf::endian::AnyEndian;
 use elf::file::Class;
-use elf_rows::{RowError, bytes_of, changed_file};
 use std::str::{FromStr, SplitWhitespace};
 
 /// The words of a row that are still to be read, and what was wrong with one that was read. Such a word is read as a

@@ -1,7 +1,7 @@
 //! Laws of the equality and the clones of the types of this module: theorems for the proofs of callers. Each is the
 //! contract of a function that computes nothing; a caller uses the law by calling it.
 ghost use Rattle.std.specs.Prelude.{◌≡◌, ◌↔◌, IsTrue};
-ghost use Rattle.elf_parts.specs.Clones.{ClonesExactly};
+ghost use Rattle.elf_records.specs.Clones.{ClonesExactly};
 
 use crate::{BindingFault, Unreadable, Version, Wanted};
 

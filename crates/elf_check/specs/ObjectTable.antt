@@ -8,7 +8,7 @@ use Rattle.elf_parts.specs.Table.{Table}
 use Rattle.elf_records.specs.declared.parse.ParseError.{ParseError}
 use Rattle.elf_parts.specs.declared.parse.table.ParsingTable.{ParsingTable}
 use Rattle.elf_records.specs.declared.section.SectionHeader.{SectionHeader}
-use Rattle.elf_parts.specs.declared.string_table.StringTable.{StringTable}
+use Rattle.elf_records.specs.declared.string_table.StringTable.{StringTable}
 use Rattle.elf_records.specs.declared.symbol.Symbol.{Symbol}
 use Rattle.elf.specs.Answers.{dynamic_symbol_table, symbols_view}
 use Rattle.elf.specs.Data.{section_data}

@@ -1,1 +1,14 @@
 pub mod Copied
+pub mod Below
+pub mod SysvSound
+pub mod GnuSound
+pub mod HashesOfA
+pub mod Resolved
+pub mod WrittenFiles
+pub mod FilesWritten
+pub mod PutIn
+pub mod Grouped
+pub mod BuiltSound
+pub mod BuiltKnown
+pub mod BuiltBytes
+pub mod BuiltGnuBytes

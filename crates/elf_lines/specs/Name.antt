@@ -1,6 +1,6 @@
 -- The name field of what has its name at an offset of a table of strings.
 use Rattle.std.specs.Prelude.{ℕ, List, codes, Option, Some, None, Result, Ok, Err}
-use Rattle.elf_parts.specs.StringTable.{string_at}
+use Rattle.elf_records.specs.StringTable.{string_at}
 use Rattle.elf_records.specs.declared.parse.ParseError.{ParseError}
 use Rattle.elf_lines.specs.Pieces.{◌⧺◌, escaped}
 

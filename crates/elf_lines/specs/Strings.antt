@@ -1,7 +1,7 @@
 -- The lines of the strings of a table.
 use Rattle.std.specs.Prelude.{ℕ, zero, suc, ◌+◌, List, [], ◌∷◌, length, codes, Result, Ok, Err}
 use Rattle.std.specs.Fmt.{decimal}
-use Rattle.elf_parts.specs.StringTable.{string_at}
+use Rattle.elf_records.specs.StringTable.{string_at}
 use Rattle.elf_records.specs.declared.parse.ParseError.{ParseError}
 use Rattle.elf_lines.specs.Pieces.{◌⧺◌, newline, escaped}
 

@@ -1,7 +1,7 @@
 -- The lines of symbols.
 use Rattle.std.specs.Prelude.{ℕ, ◌/◌, ◌%◌, List, codes}
 use Rattle.std.specs.Fmt.{decimal}
-use Rattle.elf_parts.specs.StringTable.{string_at}
+use Rattle.elf_records.specs.StringTable.{string_at}
 use Rattle.elf_records.specs.declared.symbol.Symbol.{Symbol}
 use Rattle.elf_lines.specs.Pieces.{◌⧺◌, newline, hex}
 use Rattle.elf_lines.specs.Name.{name_read}

@@ -1,6 +1,6 @@
 //! The name of an item.
 ghost use Rattle.std.specs.Prelude.{codes};
-ghost use Rattle.elf_parts.specs.StringTable.{string_at};
+ghost use Rattle.elf_records.specs.StringTable.{string_at};
 ghost use Rattle.elf_lines.specs.Pieces.{◌⧺◌};
 ghost use Rattle.elf_lines.specs.Name.{name_field, name_read};
 ghost use Rattle.elf_lines.specs.Adding.{Adds};

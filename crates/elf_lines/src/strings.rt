@@ -1,7 +1,7 @@
 //! The lines of the strings of a table.
 ghost use Rattle.std.specs.Prelude.{OnOk};
 ghost use Rattle.std.specs.Io.KnownBytes.{Appends};
-ghost use Rattle.elf_parts.specs.StringTable.{strings_view};
+ghost use Rattle.elf_records.specs.StringTable.{strings_view};
 ghost use Rattle.elf_lines.specs.Adding.{Adds};
 ghost use Rattle.elf_lines.specs.Counted.{counted_lines};
 ghost use Rattle.elf_lines.specs.Strings.{string_line, strings_of};

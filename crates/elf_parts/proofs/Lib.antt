@@ -16,8 +16,6 @@ pub mod Runs
 pub mod Named
 pub mod ReadBack
 pub mod ReadStructs
-pub mod Nuls
-pub mod Terminated
 pub mod ReadStrings
 pub mod ReadNotes
 pub mod ReadChains

@@ -11,7 +11,7 @@ use Rattle.elf_records.specs.declared.parse.ParseError.{ParseError}
 use Rattle.elf_records.specs.declared.symbol.Symbol.{Symbol}
 use Rattle.elf_parts.specs.Hash.{sysv_hash_of, gnu_hash_of}
 use Rattle.elf_parts.specs.Hash.{IsNamed, if_named, named_symbol, symbol_at, word_at, word_count}
-use Rattle.elf_parts.specs.StringTable.{string_at}
+use Rattle.elf_records.specs.StringTable.{string_at}
 use Rattle.elf_parts.specs.SysvFind.{SysvTable, decided_by, index_decides, find_along, first_decided, sysv_find, walk, walk_on}
 use Rattle.elf_parts.specs.GnuFind.{GnuTable, find_in_bucket, find_in_run, gnu_find, passes, place_decides, run, run_on, word_decides}
 

@@ -5,7 +5,7 @@ use Rattle.std.specs.List.{position_or_len}
 use Rattle.std.proofs.lemmas.Grind.{common_steps}
 use Rattle.std.proofs.lemmas.List.{take_at, drop_at}
 use Rattle.std.proofs.lemmas.Bool.{ne_eqb}
-use Rattle.elf_parts.specs.StringTable.{string_at}
+use Rattle.elf_records.specs.StringTable.{string_at}
 use Rattle.elf_parts.specs.Written.{HasNoNul, strings_of}
 
 len_before_nul : (text behind : List ℕ) → HasNoNul text → position_or_len (λ byte. byte == 0) (text ++ 0 ∷ behind) ≡ length text

@@ -4,7 +4,7 @@ use Rattle.std.specs.Prelude.{◌≡◌, ◌↔◌, ℕ, ◌+◌, ◌*◌, ◌/�
 use Rattle.std.specs.Prelude.{bit_and, bit_xor, if◌then◌else◌, Option, Some, None, Result, Ok, IsOk}
 use Rattle.std.specs.Str.{bytes_eq}
 use Rattle.elf_records.specs.Record.{◌>>=◌, Field, field, Layout, RecordType}
-use Rattle.elf_parts.specs.StringTable.{string_at}
+use Rattle.elf_records.specs.StringTable.{string_at}
 use Rattle.elf_records.specs.Symbol.{symbol_reads}
 use Rattle.elf_parts.specs.Table.{Table, table_get}
 use Rattle.elf_records.specs.Word.{u32_reads, u64_reads}

@@ -2,8 +2,6 @@
 
 -- tables of records of one size
 pub mod Table
--- strings that end in a 0 byte
-pub mod StringTable
 -- the field table of program headers
 pub mod Segment
 -- records of which each says where the next one begins
@@ -20,7 +18,5 @@ pub mod GnuFind
 -- how files are written: members as bytes, and the structures of the gABI as members
 pub mod Written
 pub mod Structs
--- what a clone is
-pub mod Clones
 -- what only implementations and private functions cite
 pub mod inner

@@ -9,7 +9,7 @@ use Rattle.elf_abi.specs.Values.{nt_gnu_abi_tag, nt_gnu_build_id}
 use Rattle.elf_parts.specs.Link.{AreLinked, links}
 use Rattle.elf_records.specs.Number.{bytes_at, ok_map}
 use Rattle.elf_records.specs.Record.{◌>>=◌, Field, field, Layout, record_by, RecordType}
-use Rattle.elf_parts.specs.StringTable.{GivesText}
+use Rattle.elf_records.specs.StringTable.{GivesText}
 use Rattle.elf_records.specs.inner.RecordLaws.{by_layout}
 use Rattle.elf_records.specs.declared.file.Class.TheVariants.{ELF32}
 use Rattle.elf_parts.specs.declared.note.Note.{Note}

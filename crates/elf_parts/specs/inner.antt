@@ -1,4 +1,3 @@
 pub mod Extent
-pub mod Terminated
 pub mod Placed
 pub mod Walked

@@ -1,8 +1,9 @@
 //! The parts of an ELF file, over bytes: records, tables, strings, notes, versions and hash sections. The readers of
-//! whole files are built on them. Most records are those of `elf_records`, under the same names.
+//! whole files are built on them. Most records, and the tables of strings, are those of `elf_records`, under the same
+//! names.
 #![tactic(auto)]
 
-pub use elf_records::{compression, endian, file};
+pub use elf_records::{compression, endian, file, string_table};
 
 pub mod dynamic;
 pub mod gnu_symver;
@@ -13,5 +14,4 @@ pub mod parse;
 pub mod relocation;
 pub mod section;
 pub mod segment;
-pub mod string_table;
 pub mod symbol;

@@ -118,6 +118,13 @@ pub struct Opened<'data, E: EndianParse> {
 /// Reads the header of a file and finds its two tables (gABI, chapters "ELF Header", "Sections" and "Program Header").
 /// The error is that of the first step that fails. The steps are the identification, the tail of the file header, the
 /// section headers and the program headers.
+///
+/// Errors of the header, in order: `SliceReadError((0, 16))` if the data are shorter; those of `parse_ident`;
+/// `SliceReadError((16, end))` if the tail does not lie in the data.
+///
+/// Errors of a table that is declared, in order: that of the first section header at `e_shoff`, if it holds the count;
+/// `BadEntsize((found, expected))`; `IntegerOverflow` if the end of the table does not fit 64 bits;
+/// `SliceReadError((start, end))` if the table does not lie in the data.
 #[tactic(auto, unfolding(crate::specs::Opening::section_table, crate::specs::Opening::segment_table))]
 pub fn open<'data, E: EndianParse>(data: &'data [u8]) -> Result<Opened<'data, E>, ParseError>
     ensures { ok_map (opened_view «data».now) result ≡ opened E.little E.of_byte «data».now }

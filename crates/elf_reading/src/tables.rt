@@ -1,6 +1,6 @@
 //! The two tables of headers, as the file header declares them.
 ghost use Rattle.std.specs.Prelude.{◌≡◌};
-ghost use Rattle.elf_parts.specs.Clones.{ClonesExactly};
+ghost use Rattle.elf_records.specs.Clones.{ClonesExactly};
 ghost use Rattle.elf_reading.specs.Tables.{count_word, declared_sections, declared_segments};
 
 use elf_abi::abi::PN_XNUM;

@@ -1,3 +1,5 @@
 pub mod Numbers
 pub mod Packed
 pub mod Parts
+pub mod Nuls
+pub mod Terminated

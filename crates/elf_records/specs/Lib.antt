@@ -18,5 +18,9 @@ pub mod Symbol
 pub mod Relocation
 pub mod Dynamic
 pub mod Compression
+-- strings that end in a 0 byte
+pub mod StringTable
+-- what a clone is
+pub mod Clones
 -- what only implementations and private functions cite
 pub mod inner

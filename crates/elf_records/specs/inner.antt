@@ -1,3 +1,4 @@
 pub mod RecordLaws
 pub mod Running
 pub mod Part
+pub mod Terminated

@@ -3,7 +3,7 @@ use Rattle.std.specs.Prelude.{◌≡◌, ℕ, ◌==◌, ◌&&◌, ◌||◌, not,
 use Rattle.std.specs.Prelude.{[], ◌∷◌, Option, Some, None, Result, Ok, Err, MatchResult}
 use Rattle.std.specs.Option.{IsSomeAnd}
 use Rattle.elf_abi.specs.Values.{shn_undef, stb_local, stt_func, stt_gnu_ifunc, ver_flg_base}
-use Rattle.elf_parts.specs.StringTable.{GivesText}
+use Rattle.elf_records.specs.StringTable.{GivesText}
 use Rattle.elf_records.specs.Symbol.{symbol_binding, symbol_type}
 use Rattle.elf_parts.specs.gnu_symver.Table.{Definition}
 use Rattle.elf_records.specs.declared.parse.ParseError.{ParseError}

@@ -10,7 +10,7 @@ use Rattle.elf_abi.specs.Values.{dt_needed, dt_null, dt_rpath, dt_runpath, dt_so
 use Rattle.elf_records.specs.Dynamic.{d_un_view, dyn_reads, has_tag}
 use Rattle.elf_records.specs.Number.{ok_map}
 use Rattle.elf_records.specs.Record.{◌>>=◌}
-use Rattle.elf_parts.specs.StringTable.{string_at}
+use Rattle.elf_records.specs.StringTable.{string_at}
 use Rattle.elf_parts.specs.Table.{Table, table_items}
 use Rattle.elf_records.specs.declared.dynamic.Dyn.{Dyn}
 use Rattle.elf_records.specs.declared.parse.ParseError.{ParseError}

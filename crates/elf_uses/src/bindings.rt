@@ -10,7 +10,6 @@ ghost use Rattle.elf_binding.specs.VersionedView.{versioned_view};
 ghost use Rattle.elf_uses.specs.Bindings.{IsBound, is_reference};
 
 pub mod library;
-pub mod lines;
 pub mod reading;
 
 use crate::versions::indexed;

@@ -1,5 +1,3 @@
--- what a run of calls leaves
-pub mod calls
 -- the call that a word spells
 pub mod Words
 -- the program: its request, and what it writes

@@ -1,7 +1,6 @@
 //! The contents of an ELF file as text: runs of the calls of a listing, and the program that writes it.
 #![tactic(auto)]
 
-pub mod calls;
 pub mod failure;
 pub mod file_system;
 pub mod laws;
@@ -10,3 +9,4 @@ mod words;
 
 pub use elf_calls::readers;
 pub use elf_check::{hashcheck, resolve};
+pub use elf_runs::calls;

@@ -2,7 +2,7 @@
 ghost use Rattle.std.specs.Prelude.{◌≡◌, ◌≤◌, ◌<◌, ◌^◌, IfOk, length};
 ghost use Rattle.elf_parts.specs.Note.{notes_left};
 ghost use Rattle.elf_records.specs.Number.{ok_map};
-ghost use Rattle.elf_parts.specs.StringTable.{strings_view};
+ghost use Rattle.elf_records.specs.StringTable.{strings_view};
 ghost use Rattle.elf.specs.Answers.{relas_left, rels_left, section_data_as_notes};
 ghost use Rattle.elf.specs.Data.{content_of_type, section_data};
 ghost use Rattle.elf_reading.specs.Leading.{data_view};

@@ -1,6 +1,6 @@
 //! The check of a section of either kind, and the table that it gives.
 ghost use Rattle.std.specs.Prelude.{◌≡◌};
-ghost use Rattle.elf_parts.specs.StringTable.{strings_view};
+ghost use Rattle.elf_records.specs.StringTable.{strings_view};
 ghost use Rattle.elf_parts.specs.Table.{table_view};
 ghost use Rattle.elf_check.specs.CheckedTable.{object_view};
 ghost use Rattle.elf_check.specs.Indexed.{IsNumberOf};

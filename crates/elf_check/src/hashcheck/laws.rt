@@ -3,7 +3,7 @@
 ghost use Rattle.std.specs.Option.{IsSomeAnd};
 ghost use Rattle.std.specs.Prelude.{◌≡◌, ◌↔◌, ◌<◌, ◌≤◌, Bool, IsTrue, List, ℕ, Ok, Some};
 ghost use Rattle.std.specs.Result.{IsOkAnd};
-ghost use Rattle.elf_parts.specs.Clones.{ClonesExactly};
+ghost use Rattle.elf_records.specs.Clones.{ClonesExactly};
 ghost use Rattle.elf_parts.specs.GnuFind.{GnuTable, gnu_find, gnu_section};
 ghost use Rattle.elf_parts.specs.Hash.{word_count};
 ghost use Rattle.elf_parts.specs.SysvFind.{SysvTable, sysv_find, sysv_section};

@@ -1,7 +1,7 @@
 //! The count of the symbols that a checker reads.
 ghost use Rattle.std.specs.Option.{option_map};
 ghost use Rattle.std.specs.Prelude.{◌≡◌};
-ghost use Rattle.elf_parts.specs.StringTable.{strings_view};
+ghost use Rattle.elf_records.specs.StringTable.{strings_view};
 ghost use Rattle.elf_parts.specs.Table.{table_view};
 ghost use Rattle.elf_check.specs.Reads.{counted, read_count};
 ghost use Rattle.elf_check.specs.WithSymbols.{name_at};

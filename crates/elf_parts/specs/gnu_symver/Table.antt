@@ -4,7 +4,7 @@ use Rattle.std.specs.Prelude.{List, [], ◌∷◌, ◌++◌, length, map, MatchO
 use Rattle.std.specs.List.{find}
 use Rattle.std.specs.Option.{option_map}
 use Rattle.elf_records.specs.Number.{ok_map}
-use Rattle.elf_parts.specs.StringTable.{string_at, strings_view, GivesText}
+use Rattle.elf_records.specs.StringTable.{string_at, strings_view, GivesText}
 use Rattle.elf_parts.specs.Table.{Table, table_get, table_view}
 use Rattle.elf_parts.specs.gnu_symver.Lists.{ver_def_aux_left, ver_defs_left, ver_needs_left}
 use Rattle.elf_parts.specs.gnu_symver.Records.{version_index, version_index_reads, version_is_hidden}
@@ -20,7 +20,7 @@ use Rattle.elf_parts.specs.declared.gnu_symver.table.SymbolNamesIterator.{Symbol
 use Rattle.elf_parts.specs.declared.gnu_symver.table.SymbolRequirement.{SymbolRequirement}
 use Rattle.elf_parts.specs.declared.gnu_symver.table.SymbolVersionTable.{SymbolVersionTable}
 use Rattle.elf_records.specs.declared.parse.ParseError.{ParseError}
-use Rattle.elf_parts.specs.declared.string_table.StringTable.{StringTable}
+use Rattle.elf_records.specs.declared.string_table.StringTable.{StringTable}
 use denote.Ref.{Bor}
 
 -- the needs, each with its versions, and the strings that their names lie in

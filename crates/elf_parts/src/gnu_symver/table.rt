@@ -3,7 +3,7 @@ ghost use Rattle.std.specs.Prelude.{◌≡◌, ◌==◌, ◌<◌, ◌≤◌, ◌
 ghost use Rattle.std.specs.Iterator.{item_count};
 ghost use Rattle.std.specs.Option.{option_map};
 ghost use Rattle.elf_records.specs.Number.{ok_map};
-ghost use Rattle.elf_parts.specs.StringTable.{strings_view};
+ghost use Rattle.elf_records.specs.StringTable.{strings_view};
 ghost use Rattle.elf_parts.specs.gnu_symver.Table.{defined_version, definition, definition_by, definition_view};
 ghost use Rattle.elf_parts.specs.gnu_symver.Table.{definitions_view, index_of, kept};
 ghost use Rattle.elf_parts.specs.gnu_symver.Table.{names_left, needed_version, needs_view, raw_names, requirement};

@@ -2,7 +2,7 @@
 ghost use Rattle.std.specs.Prelude.{◌≡◌, ◌%◌, ◌^◌};
 ghost use Rattle.elf_parts.specs.Hash.{folded, sysv_hash_of, word_count};
 ghost use Rattle.elf_records.specs.Number.{ok_map};
-ghost use Rattle.elf_parts.specs.StringTable.{strings_view};
+ghost use Rattle.elf_records.specs.StringTable.{strings_view};
 ghost use Rattle.elf_parts.specs.SysvFind.{find_along, sysv_find, sysv_section, sysv_view};
 ghost use Rattle.elf_parts.specs.Table.{table_view};
 

@@ -1,59 +1,35 @@
 //! Laws of clones: the clone of a value is the same value, and cloning it cannot fail.
-ghost use Rattle.elf_parts.specs.Clones.{ClonesExactly};
+ghost use Rattle.elf_records.specs.Clones.{ClonesExactly};
 
-use crate::compression::CompressionHeader;
-use crate::dynamic::Dyn;
-use crate::endian::{AnyEndian, BigEndian, EndianParse, LittleEndian};
-use crate::file::{Class, FileHeader};
+use crate::endian::EndianParse;
 use crate::gnu_symver::{Needed, VerDefIterator, VerNeedIterator};
 use crate::hash::{GnuHashHeader, SysVHashHeader};
 use crate::note::{NoteGnuAbiTag, NoteGnuBuildId};
 use crate::parse::{ParseAt, ParsingTable};
-use crate::relocation::{Rel, Rela};
-use crate::section::SectionHeader;
 use crate::segment::ProgramHeader;
-use crate::string_table::StringTable;
-use crate::symbol::Symbol;
+pub use elf_records::laws::clones::{
+    clones_of_headers, clones_of_kinds, clones_of_records, clones_of_strings,
+};
 
-/// The clone of a class or of a byte order is the same value, and cloning it cannot fail.
-pub fn clones_of_kinds()
-    ensures class { ClonesExactly ⟦<Class as Clone>⟧.is_clone ⟦<Class as Clone>⟧.is_infallible }
-    ensures either { ClonesExactly ⟦<AnyEndian as Clone>⟧.is_clone ⟦<AnyEndian as Clone>⟧.is_infallible }
-    ensures little { ClonesExactly ⟦<LittleEndian as Clone>⟧.is_clone ⟦<LittleEndian as Clone>⟧.is_infallible }
-    ensures big { ClonesExactly ⟦<BigEndian as Clone>⟧.is_clone ⟦<BigEndian as Clone>⟧.is_infallible }
-{}
-
-/// The same of file headers, section headers, program headers, compression headers and the headers of hash
-/// sections.
-pub fn clones_of_headers<E: EndianParse>()
-    ensures file { ClonesExactly ⟦<FileHeader<E> as Clone>⟧.is_clone ⟦<FileHeader<E> as Clone>⟧.is_infallible }
-    ensures section { ClonesExactly ⟦<SectionHeader as Clone>⟧.is_clone ⟦<SectionHeader as Clone>⟧.is_infallible }
+/// The clone of a program header or of the header of a hash section is the same value, and cloning it cannot fail.
+pub fn clones_of_part_headers()
     ensures program { ClonesExactly ⟦<ProgramHeader as Clone>⟧.is_clone ⟦<ProgramHeader as Clone>⟧.is_infallible }
-    ensures compression { ClonesExactly
-        ⟦<CompressionHeader as Clone>⟧.is_clone ⟦<CompressionHeader as Clone>⟧.is_infallible }
     ensures sysv { ClonesExactly ⟦<SysVHashHeader as Clone>⟧.is_clone ⟦<SysVHashHeader as Clone>⟧.is_infallible }
     ensures gnu { ClonesExactly ⟦<GnuHashHeader as Clone>⟧.is_clone ⟦<GnuHashHeader as Clone>⟧.is_infallible }
 {}
 
-/// The same of symbols, relocations, dynamic entries, needed versions, ABI tags and build ids.
-pub fn clones_of_records()
-    ensures symbol { ClonesExactly ⟦<Symbol as Clone>⟧.is_clone ⟦<Symbol as Clone>⟧.is_infallible }
-    ensures rel { ClonesExactly ⟦<Rel as Clone>⟧.is_clone ⟦<Rel as Clone>⟧.is_infallible }
-    ensures rela { ClonesExactly ⟦<Rela as Clone>⟧.is_clone ⟦<Rela as Clone>⟧.is_infallible }
-    ensures entry { ClonesExactly ⟦<Dyn as Clone>⟧.is_clone ⟦<Dyn as Clone>⟧.is_infallible }
+/// The same of needed versions, ABI tags and build ids.
+pub fn clones_of_needed_and_notes()
     ensures needed { ClonesExactly ⟦<Needed as Clone>⟧.is_clone ⟦<Needed as Clone>⟧.is_infallible }
     ensures abi_tag { ClonesExactly ⟦<NoteGnuAbiTag as Clone>⟧.is_clone ⟦<NoteGnuAbiTag as Clone>⟧.is_infallible }
     ensures build_id { ClonesExactly
         ⟦<NoteGnuBuildId<'static> as Clone>⟧.is_clone ⟦<NoteGnuBuildId<'static> as Clone>⟧.is_infallible }
 {}
 
-/// The same of tables, string tables and the two version iterators that can be cloned. A cloned iterator continues
-/// at the same place.
+/// The same of tables and the two version iterators that can be cloned. A cloned iterator continues at the same place.
 pub fn clones_of_tables<E: EndianParse, P: ParseAt>()
     ensures table { ClonesExactly
         ⟦<ParsingTable<'static, E, P> as Clone>⟧.is_clone ⟦<ParsingTable<'static, E, P> as Clone>⟧.is_infallible }
-    ensures strings { ClonesExactly
-        ⟦<StringTable<'static> as Clone>⟧.is_clone ⟦<StringTable<'static> as Clone>⟧.is_infallible }
     ensures needs { ClonesExactly
         ⟦<VerNeedIterator<'static, E> as Clone>⟧.is_clone ⟦<VerNeedIterator<'static, E> as Clone>⟧.is_infallible }
     ensures definitions { ClonesExactly

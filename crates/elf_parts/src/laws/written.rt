@@ -10,7 +10,7 @@ ghost use Rattle.elf_records.specs.Record.{size_of};
 ghost use Rattle.elf_records.specs.Relocation.{rel_layout, rela_layout};
 ghost use Rattle.elf_records.specs.Section.{section_header_layout};
 ghost use Rattle.elf_parts.specs.Segment.{program_header_layout};
-ghost use Rattle.elf_parts.specs.StringTable.{string_at};
+ghost use Rattle.elf_records.specs.StringTable.{string_at};
 ghost use Rattle.elf_parts.specs.Structs.{DefinitionsAreChained, NeedsAreChained, NotesFit, abi_tag_struct};
 ghost use Rattle.elf_parts.specs.Structs.{compression_header_struct, dyn_struct, gnu_header_struct, note_header_struct};
 ghost use Rattle.elf_parts.specs.Structs.{notes_bytes, program_header_struct, rel_struct, rela_struct};

@@ -1,15 +1,7 @@
--- Why a run stopped, and what stops one whose text goes to memory; contracts of private functions speak of it.
-use Rattle.std.specs.Prelude.{ℕ}
+-- What stops a run whose text goes to memory; contracts of private functions speak of it.
 use Rattle.elf_records.specs.declared.parse.ParseError.TheVariants.{OutOfMemory}
-use Rattle.elf_calls.specs.declared.stream.Stop.{Stop}
-use Rattle.elf_calls.specs.declared.stream.Stop.TheVariants as stop
-use Rattle.elfshow.specs.declared.calls.RunError.{RunError}
-use Rattle.elfshow.specs.declared.calls.RunError.TheVariants.{Fault, Open, Write}
-
--- why a run stopped, by what stopped its call
-abbrev pub stopped_after : ℕ → Stop → RunError
-stopped_after done (stop.Fault e) = Fault done e
-stopped_after done (stop.Write e) = Write done e
+use Rattle.elf_runs.specs.declared.calls.RunError.{RunError}
+use Rattle.elf_runs.specs.declared.calls.RunError.TheVariants.{Fault, Open, Write}
 
 -- the error of a run whose text goes to memory: a failed write there is a failed allocation
 abbrev pub in_memory : RunError → RunError

@@ -3,7 +3,7 @@ use Rattle.elf_calls.proofs.StreamCalls.{section_refused}
 use Rattle.elf.specs.Ranges.{typed_section_ranges}
 use Rattle.elf_calls.specs.Question.{Strings}
 use Rattle.elf.specs.Answers.{section_data_as_strtab}
-use Rattle.elf_parts.specs.StringTable.{strings_view}
+use Rattle.elf_records.specs.StringTable.{strings_view}
 use Rattle.elf_lines.specs.Counted.{counted_lines}
 use Rattle.elf_lines.specs.Strings.{string_line, strings_of}
 use Rattle.elf_calls.proofs.stream.write_section_strings.Goals as goal

@@ -5,7 +5,7 @@
 //! many.
 ghost use Rattle.std.specs.Prelude.{◌≡◌, ◌+◌, ◌*◌, ◌<◌, ◌≤◌, ◌^◌, ℕ, IfErr, IfOk, MatchResult};
 ghost use Rattle.elf_parts.specs.Hash.{word_count};
-ghost use Rattle.elf_parts.specs.StringTable.{strings_view};
+ghost use Rattle.elf_records.specs.StringTable.{strings_view};
 ghost use Rattle.elf_parts.specs.SysvFind.{sysv_section, sysv_view};
 ghost use Rattle.elf_parts.specs.Table.{table_view};
 ghost use Rattle.elf_check.specs.CheckedTable.{checked_sysv_view, sysv_indexed};

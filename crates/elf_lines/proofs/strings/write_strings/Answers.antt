@@ -1,5 +1,5 @@
 use Rattle.std.proofs.Common.{rules, ◌≡◌, ◌+◌, ◌<◌, length, [], Some, Ok, Err, subst, arith}
-use Rattle.elf_parts.specs.StringTable.{string_at, strings_view}
+use Rattle.elf_records.specs.StringTable.{string_at, strings_view}
 use Rattle.elf_lines.specs.Counted.{counted_lines}
 use Rattle.elf_lines.specs.Strings.{string_line, strings_of}
 use Rattle.elf_lines.proofs.StringWalk.{string_lies, text_end, text_left, text_step}

@@ -1,5 +1,5 @@
 use Rattle.std.proofs.Common.{◌≤◌, ◌-◌, [], Some, length}
-use Rattle.elf_parts.specs.StringTable.{strings_view}
+use Rattle.elf_records.specs.StringTable.{strings_view}
 use Rattle.elf_lines.specs.Counted.{counted_lines}
 use Rattle.elf_lines.specs.Strings.{string_line, strings_of}
 use Rattle.elf_lines.proofs.StringWalk.{text_left}

@@ -1,6 +1,6 @@
 use Rattle.std.proofs.lemmas.Result.{err_from_is_err_and}
 use Rattle.std.proofs.Common.{refl}
-use Rattle.elf_parts.specs.StringTable.{strings_view}
+use Rattle.elf_records.specs.StringTable.{strings_view}
 use Rattle.elf.specs.Answers.{section_data_as_strtab}
 use Rattle.elf.specs.Ranges.{typed_section_ranges}
 use Rattle.elf.specs.StreamFile.{stream_file}
