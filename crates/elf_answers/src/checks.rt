@@ -55,15 +55,35 @@ pub(crate) fn show_all(rt: &HostRuntime, words: &mut Words<'_>) -> io::Result<()
     let section = words.bytes(rt);
     let symbols = words.bytes(rt);
     let strings = words.bytes(rt);
-    let symtab = SymbolTable::new(order, class, symbols.as_slice());
-    let strtab = StringTable::new(strings.as_slice());
-    let names = words.rest();
+    let section = Section {
+        order,
+        class,
+        bytes: section.as_slice(),
+        symtab: SymbolTable::new(order, class, symbols.as_slice()),
+        strtab: StringTable::new(strings.as_slice()),
+    };
+    show_all_named(rt, kind, section, words.rest())
+}
+
+fn show_all_named(
+    rt: &HostRuntime,
+    kind: &str,
+    section: Section<'_>,
+    names: SplitWhitespace<'_>,
+) -> io::Result<()> {
     let kind = if kind == "sysv" {
         HashSection::Sysv
     } else {
         HashSection::Gnu
     };
-    match check_any(kind, order, class, section.as_slice(), symtab, strtab) {
+    match check_any(
+        kind,
+        section.order,
+        section.class,
+        section.bytes,
+        section.symtab,
+        section.strtab,
+    ) {
         Ok(Checked::Sound(table)) => {
             for name in names {
                 show_named(rt, name, table.find_all(name.as_bytes()))?;

@@ -2,6 +2,7 @@
 //! for that of `R_PPC64_TPREL16_LO`, which is the one of the PowerPC64 supplement.
 
 use elf_abi::abi;
+use std::process::Abort;
 
 mod bytes;
 mod halves;
@@ -67,14 +68,14 @@ const ARM: &str = abi::SHT_AARCH64_ATTRIBUTES_SECTION_NAME;
 
 const RISCV: &str = abi::SHT_RISCV_ATTRIBUTES_SECTION_NAME;
 
+fn assert_bytes(rt: &impl Abort, constant: &[u8], expected: &[u8]) {
+    assert_eq!(rt; constant, expected);
+}
+
 #[test]
 fn texts_have_their_values(rt: HostRuntime) {
-    for (constant, expected) in [
-        (&MAGIC[..], &[0x7f, 0x45, 0x4c, 0x46][..]),
-        (NOTE, &[0x47, 0x4e, 0x55, 0]),
-        (ARM.as_bytes(), b".ARM.attributes"),
-        (RISCV.as_bytes(), b".riscv.attributes"),
-    ] {
-        assert_eq!(rt; constant, expected);
-    }
+    assert_bytes(&rt, &MAGIC, &[0x7f, 0x45, 0x4c, 0x46]);
+    assert_bytes(&rt, NOTE, &[0x47, 0x4e, 0x55, 0]);
+    assert_bytes(&rt, ARM.as_bytes(), b".ARM.attributes");
+    assert_bytes(&rt, RISCV.as_bytes(), b".riscv.attributes");
 }

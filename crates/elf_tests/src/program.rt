@@ -9,7 +9,7 @@ use elf::{MemSource, ParseError};
 use elfshow::calls::{Call, RunError};
 use elfshow::failure::{Failure, report};
 use elfshow::file_system::{FileSystem, MemFile};
-use elfshow::show::{RequestError, answer, parse_words, show};
+use elfshow::show::{Request, RequestError, answer, parse_words, show};
 use std::alloc::{AllocError, AllocFailed};
 use std::io;
 use std::io::{BufWriter, Write};
@@ -159,25 +159,33 @@ fn nothing_is_written_without_memory(rt: HostRuntime) -> io::Result<()> {
     Ok(())
 }
 
+/// Asserts what a request answers over a header alone.
+fn assert_answers(rt: &(impl Abort + AllocGlobal), request: &Request<'_>, want: &[u8]) {
+    let files = MemFile {
+        alloc: rt.alloc(),
+        bytes: &HEADER_ALONE,
+    };
+    let mut out = Vec::new(rt.alloc());
+    assert!(rt; answer(rt.alloc(), request, &files, &mut out).is_ok());
+    assert!(rt; out.starts_with(want));
+}
+
 #[test]
 fn words_make_a_request(rt: HostRuntime) {
-    let alloc = rt.alloc();
     let words = ["bytes", "F", "sections", "header", "sections"];
-    match parse_words(alloc, &words) {
+    match parse_words(rt.alloc(), &words) {
         Ok(request) => {
             let want = [Call::Sections, Call::Header, Call::Sections];
             assert!(rt; request.file == "F" && request.calls.as_slice() == want.as_slice());
-            let files = MemFile {
-                alloc,
-                bytes: &HEADER_ALONE,
-            };
-            let mut out = Vec::new(alloc);
-            assert!(rt; answer(alloc, &request, &files, &mut out).is_ok());
-            assert!(rt; out.starts_with(b"end 0\nheader class=64 "));
+            assert_answers(&rt, &request, b"end 0\nheader class=64 ");
         }
         Err(_) => assert!(rt; false, "refused"),
     }
-    let refused = parse_words(alloc, &words[..2]).err();
+}
+
+#[test]
+fn words_without_a_call_are_no_request(rt: HostRuntime) {
+    let refused = parse_words(rt.alloc(), &["bytes", "F"]).err();
     assert!(rt; refused == Some(RequestError::Usage), "{refused:?}");
 }
 

@@ -7,7 +7,7 @@ use elf::{ElfStream, MemSource, ParseError};
 use elfshow::calls::{Call, RunError, run_bytes, run_stream};
 use std::alloc::Global;
 use std::cell::Cell;
-use std::io::ErrorKind;
+use std::io::{ErrorKind, Write};
 use std::process::Abort;
 use std::test::Fail;
 
@@ -38,25 +38,48 @@ fn done_of(stopped: &Result<(), RunError>, all: usize) -> Option<usize> {
     }
 }
 
-/// Runs calls over a source that fails behind a number of its calls: the whole text is written, or a fault says how
-/// many calls were done and just their text is written. Returns whether there was a fault, and none if the opening
-/// failed.
+/// Runs calls over a source that fails behind a number of its calls, unless the opening fails.
+fn run_behind(
+    alloc: Global,
+    data: &[u8],
+    calls: &[Call<'_>],
+    calls_before: u64,
+    out: &mut Vec<u8>,
+) -> Option<Result<(), RunError>> {
+    let calls_left = Cell::new(calls_before);
+    match Halted::open_stream(alloc, Halting::new(data, 64, &calls_left)) {
+        Ok(mut stream) => Some(run_stream(&mut stream, calls, out)),
+        Err(_) => None,
+    }
+}
+
+/// Asserts that just the text of the first calls was written.
+fn assert_done(
+    rt: &(impl Abort + AllocGlobal),
+    data: &[u8],
+    calls: &[Call<'_>],
+    done: usize,
+    written: &[u8],
+) -> Result<(), Fail> {
+    let text = text_of(rt.alloc(), data, calls, done)?;
+    assert!(rt; written == text.as_slice(), "{done}");
+    Ok(())
+}
+
+/// Whether there is a fault where the source fails behind a number of its calls, and none if the opening fails. The
+/// whole text is written, or the fault says how many calls were done and just their text is written.
 fn faults_behind(
     rt: &(impl Abort + AllocGlobal),
     data: &[u8],
     calls: &[Call<'_>],
     calls_before: u64,
 ) -> Result<bool, Fail> {
-    let alloc = rt.alloc();
-    let calls_left = Cell::new(calls_before);
-    let Ok(mut stream) = Halted::open_stream(alloc, Halting::new(data, 64, &calls_left)) else {
+    let mut out = Vec::new(rt.alloc());
+    let Some(stopped) = run_behind(rt.alloc(), data, calls, calls_before, &mut out) else {
         return Ok(false);
     };
-    let mut out = Vec::new(alloc);
-    let stopped = run_stream(&mut stream, calls, &mut out);
     let done = done_of(&stopped, calls.len()).ok_or("another error")?;
-    let text = text_of(alloc, data, calls, done)?;
-    assert!(rt; out.as_slice() == text.as_slice(), "{calls_before}");
+    assert_done(rt, data, calls, done, out.as_slice())?;
     Ok(stopped.is_err())
 }
 
@@ -100,24 +123,36 @@ fn assert_stopped(
     }
 }
 
+const CALLS: [Call; 2] = [Call::Header, Call::Sections];
+
+/// Asserts how a run over a stream in memory stops.
+fn assert_stops<W: Write>(
+    rt: &(impl Abort + AllocGlobal),
+    out: &mut W,
+    want: usize,
+    kind: ErrorKind,
+) -> Result<(), ParseError> {
+    let source = MemSource::new(&TWO_SECTIONS);
+    let mut stream = ElfStream::<AnyEndian, MemSource<'_>, Global>::open_stream(
+        rt.alloc(),
+        source,
+    )?;
+    assert_stopped(rt, run_stream(&mut stream, &CALLS, out), want, kind);
+    Ok(())
+}
+
 #[test]
 fn a_full_writer_stops_the_run(rt: HostRuntime) -> Result<(), Fail> {
-    let alloc = rt.alloc();
-    let calls = [Call::Header, Call::Sections];
-    let first = text_of(alloc, &TWO_SECTIONS, &calls, 1)?;
-    let source = MemSource::new(&TWO_SECTIONS);
-    let opened = ElfStream::<AnyEndian, MemSource<'_>, Global>::open_stream(alloc, source);
-    let Ok(mut stream) = opened else {
-        assert!(rt; false, "refused");
-        return Ok(());
-    };
-    let mut out = Narrow::new(alloc, first.len(), 4096);
-    let stopped = run_stream(&mut stream, &calls, &mut out);
-    assert_stopped(&rt, stopped, 1, ErrorKind::StorageFull);
-    assert!(rt; out.written.as_slice() == first.as_slice());
-    let mut out = Faulty::at_flush(alloc);
-    let stopped = run_stream(&mut stream, &calls, &mut out);
-    assert_stopped(&rt, stopped, 0, ErrorKind::BrokenPipe);
+    let first = text_of(rt.alloc(), &TWO_SECTIONS, &CALLS, 1)?;
+    let mut out = Narrow::new(rt.alloc(), first.len(), 4096);
+    assert_stops(&rt, &mut out, 1, ErrorKind::StorageFull)?;
     assert!(rt; out.written.as_slice() == first.as_slice());
     Ok(())
+}
+
+#[test]
+fn a_failed_flush_stops_the_run(rt: HostRuntime) -> Result<(), Fail> {
+    let mut out = Faulty::at_flush(rt.alloc());
+    assert_stops(&rt, &mut out, 0, ErrorKind::BrokenPipe)?;
+    assert_done(&rt, &TWO_SECTIONS, &CALLS, 1, out.written.as_slice())
 }

@@ -9,6 +9,7 @@ use elf::dynamic::{Dyn, DynamicTable};
 use elf::endian::AnyEndian;
 use elf::gnu_symver::{SymbolDefinition, SymbolRequirement, SymbolVersionTable};
 use elf::note::{Note, NoteIterator};
+use elf::parse::{ParseAt, ParsingTable};
 use elf::relocation::{Rel, RelIterator, Rela, RelaIterator};
 use elf::section::SectionHeader;
 use elf::segment::ProgramHeader;
@@ -457,17 +458,22 @@ fn refused_calls(
     refused
 }
 
+/// Whether these are the records of a table, or none if there is no table.
+fn are_in<P: ParseAt + PartialEq + Copy + Drop>(
+    records: &[P],
+    table: Option<ParsingTable<'_, AnyEndian, P>>,
+) -> bool {
+    match table {
+        Some(table) => records.iter().copied().eq(table.iter()),
+        None => records.is_empty(),
+    }
+}
+
 /// Whether the headers are those of `ElfBytes`.
 fn has_headers(stream: &Halted<'_>, file: &Bytes<'_>) -> bool {
-    let has_sections = match file.section_headers() {
-        Some(shdrs) => stream.section_headers().iter().copied().eq(shdrs.iter()),
-        None => stream.section_headers().is_empty(),
-    };
-    let has_segments = match file.segments() {
-        Some(phdrs) => stream.segments().iter().copied().eq(phdrs.iter()),
-        None => stream.segments().is_empty(),
-    };
-    stream.ehdr == file.ehdr && has_sections && has_segments
+    stream.ehdr == file.ehdr
+        && are_in(stream.section_headers(), file.section_headers())
+        && are_in(stream.segments(), file.segments())
 }
 
 /// Whether a source that fails behind a number of calls fails in the opening or in the calls that follow.

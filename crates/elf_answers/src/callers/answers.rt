@@ -106,9 +106,19 @@ fn print_all<W: Write>(
 ) -> io::Result<()> {
     let found = functions(alloc, symbols)?;
     let versions = indexed(alloc, versions)?;
-    for (index, symbol) in &found {
+    print_found(out, found.as_slice(), strings, versions.as_ref())
+}
+
+/// Prints these functions, each with its index.
+fn print_found<W: Write>(
+    out: &mut W,
+    found: &[(usize, Symbol)],
+    strings: &StringTable<'_>,
+    versions: Option<&IndexedVersions<'_, '_, AnyEndian, Global>>,
+) -> io::Result<()> {
+    for (index, symbol) in found {
         print_function(out, symbol, strings)?;
-        print_version(out, *index, versions.as_ref())?;
+        print_version(out, *index, versions)?;
     }
     Ok(())
 }
@@ -208,7 +218,16 @@ fn print_resolved<W: Write>(
             Err(error) => return print_refusal(out, error),
         }
     }
-    match tables(alloc, libraries.as_slice()) {
+    print_resolved_in(alloc, out, name, libraries.as_slice())
+}
+
+fn print_resolved_in<W: Write>(
+    alloc: Global,
+    out: &mut W,
+    name: &[u8],
+    libraries: &[File<'_>],
+) -> io::Result<()> {
+    match tables(alloc, libraries) {
         Ok(tables) => print_definition(out, definition(tables.as_slice(), name)),
         Err(error) => writeln!(out, "refused: {error}"),
     }

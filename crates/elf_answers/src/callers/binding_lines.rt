@@ -1,9 +1,11 @@
 //! What the references of a list of libraries bind to, as lines.
 use elf::ParseError;
 use elf::endian::AnyEndian;
+use elf::gnu_symver::{IndexedVersions, SymbolVersionTable};
 use elf::string_table::StringTable;
 use elf::symbol::Symbol;
 use elf_binding::{Unreadable, VersionedObject, Wanted, reference};
+use elf_check::hashcheck::AnyChecked;
 use elf_uses::bindings::library::Library;
 use elf_uses::bindings::{Bound, IndexedObject, bind_reference, references, with_index};
 use elf_uses::versions::indexed;
@@ -30,6 +32,24 @@ pub fn print_bindings<W: Write>(
     let mut tables = Vec::new(alloc);
     let mut versions = Vec::new(alloc);
     let mut places = Vec::new(alloc);
+    find_objects(out, libraries, &mut tables, &mut versions, &mut places)?;
+    let mut objects = Vec::new(alloc);
+    index_objects(alloc, tables, versions.as_slice(), &mut objects)?;
+    let scope = Scope {
+        objects: objects.as_slice(),
+        places: places.as_slice(),
+    };
+    print_bindings_in(alloc, out, &scope, libraries)
+}
+
+/// Finds the libraries that are objects, or prints why one is none. Each has its table, its versions and its place.
+fn find_objects<'a, W: Write>(
+    out: &mut W,
+    libraries: &'a [Opened],
+    tables: &mut Vec<AnyChecked<'a, AnyEndian>>,
+    versions: &mut Vec<Option<SymbolVersionTable<'a, AnyEndian>>>,
+    places: &mut Vec<usize>,
+) -> io::Result<()> {
     for (place, library) in libraries.iter().enumerate() {
         if let Some(object) = print_object(out, place, library)? {
             tables.push(object.table)?;
@@ -37,17 +57,31 @@ pub fn print_bindings<W: Write>(
             places.push(place)?;
         }
     }
-    let mut objects = Vec::new(alloc);
-    for (table, versions) in tables.into_iter().zip(versions.iter()) {
+    Ok(())
+}
+
+/// Makes the objects of these tables and of an index of their versions.
+fn index_objects<'a, 'data>(
+    alloc: Global,
+    tables: Vec<AnyChecked<'data, AnyEndian>>,
+    versions: &'a [Option<SymbolVersionTable<'data, AnyEndian>>],
+    objects: &mut Vec<IndexedObject<'a, 'data, AnyEndian>>,
+) -> io::Result<()> {
+    for (table, versions) in tables.into_iter().zip(versions) {
         objects.push(with_index(alloc, table, versions.as_ref())?)?;
     }
-    let scope = Scope {
-        objects: objects.as_slice(),
-        places: places.as_slice(),
-    };
+    Ok(())
+}
+
+fn print_bindings_in<W: Write>(
+    alloc: Global,
+    out: &mut W,
+    scope: &Scope<'_, '_>,
+    libraries: &[Opened],
+) -> io::Result<()> {
     for (place, library) in libraries.iter().enumerate() {
         if let Ok(library) = library {
-            print_bindings_of(alloc, out, &scope, place, library)?;
+            print_bindings_of(alloc, out, scope, place, library)?;
         }
     }
     Ok(())
@@ -94,10 +128,21 @@ fn print_bindings_of<W: Write>(
     };
     let versions = indexed(alloc, versions.as_ref())?;
     let found = references(alloc, &symbols)?;
-    for (index, symbol) in &found {
+    print_references(out, scope, place, &found, &strings, versions.as_ref())
+}
+
+/// Prints what these references of a library bind to, each with its index.
+fn print_references<W: Write>(
+    out: &mut W,
+    scope: &Scope<'_, '_>,
+    place: usize,
+    found: &[(usize, Symbol)],
+    strings: &StringTable<'_>,
+    versions: Option<&IndexedVersions<'_, '_, AnyEndian, Global>>,
+) -> io::Result<()> {
+    for (index, symbol) in found {
         write!(out, "object {place}: symbol {index} ")?;
-        let wanted = reference(versions.as_ref(), *index);
-        print_bound(out, scope, symbol, &strings, wanted)?;
+        print_bound(out, scope, symbol, strings, reference(versions, *index))?;
     }
     Ok(())
 }

@@ -1,4 +1,4 @@
-use Rattle.std.proofs.Common.{◌<◌, Some, length, ap, sym, arith, rules, ◌∙◌}
+use Rattle.std.proofs.Common.{◌<◌, Some, length, ap, sym, rules, ◌∙◌}
 use Rattle.std.proofs.lemmas.Option.{slice_get-get_or}
 use Rattle.elf_uses.specs.Resolver.{HasTable, IsTable}
 use Rattle.elf_uses.proofs.Tables.{below_next, faulty, first_has, missing, paired_push, table_sound}
@@ -9,7 +9,7 @@ loop-library-preserved g c =
     let files = c.args.files.now in
     let place = c.loop-library.library in
     let file = c.index-files-library.result in
-    let inside : place < length files = omega arith in
+    let inside : place < length files = c.loop-library-test.true in
     let at = slice_get-get_or files place file inside ∙ ap Some (sym c.index-files-library.is) in
     let table = rw c.in-Ok-Some.field-0-is at c.in-Ok-Some.ensures in
     let pairs = paired_push (IsTable g.E.EndianParse.little) files c.loop-library.tables.items c.push.new.self.items place file c.in-Ok-Some.table
@@ -22,7 +22,7 @@ returns-in_err-push-in-Ok-Some-clause-refused g c =
     let files = c.args.files.now in
     let place = c.loop-library.library in
     let file = c.index-files-library.result in
-    let inside : place < length files = omega arith in
+    let inside : place < length files = c.loop-library-test.true in
     let at = slice_get-get_or files place file inside ∙ ap Some (sym c.index-files-library.is) in
     let table = rw c.in-Ok-Some.field-0-is at c.in-Ok-Some.ensures in
     let sound = table_sound g.E.EndianParse.little file c.in-Ok-Some.table table in
@@ -34,7 +34,7 @@ returns-in-Ok-None-clause-refused g c =
     let files = c.args.files.now in
     let place = c.loop-library.library in
     let file = c.index-files-library.result in
-    let inside : place < length files = omega arith in
+    let inside : place < length files = c.loop-library-test.true in
     let at = slice_get-get_or files place file inside ∙ ap Some (sym c.index-files-library.is) in
     let none = rw c.in-Ok-None.field-0-is at c.in-Ok-None.ensures in
     missing g.E.EndianParse.little files place file at none c.loop-library.invariant.2
@@ -44,6 +44,6 @@ returns-in-Err-clause-refused g c =
     let files = c.args.files.now in
     let place = c.loop-library.library in
     let file = c.index-files-library.result in
-    let inside : place < length files = omega arith in
+    let inside : place < length files = c.loop-library-test.true in
     let at = slice_get-get_or files place file inside ∙ ap Some (sym c.index-files-library.is) in
     faulty g.E.EndianParse.little files place file _ at c.in-Err.ensures c.loop-library.invariant.2
