@@ -11,7 +11,7 @@ pub mod data;
 pub mod dynamic;
 pub mod header;
 pub mod line_buffer;
-pub mod name;
+mod name;
 pub mod no_answer;
 pub mod notes;
 pub mod relocations;
