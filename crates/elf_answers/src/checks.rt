@@ -31,13 +31,13 @@ pub(crate) fn show_check(
     let least = words.number();
     let most = words.number();
     let names = words.rest();
-    let section = Section {
+    let section = Section::new(
         order,
         class,
-        bytes: section.as_slice(),
-        symtab: SymbolTable::new(order, class, symbols.as_slice()),
-        strtab: StringTable::new(strings.as_slice()),
-    };
+        section.as_slice(),
+        symbols.as_slice(),
+        strings.as_slice(),
+    );
     let reads = if kind == "sysv" {
         show_sysv(rt, section, is_fault_named, names)
     } else {
@@ -55,13 +55,13 @@ pub(crate) fn show_all(rt: &HostRuntime, words: &mut Words<'_>) -> io::Result<()
     let section = words.bytes(rt);
     let symbols = words.bytes(rt);
     let strings = words.bytes(rt);
-    let section = Section {
+    let section = Section::new(
         order,
         class,
-        bytes: section.as_slice(),
-        symtab: SymbolTable::new(order, class, symbols.as_slice()),
-        strtab: StringTable::new(strings.as_slice()),
-    };
+        section.as_slice(),
+        symbols.as_slice(),
+        strings.as_slice(),
+    );
     show_all_named(rt, kind, section, words.rest())
 }
 
@@ -115,6 +115,24 @@ struct Section<'a> {
     bytes: &'a [u8],
     symtab: SymbolTable<'a, AnyEndian>,
     strtab: StringTable<'a>,
+}
+
+impl<'a> Section<'a> {
+    fn new(
+        order: AnyEndian,
+        class: Class,
+        bytes: &'a [u8],
+        symbols: &'a [u8],
+        strings: &'a [u8],
+    ) -> Section<'a> {
+        Section {
+            order,
+            class,
+            bytes,
+            symtab: SymbolTable::new(order, class, symbols),
+            strtab: StringTable::new(strings),
+        }
+    }
 }
 
 fn show_sysv(

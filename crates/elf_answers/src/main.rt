@@ -1,11 +1,12 @@
-//! Makes the library's calls of the file `calls`, a line each, and prints what each answers; then does the
-//! same with the cases of command lines of the file `cases`, and with those of example callers of the file `callers`.
-//! `elf_answers CALLER FILE..` prints the results of an example caller for each file instead. `resolver=NAME` looks a
-//! name up in all of them, and `bindings` binds the undefined symbols of all of them, a program and its libraries in
-//! search order.
+//! Without words, runs the test cases: makes the library's calls of the file `calls`, a line each, and prints what each
+//! returns; then does the same with the command lines of the file `cases`, and with the example callers of the file
+//! `callers`.
 //!
-//! Bytes are hexadecimal digits, `-` for none, or `@NAME` for the small file NAME. An answer is shown as `{:?}`
-//! shows it, an error with its text behind it. All is written straight to standard output, since a text that is
+//! `elf_answers CALLER FILE..` prints the results of an example caller for each file. `resolver=NAME` looks a name up in
+//! all of them, and `bindings` binds the undefined symbols of all of them, a program and its libraries in search order.
+//!
+//! In test cases bytes are hexadecimal digits, `-` for none, or `@NAME` for the small file NAME. A result is shown as
+//! `{:?}` shows it, an error with its text behind it. It is written straight to standard output, since a text that is
 //! built first costs much of the time of a check.
 #![tactic(auto)]
 

@@ -6,7 +6,7 @@ use thiserror::Error;
 
 /// Why a row was not run.
 #[derive(Debug, Drop, Error)]
-pub enum RowError {
+pub(crate) enum RowError {
     #[error("{0}")]
     File(#[from] io::Error),
     #[error("out of memory")]

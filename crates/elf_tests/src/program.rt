@@ -159,7 +159,7 @@ fn nothing_is_written_without_memory(rt: HostRuntime) -> io::Result<()> {
     Ok(())
 }
 
-/// Asserts what a request answers over a header alone.
+/// Asserts with what the text of a request over a header alone begins.
 fn assert_answers(rt: &(impl Abort + AllocGlobal), request: &Request<'_>, want: &[u8]) {
     let files = MemFile {
         alloc: rt.alloc(),

@@ -459,7 +459,7 @@ fn refused_calls(
 }
 
 /// Whether these are the records of a table, or none if there is no table.
-fn are_in<P: ParseAt + PartialEq + Copy + Drop>(
+fn are_records_of<P: ParseAt + PartialEq + Copy + Drop>(
     records: &[P],
     table: Option<ParsingTable<'_, AnyEndian, P>>,
 ) -> bool {
@@ -472,8 +472,8 @@ fn are_in<P: ParseAt + PartialEq + Copy + Drop>(
 /// Whether the headers are those of `ElfBytes`.
 fn has_headers(stream: &Halted<'_>, file: &Bytes<'_>) -> bool {
     stream.ehdr == file.ehdr
-        && are_in(stream.section_headers(), file.section_headers())
-        && are_in(stream.segments(), file.segments())
+        && are_records_of(stream.section_headers(), file.section_headers())
+        && are_records_of(stream.segments(), file.segments())
 }
 
 /// Whether a source that fails behind a number of calls fails in the opening or in the calls that follow.

@@ -21,7 +21,7 @@ use std::io::Write;
 type File<'data> = ElfBytes<'data, AnyEndian>;
 
 /// Prints the results of a caller, for each file, or for `resolver` and `bindings` over all files.
-pub fn print_answers<W: Write>(
+pub(super) fn print_answers<W: Write>(
     alloc: Global,
     out: &mut W,
     caller: &str,

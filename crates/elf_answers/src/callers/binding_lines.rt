@@ -14,7 +14,7 @@ use std::io;
 use std::io::Write;
 
 /// A library, or why its file could not be opened.
-pub type Opened = Result<Library<AnyEndian>, ParseError>;
+pub(super) type Opened = Result<Library<AnyEndian>, ParseError>;
 
 /// The objects in which references are bound, and for each object the place of its library in the list of libraries.
 #[derive(Drop)]
@@ -24,7 +24,7 @@ struct Scope<'a, 'data> {
 }
 
 /// Prints which libraries are no objects, and what each reference of each library binds to.
-pub fn print_bindings<W: Write>(
+pub(super) fn print_bindings<W: Write>(
     alloc: Global,
     out: &mut W,
     libraries: &[Opened],
@@ -42,7 +42,7 @@ pub fn print_bindings<W: Write>(
     print_bindings_in(alloc, out, &scope, libraries)
 }
 
-/// Finds the libraries that are objects, or prints why one is none. Each has its table, its versions and its place.
+/// Adds the table, the versions and the place of each library that is an object, and prints why the others are none.
 fn find_objects<'a, W: Write>(
     out: &mut W,
     libraries: &'a [Opened],
@@ -60,7 +60,7 @@ fn find_objects<'a, W: Write>(
     Ok(())
 }
 
-/// Makes the objects of these tables and of an index of their versions.
+/// Adds the objects of these tables, each with an index of its versions.
 fn index_objects<'a, 'data>(
     alloc: Global,
     tables: Vec<AnyChecked<'data, AnyEndian>>,

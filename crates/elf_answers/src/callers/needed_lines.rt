@@ -10,7 +10,7 @@ use std::io::Write;
 type Stream<S> = ElfStream<AnyEndian, S, Global>;
 
 /// Prints the lines of the files with these names. Of each file only the needed ranges are read.
-pub fn print_needed_of_files<W: Write>(
+pub(super) fn print_needed_of_files<W: Write>(
     rt: &HostRuntime,
     files: &[String],
     out: &mut W,
@@ -23,7 +23,11 @@ pub fn print_needed_of_files<W: Write>(
 }
 
 /// Prints the lines of a file in memory.
-pub fn print_needed_of_bytes<W: Write>(alloc: Global, out: &mut W, data: &[u8]) -> io::Result<()> {
+pub(super) fn print_needed_of_bytes<W: Write>(
+    alloc: Global,
+    out: &mut W,
+    data: &[u8],
+) -> io::Result<()> {
     print_needed(alloc, out, Stream::open_stream(alloc, MemSource::new(data)))
 }
 
