@@ -19,13 +19,36 @@ crates_of() {
         END { visit(name) }' "$top/crates.txt"
 }
 
-# is_current PROGRAM: the program is there, and no older than its sources
-is_current() {
-    [ -x "$1" ] || return 1
+# sources FIND-WORD..: runs find over what the program is made of: crates.txt, and src, specs and proofs of its crates
+sources() {
     # shellcheck disable=SC2046
-    newer=$(cd "$top/crates" &&
-        find ../crates.txt $(crates_of elfshow_cli) -name out -prune -o -type f -newer "$1" -print | head -n 1)
-    [ -z "$newer" ]
+    (cd "$top/crates" && find ../crates.txt $(crates_of elfshow_cli | sed 's,.*,&/src &/specs &/proofs,') "$@" 2>/dev/null)
+}
+
+# sources_sum: the checksum of the names and the content of these files
+sources_sum() {
+    sources -type f -exec sha256sum {} + | LC_ALL=C sort | sha256sum
+}
+
+# is_current PROGRAM: the program is there, and its sources are those that it was made of. PROGRAM.sources has their
+# checksum. It is as old as the reading of the sources, so nothing is read where no source was touched since.
+is_current() {
+    [ -x "$1" ] && [ -f "$1.sources" ] || return 1
+    [ -n "$(sources -cnewer "$1.sources" | head -n 1)" ] || return 0
+    { : >"$1.sources.$$"; } 2>/dev/null
+    is_same=1
+    if [ "$(cat "$1.sources")" = "$(sources_sum)" ]; then
+        is_same=0
+        touch -r "$1.sources.$$" "$1.sources" 2>/dev/null
+    fi
+    rm -f "$1.sources.$$"
+    return "$is_same"
+}
+
+# note_sources FILE: reads the sources, and writes their checksum to FILE, which is as old as the start of the reading
+note_sources() {
+    : >"$1.started"
+    sources_sum >"$1" && touch -r "$1.started" "$1" && rm "$1.started"
 }
 
 # stop WORD..: says in one line what is wrong and what to do, and ends
