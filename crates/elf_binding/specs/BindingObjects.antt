@@ -6,9 +6,9 @@ use Rattle.elf_parts.specs.gnu_symver.Table.{Versions}
 use Rattle.elf.specs.Answers.{symbol_version_table}
 use Rattle.elf.specs.ObjectFile.{ObjectFile}
 use Rattle.elf_check.specs.Object.{IsSound}
-use Rattle.elf_check.specs.ObjectTable.{IsFaultOf, object_of}
-use Rattle.elf_check.specs.declared.resolve.ObjectFault.{ObjectFault}
-use Rattle.elf_check.specs.declared.resolve.ObjectFault.TheVariants.{Read}
+use Rattle.elf_binding.specs.ObjectTable.{IsFaultOf, object_of}
+use Rattle.elf_binding.specs.declared.resolve.ObjectFault.{ObjectFault}
+use Rattle.elf_binding.specs.declared.resolve.ObjectFault.TheVariants.{Read}
 use Rattle.elf_binding.specs.Binding.{NamedVersion, VersionedObject, version_of, version_view}
 use Rattle.elf_binding.specs.declared.Unreadable.{Unreadable}
 use Rattle.elf_binding.specs.declared.Wanted.{Wanted}

@@ -1,3 +1,7 @@
+-- which object of a list has a name
+pub mod Resolve
+-- which object a file is
+pub mod ObjectTable
 -- an object with the versions of its symbols, and what a reference binds to
 pub mod VersionedView
 pub mod Binding

@@ -1,18 +1,21 @@
-//! Finds the symbol to which a reference binds if symbols have versions, as a dynamic linker does: the first object
-//! of an ordered list with a definition that serves the reference (GNU symbol versioning).
+//! Looks up names in an ordered list of objects, as a dynamic linker does. `resolve` finds the first object that has a
+//! name. `bind` finds the symbol to which a reference binds if symbols have versions: the first definition that serves
+//! the reference (GNU symbol versioning).
 //!
-//! An object is given by its checked hash table (`elf_check`) and by the versions of its symbols. Nothing is allocated.
+//! An object is given by its checked hash table (`elf_check`), and for `bind` also by the versions of its symbols.
+//! Nothing is allocated.
 #![tactic(auto)]
 
 mod choice;
 mod definitions;
 pub mod laws;
 mod objects;
+pub mod resolve;
 mod versions;
 
 pub use choice::bind;
 pub use definitions::is_definition;
-use elf_check::resolve::AnyChecked;
+use elf_check::hashcheck::AnyChecked;
 use elf_parts::endian::EndianParse;
 use elf_parts::gnu_symver::SymbolVersionTable;
 pub use objects::{reference, versioned_object};

@@ -6,11 +6,11 @@ ghost use Rattle.elf_parts.specs.gnu_symver.Table.{versions_view};
 ghost use Rattle.elf_binding.specs.BindingObjects.{GivesVersioned, IsReference};
 ghost use Rattle.elf_binding.specs.VersionedView.{versioned_view};
 
+use crate::resolve::{ObjectFault, object_table};
 use crate::{Unreadable, VersionedObject, Wanted, version_of};
 use elf::ElfBytes;
 use elf::endian::EndianParse;
 use elf::gnu_symver::SymbolVersions;
-use elf_check::resolve::{ObjectFault, object_table};
 
 /// Returns the checked hash table of a file with the versions of its symbols, if it has version indexes. Returns
 /// `None` exactly if the file has no hash section.

@@ -16,9 +16,5 @@ pub mod Object
 pub mod CheckedTable
 -- all symbols of a name, in order
 pub mod NamedSymbols
--- which object of a list has a name
-pub mod Resolve
--- which object a file is
-pub mod ObjectTable
 -- what only implementations and private functions cite
 pub mod inner

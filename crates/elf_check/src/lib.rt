@@ -1,6 +1,4 @@
-//! The checker of hash sections (`hashcheck`), and the look-up of a name over a list of objects with checked sections
-//! (`resolve`).
+//! The checker of hash sections (`hashcheck`).
 #![tactic(auto)]
 
 pub mod hashcheck;
-pub mod resolve;

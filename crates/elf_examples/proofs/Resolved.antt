@@ -13,7 +13,7 @@ use Rattle.elf_check.proofs.GnuScan.{gnu_scan}
 use Rattle.elf_check.proofs.SysvScan.{sysv_scan}
 use Rattle.elf_check.specs.Indexed.{IsFirstNamed, IsLeastNamed}
 use Rattle.elf_check.specs.Object.{Has, Object}
-use Rattle.elf_check.specs.Resolve.{At}
+use Rattle.elf_binding.specs.Resolve.{At}
 use Rattle.elf_check.specs.WithSymbols.{named, word}
 use Rattle.elf_check.specs.inner.SoundProps.{GnuReads, SysvReads}
 use Rattle.elf_examples.proofs.Below.{below_one, below_two, some_other}

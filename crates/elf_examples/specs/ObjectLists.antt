@@ -6,9 +6,9 @@ use Rattle.elf_records.specs.declared.parse.ParseError.{ParseError}
 use Rattle.elf_records.specs.declared.symbol.Symbol.{Symbol}
 use Rattle.elf.specs.ObjectFile.{object_file}
 use Rattle.elf_check.specs.Object.{ByGnu, BySysv, Object}
-use Rattle.elf_check.specs.ObjectTable.{object_of}
-use Rattle.elf_check.specs.Resolve.{IsResolved}
-use Rattle.elf_check.specs.declared.resolve.ObjectFault.{ObjectFault}
+use Rattle.elf_binding.specs.ObjectTable.{object_of}
+use Rattle.elf_binding.specs.Resolve.{IsResolved}
+use Rattle.elf_binding.specs.declared.resolve.ObjectFault.{ObjectFault}
 use Rattle.elf_examples.specs.Files.{in_four}
 use Rattle.elf_examples.specs.Known.{opening}
 use Rattle.elf_examples.specs.SoundSections.{gnu_with, sysv_with}

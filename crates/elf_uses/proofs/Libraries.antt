@@ -17,10 +17,10 @@ use Rattle.elf.specs.Headers.{first_section_of}
 use Rattle.elf.specs.ObjectFile.{ObjectFile}
 use Rattle.elf.specs.StreamFile.{listed_file, stream_file}
 use Rattle.elf_check.specs.Object.{object_in}
-use Rattle.elf_check.specs.ObjectTable.{needed, object_by, object_of, read}
+use Rattle.elf_binding.specs.ObjectTable.{needed, object_by, object_of, read}
 use Rattle.elf_check.specs.declared.hashcheck.any.HashSection.{HashSection}
 use Rattle.elf_check.specs.declared.hashcheck.any.HashSection.TheVariants.{Gnu, Sysv}
-use Rattle.elf_check.specs.declared.resolve.ObjectFault.{ObjectFault}
+use Rattle.elf_binding.specs.declared.resolve.ObjectFault.{ObjectFault}
 use Rattle.elf_uses.specs.Library.{IsLibraryOf, IsOpened, hash_by, hash_in, library_hash, hash_section, object_from, library_object}
 use Rattle.elf_uses.specs.Library.{symbols_in, versions_in, library_versions}
 use Rattle.elf_uses.specs.Readings.{IsRead, Reads}

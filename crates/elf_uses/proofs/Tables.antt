@@ -11,11 +11,11 @@ use Rattle.elf_records.specs.declared.endian.EndianParse.{Ghosts as EndianGhosts
 use Rattle.elf.specs.declared.elf_bytes.ElfBytes.{ElfBytes}
 use Rattle.elf_check.specs.CheckedTable.{object_view}
 use Rattle.elf_check.specs.Object.{IsSound, Object}
-use Rattle.elf_check.specs.ObjectTable.{IsFaultOf, IsTableOf}
+use Rattle.elf_binding.specs.ObjectTable.{IsFaultOf, IsTableOf}
 use Rattle.elf_check.specs.declared.hashcheck.gnu.CheckedGnuHash.{CheckedGnuHash}
 use Rattle.elf_check.specs.declared.hashcheck.sysv.CheckedSysvHash.{CheckedSysvHash}
 use Rattle.elf_check.specs.declared.hashcheck.any.HashKind.{HashKind}
-use Rattle.elf_check.specs.declared.resolve.ObjectFault.{ObjectFault}
+use Rattle.elf_binding.specs.declared.resolve.ObjectFault.{ObjectFault}
 use Rattle.elf_uses.specs.Resolver.{HasTable, HaveTables, IsTable, IsTrueOf, library}
 use Rattle.elf_uses.specs.declared.resolver.TablesError.TheVariants.{Fault, Memory, NoHash}
 

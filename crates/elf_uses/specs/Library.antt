@@ -21,11 +21,11 @@ use Rattle.elf.specs.StreamFile.{listed_file}
 use Rattle.elf.specs.ObjectFile.{ObjectFile}
 use Rattle.elf_binding.specs.Binding.{VersionedObject}
 use Rattle.elf_check.specs.Object.{IsSound, Object, object_in}
-use Rattle.elf_check.specs.ObjectTable.{IsFaultOf, needed, read}
+use Rattle.elf_binding.specs.ObjectTable.{IsFaultOf, needed, read}
 use Rattle.elf_check.specs.declared.hashcheck.any.HashSection.{HashSection}
 use Rattle.elf_check.specs.declared.hashcheck.any.HashSection.TheVariants.{Gnu, Sysv}
-use Rattle.elf_check.specs.declared.resolve.ObjectFault.{ObjectFault}
-use Rattle.elf_check.specs.declared.resolve.ObjectFault.TheVariants.{Read}
+use Rattle.elf_binding.specs.declared.resolve.ObjectFault.{ObjectFault}
+use Rattle.elf_binding.specs.declared.resolve.ObjectFault.TheVariants.{Read}
 use Rattle.elf_uses.specs.Readings.{IsRead}
 use Rattle.elf_uses.specs.declared.bindings.library.EntryBytes.{EntryBytes}
 use Rattle.elf_uses.specs.declared.bindings.library.HashBytes.{HashBytes}

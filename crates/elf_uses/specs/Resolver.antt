@@ -12,12 +12,12 @@ use Rattle.elf.specs.ElfBytes.{view}
 use Rattle.elf.specs.declared.elf_bytes.ElfBytes.{ElfBytes}
 use Rattle.elf_check.specs.CheckedTable.{object_view}
 use Rattle.elf_check.specs.Object.{IsFound, IsSound, Object}
-use Rattle.elf_check.specs.ObjectTable.{IsFaultOf, IsTableOf, object_of}
-use Rattle.elf_check.specs.Resolve.{At}
+use Rattle.elf_binding.specs.ObjectTable.{IsFaultOf, IsTableOf, object_of}
+use Rattle.elf_binding.specs.Resolve.{At}
 use Rattle.elf_check.specs.declared.hashcheck.gnu.CheckedGnuHash.{CheckedGnuHash}
 use Rattle.elf_check.specs.declared.hashcheck.sysv.CheckedSysvHash.{CheckedSysvHash}
 use Rattle.elf_check.specs.declared.hashcheck.any.HashKind.{HashKind}
-use Rattle.elf_check.specs.declared.resolve.ObjectFault.{ObjectFault}
+use Rattle.elf_binding.specs.declared.resolve.ObjectFault.{ObjectFault}
 use Rattle.elf_uses.specs.declared.resolver.TablesError.{TablesError}
 use Rattle.elf_uses.specs.declared.resolver.TablesError.TheVariants.{Fault, Memory, NoHash}
 

@@ -1,14 +1,14 @@
 //! Whether a hash section of a file is sound for the dynamic symbols, or a fault of it.
 ghost use Rattle.elf.specs.ObjectFile.{object_file};
 ghost use Rattle.elf.specs.ElfBytes.{view};
-ghost use Rattle.elf_check.specs.ObjectTable.{section_object};
+ghost use Rattle.elf_binding.specs.ObjectTable.{section_object};
 ghost use Rattle.elf_uses.specs.HashLint.{GivesLint, IsLint, hash_object};
 
 use elf::endian::EndianParse;
 use elf::section::SectionHeader;
 use elf::{ElfBytes, abi};
 use elf_check::hashcheck::{Checked, HashSection, check_any};
-use elf_check::resolve::ObjectFault;
+use elf_binding::resolve::ObjectFault;
 
 fn kind_lint<E: EndianParse>(
     file: &ElfBytes<'_, E>,

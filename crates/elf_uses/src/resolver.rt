@@ -7,7 +7,7 @@ ghost use Rattle.elf_uses.specs.declared.resolver.TablesError.TheVariants.{Memor
 use elf::ElfBytes;
 use elf::endian::EndianParse;
 use elf::symbol::Symbol;
-use elf_check::resolve::{AnyChecked, ObjectFault, object_table};
+use elf_binding::resolve::{AnyChecked, ObjectFault, object_table};
 use std::alloc::{AllocFailed, Global};
 use thiserror::Error;
 

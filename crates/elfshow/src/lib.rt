@@ -7,6 +7,7 @@ pub mod laws;
 pub mod show;
 mod words;
 
+pub use elf_binding::resolve;
 pub use elf_calls::readers;
-pub use elf_check::{hashcheck, resolve};
+pub use elf_check::hashcheck;
 pub use elf_runs::calls;

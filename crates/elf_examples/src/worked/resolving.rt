@@ -3,9 +3,9 @@ ghost use Rattle.std.specs.Prelude.{◌≡◌, [], ◌∷◌, None, Ok, Err, Som
 ghost use Rattle.elf_records.specs.declared.parse.ParseError.TheVariants.{SliceReadError};
 ghost use Rattle.elf_check.specs.NamedSymbols.{chain_from, kept_named, run_from};
 ghost use Rattle.elf_check.specs.Object.{ByGnu, BySysv};
-ghost use Rattle.elf_check.specs.ObjectTable.{IsFaultOf, object_of};
+ghost use Rattle.elf_binding.specs.ObjectTable.{IsFaultOf, object_of};
 ghost use Rattle.elf_check.specs.declared.hashcheck.HashFault.TheVariants.{Endless};
-ghost use Rattle.elf_check.specs.declared.resolve.ObjectFault.TheVariants.{Faulty, NoSymbols, Read};
+ghost use Rattle.elf_binding.specs.declared.resolve.ObjectFault.TheVariants.{Faulty, NoSymbols, Read};
 ghost use Rattle.elf_examples.specs.Files.{counted, in_four, two_sections};
 ghost use Rattle.elf_examples.specs.HashesOfA.{gnu_of_a, sysv_of_a};
 ghost use Rattle.elf_examples.specs.Listed.{gnu_type, symbol_a, symbol_a_with};

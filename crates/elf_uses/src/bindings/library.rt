@@ -6,7 +6,7 @@ ghost use Rattle.elf_parts.specs.gnu_symver.Table.{definitions_view, needs_view,
 ghost use Rattle.elf.specs.Answers.{symbol_version_table, symbols_view};
 ghost use Rattle.elf.specs.ObjectFile.{ObjectFile};
 ghost use Rattle.elf_check.specs.CheckedTable.{object_view};
-ghost use Rattle.elf_check.specs.ObjectTable.{GivesObjectTable, object_of};
+ghost use Rattle.elf_binding.specs.ObjectTable.{GivesObjectTable, object_of};
 ghost use Rattle.elf_binding.specs.VersionedView.{versioned_view};
 ghost use Rattle.elf_uses.specs.Library.{GivesFrom, IsLibraryOf, definitions_in, library_hash, needs_in};
 ghost use Rattle.elf_uses.specs.Library.{part_result, shown_hash};
@@ -21,7 +21,7 @@ use elf::string_table::StringTable;
 use elf::symbol::SymbolTable;
 use elf_binding::VersionedObject;
 use elf_check::hashcheck::{AnyChecked, Checked, HashSection, check_any};
-use elf_check::resolve::ObjectFault;
+use elf_binding::resolve::ObjectFault;
 use thiserror::Error;
 
 /// The bytes of a hash section, and its kind.

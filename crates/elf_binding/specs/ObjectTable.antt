@@ -17,8 +17,8 @@ use Rattle.elf.specs.ObjectFile.{ObjectFile}
 use Rattle.elf_check.specs.Object.{IsSound, IsTrueOf, Object, object_in}
 use Rattle.elf_check.specs.declared.hashcheck.any.HashSection.{HashSection}
 use Rattle.elf_check.specs.declared.hashcheck.any.HashSection.TheVariants.{Gnu, Sysv}
-use Rattle.elf_check.specs.declared.resolve.ObjectFault.{ObjectFault}
-use Rattle.elf_check.specs.declared.resolve.ObjectFault.TheVariants.{Faulty, NoSymbols, Read}
+use Rattle.elf_binding.specs.declared.resolve.ObjectFault.{ObjectFault}
+use Rattle.elf_binding.specs.declared.resolve.ObjectFault.TheVariants.{Faulty, NoSymbols, Read}
 use denote.Ref.{Bor}
 
 -- the error of a reader is a fault

@@ -1,5 +1,5 @@
 use Rattle.elf_check.specs.CheckedTable.{object_view}
-use Rattle.elf_check.specs.Resolve.{NoneBefore}
+use Rattle.elf_binding.specs.Resolve.{NoneBefore}
 use Rattle.elf_check.proofs.resolve.objects.resolve.Given as goal
 
 -- no object so far has the name

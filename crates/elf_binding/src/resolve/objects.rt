@@ -4,11 +4,10 @@ ghost use Rattle.elf_records.specs.Number.{ok_map};
 ghost use Rattle.elf.specs.ObjectFile.{object_file};
 ghost use Rattle.elf.specs.ElfBytes.{view};
 ghost use Rattle.elf_check.specs.CheckedTable.{object_view};
-ghost use Rattle.elf_check.specs.ObjectTable.{GivesObjectTable, GivesTable, object_of, parts_view, section_object};
-ghost use Rattle.elf_check.specs.ObjectTable.{section_parts};
-ghost use Rattle.elf_check.specs.Resolve.{IsResolved};
+ghost use Rattle.elf_binding.specs.ObjectTable.{GivesObjectTable, GivesTable, object_of, parts_view, section_object};
+ghost use Rattle.elf_binding.specs.ObjectTable.{section_parts};
+ghost use Rattle.elf_binding.specs.Resolve.{IsResolved};
 
-use crate::hashcheck::{AnyChecked, Checked, HashSection, check_any};
 use crate::resolve::ObjectFault;
 use elf::endian::EndianParse;
 use elf::headers::Headers;
@@ -16,6 +15,7 @@ use elf::section::SectionHeader;
 use elf::string_table::StringTable;
 use elf::symbol::{Symbol, SymbolTable};
 use elf::{ElfBytes, abi};
+use elf_check::hashcheck::{AnyChecked, Checked, HashSection, check_any};
 
 // The bytes of a section, and the dynamic symbols with their strings.
 type SectionParts<'data, E> = (&'data [u8], (SymbolTable<'data, E>, StringTable<'data>));

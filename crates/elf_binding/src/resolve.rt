@@ -4,12 +4,12 @@
 //! An object is given by its checked hash table, so a look-up returns no error and misses no indexed symbol.
 //! Nothing is allocated.
 ghost use Rattle.std.specs.Prelude.{◌≡◌};
-ghost use Rattle.elf_check.specs.declared.resolve.ObjectFault.TheVariants.{Read as IsRead};
+ghost use Rattle.elf_binding.specs.declared.resolve.ObjectFault.TheVariants.{Read as IsRead};
 
 mod objects;
 
-use crate::hashcheck::HashFault;
-pub use crate::hashcheck::{AnyChecked, HashKind};
+use elf_check::hashcheck::HashFault;
+pub use elf_check::hashcheck::{AnyChecked, HashKind};
 use elf_parts::parse::ParseError;
 pub use objects::{object_table, resolve};
 use thiserror::Error;
