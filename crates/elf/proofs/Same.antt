@@ -10,7 +10,7 @@ use Rattle.elf_records.specs.Section.{section_header_layout, section_header_read
 use Rattle.elf_records.specs.Symbol.{symbol_layout}
 use Rattle.elf_parts.specs.gnu_symver.Lists.{ver_defs, ver_needs}
 use Rattle.elf_parts.specs.gnu_symver.Table.{Definitions, Needs, Versions}
-use Rattle.elf_parts.specs.Table.{Table, table_get, table_in, table_items}
+use Rattle.elf_records.specs.Table.{Table, table_get, table_in, table_items}
 use Rattle.elf_records.specs.declared.file.FileHeader.{FileHeader}
 use Rattle.elf_records.specs.declared.parse.ParseError.{ParseError}
 use Rattle.elf_records.specs.declared.section.SectionHeader.{SectionHeader}

@@ -11,15 +11,15 @@ use Rattle.elf_records.specs.Relocation.{rel_reads, rela_reads}
 use Rattle.elf_records.specs.Symbol.{symbol_layout}
 use Rattle.elf_records.specs.StringTable.{strings_view}
 use Rattle.elf_parts.specs.gnu_symver.Table.{Versions}
-use Rattle.elf_parts.specs.Table.{Table, items_left, table_view}
+use Rattle.elf_records.specs.Table.{Table, items_left, table_view}
 use Rattle.elf_records.specs.declared.parse.ParseError.{ParseError}
 use Rattle.elf_records.specs.declared.parse.ParseError.TheVariants.{UnexpectedSegmentType}
-use Rattle.elf_parts.specs.declared.parse.table.ParsingIterator.{ParsingIterator}
-use Rattle.elf_parts.specs.declared.parse.table.ParsingTable.{ParsingTable}
+use Rattle.elf_records.specs.declared.parse.table.ParsingIterator.{ParsingIterator}
+use Rattle.elf_records.specs.declared.parse.table.ParsingTable.{ParsingTable}
 use Rattle.elf_records.specs.declared.relocation.Rel.{Rel}
 use Rattle.elf_records.specs.declared.relocation.Rela.{Rela}
 use Rattle.elf_records.specs.declared.section.SectionHeader.{SectionHeader}
-use Rattle.elf_parts.specs.declared.segment.ProgramHeader.{ProgramHeader}
+use Rattle.elf_records.specs.declared.segment.ProgramHeader.{ProgramHeader}
 use Rattle.elf_records.specs.declared.string_table.StringTable.{StringTable}
 use Rattle.elf.specs.Headers.{entry_size, if_found, first_section_of, first_segment_of}
 use Rattle.elf.specs.Names.{has_name, name_table}

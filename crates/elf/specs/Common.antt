@@ -9,7 +9,7 @@ use Rattle.elf_records.specs.Number.{ok_map}
 use Rattle.elf_records.specs.Record.{◌>>=◌}
 use Rattle.elf_records.specs.StringTable.{strings_view}
 use Rattle.elf_parts.specs.SysvFind.{SysvTable, sysv_section, sysv_view}
-use Rattle.elf_parts.specs.Table.{Table, table_view}
+use Rattle.elf_records.specs.Table.{Table, table_view}
 use Rattle.elf_records.specs.declared.parse.ParseError.{ParseError}
 use Rattle.elf_records.specs.declared.section.SectionHeader.{SectionHeader}
 use Rattle.elf.specs.Answers.{section_dynamic, segment_dynamic, symbols_of}

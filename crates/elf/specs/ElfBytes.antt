@@ -1,6 +1,6 @@
 -- What an opened file shows: its header as it is now, its bytes, and the two tables that it declares.
 use Rattle.std.specs.Option.{option_map}
-use Rattle.elf_parts.specs.Table.{table_view}
+use Rattle.elf_records.specs.Table.{table_view}
 use Rattle.elf_records.specs.declared.file.FileHeader.{FileHeader}
 use Rattle.elf.specs.declared.elf_bytes.ElfBytes.{ElfBytes}
 use Rattle.elf_reading.specs.Opening.{View}

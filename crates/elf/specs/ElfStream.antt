@@ -5,7 +5,7 @@ use Rattle.elf_records.specs.Number.{bytes_at}
 use Rattle.elf_records.specs.declared.file.FileHeader.{FileHeader}
 use Rattle.elf_records.specs.declared.parse.ParseError.{ParseError}
 use Rattle.elf_records.specs.declared.section.SectionHeader.{SectionHeader}
-use Rattle.elf_parts.specs.declared.segment.ProgramHeader.{ProgramHeader}
+use Rattle.elf_records.specs.declared.segment.ProgramHeader.{ProgramHeader}
 use Rattle.elf_reading.specs.Opening.{opened}
 use Rattle.elf.specs.ElfBytes.{with_header}
 use Rattle.elf_reading.specs.Opening.{View, section_list, segment_list}

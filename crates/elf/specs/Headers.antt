@@ -4,11 +4,11 @@ use Rattle.std.specs.Prelude.{ℕ, List, Option, Some, None, Result, Err, ◌==�
 use Rattle.std.specs.List.{find}
 use Rattle.elf_records.specs.Number.{bytes_at, ok_map}
 use Rattle.elf_records.specs.Section.{section_header_reads}
-use Rattle.elf_parts.specs.Table.{Table, table_get}
+use Rattle.elf_records.specs.Table.{Table, table_get}
 use Rattle.elf_records.specs.declared.parse.ParseError.{ParseError}
 use Rattle.elf_records.specs.declared.parse.ParseError.TheVariants.{BadOffset, BadEntsize}
 use Rattle.elf_records.specs.declared.section.SectionHeader.{SectionHeader}
-use Rattle.elf_parts.specs.declared.segment.ProgramHeader.{ProgramHeader}
+use Rattle.elf_records.specs.declared.segment.ProgramHeader.{ProgramHeader}
 use Rattle.elf_reading.specs.Versions.{is_of_type}
 
 -- ---- a header, and its bytes

@@ -6,9 +6,9 @@ use Rattle.elf_abi.specs.Values.{shn_undef, shn_xindex}
 use Rattle.elf_records.specs.Number.{ok_map}
 use Rattle.elf_records.specs.Record.{◌>>=◌}
 use Rattle.elf_records.specs.StringTable.{string_at, strings_view}
-use Rattle.elf_parts.specs.Table.{Table, table_view}
+use Rattle.elf_records.specs.Table.{Table, table_view}
 use Rattle.elf_records.specs.declared.parse.ParseError.{ParseError}
-use Rattle.elf_parts.specs.declared.parse.table.ParsingTable.{ParsingTable}
+use Rattle.elf_records.specs.declared.parse.table.ParsingTable.{ParsingTable}
 use Rattle.elf_records.specs.declared.section.SectionHeader.{SectionHeader}
 use Rattle.elf_records.specs.declared.string_table.StringTable.{StringTable}
 use Rattle.elf.specs.ObjectFile.{ObjectFile}

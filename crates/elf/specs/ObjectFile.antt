@@ -2,11 +2,11 @@
 -- headers lies in the file. So it does not matter which reader has opened it.
 use Rattle.std.specs.Prelude.{ℕ, Bool, List, Result, is_some}
 use Rattle.elf_records.specs.Record.{RecordType}
-use Rattle.elf_parts.specs.Table.{Table, table_in, table_items}
+use Rattle.elf_records.specs.Table.{Table, table_in, table_items}
 use Rattle.elf_records.specs.declared.file.Class.{Class}
 use Rattle.elf_records.specs.declared.parse.ParseError.{ParseError}
 use Rattle.elf_records.specs.declared.section.SectionHeader.{SectionHeader}
-use Rattle.elf_parts.specs.declared.segment.ProgramHeader.{ProgramHeader}
+use Rattle.elf_records.specs.declared.segment.ProgramHeader.{ProgramHeader}
 use Rattle.elf.specs.Headers.{section_at}
 use Rattle.elf_reading.specs.Opening.{View, section_list, segment_list}
 

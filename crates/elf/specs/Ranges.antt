@@ -8,7 +8,7 @@ use Rattle.elf_records.specs.Record.{◌>>=◌, size_by}
 use Rattle.elf_parts.specs.gnu_symver.Records.{version_index_layout}
 use Rattle.elf_records.specs.declared.parse.ParseError.{ParseError}
 use Rattle.elf_records.specs.declared.section.SectionHeader.{SectionHeader}
-use Rattle.elf_parts.specs.declared.segment.ProgramHeader.{ProgramHeader}
+use Rattle.elf_records.specs.declared.segment.ProgramHeader.{ProgramHeader}
 use Rattle.elf.specs.Answers.{symbol_sections}
 use Rattle.elf.specs.Headers.{entry_size, first_section_of, first_segment_of, if_found}
 use Rattle.elf.specs.StreamFile.{stream_file}

@@ -5,10 +5,10 @@ use Rattle.std.specs.Result.{result_ok}
 use Rattle.elf_abi.specs.Values.{sht_dynsym, sht_note, sht_rel, sht_rela, sht_strtab, sht_symtab}
 use Rattle.elf_records.specs.declared.parse.ParseError.{ParseError}
 use Rattle.elf_records.specs.declared.section.SectionHeader.{SectionHeader}
-use Rattle.elf_parts.specs.declared.segment.ProgramHeader.{ProgramHeader}
+use Rattle.elf_records.specs.declared.segment.ProgramHeader.{ProgramHeader}
 use Rattle.elf_parts.specs.Note.{NoteContent}
 use Rattle.elf_parts.specs.gnu_symver.Table.{Versions}
-use Rattle.elf_parts.specs.Table.{Table}
+use Rattle.elf_records.specs.Table.{Table}
 use Rattle.elf_records.specs.declared.compression.CompressionHeader.{CompressionHeader}
 use Rattle.elf_records.specs.declared.file.FileHeader.{FileHeader}
 use Rattle.elf_records.specs.declared.relocation.Rel.{Rel}

@@ -4,9 +4,9 @@ use Rattle.std.specs.Option.{IsSomeAnd}
 use Rattle.std.specs.Result.{IsOkAnd}
 use Rattle.elf_abi.specs.Values.{sht_gnu_hash, sht_hash}
 use Rattle.elf_records.specs.Record.{◌>>=◌}
-use Rattle.elf_parts.specs.Table.{Table}
+use Rattle.elf_records.specs.Table.{Table}
 use Rattle.elf_records.specs.declared.parse.ParseError.{ParseError}
-use Rattle.elf_parts.specs.declared.parse.table.ParsingTable.{ParsingTable}
+use Rattle.elf_records.specs.declared.parse.table.ParsingTable.{ParsingTable}
 use Rattle.elf_records.specs.declared.section.SectionHeader.{SectionHeader}
 use Rattle.elf_records.specs.declared.string_table.StringTable.{StringTable}
 use Rattle.elf_records.specs.declared.symbol.Symbol.{Symbol}

@@ -11,7 +11,7 @@ use Rattle.elf_records.specs.Number.{ok_map}
 use Rattle.elf_records.specs.Record.{◌>>=◌}
 use Rattle.elf_records.specs.declared.parse.ParseError.{ParseError}
 use Rattle.elf_records.specs.declared.section.SectionHeader.{SectionHeader}
-use Rattle.elf_parts.specs.declared.segment.ProgramHeader.{ProgramHeader}
+use Rattle.elf_records.specs.declared.segment.ProgramHeader.{ProgramHeader}
 use Rattle.elf_lines.specs.NoAnswer.{refused_line}
 use Rattle.elf_calls.specs.Question.{Question}
 use Rattle.elf_calls.specs.Ranges.{call_ranges, ranges_of}

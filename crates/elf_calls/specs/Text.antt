@@ -5,11 +5,11 @@ use Rattle.elf_records.specs.Dynamic.{dyn_reads}
 use Rattle.elf_records.specs.Number.{ok_map}
 use Rattle.elf_records.specs.Record.{◌>>=◌}
 use Rattle.elf_records.specs.Symbol.{symbol_reads}
-use Rattle.elf_parts.specs.Table.{Table, table_items}
+use Rattle.elf_records.specs.Table.{Table, table_items}
 use Rattle.elf_records.specs.declared.file.FileHeader.{FileHeader}
 use Rattle.elf_records.specs.declared.parse.ParseError.{ParseError}
 use Rattle.elf_records.specs.declared.section.SectionHeader.{SectionHeader}
-use Rattle.elf_parts.specs.declared.segment.ProgramHeader.{ProgramHeader}
+use Rattle.elf_records.specs.declared.segment.ProgramHeader.{ProgramHeader}
 use Rattle.elf.specs.Answers.{dynamic, dynamic_symbol_table, section_data_as_notes}
 use Rattle.elf.specs.Data.{section_data}
 use Rattle.elf.specs.Answers.{section_data_as_relas, section_data_as_rels, section_data_as_strtab}

@@ -2,7 +2,7 @@
 use Rattle.std.proofs.Common.{◌≡◌, ℕ, ◌<◌, List, Option, Some, None, Result, Ok, Err, refl, ap}
 use Rattle.std.specs.Result.{IsOk, result_ok}
 use Rattle.std.specs.Option.{IsSomeAnd}
-use Rattle.elf_parts.specs.Table.{Table}
+use Rattle.elf_records.specs.Table.{Table}
 use Rattle.elf_records.specs.declared.symbol.Symbol.{Symbol}
 use Rattle.elf_parts.specs.GnuFind.{bloom_word}
 use Rattle.elf_parts.specs.Hash.{ReadsBelowCount, named_symbol, word_at, word_count}

@@ -6,7 +6,7 @@ use Rattle.std.specs.Str.{bytes_eq}
 use Rattle.elf_parts.specs.GnuFind.{GnuTable}
 use Rattle.elf_parts.specs.Hash.{word_count}
 use Rattle.elf_parts.specs.SysvFind.{SysvTable}
-use Rattle.elf_parts.specs.Table.{Table, table_view}
+use Rattle.elf_records.specs.Table.{Table, table_view}
 use Rattle.elf_records.specs.declared.symbol.Symbol.{Symbol}
 use Rattle.elf_check.specs.Object.{ByGnu, BySysv, Indexed, IsFound, Object}
 use Rattle.elf_check.specs.SoundSysv.{Visits}

@@ -4,7 +4,7 @@ use Rattle.elf_parts.specs.GnuFind.{GnuTable, gnu_section}
 use Rattle.elf_parts.specs.Hash.{word_count}
 use Rattle.elf_records.specs.Number.{ok_map}
 use Rattle.elf_parts.specs.SysvFind.{SysvTable, sysv_section}
-use Rattle.elf_parts.specs.Table.{Table}
+use Rattle.elf_records.specs.Table.{Table}
 use Rattle.elf_records.specs.declared.file.Class.{Class}
 use Rattle.elf_records.specs.declared.parse.ParseError.{ParseError}
 use Rattle.elf_records.specs.declared.symbol.Symbol.{Symbol}

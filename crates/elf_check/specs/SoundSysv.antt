@@ -3,7 +3,7 @@ use Rattle.std.specs.Prelude.{◌≡◌, ◌≢◌, ℕ, zero, suc, ◌%◌, ◌
 use Rattle.std.specs.Option.{IsSomeAnd}
 use Rattle.elf_parts.specs.Hash.{sysv_hash_of, word_count}
 use Rattle.elf_parts.specs.SysvFind.{SysvTable}
-use Rattle.elf_parts.specs.Table.{Table}
+use Rattle.elf_records.specs.Table.{Table}
 use Rattle.elf_check.specs.WithSymbols.{WithSymbols, named, word}
 
 -- the chain word at a value

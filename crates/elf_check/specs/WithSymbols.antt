@@ -8,11 +8,11 @@ use Rattle.elf_parts.specs.Hash.{named_symbol, word_at}
 use Rattle.elf_records.specs.Number.{ok_map}
 use Rattle.elf_records.specs.StringTable.{strings_view}
 use Rattle.elf_parts.specs.SysvFind.{SysvTable, sysv_view}
-use Rattle.elf_parts.specs.Table.{Table, table_view}
+use Rattle.elf_records.specs.Table.{Table, table_view}
 use Rattle.elf_parts.specs.declared.hash.gnu.GnuHashTable.{GnuHashTable}
 use Rattle.elf_parts.specs.declared.hash.sysv.SysVHashTable.{SysVHashTable}
 use Rattle.elf_records.specs.declared.parse.ParseError.{ParseError}
-use Rattle.elf_parts.specs.declared.parse.table.ParsingTable.{ParsingTable}
+use Rattle.elf_records.specs.declared.parse.table.ParsingTable.{ParsingTable}
 use Rattle.elf_records.specs.declared.string_table.StringTable.{StringTable}
 use Rattle.elf_records.specs.declared.symbol.Symbol.{Symbol}
 

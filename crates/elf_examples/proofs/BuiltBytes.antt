@@ -7,15 +7,15 @@ use Rattle.std.proofs.lemmas.List.{append-nil}
 use Rattle.std.proofs.lemmas.List.Elements.{All-contains}
 use Rattle.std.proofs.lemmas.List.FromFn.{get_or-map-range_with_len, length-map-range_with_len}
 use Rattle.std.proofs.lemmas.Option.{slice_get-get_or}
-use Rattle.elf_parts.proofs.Items.{LiesWithin, lies}
-use Rattle.elf_parts.proofs.Places.{slice_get-items}
+use Rattle.elf_records.proofs.Items.{LiesWithin, lies}
+use Rattle.elf_records.proofs.Places.{slice_get-items}
 use Rattle.elf_parts.proofs.ReadStructs.{sysv_header_is_struct, u32_is_struct}
 use Rattle.elf_parts.specs.Hash.{sysv_header_layout, word_at, word_count}
 use Rattle.elf_records.specs.Number.{bytes_at}
 use Rattle.elf_records.specs.Record.{Layout, record_by, size_by}
 use Rattle.elf_parts.specs.Structs.{sysv_header_struct}
 use Rattle.elf_parts.specs.SysvFind.{SysvTable, sysv_section}
-use Rattle.elf_parts.specs.Table.{Table, item_at, items, table_in}
+use Rattle.elf_records.specs.Table.{Table, item_at, items, table_in}
 use Rattle.elf_records.specs.Word.{u32_layout, u32_reads}
 use Rattle.elf_parts.specs.Written.{AllFit, Fits, IsStruct, Member, Unsigned, struct_bytes, table_of}
 use Rattle.elf_records.specs.declared.file.Class.{Class}

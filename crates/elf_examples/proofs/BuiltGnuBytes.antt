@@ -6,7 +6,7 @@ use Rattle.std.proofs.lemmas.Bool.{cases_Bool, eqb-false}
 use Rattle.std.proofs.lemmas.List.{drop_at, get_or-map, length-map}
 use Rattle.std.proofs.lemmas.List.Sums.{prefix_len-le-length}
 use Rattle.std.proofs.lemmas.Nat.{or_lt, pow_below}
-use Rattle.elf_parts.proofs.Items.{lies}
+use Rattle.elf_records.proofs.Items.{lies}
 use Rattle.elf_parts.proofs.ReadStructs.{gnu_header_is_struct, u64_is_struct}
 use Rattle.elf_records.specs.Class.{address_bits, address_size}
 use Rattle.elf_parts.specs.GnuFind.{GnuTable, bloom_word, gnu_section}
@@ -14,7 +14,7 @@ use Rattle.elf_parts.specs.Hash.{gnu_hash_from, gnu_hash_of, gnu_header_layout, 
 use Rattle.elf_records.specs.Number.{bytes_at}
 use Rattle.elf_records.specs.Record.{record_by}
 use Rattle.elf_parts.specs.Structs.{gnu_header_struct}
-use Rattle.elf_parts.specs.Table.{Table, table_in}
+use Rattle.elf_records.specs.Table.{Table, table_in}
 use Rattle.elf_records.specs.Word.{u64_layout, u64_reads}
 use Rattle.elf_parts.specs.Written.{Fits, struct_bytes, table_of}
 use Rattle.elf_records.specs.declared.file.Class.{Class}

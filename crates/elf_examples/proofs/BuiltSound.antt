@@ -9,13 +9,13 @@ use Rattle.std.proofs.lemmas.List.{get_or-map, length-map}
 use Rattle.std.proofs.lemmas.List.Elements.{All-contains}
 use Rattle.std.proofs.lemmas.Map.Made.{IsDistinct-from_AllPairs, is_member-Decides}
 use Rattle.std.proofs.lemmas.Map.Steps.{length-le_from_distinct_below}
-use Rattle.elf_parts.proofs.Items.{lies}
+use Rattle.elf_records.proofs.Items.{lies}
 use Rattle.elf_records.specs.Class.{address_bits}
 use Rattle.elf_parts.specs.GnuFind.{GnuTable}
 use Rattle.elf_parts.specs.Hash.{gnu_hash_of, sysv_hash_of, word_at, word_count}
 use Rattle.elf_records.specs.Record.{record_by}
 use Rattle.elf_parts.specs.SysvFind.{SysvTable}
-use Rattle.elf_parts.specs.Table.{Table, item_at}
+use Rattle.elf_records.specs.Table.{Table, item_at}
 use Rattle.elf_records.specs.Word.{u32_layout, u32_reads}
 use Rattle.elf_records.specs.declared.parse.ParseError.{ParseError}
 use Rattle.elf_records.specs.declared.symbol.Symbol.{Symbol}

@@ -6,7 +6,7 @@ use Rattle.elf_parts.specs.Hash.{gnu_hash_of, named_symbol, word_at}
 use Rattle.elf_records.specs.Number.{bytes_at, number_at}
 use Rattle.elf_records.specs.Record.{numbers_at}
 use Rattle.elf_records.specs.StringTable.{string_at}
-use Rattle.elf_parts.specs.Table.{Table}
+use Rattle.elf_records.specs.Table.{Table}
 use Rattle.elf_check.proofs.GnuVerdicts.{true_fault}
 use Rattle.elf_check.specs.Faults.{IsTrueOfGnu}
 use Rattle.elf_check.specs.SoundGnu.{HasBothBits, InRun, RunsTo, SoundGnu, SoundWord}

@@ -9,18 +9,18 @@ use Rattle.elf_records.specs.File.{header_with_tail, ident_of, tail_fields}
 use Rattle.elf_records.specs.Number.{bytes_at, ok_map}
 use Rattle.elf_records.specs.Record.{◌>>=◌, Layout, record_by, size_by, size_of}
 use Rattle.elf_records.specs.Section.{section_header_layout, section_header_reads}
-use Rattle.elf_parts.specs.Segment.{program_header_layout}
+use Rattle.elf_records.specs.Segment.{program_header_layout}
 use Rattle.elf_parts.specs.Structs.{ident_bytes, program_header_struct, section_header_struct, tail_struct}
-use Rattle.elf_parts.specs.Table.{Table, item_at, items, table_in}
+use Rattle.elf_records.specs.Table.{Table, item_at, items, table_in}
 use Rattle.elf_parts.specs.Written.{IsStruct, Member, struct_bytes, table_of}
 use Rattle.elf_records.specs.declared.file.Class.{Class}
 use Rattle.elf_records.specs.declared.file.Class.TheVariants.{ELF32, ELF64}
 use Rattle.elf_records.specs.declared.file.FileHeader.{FileHeader}
 use Rattle.elf_records.specs.declared.parse.ParseError.{ParseError}
 use Rattle.elf_records.specs.declared.section.SectionHeader.{SectionHeader}
-use Rattle.elf_parts.specs.declared.segment.ProgramHeader.{ProgramHeader}
-use Rattle.elf_parts.proofs.Items.{lies}
-use Rattle.elf_parts.proofs.Places.{slice_get-items}
+use Rattle.elf_records.specs.declared.segment.ProgramHeader.{ProgramHeader}
+use Rattle.elf_records.proofs.Items.{lies}
+use Rattle.elf_records.proofs.Places.{slice_get-items}
 use Rattle.elf_records.specs.inner.RecordLaws.{bytes_at-from}
 use Rattle.elf.specs.Headers.{if_found}
 use Rattle.elf.specs.Names.{name_index, name_section, name_table}

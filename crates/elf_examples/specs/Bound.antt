@@ -1,7 +1,7 @@
 -- Symbols that a reference may bind to, and the versions of those of a small library.
 use Rattle.std.specs.Prelude.{◌≡◌, ℕ, true, List, [], ◌∷◌, ◌++◌, codes, Some, None, Option, Result, Ok}
 use Rattle.elf_parts.specs.gnu_symver.Table.{Versions}
-use Rattle.elf_parts.specs.Table.{table_in}
+use Rattle.elf_records.specs.Table.{table_in}
 use Rattle.elf_records.specs.declared.file.Class.TheVariants.{ELF64}
 use Rattle.elf_parts.specs.declared.gnu_symver.records.VerDef.{VerDef}
 use Rattle.elf_parts.specs.declared.gnu_symver.records.VerDefAux.{VerDefAux}

@@ -7,7 +7,7 @@ use Rattle.elf_records.specs.Class.{address_bits}
 use Rattle.elf_parts.specs.GnuFind.{GnuTable}
 use Rattle.elf_parts.specs.Hash.{gnu_hash_of, sysv_hash_of, word_count}
 use Rattle.elf_parts.specs.SysvFind.{SysvTable}
-use Rattle.elf_parts.specs.Table.{Table}
+use Rattle.elf_records.specs.Table.{Table}
 use Rattle.elf_parts.specs.declared.hash.gnu.GnuHashHeader.{GnuHashHeader}
 use Rattle.elf_check.specs.WithSymbols.{WithSymbols, bloom, name_at, word}
 

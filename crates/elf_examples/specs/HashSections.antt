@@ -5,7 +5,7 @@ use Rattle.elf_parts.specs.GnuFind.{gnu_find, gnu_section}
 use Rattle.elf_records.specs.Number.{ok_map}
 use Rattle.elf_records.specs.Record.{◌>>=◌}
 use Rattle.elf_parts.specs.SysvFind.{sysv_find, sysv_section}
-use Rattle.elf_parts.specs.Table.{Table, table_in}
+use Rattle.elf_records.specs.Table.{Table, table_in}
 use Rattle.elf_records.specs.declared.file.Class.TheVariants.{ELF32}
 use Rattle.elf_records.specs.declared.parse.ParseError.{ParseError}
 use Rattle.elf_records.specs.declared.symbol.Symbol.{Symbol}

@@ -2,7 +2,7 @@
 use Rattle.std.specs.Prelude.{ℕ, true, List, [], ◌∷◌, ◌++◌}
 use Rattle.elf_parts.specs.GnuFind.{GnuTable}
 use Rattle.elf_parts.specs.SysvFind.{SysvTable}
-use Rattle.elf_parts.specs.Table.{Table, table_in}
+use Rattle.elf_records.specs.Table.{Table, table_in}
 use Rattle.elf_records.specs.declared.file.Class.TheVariants.{ELF32}
 use Rattle.elf_check.specs.WithSymbols.{WithSymbols}
 use Rattle.elf_examples.specs.Files.{in_four, zeros}

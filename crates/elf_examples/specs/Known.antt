@@ -2,14 +2,14 @@
 use Rattle.std.specs.Prelude.{ℕ, true, List, Option, Some, None, Result, ◌++◌}
 use Rattle.elf_records.specs.Number.{ok_map}
 use Rattle.elf_records.specs.Endian.{any_is_little, any_of_byte}
-use Rattle.elf_parts.specs.Table.{Table, table_in}
+use Rattle.elf_records.specs.Table.{Table, table_in}
 use Rattle.elf_records.specs.declared.endian.AnyEndian.{AnyEndian}
 use Rattle.elf_records.specs.declared.endian.AnyEndian.TheVariants.{Little}
 use Rattle.elf_records.specs.declared.file.Class.TheVariants.{ELF32, ELF64}
 use Rattle.elf_records.specs.declared.file.FileHeader.{FileHeader}
 use Rattle.elf_records.specs.declared.parse.ParseError.{ParseError}
 use Rattle.elf_records.specs.declared.section.SectionHeader.{SectionHeader}
-use Rattle.elf_parts.specs.declared.segment.ProgramHeader.{ProgramHeader}
+use Rattle.elf_records.specs.declared.segment.ProgramHeader.{ProgramHeader}
 use Rattle.elf.specs.Names.{name_table}
 use Rattle.elf.specs.ObjectFile.{object_file}
 use Rattle.elf_reading.specs.Opening.{opened}

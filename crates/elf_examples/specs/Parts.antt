@@ -1,7 +1,7 @@
 -- The bytes of notes and of versions of symbols, and what the versions are. Numbers are in little order.
 use Rattle.std.specs.Prelude.{ℕ, true, List, [], ◌∷◌, ◌++◌, Some}
 use Rattle.elf_parts.specs.gnu_symver.Table.{Versions}
-use Rattle.elf_parts.specs.Table.{table_in}
+use Rattle.elf_records.specs.Table.{table_in}
 use Rattle.elf_records.specs.declared.file.Class.TheVariants.{ELF64}
 use Rattle.elf_parts.specs.declared.gnu_symver.records.VerDef.{VerDef}
 use Rattle.elf_parts.specs.declared.gnu_symver.records.VerDefAux.{VerDefAux}

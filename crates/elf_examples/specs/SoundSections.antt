@@ -3,7 +3,7 @@
 use Rattle.std.specs.Prelude.{ℕ, true, List, [], ◌∷◌, ◌++◌, codes, Result}
 use Rattle.elf_parts.specs.GnuFind.{GnuTable, gnu_section}
 use Rattle.elf_parts.specs.SysvFind.{SysvTable, sysv_section}
-use Rattle.elf_parts.specs.Table.{table_in}
+use Rattle.elf_records.specs.Table.{table_in}
 use Rattle.elf_records.specs.declared.file.Class.TheVariants.{ELF32}
 use Rattle.elf_records.specs.declared.parse.ParseError.{ParseError}
 use Rattle.elf_records.specs.declared.symbol.Symbol.{Symbol}

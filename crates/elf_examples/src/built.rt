@@ -7,7 +7,7 @@ ghost use Rattle.elf_parts.specs.GnuFind.{GnuTable, gnu_section};
 ghost use Rattle.elf_parts.specs.Structs.{gnu_header_struct};
 ghost use Rattle.elf_parts.specs.SysvFind.{SysvTable, sysv_section};
 ghost use Rattle.elf_records.specs.StringTable.{strings_view};
-ghost use Rattle.elf_parts.specs.Table.{Table, table_view};
+ghost use Rattle.elf_records.specs.Table.{Table, table_view};
 ghost use Rattle.elf_parts.specs.Written.{Fits};
 ghost use Rattle.elf_records.specs.declared.file.Class.{Class as AnyClass};
 ghost use Rattle.elf_records.specs.declared.file.Class.TheVariants.{ELF32};

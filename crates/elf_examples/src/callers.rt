@@ -8,7 +8,7 @@ ghost use Rattle.elf_records.specs.Number.{ok_map};
 ghost use Rattle.elf_parts.specs.gnu_symver.Lists.{ver_def_aux_records, ver_defs_left};
 ghost use Rattle.elf_parts.specs.gnu_symver.Table.{definition, names_left, versions_view};
 ghost use Rattle.elf_parts.specs.gnu_symver.Lists.{ver_need_aux_left, ver_needs};
-ghost use Rattle.elf_parts.specs.Table.{table_in};
+ghost use Rattle.elf_records.specs.Table.{table_in};
 
 use elf_parts::endian::EndianParse;
 use elf_parts::file::Class;

@@ -1,6 +1,6 @@
 //! What a user's functions can promise of a table, whatever its order and its records are.
 ghost use Rattle.std.specs.Prelude.{◌≡◌, ◌<◌, length, IsOk, IfOk};
-ghost use Rattle.elf_parts.specs.Table.{table_get, table_items, table_len, table_view};
+ghost use Rattle.elf_records.specs.Table.{table_get, table_items, table_len, table_view};
 
 use elf::endian::EndianParse;
 use elf::laws::tables::{PlainRecord, get_succeeds_below_len};

@@ -1,7 +1,7 @@
 -- The lines of program headers.
 use Rattle.std.specs.Prelude.{ℕ, List, codes}
 use Rattle.std.specs.Fmt.{decimal}
-use Rattle.elf_parts.specs.declared.segment.ProgramHeader.{ProgramHeader}
+use Rattle.elf_records.specs.declared.segment.ProgramHeader.{ProgramHeader}
 use Rattle.elf_lines.specs.Pieces.{◌⧺◌, newline, hex}
 
 -- what a segment is, and where it lies

@@ -2,7 +2,7 @@
 ghost use Rattle.std.specs.Prelude.{◌-◌, ◌^◌, ℕ, List, OnOk, length, ◌<◌};
 ghost use Rattle.std.specs.Iterator.{Drains, UpTo};
 ghost use Rattle.std.specs.Io.KnownBytes.{Appends};
-ghost use Rattle.elf_parts.specs.Table.{items_left};
+ghost use Rattle.elf_records.specs.Table.{items_left};
 ghost use Rattle.elf_lines.specs.Counted.{counted_lines, end_line};
 ghost use Rattle.elf_lines.specs.Adding.{Adds};
 

@@ -8,15 +8,15 @@ use Rattle.elf_parts.specs.Hash.{ReadsBelowCount, gnu_header_layout, long_word_a
 use Rattle.elf_records.specs.Number.{bytes_at}
 use Rattle.elf_records.specs.Record.{◌>>=◌, record_by}
 use Rattle.elf_parts.specs.SysvFind.{SysvTable, sysv_section}
-use Rattle.elf_parts.specs.Table.{Table, table_in}
+use Rattle.elf_records.specs.Table.{Table, table_in}
 use Rattle.elf_records.specs.Word.{u32_layout, u32_reads, u64_layout, u64_reads}
 use Rattle.elf_records.specs.inner.RecordLaws.{bind-ok, bytes_at-ok, wherever_by}
 use Rattle.elf_records.specs.declared.file.Class.{Class}
 use Rattle.elf_records.specs.declared.file.Class.TheVariants.{ELF32, ELF64}
 use Rattle.elf_parts.specs.declared.hash.gnu.GnuHashHeader.{GnuHashHeader}
 use Rattle.elf_parts.specs.declared.hash.sysv.SysVHashHeader.{SysVHashHeader}
-use Rattle.elf_parts.proofs.Items.{lies}
-use Rattle.elf_parts.proofs.Places.{item_at-below}
+use Rattle.elf_records.proofs.Items.{lies}
+use Rattle.elf_records.proofs.Places.{item_at-below}
 
 pub words_read : (words : Table) → length words.bytes < 2 ^ 64 → ReadsBelowCount words
 unfolding word_at

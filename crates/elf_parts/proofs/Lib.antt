@@ -1,6 +1,3 @@
-pub mod Items
-pub mod Segments
-pub mod Places
 pub mod LinkedRecords
 pub mod Versions
 pub mod Placed

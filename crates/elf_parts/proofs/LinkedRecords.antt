@@ -7,7 +7,7 @@ use Rattle.std.proofs.lemmas.Grind.{common_steps}
 use Rattle.elf_records.specs.declared.file.Class.{Class}
 use Rattle.elf_records.specs.declared.parse.ParseError.{ParseError}
 use Rattle.elf_records.specs.Record.{RecordType}
-use Rattle.elf_parts.specs.Table.{Table}
+use Rattle.elf_records.specs.Table.{Table}
 use Rattle.elf_parts.specs.Link.{AreLinked, AreLongest, from_next, linked, links}
 use Rattle.elf_parts.specs.gnu_symver.Links.{front_then, links_in, next_start}
 

@@ -3,7 +3,7 @@ use Rattle.std.proofs.Common.{◌≡◌, ℕ, ◌+◌, ◌-◌, ◌/◌, ◌%◌
 use Rattle.std.specs.Str.{bytes_eq}
 use Rattle.std.proofs.lemmas.Bool.{cases_Bool}
 use Rattle.std.proofs.lemmas.Slice.Eq.{bytes_eq-Decides}
-use Rattle.elf_parts.specs.Table.{Table}
+use Rattle.elf_records.specs.Table.{Table}
 use Rattle.elf_records.specs.inner.RecordLaws.{bind-ok, ok_map-ok}
 use Rattle.elf_records.specs.Number.{ok_map}
 use Rattle.elf_records.specs.Record.{◌>>=◌}

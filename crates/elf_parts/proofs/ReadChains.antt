@@ -14,7 +14,7 @@ use Rattle.elf_parts.specs.Structs.{ver_need_struct, ver_need_aux_struct, ver_de
 use Rattle.elf_parts.specs.Structs.{EntriesAreChained, NeedsAreChained, DefinitionsAreChained}
 use Rattle.elf_parts.specs.gnu_symver.Lists.{aux_records, entries_in, ver_defs, ver_needs, with_aux_records}
 use Rattle.elf_parts.specs.gnu_symver.Records.{ver_def_aux_layout, ver_def_layout, ver_need_aux_layout, ver_need_layout}
-use Rattle.elf_parts.specs.Table.{table_in}
+use Rattle.elf_records.specs.Table.{table_in}
 use Rattle.elf_parts.specs.Written.{Member, Fits, struct_bytes, LiesAt, AreChained, IsStruct}
 use Rattle.elf_parts.proofs.ReadStructs.{ver_need_is_struct, ver_need_aux_is_struct, ver_def_is_struct, ver_def_aux_is_struct}
 

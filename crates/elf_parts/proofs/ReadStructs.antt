@@ -6,7 +6,7 @@ use Rattle.std.proofs.lemmas.Nat.{mod-mul-add, div-mul-add}
 use Rattle.elf_records.specs.declared.file.Class.{Class}
 use Rattle.elf_records.specs.declared.file.Class.TheVariants.{ELF32, ELF64}
 use Rattle.elf_records.specs.Record.{Layout, record_by, size_by, size_of}
-use Rattle.elf_parts.specs.Table.{items_from}
+use Rattle.elf_records.specs.Table.{items_from}
 use Rattle.elf_parts.specs.Written.{Member, number_of, word, xword, FitsMember, Fits, AllFit, struct_bytes, table_of, ReadsStruct, FillsRecord, ReadsTable, TellsApart, PlacesAreSums, IsStruct}
 use Rattle.elf_parts.specs.Structs.{section_header_struct, program_header_struct, symbol_struct, info, rel_struct, rela_struct, dyn_struct, compression_header_struct, note_header_struct, abi_tag_struct, ver_need_struct, ver_need_aux_struct, ver_def_struct, ver_def_aux_struct, version_index_struct, sysv_header_struct, gnu_header_struct, tail_struct}
 use Rattle.elf_records.specs.Compression.{compression_header_layout}
@@ -16,7 +16,7 @@ use Rattle.elf_parts.specs.Hash.{sysv_header_layout, gnu_header_layout}
 use Rattle.elf_parts.specs.Note.{note_header_layout, abi_tag_layout}
 use Rattle.elf_records.specs.Relocation.{rel_layout, rela_layout, sym_of_info, type_of_info}
 use Rattle.elf_records.specs.Section.{section_header_layout}
-use Rattle.elf_parts.specs.Segment.{program_header_layout}
+use Rattle.elf_records.specs.Segment.{program_header_layout}
 use Rattle.elf_records.specs.Symbol.{symbol_layout}
 use Rattle.elf_parts.specs.gnu_symver.Records.{ver_def_aux_layout, ver_def_layout, ver_need_aux_layout, ver_need_layout, version_index_layout}
 use Rattle.elf_records.specs.Word.{u32_layout, u64_layout}
@@ -26,10 +26,10 @@ use Rattle.elf_records.specs.declared.file.FileHeader.{FileHeader}
 use Rattle.elf_records.specs.declared.relocation.Rel.{Rel}
 use Rattle.elf_records.specs.declared.relocation.Rela.{Rela}
 use Rattle.elf_records.specs.declared.section.SectionHeader.{SectionHeader}
-use Rattle.elf_parts.specs.declared.segment.ProgramHeader.{ProgramHeader}
+use Rattle.elf_records.specs.declared.segment.ProgramHeader.{ProgramHeader}
 use Rattle.elf_records.specs.declared.symbol.Symbol.{Symbol}
 use Rattle.elf_records.specs.inner.RecordLaws.{within_by}
-use Rattle.elf_parts.proofs.Items.{LiesWithin, items_from-enough, items_from-read}
+use Rattle.elf_records.proofs.Items.{LiesWithin, items_from-enough, items_from-read}
 use Rattle.elf_parts.proofs.ReadBack.{signed_number_complement, is_struct_of, is_packed_from, place_is_sum, length-struct, struct_read_back}
 
 -- what has to be looked at in each type of records, mostly by evaluation: the table has the widths of the structure, one

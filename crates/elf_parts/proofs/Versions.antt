@@ -11,7 +11,7 @@ use Rattle.elf_parts.specs.gnu_symver.Records.{ver_def_aux_layout, ver_def_aux_r
 use Rattle.elf_parts.specs.gnu_symver.Table.{raw_names}
 use Rattle.elf_parts.specs.gnu_symver.Lists.{ver_def_with_aux, ver_defs}
 use Rattle.elf_parts.specs.gnu_symver.Records.{ver_def_layout}
-use Rattle.elf_parts.specs.Table.{Table}
+use Rattle.elf_records.specs.Table.{Table}
 use Rattle.elf_parts.specs.declared.gnu_symver.records.VerDef.{VerDef}
 use Rattle.elf_parts.specs.declared.gnu_symver.records.VerDefAux.{VerDefAux}
 use Rattle.elf_parts.specs.declared.gnu_symver.lists.AuxIterator.{AuxIterator}

@@ -4,7 +4,7 @@ use Rattle.std.specs.Option.{option_map, option_or}
 use Rattle.std.proofs.lemmas.Grind.{common_steps}
 use Rattle.elf_parts.specs.inner.Placed.{slot}
 use Rattle.elf_parts.specs.inner.Walked.{first_with, held_or_left}
-use Rattle.elf_parts.specs.Table.{Table}
+use Rattle.elf_records.specs.Table.{Table}
 use Rattle.elf_records.specs.Record.{record_by}
 use Rattle.elf_parts.specs.gnu_symver.Links.{front_then, links_in, records_of}
 use Rattle.elf_parts.specs.gnu_symver.Records.{ver_need_aux_layout}

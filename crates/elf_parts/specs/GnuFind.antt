@@ -8,7 +8,7 @@ use Rattle.elf_parts.specs.Hash.{word_count}
 use Rattle.elf_records.specs.Number.{bytes_at, ok_map}
 use Rattle.elf_records.specs.Record.{◌>>=◌, record_by}
 use Rattle.elf_parts.specs.SysvFind.{first_decided}
-use Rattle.elf_parts.specs.Table.{Table, table_in, table_view}
+use Rattle.elf_records.specs.Table.{Table, table_in, table_view}
 use Rattle.elf_records.specs.declared.file.Class.{Class}
 use Rattle.elf_records.specs.declared.file.Class.TheVariants.{ELF32, ELF64}
 use Rattle.elf_parts.specs.declared.hash.gnu.GnuHashHeader.{GnuHashHeader}

@@ -6,7 +6,7 @@ use Rattle.std.specs.Str.{bytes_eq}
 use Rattle.elf_records.specs.Record.{◌>>=◌, Field, field, Layout, RecordType}
 use Rattle.elf_records.specs.StringTable.{string_at}
 use Rattle.elf_records.specs.Symbol.{symbol_reads}
-use Rattle.elf_parts.specs.Table.{Table, table_get}
+use Rattle.elf_records.specs.Table.{Table, table_get}
 use Rattle.elf_records.specs.Word.{u32_reads, u64_reads}
 use Rattle.elf_records.specs.inner.RecordLaws.{by_layout}
 use Rattle.elf_parts.specs.declared.hash.sysv.SysVHashHeader.{SysVHashHeader}

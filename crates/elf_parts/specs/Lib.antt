@@ -1,9 +1,5 @@
 -- What the contracts of the parts of a file cite, in reading order.
 
--- tables of records of one size
-pub mod Table
--- the field table of program headers
-pub mod Segment
 -- records of which each says where the next one begins
 pub mod Link
 -- notes

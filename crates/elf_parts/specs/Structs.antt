@@ -23,7 +23,7 @@ use Rattle.elf_parts.specs.declared.note.NoteHeader.{NoteHeader}
 use Rattle.elf_records.specs.declared.relocation.Rel.{Rel}
 use Rattle.elf_records.specs.declared.relocation.Rela.{Rela}
 use Rattle.elf_records.specs.declared.section.SectionHeader.{SectionHeader}
-use Rattle.elf_parts.specs.declared.segment.ProgramHeader.{ProgramHeader}
+use Rattle.elf_records.specs.declared.segment.ProgramHeader.{ProgramHeader}
 use Rattle.elf_records.specs.declared.symbol.Symbol.{Symbol}
 
 -- Elf32_Shdr and Elf64_Shdr (gABI, "Sections")

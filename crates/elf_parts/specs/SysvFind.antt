@@ -4,7 +4,7 @@ use Rattle.std.specs.Prelude.{None, Result, Ok, Err}
 use Rattle.elf_parts.specs.Hash.{if_named, named_symbol, sysv_hash_of, sysv_header_layout, word_at, word_count}
 use Rattle.elf_records.specs.Number.{bytes_at, ok_map}
 use Rattle.elf_records.specs.Record.{◌>>=◌, record_by}
-use Rattle.elf_parts.specs.Table.{Table, table_in, table_view}
+use Rattle.elf_records.specs.Table.{Table, table_in, table_view}
 use Rattle.elf_records.specs.declared.file.Class.{Class}
 use Rattle.elf_parts.specs.declared.hash.sysv.SysVHashTable.{SysVHashTable}
 use Rattle.elf_records.specs.declared.parse.ParseError.{ParseError}

@@ -6,7 +6,7 @@ use Rattle.std.specs.Prelude.{List, [], ◌∷◌, ◌++◌, length, reverse, Ok
 use Rattle.elf_records.specs.declared.file.Class.{Class}
 use Rattle.std.specs.List.{sum_by}
 use Rattle.elf_records.specs.Record.{Field, Layout, record_by, size_by}
-use Rattle.elf_parts.specs.Table.{items}
+use Rattle.elf_records.specs.Table.{items}
 
 -- ---- numbers
 

@@ -1,3 +1,2 @@
-pub mod Extent
 pub mod Placed
 pub mod Walked

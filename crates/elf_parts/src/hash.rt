@@ -2,7 +2,7 @@
 ghost use Rattle.std.specs.Prelude.{◌≡◌, ◌+◌, ◌<◌, ◌^◌, ◌≤◌, None, OnOk, length};
 ghost use Rattle.elf_parts.specs.Hash.{if_named, named_symbol, word_at, word_count};
 ghost use Rattle.elf_records.specs.Number.{bytes_at, ok_map};
-ghost use Rattle.elf_parts.specs.Table.{table_view};
+ghost use Rattle.elf_records.specs.Table.{table_view};
 
 use crate::endian::EndianParse;
 use crate::parse::{ParseError, ParsingTable};

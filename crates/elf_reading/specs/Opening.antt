@@ -8,11 +8,11 @@ use Rattle.elf_records.specs.Number.{bytes_at, ok_map}
 use Rattle.elf_records.specs.Record.{◌>>=◌, record_by, size_by, size_of}
 use Rattle.elf_records.specs.File.{header_with_tail, ident_of, tail_fields}
 use Rattle.elf_records.specs.Section.{section_header_layout, section_header_reads}
-use Rattle.elf_parts.specs.Segment.{program_header_layout, program_header_reads}
-use Rattle.elf_parts.specs.Table.{Table, table_in, table_items, table_view}
+use Rattle.elf_records.specs.Segment.{program_header_layout, program_header_reads}
+use Rattle.elf_records.specs.Table.{Table, table_in, table_items, table_view}
 use Rattle.elf_records.specs.declared.file.FileHeader.{FileHeader}
 use Rattle.elf_records.specs.declared.section.SectionHeader.{SectionHeader}
-use Rattle.elf_parts.specs.declared.segment.ProgramHeader.{ProgramHeader}
+use Rattle.elf_records.specs.declared.segment.ProgramHeader.{ProgramHeader}
 use Rattle.elf_records.specs.declared.parse.ParseError.{ParseError}
 use Rattle.elf_records.specs.declared.parse.ParseError.TheVariants.{BadEntsize}
 use Rattle.elf_reading.specs.declared.opening.Opened.{Opened}

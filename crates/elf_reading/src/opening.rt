@@ -2,7 +2,7 @@
 ghost use Rattle.std.specs.Prelude.{◌≡◌, ◌≤◌, IfOk, length};
 ghost use Rattle.std.specs.Option.{option_map};
 ghost use Rattle.elf_records.specs.Number.{bytes_at, ok_map};
-ghost use Rattle.elf_parts.specs.Table.{table_view};
+ghost use Rattle.elf_records.specs.Table.{table_view};
 ghost use Rattle.elf_reading.specs.Opening.{first_section, header_at_front, opened, opened_view, table_bytes};
 ghost use Rattle.elf_reading.specs.Tables.{declared_count, declared_table};
 

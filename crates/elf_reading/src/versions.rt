@@ -1,7 +1,7 @@
 //! The sections with the versions of symbols (GNU symbol versioning).
 ghost use Rattle.std.specs.Prelude.{◌≡◌, ◌&&◌, Some, is_some};
 ghost use Rattle.elf_records.specs.Clones.{ClonesExactly};
-ghost use Rattle.elf_parts.specs.Table.{table_view};
+ghost use Rattle.elf_records.specs.Table.{table_view};
 ghost use Rattle.elf_reading.specs.Opening.{section_list};
 ghost use Rattle.elf_reading.specs.Versions.{version_sections};
 

@@ -12,12 +12,15 @@ pub mod Record
 pub mod Word
 -- the file header
 pub mod File
--- the field tables of section headers, symbols, relocations, dynamic entries and compression headers
+-- the field tables of section headers, program headers, symbols, relocations, dynamic entries and compression headers
 pub mod Section
+pub mod Segment
 pub mod Symbol
 pub mod Relocation
 pub mod Dynamic
 pub mod Compression
+-- tables of records of one size
+pub mod Table
 -- strings that end in a 0 byte
 pub mod StringTable
 -- what a clone is

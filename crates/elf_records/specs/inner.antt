@@ -2,3 +2,4 @@ pub mod RecordLaws
 pub mod Running
 pub mod Part
 pub mod Terminated
+pub mod Extent

@@ -1,10 +1,13 @@
-//! Dynamic entries, by which a file tells the dynamic linker what it needs (gABI, chapter "Dynamic Section").
+//! Dynamic entries and tables of them, by which a file tells the dynamic linker what it needs (gABI, chapter "Dynamic Section").
 ghost use Rattle.std.specs.Prelude.{◌≡◌, [], ◌∷◌};
 ghost use Rattle.elf_records.specs.Dynamic.{d_un_view, dyn_entry};
 
 use crate::endian::EndianParse;
 use crate::file::Class;
-use crate::parse::{ParseAt, ParseError};
+use crate::parse::{ParseAt, ParseError, ParsingTable};
+
+/// A table of dynamic entries.
+pub type DynamicTable<'data, E> = ParsingTable<'data, E, Dyn>;
 
 /// The C structure of a dynamic entry in a 32-bit file.
 #[derive(Debug, Drop)]

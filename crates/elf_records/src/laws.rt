@@ -3,5 +3,7 @@
 pub mod clones;
 pub mod defaults;
 pub mod equality;
+pub mod lists;
 pub mod numbers;
 pub mod symbols;
+pub mod tables;

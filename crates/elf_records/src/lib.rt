@@ -1,5 +1,5 @@
-//! What an ELF file is read by: byte orders, numbers, the error type of the library, the records that stand alone, as
-//! headers, symbols, relocations and dynamic entries, and tables of strings. `elf_parts` has the tables of records.
+//! What an ELF file is read by: byte orders, numbers, the error type of the library, plain records, as headers,
+//! symbols, relocations and dynamic entries, tables of these, and tables of strings.
 #![tactic(auto)]
 
 pub mod compression;
@@ -10,5 +10,6 @@ pub mod laws;
 pub mod parse;
 pub mod relocation;
 pub mod section;
+pub mod segment;
 pub mod string_table;
 pub mod symbol;

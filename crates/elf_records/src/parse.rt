@@ -1,4 +1,4 @@
-//! The error type of the library, and records that are read at an offset.
+//! The error type of the library, records that are read at an offset, and tables of records.
 ghost use Rattle.std.specs.Prelude.{◌≡◌, if◌then◌else◌, ◌==◌};
 ghost use Rattle.elf_records.specs.Class.{address_size};
 ghost use Rattle.elf_records.specs.Number.{moved_by, number_at};
@@ -12,7 +12,10 @@ use crate::endian::EndianParse;
 use crate::file::Class;
 use thiserror::Error;
 
+mod table;
 mod words;
+
+pub use table::{ParsingIterator, ParsingTable, read_record};
 
 /// An error of the library. A pair of numbers is (found, expected), or (start, end) of a range of bytes whose end
 /// is not included.

@@ -1,10 +1,16 @@
-//! Relocations, without and with an addend (gABI, chapter "Relocation").
+//! Relocations, without and with an addend, and iterators over them (gABI, chapter "Relocation").
 ghost use Rattle.std.specs.Prelude.{◌≡◌, [], ◌∷◌};
 ghost use Rattle.elf_records.specs.Relocation.{rel, rela, sym_of_info, type_of_info};
 
 use crate::endian::EndianParse;
 use crate::file::Class;
-use crate::parse::{ParseAt, ParseError};
+use crate::parse::{ParseAt, ParseError, ParsingIterator};
+
+/// An iterator over relocations without addends.
+pub type RelIterator<'data, E> = ParsingIterator<'data, E, Rel>;
+
+/// An iterator over relocations with addends.
+pub type RelaIterator<'data, E> = ParsingIterator<'data, E, Rela>;
 
 /// The C structure of a relocation without an addend in a 32-bit file.
 #[derive(Debug, Drop)]

@@ -1,4 +1,4 @@
-//! Section headers (gABI, chapter "Sections").
+//! Section headers and tables of them (gABI, chapter "Sections").
 ghost use Rattle.std.specs.Prelude.{◌≡◌, ◌+◌, OnOk};
 ghost use Rattle.elf_records.specs.Number.{ok_map};
 ghost use Rattle.elf_records.specs.inner.Part.{back_fields, five, front_fields, part_at, part_end};
@@ -6,7 +6,10 @@ ghost use Rattle.elf_records.specs.inner.Running.{width_of};
 
 use crate::endian::EndianParse;
 use crate::file::Class;
-use crate::parse::{ParseAt, ParseError, parse_by_class};
+use crate::parse::{ParseAt, ParseError, ParsingTable, parse_by_class};
+
+/// A table of section headers.
+pub type SectionHeaderTable<'data, E> = ParsingTable<'data, E, SectionHeader>;
 
 /// The C structure of a section header in a 32-bit file.
 #[derive(Debug, Drop)]

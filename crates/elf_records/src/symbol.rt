@@ -1,12 +1,15 @@
-//! Symbols (gABI, chapter "Symbol Table").
+//! Symbols and tables of them (gABI, chapter "Symbol Table").
 ghost use Rattle.std.specs.Prelude.{◌≡◌, ◌==◌};
 ghost use Rattle.elf_abi.specs.Values.{shn_undef};
 ghost use Rattle.elf_records.specs.Symbol.{symbol_binding, symbol_type, symbol_visibility};
 
 use crate::endian::EndianParse;
 use crate::file::Class;
-use crate::parse::{ParseAt, ParseError};
+use crate::parse::{ParseAt, ParseError, ParsingTable};
 use elf_abi::abi;
+
+/// A table of symbols.
+pub type SymbolTable<'data, E> = ParsingTable<'data, E, Symbol>;
 
 /// The C structure of a symbol in a 32-bit file.
 #[derive(Debug, Drop)]

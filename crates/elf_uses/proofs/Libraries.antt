@@ -4,7 +4,7 @@ use Rattle.std.specs.Prelude.{IsOk}
 use Rattle.std.specs.Option.{option_map}
 use Rattle.elf_records.specs.Number.{ok_map}
 use Rattle.elf_records.specs.Record.{◌>>=◌}
-use Rattle.elf_parts.specs.Table.{Table}
+use Rattle.elf_records.specs.Table.{Table}
 use Rattle.elf_records.specs.declared.compression.CompressionHeader.{CompressionHeader}
 use Rattle.elf_records.specs.declared.file.Class.{Class}
 use Rattle.elf_records.specs.declared.parse.ParseError.{ParseError}

@@ -8,7 +8,7 @@ use Rattle.elf_records.specs.Record.{◌>>=◌}
 use Rattle.elf_parts.specs.SysvFind.{first_decided}
 use Rattle.elf_records.specs.declared.parse.ParseError.{ParseError}
 use Rattle.elf_records.specs.declared.section.SectionHeader.{SectionHeader}
-use Rattle.elf_parts.specs.declared.segment.ProgramHeader.{ProgramHeader}
+use Rattle.elf_records.specs.declared.segment.ProgramHeader.{ProgramHeader}
 use Rattle.elf.specs.Answers.{section_data_as_notes, segment_data_as_notes}
 use Rattle.elf.specs.ObjectFile.{ObjectFile}
 

@@ -6,7 +6,7 @@ use Rattle.std.specs.Option.{IsSomeAnd}
 use Rattle.elf_abi.specs.Values.{pt_load}
 use Rattle.elf_records.specs.Class.{address_bits}
 use Rattle.elf_records.specs.declared.file.Class.{Class}
-use Rattle.elf_parts.specs.declared.segment.ProgramHeader.{ProgramHeader}
+use Rattle.elf_records.specs.declared.segment.ProgramHeader.{ProgramHeader}
 use Rattle.elf_uses.specs.declared.load_plan.Mapping.{Mapping}
 use Rattle.elf_uses.specs.declared.load_plan.PlanError.{PlanError}
 use Rattle.elf_uses.specs.declared.load_plan.PlanError.TheVariants.{AddressSpace, FileSize, Memory, OutsideFile}

@@ -11,10 +11,10 @@ use Rattle.elf_records.specs.Dynamic.{d_un_view, dyn_reads, has_tag}
 use Rattle.elf_records.specs.Number.{ok_map}
 use Rattle.elf_records.specs.Record.{◌>>=◌}
 use Rattle.elf_records.specs.StringTable.{string_at}
-use Rattle.elf_parts.specs.Table.{Table, table_items}
+use Rattle.elf_records.specs.Table.{Table, table_items}
 use Rattle.elf_records.specs.declared.dynamic.Dyn.{Dyn}
 use Rattle.elf_records.specs.declared.parse.ParseError.{ParseError}
-use Rattle.elf_parts.specs.declared.segment.ProgramHeader.{ProgramHeader}
+use Rattle.elf_records.specs.declared.segment.ProgramHeader.{ProgramHeader}
 use Rattle.elf.specs.Answers.{dynamic, segment_data}
 use Rattle.elf.specs.ElfStream.{Keeps, Seen}
 use Rattle.elf_reading.specs.Refusals.{IsRefused, kind}

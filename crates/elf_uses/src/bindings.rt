@@ -3,7 +3,7 @@ ghost use Rattle.std.specs.Prelude.{◌≡◌, IfOk, filter};
 ghost use Rattle.std.specs.List.{enumerate_from};
 ghost use Rattle.std.specs.Option.{option_map};
 ghost use Rattle.elf_records.specs.Symbol.{symbol_reads};
-ghost use Rattle.elf_parts.specs.Table.{table_items, table_view};
+ghost use Rattle.elf_records.specs.Table.{table_items, table_view};
 ghost use Rattle.elf_parts.specs.gnu_symver.Table.{versions_view};
 ghost use Rattle.elf_check.specs.CheckedTable.{object_view};
 ghost use Rattle.elf_binding.specs.VersionedView.{versioned_view};

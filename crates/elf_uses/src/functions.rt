@@ -3,7 +3,7 @@ ghost use Rattle.std.specs.Prelude.{◌≡◌, IfOk, filter};
 ghost use Rattle.std.specs.List.{enumerate_from};
 ghost use Rattle.elf_records.specs.Symbol.{symbol_reads};
 ghost use Rattle.elf_parts.specs.gnu_symver.Table.{definition, definition_view};
-ghost use Rattle.elf_parts.specs.Table.{table_items, table_view};
+ghost use Rattle.elf_records.specs.Table.{table_items, table_view};
 ghost use Rattle.elf_uses.specs.Functions.{GivesVersion, GivesVersionOf, is_defined_function, is_function};
 
 use elf::endian::EndianParse;

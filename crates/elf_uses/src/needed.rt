@@ -4,7 +4,7 @@ ghost use Rattle.std.specs.List.{find};
 ghost use Rattle.std.specs.Option.{option_map};
 ghost use Rattle.elf_records.specs.Dynamic.{has_tag};
 ghost use Rattle.elf_records.specs.Number.{ok_map};
-ghost use Rattle.elf_parts.specs.Table.{table_view};
+ghost use Rattle.elf_records.specs.Table.{table_view};
 ghost use Rattle.elf.specs.StreamFile.{stream_file};
 ghost use Rattle.elf_uses.specs.Needed.{GivesNames, IsGiven};
 ghost use Rattle.elf_uses.specs.Needed.{all_names, entries_in, entries_of, first_entry, first_name};

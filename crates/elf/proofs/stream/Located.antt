@@ -4,7 +4,7 @@ use Rattle.std.specs.Prelude.{◌==◌, false, Result, Ok, Err, IsErr, is_err, I
 use Rattle.std.specs.Option.{option_map}
 use Rattle.elf_records.specs.Number.{ok_map}
 use Rattle.elf_records.specs.Record.{◌>>=◌}
-use Rattle.elf_parts.specs.Table.{table_in}
+use Rattle.elf_records.specs.Table.{table_in}
 use Rattle.elf_records.specs.declared.file.FileHeader.{FileHeader}
 use Rattle.elf_records.specs.declared.parse.ParseError.{ParseError}
 use Rattle.elf_reading.specs.Opening.{table_bytes}

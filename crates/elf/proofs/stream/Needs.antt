@@ -7,7 +7,7 @@ use Rattle.elf_records.specs.Record.{◌>>=◌, size_by}
 use Rattle.elf_records.specs.declared.compression.CompressionHeader.{CompressionHeader}
 use Rattle.elf_records.specs.declared.parse.ParseError.{ParseError}
 use Rattle.elf_records.specs.declared.section.SectionHeader.{SectionHeader}
-use Rattle.elf_parts.specs.declared.segment.ProgramHeader.{ProgramHeader}
+use Rattle.elf_records.specs.declared.segment.ProgramHeader.{ProgramHeader}
 use Rattle.elf.specs.Answers.{section_dynamic, segment_data, segment_dynamic}
 use Rattle.elf.specs.Ranges.{LinkedSections, VersionPlan, both_sections, if_there, plan_ranges, section_ranges, segment_ranges, whole_section}
 use Rattle.elf.specs.Headers.{entry_size, if_found}

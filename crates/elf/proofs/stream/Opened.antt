@@ -4,12 +4,12 @@ use Rattle.std.specs.Prelude.{Result, Ok, is_some}
 use Rattle.std.specs.Option.{option_map}
 use Rattle.elf_records.specs.Record.{◌>>=◌}
 use Rattle.elf_records.specs.Section.{section_header_reads}
-use Rattle.elf_parts.specs.Segment.{program_header_reads}
-use Rattle.elf_parts.specs.Table.{Table}
+use Rattle.elf_records.specs.Segment.{program_header_reads}
+use Rattle.elf_records.specs.Table.{Table}
 use Rattle.elf_records.specs.declared.file.FileHeader.{FileHeader}
 use Rattle.elf_records.specs.declared.parse.ParseError.{ParseError}
 use Rattle.elf_records.specs.declared.section.SectionHeader.{SectionHeader}
-use Rattle.elf_parts.specs.declared.segment.ProgramHeader.{ProgramHeader}
+use Rattle.elf_records.specs.declared.segment.ProgramHeader.{ProgramHeader}
 use Rattle.elf_reading.specs.Opening.{header_at_front, opened, section_table, segment_table}
 use Rattle.elf.specs.ElfStream.{IsOfFile, Seen}
 use Rattle.elf_reading.specs.Opening.{View, section_list, segment_list}

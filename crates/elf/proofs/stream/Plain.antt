@@ -7,7 +7,7 @@ use Rattle.elf_records.specs.File.{byte_in, class_of, ident_of, magic_in, order_
 use Rattle.elf_records.specs.Number.{bytes_at, number_at, ok_map}
 use Rattle.elf_records.specs.Record.{◌>>=◌, Field, Layout, accepted, numbers_at, record_by, size_by}
 use Rattle.elf_records.specs.Section.{section_header_layout, section_header_reads}
-use Rattle.elf_parts.specs.Table.{Table, item_at}
+use Rattle.elf_records.specs.Table.{Table, item_at}
 use Rattle.elf_records.specs.declared.file.Class.{Class}
 use Rattle.elf_records.specs.declared.parse.ParseError.{ParseError}
 use Rattle.elf_records.specs.declared.section.SectionHeader.{SectionHeader}

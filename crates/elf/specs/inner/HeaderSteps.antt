@@ -5,7 +5,7 @@ use Rattle.elf_records.specs.File.{Ident, header_with_tail, ident_of, tail_field
 use Rattle.elf_records.specs.Number.{bytes_at}
 use Rattle.elf_records.specs.Record.{◌>>=◌, RecordType, size_of}
 use Rattle.elf_records.specs.declared.file.FileHeader.{FileHeader}
-use Rattle.elf_parts.specs.Table.{Table, table_in, table_items}
+use Rattle.elf_records.specs.Table.{Table, table_in, table_items}
 use Rattle.elf_records.specs.declared.parse.ParseError.{ParseError}
 
 -- the identification in the first sixteen bytes

@@ -2,7 +2,7 @@
 -- holds.
 use Rattle.std.specs.Prelude.{◌≡◌, ℕ, Bool, List, Option, Ok, IfSome, is_some}
 use Rattle.elf_records.specs.declared.section.SectionHeader.{SectionHeader}
-use Rattle.elf_parts.specs.declared.segment.ProgramHeader.{ProgramHeader}
+use Rattle.elf_records.specs.declared.segment.ProgramHeader.{ProgramHeader}
 use Rattle.elf_reading.specs.Opening.{opened}
 use Rattle.elf_reading.specs.Opening.{View, section_list, segment_list}
 use Rattle.elf_reading.specs.Cache.{IsSound, Piece}

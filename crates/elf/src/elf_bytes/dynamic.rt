@@ -2,7 +2,7 @@
 ghost use Rattle.std.specs.Prelude.{◌≡◌};
 ghost use Rattle.std.specs.Option.{option_map};
 ghost use Rattle.elf_records.specs.Number.{ok_map};
-ghost use Rattle.elf_parts.specs.Table.{table_view};
+ghost use Rattle.elf_records.specs.Table.{table_view};
 ghost use Rattle.elf.specs.Answers.{dynamic, section_dynamic, segment_dynamic};
 ghost use Rattle.elf.specs.ObjectFile.{object_file};
 ghost use Rattle.elf.specs.ElfBytes.{view};

@@ -1,6 +1,6 @@
 //! Headers by their index, and the first or last ones of a type.
 ghost use Rattle.std.specs.Prelude.{◌≡◌, Some};
-ghost use Rattle.elf_parts.specs.Table.{table_view};
+ghost use Rattle.elf_records.specs.Table.{table_view};
 ghost use Rattle.elf_reading.specs.Opening.{section_list};
 ghost use Rattle.elf_reading.specs.Versions.{version_sections};
 

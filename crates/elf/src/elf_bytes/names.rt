@@ -1,7 +1,7 @@
 //! The names of sections.
 ghost use Rattle.std.specs.Prelude.{◌≡◌, Some};
 ghost use Rattle.elf_records.specs.Number.{ok_map};
-ghost use Rattle.elf_parts.specs.Table.{table_view};
+ghost use Rattle.elf_records.specs.Table.{table_view};
 ghost use Rattle.elf.specs.Answers.{first_named, section_header_by_name};
 ghost use Rattle.elf.specs.Names.{beside, name_table, named_view};
 ghost use Rattle.elf.specs.ObjectFile.{object_file};

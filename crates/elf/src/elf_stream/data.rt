@@ -4,7 +4,7 @@ ghost use Rattle.elf_abi.specs.Values.{sht_note, sht_rel, sht_rela, sht_strtab};
 ghost use Rattle.elf_parts.specs.Note.{notes_left};
 ghost use Rattle.elf_records.specs.Number.{ok_map};
 ghost use Rattle.elf_records.specs.StringTable.{strings_view};
-ghost use Rattle.elf_parts.specs.Table.{items_left, table_items};
+ghost use Rattle.elf_records.specs.Table.{items_left, table_items};
 ghost use Rattle.elf.specs.Answers.{relas_left, rels_left, section_data_as_notes};
 ghost use Rattle.elf.specs.Data.{content, content_of_type, section_data};
 ghost use Rattle.elf_reading.specs.Leading.{data_view};

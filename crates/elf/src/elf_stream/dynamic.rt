@@ -5,7 +5,7 @@ ghost use Rattle.elf_records.specs.Dynamic.{dyn_layout};
 ghost use Rattle.elf_records.specs.Record.{size_by};
 ghost use Rattle.std.specs.Option.{option_map};
 ghost use Rattle.elf_records.specs.Number.{ok_map};
-ghost use Rattle.elf_parts.specs.Table.{table_view};
+ghost use Rattle.elf_records.specs.Table.{table_view};
 ghost use Rattle.elf.specs.Answers.{dynamic, section_dynamic, segment_dynamic};
 ghost use Rattle.elf.specs.Ranges.{dynamic_ranges, headers_alone, if_there, section_ranges, section_dynamic_ranges};
 ghost use Rattle.elf.specs.Ranges.{segment_ranges};

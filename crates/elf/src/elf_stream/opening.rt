@@ -6,7 +6,7 @@ ghost use Rattle.elf_records.specs.File.{tail_fields};
 ghost use Rattle.elf_records.specs.Number.{bytes_at};
 ghost use Rattle.elf_records.specs.Record.{size_by, size_of};
 ghost use Rattle.elf_records.specs.Section.{section_header_layout};
-ghost use Rattle.elf_parts.specs.Table.{table_items, table_view};
+ghost use Rattle.elf_records.specs.Table.{table_items, table_view};
 ghost use Rattle.elf.specs.ElfStream.{IsAnswer};
 ghost use Rattle.elf_reading.specs.Refusals.{kind};
 ghost use Rattle.elf.specs.inner.HeaderSteps.{front_ident, range_bytes, range_records};

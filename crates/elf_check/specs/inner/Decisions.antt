@@ -9,7 +9,7 @@ use Rattle.elf_records.specs.Class.{address_bits}
 use Rattle.elf_parts.specs.GnuFind.{GnuTable}
 use Rattle.elf_parts.specs.Hash.{gnu_hash_of, sysv_hash_of, word_at, word_count}
 use Rattle.elf_parts.specs.SysvFind.{SysvTable}
-use Rattle.elf_parts.specs.Table.{Table}
+use Rattle.elf_records.specs.Table.{Table}
 use Rattle.elf_check.specs.Object.{ByGnu, BySysv, IsSound, Object}
 use Rattle.elf_check.specs.SoundGnu.{HasBothBits, InRun, RunsTo, SoundGnu, SoundWord}
 use Rattle.elf_check.specs.SoundSysv.{Belongs, EndsAt, SoundSysv, value}

@@ -1,7 +1,7 @@
 //! The check of a section of either kind, and the table that it gives.
 ghost use Rattle.std.specs.Prelude.{◌≡◌};
 ghost use Rattle.elf_records.specs.StringTable.{strings_view};
-ghost use Rattle.elf_parts.specs.Table.{table_view};
+ghost use Rattle.elf_records.specs.Table.{table_view};
 ghost use Rattle.elf_check.specs.CheckedTable.{object_view};
 ghost use Rattle.elf_check.specs.Indexed.{IsNumberOf};
 ghost use Rattle.elf_check.specs.Object.{IsSound, IsTrueOf, object_in};

@@ -2,7 +2,7 @@
 ghost use Rattle.std.specs.Prelude.{◌≡◌, ◌-◌};
 ghost use Rattle.std.specs.Iterator.{YieldsFirst, item_count};
 ghost use Rattle.elf_records.specs.StringTable.{strings_view};
-ghost use Rattle.elf_parts.specs.Table.{table_view};
+ghost use Rattle.elf_records.specs.Table.{table_view};
 ghost use Rattle.elf_check.specs.NamedSymbols.{index_behind, indices_from, indices_left, kept_named, named_left};
 ghost use Rattle.elf_check.specs.NamedSymbols.{symbol_named, unless_last, unless_zero};
 ghost use Rattle.elf_check.specs.WithSymbols.{word};

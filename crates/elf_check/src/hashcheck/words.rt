@@ -1,7 +1,7 @@
 //! The words of a hash section.
 ghost use Rattle.std.specs.Prelude.{◌≡◌, ◌<◌, ◌^◌, Some};
 ghost use Rattle.elf_parts.specs.Hash.{word_count};
-ghost use Rattle.elf_parts.specs.Table.{table_view};
+ghost use Rattle.elf_records.specs.Table.{table_view};
 ghost use Rattle.elf_check.specs.WithSymbols.{word};
 
 use elf_parts::endian::EndianParse;

@@ -1,6 +1,6 @@
 //! What is looked up most often, found in one pass over the sections.
 ghost use Rattle.std.specs.Prelude.{◌≡◌, [], ◌∷◌, ◌++◌, true, Ok, Err, Some, None, drop, take};
-ghost use Rattle.elf_parts.specs.Table.{table_in};
+ghost use Rattle.elf_records.specs.Table.{table_in};
 ghost use Rattle.elf_records.specs.declared.file.Class.TheVariants.{ELF32};
 ghost use Rattle.elf_records.specs.declared.parse.ParseError.TheVariants.{BadEntsize, BadOffset};
 ghost use Rattle.elf.specs.Common.{find_common_data};

@@ -6,7 +6,7 @@ ghost use Rattle.elf_records.specs.File.{header_with_tail, ident_of};
 ghost use Rattle.elf_records.specs.Endian.{any_is_little, any_of_byte, big_of_byte, little_of_byte};
 ghost use Rattle.elf_records.specs.Record.{offset_by, record_by, size_by};
 ghost use Rattle.elf_records.specs.Section.{section_header_layout};
-ghost use Rattle.elf_parts.specs.Segment.{program_header_layout};
+ghost use Rattle.elf_records.specs.Segment.{program_header_layout};
 ghost use Rattle.elf_records.specs.declared.endian.AnyEndian.TheVariants.{Big, Little};
 ghost use Rattle.elf_records.specs.declared.file.Class.TheVariants.{ELF32, ELF64};
 ghost use Rattle.elf_records.specs.declared.parse.ParseError.TheVariants.{BadMagic, IntegerOverflow};

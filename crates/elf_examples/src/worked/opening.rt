@@ -5,8 +5,8 @@ ghost use Rattle.std.specs.Prelude.{◌≡◌, [], ◌∷◌, ◌++◌, true, fa
 ghost use Rattle.elf_records.specs.Number.{ok_map};
 ghost use Rattle.elf_records.specs.Endian.{big_of_byte, little_of_byte};
 ghost use Rattle.elf_records.specs.Section.{section_header_reads};
-ghost use Rattle.elf_parts.specs.Segment.{program_header_reads};
-ghost use Rattle.elf_parts.specs.Table.{table_in, table_items};
+ghost use Rattle.elf_records.specs.Segment.{program_header_reads};
+ghost use Rattle.elf_records.specs.Table.{table_in, table_items};
 ghost use Rattle.elf_records.specs.declared.file.Class.TheVariants.{ELF32, ELF64};
 ghost use Rattle.elf_records.specs.declared.parse.ParseError.TheVariants.{BadEntsize, BadMagic};
 ghost use Rattle.elf_records.specs.declared.parse.ParseError.TheVariants.{BadOffset, IntegerOverflow};

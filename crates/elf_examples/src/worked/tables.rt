@@ -4,7 +4,7 @@
 ghost use Rattle.std.specs.Prelude.{◌≡◌, ◌-◌, ◌^◌, [], ◌∷◌, true, false, Ok, Err};
 ghost use Rattle.elf_records.specs.Number.{number_at};
 ghost use Rattle.elf_records.specs.Record.{record_by};
-ghost use Rattle.elf_parts.specs.Table.{item_at, items, items_from, table_get, table_in, table_items, table_len};
+ghost use Rattle.elf_records.specs.Table.{item_at, items, items_from, table_get, table_in, table_items, table_len};
 ghost use Rattle.elf_records.specs.declared.file.Class.TheVariants.{ELF32, ELF64};
 ghost use Rattle.elf_records.specs.declared.parse.ParseError.TheVariants.{BadOffset, IntegerOverflow, SliceReadError};
 ghost use Rattle.elf_examples.specs.Files.{first_eight};

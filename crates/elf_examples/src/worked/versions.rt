@@ -3,7 +3,7 @@ ghost use Rattle.std.specs.Prelude.{◌≡◌, [], ◌∷◌, ◌++◌, true, fa
 ghost use Rattle.elf_parts.specs.gnu_symver.Lists.{ver_defs, ver_needs};
 ghost use Rattle.elf_parts.specs.gnu_symver.Records.{version_index, version_is_hidden};
 ghost use Rattle.elf_parts.specs.gnu_symver.Table.{definition, requirement};
-ghost use Rattle.elf_parts.specs.Table.{table_in};
+ghost use Rattle.elf_records.specs.Table.{table_in};
 ghost use Rattle.elf_records.specs.declared.file.Class.TheVariants.{ELF32, ELF64};
 ghost use Rattle.elf_records.specs.declared.parse.ParseError.TheVariants.{SliceReadError, StringTableMissingNul};
 ghost use Rattle.elf_examples.specs.Files.{in_four, in_two, zeros};

@@ -3,7 +3,7 @@ ghost use Rattle.std.specs.Prelude.{◌≡◌, [], ◌∷◌, ℕ, Bool, List, N
 ghost use Rattle.elf_records.specs.Endian.{any_is_little, any_of_byte};
 ghost use Rattle.elf_records.specs.declared.file.FileHeader.{FileHeader};
 ghost use Rattle.elf_records.specs.declared.section.SectionHeader.{SectionHeader};
-ghost use Rattle.elf_parts.specs.declared.segment.ProgramHeader.{ProgramHeader};
+ghost use Rattle.elf_records.specs.declared.segment.ProgramHeader.{ProgramHeader};
 ghost use Rattle.elf.specs.Names.{name_table};
 ghost use Rattle.elf.specs.ObjectFile.{object_file};
 ghost use Rattle.elf_reading.specs.Opening.{opened};

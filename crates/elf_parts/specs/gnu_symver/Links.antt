@@ -2,7 +2,7 @@
 use Rattle.std.specs.Prelude.{ℕ, ◌+◌, ◌^◌, if◌then◌else◌, ◌==◌, ◌||◌, nat_le, Bool, Option, Some, None}
 use Rattle.std.specs.Prelude.{List, [], ◌∷◌, map, Result, zero, suc}
 use Rattle.elf_parts.specs.Link.{links}
-use Rattle.elf_parts.specs.Table.{Table, table_in}
+use Rattle.elf_records.specs.Table.{Table, table_in}
 use Rattle.elf_records.specs.declared.file.Class.{Class}
 use Rattle.elf_parts.specs.declared.gnu_symver.links.Links.{Links}
 use Rattle.elf_records.specs.declared.parse.ParseError.{ParseError}

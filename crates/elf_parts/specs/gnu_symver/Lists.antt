@@ -2,7 +2,7 @@
 -- auxiliary entries are the versions that are needed, a definition one whose auxiliary entries are its names.
 use Rattle.std.specs.Prelude.{ℕ, ◌+◌, Bool, List, map, Result}
 use Rattle.elf_records.specs.Record.{record_by}
-use Rattle.elf_parts.specs.Table.{Table}
+use Rattle.elf_records.specs.Table.{Table}
 use Rattle.elf_parts.specs.gnu_symver.Links.{links_in, links_left, links_view, records_of}
 use Rattle.elf_parts.specs.gnu_symver.Records.{ver_def_aux_layout, ver_def_layout, ver_need_aux_layout, ver_need_layout}
 use Rattle.elf_records.specs.declared.file.Class.{Class}

@@ -5,7 +5,7 @@ use Rattle.std.specs.List.{find}
 use Rattle.std.specs.Option.{option_map}
 use Rattle.elf_records.specs.Number.{ok_map}
 use Rattle.elf_records.specs.StringTable.{string_at, strings_view, GivesText}
-use Rattle.elf_parts.specs.Table.{Table, table_get, table_view}
+use Rattle.elf_records.specs.Table.{Table, table_get, table_view}
 use Rattle.elf_parts.specs.gnu_symver.Lists.{ver_def_aux_left, ver_defs_left, ver_needs_left}
 use Rattle.elf_parts.specs.gnu_symver.Records.{version_index, version_index_reads, version_is_hidden}
 use Rattle.elf_parts.specs.declared.gnu_symver.lists.EntryIterator.{EntryIterator}

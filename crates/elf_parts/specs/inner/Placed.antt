@@ -2,7 +2,7 @@
 use Rattle.std.specs.Prelude.{◌≡◌, ◌<◌, ◌+◌, ℕ, ⊤, length, max, MatchOption, slice_index_or, is_some, if◌then◌else◌}
 use Rattle.std.specs.Prelude.{List, [], ◌∷◌, Option, Some, None}
 use Rattle.std.specs.Option.{option_map}
-use Rattle.elf_parts.specs.Table.{Table, table_items}
+use Rattle.elf_records.specs.Table.{Table, table_items}
 use Rattle.elf_parts.specs.gnu_symver.Lists.{ver_defs_left}
 use Rattle.elf_parts.specs.gnu_symver.Records.{version_index, version_index_reads}
 use Rattle.elf_parts.specs.gnu_symver.Table.{Definitions, Needs, defined_version, needed_of, needed_version}

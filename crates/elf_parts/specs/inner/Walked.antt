@@ -2,7 +2,7 @@
 use Rattle.std.specs.Prelude.{◌≡◌, ◌<◌, ◌-◌, ℕ, length, List, Option, None, IfSome}
 use Rattle.std.specs.Option.{option_map, option_or}
 use Rattle.elf_parts.specs.inner.Placed.{slot}
-use Rattle.elf_parts.specs.Table.{Table}
+use Rattle.elf_records.specs.Table.{Table}
 use Rattle.elf_parts.specs.gnu_symver.Lists.{ver_need_aux_records}
 use Rattle.elf_parts.specs.gnu_symver.Table.{kept, version_with}
 use Rattle.elf_parts.specs.declared.gnu_symver.records.VerNeedAux.{VerNeedAux}

@@ -4,7 +4,7 @@ ghost use Rattle.std.specs.Iterator.{YieldsFirst, item_count};
 ghost use Rattle.elf_parts.specs.Link.{from_next};
 ghost use Rattle.elf_parts.specs.gnu_symver.Links.{links_in, links_left, links_view, next_start};
 ghost use Rattle.elf_parts.specs.gnu_symver.Links.{front_then, records_of};
-ghost use Rattle.elf_parts.specs.Table.{Table, table_in};
+ghost use Rattle.elf_records.specs.Table.{Table, table_in};
 
 use crate::endian::EndianParse;
 use crate::file::Class;

@@ -1,7 +1,7 @@
 //! Iterators over the entries of the version sections and over their auxiliary entries (GNU symbol versioning).
 ghost use Rattle.std.specs.Prelude.{◌≡◌, ◌≤◌, length, IfSome};
 ghost use Rattle.std.specs.Iterator.{YieldsFirst, YieldsFirstBy, item_count};
-ghost use Rattle.elf_parts.specs.Table.{table_in};
+ghost use Rattle.elf_records.specs.Table.{table_in};
 ghost use Rattle.elf_parts.specs.gnu_symver.Lists.{aux_left, aux_records, aux_view};
 ghost use Rattle.elf_parts.specs.gnu_symver.Lists.{entries_in, entries_left, entry_view, links_entry};
 ghost use Rattle.elf_parts.specs.gnu_symver.Links.{links_view};

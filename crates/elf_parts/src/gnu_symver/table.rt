@@ -13,7 +13,7 @@ ghost use Rattle.elf_parts.specs.gnu_symver.Lists.{ver_need_aux_left};
 ghost use Rattle.elf_parts.specs.gnu_symver.Lists.{ver_needs_left};
 ghost use Rattle.elf_parts.specs.gnu_symver.Table.{version_with, versions_view};
 ghost use Rattle.elf_parts.specs.gnu_symver.Table.{GivesRequirement, GivesTexts, HasFewNames, YieldsName};
-ghost use Rattle.elf_parts.specs.Table.{table_view};
+ghost use Rattle.elf_records.specs.Table.{table_view};
 
 mod indexed;
 mod look_up;

@@ -6,7 +6,7 @@ ghost use Rattle.elf_parts.specs.GnuFind.{gnu_view, passes, word_decides};
 ghost use Rattle.elf_parts.specs.Hash.{gnu_hash_from, gnu_hash_of, word_count};
 ghost use Rattle.elf_records.specs.Number.{ok_map};
 ghost use Rattle.elf_records.specs.StringTable.{strings_view};
-ghost use Rattle.elf_parts.specs.Table.{table_in, table_view};
+ghost use Rattle.elf_records.specs.Table.{table_in, table_view};
 
 use crate::endian::{BigEndian, EndianParse, LittleEndian};
 use crate::file::Class;

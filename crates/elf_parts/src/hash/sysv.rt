@@ -4,7 +4,7 @@ ghost use Rattle.elf_parts.specs.Hash.{folded, sysv_hash_of, word_count};
 ghost use Rattle.elf_records.specs.Number.{ok_map};
 ghost use Rattle.elf_records.specs.StringTable.{strings_view};
 ghost use Rattle.elf_parts.specs.SysvFind.{find_along, sysv_find, sysv_section, sysv_view};
-ghost use Rattle.elf_parts.specs.Table.{table_view};
+ghost use Rattle.elf_records.specs.Table.{table_view};
 
 use crate::endian::EndianParse;
 use crate::file::Class;

@@ -5,15 +5,12 @@ use crate::endian::EndianParse;
 use crate::gnu_symver::{Needed, VerDefIterator, VerNeedIterator};
 use crate::hash::{GnuHashHeader, SysVHashHeader};
 use crate::note::{NoteGnuAbiTag, NoteGnuBuildId};
-use crate::parse::{ParseAt, ParsingTable};
-use crate::segment::ProgramHeader;
 pub use elf_records::laws::clones::{
-    clones_of_headers, clones_of_kinds, clones_of_records, clones_of_strings,
+    clones_of_headers, clones_of_kinds, clones_of_records, clones_of_strings, clones_of_tables,
 };
 
-/// The clone of a program header or of the header of a hash section is the same value, and cloning it cannot fail.
-pub fn clones_of_part_headers()
-    ensures program { ClonesExactly ⟦<ProgramHeader as Clone>⟧.is_clone ⟦<ProgramHeader as Clone>⟧.is_infallible }
+/// The clone of the header of a hash section is the same value, and cloning it cannot fail.
+pub fn clones_of_hash_headers()
     ensures sysv { ClonesExactly ⟦<SysVHashHeader as Clone>⟧.is_clone ⟦<SysVHashHeader as Clone>⟧.is_infallible }
     ensures gnu { ClonesExactly ⟦<GnuHashHeader as Clone>⟧.is_clone ⟦<GnuHashHeader as Clone>⟧.is_infallible }
 {}
@@ -26,10 +23,8 @@ pub fn clones_of_needed_and_notes()
         ⟦<NoteGnuBuildId<'static> as Clone>⟧.is_clone ⟦<NoteGnuBuildId<'static> as Clone>⟧.is_infallible }
 {}
 
-/// The same of tables and the two version iterators that can be cloned. A cloned iterator continues at the same place.
-pub fn clones_of_tables<E: EndianParse, P: ParseAt>()
-    ensures table { ClonesExactly
-        ⟦<ParsingTable<'static, E, P> as Clone>⟧.is_clone ⟦<ParsingTable<'static, E, P> as Clone>⟧.is_infallible }
+/// The same of the two version iterators that can be cloned. A cloned iterator continues at the same place.
+pub fn clones_of_version_iterators<E: EndianParse>()
     ensures needs { ClonesExactly
         ⟦<VerNeedIterator<'static, E> as Clone>⟧.is_clone ⟦<VerNeedIterator<'static, E> as Clone>⟧.is_infallible }
     ensures definitions { ClonesExactly

@@ -2,16 +2,11 @@
 ghost use Rattle.std.specs.Prelude.{◌≡◌, ◌↔◌, IsTrue};
 
 use crate::hash::{GnuHashHeader, SysVHashHeader};
-use crate::segment::ProgramHeader;
 pub use elf_records::laws::equality::{
     equal_classes, equal_compression_headers, equal_dynamic_entries, equal_file_headers,
-    equal_orders, equal_relas, equal_rels, equal_section_headers, equal_symbols,
+    equal_orders, equal_program_headers, equal_relas, equal_rels, equal_section_headers,
+    equal_symbols,
 };
-
-/// Two program headers are equal exactly if all their fields are.
-pub fn equal_program_headers(a: &ProgramHeader, b: &ProgramHeader)
-    ensures { IsTrue (⟦<ProgramHeader as PartialEq>⟧.eq a.now b.now) ↔ (a.now ≡ b.now) }
-{}
 
 /// Two headers of SysV hash sections are equal exactly if all their fields are.
 pub fn equal_sysv_hash_headers(a: &SysVHashHeader, b: &SysVHashHeader)

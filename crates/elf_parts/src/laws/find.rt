@@ -3,7 +3,7 @@ ghost use Rattle.std.specs.Prelude.{◌≡◌, Bool, List, ℕ, Ok, Some, refl};
 ghost use Rattle.elf_parts.specs.GnuFind.{GnuTable, ReadsBloom, gnu_find, gnu_section};
 ghost use Rattle.elf_parts.specs.Hash.{IsNamed, ReadsBelowCount};
 ghost use Rattle.elf_parts.specs.SysvFind.{SysvTable, sysv_find, sysv_section};
-ghost use Rattle.elf_parts.specs.Table.{Table, table_view};
+ghost use Rattle.elf_records.specs.Table.{Table, table_view};
 ghost use Rattle.elf_records.specs.declared.file.Class.{Class};
 ghost use Rattle.elf_records.specs.declared.symbol.Symbol.{Symbol};
 

@@ -5,7 +5,7 @@ ghost use Rattle.elf_parts.specs.Link.{AreLongest};
 ghost use Rattle.elf_parts.specs.gnu_symver.Links.{links_in, next_start};
 ghost use Rattle.elf_parts.specs.gnu_symver.Lists.{ver_def_aux_records, ver_need_aux_records};
 ghost use Rattle.elf_parts.specs.gnu_symver.Records.{version_index, version_is_hidden};
-ghost use Rattle.elf_parts.specs.Table.{table_in};
+ghost use Rattle.elf_records.specs.Table.{table_in};
 
 use crate::endian::EndianParse;
 use crate::file::Class;

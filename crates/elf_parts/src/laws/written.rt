@@ -9,7 +9,7 @@ ghost use Rattle.elf_parts.specs.Note.{NoteContent, abi_tag_layout, note_header_
 ghost use Rattle.elf_records.specs.Record.{size_of};
 ghost use Rattle.elf_records.specs.Relocation.{rel_layout, rela_layout};
 ghost use Rattle.elf_records.specs.Section.{section_header_layout};
-ghost use Rattle.elf_parts.specs.Segment.{program_header_layout};
+ghost use Rattle.elf_records.specs.Segment.{program_header_layout};
 ghost use Rattle.elf_records.specs.StringTable.{string_at};
 ghost use Rattle.elf_parts.specs.Structs.{DefinitionsAreChained, NeedsAreChained, NotesFit, abi_tag_struct};
 ghost use Rattle.elf_parts.specs.Structs.{compression_header_struct, dyn_struct, gnu_header_struct, note_header_struct};
@@ -21,7 +21,7 @@ ghost use Rattle.elf_records.specs.Symbol.{symbol_layout};
 ghost use Rattle.elf_parts.specs.gnu_symver.Lists.{ver_defs, ver_needs};
 ghost use Rattle.elf_parts.specs.gnu_symver.Records.{ver_def_aux_layout, ver_def_layout, ver_need_aux_layout};
 ghost use Rattle.elf_parts.specs.gnu_symver.Records.{ver_need_layout, version_index_layout};
-ghost use Rattle.elf_parts.specs.Table.{table_in};
+ghost use Rattle.elf_records.specs.Table.{table_in};
 ghost use Rattle.elf_records.specs.Word.{u32_layout, u64_layout};
 ghost use Rattle.elf_parts.specs.Written.{Fits, FitsSigned, HasNoNul, IsStruct, PlacesAreSums, bytes_of, complement};
 ghost use Rattle.elf_parts.specs.Written.{strings_of, struct_bytes, word, xword};

@@ -5,8 +5,10 @@ use crate::compression::CompressionHeader;
 use crate::dynamic::Dyn;
 use crate::endian::{AnyEndian, BigEndian, EndianParse, LittleEndian};
 use crate::file::{Class, FileHeader};
+use crate::parse::{ParseAt, ParsingTable};
 use crate::relocation::{Rel, Rela};
 use crate::section::SectionHeader;
+use crate::segment::ProgramHeader;
 use crate::string_table::StringTable;
 use crate::symbol::Symbol;
 
@@ -18,10 +20,11 @@ pub fn clones_of_kinds()
     ensures big { ClonesExactly ⟦<BigEndian as Clone>⟧.is_clone ⟦<BigEndian as Clone>⟧.is_infallible }
 {}
 
-/// The same of file headers, section headers and compression headers.
+/// The same of file headers, section headers, program headers and compression headers.
 pub fn clones_of_headers<E: EndianParse>()
     ensures file { ClonesExactly ⟦<FileHeader<E> as Clone>⟧.is_clone ⟦<FileHeader<E> as Clone>⟧.is_infallible }
     ensures section { ClonesExactly ⟦<SectionHeader as Clone>⟧.is_clone ⟦<SectionHeader as Clone>⟧.is_infallible }
+    ensures program { ClonesExactly ⟦<ProgramHeader as Clone>⟧.is_clone ⟦<ProgramHeader as Clone>⟧.is_infallible }
     ensures compression { ClonesExactly
         ⟦<CompressionHeader as Clone>⟧.is_clone ⟦<CompressionHeader as Clone>⟧.is_infallible }
 {}
@@ -37,4 +40,10 @@ pub fn clones_of_records()
 /// The same of string tables.
 pub fn clones_of_strings()
     ensures { ClonesExactly ⟦<StringTable<'static> as Clone>⟧.is_clone ⟦<StringTable<'static> as Clone>⟧.is_infallible }
+{}
+
+/// The same of tables of records.
+pub fn clones_of_tables<E: EndianParse, P: ParseAt>()
+    ensures { ClonesExactly
+        ⟦<ParsingTable<'static, E, P> as Clone>⟧.is_clone ⟦<ParsingTable<'static, E, P> as Clone>⟧.is_infallible }
 {}

@@ -7,7 +7,13 @@ use crate::endian::{AnyEndian, BigEndian, EndianParse, LittleEndian};
 use crate::file::{Class, FileHeader};
 use crate::relocation::{Rel, Rela};
 use crate::section::SectionHeader;
+use crate::segment::ProgramHeader;
 use crate::symbol::Symbol;
+
+/// Two program headers are equal exactly if all their fields are.
+pub fn equal_program_headers(a: &ProgramHeader, b: &ProgramHeader)
+    ensures { IsTrue (⟦<ProgramHeader as PartialEq>⟧.eq a.now b.now) ↔ (a.now ≡ b.now) }
+{}
 
 /// Two section headers are equal exactly if all their fields are.
 pub fn equal_section_headers(a: &SectionHeader, b: &SectionHeader)

@@ -1,6 +1,6 @@
 use Rattle.std.proofs.Common.{Ok, subst}
 use Rattle.elf_records.specs.StringTable.{strings_view}
-use Rattle.elf_parts.specs.Table.{table_view}
+use Rattle.elf_records.specs.Table.{table_view}
 use Rattle.elf_check.specs.CheckedTable.{object_view}
 use Rattle.elf_check.specs.Object.{IsSound, IsTrueOf, object_in}
 use Rattle.elf_check.specs.Verdict.{GivesVerdict}

@@ -3,7 +3,7 @@ use Rattle.elf.specs.Answers.{dynamic}
 use Rattle.elf.specs.Ranges.{headers_alone, dynamic_ranges}
 use Rattle.elf.specs.StreamFile.{stream_file}
 use Rattle.elf_calls.specs.Question.{Dynamic}
-use Rattle.elf_parts.specs.Table.{table_view}
+use Rattle.elf_records.specs.Table.{table_view}
 use Rattle.elf_calls.specs.Text.{dynamic_text, unless_none}
 use Rattle.elf_calls.proofs.StreamCalls.{call_refused, outer_refused}
 use Rattle.elf_calls.proofs.stream.write_dynamic.Goals as goal

@@ -3,7 +3,7 @@ ghost use Rattle.std.specs.Prelude.{◌≡◌, ◌↔◌, ◌+◌, ◌<◌, ◌�
 ghost use Rattle.elf_parts.specs.GnuFind.{gnu_section, gnu_view};
 ghost use Rattle.elf_parts.specs.Hash.{word_count};
 ghost use Rattle.elf_records.specs.StringTable.{strings_view};
-ghost use Rattle.elf_parts.specs.Table.{table_view};
+ghost use Rattle.elf_records.specs.Table.{table_view};
 ghost use Rattle.elf_check.specs.CheckedTable.{checked_gnu_view, gnu_indexed};
 ghost use Rattle.elf_check.specs.Faults.{IsTrueOfGnu};
 ghost use Rattle.elf_check.specs.Reads.{counted, gnu_reads, read_count, symbols_of};

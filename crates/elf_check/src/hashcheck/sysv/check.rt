@@ -7,7 +7,7 @@ ghost use Rattle.std.specs.Prelude.{◌≡◌, ◌+◌, ◌*◌, ◌<◌, ◌≤
 ghost use Rattle.elf_parts.specs.Hash.{word_count};
 ghost use Rattle.elf_records.specs.StringTable.{strings_view};
 ghost use Rattle.elf_parts.specs.SysvFind.{sysv_section, sysv_view};
-ghost use Rattle.elf_parts.specs.Table.{table_view};
+ghost use Rattle.elf_records.specs.Table.{table_view};
 ghost use Rattle.elf_check.specs.CheckedTable.{checked_sysv_view, sysv_indexed};
 ghost use Rattle.elf_check.specs.Faults.{IsTrueOfSysv};
 ghost use Rattle.elf_check.specs.Indexed.{chain_lengths};

@@ -1,5 +1,5 @@
 use Rattle.std.specs.Io.KnownBytes.{Appends}
-use Rattle.elf_parts.specs.Table.{items_left}
+use Rattle.elf_records.specs.Table.{items_left}
 use Rattle.elf_lines.specs.Counted.{counted_lines}
 use Rattle.elf_lines.proofs.Listing.{given}
 use Rattle.elf_lines.proofs.counted.write_records.Goals as goal

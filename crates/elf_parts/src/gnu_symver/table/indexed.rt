@@ -6,7 +6,7 @@ ghost use Rattle.elf_parts.specs.gnu_symver.Table.{definition, definition_view, 
 ghost use Rattle.elf_parts.specs.gnu_symver.Table.{GivesRequirement, HasFewNames};
 ghost use Rattle.elf_parts.specs.gnu_symver.Records.{version_index_reads};
 ghost use Rattle.elf_parts.specs.inner.Placed.{place_count};
-ghost use Rattle.elf_parts.specs.Table.{table_items, table_view};
+ghost use Rattle.elf_records.specs.Table.{table_items, table_view};
 
 use super::placed::{definition_by_places, place_definitions, place_needs, requirement_by_places};
 use super::{

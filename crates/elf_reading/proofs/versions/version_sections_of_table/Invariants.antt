@@ -1,5 +1,5 @@
 use Rattle.std.proofs.Common.{◌≡◌, Some}
-use Rattle.elf_parts.specs.Table.{table_view}
+use Rattle.elf_records.specs.Table.{table_view}
 use Rattle.elf_reading.specs.Versions.{version_sections}
 use Rattle.elf_reading.specs.Opening.{section_list}
 use Rattle.elf_reading.proofs.Left.{sections_left}

@@ -1,7 +1,7 @@
 use Rattle.std.proofs.Common.{◌≡◌, map}
 use Rattle.elf_records.specs.Section.{section_header_reads}
 use Rattle.elf_parts.specs.SysvFind.{first_decided}
-use Rattle.elf_parts.specs.Table.{items_left}
+use Rattle.elf_records.specs.Table.{items_left}
 use Rattle.elf.specs.ObjectFile.{object_file}
 use Rattle.elf.specs.ElfBytes.{view}
 use Rattle.elf_uses.specs.BuildId.{section_id, sections_id}

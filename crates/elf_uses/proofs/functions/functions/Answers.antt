@@ -2,7 +2,7 @@ use Rattle.std.proofs.Common.{rules, tests}
 use Rattle.std.proofs.lemmas.Iterator.{items_from_collect}
 use Rattle.std.proofs.lemmas.Iterator.Consumers.{YieldsList-from_enumerate, YieldsList-from_filter, YieldsList-from_first}
 use Rattle.elf_records.specs.Symbol.{symbol_reads}
-use Rattle.elf_parts.specs.Table.{items_left, table_items, table_view}
+use Rattle.elf_records.specs.Table.{items_left, table_items, table_view}
 use Rattle.elf_uses.specs.Functions.{is_defined_function}
 use Rattle.elf_uses.proofs.functions.functions.Goals as goal
 

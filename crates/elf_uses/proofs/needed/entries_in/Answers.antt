@@ -4,7 +4,7 @@ use Rattle.std.proofs.lemmas.Iterator.Consumers.{YieldsList-from_first}
 use Rattle.std.proofs.lemmas.Iterator.Search.{YieldsList-from_take_while}
 use Rattle.elf_abi.specs.Values.{dt_null}
 use Rattle.elf_records.specs.Dynamic.{dyn_reads, has_tag}
-use Rattle.elf_parts.specs.Table.{items_left, table_items, table_view}
+use Rattle.elf_records.specs.Table.{items_left, table_items, table_view}
 use Rattle.elf_uses.proofs.needed.entries_in.Goals as goal
 
 pub returns : goal.returns

@@ -3,7 +3,7 @@ use Rattle.std.specs.Prelude.{Ok, Some}
 use Rattle.std.specs.Option.{option_map}
 use Rattle.std.proofs.lemmas.Result.{err_from_is_err_and}
 use Rattle.elf_records.specs.Record.{◌>>=◌}
-use Rattle.elf_parts.specs.Table.{table_view}
+use Rattle.elf_records.specs.Table.{table_view}
 use Rattle.elf.specs.Answers.{segment_dynamic}
 use Rattle.elf.specs.Ranges.{segment_ranges}
 use Rattle.elf.specs.Headers.{first_segment_of, if_found}

@@ -1,7 +1,7 @@
 use Rattle.std.proofs.Common.{rules, ℕ, List, Option}
 use Rattle.std.specs.Option.{option_map}
 use Rattle.elf_records.specs.Section.{section_header_reads}
-use Rattle.elf_parts.specs.Segment.{program_header_reads}
+use Rattle.elf_records.specs.Segment.{program_header_reads}
 use Rattle.elf_reading.specs.Opening.{header_at_front, section_table, segment_table}
 use Rattle.elf.specs.inner.HeaderSteps.{range_records, range_table}
 use Rattle.elf.proofs.stream.Opened.{all_found, ok_of, tables, value_of}

@@ -2,7 +2,7 @@ use Rattle.std.proofs.lemmas.Result.{err_from_is_err_and}
 use Rattle.std.proofs.Common.{refl, Some}
 use Rattle.std.specs.Option.{option_map}
 use Rattle.elf_records.specs.Number.{ok_map}
-use Rattle.elf_parts.specs.Table.{table_view}
+use Rattle.elf_records.specs.Table.{table_view}
 use Rattle.elf.specs.Answers.{section_dynamic}
 use Rattle.elf.specs.Ranges.{headers_alone, section_dynamic_ranges}
 use Rattle.elf.specs.StreamFile.{stream_file}

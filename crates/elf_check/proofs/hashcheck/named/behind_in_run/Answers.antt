@@ -1,5 +1,5 @@
 use Rattle.std.proofs.Common.{sym, arith}
-use Rattle.elf_parts.specs.Table.{table_view}
+use Rattle.elf_records.specs.Table.{table_view}
 use Rattle.elf_check.proofs.Reading.{word_inside}
 use Rattle.elf_check.proofs.hashcheck.named.behind_in_run.Goals as goal
 

@@ -1,5 +1,5 @@
 use Rattle.std.proofs.Common.{sym}
-use Rattle.elf_parts.specs.Table.{table_view}
+use Rattle.elf_records.specs.Table.{table_view}
 use Rattle.elf_check.proofs.Reading.{word_there}
 use Rattle.elf_check.proofs.hashcheck.words.word_below.Goals as goal
 

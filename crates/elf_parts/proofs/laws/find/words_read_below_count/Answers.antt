@@ -1,4 +1,4 @@
-use Rattle.elf_parts.specs.Table.{table_view}
+use Rattle.elf_records.specs.Table.{table_view}
 use Rattle.elf_parts.proofs.HashWords.{words_read}
 use Rattle.elf_parts.proofs.laws.find.words_read_below_count.Goals as goal
 

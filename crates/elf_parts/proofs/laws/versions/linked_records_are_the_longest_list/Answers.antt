@@ -1,6 +1,6 @@
 -- By induction on the count; and no record is behind the data.
 use Rattle.std.proofs.Common.{arith}
-use Rattle.elf_parts.specs.Table.{table_in}
+use Rattle.elf_records.specs.Table.{table_in}
 use Rattle.elf_parts.specs.gnu_symver.Links.{links_in, next_start}
 use Rattle.elf_parts.proofs.LinkedRecords.{links_few, longest}
 use Rattle.elf_parts.proofs.laws.versions.linked_records_are_the_longest_list.Goals as goal

@@ -2,7 +2,7 @@ use Rattle.std.proofs.Common.{option_map, ap, sym, ◌∙◌, rules, tests}
 use Rattle.std.proofs.lemmas.Iterator.Adapters.{option_map_id}
 use Rattle.std.proofs.lemmas.Iterator.Consumers.{YieldsList-from_first}
 use Rattle.std.proofs.lemmas.Iterator.Search.{find_from_yields_List}
-use Rattle.elf_parts.specs.Table.{items_left, table_items, table_view}
+use Rattle.elf_records.specs.Table.{items_left, table_items, table_view}
 use Rattle.elf_records.specs.Section.{section_header_reads}
 use Rattle.elf_reading.specs.Opening.{section_list}
 use Rattle.elf.specs.Headers.{first_section_of}

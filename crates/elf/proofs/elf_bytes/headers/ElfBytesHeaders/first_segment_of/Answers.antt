@@ -2,8 +2,8 @@ use Rattle.std.proofs.Common.{◌==◌, option_map, ap, sym, ◌∙◌, rules, t
 use Rattle.std.proofs.lemmas.Iterator.Adapters.{option_map_id}
 use Rattle.std.proofs.lemmas.Iterator.Consumers.{YieldsList-from_first}
 use Rattle.std.proofs.lemmas.Iterator.Search.{find_from_yields_List}
-use Rattle.elf_parts.specs.Table.{items_left, table_items, table_view}
-use Rattle.elf_parts.specs.Segment.{program_header_reads}
+use Rattle.elf_records.specs.Table.{items_left, table_items, table_view}
+use Rattle.elf_records.specs.Segment.{program_header_reads}
 use Rattle.elf_reading.specs.Opening.{segment_list}
 use Rattle.elf.specs.Headers.{first_segment_of}
 use Rattle.elf.proofs.elf_bytes.headers.ElfBytesHeaders.first_segment_of.Goals as goal

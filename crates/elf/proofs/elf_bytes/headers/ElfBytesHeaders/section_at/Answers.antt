@@ -1,5 +1,5 @@
 use Rattle.std.proofs.Common.{Some}
-use Rattle.elf_parts.specs.Table.{table_view}
+use Rattle.elf_records.specs.Table.{table_view}
 use Rattle.elf.proofs.stream.Plain.{section_at_refused}
 use Rattle.elf.proofs.elf_bytes.headers.ElfBytesHeaders.section_at.Goals as goal
 

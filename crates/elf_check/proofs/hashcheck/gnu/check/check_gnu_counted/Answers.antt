@@ -1,7 +1,7 @@
 use Rattle.std.proofs.Common.{ap, sym, ◌∙◌}
 use Rattle.elf_parts.specs.GnuFind.{gnu_view}
 use Rattle.elf_parts.specs.Hash.{word_count}
-use Rattle.elf_parts.specs.Table.{Table}
+use Rattle.elf_records.specs.Table.{Table}
 use Rattle.elf_check.proofs.hashcheck.gnu.check.check_gnu_counted.Goals as goal
 
 pub invariant_of-result : goal.invariant_of-result

@@ -1,6 +1,6 @@
 use Rattle.std.proofs.Common.{ap, arith, subst}
 use Rattle.elf_parts.specs.Hash.{ReadsBelowCount, word_count}
-use Rattle.elf_parts.specs.Table.{Table, table_view}
+use Rattle.elf_records.specs.Table.{Table, table_view}
 use Rattle.elf_check.specs.WithSymbols.{gnu_with}
 use Rattle.elf_check.proofs.GnuVerdicts.{true_fault}
 use Rattle.elf_check.proofs.Reading.{word_inside}

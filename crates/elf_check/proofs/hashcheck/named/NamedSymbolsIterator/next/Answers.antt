@@ -1,5 +1,5 @@
 use Rattle.std.proofs.Common.{arith, refl}
-use Rattle.elf_parts.specs.Table.{table_view}
+use Rattle.elf_records.specs.Table.{table_view}
 use Rattle.elf_check.specs.NamedSymbols.{index_behind}
 use Rattle.elf_check.proofs.NamedLists.{walk_length}
 use Rattle.elf_check.proofs.hashcheck.named.NamedSymbolsIterator.next.Goals as goal

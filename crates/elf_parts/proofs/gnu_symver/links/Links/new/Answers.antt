@@ -1,6 +1,6 @@
 -- No record begins behind the data.
 use Rattle.std.proofs.Common.{arith}
-use Rattle.elf_parts.specs.Table.{table_in}
+use Rattle.elf_records.specs.Table.{table_in}
 use Rattle.elf_parts.proofs.LinkedRecords.{links_few}
 use Rattle.elf_parts.proofs.gnu_symver.links.Links.new.Goals as goal
 

@@ -1,6 +1,6 @@
 -- The greatest index so far and the indexes that are left need the places of all indexes.
 use Rattle.std.proofs.Common.{◌≡◌, ◌≤◌, ◌^◌, max}
-use Rattle.elf_parts.specs.Table.{items_left, table_items, table_view}
+use Rattle.elf_records.specs.Table.{items_left, table_items, table_view}
 use Rattle.elf_parts.specs.gnu_symver.Records.{version_index_reads}
 use Rattle.elf_parts.specs.inner.Placed.{place_count}
 use Rattle.elf_parts.proofs.gnu_symver.table.indexed.count_places.Given as goal

@@ -1,5 +1,5 @@
 use Rattle.std.proofs.Common.{◌≡◌, ◌+◌, ◌-◌, sym, ◌∙◌, arith, rules}
-use Rattle.elf_parts.specs.Table.{table_view}
+use Rattle.elf_records.specs.Table.{table_view}
 use Rattle.elf_parts.specs.Hash.{word_count}
 use Rattle.elf_parts.specs.GnuFind.{gnu_view}
 use Rattle.elf_parts.proofs.Runs.{run_cut, run_refused, run_found, run_ended, run_limit, run_next, decides_refused}

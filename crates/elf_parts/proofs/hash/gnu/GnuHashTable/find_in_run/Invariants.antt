@@ -1,5 +1,5 @@
 use Rattle.std.proofs.Common.{◌≡◌, ◌-◌}
-use Rattle.elf_parts.specs.Table.{table_view}
+use Rattle.elf_records.specs.Table.{table_view}
 use Rattle.elf_parts.specs.Hash.{word_count}
 use Rattle.elf_parts.specs.GnuFind.{find_in_run, gnu_view}
 use Rattle.elf_parts.proofs.hash.gnu.GnuHashTable.find_in_run.Given as goal

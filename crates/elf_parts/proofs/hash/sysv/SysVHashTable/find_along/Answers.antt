@@ -1,5 +1,5 @@
 use Rattle.std.proofs.Common.{◌≡◌, ◌+◌, ◌-◌, sym, ◌∙◌, arith, rules}
-use Rattle.elf_parts.specs.Table.{table_view}
+use Rattle.elf_records.specs.Table.{table_view}
 use Rattle.elf_parts.specs.SysvFind.{sysv_view}
 use Rattle.elf_parts.proofs.Walks.{along_refused, along_found, along_cut, along_next, along_ended, along_limit, named_refused}
 use Rattle.elf_parts.proofs.hash.sysv.SysVHashTable.find_along.Goals as goal

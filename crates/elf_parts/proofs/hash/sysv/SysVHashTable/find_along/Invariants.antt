@@ -1,5 +1,5 @@
 use Rattle.std.proofs.Common.{◌≡◌, ◌-◌}
-use Rattle.elf_parts.specs.Table.{table_view}
+use Rattle.elf_records.specs.Table.{table_view}
 use Rattle.elf_parts.specs.SysvFind.{find_along, sysv_view}
 use Rattle.elf_parts.specs.Hash.{word_count}
 use Rattle.elf_parts.proofs.hash.sysv.SysVHashTable.find_along.Given as goal

@@ -1,0 +1,194 @@
+//! Tables of records, and iterators over them (gABI, chapters "Sections" and "Program Header").
+ghost use Rattle.std.specs.Prelude.{◌≡◌, ◌==◌, ◌<◌, ◌≤◌, ◌+◌, ◌^◌, length, OnOk, ⊤};
+ghost use Rattle.std.specs.Iterator.{YieldsFirst, item_count};
+ghost use Rattle.elf_records.specs.Table.{items_left, table_in, table_get, table_items, table_len, table_view};
+
+use crate::endian::{BigEndian, EndianParse, LittleEndian};
+use crate::file::Class;
+use crate::parse::{ParseAt, ParseError};
+use std::alloc::AllocError;
+use std::marker::PhantomData;
+
+/// Reads a record in the little order or in the big one. The error is that of the record's own read.
+// Inlined, as are the reads of the records that files have most of: an iterator drops the error, and a look-up makes it
+// anew, so no room for it is filled at each read.
+#[inline(always)]
+pub fn read_record<P: ParseAt>(
+    little: bool,
+    class: Class,
+    offset: &mut usize,
+    data: &[u8],
+) -> Result<P, ParseError>
+    ensures value { result ≡ P.reads.record_at little class «data».now offset.old }
+    ensures moved { offset.new ≡ P.reads.offset_after little class «data».now offset.old }
+    ensures behind { OnOk result (offset.new ≡ offset.old + P.reads.size class) }
+{
+    if little {
+        P::parse_at(LittleEndian, class, offset, data)
+    } else {
+        P::parse_at(BigEndian, class, offset, data)
+    }
+}
+
+/// A table of records of one type, each directly behind the one before it. It borrows the bytes, copies none of
+/// them, and reads a record when it is requested.
+// The order is stored as a bool, which is all that the reading of a record depends on.
+#[derive(Debug)]
+#[derive_where(Copy)]
+pub struct ParsingTable<'data, E: EndianParse, P: ParseAt> {
+    little: bool,
+    class: Class,
+    data: &'data [u8],
+    order: PhantomData<E>,
+    records: PhantomData<P>,
+}
+
+/// The records of a table in order, up to the first that cannot be read. After its first `None` it keeps returning
+/// `None`.
+#[derive(Debug, Drop)]
+pub struct ParsingIterator<'data, E: EndianParse, P: ParseAt> {
+    little: bool,
+    class: Class,
+    data: &'data [u8],
+    offset: usize,
+    order: PhantomData<E>,
+    records: PhantomData<P>,
+}
+
+impl<'data, E: EndianParse, P: ParseAt> ParsingIterator<'data, E, P> {
+    /// The records in `data`, in order from its start: at most as many as `data` has bytes.
+    pub fn new(endian: E, class: Class, data: &'data [u8]) -> Self
+        ensures items { items_left P.reads result
+            ≡ table_items P.reads (table_in (E.little endian) class «data».now) }
+        ensures few { length (items_left P.reads result) ≤ length «data».now }
+        ensures bound { length (items_left P.reads result) < 2 ^ 64 }
+    {
+        Self::starting(endian.is_little(), class, data)
+    }
+
+    // The same, where the order is given as whether it is little.
+    #[tactic(auto, using(crate::proofs::Items::items_bounded), unfolding(crate::specs::Table::items_left))]
+    fn starting(little: bool, class: Class, data: &'data [u8]) -> Self
+        ensures items { items_left P.reads result ≡ table_items P.reads (table_in little class «data».now) }
+        ensures few { length (items_left P.reads result) ≤ length «data».now }
+        ensures bound { length (items_left P.reads result) < 2 ^ 64 }
+    {
+        ParsingIterator {
+            little,
+            class,
+            data,
+            offset: 0,
+            order: PhantomData,
+            records: PhantomData,
+        }
+    }
+}
+
+impl<'data, E: EndianParse, P: ParseAt> Iterator for ParsingIterator<'data, E, P> {
+    type Item = P;
+
+    ghost next_gives = { YieldsFirst (items_left P.reads) };
+
+    ghost remaining = { item_count (items_left P.reads) };
+
+    fn next(&mut self) -> Option<P> {
+        match read_record::<P>(self.little, self.class, &mut self.offset, self.data) {
+            Ok(record) => Some(record),
+            Err(_) => {
+                self.data = &[];
+                None
+            }
+        }
+    }
+}
+
+// A derived `Clone` would clone field by field, and be slower to prove.
+impl<'data, E: EndianParse, P: ParseAt> Clone for ParsingTable<'data, E, P> {
+    ghost is_clone = { λ x y. y ≡ x };
+
+    ghost is_infallible = { λ _. ⊤ };
+
+    fn clone(&self) -> Result<Self, AllocError> {
+        Ok(*self)
+    }
+}
+
+impl<'data, E: EndianParse, P: ParseAt> ParsingTable<'data, E, P> {
+    /// The table whose records begin at the start of `data`.
+    pub fn new(endian: E, class: Class, data: &'data [u8]) -> Self
+        ensures { table_view result ≡ table_in (E.little endian) class «data».now }
+    {
+        ParsingTable {
+            little: endian.is_little(),
+            class,
+            data,
+            order: PhantomData,
+            records: PhantomData,
+        }
+    }
+
+    /// The records in order, up to the first that cannot be read: at most as many as the table has bytes.
+    pub fn iter(&self) -> ParsingIterator<'data, E, P>
+        ensures items { items_left P.reads result ≡ table_items P.reads (table_view self.now) }
+        ensures few { length (items_left P.reads result) ≤ length (table_view self.now).bytes }
+        ensures bound { length (items_left P.reads result) < 2 ^ 64 }
+    {
+        ParsingIterator::starting(self.little, self.class, self.data)
+    }
+
+    /// How many records fit: the table's bytes divided by the size of a record, rounded down.
+    pub fn len(&self) -> usize
+        ensures count { result ≡ table_len P.reads (table_view self.now) }
+        ensures short { length (table_view self.now).bytes < 2 ^ 64 }
+    {
+        self.data.len() / P::size_for(self.class)
+    }
+
+    /// Whether `len` is 0.
+    pub fn is_empty(&self) -> bool
+        ensures { result ≡ (table_len P.reads (table_view self.now) == 0) }
+    {
+        self.len() == 0
+    }
+
+    /// Returns the record at `index`, counted from 0.
+    ///
+    /// Errors, in order: `BadOffset(index)` if the table has no bytes; `IntegerOverflow` if the offset of the
+    /// record does not fit 64 bits; `BadOffset(index)` if the offset lies past the end of the table; then the error
+    /// of the record's own read, as `SliceReadError((start, end))` of a field that does not lie in the table.
+    #[inline(always)]
+    pub fn get(&self, index: usize) -> Result<P, ParseError>
+        ensures { result ≡ table_get P.reads (table_view self.now) index }
+    {
+        if self.data.is_empty() {
+            return Err(ParseError::BadOffset(index as u64));
+        }
+        let entsize = P::size_for(self.class);
+        let mut start = index
+            .checked_mul(entsize)
+            .ok_or(ParseError::IntegerOverflow)?;
+        if start > self.data.len() {
+            return Err(ParseError::BadOffset(index as u64));
+        }
+        read_record(self.little, self.class, &mut start, self.data)
+    }
+}
+
+impl<'data, E: EndianParse, P: ParseAt> IntoIterator for ParsingTable<'data, E, P> {
+    type Item = P;
+
+    type IntoIter = ParsingIterator<'data, E, P>;
+
+    // Code over any `IntoIterator` learns by this what the clauses of `into_iter` say.
+    ghost into_iter_gives = { λ s r.
+        (items_left P.reads r ≡ table_items P.reads (table_view s))
+        × (length (items_left P.reads r) < 2 ^ 64) };
+
+    fn into_iter(self) -> ParsingIterator<'data, E, P>
+        ensures items { items_left P.reads result ≡ table_items P.reads (table_view self.entry) }
+        ensures few { length (items_left P.reads result) ≤ length (table_view self.entry).bytes }
+        ensures bound { length (items_left P.reads result) < 2 ^ 64 }
+    {
+        self.iter()
+    }
+}
