@@ -24,9 +24,9 @@ def built():
 
 def built_callers():
     """The program that prints the results of the example callers; for no file it prints none."""
-    crate = os.path.join(TOP, "crates", "elf_answers")
+    crate = os.path.join(TOP, "crates", "elf_cases")
     subprocess.run(["rt", "run", "--", "build_id"], cwd=crate, stdout=subprocess.DEVNULL, stderr=subprocess.DEVNULL)
-    return os.path.join(crate, "out", "elf_answers")
+    return os.path.join(crate, "out", "elf_cases")
 
 
 def build_library_times(folder):

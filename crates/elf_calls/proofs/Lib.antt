@@ -1,3 +1,4 @@
 pub mod SameTexts
 pub mod Verdicts
 pub mod StreamCalls
+pub mod StreamRuns

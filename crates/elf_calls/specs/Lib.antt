@@ -9,5 +9,7 @@ pub mod Text
 pub mod Ranges
 -- what a call over a stream writes, and why it stops
 pub mod Stream
+-- what a run of calls writes, and why it stops
+pub mod Run
 -- what only implementations and private functions cite
 pub mod inner

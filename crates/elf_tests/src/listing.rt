@@ -1,7 +1,7 @@
 //! Runs of a user's own order and of many calls.
 use crate::files::{HEADER_ALONE, TWO_SECTIONS_BIG};
 use crate::texts::{HEADER_LINE, TWO_SECTION_LINES};
-use elf_examples::order::FileOrder;
+use elf_user_types::order::FileOrder;
 use elfshow::calls::{Call, run_bytes};
 use elfshow::file_system::MemFile;
 use elfshow::show::show;

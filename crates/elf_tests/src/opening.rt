@@ -3,8 +3,8 @@ use crate::files::{HEADER_ALONE, TWO_SECTIONS, TWO_SECTIONS_BIG};
 use crate::refusals::refusal;
 use elf::ElfBytes;
 use elf::endian::NativeEndian;
-use elf_examples::example::count_named;
-use elf_examples::order::FileOrder;
+use elf_user_types::example::count_named;
+use elf_user_types::order::FileOrder;
 use std::test::Fail;
 
 #[test]

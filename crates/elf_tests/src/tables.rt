@@ -2,10 +2,10 @@
 use elf::endian::{AnyEndian, BigEndian, EndianParse, LittleEndian};
 use elf::file::Class;
 use elf::parse::{ParsingIterator, ParsingTable};
-use elf_examples::even_byte::EvenByte;
-use elf_examples::loops::{all_items, count_items};
-use elf_examples::order::FileOrder;
-use elf_examples::triple::Triple;
+use elf_user_types::even_byte::EvenByte;
+use elf_user_types::loops::{all_items, count_items};
+use elf_user_types::order::FileOrder;
+use elf_user_types::triple::Triple;
 use std::alloc::AllocError;
 use std::process::Abort;
 

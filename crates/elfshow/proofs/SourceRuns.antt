@@ -15,11 +15,11 @@ use Rattle.elf_records.specs.declared.parse.ParseError.{ParseError}
 use Rattle.elf_records.specs.inner.RecordLaws.{ok_map-ok}
 use Rattle.elf_calls.specs.Question.{Question, question}
 use Rattle.elfshow.specs.Show.{RanOver}
-use Rattle.elf_runs.specs.calls.Run.{Ran}
+use Rattle.elf_calls.specs.Run.{Ran}
 use Rattle.elf_calls.specs.Text.{text}
 use Rattle.elf_calls.specs.declared.calls.Call.{Call}
-use Rattle.elf_runs.specs.declared.calls.RunError.{RunError}
-use Rattle.elf_runs.specs.declared.calls.RunError.TheVariants.{Fault, Open, Write}
+use Rattle.elf_calls.specs.declared.runs.RunError.{RunError}
+use Rattle.elf_calls.specs.declared.runs.RunError.TheVariants.{Fault, Open, Write}
 use Rattle.elf_calls.proofs.StreamCalls.{inner_refused}
 
 may_fault : (k : Kind) (before now : ℕ) (can_fail : Bool) → IsRefused before now can_fail ⊥ k → MayRefuse can_fail (Unit {0}) ⊥ k

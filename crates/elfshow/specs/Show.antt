@@ -12,8 +12,8 @@ use Rattle.elf_records.specs.declared.parse.ParseError.{ParseError}
 use Rattle.elf_lines.specs.Pieces.{◌⧺◌, newline}
 use Rattle.elfshow.specs.Words.{call_of}
 use Rattle.elf_calls.specs.Question.{Question}
-use Rattle.elf_runs.specs.declared.calls.RunError.{RunError}
-use Rattle.elf_runs.specs.declared.calls.RunError.TheVariants.{Fault, Open, Write}
+use Rattle.elf_calls.specs.declared.runs.RunError.{RunError}
+use Rattle.elf_calls.specs.declared.runs.RunError.TheVariants.{Fault, Open, Write}
 use Rattle.elfshow.specs.declared.show.Mode.{Mode}
 use Rattle.elfshow.specs.declared.show.Mode.TheVariants.{Both, Bytes, Stream}
 

@@ -8,6 +8,5 @@ pub mod show;
 mod words;
 
 pub use elf_binding::resolve;
-pub use elf_calls::readers;
+pub use elf_calls::{readers, runs as calls};
 pub use elf_check::hashcheck;
-pub use elf_runs::calls;

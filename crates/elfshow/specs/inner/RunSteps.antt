@@ -1,7 +1,7 @@
 -- What stops a run whose text goes to memory; contracts of private functions speak of it.
 use Rattle.elf_records.specs.declared.parse.ParseError.TheVariants.{OutOfMemory}
-use Rattle.elf_runs.specs.declared.calls.RunError.{RunError}
-use Rattle.elf_runs.specs.declared.calls.RunError.TheVariants.{Fault, Open, Write}
+use Rattle.elf_calls.specs.declared.runs.RunError.{RunError}
+use Rattle.elf_calls.specs.declared.runs.RunError.TheVariants.{Fault, Open, Write}
 
 -- the error of a run whose text goes to memory: a failed write there is a failed allocation
 abbrev pub in_memory : RunError → RunError

@@ -1,0 +1,27 @@
+use Rattle.std.proofs.Common.{arith}
+use Rattle.elf_calls.proofs.StreamCalls.{keeps_then}
+use Rattle.elf_calls.proofs.StreamRuns.{faulted, more_loaded, more_written, stopped}
+use Rattle.elf_calls.proofs.runs.run_stream.Goals as goal
+
+pub loop-done-preserved : goal.loop-done-preserved
+loop-done-preserved g c =
+    let keeps = c.loop-done.invariant.keeps in
+    record {
+      keeps = keeps_then c.args.stream.now c.loop-done.stream c.write_call.new.stream keeps c.write_call.ensures.keeps;
+      written = more_written g.E.EndianParse.little c.args.stream.now c.loop-done.stream c.args.stream.now.content c.args.calls.now c.loop-done.done _ c.write_call.new.stream.failures _ _ _ _ c.write_call.result _ keeps (omega arith) c.flush-flushed.ensures.bytes c.in-Ok.is c.loop-done.invariant.written
+          (rw keeps.content at c.write_call.ensures.ran);
+      loaded = more_loaded g.E.EndianParse.little c.loop-done.stream c.write_call.new.stream c.args.stream.now.content c.args.calls.now c.loop-done.done _ c.write_call.result _ c.write_call.ensures.keeps (omega arith) c.in-Ok.is c.loop-done.invariant.loaded
+          (rw keeps.content at c.write_call.ensures.loaded);
+    }
+
+pub returns-in-Err-clause-ran : goal.returns-in-Err-clause-ran
+returns-in-Err-clause-ran g c =
+    let keeps = c.loop-done.invariant.keeps in
+    rw c.stopped_after.ensures (stopped g.E.EndianParse.little c.args.stream.now c.loop-done.stream c.args.stream.now.content c.args.calls.now c.loop-done.done _ c.write_call.new.stream.failures _ _ _ c.write_call.result c.in-Err.stop keeps (omega arith) c.in-Err.is c.loop-done.invariant.written
+    (rw keeps.content at c.write_call.ensures.ran))
+
+pub returns-in-Err-clause-no_fault : goal.returns-in-Err-clause-no_fault
+returns-in-Err-clause-no_fault g c =
+    let keeps = c.loop-done.invariant.keeps in
+    rw c.stopped_after.ensures (faulted g.E.EndianParse.little c.args.stream.now c.loop-done.stream c.args.stream.now.content c.args.calls.now c.loop-done.done _ c.write_call.result c.in-Err.stop keeps (omega arith) c.in-Err.is
+    (rw keeps.content at c.write_call.ensures.no_fault))

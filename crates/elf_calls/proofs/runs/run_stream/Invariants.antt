@@ -1,0 +1,18 @@
+use Rattle.std.proofs.Common.{◌≡◌, All, map, take, IfSome}
+use Rattle.std.specs.Io.KnownBytes.{Appends}
+use Rattle.elf.specs.StreamFile.{stream_file}
+use Rattle.elf.specs.ElfStream.{Keeps}
+use Rattle.elf_calls.specs.Question.{question}
+use Rattle.elf_calls.specs.Stream.{IsLoaded}
+use Rattle.elf_calls.specs.Text.{text}
+use Rattle.elf_calls.proofs.runs.run_stream.Given as goal
+
+-- the same file, the text of the calls so far was written, and their ranges are cached
+abbrev pub invariant-loop-done : goal.invariant-loop-done
+invariant-loop-done g l = record {
+  keeps : Keeps l.initial.stream l.stream;
+  written : IfSome l.initial.stream.content (λ bytes.
+      Appends (g.W.Write.contents l.initial.out) (g.W.Write.contents l.out) (text l.initial.stream.headers.ehdr (stream_file g.E.EndianParse.little l.initial.stream bytes) (map question (take l.done l.calls)))
+      × (l.stream.failures ≡ l.initial.stream.failures));
+  loaded : IfSome l.initial.stream.content (λ bytes. All (λ call. IsLoaded g.E.EndianParse.little l.stream bytes (question call)) (take l.done l.calls));
+}

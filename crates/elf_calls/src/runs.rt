@@ -1,0 +1,132 @@
+//! Runs of the calls of a listing, which write their text.
+ghost use Rattle.std.specs.Prelude.{◌≡◌, ◌≢◌, ℕ, All, List, IsOk, OnOk, IfOk, IfErr, IfSome, Err, length, map};
+ghost use Rattle.std.specs.Io.KnownBytes.{Appends};
+ghost use Rattle.elf.specs.StreamFile.{stream_file};
+ghost use Rattle.elf.specs.ObjectFile.{object_file};
+ghost use Rattle.elf_reading.specs.Opening.{opened};
+ghost use Rattle.elf.specs.ElfStream.{Keeps, Seen};
+ghost use Rattle.elf_calls.specs.Question.{question};
+ghost use Rattle.elf_calls.specs.Ranges.{TakesNoMemory};
+ghost use Rattle.elf_calls.specs.Stream.{IsAtHand, IsLoaded, stream_answer};
+ghost use Rattle.elf_calls.specs.Text.{text};
+ghost use Rattle.elf_calls.specs.Run.{IsFaultless, Ran, StopsWithin};
+ghost use Rattle.elf_calls.specs.inner.RunSteps.{stopped_after};
+ghost use Rattle.elf_records.specs.declared.parse.ParseError.{ParseError};
+
+pub use crate::Call;
+use crate::stream::Stop;
+use crate::{bytes, stream};
+use elf::endian::EndianParse;
+use elf::{ElfBytes, ElfStream, ParseError, StreamSource};
+use std::alloc::Allocator;
+use std::io;
+use std::io::Write;
+use thiserror::Error;
+
+/// Why a run stopped. `done` is the number of calls whose text was completely written and flushed before.
+#[derive(Debug, Drop, Error)]
+pub enum RunError {
+    /// The bytes cannot be opened as an ELF file; nothing was written.
+    #[error("{0}")]
+    Open(ParseError),
+    /// The source of the file or an allocation failed; exactly the text of the calls before was written.
+    #[error("{error}")]
+    Fault { done: usize, error: ParseError },
+    /// The writer failed.
+    #[error("{error}")]
+    Write { done: usize, error: io::Error },
+}
+
+/// Opens the ELF file in the data, and writes the text of the calls, in order. A call for which the reader returns an
+/// error writes the line `refused`, and the run continues. The writer is flushed after each call, so `done` counts the
+/// calls that reached its end. Allocates no memory.
+///
+/// Errors, in order: `Open` with the error of `ElfBytes::minimal_parse`, with nothing written; `Write` if the writer
+/// fails. `Fault` is never returned.
+pub fn run_bytes<E: EndianParse, W: Write>(
+    data: &[u8],
+    calls: &[Call<'_>],
+    out: &mut W,
+) -> Result<(), RunError>
+    ensures ok { OnOk result (IfOk (opened E.little E.of_byte «data».now) (λ file.
+        Appends (W.contents out.old) (W.contents out.new)
+        (text file.ehdr (object_file E.little file) (map question calls.now)))) }
+    ensures refused { IfErr (opened E.little E.of_byte «data».now) (λ e. result ≡ Err (RunError.Open e)) }
+    ensures open { (e : ParseError) → result ≡ Err (RunError.Open e) →
+        (opened E.little E.of_byte «data».now ≡ Err e) × (out.new ≡ out.old) }
+    ensures no_fault { (done : ℕ) (e : ParseError) → result ≢ Err (RunError.Fault done e) }
+    ensures stopped { StopsWithin (length calls.now) result }
+{
+    let file = match ElfBytes::<E>::minimal_parse(data) {
+        Ok(file) => file,
+        Err(error) => return Err(RunError::Open(error)),
+    };
+    let mut done = 0;
+    for call in calls {
+        if let Err(error) = bytes::write_call(&file, *call, out) {
+            return Err(RunError::Write { done, error });
+        }
+        if let Err(error) = out.flush() {
+            return Err(RunError::Write { done, error });
+        }
+        done += 1;
+    }
+    Ok(())
+}
+
+/// Writes the text of the calls over a stream, in order. A call for which the stream returns an error other than
+/// `IOError` and `OutOfMemory` writes the line `refused`, and the run continues. The writer is flushed after each call,
+/// so `done` counts the calls that reached its end.
+///
+/// The calls `sysv` and `gnu` copy a section's bytes with the stream's allocator. After `Ok` the ranges of each call
+/// that has a result are cached: if such a call is run again, it does not need the source.
+///
+/// Errors over known content: `Fault` if the source or an allocation failed, with exactly the text of the calls before
+/// it written; `Write` if the writer fails; never `Open`.
+pub fn run_stream<E: EndianParse, S: StreamSource, A: Allocator + Copy, W: Write>(
+    stream: &mut ElfStream<E, S, A>,
+    calls: &[Call<'_>],
+    out: &mut W,
+) -> Result<(), RunError>
+    ensures keeps { Keeps stream.old stream.new }
+    ensures ran { IfSome stream.old.content (λ bytes.
+        Ran (λ calls. text stream.old.headers.ehdr (stream_file E.little stream.old bytes) (map question calls))
+        calls.now (W.contents out.old) (W.contents out.new)
+        stream.old.can_fail stream.old.failures stream.new.failures result) }
+    ensures no_fault { IfSome stream.old.content (λ bytes.
+        All (λ call. IsAtHand E.little stream.old bytes (question call)) calls.now → IsFaultless result) }
+    ensures loaded { OnOk result (IfSome stream.old.content (λ bytes.
+        All (λ call. IsLoaded E.little stream.new bytes (question call)) calls.now)) }
+{
+    for (done, call) in calls.iter().enumerate() {
+        match stream::write_call(stream, *call, out) {
+            Ok(()) => {}
+            Err(stop) => return Err(stopped_after(done, stop)),
+        }
+        let flushed = out.flush();
+        if let Err(error) = flushed {
+            return Err(RunError::Write { done, error });
+        }
+    }
+    Ok(())
+}
+
+// The error of a run that stopped after `done` complete calls.
+fn stopped_after(done: usize, stop: Stop) -> RunError
+    ensures { result ≡ stopped_after done stop }
+{
+    match stop {
+        Stop::Fault(error) => RunError::Fault { done, error },
+        Stop::Write(error) => RunError::Write { done, error },
+    }
+}
+
+/// States that a run without failures can be repeated. Let the ranges of each call that has a result be cached, as they
+/// are after `run_stream` returned `Ok`. Then the calls that have a result and allocate nothing need neither the source
+/// nor memory: run again over the stream, they do not return `Fault`.
+pub fn loaded_calls_are_at_hand<E: EndianParse>()
+    ensures { (s : Seen E) (bytes : List ℕ) (calls : List Call) →
+        All (λ call. IsLoaded E.little s bytes (question call)) calls →
+        All (λ call. TakesNoMemory (question call) × IsOk (stream_answer E.little s bytes (question call))) calls →
+        All (λ call. IsAtHand E.little s bytes (question call)) calls }
+{}

@@ -1,0 +1,255 @@
+//! The results of the callers, as lines.
+use super::binding_lines::print_bindings;
+use super::needed_lines::print_needed_of_bytes;
+use elf::endian::AnyEndian;
+use elf::gnu_symver::{IndexedVersions, SymbolVersionTable};
+use elf::section::SectionHeader;
+use elf::string_table::StringTable;
+use elf::symbol::{Symbol, SymbolTable};
+use elf::{ElfBytes, MemSource, ParseError};
+use elf_tools::bindings::reading::open_library;
+use elf_tools::build_id::build_id;
+use elf_tools::functions::{functions, version_of};
+use elf_tools::hash_lint::lint;
+use elf_tools::load_plan::{Mapping, load_plan};
+use elf_tools::resolver::{definition, tables};
+use elf_tools::versions::indexed;
+use std::alloc::Global;
+use std::io;
+use std::io::Write;
+
+type File<'data> = ElfBytes<'data, AnyEndian>;
+
+/// Prints the results of a caller, for each file, or for `resolver` and `bindings` over all files.
+pub(super) fn print_answers<W: Write>(
+    alloc: Global,
+    out: &mut W,
+    caller: &str,
+    files: &[Vec<u8>],
+) -> io::Result<()> {
+    if let Some(name) = caller.strip_prefix("resolver=") {
+        return print_resolved(alloc, out, name.as_bytes(), files);
+    }
+    if caller == "bindings" {
+        return print_bindings_in(alloc, out, files);
+    }
+    for data in files {
+        print_answer(alloc, out, caller, data.as_slice())?;
+    }
+    Ok(())
+}
+
+fn print_answer<W: Write>(alloc: Global, out: &mut W, caller: &str, data: &[u8]) -> io::Result<()> {
+    if caller == "needed" {
+        return print_needed_of_bytes(alloc, out, data);
+    }
+    match ElfBytes::minimal_parse(data) {
+        Ok(file) => print_answer_of(alloc, out, caller, &file),
+        Err(error) => print_refusal(out, error),
+    }
+}
+
+fn print_answer_of<W: Write>(
+    alloc: Global,
+    out: &mut W,
+    caller: &str,
+    file: &File<'_>,
+) -> io::Result<()> {
+    match caller {
+        "build_id" => print_build_id(out, build_id(file)),
+        "functions" => print_functions(alloc, out, file),
+        "load_plan" => print_plan(alloc, out, file),
+        "hash_lint" => print_lint(out, file),
+        _ => Err(io::Error::other("no such caller")),
+    }
+}
+
+fn print_refusal<W: Write>(out: &mut W, error: ParseError) -> io::Result<()> {
+    writeln!(out, "refused: {error}")
+}
+
+fn print_build_id<W: Write>(
+    out: &mut W,
+    answer: Result<Option<&[u8]>, ParseError>,
+) -> io::Result<()> {
+    match answer {
+        Ok(Some(id)) => print_hex(out, id),
+        Ok(None) => writeln!(out, "none"),
+        Err(error) => print_refusal(out, error),
+    }
+}
+
+fn print_hex<W: Write>(out: &mut W, bytes: &[u8]) -> io::Result<()> {
+    for byte in bytes {
+        write!(out, "{byte:02x}")?;
+    }
+    writeln!(out)
+}
+
+fn print_functions<W: Write>(alloc: Global, out: &mut W, file: &File<'_>) -> io::Result<()> {
+    match file.dynamic_symbol_table() {
+        Ok(Some((symbols, strings))) => match file.symbol_version_table() {
+            Ok(versions) => print_all(alloc, out, &symbols, &strings, versions.as_ref()),
+            Err(error) => print_refusal(out, error),
+        },
+        Ok(None) => writeln!(out, "none"),
+        Err(error) => print_refusal(out, error),
+    }
+}
+
+fn print_all<W: Write>(
+    alloc: Global,
+    out: &mut W,
+    symbols: &SymbolTable<'_, AnyEndian>,
+    strings: &StringTable<'_>,
+    versions: Option<&SymbolVersionTable<'_, AnyEndian>>,
+) -> io::Result<()> {
+    let found = functions(alloc, symbols)?;
+    let versions = indexed(alloc, versions)?;
+    print_found(out, found.as_slice(), strings, versions.as_ref())
+}
+
+/// Prints these functions, each with its index.
+fn print_found<W: Write>(
+    out: &mut W,
+    found: &[(usize, Symbol)],
+    strings: &StringTable<'_>,
+    versions: Option<&IndexedVersions<'_, '_, AnyEndian, Global>>,
+) -> io::Result<()> {
+    for (index, symbol) in found {
+        print_function(out, symbol, strings)?;
+        print_version(out, *index, versions)?;
+    }
+    Ok(())
+}
+
+fn print_function<W: Write>(
+    out: &mut W,
+    symbol: &Symbol,
+    strings: &StringTable<'_>,
+) -> io::Result<()> {
+    let value = symbol.st_value;
+    write!(out, "0x{value:x} ")?;
+    match strings.get_raw(symbol.st_name as usize) {
+        Ok(name) => out.write_all(name),
+        Err(error) => write!(out, "({error})"),
+    }
+}
+
+fn print_version<W: Write>(
+    out: &mut W,
+    index: usize,
+    versions: Option<&IndexedVersions<'_, '_, AnyEndian, Global>>,
+) -> io::Result<()> {
+    let Some(versions) = versions else {
+        return writeln!(out);
+    };
+    match version_of(versions, index) {
+        Ok(Some(version)) => {
+            let name = version.name;
+            let sign = if version.hidden { "@" } else { "@@" };
+            writeln!(out, "{sign}{name}")
+        }
+        Ok(None) => writeln!(out),
+        Err(error) => writeln!(out, " ({error})"),
+    }
+}
+
+fn print_plan<W: Write>(alloc: Global, out: &mut W, file: &File<'_>) -> io::Result<()> {
+    match load_plan(alloc, file) {
+        Ok(plan) => print_mappings(out, plan.as_slice()),
+        Err(error) => writeln!(out, "refused: {error}"),
+    }
+}
+
+fn print_mappings<W: Write>(out: &mut W, plan: &[Mapping]) -> io::Result<()> {
+    for mapping in plan {
+        print_mapping(out, mapping)?;
+    }
+    Ok(())
+}
+
+fn print_mapping<W: Write>(out: &mut W, mapping: &Mapping) -> io::Result<()> {
+    let Mapping {
+        address,
+        memory_size,
+        offset,
+        file_size,
+        flags,
+    } = *mapping;
+    writeln!(
+        out,
+        "offset=0x{offset:x} address=0x{address:x} filesize=0x{file_size:x} memsize=0x{memory_size:x} flags={flags}"
+    )
+}
+
+fn print_lint<W: Write>(out: &mut W, file: &File<'_>) -> io::Result<()> {
+    if let Some(sections) = file.section_headers() {
+        for (index, section) in sections.iter().enumerate() {
+            print_section_lint(out, file, index, &section)?;
+        }
+    }
+    Ok(())
+}
+
+fn print_section_lint<W: Write>(
+    out: &mut W,
+    file: &File<'_>,
+    index: usize,
+    section: &SectionHeader,
+) -> io::Result<()> {
+    match lint(file, section) {
+        Some(Ok(indexed)) => writeln!(out, "section {index}: sound, indexed={indexed}"),
+        Some(Err(fault)) => writeln!(out, "section {index}: {fault}"),
+        None => Ok(()),
+    }
+}
+
+fn print_resolved<W: Write>(
+    alloc: Global,
+    out: &mut W,
+    name: &[u8],
+    files: &[Vec<u8>],
+) -> io::Result<()> {
+    let mut libraries: Vec<File<'_>> = Vec::new(alloc);
+    for data in files {
+        match ElfBytes::minimal_parse(data.as_slice()) {
+            Ok(file) => libraries.push(file)?,
+            Err(error) => return print_refusal(out, error),
+        }
+    }
+    print_resolved_in(alloc, out, name, libraries.as_slice())
+}
+
+fn print_resolved_in<W: Write>(
+    alloc: Global,
+    out: &mut W,
+    name: &[u8],
+    libraries: &[File<'_>],
+) -> io::Result<()> {
+    match tables(alloc, libraries) {
+        Ok(tables) => print_definition(out, definition(tables.as_slice(), name)),
+        Err(error) => writeln!(out, "refused: {error}"),
+    }
+}
+
+fn print_definition<W: Write>(
+    out: &mut W,
+    found: Option<(usize, usize, Symbol)>,
+) -> io::Result<()> {
+    match found {
+        Some((library, index, symbol)) => {
+            let value = symbol.st_value;
+            writeln!(out, "library {library}: symbol {index}, value 0x{value:x}")
+        }
+        None => writeln!(out, "none"),
+    }
+}
+
+fn print_bindings_in<W: Write>(alloc: Global, out: &mut W, files: &[Vec<u8>]) -> io::Result<()> {
+    let mut libraries = Vec::new(alloc);
+    for data in files {
+        libraries.push(open_library(alloc, MemSource::new(data.as_slice())))?;
+    }
+    print_bindings(alloc, out, libraries.as_slice())
+}

@@ -1,0 +1,204 @@
+//! What the references of a list of libraries bind to, as lines.
+use elf::ParseError;
+use elf::endian::AnyEndian;
+use elf::gnu_symver::{IndexedVersions, SymbolVersionTable};
+use elf::string_table::StringTable;
+use elf::symbol::Symbol;
+use elf_binding::{Unreadable, VersionedObject, Wanted, reference};
+use elf_check::hashcheck::AnyChecked;
+use elf_tools::bindings::library::Library;
+use elf_tools::bindings::{Bound, IndexedObject, bind_reference, references, with_index};
+use elf_tools::versions::indexed;
+use std::alloc::Global;
+use std::io;
+use std::io::Write;
+
+/// A library, or why its file could not be opened.
+pub(super) type Opened = Result<Library<AnyEndian>, ParseError>;
+
+/// The objects in which references are bound, and for each object the place of its library in the list of libraries.
+#[derive(Drop)]
+struct Scope<'a, 'data> {
+    objects: &'a [IndexedObject<'a, 'data, AnyEndian>],
+    places: &'a [usize],
+}
+
+/// Prints which libraries are no objects, and what each reference of each library binds to.
+pub(super) fn print_bindings<W: Write>(
+    alloc: Global,
+    out: &mut W,
+    libraries: &[Opened],
+) -> io::Result<()> {
+    let mut tables = Vec::new(alloc);
+    let mut versions = Vec::new(alloc);
+    let mut places = Vec::new(alloc);
+    find_objects(out, libraries, &mut tables, &mut versions, &mut places)?;
+    let mut objects = Vec::new(alloc);
+    index_objects(alloc, tables, versions.as_slice(), &mut objects)?;
+    let scope = Scope {
+        objects: objects.as_slice(),
+        places: places.as_slice(),
+    };
+    print_bindings_in(alloc, out, &scope, libraries)
+}
+
+/// Adds the table, the versions and the place of each library that is an object, and prints why the others are none.
+fn find_objects<'a, W: Write>(
+    out: &mut W,
+    libraries: &'a [Opened],
+    tables: &mut Vec<AnyChecked<'a, AnyEndian>>,
+    versions: &mut Vec<Option<SymbolVersionTable<'a, AnyEndian>>>,
+    places: &mut Vec<usize>,
+) -> io::Result<()> {
+    for (place, library) in libraries.iter().enumerate() {
+        if let Some(object) = print_object(out, place, library)? {
+            tables.push(object.table)?;
+            versions.push(object.versions)?;
+            places.push(place)?;
+        }
+    }
+    Ok(())
+}
+
+/// Adds the objects of these tables, each with an index of its versions.
+fn index_objects<'a, 'data>(
+    alloc: Global,
+    tables: Vec<AnyChecked<'data, AnyEndian>>,
+    versions: &'a [Option<SymbolVersionTable<'data, AnyEndian>>],
+    objects: &mut Vec<IndexedObject<'a, 'data, AnyEndian>>,
+) -> io::Result<()> {
+    for (table, versions) in tables.into_iter().zip(versions) {
+        objects.push(with_index(alloc, table, versions.as_ref())?)?;
+    }
+    Ok(())
+}
+
+fn print_bindings_in<W: Write>(
+    alloc: Global,
+    out: &mut W,
+    scope: &Scope<'_, '_>,
+    libraries: &[Opened],
+) -> io::Result<()> {
+    for (place, library) in libraries.iter().enumerate() {
+        if let Ok(library) = library {
+            print_bindings_of(alloc, out, scope, place, library)?;
+        }
+    }
+    Ok(())
+}
+
+/// Returns the object of a library, or prints why there is none.
+fn print_object<'a, W: Write>(
+    out: &mut W,
+    place: usize,
+    library: &'a Opened,
+) -> io::Result<Option<VersionedObject<'a, AnyEndian>>> {
+    let library = match library {
+        Ok(library) => library,
+        Err(error) => {
+            writeln!(out, "object {place}: {error}")?;
+            return Ok(None);
+        }
+    };
+    match library.object() {
+        Ok(Some(object)) => Ok(Some(object)),
+        Ok(None) => {
+            writeln!(out, "object {place}: no hash section")?;
+            Ok(None)
+        }
+        Err(fault) => {
+            writeln!(out, "object {place}: {fault}")?;
+            Ok(None)
+        }
+    }
+}
+
+fn print_bindings_of<W: Write>(
+    alloc: Global,
+    out: &mut W,
+    scope: &Scope<'_, '_>,
+    place: usize,
+    library: &Library<AnyEndian>,
+) -> io::Result<()> {
+    let Ok(Some((symbols, strings))) = library.dynamic_symbol_table() else {
+        return Ok(());
+    };
+    let Ok(versions) = library.symbol_version_table() else {
+        return Ok(());
+    };
+    let versions = indexed(alloc, versions.as_ref())?;
+    let found = references(alloc, &symbols)?;
+    print_references(out, scope, place, &found, &strings, versions.as_ref())
+}
+
+/// Prints what these references of a library bind to, each with its index.
+fn print_references<W: Write>(
+    out: &mut W,
+    scope: &Scope<'_, '_>,
+    place: usize,
+    found: &[(usize, Symbol)],
+    strings: &StringTable<'_>,
+    versions: Option<&IndexedVersions<'_, '_, AnyEndian, Global>>,
+) -> io::Result<()> {
+    for (index, symbol) in found {
+        write!(out, "object {place}: symbol {index} ")?;
+        print_bound(out, scope, symbol, strings, reference(versions, *index))?;
+    }
+    Ok(())
+}
+
+fn print_bound<W: Write>(
+    out: &mut W,
+    scope: &Scope<'_, '_>,
+    symbol: &Symbol,
+    strings: &StringTable<'_>,
+    wanted: Result<Wanted<'_>, Unreadable>,
+) -> io::Result<()> {
+    let name = match strings.get_raw(symbol.st_name as usize) {
+        Ok(name) => name,
+        Err(error) => return writeln!(out, "({error})"),
+    };
+    out.write_all(name)?;
+    let wanted = match wanted {
+        Ok(wanted) => wanted,
+        Err(error) => return writeln!(out, ": {error}"),
+    };
+    print_wanted(out, &wanted)?;
+    match bind_reference(scope.objects, symbol, name, &wanted) {
+        Ok(bound) => print_bound_to(out, scope.places, &bound),
+        Err(fault) => {
+            let place = place_of(scope.places, fault.object);
+            let symbol = fault.symbol;
+            writeln!(
+                out,
+                ": object {place}: version of symbol {symbol} cannot be read"
+            )
+        }
+    }
+}
+
+fn print_wanted<W: Write>(out: &mut W, wanted: &Wanted<'_>) -> io::Result<()> {
+    match wanted {
+        Wanted::Any => Ok(()),
+        Wanted::Compatible(version) | Wanted::Only(version) => {
+            let name = version.name;
+            write!(out, "@{name}")
+        }
+    }
+}
+
+fn print_bound_to<W: Write>(out: &mut W, places: &[usize], bound: &Bound) -> io::Result<()> {
+    match bound {
+        Bound::To { object, symbol } => {
+            let place = place_of(places, *object);
+            writeln!(out, ": object {place}, symbol {symbol}")
+        }
+        Bound::Weak => writeln!(out, ": weak and unbound"),
+        Bound::Missing => writeln!(out, ": missing"),
+    }
+}
+
+/// The place of an object's library in the list of libraries.
+fn place_of(places: &[usize], object: usize) -> usize {
+    places.get(object).copied().unwrap_or(object)
+}

@@ -1,0 +1,81 @@
+//! The results of `needed`, as lines.
+use elf::endian::AnyEndian;
+use elf::{ElfStream, FileSource, MemSource, ParseError, StreamSource};
+use elf_tools::needed::{Name, Names, NamesError, dynamic_names};
+use std::alloc::Global;
+use std::fs::File;
+use std::io;
+use std::io::Write;
+
+type Stream<S> = ElfStream<AnyEndian, S, Global>;
+
+/// Prints the lines of the files with these names. Of each file only the needed ranges are read.
+pub(super) fn print_needed_of_files<W: Write>(
+    rt: &HostRuntime,
+    files: &[String],
+    out: &mut W,
+) -> io::Result<()> {
+    for file in files {
+        let source = FileSource::new(File::open(rt, file.as_str())?);
+        print_needed(rt.alloc(), out, Stream::open_stream(rt.alloc(), source))?;
+    }
+    Ok(())
+}
+
+/// Prints the lines of a file in memory.
+pub(super) fn print_needed_of_bytes<W: Write>(
+    alloc: Global,
+    out: &mut W,
+    data: &[u8],
+) -> io::Result<()> {
+    print_needed(alloc, out, Stream::open_stream(alloc, MemSource::new(data)))
+}
+
+fn print_needed<S: StreamSource, W: Write>(
+    alloc: Global,
+    out: &mut W,
+    opened: Result<Stream<S>, ParseError>,
+) -> io::Result<()> {
+    match opened {
+        Ok(mut stream) => print_names(out, dynamic_names(alloc, &mut stream)),
+        Err(error) => writeln!(out, "refused: {error}"),
+    }
+}
+
+fn print_names<W: Write>(out: &mut W, found: Result<Option<Names>, NamesError>) -> io::Result<()> {
+    match found {
+        Ok(Some(names)) if !is_empty(&names) => print_all(out, &names),
+        Ok(_) => writeln!(out, "none"),
+        Err(error) => writeln!(out, "refused: {error}"),
+    }
+}
+
+fn is_empty(names: &Names) -> bool {
+    names.soname.is_none()
+        && names.needed.is_empty()
+        && names.runpath.is_none()
+        && names.rpath.is_none()
+}
+
+fn print_all<W: Write>(out: &mut W, names: &Names) -> io::Result<()> {
+    print_one(out, "soname ", names, names.soname.as_ref())?;
+    for library in &names.needed {
+        print_one(out, "needed ", names, Some(library))?;
+    }
+    print_one(out, "runpath ", names, names.runpath.as_ref())?;
+    print_one(out, "rpath ", names, names.rpath.as_ref())
+}
+
+fn print_one<W: Write>(
+    out: &mut W,
+    word: &str,
+    names: &Names,
+    name: Option<&Name>,
+) -> io::Result<()> {
+    let Some(name) = name else {
+        return Ok(());
+    };
+    out.write_all(word.as_bytes())?;
+    out.write_all(names.bytes(name))?;
+    writeln!(out)
+}

@@ -1,2 +1,0 @@
--- what a run over a stream writes, and why it stops
-pub mod Run

@@ -1,0 +1,49 @@
+use Rattle.std.proofs.Common.{◌≡◌, Some, subst}
+use Rattle.std.specs.Prelude.{IsErr}
+use Rattle.std.specs.Option.{option_map}
+use Rattle.std.proofs.lemmas.Result.{err_from_is_err_and}
+use Rattle.elf.specs.Answers.{symbol_version_table}
+use Rattle.elf.specs.Headers.{if_found}
+use Rattle.elf.specs.ObjectFile.{ObjectFile}
+use Rattle.elf.specs.StreamFile.{stream_file}
+use Rattle.elf.specs.Versions.{version_definitions, version_needs}
+use Rattle.elf_reading.specs.Versions.{version_sections}
+use Rattle.elf_tools.specs.Library.{definitions_in, needs_in, versions_in}
+use Rattle.elf_tools.proofs.Readings.{definitions_refused, keeps_then, needs_refused, reads_behind, same_file, stopped}
+use Rattle.elf_tools.proofs.bindings.reading.read_versions.Goals as goal
+
+pub returns-in_err-needs : goal.returns-in_err-needs
+returns-in_err-needs g c =
+    let p = err_from_is_err_and c.from_residual-in_err-needs.result c.from_residual-in_err-needs.ensures.1 in
+    let little = g.E.EndianParse.little in
+    let old = c.args.stream.now in
+    let middle = c.read_range.new.stream in
+    let chosen = c.version_sections-chosen.result in
+    let keeps = c.in_ok-indexes.ensures.keeps in
+    let at : (version_sections old.headers.sections).indexes ≡ Some c.in-Some.section = cc (c.version_sections-chosen.ensures, c.in-Some.is) in
+    let is : chosen.needs ≡ (version_sections old.headers.sections).needs = cc (c.version_sections-chosen.ensures) in
+    rw (p.1, p.2)
+    (reads_behind old middle c.read_entries_if.new.stream _ (option_map (versions_in (little old.headers.ehdr.endianness) old.headers.ehdr.class)) (λ bytes. symbol_version_table (stream_file little old bytes)) keeps
+    (stopped middle c.read_entries_if.new.stream c.in_err-needs.field-0.0 (option_map (needs_in (little middle.headers.ehdr.endianness) middle.headers.ehdr.class)) (λ bytes. if_found (version_needs (stream_file little middle bytes)) chosen.needs)
+    (option_map (versions_in (little old.headers.ehdr.endianness) old.headers.ehdr.class)) (λ bytes. symbol_version_table (stream_file little old bytes))
+    (λ bytes refused. needs_refused (stream_file little old bytes) c.in-Some.section at chosen.needs is
+    (subst (λ (file : ObjectFile). IsErr (if_found (version_needs file) chosen.needs)) (same_file little old middle bytes keeps) refused))
+    c.in_err-needs.ensures.needs))
+
+pub returns-in_err-definitions : goal.returns-in_err-definitions
+returns-in_err-definitions g c =
+    let p = err_from_is_err_and c.from_residual-in_err-definitions.result c.from_residual-in_err-definitions.ensures.1 in
+    let little = g.E.EndianParse.little in
+    let old = c.args.stream.now in
+    let middle = c.read_entries_if.new.stream in
+    let chosen = c.version_sections-chosen.result in
+    let keeps = keeps_then old c.read_range.new.stream middle c.in_ok-indexes.ensures.keeps c.in_ok-needs.ensures.needs.keeps in
+    let at : (version_sections old.headers.sections).indexes ≡ Some c.in-Some.section = cc (c.version_sections-chosen.ensures, c.in-Some.is) in
+    let is : chosen.definitions ≡ (version_sections old.headers.sections).definitions = cc (c.version_sections-chosen.ensures) in
+    rw (p.1, p.2)
+    (reads_behind old middle c.read_entries_if-2.new.stream _ (option_map (versions_in (little old.headers.ehdr.endianness) old.headers.ehdr.class)) (λ bytes. symbol_version_table (stream_file little old bytes)) keeps
+    (stopped middle c.read_entries_if-2.new.stream c.in_err-definitions.field-0.0 (option_map (definitions_in (little middle.headers.ehdr.endianness) middle.headers.ehdr.class)) (λ bytes. if_found (version_definitions (stream_file little middle bytes)) chosen.definitions)
+    (option_map (versions_in (little old.headers.ehdr.endianness) old.headers.ehdr.class)) (λ bytes. symbol_version_table (stream_file little old bytes))
+    (λ bytes refused. definitions_refused (stream_file little old bytes) c.in-Some.section at chosen.definitions is
+    (subst (λ (file : ObjectFile). IsErr (if_found (version_definitions file) chosen.definitions)) (same_file little old middle bytes keeps) refused))
+    c.in_err-definitions.ensures.definitions))

@@ -1,0 +1,10 @@
+use Rattle.std.proofs.Common.{ap, sym, ◌∙◌}
+use Rattle.std.specs.Prelude.{option_copied}
+use Rattle.elf_tools.specs.Needed.{holds}
+use Rattle.elf_tools.proofs.Naming.{found_passes}
+use Rattle.elf_tools.proofs.needed.string_part.Goals as goal
+
+pub part_of-requires : goal.part_of-requires
+part_of-requires c =
+    found_passes (holds c.d_ptr-address.result c.d_val-size.result) c.args.segments.now c.in-Some-first_holding.segment.now
+    (sym c.first_holding.ensures ∙ ap option_copied c.in-Some-first_holding.is)

@@ -1,0 +1,162 @@
+-- The names by which the dynamic linker finds a file and the libraries that it needs (gABI, chapter "Dynamic Section"),
+-- and what is answered of them over a stream.
+use Rattle.std.specs.Prelude.{◌≡◌, ℕ, ◌+◌, ◌-◌, ◌^◌, ◌==◌, ◌&&◌, nat_le, nat_lt, not, Bool, ℤ, List, [], ◌∷◌, map}
+use Rattle.std.specs.Prelude.{filter, unwrap_or}
+use Rattle.std.specs.Prelude.{Option, Some, None, Result, Ok, Err, IfSome, ok_or}
+use Rattle.std.specs.List.{find, take_while}
+use Rattle.std.specs.Option.{option_map}
+use Rattle.std.specs.Result.{result_ok}
+use Rattle.elf_abi.specs.Values.{dt_needed, dt_null, dt_rpath, dt_runpath, dt_soname, dt_strsz, dt_strtab, pt_load}
+use Rattle.elf_records.specs.Dynamic.{d_un_view, dyn_reads, has_tag}
+use Rattle.elf_records.specs.Number.{ok_map}
+use Rattle.elf_records.specs.Record.{◌>>=◌}
+use Rattle.elf_records.specs.StringTable.{string_at}
+use Rattle.elf_records.specs.Table.{Table, table_items}
+use Rattle.elf_records.specs.declared.dynamic.Dyn.{Dyn}
+use Rattle.elf_records.specs.declared.parse.ParseError.{ParseError}
+use Rattle.elf_records.specs.declared.segment.ProgramHeader.{ProgramHeader}
+use Rattle.elf.specs.Answers.{dynamic, segment_data}
+use Rattle.elf.specs.ElfStream.{Keeps, Seen}
+use Rattle.elf_reading.specs.Refusals.{IsRefused, kind}
+use Rattle.elf.specs.ObjectFile.{ObjectFile}
+use Rattle.elf_tools.specs.declared.needed.Name.{Name}
+use Rattle.elf_tools.specs.declared.needed.Names.{Names}
+use Rattle.elf_tools.specs.declared.needed.NamesError.{NamesError}
+use Rattle.elf_tools.specs.declared.needed.NamesError.TheVariants.{Memory, NoAddress, NoSize, NotLoaded, Read}
+use Rattle.elf_tools.specs.declared.needed.NamesError.TheVariants.{Name as Unnamed}
+
+-- the same value, or another error
+abbrev pub or_error : {A : Type 0} → (ParseError → NamesError) → Result A ParseError → Result A NamesError
+or_error to (Ok x) = Ok x
+or_error to (Err e) = Err (to e)
+
+-- what is answered of a value, where there is one
+abbrev pub if_some : {A B : Type 0} → (A → Result B NamesError) → Option A → Result (Option B) NamesError
+if_some answer None = Ok None
+if_some answer (Some x) = ok_map Some (answer x)
+
+-- ---- the entries
+
+-- the entries of a table up to the first with the tag DT_NULL, which ends it
+abbrev pub entries_in : Table → List Dyn
+entries_in table = take_while (λ entry. not (has_tag dt_null entry)) (table_items dyn_reads table)
+
+-- the first entry with a tag
+abbrev pub first_entry : ℤ → List Dyn → Option Dyn
+first_entry tag entries = find (has_tag tag) entries
+
+-- ---- the string table: DT_STRTAB gives its address and DT_STRSZ its size. An address is one of memory, and the
+-- segments of type PT_LOAD say which bytes of the file are loaded there (gABI, chapter "Program Header").
+
+-- the segment has the bytes of these addresses in the file
+abbrev pub holds : ℕ → ℕ → ProgramHeader → Bool
+holds address size p =
+    p.p_type == pt_load && nat_le p.p_vaddr address && nat_le (address + size) (p.p_vaddr + p.p_filesz)
+    && nat_lt (p.p_offset + (address - p.p_vaddr)) (2 ^ 64)
+
+-- the part of the segment that these addresses are
+abbrev pub part_of : ℕ → ℕ → ProgramHeader → ProgramHeader
+part_of address size p = record p { p_offset = p.p_offset + (address - p.p_vaddr); p_filesz = size }
+
+-- that of the first segment which holds them
+abbrev pub part_at : List ProgramHeader → ℕ → ℕ → Result ProgramHeader NamesError
+part_at segments address size =
+    ok_or (option_map (part_of address size) (find (holds address size) segments)) (NotLoaded address)
+
+abbrev pub string_part : List ProgramHeader → List Dyn → Result ProgramHeader NamesError
+string_part segments entries =
+    ok_or (first_entry dt_strtab entries) NoAddress >>= λ start. ok_or (first_entry dt_strsz entries) NoSize >>= λ size.
+    part_at segments (d_un_view start) (d_un_view size)
+
+-- ---- the names: the number of an entry is the offset of its string in the string table
+
+abbrev pub name_of : List ℕ → Dyn → Result (List ℕ) NamesError
+name_of strings entry = or_error Unnamed (string_at strings (d_un_view entry))
+
+-- the name of the first entry with a tag
+abbrev pub first_name : List ℕ → ℤ → List Dyn → Result (Option (List ℕ)) NamesError
+first_name strings tag entries = if_some (name_of strings) (first_entry tag entries)
+
+-- the names of entries, in order, or why the first that cannot be read is refused
+abbrev pub names_of_all : List ℕ → List Dyn → Result (List (List ℕ)) NamesError
+names_of_all strings [] = Ok []
+names_of_all strings (entry ∷ entries) =
+    name_of strings entry >>= λ name. names_of_all strings entries >>= λ names. Ok (name ∷ names)
+
+-- the names of all entries with a tag
+abbrev pub all_names : List ℕ → ℤ → List Dyn → Result (List (List ℕ)) NamesError
+all_names strings tag entries = names_of_all strings (filter (has_tag tag) entries)
+
+-- the soname, the needed libraries, and the search paths
+pub record Named : Type 0 where
+  pub soname : Option (List ℕ)
+  pub needed : List (List ℕ)
+  pub runpath : Option (List ℕ)
+  pub rpath : Option (List ℕ)
+
+abbrev pub names_in : List ℕ → List Dyn → Result Named NamesError
+names_in strings entries =
+    first_name strings dt_soname entries >>= λ soname. all_names strings dt_needed entries >>= λ needed.
+    first_name strings dt_runpath entries >>= λ runpath. first_name strings dt_rpath entries >>= λ rpath.
+    Ok (record { soname = soname; needed = needed; runpath = runpath; rpath = rpath })
+
+-- the bytes of a name in the string table; none where no string is at its offset
+abbrev pub name_bytes : List ℕ → Name → List ℕ
+name_bytes strings name = unwrap_or (result_ok (string_at strings name.start)) []
+
+-- what the result shows
+abbrev pub names_view : Names → Named
+names_view n =
+    let bytes = name_bytes n.strings.items in
+    record {
+      soname = option_map bytes n.soname;
+      needed = map bytes n.needed.items;
+      runpath = option_map bytes n.runpath;
+      rpath = option_map bytes n.rpath;
+    }
+
+-- the answer, or an allocation failed; nothing is read from a stream
+abbrev pub IsGiven : {T Y : Type 0} → (T → Y) → Result Y NamesError → Result T NamesError → Type 0
+IsGiven shown answer (Ok x) = answer ≡ Ok (shown x)
+IsGiven shown answer (Err Memory) = Unit {0}
+IsGiven shown answer (Err (Read e)) = ⊥
+IsGiven shown answer (Err e) = answer ≡ Err e
+
+-- ---- over a file
+
+-- its dynamic entries, where it has any
+abbrev pub entries_of : ObjectFile → Result (Option (List Dyn)) NamesError
+entries_of file = or_error Read (ok_map (option_map entries_in) (dynamic file))
+
+-- the names that entries give in the strings of a part of the file
+abbrev pub names_of_part : ObjectFile → ProgramHeader → List Dyn → Result Named NamesError
+names_of_part file part entries = or_error Read (segment_data file part) >>= λ strings. names_in strings entries
+
+abbrev pub names_by : ObjectFile → List Dyn → Result Named NamesError
+names_by file entries = string_part file.segments entries >>= λ part. names_of_part file part entries
+
+-- its names, where it has dynamic entries
+abbrev pub names : ObjectFile → Result (Option Named) NamesError
+names file = entries_of file >>= λ entries. if_some (names_by file) entries
+
+-- ---- over a stream
+
+-- the answer is that something cannot be read
+abbrev pub IsUnreadable : {Y : Type 0} → Result Y NamesError → Type 0
+IsUnreadable (Err (Read e)) = Unit {0}
+IsUnreadable _ = ⊥
+
+-- the answer, or an error; an error of the source raises its count, and nothing else does
+abbrev pub IsNamesAnswer : {T Y : Type 0} → (T → Y) → Result Y NamesError → Bool → ℕ → ℕ → Result T NamesError → Type 0
+IsNamesAnswer shown answer can_fail before now (Ok x) = (now ≡ before) × (answer ≡ Ok (shown x))
+IsNamesAnswer shown answer can_fail before now (Err Memory) = now ≡ before
+IsNamesAnswer shown answer can_fail before now (Err (Read e)) =
+    IsRefused before now can_fail (IsUnreadable answer) (kind e)
+IsNamesAnswer shown answer can_fail before now (Err e) = (now ≡ before) × (answer ≡ Err e)
+
+-- the same file, no cached range lost, and where the content is known its answer
+pub record GivesNames {E T Y : Type 0} (shown : T → Y) (answer : List ℕ → Result Y NamesError) (old new : Seen E)
+    (r : Result T NamesError) : Type 0 where
+  pub keeps : Keeps old new
+  pub answers : IfSome old.content (λ bytes.
+      IsNamesAnswer shown (answer bytes) old.can_fail old.failures new.failures r)

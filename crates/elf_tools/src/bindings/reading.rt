@@ -1,0 +1,254 @@
+//! Reading a library from a stream.
+ghost use Rattle.std.specs.Prelude.{◌≡◌, IfErr, IfOk, IfSome, Some};
+ghost use Rattle.std.specs.Option.{option_map};
+ghost use Rattle.elf_records.specs.Number.{ok_map};
+ghost use Rattle.elf.specs.Answers.{dynamic_symbol_table, symbol_version_table};
+ghost use Rattle.elf.specs.Answers.{symbols_in as symbols_in_file};
+ghost use Rattle.elf.specs.Data.{content};
+ghost use Rattle.elf.specs.ElfStream.{Keeps};
+ghost use Rattle.elf_reading.specs.Refusals.{Kind, kind};
+ghost use Rattle.elf.specs.Headers.{if_found, section_range};
+ghost use Rattle.elf.specs.StreamFile.{stream_file};
+ghost use Rattle.elf.specs.Versions.{linked_strings, version_definitions, version_needs};
+ghost use Rattle.elf_tools.specs.Library.{definitions_in, hash_in, hash_of, hash_section, needs_in, symbols_in};
+ghost use Rattle.elf_tools.specs.Library.{IsLibraryOf, IsOpened, versions_in};
+ghost use Rattle.elf_tools.specs.Readings.{Reads};
+
+use crate::bindings::library::{EntryBytes, HashBytes, Library, SymbolBytes, VersionBytes};
+use elf::endian::EndianParse;
+use elf::gnu_symver::VersionIndex;
+use elf::headers::Headers;
+use elf::section::SectionHeader;
+use elf::{ElfStream, ParseError, StreamSource, abi};
+use elf_check::hashcheck::HashSection;
+use elf_parts::parse::ParseAt;
+use std::alloc::Global;
+
+// A copy of the bytes.
+fn copied(alloc: Global, bytes: &[u8]) -> Result<Vec<u8>, ParseError>
+    ensures same { IfOk result (λ copy. copy.items ≡ bytes.now) }
+    ensures memory { IfErr result (λ e. kind e ≡ Kind.AllocationFailure) }
+{
+    match bytes.to_vec(alloc) {
+        Ok(copy) => Ok(copy),
+        Err(_) => Err(ParseError::OutOfMemory),
+    }
+}
+
+// The bytes of a section without its compression header.
+fn read_data<E: EndianParse, S: StreamSource>(
+    alloc: Global,
+    stream: &mut ElfStream<E, S, Global>,
+    section: &SectionHeader,
+) -> Result<Vec<u8>, ParseError>
+    ensures { Reads stream.old stream.new result (λ copy. copy.items)
+        (λ bytes. content (stream_file E.little stream.old bytes) section.now) }
+{
+    match stream.section_data(section) {
+        Ok((bytes, _)) => copied(alloc, bytes),
+        Err(error) => Err(error),
+    }
+}
+
+// The bytes of the whole range of a section, whatever its type and its flags are.
+#[tactic(auto, unfolding(elf::specs::Data::section_data))]
+fn read_range<E: EndianParse, S: StreamSource>(
+    alloc: Global,
+    stream: &mut ElfStream<E, S, Global>,
+    section: &SectionHeader,
+) -> Result<Vec<u8>, ParseError>
+    ensures { Reads stream.old stream.new result (λ copy. copy.items) (λ bytes. section_range bytes section.now) }
+{
+    let whole = SectionHeader {
+        sh_type: abi::SHT_PROGBITS,
+        sh_flags: 0,
+        ..*section
+    };
+    read_data(alloc, stream, &whole)
+}
+
+// The bytes of the section that `sh_link` of a section names.
+fn read_linked<E: EndianParse, S: StreamSource>(
+    alloc: Global,
+    stream: &mut ElfStream<E, S, Global>,
+    section: &SectionHeader,
+) -> Result<Vec<u8>, ParseError>
+    ensures { Reads stream.old stream.new result (λ copy. copy.items)
+        (λ bytes. linked_strings (stream_file E.little stream.old bytes) section.now) }
+{
+    match stream.section_at(section.sh_link as usize) {
+        Ok(linked) => read_range(alloc, stream, &linked),
+        Err(error) => Err(error),
+    }
+}
+
+// The hash section of a kind.
+fn read_hash_of<E: EndianParse, S: StreamSource>(
+    alloc: Global,
+    stream: &mut ElfStream<E, S, Global>,
+    kind: HashSection,
+    section: &SectionHeader,
+) -> Result<Option<HashBytes>, ParseError>
+    ensures { Reads stream.old stream.new result (option_map hash_in)
+        (λ bytes. ok_map Some (hash_of kind (stream_file E.little stream.old bytes) section.now)) }
+{
+    match read_data(alloc, stream, section) {
+        Ok(section) => Ok(Some(HashBytes { kind, section })),
+        Err(error) => Err(error),
+    }
+}
+
+// The first GNU hash section or, if there is none, the first SysV hash section, if there is one.
+fn read_hash<E: EndianParse, S: StreamSource>(
+    alloc: Global,
+    stream: &mut ElfStream<E, S, Global>,
+) -> Result<Option<HashBytes>, ParseError>
+    ensures { Reads stream.old stream.new result (option_map hash_in)
+        (λ bytes. hash_section (stream_file E.little stream.old bytes)) }
+{
+    if let Some(section) = stream.first_section_of(abi::SHT_GNU_HASH) {
+        return read_hash_of(alloc, stream, HashSection::Gnu, &section);
+    }
+    if let Some(section) = stream.first_section_of(abi::SHT_HASH) {
+        return read_hash_of(alloc, stream, HashSection::Sysv, &section);
+    }
+    Ok(None)
+}
+
+// The bytes of the symbols of the first section, and those of the strings of the second.
+fn read_symbols_of<E: EndianParse, S: StreamSource>(
+    alloc: Global,
+    stream: &mut ElfStream<E, S, Global>,
+    section: &SectionHeader,
+    linked: &SectionHeader,
+) -> Result<SymbolBytes, ParseError>
+    ensures { Reads stream.old stream.new result
+        (symbols_in (E.little stream.old.headers.ehdr.endianness) stream.old.headers.ehdr.class)
+        (λ bytes. symbols_in_file (stream_file E.little stream.old bytes) (section.now, linked.now)) }
+{
+    let symbols = read_range(alloc, stream, section)?;
+    let strings = read_range(alloc, stream, linked)?;
+    Ok(SymbolBytes { symbols, strings })
+}
+
+// The dynamic symbols of the first section of them, if there is one.
+fn read_symbols<E: EndianParse, S: StreamSource>(
+    alloc: Global,
+    stream: &mut ElfStream<E, S, Global>,
+) -> Result<Option<SymbolBytes>, ParseError>
+    ensures { Reads stream.old stream.new result
+        (option_map (symbols_in (E.little stream.old.headers.ehdr.endianness) stream.old.headers.ehdr.class))
+        (λ bytes. dynamic_symbol_table (stream_file E.little stream.old bytes)) }
+{
+    match stream.symbol_sections(abi::SHT_DYNSYM) {
+        Ok(Some((section, linked))) => {
+            let bytes = read_symbols_of(alloc, stream, &section, &linked)?;
+            Ok(Some(bytes))
+        }
+        Ok(None) => Ok(None),
+        Err(error) => Err(error),
+    }
+}
+
+// The needs or the definitions of a section.
+fn read_entries<E: EndianParse, S: StreamSource>(
+    alloc: Global,
+    stream: &mut ElfStream<E, S, Global>,
+    section: &SectionHeader,
+) -> Result<EntryBytes, ParseError>
+    ensures needs { Reads stream.old stream.new result
+        (needs_in (E.little stream.old.headers.ehdr.endianness) stream.old.headers.ehdr.class)
+        (λ bytes. version_needs (stream_file E.little stream.old bytes) section.now) }
+    ensures definitions { Reads stream.old stream.new result
+        (definitions_in (E.little stream.old.headers.ehdr.endianness) stream.old.headers.ehdr.class)
+        (λ bytes. version_definitions (stream_file E.little stream.old bytes) section.now) }
+{
+    let entries = read_range(alloc, stream, section)?;
+    let strings = read_linked(alloc, stream, section)?;
+    let count = section.sh_info;
+    Ok(EntryBytes {
+        count,
+        entries,
+        strings,
+    })
+}
+
+// The same if there is a section.
+fn read_entries_if<E: EndianParse, S: StreamSource>(
+    alloc: Global,
+    stream: &mut ElfStream<E, S, Global>,
+    section: Option<SectionHeader>,
+) -> Result<Option<EntryBytes>, ParseError>
+    ensures needs { Reads stream.old stream.new result
+        (option_map (needs_in (E.little stream.old.headers.ehdr.endianness) stream.old.headers.ehdr.class))
+        (λ bytes. if_found (version_needs (stream_file E.little stream.old bytes)) section) }
+    ensures definitions { Reads stream.old stream.new result
+        (option_map (definitions_in (E.little stream.old.headers.ehdr.endianness) stream.old.headers.ehdr.class))
+        (λ bytes. if_found (version_definitions (stream_file E.little stream.old bytes)) section) }
+{
+    match section {
+        Some(section) => {
+            let entries = read_entries(alloc, stream, &section)?;
+            Ok(Some(entries))
+        }
+        None => Ok(None),
+    }
+}
+
+// The versions of the symbols, if there are version indexes.
+fn read_versions<E: EndianParse, S: StreamSource>(
+    alloc: Global,
+    stream: &mut ElfStream<E, S, Global>,
+) -> Result<Option<VersionBytes>, ParseError>
+    ensures { Reads stream.old stream.new result
+        (option_map (versions_in (E.little stream.old.headers.ehdr.endianness) stream.old.headers.ehdr.class))
+        (λ bytes. symbol_version_table (stream_file E.little stream.old bytes)) }
+{
+    let chosen = stream.version_sections();
+    let Some(section) = chosen.indexes else {
+        return Ok(None);
+    };
+    VersionIndex::validate_entsize(stream.ehdr.class, section.sh_entsize as usize)?;
+    let indexes = read_range(alloc, stream, &section)?;
+    let needs = read_entries_if(alloc, stream, chosen.needs)?;
+    let definitions = read_entries_if(alloc, stream, chosen.definitions)?;
+    Ok(Some(VersionBytes {
+        indexes,
+        needs,
+        definitions,
+    }))
+}
+
+/// Reads the parts of a file by which symbols are bound. A part that cannot be read has the error in its place.
+pub fn read_library<E: EndianParse, S: StreamSource>(
+    alloc: Global,
+    stream: &mut ElfStream<E, S, Global>,
+) -> Library<E>
+    ensures keeps { Keeps stream.old stream.new }
+    ensures parts { IfSome stream.old.content (λ bytes.
+        IsLibraryOf E.little stream.old.can_fail (stream_file E.little stream.old bytes) result) }
+{
+    let endianness = stream.ehdr.endianness;
+    let class = stream.ehdr.class;
+    let hash = read_hash(alloc, stream);
+    let symbols = read_symbols(alloc, stream);
+    let versions = read_versions(alloc, stream);
+    Library {
+        endianness,
+        class,
+        hash,
+        symbols,
+        versions,
+    }
+}
+
+/// Opens a file as a stream, reads its parts, and closes the source. The error is that of `open_stream`.
+pub fn open_library<E: EndianParse, S: StreamSource>(
+    alloc: Global,
+    source: S,
+) -> Result<Library<E>, ParseError>
+    ensures { IfSome (S.content source) (λ bytes. IsOpened E.little E.of_byte (S.can_fail source) bytes result) }
+{
+    let mut stream = ElfStream::<E, S, Global>::open_stream(alloc, source)?;
+    Ok(read_library(alloc, &mut stream))
+}

@@ -1,0 +1,48 @@
+//! Whether a hash section of a file is sound for the dynamic symbols, or a fault of it.
+ghost use Rattle.elf.specs.ObjectFile.{object_file};
+ghost use Rattle.elf.specs.ElfBytes.{view};
+ghost use Rattle.elf_binding.specs.ObjectTable.{section_object};
+ghost use Rattle.elf_tools.specs.HashLint.{GivesLint, IsLint, hash_object};
+
+use elf::endian::EndianParse;
+use elf::section::SectionHeader;
+use elf::{ElfBytes, abi};
+use elf_binding::resolve::ObjectFault;
+use elf_check::hashcheck::{Checked, HashSection, check_any};
+
+fn kind_lint<E: EndianParse>(
+    file: &ElfBytes<'_, E>,
+    kind: HashSection,
+    section: &SectionHeader,
+) -> Result<usize, ObjectFault>
+    ensures { IsLint (section_object kind (object_file E.little (view file.now)) section.now) result }
+{
+    let (bytes, _) = file.section_data(section)?;
+    let Some((symbols, strings)) = file.dynamic_symbol_table()? else {
+        return Err(ObjectFault::NoSymbols);
+    };
+    let ehdr = &file.ehdr;
+    match check_any(kind, ehdr.endianness, ehdr.class, bytes, symbols, strings)? {
+        Checked::Sound(table) => Ok(table.indexed()),
+        Checked::Faulty(fault) => Err(ObjectFault::Faulty(fault)),
+    }
+}
+
+/// Checks a hash section over the dynamic symbols of its file. Returns the number of symbols that it indexes, or `None`
+/// if the section is neither of type `SHT_GNU_HASH` nor of type `SHT_HASH`.
+///
+/// Errors, in order: `Read` if the bytes of the section cannot be read; `Read` if the dynamic symbols cannot be read;
+/// `NoSymbols` if there are none; `Read` if `new` of the table returns an error; `Faulty` with a fault that is true of
+/// the section.
+pub fn lint<E: EndianParse>(
+    file: &ElfBytes<'_, E>,
+    section: &SectionHeader,
+) -> Option<Result<usize, ObjectFault>>
+    ensures { GivesLint (hash_object (object_file E.little (view file.now)) section.now) result }
+{
+    match section.sh_type {
+        abi::SHT_GNU_HASH => Some(kind_lint(file, HashSection::Gnu, section)),
+        abi::SHT_HASH => Some(kind_lint(file, HashSection::Sysv, section)),
+        _ => None,
+    }
+}

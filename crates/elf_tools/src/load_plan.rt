@@ -1,0 +1,207 @@
+//! What a loader maps into memory, and at which addresses.
+ghost use Rattle.std.specs.Prelude.{◌≡◌, ◌||◌, false, IfErr, IfOk, OnOk, MatchOption, length};
+ghost use Rattle.std.specs.List.{list_any};
+ghost use Rattle.elf.specs.ElfBytes.{view};
+ghost use Rattle.elf_reading.specs.Opening.{segment_list};
+ghost use Rattle.elf_tools.specs.LoadPlan.{ApartBefore, IsFirstOverlap, IsPlan, IsTrueOf, LoadableBefore};
+ghost use Rattle.elf_tools.specs.LoadPlan.{fits, is_addressed, lies_in, mapping_of, mappings, meets, overlap};
+ghost use Rattle.elf_tools.specs.inner.Apart.{AreApart};
+ghost use Rattle.elf_tools.specs.declared.load_plan.Mapping.{Mapping};
+ghost use Rattle.elf_tools.specs.declared.load_plan.PlanError.TheVariants.{Memory as IsMemory};
+
+use elf::endian::EndianParse;
+use elf::file::Class;
+use elf::segment::ProgramHeader;
+use elf::{ElfBytes, abi};
+use std::alloc::{AllocError, Global};
+use std::collections::BTreeMap;
+use thiserror::Error;
+
+/// Bytes of the file that are mapped into memory from an address on; the rest of the memory is 0. Offsets and sizes are
+/// in bytes.
+#[derive(Debug, Clone, Copy)]
+pub struct Mapping {
+    pub address: u64,
+    pub memory_size: u64,
+    pub offset: u64,
+    pub file_size: u64,
+    pub flags: u32,
+}
+
+/// Why there is no plan. Mappings are counted from 0.
+#[derive(Debug, Drop, Error)]
+pub enum PlanError {
+    /// The mapping has more bytes in the file than in memory.
+    #[error("mapping {mapping} has more bytes in the file than in memory")]
+    FileSize { mapping: usize },
+    /// The bytes of the mapping do not lie in the file.
+    #[error("the bytes of mapping {mapping} do not lie in the file")]
+    OutsideFile { mapping: usize },
+    /// The mapping ends past the last address of the file's class.
+    #[error("mapping {mapping} ends past the last address")]
+    AddressSpace { mapping: usize },
+    /// An address of the mapping also belongs to an earlier one.
+    #[error("mapping {mapping} overlaps an earlier one")]
+    Overlap { mapping: usize },
+    /// An allocation failed.
+    #[error("out of memory")]
+    Memory,
+}
+
+impl From<AllocError> for PlanError {
+    ghost from_gives = { λ _ error. error ≡ IsMemory };
+
+    fn from(_error: AllocError) -> PlanError {
+        PlanError::Memory
+    }
+}
+
+impl Mapping {
+    fn new(segment: &ProgramHeader) -> Self
+        ensures { result ≡ mapping_of segment.now }
+    {
+        Mapping {
+            address: segment.p_vaddr,
+            memory_size: segment.p_memsz,
+            offset: segment.p_offset,
+            file_size: segment.p_filesz,
+            flags: segment.p_flags,
+        }
+    }
+
+    // Whether the bytes of the file fit the memory.
+    fn fits(&self) -> bool
+        ensures { result ≡ fits self.now }
+    {
+        self.file_size <= self.memory_size
+    }
+
+    // Whether these bytes lie in a file of this length.
+    fn lies_in(&self, len: usize) -> bool
+        ensures { result ≡ lies_in len self.now }
+    {
+        self.offset as u128 + self.file_size as u128 <= len as u128
+    }
+
+    // Whether addresses of this class reach to the end of the mapping.
+    fn is_addressed(&self, class: Class) -> bool
+        ensures { result ≡ is_addressed class self.now }
+    {
+        let end = self.address as u128 + self.memory_size as u128;
+        match class {
+            Class::ELF32 => end <= 1 << 32,
+            Class::ELF64 => end <= 1 << 64,
+        }
+    }
+}
+
+// The mappings of the segments of type `PT_LOAD`.
+fn mappings<E: EndianParse>(
+    alloc: Global,
+    file: &ElfBytes<'_, E>,
+) -> Result<Vec<Mapping>, AllocError>
+    ensures { IfOk result (λ all. all.items ≡ mappings (segment_list (view file.now).segments)) }
+{
+    match file.segments() {
+        Some(segments) => segments
+            .iter()
+            .filter(|segment| segment.p_type == abi::PT_LOAD)
+            .map(|segment| Mapping::new(&segment))
+            .collect(alloc),
+        None => Ok(Vec::new(alloc)),
+    }
+}
+
+// What is wrong with the first mapping that is not loadable, in a file of this class and length.
+fn first_fault(class: Class, len: usize, all: &[Mapping]) -> Option<PlanError>
+    ensures { MatchOption result (LoadableBefore class len all.now (length all.now)) (IsTrueOf class len all.now) }
+{
+    for (place, mapping) in all.iter().enumerate() {
+        if !mapping.fits() {
+            return Some(PlanError::FileSize { mapping: place });
+        }
+        if !mapping.lies_in(len) {
+            return Some(PlanError::OutsideFile { mapping: place });
+        }
+        if !mapping.is_addressed(class) {
+            return Some(PlanError::AddressSpace { mapping: place });
+        }
+    }
+    None
+}
+
+// Whether an address of the mapping lies in one of these ranges. Of the ranges that begin before the mapping ends, the
+// last one also ends last, so no other one has to be looked at.
+fn meets_any(mapping: &Mapping, ranges: &BTreeMap<u64, u64>) -> bool
+    requires { AreApart 0 ranges.now.entries }
+    ensures { result ≡ list_any (meets mapping.now) ranges.now.entries }
+{
+    if mapping.memory_size == 0 {
+        return false;
+    }
+    let last = mapping.address.saturating_add(mapping.memory_size - 1);
+    match ranges.range(..=last).next_back() {
+        Some((address, size)) => {
+            *address >= mapping.address || mapping.address - *address < *size
+        }
+        None => false,
+    }
+}
+
+// Adds the memory of a mapping that lies in none of the ranges.
+fn add(ranges: &mut BTreeMap<u64, u64>, mapping: &Mapping) -> Result<(), AllocError>
+    requires apart { AreApart 0 ranges.old.entries }
+    requires new { list_any (meets mapping.now) ranges.old.entries ≡ false }
+    ensures apart { OnOk result (AreApart 0 ranges.new.entries) }
+    ensures added { OnOk result ((m : Mapping) → list_any (meets m) ranges.new.entries
+        ≡ (overlap m mapping.now || list_any (meets m) ranges.old.entries)) }
+{
+    if mapping.memory_size == 0 {
+        return Ok(());
+    }
+    match ranges.insert(mapping.address, mapping.memory_size) {
+        Ok(_) => Ok(()),
+        Err(_) => Err(AllocError),
+    }
+}
+
+// The first mapping that shares an address with an earlier one. It costs the number of mappings times its logarithm.
+fn first_overlap(alloc: Global, all: &[Mapping]) -> Result<Option<usize>, AllocError>
+    ensures { IfOk result (λ found.
+        MatchOption found (ApartBefore all.now (length all.now)) (IsFirstOverlap all.now)) }
+{
+    let mut ranges = BTreeMap::new(alloc);
+    for (place, mapping) in all.iter().enumerate() {
+        if meets_any(mapping, &ranges) {
+            return Ok(Some(place));
+        }
+        add(&mut ranges, mapping)?;
+    }
+    Ok(None)
+}
+
+/// Returns the mappings of the segments of type `PT_LOAD`, in order.
+///
+/// Errors, in order: `Memory` if an allocation failed; of the first mapping for which one of them holds, `FileSize` if
+/// it has more bytes in the file than in memory, `OutsideFile` if its bytes do not lie in the file, and `AddressSpace`
+/// if it ends past the last address of the file's class; `Overlap` with the first mapping that shares an address with
+/// an earlier one.
+pub fn load_plan<E: EndianParse>(
+    alloc: Global,
+    file: &ElfBytes<'_, E>,
+) -> Result<Vec<Mapping>, PlanError>
+    ensures plan { let all = mappings (segment_list (view file.now).segments) in
+        IfOk result (λ plan. (plan.items ≡ all) × IsPlan file.now.ehdr.class (length (view file.now).bytes) all) }
+    ensures refused { let all = mappings (segment_list (view file.now).segments) in
+        IfErr result (IsTrueOf file.now.ehdr.class (length (view file.now).bytes) all) }
+{
+    let plan = mappings(alloc, file)?;
+    let len = file.data().len();
+    if let Some(fault) = first_fault(file.ehdr.class, len, plan.as_slice()) {
+        return Err(fault);
+    }
+    if let Some(mapping) = first_overlap(alloc, plan.as_slice())? {
+        return Err(PlanError::Overlap { mapping });
+    }
+    Ok(plan)
+}

@@ -1,0 +1,309 @@
+//! The names by which the dynamic linker finds a file and the libraries that it needs.
+ghost use Rattle.std.specs.Prelude.{◌≡◌, IfOk, IsTrue, map, option_copied};
+ghost use Rattle.std.specs.List.{find};
+ghost use Rattle.std.specs.Option.{option_map};
+ghost use Rattle.elf_records.specs.Dynamic.{has_tag};
+ghost use Rattle.elf_records.specs.Number.{ok_map};
+ghost use Rattle.elf_records.specs.Table.{table_view};
+ghost use Rattle.elf.specs.StreamFile.{stream_file};
+ghost use Rattle.elf_tools.specs.Needed.{GivesNames, IsGiven};
+ghost use Rattle.elf_tools.specs.Needed.{all_names, entries_in, entries_of, first_entry, first_name};
+ghost use Rattle.elf_tools.specs.Needed.{holds, name_bytes, name_of, names, names_by, names_in, names_of_part};
+ghost use Rattle.elf_tools.specs.Needed.{names_view, part_of, string_part};
+ghost use Rattle.elf_tools.specs.declared.needed.NamesError.TheVariants.{Memory as IsMemory};
+
+use elf::dynamic::{Dyn, DynamicTable};
+use elf::endian::EndianParse;
+use elf::segment::ProgramHeader;
+use elf::string_table::{StringTable, TerminatedStrings};
+use elf::{ElfStream, ParseError, StreamSource, abi};
+use std::alloc::{AllocError, AllocFailed, Allocator, Global};
+use thiserror::Error;
+
+/// A name in the string table of a file, by its offset in bytes. `Names::bytes` returns its bytes.
+#[derive(Debug, Clone, Copy)]
+pub struct Name {
+    start: usize,
+}
+
+/// The names that the dynamic entries of a file give, in one copy of its string table. Many entries may name one long
+/// string, so a name is neither copied nor read to its end before its bytes are requested.
+#[derive(Debug, Drop)]
+pub struct Names {
+    strings: Vec<u8>,
+    /// The file's own name, by its first entry `DT_SONAME`.
+    pub soname: Option<Name>,
+    /// The libraries that it needs, by its entries `DT_NEEDED`, in order.
+    pub needed: Vec<Name>,
+    /// The search paths of libraries, by its first entry `DT_RUNPATH` and by its first entry `DT_RPATH`.
+    pub runpath: Option<Name>,
+    pub rpath: Option<Name>,
+}
+
+impl Names {
+    /// Returns the bytes of a name, without the 0 byte that ends it. Of a name of another file it returns the string at
+    /// its offset, or no bytes if there is none. The time grows with the length of the name.
+    pub fn bytes(&self, name: &Name) -> &[u8]
+        ensures { result.now ≡ name_bytes self.now.strings.items name.now }
+    {
+        match StringTable::new(&self.strings).get_raw(name.start) {
+            Ok(bytes) => bytes,
+            Err(_) => &[],
+        }
+    }
+}
+
+/// Why the names of a file are not available.
+#[derive(Debug, Drop, Error)]
+pub enum NamesError {
+    /// The stream returned an error.
+    #[error("{0}")]
+    Read(ParseError),
+    /// No entry gives the address of the string table.
+    #[error("no entry DT_STRTAB")]
+    NoAddress,
+    /// No entry gives the size of the string table.
+    #[error("no entry DT_STRSZ")]
+    NoSize,
+    /// No loaded segment has the string table, which begins at this address, in the file.
+    #[error("no segment holds the string table at 0x{0:x}")]
+    NotLoaded(u64),
+    /// The string that an entry names cannot be read.
+    #[error("{0}")]
+    Name(ParseError),
+    /// An allocation failed.
+    #[error("out of memory")]
+    Memory,
+}
+
+impl From<AllocError> for NamesError {
+    ghost from_gives = { λ _ error. error ≡ IsMemory };
+
+    fn from(_error: AllocError) -> NamesError {
+        NamesError::Memory
+    }
+}
+
+impl<T: Drop> From<AllocFailed<T>> for NamesError {
+    ghost from_gives = { λ _ error. error ≡ IsMemory };
+
+    fn from(_error: AllocFailed<T>) -> NamesError {
+        NamesError::Memory
+    }
+}
+
+// Whether the entry has a tag, one of `DT_*`.
+fn has_tag(entry: &Dyn, tag: i64) -> bool
+    ensures { result ≡ has_tag tag entry.now }
+{
+    entry.d_tag == tag
+}
+
+// The entries of a table up to the first with the tag `DT_NULL`.
+fn entries_in<E: EndianParse>(
+    alloc: Global,
+    table: &DynamicTable<'_, E>,
+) -> Result<Vec<Dyn>, AllocError>
+    ensures { IfOk result (λ entries. entries.items ≡ entries_in (table_view table.now)) }
+{
+    table
+        .iter()
+        .take_while(|entry| !has_tag(entry, abi::DT_NULL))
+        .collect(alloc)
+}
+
+// The first entry with a tag.
+fn first_entry(entries: &[Dyn], tag: i64) -> Option<&Dyn>
+    ensures { option_map (λ entry. entry.now) result ≡ first_entry tag entries.now }
+{
+    entries.iter().find(|entry| has_tag(entry, tag))
+}
+
+// Whether the segment is loaded and has the bytes of these addresses in the file.
+fn holds(segment: &ProgramHeader, address: u64, size: u64) -> bool
+    ensures { result ≡ holds address size segment.now }
+{
+    if segment.p_type != abi::PT_LOAD || address < segment.p_vaddr {
+        return false;
+    }
+    let before = address - segment.p_vaddr;
+    before <= segment.p_filesz
+        && size <= segment.p_filesz - before
+        && before <= u64::MAX - segment.p_offset
+}
+
+// The first segment that holds this many bytes from an address on.
+fn first_holding(segments: &[ProgramHeader], address: u64, size: u64) -> Option<&ProgramHeader>
+    ensures { option_copied result ≡ find (holds address size) segments.now }
+{
+    segments
+        .iter()
+        .find(|segment| holds(segment, address, size))
+}
+
+// The part of a segment at these addresses, as a segment.
+fn part_of(segment: &ProgramHeader, address: u64, size: u64) -> ProgramHeader
+    requires { IsTrue (holds address size segment.now) }
+    ensures { result ≡ part_of address size segment.now }
+{
+    ProgramHeader {
+        p_offset: segment.p_offset + (address - segment.p_vaddr),
+        p_filesz: size,
+        ..*segment
+    }
+}
+
+// The part of a segment that is the string table, as a segment.
+fn string_part(segments: &[ProgramHeader], entries: &[Dyn]) -> Result<ProgramHeader, NamesError>
+    ensures value { result ≡ string_part segments.now entries.now }
+    ensures plain { IsGiven (λ part. part) (string_part segments.now entries.now) result }
+{
+    let Some(start) = first_entry(entries, abi::DT_STRTAB) else {
+        return Err(NamesError::NoAddress);
+    };
+    let Some(length) = first_entry(entries, abi::DT_STRSZ) else {
+        return Err(NamesError::NoSize);
+    };
+    let (address, size) = (start.d_ptr(), length.d_val());
+    match first_holding(segments, address, size) {
+        Some(segment) => Ok(part_of(segment, address, size)),
+        None => Err(NamesError::NotLoaded(address)),
+    }
+}
+
+// The string that an entry names. Comparing it with the empty name gives the error, and reads at most one byte of it.
+fn name_of(strings: &TerminatedStrings<'_>, entry: &Dyn) -> Result<Name, NamesError>
+    ensures { ok_map (name_bytes strings.now) result ≡ name_of strings.now entry.now }
+{
+    let start = entry.d_val() as usize;
+    match strings.is(start, &[]) {
+        Ok(_) => Ok(Name { start }),
+        Err(error) => Err(NamesError::Name(error)),
+    }
+}
+
+// The string that the first entry with a tag names.
+fn first_name(
+    strings: &TerminatedStrings<'_>,
+    entries: &[Dyn],
+    tag: i64,
+) -> Result<Option<Name>, NamesError>
+    ensures { ok_map (option_map (name_bytes strings.now)) result ≡ first_name strings.now tag entries.now }
+{
+    match first_entry(entries, tag) {
+        Some(entry) => match name_of(strings, entry) {
+            Ok(name) => Ok(Some(name)),
+            Err(error) => Err(error),
+        },
+        None => Ok(None),
+    }
+}
+
+// The strings that the entries with a tag name, in order.
+fn all_names(
+    alloc: Global,
+    strings: &TerminatedStrings<'_>,
+    entries: &[Dyn],
+    tag: i64,
+) -> Result<Vec<Name>, NamesError>
+    ensures { IsGiven (λ names. map (name_bytes strings.now) names.items)
+        (all_names strings.now tag entries.now) result }
+{
+    let mut names = Vec::new(alloc);
+    for entry in entries {
+        if has_tag(entry, tag) {
+            names.push(name_of(strings, entry)?)?;
+        }
+    }
+    Ok(names)
+}
+
+// The names that the entries give in a string table, with a copy of it.
+fn names_in(alloc: Global, table: &[u8], entries: &[Dyn]) -> Result<Names, NamesError>
+    ensures { IsGiven names_view (names_in table.now entries.now) result }
+{
+    let strings = TerminatedStrings::new(&StringTable::new(table));
+    let soname = first_name(&strings, entries, abi::DT_SONAME)?;
+    let needed = all_names(alloc, &strings, entries, abi::DT_NEEDED)?;
+    let runpath = first_name(&strings, entries, abi::DT_RUNPATH)?;
+    let rpath = first_name(&strings, entries, abi::DT_RPATH)?;
+    Ok(Names {
+        strings: Vec::from_slice(alloc, table)?,
+        soname,
+        needed,
+        runpath,
+        rpath,
+    })
+}
+
+// The dynamic entries of a file, copied.
+fn entries_of<E: EndianParse, S: StreamSource, A: Allocator + Copy>(
+    alloc: Global,
+    stream: &mut ElfStream<E, S, A>,
+) -> Result<Option<Vec<Dyn>>, NamesError>
+    ensures { GivesNames (option_map (λ entries. entries.items))
+        (λ bytes. entries_of (stream_file E.little stream.old bytes)) stream.old stream.new result }
+{
+    match stream.dynamic() {
+        Ok(Some(table)) => Ok(Some(entries_in(alloc, &table)?)),
+        Ok(None) => Ok(None),
+        Err(error) => Err(NamesError::Read(error)),
+    }
+}
+
+// The names that the entries give in the strings of a part of the file.
+fn names_of_part<E: EndianParse, S: StreamSource, A: Allocator + Copy>(
+    alloc: Global,
+    stream: &mut ElfStream<E, S, A>,
+    entries: &[Dyn],
+    part: &ProgramHeader,
+) -> Result<Names, NamesError>
+    ensures { GivesNames names_view
+        (λ bytes. names_of_part (stream_file E.little stream.old bytes) part.now entries.now)
+        stream.old stream.new result }
+{
+    match stream.segment_data(part) {
+        Ok(bytes) => names_in(alloc, bytes, entries),
+        Err(error) => Err(NamesError::Read(error)),
+    }
+}
+
+// The names that the entries of a file give.
+fn names_by<E: EndianParse, S: StreamSource, A: Allocator + Copy>(
+    alloc: Global,
+    stream: &mut ElfStream<E, S, A>,
+    entries: &[Dyn],
+) -> Result<Names, NamesError>
+    ensures { GivesNames names_view (λ bytes. names_by (stream_file E.little stream.old bytes) entries.now)
+        stream.old stream.new result }
+{
+    match string_part(stream.segments().as_slice(), entries) {
+        Ok(part) => names_of_part(alloc, stream, entries, &part),
+        Err(error) => Err(error),
+    }
+}
+
+/// Returns the soname of a file, the libraries that it needs and its search paths, or `None` if it has no dynamic
+/// entries. The string table is found by its address, as the dynamic linker finds it, so no section header is needed.
+///
+/// Errors, in order: `Read` if the dynamic entries cannot be read; `NoAddress` and `NoSize` if no entry gives the
+/// address or the size of the string table; `NotLoaded` if no segment of type `PT_LOAD` holds it; `Read` if its bytes
+/// cannot be read; `Name` if the string of an entry cannot be read: of the soname, then of the needed libraries in
+/// order, of `DT_RUNPATH` and of `DT_RPATH`. `Memory` if an allocation failed.
+pub fn dynamic_names<E: EndianParse, S: StreamSource, A: Allocator + Copy>(
+    alloc: Global,
+    stream: &mut ElfStream<E, S, A>,
+) -> Result<Option<Names>, NamesError>
+    ensures { GivesNames (option_map names_view) (λ bytes. names (stream_file E.little stream.old bytes))
+        stream.old stream.new result }
+{
+    let entries = match entries_of(alloc, stream) {
+        Ok(Some(entries)) => entries,
+        Ok(None) => return Ok(None),
+        Err(error) => return Err(error),
+    };
+    match names_by(alloc, stream, entries.as_slice()) {
+        Ok(names) => Ok(Some(names)),
+        Err(error) => Err(error),
+    }
+}

@@ -1,0 +1,5 @@
+pub mod Branches
+pub mod Copies
+pub mod EvenBytes
+pub mod FileOrders
+pub mod Triples

@@ -1,0 +1,34 @@
+//! A user's own record that has no field table.
+use elf::endian::EndianParse;
+use elf::file::Class;
+use elf::parse::{ParseAt, ParseError};
+
+/// A byte that lies at an even offset; one at an odd offset is refused.
+#[derive(Clone, Copy, Debug, PartialEq, Eq)]
+pub struct EvenByte {
+    pub value: u8,
+}
+
+impl ParseAt for EvenByte {
+    ghost use Rattle.elf_user_types.specs.EvenBytes.{even_bytes};
+
+    ghost reads = { even_bytes };
+
+    fn parse_at<E: EndianParse>(
+        endian: E,
+        _class: Class,
+        offset: &mut usize,
+        data: &[u8],
+    ) -> Result<Self, ParseError> {
+        let start = *offset;
+        if start % 2 != 0 {
+            return Err(ParseError::BadOffset(start as u64));
+        }
+        let value = endian.parse_u8_at(offset, data)?;
+        Ok(EvenByte { value })
+    }
+
+    fn size_for(_class: Class) -> usize {
+        1
+    }
+}

@@ -1,0 +1,13 @@
+pub mod Below
+pub mod SysvSound
+pub mod GnuSound
+pub mod HashesOfA
+pub mod Resolved
+pub mod WrittenFiles
+pub mod FilesWritten
+pub mod PutIn
+pub mod Grouped
+pub mod BuiltSound
+pub mod BuiltKnown
+pub mod BuiltBytes
+pub mod BuiltGnuBytes

@@ -1,0 +1,24 @@
+use Rattle.std.proofs.Common.{refl}
+use Rattle.elf_records.specs.Number.{bytes_at, number_at}
+use Rattle.elf_records.specs.Record.{numbers_at}
+use Rattle.elf_worked.proofs.records.dynamic_entries.Goals as goal
+
+pub returns-clause-little_32 : goal.returns-clause-little_32
+unfolding bytes_at number_at numbers_at
+returns-clause-little_32 c = refl
+
+pub returns-clause-little_64 : goal.returns-clause-little_64
+unfolding bytes_at number_at numbers_at
+returns-clause-little_64 c = refl
+
+pub returns-clause-big_64 : goal.returns-clause-big_64
+unfolding bytes_at number_at numbers_at
+returns-clause-big_64 c = refl
+
+pub returns-clause-negative_32 : goal.returns-clause-negative_32
+unfolding bytes_at number_at numbers_at
+returns-clause-negative_32 c = refl
+
+pub returns-clause-negative_64 : goal.returns-clause-negative_64
+unfolding bytes_at number_at numbers_at
+returns-clause-negative_64 c = refl

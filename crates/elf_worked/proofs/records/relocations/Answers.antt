@@ -1,0 +1,28 @@
+use Rattle.std.proofs.Common.{refl}
+use Rattle.elf_records.specs.Number.{bytes_at, number_at}
+use Rattle.elf_records.specs.Record.{numbers_at}
+use Rattle.elf_worked.proofs.records.relocations.Goals as goal
+
+pub returns-clause-little_32 : goal.returns-clause-little_32
+unfolding bytes_at number_at numbers_at
+returns-clause-little_32 c = refl
+
+pub returns-clause-big_32 : goal.returns-clause-big_32
+unfolding bytes_at number_at numbers_at
+returns-clause-big_32 c = refl
+
+pub returns-clause-little_64 : goal.returns-clause-little_64
+unfolding bytes_at number_at numbers_at
+returns-clause-little_64 c = refl
+
+pub returns-clause-big_64 : goal.returns-clause-big_64
+unfolding bytes_at number_at numbers_at
+returns-clause-big_64 c = refl
+
+pub returns-clause-size_32 : goal.returns-clause-size_32
+unfolding bytes_at number_at numbers_at
+returns-clause-size_32 c = refl
+
+pub returns-clause-size_64 : goal.returns-clause-size_64
+unfolding bytes_at number_at numbers_at
+returns-clause-size_64 c = refl

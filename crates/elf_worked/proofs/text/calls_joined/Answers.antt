@@ -1,0 +1,16 @@
+use Rattle.std.proofs.Common.{refl}
+use Rattle.std.specs.Fmt.{digits}
+use Rattle.elf_records.specs.Number.{bytes_at, number_at}
+use Rattle.elf_records.specs.Record.{numbers_at}
+use Rattle.elf_records.specs.File.{ident_of}
+use Rattle.elf.specs.Names.{name_section, name_table}
+use Rattle.elf_reading.specs.Opening.{header_at_front, section_table, segment_table}
+use Rattle.elf_worked.proofs.text.calls_joined.Goals as goal
+
+pub returns-clause-none : goal.returns-clause-none
+unfolding bytes_at ident_of numbers_at number_at header_at_front section_table segment_table name_section name_table
+returns-clause-none c = refl
+
+pub returns-clause-twice : goal.returns-clause-twice
+unfolding bytes_at ident_of numbers_at number_at header_at_front section_table segment_table name_section name_table digits
+returns-clause-twice c = refl

@@ -1,0 +1,19 @@
+use Rattle.std.proofs.Common.{refl}
+use Rattle.elf_records.specs.Number.{bytes_at, number_at}
+use Rattle.elf_records.specs.Record.{numbers_at}
+use Rattle.elf_parts.specs.gnu_symver.Links.{links_in}
+use Rattle.elf_records.specs.StringTable.{string_at}
+use Rattle.elf_parts.specs.gnu_symver.Table.{defined_version, needed_version}
+use Rattle.elf_worked.proofs.versions.defined_versions.Goals as goal
+
+pub returns-clause-both : goal.returns-clause-both
+unfolding bytes_at number_at numbers_at links_in string_at needed_version defined_version
+returns-clause-both c = refl
+
+pub returns-clause-one : goal.returns-clause-one
+unfolding bytes_at number_at numbers_at links_in string_at needed_version defined_version
+returns-clause-one c = refl
+
+pub returns-clause-big : goal.returns-clause-big
+unfolding bytes_at number_at numbers_at links_in string_at needed_version defined_version
+returns-clause-big c = refl

@@ -1,0 +1,15 @@
+pub mod Bound
+pub mod Built
+pub mod BuiltBytes
+pub mod BuiltSections
+pub mod Files
+pub mod HashSections
+pub mod HashesOfA
+pub mod Known
+pub mod Listed
+pub mod ObjectLists
+pub mod Objects
+pub mod Parts
+pub mod Records
+pub mod SoundSections
+pub mod WrittenFiles

@@ -1,0 +1,99 @@
+//! Which symbols a reference may bind to, and which of them serves it.
+ghost use Rattle.std.specs.Prelude.{◌≡◌, ℕ, List, [], ◌∷◌, true, false, Ok, Err, None, Some};
+ghost use Rattle.elf_binding.specs.Binding.{VersionedObject, ChosenAt, IsBinding, is_definition, unreadable};
+ghost use Rattle.elf_binding.specs.Binding.{version_of};
+ghost use Rattle.elf_binding.specs.declared.Version.{Version};
+ghost use Rattle.elf_binding.specs.declared.Wanted.{Wanted};
+ghost use Rattle.elf_binding.specs.declared.Wanted.TheVariants.{Any, Compatible, Only};
+ghost use Rattle.elf_records.specs.declared.symbol.Symbol.{Symbol};
+ghost use Rattle.elf_worked.specs.Bound.{IsFor, Takes, library_versions, symbol_at, takes, v, w};
+ghost use Rattle.elf_worked.specs.Parts.{versions};
+
+/// A definition is global, weak or unique, of default or protected visibility, data, a function or of no type. It has a
+/// section and a value; an absolute or a thread-local one may have the value 0.
+pub fn definitions()
+    ensures function { is_definition (symbol_at 0x12 0 1 16) ≡ true }
+    ensures weak { is_definition (symbol_at 0x22 0 1 16) ≡ true }
+    ensures unique { is_definition (symbol_at 0xa1 0 1 16) ≡ true }
+    ensures indirect { is_definition (symbol_at 0x1a 0 1 16) ≡ true }
+    ensures no_type { is_definition (symbol_at 0x10 0 1 16) ≡ true }
+    ensures protected { is_definition (symbol_at 0x12 3 1 16) ≡ true }
+    ensures absolute { is_definition (symbol_at 0x11 0 0xfff1 0) ≡ true }
+    ensures thread_local { is_definition (symbol_at 0x16 0 1 0) ≡ true }
+    ensures undefined { is_definition (symbol_at 0x12 0 0 16) ≡ false }
+    ensures no_address { is_definition (symbol_at 0x12 0 1 0) ≡ false }
+    ensures local { is_definition (symbol_at 0x02 0 1 16) ≡ false }
+    ensures section { is_definition (symbol_at 0x13 0 1 16) ≡ false }
+    ensures hidden { is_definition (symbol_at 0x12 2 1 16) ≡ false }
+    ensures internal { is_definition (symbol_at 0x12 1 1 16) ≡ false }
+{}
+
+/// The version of a symbol goes by its version index without bit 15. What is defined for the file itself is no version,
+/// and a version without a name that can be read is refused, as is a symbol without a version index. A symbol whose
+/// index no definition has has the version that it needs.
+pub fn versions_of_symbols()
+    ensures hidden { version_of library_versions 0 ≡ Ok (Some v) }
+    ensures shown { version_of library_versions 1 ≡ Ok (Some w) }
+    ensures own { version_of library_versions 2 ≡ Ok None }
+    ensures own_hidden { version_of library_versions 4 ≡ Ok None }
+    ensures no_name { version_of library_versions 5 ≡ Err (unreadable 5) }
+    ensures no_index { version_of library_versions 6 ≡ Err (unreadable 6) }
+    ensures needed { version_of versions 1 ≡ Ok (Some v) }
+    ensures needed_hidden { version_of versions 2 ≡ Ok (Some w) }
+{}
+
+/// A reference with a version takes the first symbol of this version, hidden or not, or one that has none and is not
+/// hidden. It passes over other versions. A library without versions serves it.
+pub fn taken_by_a_version()
+    ensures hidden { (wanted : Version) → IsFor wanted v
+        → Takes (Some library_versions) (1 ∷ 0 ∷ []) (Compatible wanted) (takes 0) }
+    ensures shown { (wanted : Version) → IsFor wanted w
+        → Takes (Some library_versions) (0 ∷ 1 ∷ 3 ∷ []) (Compatible wanted) (takes 1) }
+    ensures own { (wanted : Version) → IsFor wanted v
+        → Takes (Some library_versions) (1 ∷ 4 ∷ 2 ∷ []) (Compatible wanted) (takes 2) }
+    ensures missing { (wanted : Version) → IsFor wanted v
+        → Takes (Some library_versions) (1 ∷ 3 ∷ 4 ∷ []) (Compatible wanted) (Ok None) }
+    ensures no_name { (wanted : Version) → IsFor wanted v
+        → Takes (Some library_versions) (5 ∷ 0 ∷ []) (Compatible wanted) (Err (unreadable 5)) }
+    ensures unversioned { (wanted : Version) → Takes None (3 ∷ 0 ∷ []) (Compatible wanted) (takes 3) }
+{}
+
+/// A reference to one version alone takes no symbol without a version.
+pub fn taken_by_one_version()
+    ensures hidden { (wanted : Version) → IsFor wanted v
+        → Takes (Some library_versions) (1 ∷ 2 ∷ 0 ∷ []) (Only wanted) (takes 0) }
+    ensures own { (wanted : Version) → IsFor wanted v
+        → Takes (Some library_versions) (1 ∷ 2 ∷ 4 ∷ []) (Only wanted) (Ok None) }
+    ensures unversioned { (wanted : Version) → Takes None (3 ∷ []) (Only wanted) (takes 3) }
+{}
+
+/// A reference without a version takes a symbol of the file's own version or of its first one, hidden or not; and where
+/// there is none the first that is not hidden.
+pub fn taken_without_a_version()
+    ensures first_version { Takes (Some library_versions) (1 ∷ 0 ∷ 2 ∷ []) Any (takes 0) }
+    ensures own { Takes (Some library_versions) (3 ∷ 1 ∷ 4 ∷ []) Any (takes 4) }
+    ensures shown { Takes (Some library_versions) (3 ∷ 1 ∷ []) Any (takes 1) }
+    ensures hidden { Takes (Some library_versions) (3 ∷ []) Any (Ok None) }
+    ensures no_index { Takes (Some library_versions) (6 ∷ 2 ∷ []) Any (Err (unreadable 6)) }
+    ensures unversioned { Takes None (3 ∷ []) Any (takes 3) }
+    ensures none { Takes (Some library_versions) [] Any (Ok None) }
+{}
+
+/// Of two objects the second is bound to if none in the first serves, and the first if both have one. An object of
+/// which it is not known stops the look-up.
+pub fn bound_in_two()
+    ensures second { (one two : VersionedObject) (name : List ℕ) (wanted : Wanted) (found : ℕ × Symbol)
+        → ChosenAt (λ object. object) (one ∷ two ∷ []) name wanted 0 (Ok None)
+        → ChosenAt (λ object. object) (one ∷ two ∷ []) name wanted 1 (Ok (Some found))
+        → IsBinding (λ object. object) (one ∷ two ∷ []) name wanted (Ok (Some (1, found.0, found.1))) }
+    ensures first { (one two : VersionedObject) (name : List ℕ) (wanted : Wanted) (found : ℕ × Symbol)
+        → ChosenAt (λ object. object) (one ∷ two ∷ []) name wanted 0 (Ok (Some found))
+        → IsBinding (λ object. object) (one ∷ two ∷ []) name wanted (Ok (Some (0, found.0, found.1))) }
+    ensures unreadable { (one two : VersionedObject) (name : List ℕ) (wanted : Wanted) (symbol : ℕ)
+        → ChosenAt (λ object. object) (one ∷ two ∷ []) name wanted 0 (Err (unreadable symbol))
+        → IsBinding (λ object. object) (one ∷ two ∷ []) name wanted (Err (record { object = 0; symbol = symbol })) }
+    ensures missing { (one two : VersionedObject) (name : List ℕ) (wanted : Wanted)
+        → ChosenAt (λ object. object) (one ∷ two ∷ []) name wanted 0 (Ok None)
+        → ChosenAt (λ object. object) (one ∷ two ∷ []) name wanted 1 (Ok None)
+        → IsBinding (λ object. object) (one ∷ two ∷ []) name wanted (Ok None) }
+{}
