@@ -2,7 +2,6 @@
 #![tactic(auto)]
 
 #[cfg(test)]
-mod abi_values;
 #[cfg(test)]
 mod faults;
 #[cfg(test)]
