@@ -58,7 +58,7 @@ impl ParseAt for ProgramHeader {
 
     ghost reads = { program_header_reads };
 
-    #[tactic(auto, unfolding(elf_records::specs::Record::numbers_at, elf_records::specs::Record::numbers_end))]
+    #[tactic(auto, unfolding(crate::specs::Record::numbers_at, crate::specs::Record::numbers_end))]
     fn parse_at<E: EndianParse>(
         endian: E,
         class: Class,
@@ -110,7 +110,7 @@ impl ParseAt for ProgramHeader {
 }
 
 // p_offset, p_vaddr, p_paddr, p_filesz and p_memsz.
-#[tactic(auto, unfolding(elf_records::specs::inner::Part::part_at, elf_records::specs::inner::Part::part_end))]
+#[tactic(auto, unfolding(crate::specs::inner::Part::part_at, crate::specs::inner::Part::part_end))]
 fn parse_extent<E: EndianParse>(
     endian: E,
     class: Class,
