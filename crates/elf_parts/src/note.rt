@@ -86,6 +86,10 @@ impl ParseAt for NoteHeader {
     fn size_for(_class: Class) -> usize {
         12
     }
+
+    fn is_local() -> bool {
+        true
+    }
 }
 
 impl ParseAt for NoteGnuAbiTag {
@@ -110,6 +114,10 @@ impl ParseAt for NoteGnuAbiTag {
 
     fn size_for(_class: Class) -> usize {
         16
+    }
+
+    fn is_local() -> bool {
+        true
     }
 }
 

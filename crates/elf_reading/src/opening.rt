@@ -45,6 +45,7 @@ fn parse_ehdr<E: EndianParse>(data: &[u8]) -> Result<FileHeader<E>, ParseError>
 }
 
 // The first section header. It holds the counts that do not fit the file header.
+#[inline(never)]
 fn first_section<E: EndianParse>(
     ehdr: &FileHeader<E>,
     data: &[u8],

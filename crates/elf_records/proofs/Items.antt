@@ -1,5 +1,6 @@
 -- The list of the records that are left, step by step.
-use Rattle.std.proofs.Common.{◌≡◌, ℕ, Bool, zero, suc, ◌+◌, ◌-◌, ◌≤◌, List, [], ◌∷◌, length, Result, Ok, Err, refl, ap, sym, ◌∙◌, arith}
+use Rattle.std.proofs.Common.{◌≡◌, ℕ, Bool, zero, suc, ◌+◌, ◌-◌, ◌≤◌, List, [], ◌∷◌, length, Result, Ok, Err, take, drop, true, ◌^◌, ◌<◌, refl, ap, sym, ◌∙◌, arith}
+use Rattle.std.specs.Prelude.{IsErr}
 use Rattle.elf_records.specs.declared.parse.ParseError.{ParseError}
 use Rattle.elf_records.specs.declared.file.Class.{Class}
 use Rattle.elf_records.specs.Record.{RecordType}
@@ -40,11 +41,38 @@ items_from-read {A = A} gives size bytes o x law e =
     one_more gives size bytes o (length bytes - o) x (omega arith) e
     ∙ ap (λ (xs : List A). x ∷ xs) (items_from-enough gives size bytes law (length bytes - o - 1) (length bytes - (o + size)) (o + size) (omega arith) (omega arith))
 
+is_refused : {A : Type 0} (r : Result A ParseError) → ((x : A) → r ≡ Ok x → ⊥) → IsErr r
+is_refused (Ok x) never = absurd (never x refl)
+is_refused (Err e) never = refl
+
+pub refusal : {A : Type 0} (r : Result A ParseError) → IsErr r → (e : ParseError) × (r ≡ Err e)
+refusal (Ok x) is = cc
+refusal (Err e) is = (e, refl)
+
+both_ways : {A : Type 0} (r : Result A ParseError) (x : A) (e : ParseError) → r ≡ Ok x → r ≡ Err e → ⊥
+both_ways r x e is isnt = cc
+
 -- ---- the same by the laws of a type of records
 
 module _ {A : Type 0} (reads : RecordType A) where
   pub lies : (little : Bool) (class : Class) → LiesWithin (reads.record_at little class) (reads.size class)
   lies little class = record { some = reads.some_size class; within = λ bytes o x e. (reads.within little class bytes o x e).0 }
+
+  -- a record that does not lie in the bytes is refused
+  pub refused_outside : (little : Bool) (class : Class) (bytes : List ℕ) (o : ℕ) → length bytes < o + reads.size class → IsErr (reads.record_at little class bytes o)
+  refused_outside little class bytes o outside =
+      is_refused (reads.record_at little class bytes o) (λ x e. let w = (reads.within little class bytes o x e).0 in omega arith)
+
+  -- a record that its own bytes give is read
+  pub read_locally : (little : Bool) (class : Class) (bytes : List ℕ) (o : ℕ) (x : A) → reads.local ≡ true → o + reads.size class < 2 ^ 64 → o + reads.size class ≤ length bytes → reads.record_at little class (take (reads.size class) (drop o bytes)) 0 ≡ Ok x → reads.record_at little class bytes o ≡ Ok x
+  read_locally little class bytes o x local small within is = (reads.locally local little class bytes o x small within).0 is
+
+  -- a record that its own bytes do not give is refused
+  pub refused_locally : (little : Bool) (class : Class) (bytes : List ℕ) (o : ℕ) → reads.local ≡ true → o + reads.size class < 2 ^ 64 → o + reads.size class ≤ length bytes → IsErr (reads.record_at little class (take (reads.size class) (drop o bytes)) 0) → IsErr (reads.record_at little class bytes o)
+  refused_locally little class bytes o local small within isnt =
+      let own = reads.record_at little class (take (reads.size class) (drop o bytes)) 0 in
+      let e = refusal own isnt in
+      is_refused (reads.record_at little class bytes o) (λ x is. both_ways own x e.0 ((reads.locally local little class bytes o x small within).1 is) e.1)
 
   pub step_read : (little : Bool) (class : Class) (bytes : List ℕ) (o next : ℕ) (x : A) → Ok x ≡ reads.record_at little class bytes o → next ≡ reads.offset_after little class bytes o → items_from (reads.record_at little class) (reads.size class) (length bytes - o) bytes o ≡ x ∷ items_from (reads.record_at little class) (reads.size class) (length bytes - next) bytes next
   step_read little class bytes o next x e moved =
@@ -53,6 +81,8 @@ module _ {A : Type 0} (reads : RecordType A) where
 
   pub none_left : (little : Bool) (class : Class) (o : ℕ) → items_from (reads.record_at little class) (reads.size class) (length {A = ℕ} [] - o) [] o ≡ []
   none_left little class o = items_from-enough (reads.record_at little class) (reads.size class) [] (lies little class) (length {A = ℕ} [] - o) 0 o (omega arith) (omega arith)
+
+pub ruleset local_reads = (refused_outside, read_locally, refused_locally)
 
 one_bounded : {A : Type 0} (r : Result A ParseError) (xs : List A) (n : ℕ) → length xs ≤ n → length (unless_refused r xs) ≤ suc n
 one_bounded (Ok x) xs n h = omega arith

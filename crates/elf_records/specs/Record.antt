@@ -1,6 +1,6 @@
 -- A record: numbers at places of their own, read in the order of a field table. The tables are those of the gABI, one
 -- file a subject.
-use Rattle.std.specs.Prelude.{◌≡◌, ℕ, ◌+◌, ◌^◌, ◌<◌, ◌≤◌, max, Bool, if◌then◌else◌, ◌==◌, Option, Some, None}
+use Rattle.std.specs.Prelude.{◌≡◌, ℕ, ◌+◌, ◌^◌, ◌<◌, ◌≤◌, max, Bool, true, if◌then◌else◌, ◌==◌, Option, Some, None}
 use Rattle.std.specs.Prelude.{List, [], ◌∷◌, length, take, drop, Result, Ok, Err, is_ok, IsOk}
 use Rattle.elf_records.specs.declared.file.Class.{Class}
 use Rattle.elf_records.specs.declared.parse.ParseError.{ParseError}
@@ -86,10 +86,19 @@ ReadsOnly {A = A} size gives =
     gives little class bytes o ≡ Ok x → gives little class others p ≡ Ok y →
     take (size class) (drop o bytes) ≡ take (size class) (drop p others) → x ≡ y
 
+-- the bytes of a record alone decide: it is read where it lies exactly if these bytes by themselves give it
+abbrev pub ReadsLocally : {A : Type 0} → (Class → ℕ) → (Bool → Class → List ℕ → ℕ → Result A ParseError) → Type 0
+ReadsLocally {A = A} size gives =
+    (little : Bool) (class : Class) (bytes : List ℕ) (o : ℕ) (x : A) →
+    o + size class < 2 ^ 64 → o + size class ≤ length bytes →
+    let own = take (size class) (drop o bytes) in
+    (gives little class own 0 ≡ Ok x → gives little class bytes o ≡ Ok x)
+    × (gives little class bytes o ≡ Ok x → gives little class own 0 ≡ Ok x)
+
 -- ---- a type of records
 
 -- how many bytes a record has, the record at an offset or the error, where its read leaves the offset, and
--- the laws of these
+-- the laws of these; whether a record is local, and then the law of that
 pub record RecordType (A : Type 0) : Type 0 where
   pub size : Class → ℕ
   pub record_at : Bool → Class → List ℕ → ℕ → Result A ParseError
@@ -97,6 +106,8 @@ pub record RecordType (A : Type 0) : Type 0 where
   pub some_size : (class : Class) → 1 ≤ size class
   pub within : ReadsWithin size record_at offset_after
   pub only : ReadsOnly size record_at
+  pub local : Bool
+  pub locally : local ≡ true → ReadsLocally size record_at
 
 -- a record is read wherever its bytes lie in the data
 abbrev pub ReadsWherever : {A : Type 0} → (Class → ℕ) → (Bool → Class → List ℕ → ℕ → Result A ParseError) → Type 0

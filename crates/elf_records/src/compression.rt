@@ -75,4 +75,8 @@ impl ParseAt for CompressionHeader {
             Class::ELF64 => 24,
         }
     }
+
+    fn is_local() -> bool {
+        true
+    }
 }

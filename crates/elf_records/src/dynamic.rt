@@ -102,4 +102,8 @@ impl ParseAt for Dyn {
             Class::ELF64 => 16,
         }
     }
+
+    fn is_local() -> bool {
+        true
+    }
 }

@@ -1,5 +1,5 @@
 //! The error type of the library, records that are read at an offset, and tables of records.
-ghost use Rattle.std.specs.Prelude.{◌≡◌, if◌then◌else◌, ◌==◌};
+ghost use Rattle.std.specs.Prelude.{◌≡◌, if◌then◌else◌, ◌==◌, true};
 ghost use Rattle.elf_records.specs.Class.{address_size};
 ghost use Rattle.elf_records.specs.Number.{moved_by, number_at};
 ghost use Rattle.elf_records.specs.Record.{RecordType};
@@ -136,6 +136,15 @@ pub trait ParseAt: Sized {
     /// The size of a record in bytes.
     fn size_for(class: Class) -> usize
         ensures { result ≡ reads.size class };
+
+    /// Whether the bytes of a record alone decide whether it can be read, wherever they lie. The tables read such a
+    /// record from a slice of its own bytes, with one check of the bounds for all its fields. A record with a field
+    /// table may return `true`; `false` is right for every record.
+    fn is_local() -> bool
+        ensures { result ≡ true → reads.local ≡ true }
+    {
+        false
+    }
 
     /// Returns the entry size that a header states, in bytes, if it is the size of the record. Otherwise returns
     /// `BadEntsize((entsize, size))`.

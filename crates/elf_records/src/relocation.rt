@@ -160,6 +160,10 @@ impl ParseAt for Rel {
             Class::ELF64 => 16,
         }
     }
+
+    fn is_local() -> bool {
+        true
+    }
 }
 
 impl ParseAt for Rela {
@@ -196,5 +200,9 @@ impl ParseAt for Rela {
             Class::ELF32 => 12,
             Class::ELF64 => 24,
         }
+    }
+
+    fn is_local() -> bool {
+        true
     }
 }

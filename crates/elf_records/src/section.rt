@@ -64,6 +64,7 @@ impl ParseAt for SectionHeader {
 
     ghost reads = { section_header_reads };
 
+    #[inline(always)]
     fn parse_at<E: EndianParse>(
         endian: E,
         class: Class,
@@ -92,10 +93,15 @@ impl ParseAt for SectionHeader {
             Class::ELF64 => 64,
         }
     }
+
+    fn is_local() -> bool {
+        true
+    }
 }
 
 // sh_name, sh_type, sh_flags, sh_addr and sh_offset.
 #[tactic(auto, unfolding(crate::specs::inner::Part::part_at, crate::specs::inner::Part::part_end))]
+#[inline(always)]
 fn parse_front<E: EndianParse>(
     endian: E,
     class: Class,
@@ -116,6 +122,7 @@ fn parse_front<E: EndianParse>(
 
 // sh_size, sh_link, sh_info, sh_addralign and sh_entsize.
 #[tactic(auto, unfolding(crate::specs::inner::Part::part_at, crate::specs::inner::Part::part_end))]
+#[inline(always)]
 fn parse_back<E: EndianParse>(
     endian: E,
     class: Class,

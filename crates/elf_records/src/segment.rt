@@ -107,6 +107,10 @@ impl ParseAt for ProgramHeader {
             Class::ELF64 => 56,
         }
     }
+
+    fn is_local() -> bool {
+        true
+    }
 }
 
 // p_offset, p_vaddr, p_paddr, p_filesz and p_memsz.

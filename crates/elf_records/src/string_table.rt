@@ -12,7 +12,7 @@ use std::marker::Model;
 use std::simd::prelude::*;
 use std::str::from_utf8;
 
-// How many bytes are compared with 0 at once.
+// How many bytes are compared with 0 at once, if fewer than `WIDE` are left.
 const LANES: usize = 16;
 
 // How many of the `LANES` bytes from start on come before the first 0 byte.
@@ -29,15 +29,15 @@ fn count_before_nul(bytes: &[u8], start: usize) -> usize
     }
 }
 
-// The place of the first 0 byte, looked for one by one.
+// The place of the first 0 byte in fewer than `LANES` bytes, which are compared one by one.
 fn first_nul_of_few(bytes: &[u8]) -> Option<usize>
     ensures { result ≡ position (λ byte. byte == 0) bytes.now }
 {
     bytes.iter().position(|byte| *byte == 0)
 }
 
-// The place of the first 0 byte.
-fn first_nul(bytes: &[u8]) -> Option<usize>
+// The place of the first 0 byte in fewer than `WIDE` bytes, which are compared in groups of `LANES`.
+fn first_nul_of_some(bytes: &[u8]) -> Option<usize>
     ensures { result ≡ position (λ byte. byte == 0) bytes.now }
 {
     let mut start = 0;
@@ -49,6 +49,40 @@ fn first_nul(bytes: &[u8]) -> Option<usize>
         start += LANES;
     }
     let count = first_nul_of_few(&bytes[start..])?;
+    Some(start + count)
+}
+
+// How many bytes are compared with 0 at once, if that many are left: most names end in the first group.
+const WIDE: usize = 64;
+
+// How many of the `WIDE` bytes from start on come before the first 0 byte.
+#[inline(always)]
+fn count_wide_before_nul(bytes: &[u8], start: usize) -> usize
+    requires { start + WIDE ≤ length bytes.now }
+    ensures { result ≡ prefix_len (λ byte. not (byte == 0)) (take WIDE (drop start bytes.now)) }
+{
+    let nuls = u8x64::from_slice(&bytes[start..]).simd_eq(u8x64::splat(0));
+    let mask = nuls.to_bitmask();
+    if mask == 0 {
+        WIDE
+    } else {
+        mask.trailing_zeros() as usize
+    }
+}
+
+// The place of the first 0 byte. Bytes are compared in groups of `WIDE`, then of `LANES`, then one by one.
+fn first_nul(bytes: &[u8]) -> Option<usize>
+    ensures { result ≡ position (λ byte. byte == 0) bytes.now }
+{
+    let mut start = 0;
+    while WIDE <= bytes.len() - start {
+        let count = count_wide_before_nul(bytes, start);
+        if count < WIDE {
+            return Some(start + count);
+        }
+        start += WIDE;
+    }
+    let count = first_nul_of_some(&bytes[start..])?;
     Some(start + count)
 }
 
@@ -112,8 +146,8 @@ impl<'data> StringTable<'data> {
     }
 }
 
-// Whether the bytes up to the first 0 byte are `name`. The search for that 0 byte takes groups of `LANES` bytes, and
-// ends with the group that has the byte at `name.len()`.
+// Whether the bytes up to the first 0 byte are `name`. The search for that 0 byte takes groups of up to `WIDE`
+// bytes, and ends with the group that has the byte at `name.len()`.
 #[inline(always)]
 fn first_string_is(bytes: &[u8], name: &[u8]) -> bool
     ensures { Decides result ((position (λ byte. byte == 0) bytes.now ≡ Some (length name.now))

@@ -133,4 +133,8 @@ impl ParseAt for Symbol {
             Class::ELF64 => 24,
         }
     }
+
+    fn is_local() -> bool {
+        true
+    }
 }

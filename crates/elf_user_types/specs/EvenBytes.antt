@@ -54,4 +54,6 @@ even_bytes = record {
   some_size = even_byte_some;
   within = even_byte_within;
   only = even_byte_only;
+  local = false;
+  locally = λ yes. cc;
 }

@@ -32,6 +32,10 @@ impl ParseAt for Branch {
     fn size_for(_class: Class) -> usize {
         6
     }
+
+    fn is_local() -> bool {
+        true
+    }
 }
 
 impl PlainRecord for Branch {

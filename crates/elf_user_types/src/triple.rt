@@ -32,6 +32,10 @@ impl ParseAt for Triple {
     fn size_for(_class: Class) -> usize {
         3
     }
+
+    fn is_local() -> bool {
+        true
+    }
 }
 
 impl PlainRecord for Triple {

@@ -49,6 +49,10 @@ impl ParseAt for VerNeed {
     fn size_for(_class: Class) -> usize {
         16
     }
+
+    fn is_local() -> bool {
+        true
+    }
 }
 
 impl Linked for VerNeed {
@@ -110,6 +114,10 @@ impl ParseAt for VerNeedAux {
     fn size_for(_class: Class) -> usize {
         16
     }
+
+    fn is_local() -> bool {
+        true
+    }
 }
 
 impl Linked for VerNeedAux {
@@ -163,6 +171,10 @@ impl ParseAt for VerDef {
 
     fn size_for(_class: Class) -> usize {
         20
+    }
+
+    fn is_local() -> bool {
+        true
     }
 }
 
@@ -219,6 +231,10 @@ impl ParseAt for VerDefAux {
     fn size_for(_class: Class) -> usize {
         8
     }
+
+    fn is_local() -> bool {
+        true
+    }
 }
 
 impl Linked for VerDefAux {
@@ -253,6 +269,10 @@ impl ParseAt for VersionIndex {
 
     fn size_for(_class: Class) -> usize {
         2
+    }
+
+    fn is_local() -> bool {
+        true
     }
 }
 

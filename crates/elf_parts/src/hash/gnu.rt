@@ -55,6 +55,10 @@ impl ParseAt for GnuHashHeader {
     fn size_for(class: Class) -> usize {
         16
     }
+
+    fn is_local() -> bool {
+        true
+    }
 }
 
 // The hash continued over the bytes, one by one.

@@ -43,6 +43,10 @@ impl ParseAt for SysVHashHeader {
     fn size_for(class: Class) -> usize {
         8
     }
+
+    fn is_local() -> bool {
+        true
+    }
 }
 
 // XORs the top four bits in at bit 4. They stay at the top as well: the next step shifts them out.

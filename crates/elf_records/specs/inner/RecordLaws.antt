@@ -3,10 +3,11 @@ use Rattle.std.proofs.Common.{nat_lt, ◌≡◌, ℕ, ◌+◌, ◌-◌, ◌<◌,
 use Rattle.std.proofs.Common.{◌∷◌, length, take, drop, ◌&&◌, Result, Ok, Err, is_none, refl, ap, sym, ◌∙◌, arith}
 use Rattle.std.proofs.lemmas.Grind.{common_steps}
 use Rattle.std.proofs.lemmas.List.{drop-take, take-take, drop-drop}
+use Rattle.std.proofs.lemmas.Simd.{length-chunk}
 use Rattle.elf_records.specs.declared.parse.ParseError.{ParseError}
 use Rattle.elf_records.specs.Number.{bytes_at, number, number_at, ok_map}
 use Rattle.elf_records.specs.Record.{Field, size_of, ◌>>=◌, accepted, numbers_at, numbers_end, Layout, size_by, record_by}
-use Rattle.elf_records.specs.Record.{offset_by, ReadsWithin, ReadsOnly, ReadsWherever, RecordType}
+use Rattle.elf_records.specs.Record.{offset_by, ReadsWithin, ReadsLocally, ReadsOnly, ReadsWherever, RecordType}
 use Rattle.elf_records.specs.declared.file.Class.{Class}
 use Rattle.elf_records.specs.declared.file.Class.TheVariants.{ELF32, ELF64}
 
@@ -69,6 +70,29 @@ number_at-same little w bytes others o p size place n m fits same e d =
     ∙ part_of_part w place size p others fits in
     (number_at-ok little w bytes (o + place) n e).2 ∙ ap (number little) bytes_same
     ∙ sym (number_at-ok little w others (p + place) m d).2
+
+-- a number that a part gives is read where the part lies
+pub number_at-part : (little : Bool) (w : ℕ) (bytes : List ℕ) (o size place n : ℕ) → place + w ≤ size →
+    o + size < 2 ^ 64 → o + size ≤ length bytes → number_at little w (take size (drop o bytes)) (0 + place) ≡ Ok n →
+    number_at little w bytes (o + place) ≡ Ok n
+number_at-part little w bytes o size place n fits small within e =
+    let start : 0 + place ≡ place = omega arith in
+    let at = ap (λ (j : ℕ). number little (take w (drop j (take size (drop o bytes))))) start in
+    let m = number_at-ok little w (take size (drop o bytes)) (0 + place) n e in
+    number_at-from little w bytes (o + place) n (omega arith) (omega arith)
+    (m.2 ∙ at ∙ ap (number little) (part_of_part w place size o bytes fits))
+
+-- a number that is read is what its part gives
+pub number_at-whole : (little : Bool) (w : ℕ) (bytes : List ℕ) (o size place n : ℕ) → place + w ≤ size →
+    o + size < 2 ^ 64 → o + size ≤ length bytes → number_at little w bytes (o + place) ≡ Ok n →
+    number_at little w (take size (drop o bytes)) (0 + place) ≡ Ok n
+number_at-whole little w bytes o size place n fits small within e =
+    let start : 0 + place ≡ place = omega arith in
+    let at = ap (λ (j : ℕ). number little (take w (drop j (take size (drop o bytes))))) start in
+    let long = length-chunk o size bytes within in
+    let m = number_at-ok little w bytes (o + place) n e in
+    number_at-from little w (take size (drop o bytes)) (0 + place) n (omega arith) (omega (arith, long))
+    (m.2 ∙ sym (ap (number little) (part_of_part w place size o bytes fits)) ∙ sym at)
 
 -- ---- a record
 
@@ -134,6 +158,30 @@ numbers_at-same little (f ∷ fs) bytes others o p size ns ms fits same e d =
     numbers_at-same little fs bytes others o p size a.rest b.rest (omega arith) same a.others b.others in
     cc (a.all, b.all, kept, rest)
 
+pub numbers_at-part : (little : Bool) (fs : List Field) (bytes : List ℕ) (o size : ℕ) (ns : List ℕ) → size_of fs ≤ size →
+    o + size < 2 ^ 64 → o + size ≤ length bytes → numbers_at little fs (take size (drop o bytes)) 0 ≡ Ok ns →
+    numbers_at little fs bytes o ≡ Ok ns
+unfolding numbers_at
+numbers_at-part little [] bytes o size ns fits small within e = e
+numbers_at-part little (f ∷ fs) bytes o size ns fits small within e =
+    let m = first_of_all little f fs (take size (drop o bytes)) 0 ns e in
+    let here =
+    number_at-part little f.width bytes o size f.place m.found (omega arith) small within m.number in
+    let there = numbers_at-part little fs bytes o size m.rest (omega arith) small within m.others in
+    rw (here, m.version, there, m.all) refl
+
+pub numbers_at-whole : (little : Bool) (fs : List Field) (bytes : List ℕ) (o size : ℕ) (ns : List ℕ) → size_of fs ≤ size →
+    o + size < 2 ^ 64 → o + size ≤ length bytes → numbers_at little fs bytes o ≡ Ok ns →
+    numbers_at little fs (take size (drop o bytes)) 0 ≡ Ok ns
+unfolding numbers_at
+numbers_at-whole little [] bytes o size ns fits small within e = e
+numbers_at-whole little (f ∷ fs) bytes o size ns fits small within e =
+    let m = first_of_all little f fs bytes o ns e in
+    let here =
+    number_at-whole little f.width bytes o size f.place m.found (omega arith) small within m.number in
+    let there = numbers_at-whole little fs bytes o size m.rest (omega arith) small within m.others in
+    rw (here, m.version, there, m.all) refl
+
 -- no field has a value that it must have
 abbrev pub is_free : List Field → Bool
 is_free [] = true
@@ -175,6 +223,19 @@ only_by layout little class bytes others o p x y e d same =
     m.1 n.1)
     ∙ n.2
 
+pub locally_by : {A : Type 0} (layout : Layout A) → ReadsLocally (size_by layout) (record_by layout)
+locally_by layout little class bytes o x small within =
+    let size = size_by layout class in
+    let fields = layout.fields class in
+    let own = take size (drop o bytes) in (
+      λ e.
+          let m = ok_map-ok (layout.make class) (numbers_at little fields own 0) x e in
+          rw (numbers_at-part little fields bytes o size m.0 (omega arith) small within m.1, m.2) refl,
+      λ e.
+          let m = ok_map-ok (layout.make class) (numbers_at little fields bytes o) x e in
+          rw (numbers_at-whole little fields bytes o size m.0 (omega arith) small within m.1, m.2) refl,
+    )
+
 -- ---- a type of records by its field tables
 
 -- a record has a byte, in either class
@@ -198,6 +259,8 @@ by_layout layout sized = record {
   some_size = some_by layout sized;
   within = within_by layout (some_by layout sized);
   only = only_by layout;
+  local = true;
+  locally = λ _. locally_by layout;
 }
 
 -- ---- a type of records that has no versions

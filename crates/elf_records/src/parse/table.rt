@@ -1,5 +1,5 @@
 //! Tables of records, and iterators over them (gABI, chapters "Sections" and "Program Header").
-ghost use Rattle.std.specs.Prelude.{◌≡◌, ◌==◌, ◌<◌, ◌≤◌, ◌+◌, ◌^◌, length, OnOk, ⊤};
+ghost use Rattle.std.specs.Prelude.{◌≡◌, ◌==◌, ◌<◌, ◌≤◌, ◌+◌, ◌^◌, length, IfNone, IfSome, IsErr, Ok, OnOk, true, ⊤};
 ghost use Rattle.std.specs.Iterator.{YieldsFirst, item_count};
 ghost use Rattle.elf_records.specs.Table.{items_left, table_in, table_get, table_items, table_len, table_view};
 
@@ -9,9 +9,85 @@ use crate::parse::{ParseAt, ParseError};
 use std::alloc::AllocError;
 use std::marker::PhantomData;
 
-/// Reads a record in the little order or in the big one. The error is that of the record's own read.
-// Inlined, as are the reads of the records that files have most of: an iterator drops the error, and a look-up makes it
-// anew, so no room for it is filled at each read.
+// Reads a record field by field, in the little order or in the big one.
+#[inline(always)]
+fn read_fields<P: ParseAt>(
+    little: bool,
+    class: Class,
+    offset: &mut usize,
+    data: &[u8],
+) -> Result<P, ParseError>
+    ensures value { result ≡ P.reads.record_at little class «data».now offset.old }
+    ensures moved { offset.new ≡ P.reads.offset_after little class «data».now offset.old }
+{
+    if little {
+        P::parse_at(LittleEndian, class, offset, data)
+    } else {
+        P::parse_at(BigEndian, class, offset, data)
+    }
+}
+
+// Reads a record field by field. Not inlined, since it is called only if the record cannot be read.
+#[inline(never)]
+fn read_slowly<P: ParseAt>(
+    little: bool,
+    class: Class,
+    offset: &mut usize,
+    data: &[u8],
+) -> Result<P, ParseError>
+    ensures value { result ≡ P.reads.record_at little class «data».now offset.old }
+    ensures moved { offset.new ≡ P.reads.offset_after little class «data».now offset.old }
+{
+    read_fields(little, class, offset, data)
+}
+
+// Reads a record field by field, or returns `None` if it cannot be read.
+#[inline(always)]
+fn read_or_none<P: ParseAt>(little: bool, class: Class, offset: usize, data: &[u8]) -> Option<P>
+    ensures value { IfSome result (λ x. P.reads.record_at little class «data».now offset ≡ Ok x) }
+    ensures refused { IfNone result (IsErr (P.reads.record_at little class «data».now offset)) }
+{
+    let mut start = offset;
+    match read_fields(little, class, &mut start, data) {
+        Ok(record) => Some(record),
+        Err(_) => None,
+    }
+}
+
+// Reads a local record from its own bytes: one check of the bounds serves all its fields. Returns `None` if the record
+// cannot be read; the error is that of `read_slowly`.
+#[tactic(auto, using(crate::proofs::Items::local_reads))]
+#[inline(always)]
+fn read_part<P: ParseAt>(little: bool, class: Class, offset: usize, data: &[u8]) -> Option<P>
+    requires { P.reads.local ≡ true }
+    ensures value { IfSome result (λ x. P.reads.record_at little class «data».now offset ≡ Ok x) }
+    ensures within { IfSome result (λ x. offset + P.reads.size class ≤ length «data».now) }
+    ensures refused { IfNone result (IsErr (P.reads.record_at little class «data».now offset)) }
+{
+    let end = offset.checked_add(P::size_for(class))?;
+    read_or_none(little, class, 0, data.get(offset..end)?)
+}
+
+// Reads a record, or returns `None` if it cannot be read. In each arm of a local record the class, and so the size, is
+// known to the compiler.
+#[inline(always)]
+fn read_quickly<P: ParseAt>(little: bool, class: Class, offset: usize, data: &[u8]) -> Option<P>
+    ensures value { IfSome result (λ x. P.reads.record_at little class «data».now offset ≡ Ok x) }
+    ensures within { IfSome result (λ x. offset + P.reads.size class ≤ length «data».now) }
+    ensures refused { IfNone result (IsErr (P.reads.record_at little class «data».now offset)) }
+{
+    if !P::is_local() {
+        return read_or_none(little, class, offset, data);
+    }
+    match class {
+        Class::ELF32 => read_part(little, Class::ELF32, offset, data),
+        Class::ELF64 => read_part(little, Class::ELF64, offset, data),
+    }
+}
+
+/// Reads a record in the little order or in the big one. The error, and where it leaves the offset, are those of the
+/// record's own read.
+// Inlined, so no room for an error is filled at each read.
 #[inline(always)]
 pub fn read_record<P: ParseAt>(
     little: bool,
@@ -23,10 +99,12 @@ pub fn read_record<P: ParseAt>(
     ensures moved { offset.new ≡ P.reads.offset_after little class «data».now offset.old }
     ensures behind { OnOk result (offset.new ≡ offset.old + P.reads.size class) }
 {
-    if little {
-        P::parse_at(LittleEndian, class, offset, data)
-    } else {
-        P::parse_at(BigEndian, class, offset, data)
+    match read_quickly(little, class, *offset, data) {
+        Some(record) => {
+            *offset += P::size_for(class);
+            Ok(record)
+        }
+        None => read_slowly(little, class, offset, data),
     }
 }
 
@@ -91,10 +169,14 @@ impl<'data, E: EndianParse, P: ParseAt> Iterator for ParsingIterator<'data, E, P
 
     ghost remaining = { item_count (items_left P.reads) };
 
+    #[inline(always)]
     fn next(&mut self) -> Option<P> {
-        match read_record::<P>(self.little, self.class, &mut self.offset, self.data) {
-            Ok(record) => Some(record),
-            Err(_) => {
+        match read_quickly(self.little, self.class, self.offset, self.data) {
+            Some(record) => {
+                self.offset += P::size_for(self.class);
+                Some(record)
+            }
+            None => {
                 self.data = &[];
                 None
             }

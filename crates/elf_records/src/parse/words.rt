@@ -21,6 +21,10 @@ impl ParseAt for u32 {
     fn size_for(class: Class) -> usize {
         4
     }
+
+    fn is_local() -> bool {
+        true
+    }
 }
 
 impl ParseAt for u64 {
@@ -40,5 +44,9 @@ impl ParseAt for u64 {
 
     fn size_for(class: Class) -> usize {
         8
+    }
+
+    fn is_local() -> bool {
+        true
     }
 }

@@ -4,14 +4,14 @@ use Rattle.std.proofs.lemmas.List.{take_rest}
 use Rattle.elf_records.proofs.Nuls.{found_behind, found_here, is_nul, none_behind, none_here}
 use Rattle.elf_records.proofs.string_table.first_nul.Goals as goal
 
-pub returns-then-count-lt-LANES : goal.returns-then-count-lt-LANES
-returns-then-count-lt-LANES c =
-    found_here c.args.bytes.now c.loop-start.start 16 (omega arith) c.loop-start.invariant.1 c.count_before_nul-count.result c.count_before_nul-count.ensures (omega arith)
+pub returns-then-count-lt-WIDE : goal.returns-then-count-lt-WIDE
+returns-then-count-lt-WIDE c =
+    found_here c.args.bytes.now c.loop-start.start 64 (omega arith) c.loop-start.invariant.1 c.count_wide_before_nul-count.result c.count_wide_before_nul-count.ensures (omega arith)
 
 pub loop-start-preserved : goal.loop-start-preserved
 loop-start-preserved c =
-    let few = c.count_before_nul-count.ensures in
-    (omega arith, none_here c.args.bytes.now c.loop-start.start 16 (omega arith) c.loop-start.invariant.1 16 (omega (arith, few)) (omega arith))
+    let few = c.count_wide_before_nul-count.ensures in
+    (omega arith, none_here c.args.bytes.now c.loop-start.start 64 (omega arith) c.loop-start.invariant.1 64 (omega (arith, few)) (omega arith))
 
 pub returns-in_err-count : goal.returns-in_err-count
 returns-in_err-count c =
