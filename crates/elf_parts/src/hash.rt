@@ -1,7 +1,7 @@
 //! Hash sections, which find symbols by name: SysV (gABI, chapter "Hash Table") and GNU.
-ghost use Rattle.std.specs.Prelude.{◌≡◌, ◌+◌, ◌<◌, ◌^◌, ◌≤◌, None, OnOk, length};
+ghost use Rattle.std.specs.Prelude.{◌≡◌, ◌<◌, ◌^◌, None};
 ghost use Rattle.elf_parts.specs.Hash.{if_named, named_symbol, word_at, word_count};
-ghost use Rattle.elf_records.specs.Number.{bytes_at, ok_map};
+ghost use Rattle.elf_records.specs.Number.{ok_map};
 ghost use Rattle.elf_records.specs.Table.{table_view};
 
 use crate::endian::EndianParse;
@@ -20,17 +20,6 @@ type U32Table<'data, E> = ParsingTable<'data, E, u32>;
 
 /// What a look-up returns: the index and the symbol, if there is one.
 type Found = Result<Option<(usize, Symbol)>, ParseError>;
-
-// `size` bytes of the data from `start` on.
-#[tactic(auto, unfolding(elf_records::specs::Number::bytes_at))]
-fn get_bytes<'data>(data: &'data [u8], start: usize, size: usize) -> Result<&'data [u8], ParseError>
-    ensures value { ok_map (λ bytes. bytes.now) result ≡ bytes_at size «data».now start }
-    ensures within { OnOk result (start + size ≤ length «data».now) }
-{
-    let end = start.checked_add(size).ok_or(ParseError::IntegerOverflow)?;
-    data.get(start..end)
-        .ok_or(ParseError::SliceReadError((start, end)))
-}
 
 // The reads of a look-up are inlined, and return their errors by `refused_word` and `refused_symbol`, which read once
 // more: a `ParseError` is large, and to carry one that is not there through each read costs more than the look-up.

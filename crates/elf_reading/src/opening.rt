@@ -1,7 +1,7 @@
 //! A file in a slice of bytes: its header, and the two tables that it declares.
-ghost use Rattle.std.specs.Prelude.{◌≡◌, ◌≤◌, IfOk, length};
+ghost use Rattle.std.specs.Prelude.{◌≡◌};
 ghost use Rattle.std.specs.Option.{option_map};
-ghost use Rattle.elf_records.specs.Number.{bytes_at, ok_map};
+ghost use Rattle.elf_records.specs.Number.{ok_map};
 ghost use Rattle.elf_records.specs.Table.{table_view};
 ghost use Rattle.elf_reading.specs.Opening.{first_section, header_at_front, opened, opened_view, table_bytes};
 ghost use Rattle.elf_reading.specs.Tables.{declared_count, declared_table};
@@ -13,22 +13,7 @@ use elf_parts::file::{Class, ELF32_EHDR_TAILSIZE, ELF64_EHDR_TAILSIZE, FileHeade
 use elf_parts::parse::{ParseAt, ParseError, ParsingTable};
 use elf_parts::section::{SectionHeader, SectionHeaderTable};
 use elf_parts::segment::SegmentTable;
-
-/// Returns `size` bytes of the data from `start` on. The errors are `IntegerOverflow` if their end does not fit 64
-/// bits, and `SliceReadError((start, end))` if they do not lie in the data.
-#[tactic(auto, unfolding(elf_records::specs::Number::bytes_at))]
-pub fn get_bytes<'data>(
-    data: &'data [u8],
-    start: usize,
-    size: usize,
-) -> Result<&'data [u8], ParseError>
-    ensures value { ok_map (λ bytes. bytes.now) result ≡ bytes_at size «data».now start }
-    ensures within { IfOk result (λ bytes. length bytes.now ≤ length «data».now) }
-{
-    let end = start.checked_add(size).ok_or(ParseError::IntegerOverflow)?;
-    data.get(start..end)
-        .ok_or(ParseError::SliceReadError((start, end)))
-}
+use elf_records::parse::get_bytes;
 
 // The file header at the front of the data.
 #[tactic(auto, unfolding(crate::specs::Opening::header_at_front))]

@@ -1,7 +1,7 @@
 //! The error type of the library, records that are read at an offset, and tables of records.
-ghost use Rattle.std.specs.Prelude.{◌≡◌, if◌then◌else◌, ◌==◌, true};
+ghost use Rattle.std.specs.Prelude.{◌≡◌, ◌+◌, ◌≤◌, if◌then◌else◌, ◌==◌, length, true, IfOk, OnOk};
 ghost use Rattle.elf_records.specs.Class.{address_size};
-ghost use Rattle.elf_records.specs.Number.{moved_by, number_at};
+ghost use Rattle.elf_records.specs.Number.{bytes_at, moved_by, number_at, ok_map};
 ghost use Rattle.elf_records.specs.Record.{RecordType};
 ghost use Rattle.elf_records.specs.declared.parse.ParseError.{ParseError};
 ghost use Rattle.elf_records.specs.declared.parse.ParseError.TheVariants.{IOError as IsIOError, Utf8Error as IsUtf8Error};
@@ -159,6 +159,23 @@ pub trait ParseAt: Sized {
             Err(ParseError::BadEntsize((entsize as u64, expected as u64)))
         }
     }
+}
+
+/// Returns `size` bytes of the data, starting at `start`. The errors are `IntegerOverflow` if their end does not fit 64
+/// bits, and `SliceReadError((start, end))` if they do not lie in the data.
+#[tactic(auto, unfolding(crate::specs::Number::bytes_at))]
+pub fn get_bytes<'data>(
+    data: &'data [u8],
+    start: usize,
+    size: usize,
+) -> Result<&'data [u8], ParseError>
+    ensures value { ok_map (λ bytes. bytes.now) result ≡ bytes_at size «data».now start }
+    ensures within { OnOk result (start + size ≤ length «data».now) }
+    ensures short { IfOk result (λ bytes. length bytes.now ≤ length «data».now) }
+{
+    let end = start.checked_add(size).ok_or(ParseError::IntegerOverflow)?;
+    data.get(start..end)
+        .ok_or(ParseError::SliceReadError((start, end)))
 }
 
 /// Returns an address, an offset or a size, which has four bytes in a 32-bit file and eight in a 64-bit one, and moves

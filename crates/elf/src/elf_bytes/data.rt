@@ -21,7 +21,7 @@ use elf_parts::relocation::{RelIterator, RelaIterator};
 use elf_parts::section::SectionHeader;
 use elf_parts::string_table::StringTable;
 use elf_reading::leading::leading_record;
-use elf_reading::opening::get_bytes;
+use elf_records::parse::get_bytes;
 
 // The bytes in the range of a section header.
 pub(super) fn section_range<'data>(

@@ -12,7 +12,7 @@ use elf_parts::endian::EndianParse;
 use elf_parts::note::NoteIterator;
 use elf_parts::parse::ParseError;
 use elf_parts::segment::ProgramHeader;
-use elf_reading::opening::get_bytes;
+use elf_records::parse::get_bytes;
 
 impl<'data, E: EndianParse> ElfBytes<'data, E> {
     /// Returns the bytes of a segment in the file: `p_filesz` bytes from `p_offset` on (gABI, chapter "Program

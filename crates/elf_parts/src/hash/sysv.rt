@@ -8,10 +8,8 @@ ghost use Rattle.elf_records.specs.Table.{table_view};
 
 use crate::endian::EndianParse;
 use crate::file::Class;
-use crate::hash::{
-    Found, U32Table, get_bytes, if_named, refused_symbol, refused_word, word, word_count,
-};
-use crate::parse::{ParseAt, ParseError, ParsingTable};
+use crate::hash::{Found, U32Table, if_named, refused_symbol, refused_word, word, word_count};
+use crate::parse::{ParseAt, ParseError, ParsingTable, get_bytes};
 use crate::string_table::{StringTable, TerminatedStrings};
 use crate::symbol::{Symbol, SymbolTable};
 
