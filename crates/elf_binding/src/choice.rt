@@ -7,10 +7,10 @@ ghost use Rattle.elf_binding.specs.VersionedView.{versioned_view};
 
 use crate::versions::serves;
 use crate::{BindingFault, Rule, Unreadable, VersionedObject, Wanted, is_definition};
+use elf::endian::EndianParse;
+use elf::gnu_symver::SymbolVersions;
+use elf::symbol::Symbol;
 use elf_check::hashcheck::NamedSymbols;
-use elf_parts::endian::EndianParse;
-use elf_parts::gnu_symver::SymbolVersions;
-use elf_parts::symbol::Symbol;
 
 // Whether a definition serves; all of a file without versions do.
 fn serves_in<E: EndianParse, V: SymbolVersions<E>>(

@@ -2,8 +2,8 @@
 ghost use Rattle.std.specs.Prelude.{◌≡◌};
 ghost use Rattle.elf_binding.specs.Binding.{has_definition_type, has_place, is_definition, is_global};
 
+use elf::symbol::Symbol;
 use elf_abi::abi;
-use elf_parts::symbol::Symbol;
 
 // Data, a function or of no type, also common, thread-local or chosen when the file is loaded.
 fn has_definition_type(symbol: &Symbol) -> bool

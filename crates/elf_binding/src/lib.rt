@@ -15,9 +15,9 @@ mod versions;
 
 pub use choice::bind;
 pub use definitions::is_definition;
+use elf::endian::EndianParse;
+use elf::gnu_symver::SymbolVersionTable;
 use elf_check::hashcheck::AnyChecked;
-use elf_parts::endian::EndianParse;
-use elf_parts::gnu_symver::SymbolVersionTable;
 pub use objects::{reference, versioned_object};
 use thiserror::Error;
 pub use versions::version_of;

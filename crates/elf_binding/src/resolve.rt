@@ -8,9 +8,9 @@ ghost use Rattle.elf_binding.specs.declared.resolve.ObjectFault.TheVariants.{Rea
 
 mod objects;
 
+use elf::parse::ParseError;
 use elf_check::hashcheck::HashFault;
 pub use elf_check::hashcheck::{AnyChecked, HashKind};
-use elf_parts::parse::ParseError;
 pub use objects::{object_table, resolve};
 use thiserror::Error;
 

@@ -8,9 +8,9 @@ ghost use Rattle.elf_binding.specs.Binding.{needed_as, serves, serves_exactly, s
 ghost use Rattle.elf_binding.specs.Binding.{version_index_of, version_of, version_view};
 
 use crate::{Rule, Unreadable, Version};
+use elf::endian::EndianParse;
+use elf::gnu_symver::{SymbolDefinition, SymbolNamesIterator, SymbolVersions, VersionIndex};
 use elf_abi::abi;
-use elf_parts::endian::EndianParse;
-use elf_parts::gnu_symver::{SymbolDefinition, SymbolNamesIterator, SymbolVersions, VersionIndex};
 
 // A version by the first of its names.
 fn first_name<'a, E: EndianParse>(

@@ -1,6 +1,6 @@
 //! The constants of the standard, each with its type and its value.
 
-use elf_abi::abi;
+use elf::abi;
 use std::io;
 
 // The constants of these names, each with its name.

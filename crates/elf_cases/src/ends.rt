@@ -5,15 +5,15 @@ use crate::words::Words;
 use elf::dynamic::Dyn;
 use elf::endian::AnyEndian;
 use elf::file::Class;
+use elf::gnu_symver::{
+    SymbolNamesIterator, VerDefAuxIterator, VerDefIterator, VerNeedAuxIterator, VerNeedIterator,
+};
+use elf::note::NoteIterator;
 use elf::parse::{ParseAt, ParsingIterator};
 use elf::relocation::Rela;
 use elf::section::SectionHeader;
 use elf::string_table::StringTable;
 use elf::symbol::Symbol;
-use elf_parts::gnu_symver::{
-    SymbolNamesIterator, VerDefAuxIterator, VerDefIterator, VerNeedAuxIterator, VerNeedIterator,
-};
-use elf_parts::note::NoteIterator;
 use std::io;
 
 /// `ends KIND ORDER CLASS COUNT BYTES`: whether the iterator over the bytes from each place on gives no more items than

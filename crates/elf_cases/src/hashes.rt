@@ -3,9 +3,9 @@ use crate::shown::{show, show_refusal};
 use crate::words::{Words, field_of};
 use elf::endian::AnyEndian;
 use elf::file::Class;
+use elf::hash::{GnuHashHeader, GnuHashTable, SysVHashTable, gnu_hash, sysv_hash};
 use elf::string_table::StringTable;
 use elf::symbol::SymbolTable;
-use elf_parts::hash::{GnuHashHeader, GnuHashTable, SysVHashTable, gnu_hash, sysv_hash};
 use std::io;
 
 /// `hash BYTES`: both hashes.

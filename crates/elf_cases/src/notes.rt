@@ -2,7 +2,7 @@
 use crate::shown::show;
 use crate::words::Words;
 use elf::endian::EndianParse;
-use elf_parts::note::{Note, NoteIterator};
+use elf::note::{Note, NoteIterator};
 use std::io;
 
 /// `notes ORDER CLASS ALIGNMENT BYTES`: the notes, those of no known kind with their names as text.

@@ -6,14 +6,14 @@ use elf::compression::CompressionHeader;
 use elf::dynamic::Dyn;
 use elf::endian::{AnyEndian, EndianParse};
 use elf::file::Class;
+use elf::gnu_symver::{VerDef, VerDefAux, VerNeed, VerNeedAux, VersionIndex};
+use elf::hash::{GnuHashHeader, SysVHashHeader};
+use elf::note::NoteGnuAbiTag;
 use elf::parse::{ParseAt, ParsingTable};
 use elf::relocation::{Rel, Rela};
 use elf::section::SectionHeader;
 use elf::segment::ProgramHeader;
 use elf::symbol::Symbol;
-use elf_parts::gnu_symver::{VerDef, VerDefAux, VerNeed, VerNeedAux, VersionIndex};
-use elf_parts::hash::{GnuHashHeader, SysVHashHeader};
-use elf_parts::note::NoteGnuAbiTag;
 use std::fmt::Debug;
 use std::io;
 

@@ -6,10 +6,10 @@ use crate::words::Words;
 use elf::ParseError;
 use elf::endian::{AnyEndian, EndianParse};
 use elf::file::Class;
-use elf::string_table::StringTable;
-use elf_parts::gnu_symver::{
+use elf::gnu_symver::{
     SymbolDefinition, SymbolVersionTable, VerDefIterator, VerNeedIterator, VersionIndexTable,
 };
+use elf::string_table::StringTable;
 use std::fmt::Debug;
 use std::io;
 

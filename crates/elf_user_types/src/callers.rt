@@ -10,14 +10,14 @@ ghost use Rattle.elf_parts.specs.gnu_symver.Table.{definition, names_left, versi
 ghost use Rattle.elf_parts.specs.gnu_symver.Lists.{ver_need_aux_left, ver_needs};
 ghost use Rattle.elf_records.specs.Table.{table_in};
 
-use elf_parts::endian::EndianParse;
-use elf_parts::file::Class;
-use elf_parts::gnu_symver::{
+use elf::endian::EndianParse;
+use elf::file::Class;
+use elf::gnu_symver::{
     IndexedVersions, SymbolNamesIterator, SymbolVersionTable, SymbolVersions, VerDefAuxIterator,
     VerDefIterator, VerNeedAuxIterator, VerNeedIterator,
 };
-use elf_parts::note::NoteIterator;
-use elf_parts::parse::ParseError;
+use elf::note::NoteIterator;
+use elf::parse::ParseError;
 use std::alloc::{AllocError, Global};
 
 /// How many notes the data hold.

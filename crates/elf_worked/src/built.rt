@@ -23,11 +23,11 @@ ghost use Rattle.elf_worked.specs.BuiltSections.{gnu_built_names, sysv_built_nam
 ghost use Rattle.elf_worked.specs.Files.{in_four};
 ghost use Rattle.elf_worked.specs.SoundSections.{gnu_bytes, gnu_with, sysv_bytes, sysv_with};
 
+use elf::endian::EndianParse;
+use elf::file::Class;
+use elf::string_table::StringTable;
+use elf::symbol::{Symbol, SymbolTable};
 use elf_check::hashcheck::{Checked, check_gnu, check_sysv};
-use elf_parts::endian::EndianParse;
-use elf_parts::file::Class;
-use elf_parts::string_table::StringTable;
-use elf_parts::symbol::{Symbol, SymbolTable};
 
 /// A SysV section that was built for any symbols is sound, it indexes exactly those that were put in, and `find`,
 /// whose contract is `IsFirstNamed`, finds the name of each.

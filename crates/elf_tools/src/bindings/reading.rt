@@ -18,10 +18,10 @@ use crate::bindings::library::{EntryBytes, HashBytes, Library, SymbolBytes, Vers
 use elf::endian::EndianParse;
 use elf::gnu_symver::VersionIndex;
 use elf::headers::Headers;
+use elf::parse::ParseAt;
 use elf::section::SectionHeader;
 use elf::{ElfStream, ParseError, StreamSource, abi};
 use elf_check::hashcheck::HashSection;
-use elf_parts::parse::ParseAt;
 use std::alloc::Global;
 
 // A copy of the bytes.
