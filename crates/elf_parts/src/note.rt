@@ -219,6 +219,13 @@ impl<'data, E: EndianParse> NoteIterator<'data, E> {
             order: PhantomData,
         }
     }
+
+    // How many bytes the data has.
+    pub(crate) fn data_len(&self) -> usize
+        ensures { result ≡ length self.now.«data».now }
+    {
+        self.data.len()
+    }
 }
 
 impl<'data, E: EndianParse> Iterator for NoteIterator<'data, E> {

@@ -11,7 +11,7 @@ use Rattle.elf_parts.specs.declared.gnu_symver.table.walked.Stretch.{Stretch}
 
 -- the number of entries of a stretch
 abbrev pub stretch_length : ℕ
-stretch_length = 256
+stretch_length = 1024
 
 -- of the first n versions from an offset on, the first with an index, if it has one
 abbrev pub first_with : Table → ℕ → ℕ → ℕ → Option VerNeedAux

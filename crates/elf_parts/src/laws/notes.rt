@@ -1,17 +1,24 @@
 //! Laws of notes.
-ghost use Rattle.std.specs.Prelude.{◌≡◌, ◌↔◌, ◌<◌, IsTrue, refl};
+ghost use Rattle.std.specs.Prelude.{◌≡◌, ◌↔◌, ◌<◌, ◌^◌, IsTrue, length, refl};
 ghost use Rattle.std.specs.Int.{next_multiple_of};
-ghost use Rattle.elf_parts.specs.Note.{note_links, note_view, AreAllNotes, IsLeastMultiple};
+ghost use Rattle.elf_parts.specs.Note.{note_links, note_view, notes_left, AreAllNotes, IsLeastMultiple};
 
 use crate::endian::EndianParse;
 use crate::laws::tables::PlainRecord;
-use crate::note::{Note, NoteAny, NoteGnuAbiTag, NoteGnuBuildId};
+use crate::note::{Note, NoteAny, NoteGnuAbiTag, NoteGnuBuildId, NoteIterator};
 
 /// The notes of some bytes are the longest list in which the first note begins at 0 and each other note begins
 /// where the one before it says.
 pub fn notes_are_the_longest_list<E: EndianParse>(endian: E, align: usize, data: &[u8])
     ensures { AreAllNotes (E.little endian) align «data».now (note_links (E.little endian) align «data».now 0) }
 {}
+
+/// An iterator over notes has fewer than 2^64 of them left to yield.
+pub fn few_notes_are_left<E: EndianParse>(notes: &NoteIterator<'_, E>)
+    ensures { length (notes_left notes.now) < 2 ^ 64 }
+{
+    let _ = notes.data_len();
+}
 
 /// A descriptor, and the next note, begin at the least multiple of the alignment that is not below the end of what
 /// precedes it. The alignment is not 0.

@@ -1,13 +1,13 @@
 //! Laws of tables: at which indexes `get` succeeds, and which records `iter` yields.
-ghost use Rattle.std.specs.Prelude.{◌≡◌, ◌↔◌, ◌<◌, ◌≤◌, length, slice_get, IsOk, refl};
+ghost use Rattle.std.specs.Prelude.{◌≡◌, ◌↔◌, ◌<◌, ◌≤◌, ◌^◌, length, slice_get, IsOk, refl};
 ghost use Rattle.std.specs.Result.{result_ok};
 ghost use Rattle.elf_records.specs.Record.{ReadsWherever};
-ghost use Rattle.elf_records.specs.Table.{table_get, table_items, table_len, table_view};
+ghost use Rattle.elf_records.specs.Table.{items_left, table_get, table_items, table_len, table_view};
 
 use crate::compression::CompressionHeader;
 use crate::dynamic::Dyn;
 use crate::endian::EndianParse;
-use crate::parse::{ParseAt, ParsingTable};
+use crate::parse::{ParseAt, ParsingIterator, ParsingTable};
 use crate::relocation::{Rel, Rela};
 use crate::section::SectionHeader;
 use crate::segment::ProgramHeader;
@@ -121,4 +121,11 @@ pub fn iter_gives_whatever_get_gives<E: EndianParse, P: PlainRecord>(
         ≡ result_ok (table_get P.reads (table_view table.now) index) }
 {
     let _ = table.len();
+}
+
+/// An iterator over records has fewer than 2^64 of them left to yield.
+pub fn few_records_are_left<E: EndianParse, P: ParseAt>(records: &ParsingIterator<'_, E, P>)
+    ensures { length (items_left P.reads records.now) < 2 ^ 64 }
+{
+    let _ = records.data_len();
 }

@@ -144,6 +144,14 @@ impl<'data, E: EndianParse, P: ParseAt> ParsingIterator<'data, E, P> {
         Self::starting(endian.is_little(), class, data)
     }
 
+    // How many bytes the data has.
+    pub(crate) fn data_len(&self) -> usize
+        ensures count { result ≡ length self.now.«data».now }
+        ensures short { length self.now.«data».now < 2 ^ 64 }
+    {
+        self.data.len()
+    }
+
     // The same, where the order is given as whether it is little.
     #[tactic(auto, using(crate::proofs::Items::items_bounded), unfolding(crate::specs::Table::items_left))]
     fn starting(little: bool, class: Class, data: &'data [u8]) -> Self

@@ -24,8 +24,8 @@ use std::marker::Model;
 /// definition of each version index for which they have a place. Such a version is found without a walk, any other one
 /// as `SymbolVersionTable` finds it. Version indexes have 15 bits, so with 32,768 places in each slice no look-up walks.
 /// Filling the slices costs the number of needs, of their auxiliary entries and of definitions. An entry that several
-/// needs share counts once, and each need some hundred steps at most; only in a section of some ten mebibytes a need may
-/// cost more. For a section of more than 16 KiB the call takes 0.4 MiB of the stack. Allocates no memory.
+/// needs share counts once, and each need some two thousand steps at most; only in a section of some ten mebibytes a need
+/// may cost more. For a section of more than 16 KiB the call takes 24 KiB of the stack. Allocates no memory.
 #[derive(Debug, Drop)]
 pub struct PlacedVersions<'a, 'data, E: EndianParse> {
     versions: &'a SymbolVersionTable<'data, E>,

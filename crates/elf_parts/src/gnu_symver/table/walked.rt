@@ -5,6 +5,7 @@ ghost use Rattle.std.specs.Option.{option_or};
 ghost use Rattle.elf_parts.specs.inner.Placed.{slot};
 ghost use Rattle.elf_parts.specs.inner.Walked.{AreWalked, Passes, StayFilled, held_or_left, stretch_length};
 ghost use Rattle.elf_parts.specs.gnu_symver.Links.{links_view};
+ghost use Rattle.elf_records.specs.Clones.{ClonesExactly};
 
 use super::placed::put;
 use super::{Needed, kept};
@@ -12,12 +13,13 @@ use crate::endian::EndianParse;
 use crate::gnu_symver::links::Links;
 use crate::gnu_symver::records::VerNeedAux;
 
-// The number of entries of a stretch. A need counts at most 65,535 entries, so its walk takes at most 256 stretches, and
-// a few hundred entries before the first and behind the last one.
-const STRETCH_LENGTH: u64 = 256;
+// The number of entries of a stretch. A need counts at most 65,535 entries, so its walk skips at most 63 stretches, and
+// goes over at most 1,023 entries before the first one and 1,023 after the last one.
+const STRETCH_LENGTH: u64 = 1_024;
 
-/// How many stretches can be stored. The number is prime, so stretches of entries of one size get places of their own.
-pub(super) const STRETCHES: usize = 16_381;
+/// How many stretches can be stored: so few that the table, 24 bytes for each, fits on a small stack. The number is
+/// prime, so stretches of entries of one size get places of their own.
+pub(super) const STRETCHES: usize = 1_021;
 
 /// A stretch of `STRETCH_LENGTH` entries that was walked. It begins at the offset `from`, and the entry behind it at the
 /// offset `to`, in bytes.
@@ -26,6 +28,11 @@ pub struct Stretch {
     from: usize,
     to: usize,
 }
+
+// The clone of a stretch is the same stretch.
+fn clones_of_stretches()
+    ensures { ClonesExactly ⟦<Stretch as Clone>⟧.is_clone ⟦<Stretch as Clone>⟧.is_infallible }
+{}
 
 // A walk since the last stretch that it stored or skipped: where it began, and its number of entries.
 #[derive(Drop)]
