@@ -4,12 +4,15 @@ ghost use Rattle.elf_records.specs.Class.{address_size};
 ghost use Rattle.elf_records.specs.Number.{bytes_at, moved_by, number_at, ok_map};
 ghost use Rattle.elf_records.specs.Record.{RecordType};
 ghost use Rattle.elf_records.specs.declared.parse.ParseError.{ParseError};
-ghost use Rattle.elf_records.specs.declared.parse.ParseError.TheVariants.{IOError as IsIOError, Utf8Error as IsUtf8Error};
+ghost use Rattle.elf_records.specs.declared.parse.ParseError.TheVariants.{IOError as IsIOError};
+ghost use Rattle.elf_records.specs.declared.parse.ParseError.TheVariants.{OutOfMemory as IsOutOfMemory};
 ghost use Rattle.elf_records.specs.declared.parse.ParseError.TheVariants.{TryFromIntError as IsTryFromIntError};
 ghost use Rattle.elf_records.specs.declared.parse.ParseError.TheVariants.{TryFromSliceError as IsTryFromSliceError};
+ghost use Rattle.elf_records.specs.declared.parse.ParseError.TheVariants.{Utf8Error as IsUtf8Error};
 
 use crate::endian::EndianParse;
 use crate::file::Class;
+use std::alloc::AllocError;
 use thiserror::Error;
 
 mod table;
@@ -71,7 +74,7 @@ pub enum ParseError {
     /// The source of an `ElfStream` failed.
     #[error(transparent)]
     IOError(std::io::Error),
-    /// An allocation of an `ElfStream` failed.
+    /// An allocation failed: in a call of an `ElfStream`, or in a function that converts its `AllocError`.
     #[error("Out of memory")]
     OutOfMemory,
 }
@@ -105,6 +108,16 @@ impl From<std::io::Error> for ParseError {
 
     fn from(err: std::io::Error) -> ParseError {
         ParseError::IOError(err)
+    }
+}
+
+// With it `?` works on the functions of `to_str`, which allocate, in a function that returns a `ParseError`. The Rust
+// crate has no variant for a failed allocation, and so no such conversion.
+impl From<AllocError> for ParseError {
+    ghost from_gives = { λ _ e. e ≡ IsOutOfMemory };
+
+    fn from(_err: AllocError) -> ParseError {
+        ParseError::OutOfMemory
     }
 }
 

@@ -1,5 +1,6 @@
 //! Tables of strings (gABI, chapter "String Table").
-ghost use Rattle.std.specs.Prelude.{◌≡◌, ◌==◌, ◌+◌, ◌≤◌, Err, List, None, Some, ℕ, drop, length, not, position, take};
+ghost use Rattle.std.specs.Prelude.{◌≡◌, ◌≢◌, ◌==◌, ◌+◌, ◌-◌, ◌<◌, ◌≤◌, Err, List, None, Some, ℕ};
+ghost use Rattle.std.specs.Prelude.{drop, length, not, position, slice_get, take};
 ghost use Rattle.std.specs.Bool.{Decides};
 ghost use Rattle.std.specs.List.{prefix_len};
 ghost use Rattle.std.specs.Str.{bytes_eq};
@@ -164,6 +165,8 @@ fn first_string_is(bytes: &[u8], name: &[u8]) -> bool
 fn without_last_groups(bytes: &[u8]) -> usize
     ensures within { result ≤ length bytes.now }
     ensures none { NoneFrom bytes.now result }
+    ensures all { LANES ≤ result
+        → prefix_len (λ byte. not (byte == 0)) (take LANES (drop (result - LANES) bytes.now)) < LANES }
 {
     let mut end = bytes.len();
     while LANES <= end && count_before_nul(bytes, end - LANES) == LANES {
@@ -172,8 +175,9 @@ fn without_last_groups(bytes: &[u8]) -> usize
     end
 }
 
-// How many bytes there are up to and with the last 0 byte.
+// How many bytes there are up to and with the last 0 byte, if that is not the last byte.
 fn count_terminated(bytes: &[u8]) -> usize
+    requires { slice_get bytes.now (length bytes.now - 1) ≢ Some 0 }
     ensures { IsTerminated bytes.now result }
 {
     let mut end = without_last_groups(bytes);
