@@ -16,5 +16,3 @@ pub mod Symbols
 pub mod Dynamic
 pub mod Notes
 pub mod Versions
--- what only implementations and private functions cite
-pub mod inner

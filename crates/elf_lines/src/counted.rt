@@ -1,5 +1,5 @@
 //! Lists: a line for each item, and a last line with their number.
-ghost use Rattle.std.specs.Prelude.{◌-◌, ◌^◌, ℕ, List, OnOk, length, ◌<◌};
+ghost use Rattle.std.specs.Prelude.{◌-◌, ◌^◌, ℕ, List, OnOk};
 ghost use Rattle.std.specs.Iterator.{Drains, UpTo};
 ghost use Rattle.std.specs.Io.KnownBytes.{Appends};
 ghost use Rattle.elf_records.specs.Table.{items_left};
@@ -8,6 +8,7 @@ ghost use Rattle.elf_lines.specs.Adding.{Adds};
 
 use crate::line_buffer::LineBuffer;
 use elf_parts::endian::EndianParse;
+use elf_parts::laws::tables::few_records_are_left;
 use elf_parts::parse::{ParseAt, ParsingIterator};
 use std::io;
 use std::io::Write;
@@ -23,8 +24,8 @@ pub trait Line {
             (line self.now k item.now) };
 }
 
-/// Writes the lines of the items of an iterator, and their number. Stores none of the items.
-pub fn write_list<L: Line, I: Iterator<Item = L::Item> + Drop, W: Write>(
+// Writes the lines of the items of an iterator, and their number. Stores none of the items.
+pub(crate) fn write_list<L: Line, I: Iterator<Item = L::Item> + Drop, W: Write>(
     items: I,
     line: &L,
     out: &mut W,
@@ -82,9 +83,9 @@ pub fn write_records<E: EndianParse, L: Line, W: Write>(
 ) -> io::Result<()>
 where
     L::Item: ParseAt + Drop,
-    requires { length (items_left L.Item.reads records) < 2 ^ 64 }
     ensures { OnOk result (Appends (W.contents out.old) (W.contents out.new)
         (counted_lines (L.line line.now) (items_left L.Item.reads records.entry))) }
 {
+    few_records_are_left(&records);
     write_list(records, line, out)
 }

@@ -1,5 +1,5 @@
 //! The lines of notes.
-ghost use Rattle.std.specs.Prelude.{OnOk, length, ◌<◌, ◌^◌};
+ghost use Rattle.std.specs.Prelude.{OnOk};
 ghost use Rattle.std.specs.Io.KnownBytes.{Appends};
 ghost use Rattle.elf_parts.specs.Note.{AbiTag, BuildId, Other, note_view, notes_left};
 ghost use Rattle.elf_lines.specs.Adding.{Adds};
@@ -9,6 +9,7 @@ ghost use Rattle.elf_lines.specs.Notes.{content_line, note_line};
 use crate::counted::{Line, write_list};
 use crate::line_buffer::LineBuffer;
 use elf_parts::endian::EndianParse;
+use elf_parts::laws::notes::few_notes_are_left;
 use elf_parts::note::{Note, NoteAny, NoteGnuAbiTag, NoteIterator};
 use std::io;
 use std::io::Write;
@@ -74,9 +75,9 @@ pub fn write_notes<E: EndianParse, W: Write>(
     notes: NoteIterator<'_, E>,
     out: &mut W,
 ) -> io::Result<()>
-    requires { length (notes_left notes) < 2 ^ 64 }
     ensures { OnOk result (Appends (W.contents out.old) (W.contents out.new)
         (counted_lines note_line (notes_left notes.entry))) }
 {
+    few_notes_are_left(&notes);
     write_list(notes, &NoteLine { data: PhantomData }, out)
 }

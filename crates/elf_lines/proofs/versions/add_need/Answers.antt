@@ -7,7 +7,7 @@ use Rattle.elf_lines.proofs.versions.add_need.Goals as goal
 pub returns-in-Ok-Some : goal.returns-in-Ok-Some
 returns-in-Ok-Some g c =
     let contents = g.W.Write.contents in
-    let needed = requirement c.args.versions.now c.args.symbol in
+    let needed = requirement (g.V.SymbolVersions.versions c.args.versions.now) c.args.symbol in
     let is : c.get_requirement.result ≡ Ok (Some c.in-Ok-Some.needed) = search rules in
     let read = need_is_shown needed c.get_requirement.result c.get_requirement.ensures ∙ ap need_shown is in
     subst (λ text. Adds (contents c.args.out.now) c.args.lines.now (contents c.add_needed.new.out) c.add_needed.new.lines text) (sym read) c.add_needed.ensures
@@ -15,7 +15,7 @@ returns-in-Ok-Some g c =
 pub returns-in-Err : goal.returns-in-Err
 returns-in-Err g c =
     let contents = g.W.Write.contents in
-    let needed = requirement c.args.versions.now c.args.symbol in
+    let needed = requirement (g.V.SymbolVersions.versions c.args.versions.now) c.args.symbol in
     let is : c.get_requirement.result ≡ Err c.in-Err.field-0 = search rules in
     let read = need_is_shown needed c.get_requirement.result c.get_requirement.ensures ∙ ap need_shown is in
     subst (λ text. Adds (contents c.args.out.now) c.args.lines.now (contents c.word-in-Err.new.out) c.word-in-Err.new.self text) (sym read) c.word-in-Err.ensures

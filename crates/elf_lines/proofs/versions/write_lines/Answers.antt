@@ -1,7 +1,7 @@
 use Rattle.std.proofs.Common.{arith}
 use Rattle.std.proofs.lemmas.Grind.{common_steps}
 use Rattle.elf_lines.proofs.Adding.{lines_written}
-use Rattle.elf_lines.proofs.versions.write_placed.Goals as goal
+use Rattle.elf_lines.proofs.versions.write_lines.Goals as goal
 
 pub loop-symbol-preserved : goal.loop-symbol-preserved
 loop-symbol-preserved g c = grind (arith, common_steps)
