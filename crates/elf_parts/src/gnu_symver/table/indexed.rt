@@ -1,5 +1,6 @@
 //! The versions of the symbols of a file, looked up by version index without a walk.
-ghost use Rattle.std.specs.Prelude.{◌≡◌, ◌≤◌, ◌^◌, if◌then◌else◌, is_some, length, IfOk};
+ghost use Rattle.std.specs.Prelude.{◌≡◌, ◌≤◌, ◌^◌, if◌then◌else◌, [], false, is_some, length, vec_capacity};
+ghost use Rattle.std.specs.Prelude.{IfOk, IsNone, IsOk};
 ghost use Rattle.std.specs.Option.{option_map};
 ghost use Rattle.elf_records.specs.Number.{ok_map};
 ghost use Rattle.elf_parts.specs.gnu_symver.Table.{definition, definition_view, index_of, requirement, versions_view};
@@ -19,7 +20,8 @@ use std::alloc::{AllocError, Allocator};
 use std::marker::Model;
 
 /// The versions of the symbols of a file, with the first need and the first definition of each version index in two
-/// tables. A look-up needs no walk. Each table has at most 65,536 places. They are filled as those of `PlacedVersions`.
+/// tables. A look-up needs no walk. Each table has at most 65,536 places, and holds memory for no more places than it
+/// has. They are filled as those of `PlacedVersions`.
 #[derive(Debug, Drop)]
 pub struct IndexedVersions<'a, 'data, E: EndianParse, A: Allocator> {
     versions: &'a SymbolVersionTable<'data, E>,
@@ -28,7 +30,7 @@ pub struct IndexedVersions<'a, 'data, E: EndianParse, A: Allocator> {
 }
 
 impl<'a, 'data, E: EndianParse, A: Allocator> Model for IndexedVersions<'a, 'data, E, A> {
-    ghost use Rattle.std.specs.Prelude.{◌≡◌, ◌≤◌, ◌^◌, length};
+    ghost use Rattle.std.specs.Prelude.{◌≡◌, ◌≤◌, ◌^◌, length, vec_capacity};
     ghost use Rattle.elf_parts.specs.inner.Placed.{HoldDefinitions, HoldNeeds, places_for};
     ghost use Rattle.elf_parts.specs.gnu_symver.Table.{Versions, versions_view};
 
@@ -40,7 +42,8 @@ impl<'a, 'data, E: EndianParse, A: Allocator> Model for IndexedVersions<'a, 'dat
         × HoldDefinitions s.defined.items (versions_view s.versions.now).definitions
         × (length s.needed.items ≡ places_for s.versions.now.needs (versions_view s.versions.now).indexes)
         × (length s.defined.items ≡ places_for s.versions.now.definitions (versions_view s.versions.now).indexes)
-        × (length s.needed.items ≤ 2 ^ 16) × (length s.defined.items ≤ 2 ^ 16) };
+        × (length s.needed.items ≤ 2 ^ 16) × (length s.defined.items ≤ 2 ^ 16)
+        × (vec_capacity s.needed ≡ length s.needed.items) × (vec_capacity s.defined ≡ length s.defined.items) };
 }
 
 // The number of places for the version indexes that the symbols have: one more than the greatest.
@@ -55,18 +58,22 @@ fn count_places<E: EndianParse>(indexes: VersionIndexTable<'_, E>) -> usize
     count
 }
 
-// This number of empty places, or none if there is nothing to look up.
+// This number of empty places, or none if there is nothing to look up, and memory for no more places.
 fn empty_places<S, T: Copy, A: Allocator>(
     alloc: A,
     source: &Option<S>,
     count: usize,
 ) -> Result<Vec<Option<T>, A>, AllocError>
     requires { count ≤ 2 ^ 16 }
-    ensures { IfOk result (λ places. length places.items ≡ (if is_some source.now then count else 0)) }
+    ensures places { IfOk result (λ places. length places.items ≡ (if is_some source.now then count else 0)) }
+    ensures room { IfOk result (λ places. vec_capacity places ≡ length places.items) }
+    ensures no_source { is_some source.now ≡ false → IsOk result }
+    ensures no_place { count ≡ 0 → IsOk result }
 {
-    let mut places = Vec::new(alloc);
-    if source.is_some() {
-        places.resize(count, None)?;
+    let size = if source.is_some() { count } else { 0 };
+    let mut places = Vec::with_capacity(alloc, size)?;
+    while places.len() < size {
+        places.push_reserved(None);
     }
     Ok(places)
 }
@@ -74,9 +81,12 @@ fn empty_places<S, T: Copy, A: Allocator>(
 impl<'a, 'data, E: EndianParse, A: Allocator + Copy> IndexedVersions<'a, 'data, E, A> {
     /// Builds both tables: goes over the version indexes, over the needs and over the definitions once. Each table has
     /// a place for each version index up to the greatest that a symbol has. If an allocation fails, the error is
-    /// `AllocError`.
+    /// `AllocError`. Nothing is allocated if there are no version indexes, or neither needs nor definitions.
     pub fn new(alloc: A, versions: &'a SymbolVersionTable<'data, E>) -> Result<Self, AllocError>
-        ensures { IfOk result (λ indexed. indexed ≡ versions_view versions.now) }
+        ensures versions { IfOk result (λ indexed. indexed ≡ versions_view versions.now) }
+        ensures no_entries { IsNone (versions_view versions.now).needs →
+            IsNone (versions_view versions.now).definitions → IsOk result }
+        ensures no_indexes { table_items version_index_reads (versions_view versions.now).indexes ≡ [] → IsOk result }
     {
         let count = count_places(versions.indexes);
         let mut needed = empty_places(alloc, &versions.needs, count)?;

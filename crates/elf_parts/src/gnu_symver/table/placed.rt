@@ -152,6 +152,8 @@ fn find_needed<E: EndianParse>(
     if let Some(found) = slots.get(index as usize) {
         return *found;
     }
+    // An empty place says that no need has the index, and takes no walk.
+    prove!(slots.len() <= index as usize);
     let (need, version) = first_needed(needs, index)?;
     Some(kept(need.vn_file, &version))
 }
