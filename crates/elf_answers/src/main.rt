@@ -24,6 +24,7 @@ mod numbers;
 mod records;
 mod rows;
 mod shown;
+mod sources;
 mod strings;
 mod versions;
 mod words;
@@ -75,6 +76,7 @@ fn show_call(rt: &HostRuntime, words: &mut Words<'_>) -> io::Result<()> {
         "verdict" => checks::show_check(rt, false, words),
         "linked" => versions::show_linked(rt, words),
         "version" => versions::show_version(rt, words),
+        "source" => sources::show_source(rt, words),
         "string" => strings::show_string(rt, words),
         "ends" => ends::show_ends(rt, words),
         "values" => names::show_names(rt, words),
