@@ -2,8 +2,9 @@
 //! returns; then does the same with the command lines of the file `cases`, and with the example callers of the file
 //! `callers`. The last lines are the constants of the standard.
 //!
-//! `elf_cases CALLER FILE..` prints the results of an example caller for each file. `resolver=NAME` looks a name up in
-//! all of them, and `bindings` binds the undefined symbols of all of them, a program and its libraries in search order.
+//! `elf_cases CALLER FILE..` prints the results of an example caller for each file. `resolver=NAME` looks a definition
+//! of a name up in all of them, `resolve=NAME` any symbol of it, and `bindings` binds the undefined symbols of all of
+//! them, a program and its libraries in search order.
 //!
 //! In test cases bytes are hexadecimal digits, `-` for none, or `@NAME` for the small file NAME. A result is shown as
 //! `{:?}` shows it, an error with its text behind it. It is written straight to standard output, since a text that is
@@ -25,6 +26,7 @@ mod numbers;
 mod records;
 mod rows;
 mod shown;
+mod sources;
 mod strings;
 mod versions;
 mod words;
@@ -77,6 +79,7 @@ fn show_call(rt: &HostRuntime, words: &mut Words<'_>) -> io::Result<()> {
         "verdict" => checks::show_check(rt, false, words),
         "linked" => versions::show_linked(rt, words),
         "version" => versions::show_version(rt, words),
+        "source" => sources::show_source(rt, words),
         "string" => strings::show_string(rt, words),
         "ends" => ends::show_ends(rt, words),
         "values" => names::show_names(rt, words),

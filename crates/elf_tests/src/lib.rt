@@ -3,13 +3,19 @@
 
 #[cfg(test)]
 #[cfg(test)]
+mod current_header;
+#[cfg(test)]
 mod faults;
 #[cfg(test)]
 mod files;
 #[cfg(test)]
+mod flushes;
+#[cfg(test)]
 mod listing;
 #[cfg(test)]
 mod memory;
+#[cfg(test)]
+mod modes;
 #[cfg(test)]
 mod opening;
 #[cfg(test)]
@@ -18,6 +24,8 @@ mod program;
 mod records;
 #[cfg(test)]
 mod refusals;
+#[cfg(test)]
+mod room;
 #[cfg(test)]
 mod shown;
 #[cfg(test)]

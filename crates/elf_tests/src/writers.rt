@@ -1,4 +1,4 @@
-//! Writers that fail, one that counts, and one that holds a line.
+//! Writers that fail, some that count, and one that holds a line.
 ghost use Rattle.std.specs.Prelude.{Some};
 
 use std::alloc::Global;
@@ -100,6 +100,50 @@ impl Write for Faulty {
             return Err(io::Error::from(io::ErrorKind::BrokenPipe));
         }
         self.flushes_before -= 1;
+        Ok(())
+    }
+}
+
+/// Fails at each write after a number of writes. Counts the flushes, and the calls after its first failure.
+#[derive(Drop)]
+pub(crate) struct Watched {
+    writes_before: usize,
+    has_failed: bool,
+    pub(crate) flushes: usize,
+    pub(crate) calls_after_failure: usize,
+}
+
+impl Watched {
+    pub(crate) fn new(writes_before: usize) -> Watched {
+        Watched {
+            writes_before,
+            has_failed: false,
+            flushes: 0,
+            calls_after_failure: 0,
+        }
+    }
+
+    fn called(&mut self) {
+        if self.has_failed {
+            self.calls_after_failure = self.calls_after_failure.saturating_add(1);
+        }
+    }
+}
+
+impl Write for Watched {
+    fn write(&mut self, buf: &[u8]) -> io::Result<usize> {
+        self.called();
+        if self.writes_before == 0 {
+            self.has_failed = true;
+            return Err(io::Error::from(io::ErrorKind::StorageFull));
+        }
+        self.writes_before -= 1;
+        Ok(buf.len())
+    }
+
+    fn flush(&mut self) -> io::Result<()> {
+        self.called();
+        self.flushes = self.flushes.saturating_add(1);
         Ok(())
     }
 }

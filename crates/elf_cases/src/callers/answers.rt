@@ -7,6 +7,7 @@ use elf::section::SectionHeader;
 use elf::string_table::StringTable;
 use elf::symbol::{Symbol, SymbolTable};
 use elf::{ElfBytes, MemSource, ParseError};
+use elf_binding::resolve::resolve;
 use elf_tools::bindings::reading::open_library;
 use elf_tools::build_id::build_id;
 use elf_tools::functions::{functions, version_of};
@@ -28,7 +29,10 @@ pub(super) fn print_answers<W: Write>(
     files: &[Vec<u8>],
 ) -> io::Result<()> {
     if let Some(name) = caller.strip_prefix("resolver=") {
-        return print_resolved(alloc, out, name.as_bytes(), files);
+        return print_resolved(alloc, out, false, name.as_bytes(), files);
+    }
+    if let Some(name) = caller.strip_prefix("resolve=") {
+        return print_resolved(alloc, out, true, name.as_bytes(), files);
     }
     if caller == "bindings" {
         return print_bindings_in(alloc, out, files);
@@ -205,9 +209,11 @@ fn print_section_lint<W: Write>(
     }
 }
 
+/// Prints the first symbol of a name in the files, or the first definition of it.
 fn print_resolved<W: Write>(
     alloc: Global,
     out: &mut W,
+    is_any_symbol: bool,
     name: &[u8],
     files: &[Vec<u8>],
 ) -> io::Result<()> {
@@ -218,16 +224,18 @@ fn print_resolved<W: Write>(
             Err(error) => return print_refusal(out, error),
         }
     }
-    print_resolved_in(alloc, out, name, libraries.as_slice())
+    print_resolved_in(alloc, out, is_any_symbol, name, libraries.as_slice())
 }
 
 fn print_resolved_in<W: Write>(
     alloc: Global,
     out: &mut W,
+    is_any_symbol: bool,
     name: &[u8],
     libraries: &[File<'_>],
 ) -> io::Result<()> {
     match tables(alloc, libraries) {
+        Ok(tables) if is_any_symbol => print_definition(out, resolve(tables.as_slice(), name)),
         Ok(tables) => print_definition(out, definition(tables.as_slice(), name)),
         Err(error) => writeln!(out, "refused: {error}"),
     }
