@@ -1,6 +1,6 @@
 //! Texts of values where memory is refused, and that no value has two names.
 use crate::memory::all_memory;
-use elf_abi::to_str;
+use elf::to_str;
 use std::alloc::{AllocError, Global};
 use std::process::Abort;
 
