@@ -2,8 +2,9 @@
 //! returns; then does the same with the command lines of the file `cases`, and with the example callers of the file
 //! `callers`.
 //!
-//! `elf_answers CALLER FILE..` prints the results of an example caller for each file. `resolver=NAME` looks a name up in
-//! all of them, and `bindings` binds the undefined symbols of all of them, a program and its libraries in search order.
+//! `elf_answers CALLER FILE..` prints the results of an example caller for each file. `resolver=NAME` looks a definition
+//! of a name up in all of them, `resolve=NAME` any symbol of it, and `bindings` binds the undefined symbols of all of
+//! them, a program and its libraries in search order.
 //!
 //! In test cases bytes are hexadecimal digits, `-` for none, or `@NAME` for the small file NAME. A result is shown as
 //! `{:?}` shows it, an error with its text behind it. It is written straight to standard output, since a text that is

@@ -29,7 +29,7 @@ fn read_from(rt: &HostRuntime, source: &mut FileSource, start: u64) -> io::Resul
         if count == 0 {
             break;
         }
-        bytes.extend_from_slice(&buffer[..count])?;
+        bytes.extend_from_slice(buffer.get(..count).unwrap_or_default())?;
     }
     Ok(bytes)
 }

@@ -1,5 +1,5 @@
 //! Which call of the file system each mode makes, and the messages of its errors.
-ghost use Rattle.std.specs.Prelude.{None, true};
+ghost use Rattle.std.specs.Prelude.{None, false};
 
 use crate::files::HEADER_ALONE;
 use crate::texts::HEADER_LINE;
