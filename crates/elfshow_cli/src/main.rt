@@ -1,6 +1,10 @@
 //! Lists the contents of an ELF file: the program around `elfshow::show`.
 #![tactic(auto)]
 
+ghost use Rattle.std.specs.Prelude.{◌≡◌, IfErr, IfOk};
+ghost use Rattle.std.specs.Process.{exit_status};
+ghost use Rattle.elfshow.specs.Failure.{status_of};
+
 use elfshow::failure::{Failure, report};
 use elfshow::show::show;
 use std::alloc::{AllocError, Global};
@@ -16,11 +20,19 @@ const OUTPUT_BUFFER: usize = 65536;
 
 fn main(rt: HostRuntime) -> ExitCode {
     let mut err = rt.stderr();
-    let status = match run(&rt, &mut err) {
-        Ok(status) => status,
-        Err(failure) => report(&failure, &mut err),
-    };
-    ExitCode::from(status)
+    let ran = run(&rt, &mut err);
+    exit_code(ran, &mut err)
+}
+
+// The exit code of a run. Reports a failure that prevented it.
+fn exit_code(ran: Result<u8, Failure>, err: &mut Stderr) -> ExitCode
+    ensures ran { IfOk ran (λ status. exit_status result ≡ status) }
+    ensures failed { IfErr ran (λ failure. exit_status result ≡ status_of failure) }
+{
+    match ran {
+        Ok(status) => ExitCode::from(status),
+        Err(failure) => ExitCode::from(report(&failure, err)),
+    }
 }
 
 // Runs the command line, and returns the exit status.
