@@ -18,7 +18,7 @@ use std::io;
 use std::io::Write;
 
 /// The result of checking a hash section.
-#[derive(Clone, Copy)]
+#[derive(Drop)]
 pub(crate) enum Verdict {
     Faulty,
     /// The number of symbols that the section indexes.
