@@ -12,6 +12,8 @@ mod listing;
 #[cfg(test)]
 mod memory;
 #[cfg(test)]
+mod messages;
+#[cfg(test)]
 mod opening;
 #[cfg(test)]
 mod program;
@@ -21,6 +23,8 @@ mod records;
 mod refusals;
 #[cfg(test)]
 mod shown;
+#[cfg(test)]
+mod sizes;
 #[cfg(test)]
 mod sources;
 #[cfg(test)]
