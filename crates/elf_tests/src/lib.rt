@@ -15,6 +15,8 @@ mod listing;
 #[cfg(test)]
 mod memory;
 #[cfg(test)]
+mod messages;
+#[cfg(test)]
 mod modes;
 #[cfg(test)]
 mod opening;
@@ -28,6 +30,8 @@ mod refusals;
 mod room;
 #[cfg(test)]
 mod shown;
+#[cfg(test)]
+mod sizes;
 #[cfg(test)]
 mod sources;
 #[cfg(test)]

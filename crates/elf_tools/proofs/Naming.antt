@@ -1,5 +1,5 @@
 -- What is found passes the test; and what two calls of a stream, one after the other, tell.
-use Rattle.std.proofs.Common.{◌≡◌, ℕ, Bool, true, false, List, [], ◌∷◌, Result, Ok, Err, Option, Some, None, refl, ap, sym, subst, ◌∙◌, arith}
+use Rattle.std.proofs.Common.{◌≡◌, ◌≢◌, ℕ, Bool, true, false, List, [], ◌∷◌, Result, Ok, Err, Option, Some, None, refl, ap, sym, subst, ◌∙◌, arith}
 use Rattle.std.specs.Prelude.{IfSome, cond}
 use Rattle.std.specs.List.{find}
 use Rattle.std.specs.Option.{option_map}
@@ -98,3 +98,37 @@ tells_later little old middle new shown first x entries later e is some refused 
       keeps = keeps_then old middle new a.keeps b.keeps;
       answers = known_later little old middle new.failures old.content shown x entries e a.keeps some one here;
     }
+
+-- ---- where there are entries there are names, or an error
+
+some_not_none : {Y : Type 0} (r : Result Y NamesError) → ok_map Some r ≢ Ok None
+some_not_none (Ok y) e = cc e
+some_not_none (Err error) e = cc e
+
+still_some : {X Y : Type 0} (entries : Result (Option X) NamesError) (answer : X → Result Y NamesError) → entries ≢ Ok None → (entries >>= λ es. if_some answer es) ≢ Ok None
+still_some (Ok None) answer some e = some refl
+still_some (Ok (Some x)) answer some e = some_not_none (answer x) e
+still_some (Err error) answer some e = cc e
+
+pub known_some : {E : Type 0} (little : E → Bool) (old : Seen E) (known : Option (List ℕ)) → IfSome known (λ bytes. entries_of (stream_file little old bytes) ≢ Ok None) → IfSome known (λ bytes. names (stream_file little old bytes) ≢ Ok None)
+known_some little old None some = tt
+known_some little old (Some bytes) some =
+    let file = stream_file little old bytes in
+    still_some (entries_of file) (names_by file) some
+
+entries_some : {T X : Type 0} (answer : Result (Option X) NamesError) (shown : T → Option X) (x : T) (one : X) → answer ≡ Ok (shown x) → shown x ≡ Some one → answer ≢ Ok None
+entries_some answer shown x one is some none = cc (is, some, none)
+
+each_some : {E T : Type 0} (little : E → Bool) (old : Seen E) (now : ℕ) (shown : T → Option (List Dyn)) (x : T) (entries : List Dyn) (known : Option (List ℕ)) → shown x ≡ Some entries
+    → IfSome known (λ bytes. IsNamesAnswer shown (entries_of (stream_file little old bytes)) old.can_fail old.failures now (Ok x))
+    → IfSome known (λ bytes. entries_of (stream_file little old bytes) ≢ Ok None)
+each_some little old now shown x entries None some h = tt
+each_some little old now shown x entries (Some bytes) some h = entries_some (entries_of (stream_file little old bytes)) shown x entries h.1 some
+
+-- after entries that were found
+pub known_entries : {E T : Type 0} (little : E → Bool) (old middle : Seen E) (shown : T → Option (List Dyn)) (first : Result T NamesError) (x : T) (entries : List Dyn) → first ≡ Ok x → shown x ≡ Some entries
+    → GivesNames shown (λ bytes. entries_of (stream_file little old bytes)) old middle first
+    → IfSome old.content (λ bytes. names (stream_file little old bytes) ≢ Ok None)
+known_entries little old middle shown first x entries is some given =
+    let here = subst (λ r. IfSome old.content (λ bytes. IsNamesAnswer shown (entries_of (stream_file little old bytes)) old.can_fail old.failures middle.failures r)) is given.answers in
+    known_some little old old.content (each_some little old middle.failures shown x entries old.content some here)

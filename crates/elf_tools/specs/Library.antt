@@ -146,6 +146,19 @@ abbrev pub object_result : {T : Type 0} → Result T LibraryFault → Result T O
 object_result (Ok x) = Ok x
 object_result (Err fault) = Err (object_fault fault)
 
+-- which fault it is: `Unread` with the error of the hash section or, if that was read, of the symbols, or, if the table is
+-- sound, of the versions; `Table` with the fault of a table whose parts were read
+module _ {E : Type 0} (little : E → Bool) (library : Library E) where
+  abbrev pub IsLibraryFault : LibraryFault → Type 0
+  IsLibraryFault (Unread e) =
+      IsErrAnd (library_hash library) (λ x. x ≡ e.now)
+      ⊎ (IsOk (library_hash library) × IsErrAnd (library_symbols little library) (λ x. x ≡ e.now))
+      ⊎ (IsSomeAnd (library_object little library) (λ o. IsOkAnd o IsSound)
+      × IsErrAnd (library_versions little library) (λ x. x ≡ e.now))
+  IsLibraryFault (FromTable fault) =
+      IsOk (library_hash library) × IsOk (library_symbols little library)
+      × IsSomeAnd (library_object little library) (λ o. IsFaultOf o fault)
+
 -- the table is sound, with these versions; an error is that of the table, or where this is sound that of the versions
 abbrev pub GivesFrom : {C : Type 0} → (C → VersionedObject) → Option (Result Object ObjectFault) →
     Result (Option Versions) ParseError → Result (Option C) ObjectFault → Type 0

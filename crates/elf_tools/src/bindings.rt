@@ -1,5 +1,5 @@
 //! What the undefined symbols of a program and of its libraries bind to.
-ghost use Rattle.std.specs.Prelude.{◌≡◌, IfOk, filter};
+ghost use Rattle.std.specs.Prelude.{◌≡◌, IfOk, IsNone, IsOk, filter};
 ghost use Rattle.std.specs.List.{enumerate_from};
 ghost use Rattle.std.specs.Option.{option_map};
 ghost use Rattle.elf_records.specs.Symbol.{symbol_reads};
@@ -62,16 +62,17 @@ pub type IndexedObject<'a, 'data, E> = VersionedObject<
 >;
 
 /// Returns the object of a table and of an index of these versions, if there are any. The only error is a failed
-/// allocation.
+/// allocation. Without versions nothing is allocated.
 pub fn with_index<'a, 'data, E: EndianParse>(
     alloc: Global,
     table: AnyChecked<'data, E>,
     versions: Option<&'a SymbolVersionTable<'data, E>>,
 ) -> Result<IndexedObject<'a, 'data, E>, AllocError>
-    ensures { IfOk result (λ object. versioned_view (λ index. index) object ≡ record {
+    ensures object { IfOk result (λ object. versioned_view (λ index. index) object ≡ record {
       symbols = object_view table.entry;
       versions = option_map (λ table. versions_view table.now) versions.entry;
     }) }
+    ensures none { IsNone versions.entry → IsOk result }
 {
     let versions = indexed(alloc, versions)?;
     Ok(VersionedObject { table, versions })

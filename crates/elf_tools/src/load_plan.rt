@@ -1,5 +1,5 @@
 //! What a loader maps into memory, and at which addresses.
-ghost use Rattle.std.specs.Prelude.{◌≡◌, ◌||◌, false, IfErr, IfOk, OnOk, MatchOption, length};
+ghost use Rattle.std.specs.Prelude.{◌≡◌, ◌||◌, [], false, IfErr, IfOk, IsNone, IsOk, OnOk, MatchOption, length};
 ghost use Rattle.std.specs.List.{list_any};
 ghost use Rattle.elf.specs.ElfBytes.{view};
 ghost use Rattle.elf_reading.specs.Opening.{segment_list};
@@ -100,7 +100,8 @@ fn mappings<E: EndianParse>(
     alloc: Global,
     file: &ElfBytes<'_, E>,
 ) -> Result<Vec<Mapping>, AllocError>
-    ensures { IfOk result (λ all. all.items ≡ mappings (segment_list (view file.now).segments)) }
+    ensures mappings { IfOk result (λ all. all.items ≡ mappings (segment_list (view file.now).segments)) }
+    ensures none { IsNone (view file.now).segments → IsOk result }
 {
     match file.segments() {
         Some(segments) => segments
@@ -167,8 +168,9 @@ fn add(ranges: &mut BTreeMap<u64, u64>, mapping: &Mapping) -> Result<(), AllocEr
 
 // The first mapping that shares an address with an earlier one. It costs the number of mappings times its logarithm.
 fn first_overlap(alloc: Global, all: &[Mapping]) -> Result<Option<usize>, AllocError>
-    ensures { IfOk result (λ found.
+    ensures overlap { IfOk result (λ found.
         MatchOption found (ApartBefore all.now (length all.now)) (IsFirstOverlap all.now)) }
+    ensures none { all.now ≡ [] → IsOk result }
 {
     let mut ranges = BTreeMap::new(alloc);
     for (place, mapping) in all.iter().enumerate() {
@@ -185,7 +187,7 @@ fn first_overlap(alloc: Global, all: &[Mapping]) -> Result<Option<usize>, AllocE
 /// Errors, in order: `Memory` if an allocation failed; of the first mapping for which one of them holds, `FileSize` if
 /// it has more bytes in the file than in memory, `OutsideFile` if its bytes do not lie in the file, and `AddressSpace`
 /// if it ends past the last address of the file's class; `Overlap` with the first mapping that shares an address with
-/// an earlier one.
+/// an earlier one. A file without segments has an empty plan, and no error.
 pub fn load_plan<E: EndianParse>(
     alloc: Global,
     file: &ElfBytes<'_, E>,
@@ -194,6 +196,7 @@ pub fn load_plan<E: EndianParse>(
         IfOk result (λ plan. (plan.items ≡ all) × IsPlan file.now.ehdr.class (length (view file.now).bytes) all) }
     ensures refused { let all = mappings (segment_list (view file.now).segments) in
         IfErr result (IsTrueOf file.now.ehdr.class (length (view file.now).bytes) all) }
+    ensures none { IsNone (view file.now).segments → IsOk result }
 {
     let plan = mappings(alloc, file)?;
     let len = file.data().len();

@@ -1,5 +1,5 @@
 //! The names by which the dynamic linker finds a file and the libraries that it needs.
-ghost use Rattle.std.specs.Prelude.{◌≡◌, IfOk, IsTrue, map, option_copied};
+ghost use Rattle.std.specs.Prelude.{◌≡◌, ◌≢◌, Err, IfOk, IfSome, IsTrue, None, Ok, map, option_copied};
 ghost use Rattle.std.specs.List.{find};
 ghost use Rattle.std.specs.Option.{option_map};
 ghost use Rattle.elf_records.specs.Dynamic.{has_tag};
@@ -241,8 +241,10 @@ fn entries_of<E: EndianParse, S: StreamSource, A: Allocator + Copy>(
     alloc: Global,
     stream: &mut ElfStream<E, S, A>,
 ) -> Result<Option<Vec<Dyn>>, NamesError>
-    ensures { GivesNames (option_map (λ entries. entries.items))
+    ensures entries { GivesNames (option_map (λ entries. entries.items))
         (λ bytes. entries_of (stream_file E.little stream.old bytes)) stream.old stream.new result }
+    ensures memory { result ≡ Err NamesError.Memory → IfSome stream.old.content (λ bytes.
+        entries_of (stream_file E.little stream.old bytes) ≢ Ok None) }
 {
     match stream.dynamic() {
         Ok(Some(table)) => Ok(Some(entries_in(alloc, &table)?)),
@@ -289,13 +291,16 @@ fn names_by<E: EndianParse, S: StreamSource, A: Allocator + Copy>(
 /// Errors, in order: `Read` if the dynamic entries cannot be read; `NoAddress` and `NoSize` if no entry gives the
 /// address or the size of the string table; `NotLoaded` if no segment of type `PT_LOAD` holds it; `Read` if its bytes
 /// cannot be read; `Name` if the string of an entry cannot be read: of the soname, then of the needed libraries in
-/// order, of `DT_RUNPATH` and of `DT_RPATH`. `Memory` if an allocation failed.
+/// order, of `DT_RUNPATH` and of `DT_RPATH`. `Memory` if an allocation failed, which is possible only if the file has
+/// dynamic entries.
 pub fn dynamic_names<E: EndianParse, S: StreamSource, A: Allocator + Copy>(
     alloc: Global,
     stream: &mut ElfStream<E, S, A>,
 ) -> Result<Option<Names>, NamesError>
-    ensures { GivesNames (option_map names_view) (λ bytes. names (stream_file E.little stream.old bytes))
+    ensures names { GivesNames (option_map names_view) (λ bytes. names (stream_file E.little stream.old bytes))
         stream.old stream.new result }
+    ensures memory { result ≡ Err NamesError.Memory → IfSome stream.old.content (λ bytes.
+        names (stream_file E.little stream.old bytes) ≢ Ok None) }
 {
     let entries = match entries_of(alloc, stream) {
         Ok(Some(entries)) => entries,

@@ -1,6 +1,6 @@
 //! The parts of a file by which symbols are bound, copied. A stream returns one borrowed view at a time, and a look-up
 //! needs the hash section, the symbols and their versions at once.
-ghost use Rattle.std.specs.Prelude.{◌≡◌, Bool, IsOk};
+ghost use Rattle.std.specs.Prelude.{◌≡◌, Bool, IfErr, IsOk};
 ghost use Rattle.std.specs.Option.{option_map};
 ghost use Rattle.elf_parts.specs.gnu_symver.Table.{definitions_view, needs_view, versions_view};
 ghost use Rattle.elf.specs.Answers.{symbol_version_table, symbols_view};
@@ -8,7 +8,8 @@ ghost use Rattle.elf.specs.ObjectFile.{ObjectFile};
 ghost use Rattle.elf_check.specs.CheckedTable.{object_view};
 ghost use Rattle.elf_binding.specs.ObjectTable.{GivesObjectTable, object_of};
 ghost use Rattle.elf_binding.specs.VersionedView.{versioned_view};
-ghost use Rattle.elf_tools.specs.Library.{GivesFrom, IsLibraryOf, definitions_in, library_hash, needs_in};
+ghost use Rattle.elf_tools.specs.Library.{GivesFrom, IsLibraryFault, IsLibraryOf, definitions_in, library_hash};
+ghost use Rattle.elf_tools.specs.Library.{needs_in};
 ghost use Rattle.elf_tools.specs.Library.{part_result, shown_hash};
 ghost use Rattle.elf_tools.specs.Library.{library_object, library_symbols, object_result, versions_in, library_versions};
 ghost use Rattle.elf_tools.specs.declared.bindings.library.LibraryFault.TheVariants.{Unread as IsUnread};
@@ -190,7 +191,8 @@ impl<E: EndianParse> Library<E> {
 
     // The checked table, if there is a hash section.
     fn table(&self) -> Result<Option<AnyChecked<'_, E>>, LibraryFault<'_>>
-        ensures { GivesObjectTable object_view (library_object E.little self.now) (object_result result) }
+        ensures table { GivesObjectTable object_view (library_object E.little self.now) (object_result result) }
+        ensures fault { IfErr result (IsLibraryFault E.little self.now) }
     {
         let Some((kind, section)) = self.hash_section()? else {
             return Ok(None);
@@ -212,8 +214,9 @@ impl<E: EndianParse> Library<E> {
     /// read; `Table` if there are no dynamic symbols; `Table` if `new` of the table returns an error; `Table` with a
     /// fault that is true of the section; `Unread` if the versions could not be read.
     pub fn object(&self) -> Result<Option<VersionedObject<'_, E>>, LibraryFault<'_>>
-        ensures { GivesFrom (versioned_view versions_view) (library_object E.little self.now)
+        ensures object { GivesFrom (versioned_view versions_view) (library_object E.little self.now)
             (library_versions E.little self.now) (object_result result) }
+        ensures fault { IfErr result (IsLibraryFault E.little self.now) }
     {
         let Some(table) = self.table()? else {
             return Ok(None);

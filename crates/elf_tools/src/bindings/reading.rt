@@ -1,5 +1,5 @@
 //! Reading a library from a stream.
-ghost use Rattle.std.specs.Prelude.{◌≡◌, IfErr, IfOk, IfSome, Some};
+ghost use Rattle.std.specs.Prelude.{◌≡◌, IfErr, IfOk, IfSome, IsNone, IsOk, Some};
 ghost use Rattle.std.specs.Option.{option_map};
 ghost use Rattle.elf_records.specs.Number.{ok_map};
 ghost use Rattle.elf.specs.Answers.{dynamic_symbol_table, symbol_version_table};
@@ -7,6 +7,7 @@ ghost use Rattle.elf.specs.Answers.{symbols_in as symbols_in_file};
 ghost use Rattle.elf.specs.Data.{content};
 ghost use Rattle.elf.specs.ElfStream.{Keeps};
 ghost use Rattle.elf_reading.specs.Refusals.{Kind, kind};
+ghost use Rattle.elf_reading.specs.Versions.{version_sections};
 ghost use Rattle.elf.specs.Headers.{if_found, section_range};
 ghost use Rattle.elf.specs.StreamFile.{stream_file};
 ghost use Rattle.elf.specs.Versions.{linked_strings, version_definitions, version_needs};
@@ -29,10 +30,7 @@ fn copied(alloc: Global, bytes: &[u8]) -> Result<Vec<u8>, ParseError>
     ensures same { IfOk result (λ copy. copy.items ≡ bytes.now) }
     ensures memory { IfErr result (λ e. kind e ≡ Kind.AllocationFailure) }
 {
-    match bytes.to_vec(alloc) {
-        Ok(copy) => Ok(copy),
-        Err(_) => Err(ParseError::OutOfMemory),
-    }
+    Ok(bytes.to_vec(alloc)?)
 }
 
 // The bytes of a section without its compression header.
@@ -200,9 +198,10 @@ fn read_versions<E: EndianParse, S: StreamSource>(
     alloc: Global,
     stream: &mut ElfStream<E, S, Global>,
 ) -> Result<Option<VersionBytes>, ParseError>
-    ensures { Reads stream.old stream.new result
+    ensures versions { Reads stream.old stream.new result
         (option_map (versions_in (E.little stream.old.headers.ehdr.endianness) stream.old.headers.ehdr.class))
         (λ bytes. symbol_version_table (stream_file E.little stream.old bytes)) }
+    ensures none { IsNone (version_sections stream.old.headers.sections).indexes → IsOk result }
 {
     let chosen = stream.version_sections();
     let Some(section) = chosen.indexes else {
@@ -219,7 +218,8 @@ fn read_versions<E: EndianParse, S: StreamSource>(
     }))
 }
 
-/// Reads the parts of a file by which symbols are bound. A part that cannot be read has the error in its place.
+/// Reads the parts of a file by which symbols are bound. A part that cannot be read has the error in its place. If no
+/// section has version indexes, there are no versions, and there is no error of reading them.
 pub fn read_library<E: EndianParse, S: StreamSource>(
     alloc: Global,
     stream: &mut ElfStream<E, S, Global>,
@@ -227,6 +227,7 @@ pub fn read_library<E: EndianParse, S: StreamSource>(
     ensures keeps { Keeps stream.old stream.new }
     ensures parts { IfSome stream.old.content (λ bytes.
         IsLibraryOf E.little stream.old.can_fail (stream_file E.little stream.old bytes) result) }
+    ensures no_versions { IsNone (version_sections stream.old.headers.sections).indexes → IsOk result.versions }
 {
     let endianness = stream.ehdr.endianness;
     let class = stream.ehdr.class;

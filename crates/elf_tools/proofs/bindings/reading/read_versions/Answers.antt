@@ -12,8 +12,8 @@ use Rattle.elf_tools.specs.Library.{definitions_in, needs_in, versions_in}
 use Rattle.elf_tools.proofs.Readings.{definitions_refused, keeps_then, needs_refused, reads_behind, same_file, stopped}
 use Rattle.elf_tools.proofs.bindings.reading.read_versions.Goals as goal
 
-pub returns-in_err-needs : goal.returns-in_err-needs
-returns-in_err-needs g c =
+pub returns-in_err-needs-clause-versions : goal.returns-in_err-needs-clause-versions
+returns-in_err-needs-clause-versions g c =
     let p = err_from_is_err_and c.from_residual-in_err-needs.result c.from_residual-in_err-needs.ensures.1 in
     let little = g.E.EndianParse.little in
     let old = c.args.stream.now in
@@ -30,8 +30,8 @@ returns-in_err-needs g c =
     (subst (λ (file : ObjectFile). IsErr (if_found (version_needs file) chosen.needs)) (same_file little old middle bytes keeps) refused))
     c.in_err-needs.ensures.needs))
 
-pub returns-in_err-definitions : goal.returns-in_err-definitions
-returns-in_err-definitions g c =
+pub returns-in_err-definitions-clause-versions : goal.returns-in_err-definitions-clause-versions
+returns-in_err-definitions-clause-versions g c =
     let p = err_from_is_err_and c.from_residual-in_err-definitions.result c.from_residual-in_err-definitions.ensures.1 in
     let little = g.E.EndianParse.little in
     let old = c.args.stream.now in
