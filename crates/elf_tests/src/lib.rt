@@ -2,7 +2,6 @@
 #![tactic(auto)]
 
 #[cfg(test)]
-#[cfg(test)]
 mod current_header;
 #[cfg(test)]
 mod faults;
