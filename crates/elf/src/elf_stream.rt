@@ -186,8 +186,12 @@ impl<E: EndianParse, S: StreamSource, A: Allocator + Copy> ElfStream<E, S, A> {
         requires cached { IsCached self.now start (start + size) }
         ensures bytes { IfSome self.now.content (λ bytes. bytes_at size bytes start ≡ Ok result.now) }
         ensures within { IfSome self.now.content (λ bytes. length result.now ≤ length bytes) }
+        ensures size { length result.now ≤ size }
     {
-        self.cache.bytes(start, start + size)
+        match self.cache.get(start, start + size) {
+            Some(bytes) => bytes,
+            None => unreachable!(),
+        }
     }
 
     // Reads the range of a section into the cache.

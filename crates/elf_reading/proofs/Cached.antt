@@ -417,6 +417,14 @@ only_put ps qs p start end (Ok x) put refused from to low high h =
     (subst (λ n. IsTrue (is_cached (map range_of ps) low high) ⊎ IsTrue (is_cached ((n, p.start + length p.bytes) ∷ []) low high)) from (only_from p ps qs put.from low high h))
 only_put ps qs p start end (Err e) put refused from to low high h = inl (subst (λ ps. IsTrue (is_cached (map range_of ps) low high)) refused.1 h)
 
+-- a piece whose range is cached already
+pub is_put_again : (p : Piece) (ps : List Piece) → IsTrue (is_cached (map range_of ps) p.start (p.start + length p.bytes)) → IsPut p ps ps
+is_put_again p ps cached = record {
+  cached = λ start end h. h;
+  has = cached;
+  from = λ i d lt. Contains-append_right (p ∷ []) ps _ (All-contains_itself ps i d lt);
+}
+
 pub from_ok : {T E : Type 0} (P : Type 0) (r : Result T E) → is_err r ≡ false → OnOk r P → P
 from_ok P (Ok x) none h = h
 from_ok P (Err e) none h = absurd (true≢false none)

@@ -29,3 +29,8 @@ HasReason before now can_fail none (Err e) = IsRefused before now can_fail none 
 abbrev pub IsNoAllocationFailure : Kind → Type 0
 IsNoAllocationFailure AllocationFailure = ⊥
 IsNoAllocationFailure _ = Unit {0}
+
+-- after an allocation failure the source is as it was
+abbrev pub IsUnused : {S : Type 0} → Kind → S → S → Type 0
+IsUnused AllocationFailure old new = new ≡ old
+IsUnused _ old new = Unit {0}

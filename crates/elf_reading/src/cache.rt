@@ -1,6 +1,7 @@
 //! The parts of a source that are cached.
 ghost use Rattle.std.specs.Prelude.{◌≡◌, [], ◌∷◌, ◌≤◌, ◌<◌, ◌+◌, ◌^◌, length, map};
-ghost use Rattle.std.specs.Prelude.{false, not, nat_lt, is_some, IsSome, IsTrue, IfSome, IfNone, OnOk, IfErr, ℕ};
+ghost use Rattle.std.specs.Prelude.{false, not, nat_le, nat_lt, ◌&&◌, is_some, IsSome, IsTrue, IfSome, IfNone};
+ghost use Rattle.std.specs.Prelude.{OnOk, Err, IfErr, ℕ};
 ghost use Rattle.std.specs.List.{filter, All, AllPairs, Contains};
 ghost use Rattle.std.specs.BTreeMap.{get_by};
 ghost use Rattle.std.specs.Ordering.{nat_cmp};
@@ -63,30 +64,41 @@ impl<A: Allocator> Cache<A> {
         None
     }
 
-    /// The bytes from `start` to `end`, which must lie in one buffer.
-    pub fn bytes(&self, start: u64, end: u64) -> &[u8]
-        requires ordered { start ≤ end }
-        requires cached { IsTrue (is_cached (map range_of self.now) start end) }
-        ensures { IsPartOf self.now start end result.now }
+    /// The bytes from `start` to `end`, if one buffer has all of them; `None` if `end` is less than `start`.
+    pub fn get(&self, start: u64, end: u64) -> Option<&[u8]>
+        ensures cached { is_some result ≡ (nat_le start end && is_cached (map range_of self.now) start end) }
+        ensures part { IfSome result (λ bytes. IsPartOf self.now start end bytes.now) }
     {
+        if end < start {
+            return None;
+        }
         match self.find(start, end) {
-            Some((from, bytes)) => &bytes[(start - from) as usize..(end - from) as usize],
-            None => unreachable!(),
+            Some((from, bytes)) => Some(&bytes[(start - from) as usize..(end - from) as usize]),
+            None => None,
         }
     }
 
-    /// Caches a buffer whose range is not cached yet, and drops the buffers that lie within it. Each buffer is dropped
-    /// at most once, so the amortized cost of a call is logarithmic in the number of buffers. The only error is
-    /// `OutOfMemory`, and it leaves the cache as it was.
+    /// Caches a buffer, and drops the buffers that lie within it. If its range is cached already, the buffer itself is
+    /// dropped. Each buffer is dropped at most once, so the amortized cost of a call is logarithmic in the number of
+    /// buffers.
+    ///
+    /// Errors, in order, which leave the cache as it was: `IntegerOverflow` if the end of the buffer does not fit 64
+    /// bits; `OutOfMemory` if the allocation failed.
     pub fn put(&mut self, start: u64, bytes: Vec<u8, A>) -> Result<(), ParseError>
     where
         A: Copy,
-        requires low { start + length bytes.items < 2 ^ 64 }
-        requires new { is_cached (map range_of self.old) start (start + length bytes.items) ≡ false }
         ensures put { OnOk result (IsPut (record { start = start; bytes = bytes.items }) self.old self.new) }
-        ensures refused { IfErr result (λ e. (e ≡ ParseError.OutOfMemory) × (self.new ≡ self.old)) }
+        ensures refused { start + length bytes.items < 2 ^ 64 →
+            IfErr result (λ e. (e ≡ ParseError.OutOfMemory) × (self.new ≡ self.old)) }
+        ensures overflow { 2 ^ 64 ≤ start + length bytes.items →
+            (result ≡ Err ParseError.IntegerOverflow) × (self.new ≡ self.old) }
     {
-        let end = start + bytes.len() as u64;
+        let Some(end) = start.checked_add(bytes.len() as u64) else {
+            return Err(ParseError::IntegerOverflow);
+        };
+        if self.holds(start, end) {
+            return Ok(());
+        }
         if self.buffers.insert(start, bytes).is_err() {
             return Err(ParseError::OutOfMemory);
         }

@@ -42,6 +42,8 @@ mod stream_runs;
 #[cfg(test)]
 mod streams;
 #[cfg(test)]
+mod streams_large;
+#[cfg(test)]
 mod tables;
 #[cfg(test)]
 mod texts;

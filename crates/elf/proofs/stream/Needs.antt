@@ -1,5 +1,5 @@
 -- Which ranges an accepted answer needs.
-use Rattle.std.proofs.Common.{ℕ, List, Option, Some, None, Result, Ok, Err, refl}
+use Rattle.std.proofs.Common.{ℕ, Bool, List, Option, Some, None, Result, Ok, Err, refl}
 use Rattle.std.specs.Prelude.{IsOk}
 use Rattle.elf_records.specs.Dynamic.{dyn_layout}
 use Rattle.elf_records.specs.Number.{ok_map}
@@ -8,10 +8,12 @@ use Rattle.elf_records.specs.declared.compression.CompressionHeader.{Compression
 use Rattle.elf_records.specs.declared.parse.ParseError.{ParseError}
 use Rattle.elf_records.specs.declared.section.SectionHeader.{SectionHeader}
 use Rattle.elf_records.specs.declared.segment.ProgramHeader.{ProgramHeader}
-use Rattle.elf.specs.Answers.{section_dynamic, segment_data, segment_dynamic}
-use Rattle.elf.specs.Ranges.{LinkedSections, VersionPlan, both_sections, if_there, plan_ranges, section_ranges, segment_ranges, whole_section}
+use Rattle.elf.specs.Answers.{first_symbols, section_dynamic, segment_data, segment_dynamic, symbol_sections, symbols_in}
+use Rattle.elf.specs.ElfStream.{Seen}
+use Rattle.elf.specs.Ranges.{LinkedSections, VersionPlan, both_sections, headers_alone, if_chosen, if_there, plan_ranges, section_ranges, segment_ranges, symbols_ranges, whole_section}
 use Rattle.elf.specs.Headers.{entry_size, if_found}
 use Rattle.elf.specs.ObjectFile.{ObjectFile, table_of}
+use Rattle.elf.specs.StreamFile.{stream_file}
 use Rattle.elf.specs.Data.{content, section_data}
 use Rattle.elf.specs.Headers.{section_range}
 use Rattle.elf.specs.inner.Loads.{AreThere}
@@ -62,3 +64,13 @@ plan_needs file plan h =
     let needs = if_needs file.bytes (needs_by file) plan.1 (λ pair ok. both_need file.bytes pair _ ok) (ok_first (if_found (needs_by file) plan.1) _ second.1) in
     let definitions = if_needs file.bytes (definitions_by file) plan.2 (λ pair ok. both_need file.bytes pair _ ok) (ok_first (if_found (definitions_by file) plan.2) _ third.1) in
     (ok_first (section_range file.bytes plan.0) _ h, there_append file.bytes (if_there both_sections plan.1) (if_there both_sections plan.2) needs definitions)
+
+chosen_need : {P Y : Type 0} (bytes : List ℕ) (choice : Result (Option P) ParseError) (ranges : P → List (ℕ × ℕ)) (answer : P → Result Y ParseError) → ((p : P) → IsOk (answer p) → AreThere bytes (ranges p)) → IsOk (choice >>= if_found answer) → AreThere bytes (if_chosen ranges choice)
+chosen_need bytes (Err e) ranges answer each h = tt
+chosen_need bytes (Ok None) ranges answer each h = tt
+chosen_need bytes (Ok (Some p)) ranges answer each h = each p (ok_inside Some (answer p) h)
+
+-- of the symbols of a stream
+pub symbols_need : {E : Type 0} (little : E → Bool) (s : Seen E) (t : ℕ) (bytes : List ℕ) → IsOk (first_symbols t (stream_file little s bytes)) → AreThere bytes (symbols_ranges t (headers_alone little s))
+symbols_need little s t bytes h =
+    chosen_need bytes (symbol_sections t (headers_alone little s)) both_sections (symbols_in (stream_file little s bytes)) (λ pair ok. both_need bytes pair _ ok) h

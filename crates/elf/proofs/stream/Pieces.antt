@@ -97,6 +97,10 @@ pub part_within : (known : Option (List ℕ)) (start size : ℕ) (part : List �
 part_within None start size part h = tt
 part_within (Some bytes) start size part h = shorter bytes part start size h
 
+-- a part has at most the bytes of its range, whatever the content is
+pub part_size : (ps : List Piece) (start size : ℕ) (part : List ℕ) → IsPartOf ps start (start + size) part → length part ≤ size
+part_size ps start size part at = subst (λ bytes. length bytes ≤ size) (sym at.3) (simp (length-take, length-drop) (omega arith))
+
 -- ---- a range within a cached one is cached
 
 or_true : (b : Bool) → (b || true) ≡ true

@@ -70,24 +70,24 @@ ends rs = map (λ r. (r.0, r.0 + r.1)) rs
 requested_both : (rs qs : List (ℕ × ℕ)) (start end : ℕ) → is_cached (ends (rs ++ qs)) start end ≡ (is_cached (ends rs) start end || is_cached (ends qs) start end)
 requested_both rs qs start end = ap (λ rs. is_cached rs start end) (map-append (λ (r : ℕ × ℕ). (r.0, r.0 + r.1)) rs qs) ∙ list_any-append _ (ends rs) (ends qs)
 
-requested_front : (rs qs : List (ℕ × ℕ)) (start end : ℕ) → IsRequested rs start end → IsRequested (rs ++ qs) start end
+pub requested_front : (rs qs : List (ℕ × ℕ)) (start end : ℕ) → IsRequested rs start end → IsRequested (rs ++ qs) start end
 requested_front rs qs start end h = requested_both rs qs start end ∙ ap (λ b. b || is_cached (ends qs) start end) h
 
-requested_back : (rs qs : List (ℕ × ℕ)) (start end : ℕ) → IsRequested qs start end → IsRequested (rs ++ qs) start end
+pub requested_back : (rs qs : List (ℕ × ℕ)) (start end : ℕ) → IsRequested qs start end → IsRequested (rs ++ qs) start end
 requested_back rs qs start end h = requested_both rs qs start end ∙ ap (λ b. is_cached (ends rs) start end || b) h ∙ or_true (is_cached (ends rs) start end)
 
 wider : {P : Type 0} (rs qs : List (ℕ × ℕ)) (start end : ℕ) → P ⊎ IsRequested rs start end → P ⊎ IsRequested (rs ++ qs) start end
 wider rs qs start end (inl before) = inl before
 wider rs qs start end (inr there) = inr (requested_front rs qs start end there)
 
-only_wider : {E : Type 0} (old new : Seen E) (rs qs : List (ℕ × ℕ)) → Only rs old new → Only (rs ++ qs) old new
+pub only_wider : {E : Type 0} (old new : Seen E) (rs qs : List (ℕ × ℕ)) → Only rs old new → Only (rs ++ qs) old new
 only_wider old new rs qs only start end h = wider rs qs start end (only start end h)
 
 one_later : {P Q : Type 0} (rs qs : List (ℕ × ℕ)) (start end : ℕ) → (P → Q ⊎ IsRequested rs start end) → P ⊎ IsRequested qs start end → Q ⊎ IsRequested (rs ++ qs) start end
 one_later rs qs start end so (inl before) = wider rs qs start end (so before)
 one_later rs qs start end so (inr there) = inr (requested_back rs qs start end there)
 
-only_then : {E : Type 0} (old middle new : Seen E) (rs qs : List (ℕ × ℕ)) → Only rs old middle → Only qs middle new → Only (rs ++ qs) old new
+pub only_then : {E : Type 0} (old middle new : Seen E) (rs qs : List (ℕ × ℕ)) → Only rs old middle → Only qs middle new → Only (rs ++ qs) old new
 only_then old middle new rs qs a b start end h = one_later rs qs start end (a start end) (b start end h)
 
 -- ---- which range the source and memory are needed for
@@ -97,11 +97,11 @@ for_so P Q Kind.SourceFailure so h = so h
 for_so P Q Kind.AllocationFailure so h = so h
 for_so P Q Kind.Refusal so h = tt
 
-needed_front : {E : Type 0} (bytes : List ℕ) (s : Seen E) (rs qs : List (ℕ × ℕ)) → IsNeeded bytes s rs → IsNeeded bytes s (rs ++ qs)
+pub needed_front : {E : Type 0} (bytes : List ℕ) (s : Seen E) (rs qs : List (ℕ × ℕ)) → IsNeeded bytes s rs → IsNeeded bytes s (rs ++ qs)
 needed_front bytes s [] qs h = absurd h
 needed_front bytes s (r ∷ rs) qs h = (h.0, λ cached. needed_front bytes s rs qs (h.1 cached))
 
-needed_back : {E : Type 0} (bytes : List ℕ) (s : Seen E) (rs qs : List (ℕ × ℕ)) → AreThere bytes rs → IsNeeded bytes s qs → IsNeeded bytes s (rs ++ qs)
+pub needed_back : {E : Type 0} (bytes : List ℕ) (s : Seen E) (rs qs : List (ℕ × ℕ)) → AreThere bytes rs → IsNeeded bytes s qs → IsNeeded bytes s (rs ++ qs)
 needed_back bytes s [] qs there h = h
 needed_back bytes s (r ∷ rs) qs there h = (there.0, λ _. needed_back bytes s rs qs there.1 h)
 

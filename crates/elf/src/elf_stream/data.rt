@@ -55,6 +55,7 @@ impl<E: EndianParse, S: StreamSource, A: Allocator + Copy> ElfStream<E, S, A> {
             ok_map data_view result ≡ section_data (stream_file E.little self.now bytes) shdr.now) }
         ensures within { IfOk result (λ found.
             IfSome self.now.content (λ bytes. length found.0.now ≤ length bytes)) }
+        ensures size { IfOk result (λ found. length found.0.now ≤ shdr.now.sh_size) }
         ensures plain { IfErr result (λ e. kind e ≡ Kind.Refusal) }
     {
         if shdr.sh_type == abi::SHT_NOBITS {
@@ -110,6 +111,7 @@ impl<E: EndianParse, S: StreamSource, A: Allocator + Copy> ElfStream<E, S, A> {
         ensures value { IfSome self.now.content (λ bytes. ok_map (λ part. part.now) result
             ≡ content (stream_file E.little self.now bytes) shdr.now) }
         ensures within { IfOk result (λ part. IfSome self.now.content (λ bytes. length part.now ≤ length bytes)) }
+        ensures size { IfOk result (λ part. length part.now ≤ shdr.now.sh_size) }
         ensures plain { IfErr result (λ e. kind e ≡ Kind.Refusal) }
     {
         let (bytes, _) = self.cached_section_data(shdr)?;
@@ -159,6 +161,7 @@ impl<E: EndianParse, S: StreamSource, A: Allocator + Copy> ElfStream<E, S, A> {
         ensures plain { IfErr result (λ e. kind e ≡ Kind.Refusal) }
         ensures few { IfOk result (λ records.
             IfSome self.now.content (λ bytes. length (items_left P.reads records) ≤ length bytes)) }
+        ensures size { IfOk result (λ records. length (items_left P.reads records) ≤ shdr.now.sh_size) }
         ensures bound { IfOk result (λ records. length (items_left P.reads records) < 2 ^ 64) }
     {
         let bytes = self.cached_content(shdr)?;
@@ -166,7 +169,7 @@ impl<E: EndianParse, S: StreamSource, A: Allocator + Copy> ElfStream<E, S, A> {
     }
 
     /// Returns an iterator over the relocations of a section of type `SHT_REL` (gABI, chapter "Relocation"). It ends at
-    /// the first one that cannot be read, and yields at most one for each byte of the file. Requests the range that
+    /// the first one that cannot be read, and yields at most one for each byte of the section. Requests the range that
     /// `section_data` requests.
     ///
     /// Errors, in order: `UnexpectedSectionType((found, expected))` for any other type, with no range requested; those
@@ -180,6 +183,7 @@ impl<E: EndianParse, S: StreamSource, A: Allocator + Copy> ElfStream<E, S, A> {
             (λ file. section_data_as_rels file shdr.now) result) }
         ensures few { IfOk result (λ rels.
             IfSome self.old.content (λ bytes. length (rels_left rels) ≤ length bytes)) }
+        ensures size { IfOk result (λ rels. length (rels_left rels) ≤ shdr.now.sh_size) }
         ensures bound { IfOk result (λ rels. length (rels_left rels) < 2 ^ 64) }
     {
         self.load_content(shdr, abi::SHT_REL)?;
@@ -187,8 +191,8 @@ impl<E: EndianParse, S: StreamSource, A: Allocator + Copy> ElfStream<E, S, A> {
     }
 
     /// Returns an iterator over the relocations of a section of type `SHT_RELA` (gABI, chapter "Relocation"). It ends
-    /// at the first one that cannot be read, and yields at most one for each byte of the file. Requests the range that
-    /// `section_data` requests.
+    /// at the first one that cannot be read, and yields at most one for each byte of the section. Requests the range
+    /// that `section_data` requests.
     ///
     /// Errors, in order: `UnexpectedSectionType((found, expected))` for any other type, with no range requested; those
     /// of `section_data`.
@@ -201,6 +205,7 @@ impl<E: EndianParse, S: StreamSource, A: Allocator + Copy> ElfStream<E, S, A> {
             (λ file. section_data_as_relas file shdr.now) result) }
         ensures few { IfOk result (λ relas.
             IfSome self.old.content (λ bytes. length (relas_left relas) ≤ length bytes)) }
+        ensures size { IfOk result (λ relas. length (relas_left relas) ≤ shdr.now.sh_size) }
         ensures bound { IfOk result (λ relas. length (relas_left relas) < 2 ^ 64) }
     {
         self.load_content(shdr, abi::SHT_RELA)?;
@@ -217,6 +222,7 @@ impl<E: EndianParse, S: StreamSource, A: Allocator + Copy> ElfStream<E, S, A> {
         ensures plain { IfErr result (λ e. kind e ≡ Kind.Refusal) }
         ensures few { IfOk result (λ notes.
             IfSome self.now.content (λ bytes. length (notes_left notes) ≤ length bytes)) }
+        ensures size { IfOk result (λ notes. length (notes_left notes) ≤ shdr.now.sh_size) }
         ensures bound { IfOk result (λ notes. length (notes_left notes) < 2 ^ 64) }
     {
         let bytes = self.cached_content(shdr)?;
@@ -230,7 +236,7 @@ impl<E: EndianParse, S: StreamSource, A: Allocator + Copy> ElfStream<E, S, A> {
 
     /// Returns an iterator over the notes of a section of type `SHT_NOTE`, aligned to `sh_addralign` bytes (gABI,
     /// chapter "Program Header", "Note Section"). It ends at the first note that does not fit, and yields at most one
-    /// for each byte of the file. Requests the range that `section_data` requests.
+    /// for each byte of the section. Requests the range that `section_data` requests.
     ///
     /// Errors, in order: `UnexpectedSectionType((found, expected))` for any other type, with no range requested; those
     /// of `section_data`.
@@ -243,6 +249,7 @@ impl<E: EndianParse, S: StreamSource, A: Allocator + Copy> ElfStream<E, S, A> {
             (λ file. section_data_as_notes file shdr.now) result) }
         ensures few { IfOk result (λ notes.
             IfSome self.old.content (λ bytes. length (notes_left notes) ≤ length bytes)) }
+        ensures size { IfOk result (λ notes. length (notes_left notes) ≤ shdr.now.sh_size) }
         ensures bound { IfOk result (λ notes. length (notes_left notes) < 2 ^ 64) }
     {
         self.load_content(shdr, abi::SHT_NOTE)?;

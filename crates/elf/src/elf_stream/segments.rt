@@ -26,6 +26,7 @@ impl<E: EndianParse, S: StreamSource, A: Allocator + Copy> ElfStream<E, S, A> {
         requires low { AreLow (segment_ranges phdr.now) }
         requires cached { AreCached self.now (segment_ranges phdr.now) }
         ensures within { IfSome self.now.content (λ bytes. length result.now ≤ length bytes) }
+        ensures size { length result.now ≤ phdr.now.p_filesz }
         ensures value { IfSome self.now.content (λ bytes.
             segment_data (stream_file E.little self.now bytes) phdr.now ≡ Ok result.now) }
     {
@@ -50,6 +51,7 @@ impl<E: EndianParse, S: StreamSource, A: Allocator + Copy> ElfStream<E, S, A> {
         ensures value { IfSome self.now.content (λ bytes.
             segment_data_as_notes (stream_file E.little self.now bytes) phdr.now ≡ Ok (notes_left result)) }
         ensures few { IfSome self.now.content (λ bytes. length (notes_left result) ≤ length bytes) }
+        ensures size { length (notes_left result) ≤ phdr.now.p_filesz }
         ensures bound { length (notes_left result) < 2 ^ 64 }
     {
         let bytes = self.cached_segment(phdr);
@@ -63,7 +65,7 @@ impl<E: EndianParse, S: StreamSource, A: Allocator + Copy> ElfStream<E, S, A> {
 
     /// Returns an iterator over the notes of a segment of type `PT_NOTE`, aligned to `p_align` bytes (gABI, chapter
     /// "Program Header", "Note Section"). It ends at the first note that does not fit, and yields at most one for each
-    /// byte of the file. Requests the range of the segment.
+    /// byte of the segment. Requests the range of the segment.
     ///
     /// Errors, in order: `UnexpectedSegmentType((found, expected))` for any other type, with no range requested; that
     /// of the range.
@@ -75,6 +77,7 @@ impl<E: EndianParse, S: StreamSource, A: Allocator + Copy> ElfStream<E, S, A> {
             (λ _. segment_notes_ranges phdr.now) notes_left (λ file. segment_data_as_notes file phdr.now) result) }
         ensures few { IfOk result (λ notes.
             IfSome self.old.content (λ bytes. length (notes_left notes) ≤ length bytes)) }
+        ensures size { IfOk result (λ notes. length (notes_left notes) ≤ phdr.now.p_filesz) }
         ensures bound { IfOk result (λ notes. length (notes_left notes) < 2 ^ 64) }
     {
         if phdr.p_type != abi::PT_NOTE {

@@ -1,4 +1,4 @@
-use Rattle.std.proofs.Common.{rules, ◌≡◌, ◌-◌, length, drop, take, ◌++◌, ◌∙◌, true, is_ok}
+use Rattle.std.proofs.Common.{rules, arith, ◌≡◌, ◌+◌, ◌-◌, length, drop, take, ◌++◌, ◌∙◌, true, is_ok}
 use Rattle.elf_reading.proofs.Filling.{IsFilled-step, kept_front, written_whole}
 use borrow.Rule.Slice.PartMut.{mid_of, put_mid, same_len_mid}
 use Rattle.elf_reading.proofs.reads.fetch.Goals as goal
@@ -14,7 +14,7 @@ loop-bytes-preserved g c =
     let long : length x ≡ length whole = same_len_mid n k whole part same in
     let back : take c.resize.new.self.len (x ++ drop (length x) c.resize.new.self.items) ≡ x = written_whole _ x _ (long ∙ c.deref_mut.ensures.len) in
     let ok : is_ok c.resize.result ≡ true = search rules in
-    let front : take n whole ≡ c.loop-bytes.bytes.items = rw (c.deref_mut.ensures.value, c.resize.ensures.items, ok) (kept_front c.loop-bytes.bytes.items _ n c.min.result (search rules) (search rules)) in
+    let front : take n whole ≡ c.loop-bytes.bytes.items = rw (c.deref_mut.ensures.value, c.resize.ensures.items, ok) (kept_front c.loop-bytes.bytes.items _ n (n + c.next_step-more.result) (search rules) (omega arith)) in
     record {
       in_range = search rules;
       room = search rules;

@@ -19,7 +19,7 @@ returns-then-end-self-clause-answer g c =
 pub invariant_of-self-2 : goal.invariant_of-self-2
 invariant_of-self-2 g c =
     rw c.fetch.ensures.content record {
-      sound = sound_put _ c.self.inside.len c.self.inside.cache c.put.new.self c.args.start c.in-Some.end (record { start = c.args.start; bytes = c.in_ok-bytes.bytes.items }) c.put.result c.self.invariant.sound c.put.ensures.put c.put.ensures.refused
+      sound = sound_put _ c.self.inside.len c.self.inside.cache c.put.new.self c.args.start c.in-Some.end (record { start = c.args.start; bytes = c.in_ok-bytes.bytes.items }) c.put.result c.self.invariant.sound c.put.ensures.put (c.put.ensures.refused (omega (arith, c.in-Some.ensures, c.in_ok-bytes.ensures.len)))
           (omega (arith, c.in-Some.ensures)) c.if-end-self.false refl
           c.in_ok-bytes.ensures.len c.in_ok-bytes.ensures.bytes;
       tables = c.self.invariant.tables;
@@ -31,7 +31,7 @@ returns-clause-keeps g c =
       content = c.fetch.ensures.content;
       can_fail = c.fetch.ensures.nature;
       headers = refl;
-      cached = cached_put c.self.inside.cache c.put.new.self (record { start = c.args.start; bytes = c.in_ok-bytes.bytes.items }) c.put.result c.put.ensures.put c.put.ensures.refused;
+      cached = cached_put c.self.inside.cache c.put.new.self (record { start = c.args.start; bytes = c.in_ok-bytes.bytes.items }) c.put.result c.put.ensures.put (c.put.ensures.refused (omega (arith, c.in-Some.ensures, c.in_ok-bytes.ensures.len)));
     }
 
 pub returns-clause-loaded : goal.returns-clause-loaded
@@ -45,13 +45,13 @@ pub returns-clause-only : goal.returns-clause-only
 returns-clause-only g c =
     let long : length c.in_ok-bytes.bytes.items ≡ c.in-Some.end - c.args.start = c.in_ok-bytes.ensures.len in
     rw (← c.self.view_is)
-    (only_put c.self.inside.cache c.put.new.self (record { start = c.args.start; bytes = c.in_ok-bytes.bytes.items }) c.args.start (c.args.start + c.args.size) c.put.result c.put.ensures.put c.put.ensures.refused refl (omega arith))
+    (only_put c.self.inside.cache c.put.new.self (record { start = c.args.start; bytes = c.in_ok-bytes.bytes.items }) c.args.start (c.args.start + c.args.size) c.put.result c.put.ensures.put (c.put.ensures.refused (omega (arith, c.in-Some.ensures, c.in_ok-bytes.ensures.len))) refl (omega arith))
 
 pub returns-clause-answer : goal.returns-clause-answer
 returns-clause-answer g c =
     let low : c.args.start + c.args.size < 2 ^ 64 = omega (arith, c.in-Some.ensures) in
     rw (← c.self.view_is)
-    (load_answered _ c.self.inside.len c.args.start c.args.size _ _ _ c.put.result c.self.invariant.sound.len low (omega (arith, c.in-Some.ensures)) c.in_ok-bytes.ensures.reason (refused_for _ c.put.result c.put.ensures.refused))
+    (load_answered _ c.self.inside.len c.args.start c.args.size _ _ _ c.put.result c.self.invariant.sound.len low (omega (arith, c.in-Some.ensures)) c.in_ok-bytes.ensures.reason (refused_for _ c.put.result (c.put.ensures.refused (omega (arith, c.in-Some.ensures, c.in_ok-bytes.ensures.len)))))
 
 pub returns-in_err-bytes-clause-needed : goal.returns-in_err-bytes-clause-needed
 returns-in_err-bytes-clause-needed g c =

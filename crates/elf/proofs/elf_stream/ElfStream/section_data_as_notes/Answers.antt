@@ -18,5 +18,5 @@ returns-in_err-load_content g c =
         leaves_refused_for c.args.self.now c.load_content.new.self (typed_section_ranges 7 c.args.shdr.now) notes_left (λ bytes. content_of_type 7 (file bytes) c.args.shdr.now) (λ bytes. section_data_as_notes (file bytes) c.args.shdr.now) p.0 _ p.1
             (λ bytes. ok_of_map (notes_in (file bytes).little c.args.shdr.now.sh_addralign) (content_of_type 7 (file bytes) c.args.shdr.now)) (rw p.2 c.in_err-load_content.ensures.loads),
       ),
-      record { leaves = tt; few = rw p.1 tt; bound = rw p.1 tt },
+      record { leaves = tt; few = rw p.1 tt; size = rw p.1 tt; bound = rw p.1 tt },
     )

@@ -19,5 +19,5 @@ returns-in_err-load_content g c =
         leaves_refused_for c.args.self.now c.load_content.new.self (typed_section_ranges 4 c.args.shdr.now) relas_left (λ bytes. content_of_type 4 (file bytes) c.args.shdr.now) (λ bytes. section_data_as_relas (file bytes) c.args.shdr.now) p.0 _ p.1
             (λ bytes. ok_of_map (records_of rela_reads (file bytes)) (content_of_type 4 (file bytes) c.args.shdr.now)) (rw p.2 c.in_err-load_content.ensures.loads),
       ),
-      record { leaves = tt; few = rw p.1 tt; bound = rw p.1 tt },
+      record { leaves = tt; few = rw p.1 tt; size = rw p.1 tt; bound = rw p.1 tt },
     )
