@@ -122,16 +122,16 @@ class Peers:
         """The same in instructions, less those of a run without a turn. `None` if valgrind is not there."""
         if not shutil.which("valgrind"):
             return None
-        before = {"ours": instructions([self.ours, *file.words, "0", "opening=1"])}
+        before = {"ours": collected([self.ours, *file.words, "0", "opening=1"])}
         for level in self.levels:
-            before[level] = instructions([self.theirs, *file.words, "0", f"{level}.opening=1"])
+            before[level] = collected([self.theirs, *file.words, "0", f"{level}.opening=1"])
         counted = {}
         for loop in LOOPS:
             for level, word in self.words(loop).items():
                 if word not in counted:
                     program = self.ours if level == "ours" else self.theirs
                     passes = file.passes(loop, COUNTED_ITEMS)
-                    run = instructions([program, *file.words, "1", f"{word}={passes}"]) - before[level]
+                    run = collected([program, *file.words, "1", f"{word}={passes}"]) - before[level]
                     counted[word] = run / max(1, file.items[loop.items] * passes)
         return [{level: counted[word] for level, word in self.words(loop).items()} for loop in LOOPS]
 
@@ -144,7 +144,7 @@ def printed(command):
     return [line.split() for line in run.stdout.splitlines()]
 
 
-def instructions(command):
+def collected(command):
     """What callgrind counts of a run."""
     counting = ["valgrind", "--tool=callgrind", "--callgrind-out-file=/dev/null"]
     run = subprocess.run(counting + command, capture_output=True, text=True, check=True)
