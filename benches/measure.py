@@ -29,9 +29,9 @@ def built_callers():
     return os.path.join(crate, "out", "elf_cases")
 
 
-def build_library_times(folder):
-    """The program that calls the library, beside a copy of the crates that it uses, with their outputs."""
-    with open(os.path.join(HERE, "library_times", "uses.txt")) as file:
+def build_program(name, folder):
+    """One of our programs of this folder, beside a copy of the crates that it uses, with their outputs."""
+    with open(os.path.join(HERE, name, "uses.txt")) as file:
         own = file.read()
     with open(os.path.join(TOP, "crates.txt")) as file:
         lines = [line for line in file.read().splitlines() if ":" in line and not line.startswith("#")]
@@ -42,15 +42,18 @@ def build_library_times(folder):
         if crate in needs and crate not in found:
             found.append(crate)
             wanted += needs[crate]
-    program = os.path.join(folder, "crates", "library_times")
+    program = os.path.join(folder, "crates", name)
     os.makedirs(os.path.join(program, "src"))
     with open(os.path.join(folder, "crates.txt"), "w") as file:
         file.write("".join(f"{crate}: {' '.join(needs[crate])}\n" for crate in found) + own)
     for crate in found:
         shutil.copytree(os.path.join(TOP, "crates", crate), os.path.join(folder, "crates", crate), symlinks=True)
-    shutil.copy(os.path.join(HERE, "library_times", "main.rt.txt"), os.path.join(program, "src", "main.rt"))
-    subprocess.run(["rt", "run"], cwd=program, stdout=subprocess.DEVNULL)
-    return os.path.join(program, "out", "library_times")
+    shutil.copy(os.path.join(HERE, name, "main.rt.txt"), os.path.join(program, "src", "main.rt"))
+    run = subprocess.run(["rt", "run"], cwd=program, capture_output=True, text=True)
+    built = os.path.join(program, "out", name)
+    if not os.path.exists(built):
+        raise SystemExit(f"{name} was not built: {(run.stdout + run.stderr)[-2000:]}")
+    return built
 
 
 def processor_seconds(command):

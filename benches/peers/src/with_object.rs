@@ -1,0 +1,3 @@
+//! The loops with the crate `object`.
+pub mod high;
+pub mod low;
