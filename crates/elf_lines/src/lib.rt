@@ -3,7 +3,7 @@
 //!
 //! A function `write_..` writes whole lines to `out`. Its only error is that of the writer; how much of the text the
 //! writer got is then not stated. A function `add_..` and the methods of `LineBuffer` add to a line in a buffer, whose
-//! `end` writes it and returns the error. Nothing is allocated.
+//! `end` writes it and returns the error. Only `versions::HeapRoom` allocates.
 #![tactic(auto)]
 
 pub mod counted;
