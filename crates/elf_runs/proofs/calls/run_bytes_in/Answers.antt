@@ -1,6 +1,6 @@
 use Rattle.std.proofs.Common.{arith}
 use Rattle.std.proofs.lemmas.Grind.{common_steps}
-use Rattle.elf_runs.proofs.calls.run_bytes.Goals as goal
+use Rattle.elf_runs.proofs.calls.run_bytes_in.Goals as goal
 
 pub loop-call-preserved : goal.loop-call-preserved
 loop-call-preserved g c = grind (arith, common_steps)

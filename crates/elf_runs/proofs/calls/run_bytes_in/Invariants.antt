@@ -5,7 +5,7 @@ use Rattle.elf_calls.specs.declared.calls.Call.{Call}
 use Rattle.elf_calls.specs.Question.{question}
 use Rattle.elf_calls.specs.Text.{text}
 use Rattle.elf_lines.proofs.Writing.{Leaves}
-use Rattle.elf_runs.proofs.calls.run_bytes.Given as goal
+use Rattle.elf_runs.proofs.calls.run_bytes_in.Given as goal
 
 -- the text so far, and then that of the calls that are left, is the text of all calls
 abbrev pub invariant-loop-call : goal.invariant-loop-call
