@@ -32,17 +32,18 @@ use elf_lines::sections::{SectionLine, write_found};
 use elf_lines::segments::SegmentLine;
 use elf_lines::strings::write_strings;
 use elf_lines::symbols::SymbolLine;
-use elf_lines::versions::write_versions;
+use elf_lines::versions::Room;
 use std::io;
 use std::io::Write;
 
 /// Writes the text of a call over the bytes of a file. A call for which the reader returns an error writes the line
-/// `refused`. Allocates no memory.
+/// `refused`. The call `versions` looks versions up in `room`, and nothing else is allocated.
 ///
 /// The only error is that of the writer; how much of the text the writer got is then not stated.
-pub fn write_call<E: EndianParse, W: Write>(
+pub fn write_call<E: EndianParse, R: Room, W: Write>(
     file: &ElfBytes<'_, E>,
     call: Call<'_>,
+    room: &R,
     out: &mut W,
 ) -> io::Result<()>
     ensures { OnOk result (Appends (W.contents out.old) (W.contents out.new)
@@ -63,7 +64,7 @@ pub fn write_call<E: EndianParse, W: Write>(
         Call::Symbols => write_symbols(file.symbol_table(), out),
         Call::DynSyms => write_symbols(file.dynamic_symbol_table(), out),
         Call::Dynamic => write_dynamic(file, out),
-        Call::Versions => write_symbol_versions(file, out),
+        Call::Versions => write_symbol_versions(file, room, out),
         Call::Sysv(index) => write_hash(file, HashSection::Sysv, index, out),
         Call::Gnu(index) => write_hash(file, HashSection::Gnu, index, out),
     }
@@ -287,8 +288,9 @@ fn dynamic_symbol_count<E: EndianParse>(file: &ElfBytes<'_, E>) -> Result<usize,
     }
 }
 
-fn write_symbol_versions<E: EndianParse, W: Write>(
+fn write_symbol_versions<E: EndianParse, R: Room, W: Write>(
     file: &ElfBytes<'_, E>,
+    room: &R,
     out: &mut W,
 ) -> io::Result<()>
     ensures { OnOk result (Appends (W.contents out.old) (W.contents out.new)
@@ -298,7 +300,7 @@ fn write_symbol_versions<E: EndianParse, W: Write>(
         return write_refused(out);
     };
     match file.symbol_version_table() {
-        Ok(Some(versions)) => write_versions(symbols, &versions, out),
+        Ok(Some(versions)) => room.write_versions(symbols, &versions, out),
         Ok(None) => write_none(out),
         Err(_) => write_refused(out),
     }

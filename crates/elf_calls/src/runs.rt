@@ -18,6 +18,7 @@ use crate::stream::Stop;
 use crate::{bytes, stream};
 use elf::endian::EndianParse;
 use elf::{ElfBytes, ElfStream, ParseError, StreamSource};
+use elf_lines::versions::{HeapRoom, Room, StackRoom};
 use std::alloc::Allocator;
 use std::io;
 use std::io::Write;
@@ -57,13 +58,54 @@ pub fn run_bytes<E: EndianParse, W: Write>(
     ensures no_fault { (done : ℕ) (e : ParseError) → result ≢ Err (RunError.Fault done e) }
     ensures stopped { StopsWithin (length calls.now) result }
 {
+    run_bytes_in::<E, StackRoom, W>(data, calls, &StackRoom, out)
+}
+
+/// Does what `run_bytes` does, and allocates places for all versions, so each is found without a walk. A failed
+/// allocation is no error: the places are then those of `run_bytes`.
+///
+/// Errors: those of `run_bytes`.
+pub fn run_bytes_with_memory<E: EndianParse, A: Allocator + Copy, W: Write>(
+    alloc: A,
+    data: &[u8],
+    calls: &[Call<'_>],
+    out: &mut W,
+) -> Result<(), RunError>
+    ensures ok { OnOk result (IfOk (opened E.little E.of_byte «data».now) (λ file.
+        Appends (W.contents out.old) (W.contents out.new)
+        (text file.ehdr (object_file E.little file) (map question calls.now)))) }
+    ensures refused { IfErr (opened E.little E.of_byte «data».now) (λ e. result ≡ Err (RunError.Open e)) }
+    ensures open { (e : ParseError) → result ≡ Err (RunError.Open e) →
+        (opened E.little E.of_byte «data».now ≡ Err e) × (out.new ≡ out.old) }
+    ensures no_fault { (done : ℕ) (e : ParseError) → result ≢ Err (RunError.Fault done e) }
+    ensures stopped { StopsWithin (length calls.now) result }
+{
+    run_bytes_in::<E, HeapRoom<A>, W>(data, calls, &HeapRoom { alloc }, out)
+}
+
+// Writes the text of the calls over the data; versions are looked up in `room`.
+fn run_bytes_in<E: EndianParse, R: Room, W: Write>(
+    data: &[u8],
+    calls: &[Call<'_>],
+    room: &R,
+    out: &mut W,
+) -> Result<(), RunError>
+    ensures ok { OnOk result (IfOk (opened E.little E.of_byte «data».now) (λ file.
+        Appends (W.contents out.old) (W.contents out.new)
+        (text file.ehdr (object_file E.little file) (map question calls.now)))) }
+    ensures refused { IfErr (opened E.little E.of_byte «data».now) (λ e. result ≡ Err (RunError.Open e)) }
+    ensures open { (e : ParseError) → result ≡ Err (RunError.Open e) →
+        (opened E.little E.of_byte «data».now ≡ Err e) × (out.new ≡ out.old) }
+    ensures no_fault { (done : ℕ) (e : ParseError) → result ≢ Err (RunError.Fault done e) }
+    ensures stopped { StopsWithin (length calls.now) result }
+{
     let file = match ElfBytes::<E>::minimal_parse(data) {
         Ok(file) => file,
         Err(error) => return Err(RunError::Open(error)),
     };
     let mut done = 0;
     for call in calls {
-        if let Err(error) = bytes::write_call(&file, *call, out) {
+        if let Err(error) = bytes::write_call(&file, *call, room, out) {
             return Err(RunError::Write { done, error });
         }
         if let Err(error) = out.flush() {

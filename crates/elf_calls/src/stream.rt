@@ -35,7 +35,7 @@ use elf_lines::sections::{SectionLine, write_found};
 use elf_lines::segments::SegmentLine;
 use elf_lines::strings::write_strings;
 use elf_lines::symbols::SymbolLine;
-use elf_lines::versions::write_versions;
+use elf_lines::versions::{HeapRoom, Room};
 use std::alloc::Allocator;
 use std::io;
 use std::io::Write;
@@ -379,8 +379,11 @@ fn write_symbol_versions<E: EndianParse, S: StreamSource, A: Allocator + Copy, W
         Ok(symbols) => symbols,
         Err(error) => return Err(error),
     };
+    let room = HeapRoom {
+        alloc: *stream.section_headers().allocator(),
+    };
     match stream.symbol_version_table() {
-        Ok(Some(versions)) => Ok(write_versions(symbols, &versions, out)),
+        Ok(Some(versions)) => Ok(room.write_versions(symbols, &versions, out)),
         Ok(None) => Ok(write_none(out)),
         Err(error) => Err(error),
     }

@@ -17,7 +17,7 @@ ghost use Rattle.elfshow.specs.declared.failure.Failure.TheVariants.{Usage};
 ghost use Rattle.elfshow.specs.declared.show.Mode.TheVariants.{Both, Bytes, Stream};
 ghost use Rattle.elfshow.specs.declared.show.RequestError.TheVariants.{OutOfMemory};
 
-use crate::calls::{Call, RunError, run_bytes, run_stream};
+use crate::calls::{Call, RunError, run_bytes_with_memory, run_stream};
 use crate::failure::{Failure, report};
 use crate::file_system::FileSystem;
 use crate::words::parse_call;
@@ -221,7 +221,7 @@ pub fn answer<F: FileSystem, W: Write>(
     match request.mode {
         Mode::Bytes => {
             let data = files.read(request.file).map_err(Failure::File)?;
-            run_bytes::<AnyEndian, W>(data.as_slice(), calls, out)?;
+            run_bytes_with_memory::<AnyEndian, Global, W>(alloc, data.as_slice(), calls, out)?;
         }
         Mode::Stream => {
             let source = files.open(request.file).map_err(Failure::File)?;
@@ -277,7 +277,9 @@ pub fn run_both<W: Write>(
     ensures refused { IsErr (opened any_is_little any_of_byte «data».now) → out.new ≡ out.old }
 {
     let mut one = Vec::new(alloc);
-    if let Err(error) = run_bytes::<AnyEndian, Vec<u8>>(data, calls, &mut one) {
+    if let Err(error) = run_bytes_with_memory::<AnyEndian, Global, Vec<u8>>(
+        alloc, data, calls, &mut one,
+    ) {
         return Err(in_memory(error));
     }
     let mut other = Vec::new(alloc);
