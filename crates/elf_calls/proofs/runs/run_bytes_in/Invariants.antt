@@ -5,11 +5,7 @@ use Rattle.elf_calls.specs.declared.calls.Call.{Call}
 use Rattle.elf_calls.specs.Question.{question}
 use Rattle.elf_calls.specs.Text.{text}
 use Rattle.elf_lines.proofs.Writing.{Leaves}
-<<<<<<<< HEAD:crates/elf_calls/proofs/runs/run_bytes/Invariants.antt
-use Rattle.elf_calls.proofs.runs.run_bytes.Given as goal
-========
 use Rattle.elf_calls.proofs.runs.run_bytes_in.Given as goal
->>>>>>>> 9cb40a50deb9446e8c3efeb6c9ba1986906e0c3e:crates/elf_runs/proofs/calls/run_bytes_in/Invariants.antt
 
 -- the text so far, and then that of the calls that are left, is the text of all calls
 abbrev pub invariant-loop-call : goal.invariant-loop-call
