@@ -20,7 +20,7 @@ alike_first (Ok x) (Err e) f h = cc
 alike_first (Err e) (Ok y) f h = cc
 alike_first (Err e) (Err d) f h = refl
 
--- the steps behind the first
+-- the steps after the first
 pub alike_later : {A B : Type 0} (p : Result A ParseError) (f g : A → Result B ParseError) → ((x : A) → AreAlike (f x) (g x)) → AreAlike (p >>= f) (p >>= g)
 alike_later (Ok x) f g h = h x
 alike_later (Err e) f g h = refl
@@ -29,7 +29,7 @@ pub alike_if : {A : Type 0} (test : Bool) (p q r s : Result A ParseError) → Ar
 alike_if true p q r s then_so else_so = then_so
 alike_if false p q r s then_so else_so = else_so
 
--- of a header, where there is one
+-- of a header, if there is one
 pub alike_found : {A B : Type 0} (f g : A → Result B ParseError) (o : Option A) → ((x : A) → AreAlike (f x) (g x)) → AreAlike (if_found f o) (if_found g o)
 alike_found f g None h = refl
 alike_found f g (Some x) h = alike_map Some (f x) (g x) (h x)

@@ -1,4 +1,4 @@
--- Calls of a stream, one after the other, answer as those of `ElfBytes`.
+-- Consecutive calls of a stream answer as those of `ElfBytes`.
 use Rattle.std.proofs.Common.{◌≡◌, ℕ, Bool, List, [], ◌∷◌, refl, ap, ◌∙◌, subst, Option, Some, None, IfSome}
 use Rattle.std.specs.Prelude.{Result, Ok, Err, IsErr, All}
 use Rattle.std.proofs.lemmas.List.Elements.{All-cons, All-nil}
@@ -10,7 +10,7 @@ use Rattle.elf.specs.StreamFile.{stream_file}
 use Rattle.elf.specs.ObjectFile.{object_file}
 use Rattle.elf.specs.Readers.{AreAlike, SameAnswers}
 use Rattle.elf_reading.specs.Opening.{opened}
-use Rattle.elf.specs.ElfStream.{Headers, IsAnswer, IsOfFile, Keeps, Leaves, Seen, headers_of}
+use Rattle.elf.specs.ElfStream.{StreamHeaders, IsAnswer, IsOfFile, Keeps, Leaves, Seen, headers_of}
 use Rattle.elf_reading.specs.Refusals.{IsRefused, Kind, kind}
 use Rattle.elf.specs.ElfBytes.{with_header}
 use Rattle.elf_reading.specs.Opening.{View}
@@ -41,7 +41,7 @@ known bytes content P is h = subst (λ content. IfSome content P) is h
 
 -- the headers stay, and another one may be put in
 put_in : {E : Type 0} (v : View E) (s : Seen E) (h : FileHeader E) → s.headers ≡ headers_of (with_header v s.headers.ehdr) → record s.headers { ehdr = h } ≡ headers_of (with_header v h)
-put_in v s h same = ap (λ (headers : Headers _). record headers { ehdr = h }) same
+put_in v s h same = ap (λ (headers : StreamHeaders _). record headers { ehdr = h }) same
 
 stay : {E : Type 0} (v : View E) (old new : Seen E) → Keeps old new → old.headers ≡ headers_of (with_header v old.headers.ehdr) → new.headers ≡ headers_of (with_header v new.headers.ehdr)
 stay v old new keeps same = rw keeps.headers same

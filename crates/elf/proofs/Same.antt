@@ -58,7 +58,7 @@ module _ (file : ObjectFile) (gives : ℕ → Result SectionHeader ParseError) (
       let taken : (f : ℕ → Result SectionHeader ParseError) → ℕ → Result (Option SectionHeader) ParseError = λ f index. ok_map Some (f index) in
       let named = alike_first (name_index file) (name_index other) (taken file.section_at) index_alike in
       let after = alike_later (name_index other) (taken file.section_at) (taken gives) taken_alike in
-      alike_if (not file.has_sections) (Ok None) (Ok None) _ _ refl
+      alike_if (not file.declares_sections) (Ok None) (Ok None) _ _ refl
       (alike_if (file.e_shstrndx == 0) (Ok None) (Ok None) _ _ refl (named ∙ after))
 
   name_table_alike : AreAlike (name_table file) (name_table (with_sections_at file gives))

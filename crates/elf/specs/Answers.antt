@@ -31,7 +31,7 @@ use Rattle.elf_reading.specs.Versions.{version_sections}
 
 -- ---- parts of answers
 
--- the first section of a name, where there are names
+-- the first section of a name, if there are names
 abbrev pub first_named : List SectionHeader → List ℕ → Option (List ℕ) → Option SectionHeader
 first_named sections name None = None
 first_named sections name (Some names) = find (has_name names name) sections
@@ -116,7 +116,7 @@ dynamic_symbol_table file = first_symbols sht_dynsym file
 -- the first section of type SHT_DYNAMIC, or where no table of sections is declared the first segment of type PT_DYNAMIC
 abbrev pub dynamic : ObjectFile → Result (Option Table) ParseError
 dynamic file =
-    if file.has_sections then if_found (section_dynamic file) (first_section_of sht_dynamic file.sections)
+    if file.declares_sections then if_found (section_dynamic file) (first_section_of sht_dynamic file.sections)
     else if_found (segment_dynamic file) (first_segment_of pt_dynamic file.segments)
 
 -- None without a section of type SHT_GNU_VERSYM

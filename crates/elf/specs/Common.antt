@@ -99,7 +99,7 @@ last_of_each parts = record {
   gnu_hash = last_or None (filter_map as_gnu_hash parts);
 }
 
--- the dynamic entries of the sections, or where there are none those of the first segment of type PT_DYNAMIC
+-- the dynamic entries of the sections, or if there are none those of the first segment of type PT_DYNAMIC
 abbrev pub dynamic_or_segment : ObjectFile → Option Table → Result (Option Table) ParseError
 dynamic_or_segment file (Some entries) = Ok (Some entries)
 dynamic_or_segment file None = if_found (segment_dynamic file) (first_segment_of pt_dynamic file.segments)
@@ -117,7 +117,7 @@ abbrev pub find_common_data : ObjectFile → Result CommonData ParseError
 find_common_data file =
     common_of_sections file >>= λ found. ok_map (with_dynamic found) (dynamic_or_segment file found.dynamic)
 
--- what the struct shows
+-- the view of the struct
 abbrev pub common_view : {E : Type 0} → CommonElfData E → CommonData
 common_view found = record {
   symtab = option_map table_view found.symtab;

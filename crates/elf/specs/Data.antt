@@ -19,7 +19,7 @@ compressed file part =
     let header = record_by compression_header_layout file.little file.class in
     at_front (size_by compression_header_layout file.class) header part
 
--- a section of type SHT_NOBITS has no bytes, and its range is not looked at; else its range, and where its
+-- a section of type SHT_NOBITS has no bytes, and its range is not checked; else its range, and where its
 -- flags have SHF_COMPRESSED the header at the front of that, and what follows it
 unfoldable pub section_data : ObjectFile → SectionHeader → Result (List ℕ × Option CompressionHeader) ParseError
 section_data file s =

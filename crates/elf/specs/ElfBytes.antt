@@ -1,4 +1,4 @@
--- What an opened file shows: its header as it is now, its bytes, and the two tables that it declares.
+-- The view of an opened file: its header as it is now, its bytes, and the two tables that it declares.
 use Rattle.std.specs.Option.{option_map}
 use Rattle.elf_records.specs.Table.{table_view}
 use Rattle.elf_records.specs.declared.file.FileHeader.{FileHeader}

@@ -14,7 +14,7 @@ use Rattle.elf_reading.specs.Refusals.{IsRefused, Kind, SourceFailure, Allocatio
 
 -- the headers of a file, in memory: the file header as it is now, whether a table of section headers is declared, the
 -- section headers, and the program headers
-pub record Headers (E : Type 0) : Type 0 where
+pub record StreamHeaders (E : Type 0) : Type 0 where
   pub ehdr : FileHeader E
   pub declares_sections : Bool
   pub sections : List SectionHeader
@@ -26,13 +26,13 @@ pub record Seen (E : Type 0) : Type 0 where
   pub content : Option (List ℕ)
   pub can_fail : Bool
   pub failures : ℕ
-  pub headers : Headers E
+  pub headers : StreamHeaders E
   pub cached : List (ℕ × ℕ)
 
 -- ---- its headers
 
 -- the headers of a file that was opened
-abbrev pub headers_of : {E : Type 0} → View E → Headers E
+abbrev pub headers_of : {E : Type 0} → View E → StreamHeaders E
 headers_of v = record {
   ehdr = v.ehdr;
   declares_sections = is_some v.sections;
@@ -83,7 +83,7 @@ abbrev pub IsNeeded : {E : Type 0} → List ℕ → Seen E → List (ℕ × ℕ)
 IsNeeded bytes s [] = ⊥
 IsNeeded bytes s (r ∷ rs) = IsOk (bytes_at r.1 bytes r.0) × (IsCached s r.0 (r.0 + r.1) → IsNeeded bytes s rs)
 
--- the source fails and memory is refused only where they are needed
+-- the source fails and memory is refused only if they are needed
 abbrev pub IsFor : Type 0 → Kind → Type 0
 IsFor need SourceFailure = need
 IsFor need AllocationFailure = need
@@ -114,6 +114,6 @@ MayRefuse can_fail some none Refusal = none
 
 -- a stream with the headers that the content gives, over a source that did not fail; or an error
 abbrev pub IsOpening :
-    {E : Type 0} → Result (Headers E) ParseError → Bool → ℕ → Result (Seen E) ParseError → Type 0
+    {E : Type 0} → Result (StreamHeaders E) ParseError → Bool → ℕ → Result (Seen E) ParseError → Type 0
 IsOpening answer can_fail before (Ok s) = (s.failures ≡ before) × (answer ≡ Ok s.headers)
 IsOpening answer can_fail before (Err e) = MayRefuse can_fail (IsOk answer) (IsErr answer) (kind e)

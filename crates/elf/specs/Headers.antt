@@ -24,7 +24,7 @@ section_range bytes s = bytes_at s.sh_size bytes s.sh_offset
 
 -- ---- the first and the last of a type
 
--- what is answered of a header, where there is one
+-- what is answered of a header, if there is one
 abbrev pub if_found : {A B : Type 0} → (A → Result B ParseError) → Option A → Result (Option B) ParseError
 if_found answer None = Ok None
 if_found answer (Some header) = ok_map Some (answer header)
@@ -37,6 +37,6 @@ first_section_of t sections = find (is_of_type t) sections
 abbrev pub first_segment_of : ℕ → List ProgramHeader → Option ProgramHeader
 first_segment_of t segments = find (λ p. p.p_type == t) segments
 
--- the size of an entry that a section header gives, where it is that of a record
+-- the size of an entry that a section header gives, if it is that of a record
 abbrev pub entry_size : ℕ → SectionHeader → Result ℕ ParseError
 entry_size size s = if s.sh_entsize == size then Ok size else Err (BadEntsize (s.sh_entsize, size))

@@ -24,7 +24,7 @@ name_index file =
 -- that section: none without section headers, and none where e_shstrndx is SHN_UNDEF
 unfoldable pub name_section : ObjectFile → Result (Option SectionHeader) ParseError
 name_section file =
-    if not file.has_sections then Ok None
+    if not file.declares_sections then Ok None
     else if file.e_shstrndx == shn_undef then Ok None
     else name_index file >>= λ index. ok_map Some (file.section_at index)
 

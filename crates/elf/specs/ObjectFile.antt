@@ -17,7 +17,7 @@ pub record ObjectFile : Type 0 where
   pub e_shstrndx : ℕ
   pub bytes : List ℕ
   -- whether a table of section headers is declared, its headers in order, and header i or the error
-  pub has_sections : Bool
+  pub declares_sections : Bool
   pub sections : List SectionHeader
   pub section_at : ℕ → Result SectionHeader ParseError
   pub segments : List ProgramHeader
@@ -29,7 +29,7 @@ object_file little v = record {
   class = v.ehdr.class;
   e_shstrndx = v.ehdr.e_shstrndx;
   bytes = v.bytes;
-  has_sections = is_some v.sections;
+  declares_sections = is_some v.sections;
   sections = section_list v.sections;
   section_at = section_at v.sections;
   segments = segment_list v.segments;

@@ -78,7 +78,7 @@ section_dynamic_ranges file s = if s.sh_entsize == size_by dyn_layout file.class
 -- dynamic
 abbrev pub dynamic_ranges : ObjectFile → List (ℕ × ℕ)
 dynamic_ranges file =
-    if file.has_sections then if_there (section_dynamic_ranges file) (first_section_of sht_dynamic file.sections)
+    if file.declares_sections then if_there (section_dynamic_ranges file) (first_section_of sht_dynamic file.sections)
     else if_there segment_ranges (first_segment_of pt_dynamic file.segments)
 
 -- a section, and the one that it links to

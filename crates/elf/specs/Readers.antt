@@ -1,4 +1,4 @@
--- Two readers of a file answer the same; and calls of an `ElfStream` one after the other, with headers put into `ehdr`
+-- Two readers of a file answer the same; and consecutive calls of an `ElfStream`, with headers put into `ehdr`
 -- between them, beside what `ElfBytes` answers to the same calls with the same headers.
 use Rattle.std.specs.Prelude.{◌≡◌, ℕ, List, Result, Bool, [], ◌∷◌, Option, Ok, Err, IsErr}
 use Rattle.std.specs.Result.{result_ok}
@@ -48,7 +48,7 @@ pub data Method : Type 0 where
   Dynamic : Method
   SymbolVersionTable : Method
 
--- what its result shows
+-- the view of its result
 abbrev pub Shown : Method → Type 0
 Shown SectionHeadersWithStrtab = List SectionHeader × Option (List ℕ)
 Shown (SectionHeaderByName name) = Option SectionHeader
@@ -111,14 +111,14 @@ pub record SameAnswers (one other : ObjectFile) : Type 0 where
 
 -- ---- a list of calls
 
--- a call of a stream: the header that is set before it, the method, what its result shows, and the stream afterwards
+-- a call of a stream: the header that is set before it, the method, the view of its result, and the stream afterwards
 pub record Call (E : Type 0) : Type 0 where
   pub header : FileHeader E
   pub method : Method
   pub result : Result (Shown method) ParseError
   pub new : Seen E
 
--- the calls are made one after the other, each with its header put into `ehdr`, and each does what its contract says
+-- the calls are made in order, each with its header put into `ehdr`, and each does what its contract says
 abbrev pub AreMade : {E : Type 0} → (E → Bool) → Seen E → List (Call E) → Type 0
 AreMade little s [] = Unit {0}
 AreMade little s (call ∷ calls) =

@@ -4,20 +4,20 @@ use Rattle.elf_records.specs.declared.parse.ParseError.{ParseError}
 use Rattle.elf_records.specs.declared.parse.ParseError.TheVariants.{BadOffset}
 use Rattle.elf_records.specs.declared.section.SectionHeader.{SectionHeader}
 use Rattle.elf.specs.ObjectFile.{ObjectFile}
-use Rattle.elf.specs.ElfStream.{Headers, Seen}
+use Rattle.elf.specs.ElfStream.{StreamHeaders, Seen}
 
 -- member i of the list, or that there is none
 abbrev pub listed_at : List SectionHeader → ℕ → Result SectionHeader ParseError
 listed_at sections i = ok_or (slice_get sections i) (BadOffset i)
 
 -- these headers over these bytes
-abbrev pub listed_file : {E : Type 0} → (E → Bool) → Headers E → List ℕ → ObjectFile
+abbrev pub listed_file : {E : Type 0} → (E → Bool) → StreamHeaders E → List ℕ → ObjectFile
 listed_file little h bytes = record {
   little = little h.ehdr.endianness;
   class = h.ehdr.class;
   e_shstrndx = h.ehdr.e_shstrndx;
   bytes = bytes;
-  has_sections = h.declares_sections;
+  declares_sections = h.declares_sections;
   sections = h.sections;
   section_at = listed_at h.sections;
   segments = h.segments;

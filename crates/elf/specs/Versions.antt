@@ -35,7 +35,7 @@ version_definitions file s =
     section_range file.bytes s >>= λ definitions. linked_strings file s >>= λ strings.
     Ok (record { list = ver_defs (table_of file definitions) s.sh_info 0; strings = strings })
 
--- the versions by the indexes of a section, with the needs and the definitions, where there are any
+-- the versions by the indexes of a section, with the needs and the definitions, if there are any
 abbrev pub versions_of : ObjectFile → VersionSections → SectionHeader → Result Versions ParseError
 versions_of file chosen s =
     version_indexes file s >>= λ indexes.

@@ -47,7 +47,7 @@ use opening::{locate_phdrs, locate_shdrs, read_ehdr, read_records};
 /// failed in this call; another variant only if the method of `ElfBytes` returns an error too. That variant may differ,
 /// and the contracts leave it open. After `IOError` or `OutOfMemory` the call may be repeated.
 ///
-/// A range gives `IntegerOverflow` if its end does not fit 64 bits, and `BadOffset(end)` if its end lies behind the end
+/// A range gives `IntegerOverflow` if its end does not fit 64 bits, and `BadOffset(end)` if its end lies past the end
 /// of the source.
 #[derive(Drop)]
 pub struct ElfStream<E: EndianParse, S: StreamSource, A: Allocator + Copy> {

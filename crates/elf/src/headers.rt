@@ -38,7 +38,7 @@ pub trait Headers {
 
     /// Returns whether the file declares a table of section headers.
     fn declares_sections(&self) -> bool
-        ensures { result ≡ (file self.now).has_sections };
+        ensures { result ≡ (file self.now).declares_sections };
 
     /// Returns the section header of an index. If it cannot be read, the error is that of `ParsingTable::get` for an
     /// `ElfBytes` with a table of section headers, and otherwise `BadOffset(index)`.
@@ -55,7 +55,7 @@ pub trait Headers {
         ensures { result ≡ first_segment_of p_type (file self.now).segments };
 
     /// Returns the last sections of the types `SHT_GNU_VERSYM`, `SHT_GNU_VERNEED` and `SHT_GNU_VERDEF`. If all three
-    /// types exist, sections behind the first one that completes the three do not count.
+    /// types exist, sections after the first one that completes the three do not count.
     fn version_sections(&self) -> VersionSections
         ensures { result ≡ version_sections (file self.now).sections };
 

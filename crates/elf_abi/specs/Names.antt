@@ -36,7 +36,7 @@ NamesEachOnce {K} rows =
 abbrev pub number_text : List ℕ → ℕ → List ℕ
 number_text prefix value = prefix ++ (codes "(0x" ++ (digits 16 false value ++ codes ")"))
 
--- the name of the number, or for a number with no name its digits behind the prefix
+-- the name of the number, or for a number with no name its digits after the prefix
 abbrev pub name_or_number : List ℕ → List (Row ℕ) → ℕ → List ℕ
 name_or_number prefix rows value = unwrap_or (name_of nat_eq rows value) (number_text prefix value)
 

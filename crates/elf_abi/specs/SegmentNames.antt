@@ -19,7 +19,7 @@ p_type_names =
     (0x6474e553, codes "PT_GNU_PROPERTY") ∷
     []
 
--- `p_flags` below 8: `R` for the bit 4, `W` for 2 and `E` for 1, each a space where its bit is not set:
+-- `p_flags` below 8: `R` for the bit 4, `W` for 2 and `E` for 1, each a space if its bit is not set:
 -- gABI chapter 5, "Program Header"
 abbrev pub p_flags_names : List (Row ℕ)
 p_flags_names =

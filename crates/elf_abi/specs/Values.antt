@@ -17,7 +17,7 @@ elfmag2 = 0x4c
 abbrev pub elfmag3 : ℕ
 elfmag3 = 0x46
 
--- the places of the bytes behind them
+-- the places of the bytes after them
 abbrev pub ei_class : ℕ
 ei_class = 4
 

@@ -59,7 +59,7 @@ version_view version = record { name = version.name.now; hash = version.hash }
 abbrev pub unreadable : ℕ → Unreadable
 unreadable i = record { symbol = i }
 
--- the bytes, where they can be read and are text
+-- the bytes, if they can be read and are text
 abbrev pub text_of : Result (List ℕ) ParseError → Option (List ℕ)
 text_of (Ok bytes) = if is_utf8 bytes then Some bytes else None
 text_of (Err e) = None
@@ -87,7 +87,7 @@ needed_as i (Ok (Some r)) = needed_by i r.hash (text_of r.file) (text_of r.name)
 needed_as i (Ok None) = Ok None
 needed_as i (Err e) = Err (unreadable i)
 
--- by the definition with the version index of the symbol, or where there is none by the need with it. A symbol that is
+-- by the definition with the version index of the symbol, or if there is none by the need with it. A symbol that is
 -- defined by a need is the copy of one of another file.
 abbrev pub version_by : ℕ → Result (Option Definition) ParseError → Result (Option Requirement) ParseError →
     Result (Option NamedVersion) Unreadable

@@ -18,7 +18,7 @@ use Rattle.elf_binding.specs.declared.Wanted.TheVariants.{Any, Compatible, Only}
 abbrev pub HasSoundTable : ObjectFile → Type 0
 HasSoundTable file = IsSomeAnd (object_of file) (λ object. IsOkAnd object IsSound)
 
--- what the object shows is the file's sound table with the versions of its symbols; an error is that of the table, or
+-- the view of the object is the file's sound table with the versions of its symbols; an error is that of the table, or
 -- where this is sound that of the versions
 abbrev pub GivesVersioned : {C : Type 0} → (C → VersionedObject) → ObjectFile → Result (Option C) ObjectFault → Type 0
 GivesVersioned view file (Ok None) = object_of file ≡ None

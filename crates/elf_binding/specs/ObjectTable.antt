@@ -37,7 +37,7 @@ section_parts file s =
     read (section_data file s) >>= λ found.
     read (dynamic_symbol_table file) >>= needed >>= λ symbols. Ok (found.0, symbols)
 
--- what these parts show, as borrows
+-- the view of these parts, as borrows
 abbrev pub parts_view : {E : Type 0} → Bor (List ℕ) × (ParsingTable E Symbol × StringTable) → List ℕ × (Table × List ℕ)
 parts_view parts = (parts.0.now, symbols_view parts.1)
 
@@ -47,7 +47,7 @@ section_object kind file s =
     section_parts file s >>= λ parts.
     read (object_in kind file.little file.class parts.0 parts.1.0 parts.1.1)
 
--- by a GNU section, or where there is none by a SysV section, if there is one
+-- by a GNU section, or if there is none by a SysV section, if there is one
 abbrev pub object_by : ObjectFile → Option SectionHeader → Option SectionHeader → Option (Result Object ObjectFault)
 object_by file (Some gnu) sysv = Some (section_object Gnu file gnu)
 object_by file None (Some sysv) = Some (section_object Sysv file sysv)
@@ -72,7 +72,7 @@ module _ {C : Type 0} (view : C → Object) where
   abbrev pub GivesTable : Result Object ObjectFault → Result C ObjectFault → Type 0
   GivesTable object result = MatchResult result (IsTableOf object) (IsFaultOf object)
 
-  -- the same of a file, and nothing exactly where it has no hash section
+  -- the same of a file, and nothing exactly if it has no hash section
   abbrev pub GivesObjectTable : Option (Result Object ObjectFault) → Result (Option C) ObjectFault → Type 0
   GivesObjectTable object (Ok None) = object ≡ None
   GivesObjectTable object (Ok (Some table)) = IsSomeAnd object (λ o. IsTableOf o table)

@@ -1,4 +1,4 @@
--- What an object of a look-up with versions shows, by what its versions show.
+-- The view of an object of a look-up with versions, by the view of its versions.
 use Rattle.std.specs.Option.{option_map}
 use Rattle.std.specs.declared.cmp.PartialEq.{Ghosts as PartialEqGhosts}
 use Rattle.std.specs.declared.default.Default.{Ghosts as DefaultGhosts}

@@ -37,7 +37,7 @@ use Rattle.elf_lines.specs.Versions.{versions_listed}
 
 -- ---- alike answers
 
--- two answers behind one another
+-- two answers after one another
 alike_both : {A B C : Type 0} (line : A → B → C) (p q : Result A ParseError) (r s : Result B ParseError) → AreAlike p q → AreAlike r s
     → AreAlike (p >>= λ x. ok_map (line x) r) (q >>= λ x. ok_map (line x) s)
 alike_both line p q r s h k =

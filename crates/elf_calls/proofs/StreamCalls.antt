@@ -96,7 +96,7 @@ known_accepted : {E Y : Type 0} (T U : Type 0) (known : Option (List ℕ)) (old 
 known_accepted T U None old ranges hand answer e h at_hand = tt
 known_accepted T U (Some bytes) old ranges hand answer e h at_hand = λ ready. let p = at_hand bytes ready in h p.1 p.0
 
--- what a call leaves behind another one, whose ranges may have been loaded before
+-- what a call leaves after another one, whose ranges may have been loaded before
 pub record LeavesBehind {E T Y : Type 0} (requested : List (ℕ × ℕ)) (shown : T → Y) (answer : List ℕ → Result Y ParseError) (old new : Seen E) (r : Result T ParseError) : Type 0 where
   pub keeps : Keeps old new
   pub loaded : OnOk r (AreCached new requested)
@@ -289,7 +289,7 @@ module _ {E : Type 0} (little : E → Bool) (call : Question) (old new : Seen E)
             (tried_refusal X old.content answer before middle old.failures new.failures old.can_fail e here.tried) (λ bytes ready. subst IsOk (same_answer little call old new bytes here.keeps) ready);
       }
 
--- ---- one call of a stream behind another
+-- ---- one call of a stream after another
 
 later_answers : {E T Y : Type 0} (little : E → Bool) (old middle new : Seen E) (shown : T → Y) (answer : ObjectFile → Result Y ParseError) (r : Result T ParseError) (known : Option (List ℕ)) → Keeps old middle → IfSome known (λ _. middle.failures ≡ old.failures)
     → IfSome known (λ bytes. IsAnswer shown (answer (stream_file little middle bytes)) middle.can_fail middle.failures new.failures r) → IfSome known (λ bytes. IsAnswer shown (answer (stream_file little old bytes)) old.can_fail old.failures new.failures r)

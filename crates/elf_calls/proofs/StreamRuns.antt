@@ -89,7 +89,7 @@ stopped_by little old middle (Some bytes) calls i d now u v w (stop.Fault e) kee
     (within, kept_appends u v w (text old.headers.ehdr (stream_file little old bytes) (map question (take i calls))) all.0 one.0, refused)
 stopped_by little old middle (Some bytes) calls i d now u v w (stop.Write e) keeps within all one = (within, one ∙ all.1)
 
--- a call that stopped the run behind i others
+-- a call that stopped the run after i others
 pub stopped : {E : Type 0} (little : E → Bool) (old middle : Seen E) (known : Option (List ℕ)) (calls : List Call) (i : ℕ) (d : Call) (now : ℕ) (u v w : Option (List ℕ)) (r : Result (Unit {0}) Stop) (s : Stop) → Keeps old middle → i < length calls → r ≡ Err s
     → IfSome known (λ bytes. Appends u v (text old.headers.ehdr (stream_file little old bytes) (map question (take i calls))) × (middle.failures ≡ old.failures))
     → IfSome known (λ bytes. RanOne (stream_answer little middle bytes (question (get_or calls i d))) v w middle.can_fail middle.failures now r)

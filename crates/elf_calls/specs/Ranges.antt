@@ -32,7 +32,7 @@ ranges_of file Dynamic = dynamic_ranges file
 ranges_of file Versions = symbols_ranges sht_dynsym file ++ versions_ranges file
 ranges_of file (Hash kind i) = if_there (checked_ranges file) (slice_get file.sections i)
 
--- those of a call of a stream, by a type of orders of which some are little
+-- those of a call of a stream, by a type of byte orders and which of them are little
 abbrev pub call_ranges : {E : Type 0} → (E → Bool) → Seen E → Question → List (ℕ × ℕ)
 call_ranges little s call = ranges_of (headers_alone little s) call
 

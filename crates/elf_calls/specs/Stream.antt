@@ -11,7 +11,7 @@ use Rattle.elf_calls.specs.Text.{call_answer, or_refused}
 use Rattle.elf_calls.specs.declared.stream.Stop.{Stop}
 use Rattle.elf_calls.specs.declared.stream.Stop.TheVariants as stop
 
--- what a stream answers to a call over a content, by a type of orders of which some are little
+-- what a stream answers to a call over a content, by a type of byte orders and which of them are little
 abbrev pub stream_answer : {E : Type 0} → (E → Bool) → Seen E → List ℕ → Question → Result (List ℕ) ParseError
 stream_answer little s bytes call = call_answer s.headers.ehdr (stream_file little s bytes) call
 

@@ -11,9 +11,9 @@ pub enum Call<'a> {
     Segments,
     /// The first section of this name.
     Name(&'a str),
-    /// The bytes of a section, without its compression header, whose fields come behind them.
+    /// The bytes of a section, without its compression header, whose fields come after them.
     Data(u64),
-    /// The strings of a section, one after the other, each with its offset in bytes.
+    /// The strings of a section, in order, each with its offset in bytes.
     Strings(u64),
     /// The relocations of a section, without addends.
     Rels(u64),

@@ -14,7 +14,7 @@ use std::io;
 use std::str::SplitWhitespace;
 
 /// `check KIND ORDER CLASS SECTION SYMBOLS STRINGS LEAST MOST NAME..`: how many symbols the section indexes and what it
-/// finds for each name where it is sound, what it lacks where it is not, or why it is refused; and whether from LEAST
+/// finds for each name if it is sound, what it lacks if it is not, or why it is refused; and whether from LEAST
 /// to MOST symbols were read for it.
 /// `verdict ..`: the same without what the section lacks, where that is several things.
 pub(crate) fn show_check(

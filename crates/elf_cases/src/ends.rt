@@ -18,7 +18,7 @@ use std::io;
 
 /// `ends KIND ORDER CLASS COUNT BYTES`: whether the iterator over the bytes from each place on gives no more items than
 /// bytes, and no more linked records than the count, and then `None` three times. Of notes the count is the alignment,
-/// of records of a table it is not looked at. Linked records are also looked for at the greatest offset, where there is
+/// of records of a table it is not looked at. Linked records are also looked for at the greatest offset, if there is
 /// none.
 pub(crate) fn show_ends(rt: &HostRuntime, words: &mut Words<'_>) -> io::Result<()> {
     let kind = words.word();

@@ -24,7 +24,7 @@ pub(crate) fn show_ident(rt: &HostRuntime, words: &mut Words<'_>) -> io::Result<
     }
 }
 
-/// `tail ORDER CLASS BYTES`: the header of these bytes behind an identification with osabi 7 and abiversion 9.
+/// `tail ORDER CLASS BYTES`: the header of these bytes after an identification with osabi 7 and abiversion 9.
 pub(crate) fn show_tail(rt: &HostRuntime, words: &mut Words<'_>) -> io::Result<()> {
     let order = words.word();
     let class = words.class();
@@ -111,7 +111,7 @@ fn given_by<'a, E: EndianParse>(ehdr: &mut FileHeader<E>, words: &mut Words<'a>)
     given
 }
 
-/// Sets a field of the header, where there is one of this name.
+/// Sets a field of the header, if there is one of this name.
 fn set_field<E: EndianParse>(
     ehdr: &mut FileHeader<E>,
     field: &str,

@@ -7,7 +7,7 @@
 //! them, a program and its libraries in search order.
 //!
 //! In test cases bytes are hexadecimal digits, `-` for none, or `@NAME` for the small file NAME. A result is shown as
-//! `{:?}` shows it, an error with its text behind it. It is written straight to standard output, since a text that is
+//! `{:?}` shows it, an error with its text after it. It is written straight to standard output, since a text that is
 //! built first costs much of the time of a check.
 #![tactic(auto)]
 

@@ -82,7 +82,7 @@ pub(crate) fn changed_file(rt: &HostRuntime, file: &str) -> Result<Vec<u8>, RowE
 }
 
 /// Changes the bytes of a file as the words say: `46=29ff` writes bytes from place 46 on, `cut=100` leaves the first
-/// 100 bytes alone, `more=00ff` puts bytes behind the file, and `pad=100` puts zeros behind it until it has 100 bytes.
+/// 100 bytes alone, `more=00ff` puts bytes after the file, and `pad=100` puts zeros after it until it has 100 bytes.
 fn change(data: &mut Vec<u8>, alloc: Global, edit: &str) -> Result<(), RowError> {
     let (place, bytes) = edit
         .split_once('=')

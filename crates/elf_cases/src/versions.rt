@@ -45,7 +45,7 @@ fn show_needs(rt: &HostRuntime, records: VerNeedIterator<'_, AnyEndian>) -> io::
     Ok(())
 }
 
-/// Each item behind a space.
+/// Each item after a space.
 fn show_each<I: Iterator + Drop>(rt: &HostRuntime, items: I) -> io::Result<()>
 where
     I::Item: Debug + Drop,

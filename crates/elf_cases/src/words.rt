@@ -1,4 +1,4 @@
-//! The words of a row, read one after the other.
+//! The words of a row, read in order.
 use crate::rows::{RowError, bytes_of, changed_file};
 use elf::endian::AnyEndian;
 use elf::file::Class;
@@ -111,7 +111,7 @@ impl<'a> Words<'a> {
         self.fault = Some(fault);
     }
 
-    /// Refuses a row of which some word could not be read, or some is left.
+    /// Returns an error if a word of the row could not be read, or if a word is left.
     pub(crate) fn end(&self) -> Result<(), RowError> {
         match self.fault {
             Some(fault) => Err(RowError::Form(fault)),

@@ -1,4 +1,4 @@
--- All symbols of a name: what the indices from the first one on come to in a sound section.
+-- All symbols of a name: what the indexes from the first one on come to in a sound section.
 use Rattle.std.proofs.Common.{◌≡◌, ◌≢◌, ℕ, ◌+◌, ◌-◌, ◌%◌, ◌<◌, ◌≤◌, zero, suc, false, nat_eq, List, [], ◌∷◌, Option, Some, None, refl, ap, sym, ◌∙◌, subst, inl, inr, arith}
 use Rattle.std.specs.List.{Contains, filter_map}
 use Rattle.std.specs.Option.{IsSomeAnd}
@@ -10,12 +10,12 @@ use Rattle.elf_parts.specs.GnuFind.{GnuTable}
 use Rattle.elf_parts.specs.SysvFind.{SysvTable}
 use Rattle.elf_check.specs.Indexed.{HasName, IsFirstNamed, IsLeastNamed, ScanGnu}
 use Rattle.elf_check.specs.NamedSymbols.{AreAllNamed, IsNamed, Precedes, chain_from, first_of, index_behind}
-use Rattle.elf_check.specs.NamedSymbols.{indices_from, kept_named, run_from, symbol_named, unless_last, unless_zero}
+use Rattle.elf_check.specs.NamedSymbols.{indexes_from, kept_named, run_from, symbol_named, unless_last, unless_zero}
 use Rattle.elf_check.specs.Object.{ByGnu, BySysv, Object}
 use Rattle.elf_check.specs.SoundGnu.{SoundGnu}
 use Rattle.elf_check.specs.SoundSysv.{EndsAt, SoundSysv, Visits, chain_word, value}
 use Rattle.elf_check.specs.WithSymbols.{WithSymbols, named, word}
-use Rattle.elf_check.specs.declared.hashcheck.named.Links.TheVariants.{Chain, Run}
+use Rattle.elf_check.specs.declared.hashcheck.named.Following.TheVariants.{Chain, Run}
 use Rattle.elf_check.specs.inner.SoundProps.{GnuReads}
 use Rattle.elf_check.proofs.GnuScan.{NoEnd, indexed, odd_or_even}
 use Rattle.elf_check.proofs.NamedLists.{In, Pairs, contains_from_in, has_name, in_from_contains, in_kept, is_named, keeps, kept_in, pairs_all, pairs_kept, walk_none, walk_step}
@@ -34,7 +34,7 @@ first_kept : (s_symbols : List ℕ → ℕ → Option (ℕ × Symbol)) (name is 
     first_of (filter_map (s_symbols name) is) ≡ Some found
 first_kept f name is rest found e is_one = rw (e, is_one) refl
 
--- two symbols, by their indices
+-- two symbols, by their indexes
 abbrev Apart : ℕ × Symbol → ℕ × Symbol → Type 0
 Apart one other = one.0 ≢ other.0
 
@@ -49,7 +49,7 @@ module _ (object : Object) (name : List ℕ) (nothing : (one : ℕ × Symbol) �
 -- ---- GNU
 
 module _ (s : WithSymbols GnuTable) (name : List ℕ) where
-  -- the indices of a run from place k on
+  -- the indexes of a run from place k on
   record Ran (k : ℕ) (is : List ℕ) : Type 0 where
     inside : (i : ℕ) → In i is → (j : ℕ) × (k ≤ j) × (j < word_count s.table.chains) × (i ≡ s.table.hdr.table_start_idx + j)
     back : (j : ℕ) → k ≤ j → j < word_count s.table.chains → NoEnd s name k j → In (s.table.hdr.table_start_idx + j) is
@@ -103,13 +103,13 @@ module _ (s : WithSymbols GnuTable) (name : List ℕ) where
   at_no_end : (index w : ℕ) → w % 2 ≡ 0 → unless_last index (Some w) ≡ Some (index + 1)
   at_no_end index w even = rw even refl
 
-  places : ReadsBelowCount s.table.chains → (limit k : ℕ) → k + limit ≡ word_count s.table.chains → Ran k (indices_from behind_run limit (Some (s.table.hdr.table_start_idx + k)))
+  places : ReadsBelowCount s.table.chains → (limit k : ℕ) → k + limit ≡ word_count s.table.chains → Ran k (indexes_from behind_run limit (Some (s.table.hdr.table_start_idx + k)))
   places reads zero k all = no_place k (omega (arith, all))
   places reads (suc limit) k all =
       let w = word_below s.table.chains k reads (omega (arith, all)) in
       let chain = word_some s.table.chains k w.0 w.1 in
       let next = behind_place k w.0 chain in
-      let P : Option ℕ → Type 0 = λ o. Ran k ((s.table.hdr.table_start_idx + k) ∷ indices_from behind_run limit o) in
+      let P : Option ℕ → Type 0 = λ o. Ran k ((s.table.hdr.table_start_idx + k) ∷ indexes_from behind_run limit o) in
       elim (odd_or_even s name w.0) [
         | inl even ↦
             let at : s.table.hdr.table_start_idx + k + 1 ≡ s.table.hdr.table_start_idx + (k + 1) = omega arith in
@@ -137,7 +137,7 @@ module _ (s : WithSymbols GnuTable) (name : List ℕ) where
       let here_bucket = some_and (word s.table.buckets (gnu_hash_of name % word_count s.table.buckets)) _ here.run.1 in
       let is = run_from s.table (Some found) in
       let place : found.0 - first ≡ here.place = omega (arith, here.index) in
-      let P : ℕ → ℕ → Type 0 = λ n i. Ran here.place (indices_from behind_run (word_count s.table.chains - n) (Some i)) in
+      let P : ℕ → ℕ → Type 0 = λ n i. Ran here.place (indexes_from behind_run (word_count s.table.chains - n) (Some i)) in
       let places_there = places can.1 (word_count s.table.chains - here.place) here.place (omega (arith, here.inside)) in
       let ran : Ran here.place is = subst (λ (n : ℕ). P n found.0) (sym place) (subst (λ (i : ℕ). P here.place i) (sym here.index) places_there) in
       record {
@@ -169,7 +169,7 @@ module _ (s : WithSymbols GnuTable) (name : List ℕ) where
 -- ---- SysV
 
 module _ (s : WithSymbols SysvTable) (bucket last : ℕ) (ends : EndsAt s bucket last) where
-  -- the indices of a chain from value i on
+  -- the indexes of a chain from value i on
   record Walked (i : ℕ) (is : List ℕ) : Type 0 where
     inside : (x : ℕ) → In x is → (m : ℕ) × (i ≤ m) × (m < last) × (value s.table bucket m ≡ Some x)
     back : (m x : ℕ) → i ≤ m → m < last → value s.table bucket m ≡ Some x → In x is
@@ -212,11 +212,11 @@ module _ (s : WithSymbols SysvTable) (bucket last : ℕ) (ends : EndsAt s bucket
       let far : nat_eq index 0 ≡ false = grind (arith, common_steps) in
       ap unless_zero e ∙ rw far refl
 
-  values : (left limit i : ℕ) → i + left ≡ last → left ≤ limit → Walked i (indices_from behind_chain limit (unless_zero (value s.table bucket i)))
+  values : (left limit i : ℕ) → i + left ≡ last → left ≤ limit → Walked i (indexes_from behind_chain limit (unless_zero (value s.table bucket i)))
   values zero limit i all enough =
       let at : i ≡ last = omega (arith, all) in
       let at_end : unless_zero (value s.table bucket i) ≡ None = ap (λ n. unless_zero (value s.table bucket n)) at ∙ ap unless_zero ends.1 in
-      let none = ap (indices_from behind_chain limit) at_end ∙ walk_none behind_chain limit in
+      let none = ap (indexes_from behind_chain limit) at_end ∙ walk_none behind_chain limit in
       let P : List ℕ → Type 0 = λ is. Walked i is in
       subst P (sym none) (no_value i at)
   values (suc left) zero i all enough = absurd (omega (arith, enough))
@@ -224,8 +224,8 @@ module _ (s : WithSymbols SysvTable) (bucket last : ℕ) (ends : EndsAt s bucket
       let x = value_before s bucket last ends i (omega (arith, all)) in
       let here = not_zero (value s.table bucket i) x.index x.is x.positive in
       let next : behind_chain x.index ≡ unless_zero (value s.table bucket (suc i)) = ap (λ (v : Option ℕ). unless_zero (chain_word s.table.chains v)) (sym x.is) in
-      let P : Option ℕ → Type 0 = λ o. Walked i (indices_from behind_chain (suc limit) o) in
-      let Q : Option ℕ → Type 0 = λ o. Walked i (x.index ∷ indices_from behind_chain limit o) in
+      let P : Option ℕ → Type 0 = λ o. Walked i (indexes_from behind_chain (suc limit) o) in
+      let Q : Option ℕ → Type 0 = λ o. Walked i (x.index ∷ indexes_from behind_chain limit o) in
       let rest = values left limit (suc i) (omega (arith, all)) (omega (arith, enough)) in
       subst P (sym here) (subst Q (sym next) (one_more_value i x.index _ (omega (arith, all)) x.is rest))
 
@@ -261,7 +261,7 @@ module _ (s : WithSymbols SysvTable) (name : List ℕ) where
       let same_index : v.index ≡ found.0 = cc (v.is, is_first.1.1) in
       let start = not_zero s bucket ends.0 ends.1 (value s.table bucket j) found.0 is_first.1.1 (omega (arith, v.positive, same_index)) in
       let is = chain_from s.table (Some found) in
-      let P : Option ℕ → Type 0 = λ o. Walked s bucket ends.0 ends.1 j (indices_from (behind_chain s bucket ends.0 ends.1) (word_count s.table.chains) o) in
+      let P : Option ℕ → Type 0 = λ o. Walked s bucket ends.0 ends.1 j (indexes_from (behind_chain s bucket ends.0 ends.1) (word_count s.table.chains) o) in
       let walked : Walked s bucket ends.0 ends.1 j is = subst P start (values s bucket ends.0 ends.1 (ends.0 - j) (word_count s.table.chains) j (omega (arith, inside)) (omega (arith, ends.1.0))) in
       record {
         all = λ one. (

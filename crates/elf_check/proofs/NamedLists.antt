@@ -1,4 +1,4 @@
--- Lists of indices, and the symbols of a name among them.
+-- Lists of indexes, and the symbols of a name among them.
 use Rattle.std.proofs.Common.{◌≡◌, ℕ, ◌-◌, ◌<◌, ◌≤◌, zero, suc, true, List, [], ◌∷◌, length, Option, Some, None, refl, ap, sym, ◌∙◌, subst, inl, inr, ◌⊎◌, arith}
 use Rattle.std.specs.List.{All, AllPairs, Contains, cons_option, filter_map}
 use Rattle.std.specs.Str.{bytes_eq}
@@ -8,7 +8,7 @@ use Rattle.std.proofs.lemmas.List.Kept.{AllPairs-cons}
 use Rattle.std.proofs.lemmas.Slice.Eq.{bytes_eq-Decides}
 use Rattle.elf_records.specs.Table.{Table}
 use Rattle.elf_records.specs.declared.symbol.Symbol.{Symbol}
-use Rattle.elf_check.specs.NamedSymbols.{indices_from, symbol_named, where_named}
+use Rattle.elf_check.specs.NamedSymbols.{indexes_from, symbol_named, where_named}
 use Rattle.elf_check.specs.WithSymbols.{named}
 
 -- ---- membership and order, by recursion
@@ -40,7 +40,7 @@ pub pairs_all : {A : Type 0} (R : A → A → Type 0) (xs : List A) → Pairs R 
 pairs_all R [] h = λ i j d less below. absurd (omega (arith, below))
 pairs_all R (x ∷ xs) h = AllPairs-cons R x xs (all_from_in (R x) xs h.0) (pairs_all R xs h.1)
 
--- ---- what a function keeps of indices, where it keeps the index
+-- ---- what a function keeps of indexes, where it keeps the index
 
 module _ {B : Type 0} (f : ℕ → Option (ℕ × B)) (keeps : (i : ℕ) (one : ℕ × B) → f i ≡ Some one → one.0 ≡ i) where
   in_one : (i : ℕ) (is : List ℕ) (one : ℕ × B) (o : Option (ℕ × B)) → f i ≡ o →
@@ -110,15 +110,15 @@ module _ (symbols : Table) (strings name : List ℕ) where
 
 -- ---- the steps of a walk
 
-pub walk_none : (behind : ℕ → Option ℕ) (limit : ℕ) → indices_from behind limit None ≡ []
+pub walk_none : (behind : ℕ → Option ℕ) (limit : ℕ) → indexes_from behind limit None ≡ []
 walk_none behind zero = refl
 walk_none behind (suc limit) = refl
 
-pub walk_step : (behind : ℕ → Option ℕ) (limit index : ℕ) → 0 < limit → indices_from behind limit (Some index) ≡ index ∷ indices_from behind (limit - 1) (behind index)
+pub walk_step : (behind : ℕ → Option ℕ) (limit index : ℕ) → 0 < limit → indexes_from behind limit (Some index) ≡ index ∷ indexes_from behind (limit - 1) (behind index)
 walk_step behind zero index some = absurd (omega (arith, some))
 walk_step behind (suc limit) index some = let less : suc limit - 1 ≡ limit = omega arith in rw less refl
 
-pub walk_length : (behind : ℕ → Option ℕ) (limit : ℕ) (start : Option ℕ) → length (indices_from behind limit start) ≤ limit
+pub walk_length : (behind : ℕ → Option ℕ) (limit : ℕ) (start : Option ℕ) → length (indexes_from behind limit start) ≤ limit
 walk_length behind zero start = omega arith
 walk_length behind (suc limit) None = omega arith
 walk_length behind (suc limit) (Some index) = let rest = walk_length behind limit (behind index) in omega (arith, rest)

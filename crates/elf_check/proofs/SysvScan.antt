@@ -57,7 +57,7 @@ module _ (s : WithSymbols SysvTable) (name : List ℕ) (bucket last : ℕ) (ends
   WalkAnswer i None = Nothing i
   WalkAnswer i (Some found) = Something i found
 
-  pub record Walk (limit i v : ℕ) : Type 0 where
+  pub record FollowingIndexes (limit i v : ℕ) : Type 0 where
     pub found : Option (ℕ × Symbol)
     pub is : find_along s.table s.symbols s.strings name limit v ≡ Ok found
     pub answer : WalkAnswer i found
@@ -94,7 +94,7 @@ module _ (s : WithSymbols SysvTable) (name : List ℕ) (bucket last : ℕ) (ends
     ];
   }
 
-  one_value : (limit i : ℕ) (v : Value s bucket last ends i) (next : ℕ) → i < last → word_at s.table.chains v.index ≡ Ok next → Walk limit (i + 1) next → Walk (suc limit) i v.index
+  one_value : (limit i : ℕ) (v : Value s bucket last ends i) (next : ℕ) → i < last → word_at s.table.chains v.index ≡ Ok next → FollowingIndexes limit (i + 1) next → FollowingIndexes (suc limit) i v.index
   one_value limit i v next below chain rest = elim (cases_Bool (bytes_eq v.found.1 name)) [
     | inl same ↦
         let e : v.found.1 ≡ name = (bytes_eq-Decides v.found.1 name).0 same in
@@ -121,7 +121,7 @@ module _ (s : WithSymbols SysvTable) (name : List ℕ) (bucket last : ℕ) (ends
   ]
 
   -- from value i on, which is n values before the end
-  pub walk_from : ReadsBelowCount s.table.chains → (left limit i v : ℕ) → i + left ≡ last → left ≤ limit → value s.table bucket i ≡ Some v → Walk limit i v
+  pub walk_from : ReadsBelowCount s.table.chains → (left limit i v : ℕ) → i + left ≡ last → left ≤ limit → value s.table bucket i ≡ Some v → FollowingIndexes limit i v
   walk_from reads zero limit i v all enough e =
       let at : i ≡ last = omega arith in
       let zero_there : v ≡ 0 = cc (e, ends.1, ap (value s.table bucket) at) in
@@ -137,7 +137,7 @@ module _ (s : WithSymbols SysvTable) (name : List ℕ) (bucket last : ℕ) (ends
       let next = word_below s.table.chains x.index reads x.inside in
       let step : value s.table bucket (suc i) ≡ Some next.0 = ap (chain_word s.table.chains) x.is ∙ word_some s.table.chains x.index next.0 next.1 in
       let more : i + 1 ≡ suc i = omega arith in
-      let P : ℕ → Type 0 = λ n. Walk (suc limit) i n in
+      let P : ℕ → Type 0 = λ n. FollowingIndexes (suc limit) i n in
       subst P same (one_value limit i x next.0 (omega arith) next.1 (walk_from reads left limit (i + 1) next.0 (omega arith) (omega arith) (ap (value s.table bucket) more ∙ step)))
 
 module _ (s : WithSymbols SysvTable) (name : List ℕ) where

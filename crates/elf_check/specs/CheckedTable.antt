@@ -1,4 +1,4 @@
--- What a checked table shows: the table with its symbols, and how many of them it indexes. A struct with a ghost field
+-- The view of a checked table: the table with its symbols, and how many of them it indexes. A struct with a ghost field
 -- over a type of byte orders is also over the ghost members of that type.
 use Rattle.std.specs.Prelude.{ℕ}
 use Rattle.std.specs.declared.cmp.PartialEq.{Ghosts as PartialEqGhosts}

@@ -74,7 +74,7 @@ abbrev pub is_zero : Option ℕ → Bool
 is_zero None = false
 is_zero (Some v) = v == 0
 
--- the place of the first 0 from i on, or i + limit where there is none before it
+-- the place of the first 0 from i on, or i + limit if there is none before it
 abbrev pub first_zero : (ℕ → Option ℕ) → ℕ → ℕ → ℕ
 first_zero values zero i = i
 first_zero values (suc limit) i = if is_zero (values i) then i else first_zero values limit (suc i)

@@ -12,7 +12,7 @@ pub mod Verdict
 pub mod Reads
 -- an object: a table of either kind
 pub mod Object
--- what a checked table shows
+-- the view of a checked table
 pub mod CheckedTable
 -- all symbols of a name, in order
 pub mod NamedSymbols

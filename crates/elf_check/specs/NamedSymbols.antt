@@ -11,10 +11,10 @@ use Rattle.elf_records.specs.declared.symbol.Symbol.{Symbol}
 use Rattle.elf_check.specs.Object.{ByGnu, BySysv, Indexed, IsFound, Object}
 use Rattle.elf_check.specs.SoundSysv.{Visits}
 use Rattle.elf_check.specs.WithSymbols.{named, word}
-use Rattle.elf_check.specs.declared.hashcheck.named.Links.{Links}
-use Rattle.elf_check.specs.declared.hashcheck.named.Links.TheVariants.{Chain, Run}
+use Rattle.elf_check.specs.declared.hashcheck.named.Following.{Following}
+use Rattle.elf_check.specs.declared.hashcheck.named.Following.TheVariants.{Chain, Run}
 use Rattle.elf_check.specs.declared.hashcheck.named.NamedSymbols.{NamedSymbols}
-use Rattle.elf_check.specs.declared.hashcheck.named.Walk.{Walk}
+use Rattle.elf_check.specs.declared.hashcheck.named.FollowingIndexes.{FollowingIndexes}
 
 -- ---- which symbols these are
 
@@ -23,7 +23,7 @@ abbrev pub IsNamed : Object → List ℕ → ℕ × Symbol → Type 0
 IsNamed (BySysv s) name one = Indexed (BySysv s) one.0 × (named s.symbols s.strings one.0 ≡ Some (one.1, name))
 IsNamed (ByGnu s) name one = Indexed (ByGnu s) one.0 × (named s.symbols s.strings one.0 ≡ Some (one.1, name))
 
--- an index comes before another: in the same chain, or in the order of the indices
+-- an index comes before another: in the same chain, or in the order of the indexes
 abbrev pub Precedes : Object → ℕ → ℕ → Type 0
 Precedes (BySysv s) i j =
     (bucket : ℕ) × (p : ℕ) × (q : ℕ) × (p < q) × Visits s.table bucket p i × Visits s.table bucket q j
@@ -43,7 +43,7 @@ pub record AreAllNamed (object : Object) (name : List ℕ) (found : List (ℕ ×
 
 -- ---- what an iterator has left to yield
 
--- the index behind an index, if there is one: its chain word where that is not 0, or the next index where the chain
+-- the next index, if there is one: its chain word where that is not 0, or the next index where the chain
 -- word does not end the run
 abbrev pub unless_zero : Option ℕ → Option ℕ
 unless_zero (Some v) = if v == 0 then None else Some v
@@ -53,17 +53,17 @@ abbrev pub unless_last : ℕ → Option ℕ → Option ℕ
 unless_last index (Some v) = if v % 2 == 1 then None else Some (index + 1)
 unless_last index None = None
 
-abbrev pub index_behind : Table → Links → ℕ → Option ℕ
+abbrev pub index_behind : Table → Following → ℕ → Option ℕ
 index_behind chains Chain index = unless_zero (word chains index)
 index_behind chains (Run first) index = unless_last index (word chains (index - first))
 
--- an index, the one behind it, and so on, at most `limit`
-abbrev pub indices_from : (ℕ → Option ℕ) → ℕ → Option ℕ → List ℕ
-indices_from behind zero start = []
-indices_from behind (suc limit) None = []
-indices_from behind (suc limit) (Some index) = index ∷ indices_from behind limit (behind index)
+-- an index, the next one, and so on, at most `limit`
+abbrev pub indexes_from : (ℕ → Option ℕ) → ℕ → Option ℕ → List ℕ
+indexes_from behind zero start = []
+indexes_from behind (suc limit) None = []
+indexes_from behind (suc limit) (Some index) = index ∷ indexes_from behind limit (behind index)
 
--- the symbol of an index, where it has the name
+-- the symbol of an index, if it has the name
 abbrev pub where_named : List ℕ → ℕ → Option (Symbol × List ℕ) → Option (ℕ × Symbol)
 where_named name index (Some found) = if bytes_eq found.1 name then Some (index, found.0) else None
 where_named name index None = None
@@ -71,23 +71,23 @@ where_named name index None = None
 abbrev pub symbol_named : Table → List ℕ → List ℕ → ℕ → Option (ℕ × Symbol)
 symbol_named symbols strings name index = where_named name index (named symbols strings index)
 
--- those of these indices whose symbols have the name
+-- those of these indexes whose symbols have the name
 abbrev pub kept_named : Table → List ℕ → List ℕ → List ℕ → List (ℕ × Symbol)
-kept_named symbols strings name indices = filter_map (symbol_named symbols strings name) indices
+kept_named symbols strings name indexes = filter_map (symbol_named symbols strings name) indexes
 
--- the indices from the one on that a look-up found, up to the end of its chain, or of its run
+-- the indexes from the one on that a look-up found, up to the end of its chain, or of its run
 abbrev pub chain_from : SysvTable → Option (ℕ × Symbol) → List ℕ
 chain_from t None = []
-chain_from t (Some found) = indices_from (index_behind t.chains Chain) (word_count t.chains) (Some found.0)
+chain_from t (Some found) = indexes_from (index_behind t.chains Chain) (word_count t.chains) (Some found.0)
 
 abbrev pub run_from : GnuTable → Option (ℕ × Symbol) → List ℕ
 run_from t None = []
 run_from t (Some found) =
     let first = t.hdr.table_start_idx in
-    indices_from (index_behind t.chains (Run first)) (word_count t.chains - (found.0 - first)) (Some found.0)
+    indexes_from (index_behind t.chains (Run first)) (word_count t.chains - (found.0 - first)) (Some found.0)
 
-abbrev pub indices_left : {E : Type 0} → Walk E → List ℕ
-indices_left s = indices_from (index_behind (table_view s.chains) s.links) s.left s.next
+abbrev pub indexes_left : {E : Type 0} → FollowingIndexes E → List ℕ
+indexes_left s = indexes_from (index_behind (table_view s.chains) s.links) s.left s.next
 
 abbrev pub named_left : {E : Type 0} → NamedSymbols E → List (ℕ × Symbol)
-named_left s = kept_named (table_view s.symtab) s.strings s.name.now (indices_left s.walk)
+named_left s = kept_named (table_view s.symtab) s.strings s.name.now (indexes_left s.walk)

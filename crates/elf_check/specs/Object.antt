@@ -29,7 +29,7 @@ object_in Sysv little class section symbols strings =
 object_in Gnu little class section symbols strings =
     ok_map ByGnu (with_symbols symbols strings (gnu_section little class section))
 
--- the symbols that the table indexes, and how many they are where it is sound
+-- the symbols that the table indexes, and how many they are if it is sound
 abbrev pub Indexed : Object → ℕ → Type 0
 Indexed (BySysv s) = IndexedSysv s.table
 Indexed (ByGnu s) = IndexedGnu s.table

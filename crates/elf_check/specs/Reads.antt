@@ -44,14 +44,14 @@ gnu_reads t (Endless bucket) = 0
 gnu_reads t (PastChains bucket index) = 0
 gnu_reads t (WrongBucket bucket index) = 0
 
--- of a SysV section one for each index, the chains of the buckets one after the other
+-- of a SysV section one for each index, the chains of the buckets in order
 module _ (s : WithSymbols SysvTable) where
   -- the values of a bucket's chain before value j belong to the bucket, and none of them is 0
   abbrev pub BelongBefore : ℕ → ℕ → Type 0
   BelongBefore bucket j =
       (i : ℕ) → i < j → IsSomeAnd (value s.table bucket i) (λ index. (0 < index) × Belongs s bucket index)
 
-  -- a fault is found at value j of a bucket's chain: at the index that it names, or at the value behind as many others
+  -- a fault is found at value j of a bucket's chain: at the index that it names, or at the value after as many others
   -- as there are chain words
   abbrev pub IsFaultAt : ℕ → ℕ → HashFault → Type 0
   IsFaultAt bucket j (Endless b) = (b ≡ bucket) × (j ≡ word_count s.table.chains)

@@ -9,7 +9,7 @@ use Rattle.elf_check.specs.declared.hashcheck.Checked.{Checked}
 use Rattle.elf_check.specs.declared.hashcheck.Checked.TheVariants.{Faulty, Sound}
 use Rattle.elf_check.specs.declared.hashcheck.HashFault.{HashFault}
 
--- a type C of checked tables, each of which shows what was checked
+-- a type C of checked tables, and the view of each: what was checked
 module _ {S C : Type 0} (view : C → S) (IsSound : S → Type 0) (IsTrueOf : S → HashFault → Type 0) where
   -- sound exactly where the section is, else a fault that is true
   abbrev pub IsVerdict : S → Checked C → Type 0

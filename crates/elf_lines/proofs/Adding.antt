@@ -39,7 +39,7 @@ adds_end g0 b0 g1 None g2 (Some s2) left whole x y = absurd y
 adds_end g0 None g1 (Some s1) g2 (Some s2) left whole x y = absurd x
 adds_end g0 (Some s0) g1 (Some s1) g2 (Some s2) left whole x y = last_added (append_known g0 s0) (append_known g1 s1) (append_known g2 s2) left whole x y
 
--- a text that was added behind another
+-- a text that was added after another
 pub adds_both : (g0 b0 g1 b1 g2 b2 : Option (List ℕ)) (front piece : List ℕ) → Adds g0 b0 g1 b1 front → Adds g1 b1 g2 b2 piece → Adds g0 b0 g2 b2 (front ++ piece)
 adds_both g0 b0 g1 b1 g2 b2 front piece x y = adds_end g0 b0 g1 b1 g2 b2 piece (front ++ piece) (adds_more g0 b0 g0 b0 g1 b1 front piece (front ++ piece) (adds_begin g0 b0 (front ++ piece)) x) y
 

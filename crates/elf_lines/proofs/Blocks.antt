@@ -7,7 +7,7 @@ use Rattle.std.specs.Simd.{first_chunks}
 use Rattle.elf_lines.specs.Pieces.{escape, escaped, escaped_byte, hex_of, hex_pair, is_plain}
 use Rattle.std.specs.Prelude.{if◌then◌else◌}
 
--- the bytes of k blocks, and then those behind them
+-- the bytes of k blocks, and then those after them
 bytes_and_rest : (n k : ℕ) (xs : List ℕ) → flat_map (λ (block : List ℕ). block) (first_chunks n k xs) ++ drop (k * n) xs ≡ xs
 bytes_and_rest n zero xs = let none : 0 * n ≡ 0 = omega arith in ap (λ (m : ℕ). drop m xs) none
 bytes_and_rest n (suc k) xs =
@@ -18,7 +18,7 @@ bytes_and_rest n (suc k) xs =
     ∙ take-append-drop n xs
 
 module _ (f : ℕ → List ℕ) where
-  -- what k blocks become, and then what those behind them become
+  -- what k blocks become, and then what those after them become
   pub blocks_and_rest : (n k : ℕ) (xs : List ℕ) → flat_map (flat_map f) (first_chunks n k xs) ++ flat_map f (drop (k * n) xs) ≡ flat_map f xs
   blocks_and_rest n zero xs = let none : 0 * n ≡ 0 = omega arith in ap (λ (m : ℕ). flat_map f (drop m xs)) none
   blocks_and_rest n (suc k) xs =
@@ -29,7 +29,7 @@ module _ (f : ℕ → List ℕ) where
       ∙ sym (flat_map-append f (take n xs) (drop n xs))
       ∙ ap (flat_map f) (take-append-drop n xs)
 
--- the digits of k blocks and of what is behind them
+-- the digits of k blocks and of what is after them
 pub digits_and_rest : (n k : ℕ) (xs : List ℕ) → flat_map hex_of (first_chunks n k xs) ++ hex_of (drop (k * n) xs) ≡ hex_of xs
 digits_and_rest n k xs = blocks_and_rest hex_pair n k xs
 
@@ -44,7 +44,7 @@ longer : (xs : List ℕ) → length xs ≤ length (escaped xs)
 longer [] = omega arith
 longer (x ∷ xs) = longer_byte (is_plain x) x (escaped xs) xs (longer xs)
 
--- what is plain is plain behind its first byte, and behind its first k
+-- what is plain is plain after its first byte, and after its first k
 plain_tail : (t : Bool) (b : ℕ) (xs : List ℕ) → (if t then b ∷ [] else escape b) ++ escaped xs ≡ b ∷ xs → escaped xs ≡ xs
 plain_tail true b xs e = ap (drop 1) e
 plain_tail false b xs e = absurd (omega (arith, ap length e, longer xs))
@@ -66,7 +66,7 @@ plain_ends k m xs low first last =
     ap escaped (sym (take-append-drop m xs)) ∙ flat_map-append escaped_byte (take m xs) (drop m xs)
     ∙ ap (λ (t : List ℕ). t ++ escaped (drop m xs)) first ∙ ap (λ (t : List ℕ). take m xs ++ t) (plain_from k m xs low last) ∙ take-append-drop m xs
 
--- bytes are plain if k blocks are, and those behind them
+-- bytes are plain if k blocks are, and those after them
 pub plain_and_rest : (n k : ℕ) (xs : List ℕ)
     → flat_map escaped (first_chunks n k xs) ≡ flat_map (λ (block : List ℕ). block) (first_chunks n k xs) → escaped (drop (k * n) xs) ≡ drop (k * n) xs → escaped xs ≡ xs
 plain_and_rest n k xs first second =

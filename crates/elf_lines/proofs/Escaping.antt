@@ -1,4 +1,4 @@
--- The escaped text of a name, of which a front of plain bytes waits to be written as it is.
+-- The escaped text of a name, whose plain bytes at the front wait to be written unchanged.
 use Rattle.std.proofs.Common.{◌≡◌, ℕ, ◌+◌, ◌-◌, ◌<◌, ◌≤◌, true, List, [], ◌∷◌, ◌++◌, length, get_or, take, drop, refl, sym, ap, ◌∙◌, append_assoc, arith, length-drop}
 use Rattle.std.specs.Prelude.{slice_range}
 use Rattle.std.proofs.lemmas.List.{take_more, drop_more, get_or-drop}

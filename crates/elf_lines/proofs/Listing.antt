@@ -23,7 +23,7 @@ pub given : {S A T E : Type 0} (rest : S → List A) (s : S) (P : List A → Typ
 given rest s P (Ok x) (xs, drains, holds) = subst P (drained rest s xs drains) holds
 given rest s P (Err e) h = tt
 
--- the same of an iterator whose items are seen by what they show
+-- the same of an iterator whose items are compared by their view
 pub drained_by : {S A B : Type 0} (view : A → B) (rest : S → List B) (s : S) (xs : List A) → Drains (YieldsFirstBy view rest) s xs → map view xs ≡ rest s
 drained_by view rest s [] (u, (t, same, ends)) = sym (ap rest same ∙ ends.0)
 drained_by view rest s (x ∷ xs) (u, (t, (j, gives, goes_on), ends)) = ap (λ ys. view x ∷ ys) (drained_by view rest j xs (u, (t, goes_on, ends))) ∙ sym gives

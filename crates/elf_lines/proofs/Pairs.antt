@@ -124,7 +124,7 @@ take_digits (suc n) (x ∷ xs) =
     let more : 2 * suc n ≡ suc (suc (2 * n)) = omega arith in
     ap (λ (m : ℕ). take m (hex_of (x ∷ xs))) more ∙ ap (λ (t : List ℕ). hex_pair x ++ t) (take_digits n xs)
 
--- those of bytes that others are behind
+-- those of bytes that others are after
 pub few_digits : (bytes front zeros digits : List ℕ) → front ≡ bytes → digits ≡ hex_of (front ++ zeros) → take (2 * length bytes) digits ≡ hex_of bytes
 few_digits bytes front zeros digits same made =
     ap (λ (t : List ℕ). take (2 * length bytes) t) (made ∙ ap (λ (t : List ℕ). hex_of (t ++ zeros)) same)
@@ -138,7 +138,7 @@ blocks_digits (suc k) xs =
     ∙ sym (flat_map-append hex_pair (take 16 xs) (take (16 * k) (drop 16 xs)))
     ∙ ap hex_of (sym (take-add 16 (16 * k) xs) ∙ ap (λ (m : ℕ). take m xs) (omega arith))
 
--- the digits of the whole blocks, and over them or behind them those of the last 16 bytes
+-- the digits of the whole blocks, and over them or after them those of the last 16 bytes
 pub last_block : (bytes room ys last : List ℕ) (k : ℕ) → length room ≡ 2 * length bytes → 16 ≤ length bytes → length bytes < 16 * k + 16
     → take (32 * k) room ≡ flat_map hex_of (first_chunks 16 k bytes) → last ≡ drop (length bytes - 16) bytes → ys ≡ hex_of last
     → put_chunk (2 * length bytes - 32) room ys ≡ hex_of bytes
@@ -160,7 +160,7 @@ last_block bytes room ys last k long some few front is_last digits =
     ∙ sym (flat_map-append hex_pair (take n bytes) (drop n bytes))
     ∙ ap hex_of (take-append-drop n bytes)
 
--- the digits of whole blocks, where there is nothing behind them
+-- the digits of whole blocks, if there is nothing after them
 pub whole_blocks : (bytes room : List ℕ) (k : ℕ) → length room ≡ 2 * length bytes → length bytes ≡ 16 * k
     → take (32 * k) room ≡ flat_map hex_of (first_chunks 16 k bytes) → room ≡ hex_of bytes
 whole_blocks bytes room k long whole front =

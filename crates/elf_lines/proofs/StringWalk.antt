@@ -26,7 +26,7 @@ before_nul rest (Some n) e string h is =
     omega (arith, inside, sym (ap length same) ∙ long)
 before_nul rest None e string h is = cc
 
--- a string and the 0 byte behind it lie in the table
+-- a string and the 0 byte after it lie in the table
 pub string_lies : (bytes : List ℕ) (o : ℕ) (string : List ℕ) → string_at bytes o ≡ Ok string → o + length string + 1 ≤ length bytes
 unfolding string_at
 string_lies bytes o string h =

@@ -1,4 +1,4 @@
--- What a writer shows, and what waits in a line buffer to be written to it.
+-- The view of a writer, and what waits in a line buffer to be written to it.
 use Rattle.std.specs.Prelude.{ℕ, List, Option, Some, None, ⊤}
 use Rattle.std.specs.Io.KnownBytes.{Appends, append_known}
 
@@ -7,7 +7,7 @@ abbrev pub waiting : {E : Type 0} → Option E → List ℕ → Option (List ℕ
 waiting None text = Some text
 waiting (Some failure) text = None
 
--- what the writer got, and behind it what waits, grew by this text, unless a write failed
+-- what the writer got, and after it what waits, grew by this text, unless a write failed
 abbrev pub Adds : Option (List ℕ) → Option (List ℕ) → Option (List ℕ) → Option (List ℕ) → List ℕ → Type 0
 Adds got before gets None text = ⊤
 Adds got None gets (Some after) text = ⊥

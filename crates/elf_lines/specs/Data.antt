@@ -7,7 +7,7 @@ use Rattle.elf_lines.specs.Pieces.{◌⧺◌, newline, hex_of}
 abbrev pub data_fields : List ℕ → List ℕ
 data_fields bytes = codes "data size=" ⧺ decimal (length bytes) ⧺ codes " hex=" ⧺ hex_of bytes
 
--- the compression header, where there is one
+-- the compression header, if there is one
 abbrev pub compression_fields : Option CompressionHeader → List ℕ
 compression_fields None = []
 compression_fields (Some c) =

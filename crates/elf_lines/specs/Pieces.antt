@@ -20,7 +20,7 @@ hex n = codes "0x" ⧺ digits 16 false n
 abbrev pub hex_pair : ℕ → List ℕ
 hex_pair b = digit_glyph false (b / 16) ∷ digit_glyph false (b % 16) ∷ []
 
--- the visible characters of ASCII (21 to 7e), but for the backslash (5c)
+-- the visible characters of ASCII (21 to 7e), except for the backslash (5c)
 abbrev pub is_plain : ℕ → Bool
 is_plain b = nat_le 0x21 b && nat_le b 0x7e && not (b == 0x5c)
 

@@ -5,12 +5,12 @@ use Rattle.elf_records.specs.StringTable.{string_at}
 use Rattle.elf_records.specs.declared.parse.ParseError.{ParseError}
 use Rattle.elf_lines.specs.Pieces.{◌⧺◌, newline, escaped}
 
--- a string at o, if it can be read, and those behind it
+-- a string at o, if it can be read, and those after it
 abbrev pub before_strings : ℕ → Result (List ℕ) ParseError → List (ℕ × List ℕ) → List (ℕ × List ℕ)
 before_strings o (Ok string) others = (o, string) ∷ others
 before_strings o (Err e) others = []
 
--- where the string behind this one begins: behind the 0 byte that ends it
+-- where the string after this one begins: after the 0 byte that ends it
 abbrev pub behind_string : ℕ → Result (List ℕ) ParseError → ℕ
 behind_string o (Ok string) = o + length string + 1
 behind_string o (Err e) = o

@@ -10,7 +10,7 @@ use elf_parts::compression::CompressionHeader;
 use std::io;
 use std::io::Write;
 
-/// Writes the line of a section's bytes, and of the compression header in front of them, if there is one.
+/// Writes the line of a section's bytes, and of the compression header before them, if there is one.
 pub fn write_section_data<W: Write>(
     bytes: &[u8],
     header: Option<&CompressionHeader>,

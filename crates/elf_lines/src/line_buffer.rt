@@ -163,7 +163,7 @@ impl LineBuffer {
         self.put_decimal(n.unsigned_abs(), out);
     }
 
-    /// Adds a label and a number in hexadecimal, behind `0x`.
+    /// Adds a label and a number in hexadecimal, after `0x`.
     #[inline(always)]
     pub fn hex<W: Write>(&mut self, label: &str, n: u64, out: &mut W)
         ensures { Adds (W.contents out.old) self.old (W.contents out.new) self.new (label.now ⧺ hex n) }
@@ -218,7 +218,7 @@ impl LineBuffer {
         self.put_pairs(bytes, out);
     }
 
-    // Adds two digits for each byte. The room is looked at once for all of them.
+    // Adds two digits for each byte. The room is checked once for all of them.
     #[inline(never)]
     fn put_pairs<W: Write>(&mut self, bytes: &[u8], out: &mut W)
         ensures { Adds (W.contents out.old) self.old (W.contents out.new) self.new (hex_of bytes.now) }

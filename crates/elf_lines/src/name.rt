@@ -10,7 +10,7 @@ use elf_parts::string_table::TerminatedStrings;
 use std::io;
 use std::io::Write;
 
-/// Adds the name field of an item whose name is at this offset in bytes, behind a space. Without strings it is
+/// Adds the name field of an item whose name is at this offset in bytes, after a space. Without strings it is
 /// `noname`.
 pub fn add_name<W: Write>(
     names: &Option<TerminatedStrings<'_>>,

@@ -12,7 +12,7 @@ use elf_parts::string_table::StringTable;
 use std::io;
 use std::io::Write;
 
-/// Writes the lines of the strings of a table, one after the other, up to the first offset at which no string can be
+/// Writes the lines of the strings of a table, in order, up to the first offset at which no string can be
 /// read, and their number.
 pub fn write_strings<W: Write>(strings: StringTable<'_>, out: &mut W) -> io::Result<()>
     ensures { OnOk result (Appends (W.contents out.old) (W.contents out.new)

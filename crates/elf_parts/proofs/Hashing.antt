@@ -129,7 +129,7 @@ four_steps h a b c d =
     let four = ap (λ (n : ℕ). (33 * n + d) % 2 ^ 32) three ∙ one_more (33 * (33 * (33 * h + a) + b) + c) d in
     four ∙ ap (λ (n : ℕ). n % 2 ^ 32) (omega arith)
 
--- two fours, of which the first has the hash so far in it
+-- two fours; the first has the hash so far in it
 two_fours : (h one two : ℕ) → (h * 1954312449 % 2 ^ 32 + (1185921 * one + two) % 2 ^ 32) % 2 ^ 32 ≡ ((h * 1185921 + one) % 2 ^ 32 * 1185921 + two) % 2 ^ 32
 two_fours h one two = omega arith
 
@@ -171,9 +171,9 @@ eight_in_word n bytes long small =
 
 pub ruleset eight_at_once = (eight_in_word)
 
--- ---- the first bytes of a name, behind bytes of 0
+-- ---- the first bytes of a name, after bytes of 0
 
--- the first n of eight bytes, behind bytes of 0, and what the code makes of their word
+-- the first n of eight bytes, after bytes of 0, and what the code makes of their word
 abbrev padded : ℕ → List ℕ → List ℕ
 padded n bytes = replicate (8 - n) 0 ++ take n bytes
 
@@ -184,7 +184,7 @@ behind_zeros n word = word * 2 ^ (56 - 8 * n) % 2 ^ 64 * 2 ^ 8 % 2 ^ 64
 abbrev pub starts : List ℕ
 starts = 3048333317 ∷ 1810751653 ∷ 3920229701 ∷ 518561253 ∷ 4227619461 ∷ 2072488741 ∷ 3967619013 ∷ 2082408549 ∷ []
 
--- the first n bytes are bytes, and so are bytes of 0 in front of others
+-- the first n bytes are bytes, and so are bytes of 0 before others
 first_small : (n : ℕ) (bytes : List ℕ) → AreBytes bytes → AreBytes (take n bytes)
 first_small zero bytes small i = omega arith
 first_small (suc n) [] small i = small i

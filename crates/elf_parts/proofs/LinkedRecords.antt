@@ -24,7 +24,7 @@ module _ {A : Type 0} (record_at : Bool → Class → List ℕ → ℕ → Resul
   links_refused t zero o e h = refl
   links_refused t (suc n) o e h = rw h refl
 
-  -- a record that is read comes before those behind it
+  -- a record that is read comes before those after it
   pub links_read : (t : Table) (n o : ℕ) (x : A) → 1 ≤ n → record_at t.little t.class t.bytes o ≡ Ok x →
       links_in record_at next t n o ≡ (o, x) ∷ from_next (next_start o (next x)) (links_in record_at next t (n - 1))
   unfolding links_in
@@ -33,7 +33,7 @@ module _ {A : Type 0} (record_at : Bool → Class → List ℕ → ℕ → Resul
       let less : suc n - 1 ≡ n = omega arith in
       rw (h, less) refl
 
-  -- the same of the first n records, the one behind it being at p
+  -- the same of the first n records, the one after it being at p
   pub links_step : (t : Table) (n o p : ℕ) (x : A) → record_at t.little t.class t.bytes o ≡ Ok x →
       ((m : ℕ) → links_in record_at next t m p ≡ from_next (next_start o (next x)) (links_in record_at next t m)) →
       links_in record_at next t n o ≡ front_then n o (Some x) (links_in record_at next t (n - 1) p)
@@ -51,7 +51,7 @@ module _ {A : Type 0} (reads : RecordType A) (next : A → ℕ) where
       absurd (omega (arith, some, inside.0))
   past t n o (Err d) end e = refl
 
-  -- no record begins behind the data
+  -- no record begins past the data
   pub links_past : (t : Table) (n o : ℕ) → length t.bytes ≤ o → links_in reads.record_at next t n o ≡ []
   unfolding links_in
   links_past t zero o end = refl
@@ -92,7 +92,7 @@ module _ {A : Type 0} (reads : RecordType A) (next : A → ℕ) where
   links_few t zero o = omega arith
   links_few t (suc n) o = step_few t n o (reads.record_at t.little t.class t.bytes o) refl (links_few t n)
 
-  -- so an offset behind the data may be any other one
+  -- so an offset past the data may be any other one
   pub links_clipped : (t : Table) (n o p : ℕ) → p ≡ min o (length t.bytes) →
       links_in reads.record_at next t n p ≡ links_in reads.record_at next t n o
   links_clipped t n o p e =

@@ -14,7 +14,7 @@ use Rattle.elf_parts.specs.Note.{AreAllNotes, NoteContent, aligned, content_of, 
 use Rattle.elf_parts.specs.Note.{note_header_reads, note_links}
 use Rattle.elf_parts.specs.declared.note.NoteHeader.{NoteHeader}
 
--- ---- a list whose records each lie in the first `size` bytes and give a next one behind themselves
+-- ---- a list whose records each lie in the first `size` bytes and give a next one after themselves
 
 module _ {A : Type 0} (gives : ℕ → Result (A × ℕ) ParseError) (size : ℕ)
     (law : (o : ℕ) (p : A × ℕ) → gives o ≡ Ok p → (o < size) × (o < p.1)) where
@@ -33,7 +33,7 @@ module _ {A : Type 0} (gives : ℕ → Result (A × ℕ) ParseError) (size : ℕ
   same_behind o m n (Ok p) e same = ap (λ xs. (o, p) ∷ xs) (same p e)
   same_behind o m n (Err d) e same = refl
 
-  -- the limit does not matter where it is large enough
+  -- the limit does not matter if it is large enough
   enough : (m n o : ℕ) → size ≤ o + m → size ≤ o + n →
       links gives (λ _ p. Some p.1) m o ≡ links gives (λ _ p. Some p.1) n o
   enough zero zero o hm hn = refl
@@ -62,7 +62,7 @@ refused : {A : Type 0} (gives : ℕ → Result (A × ℕ) ParseError) (n o : ℕ
 refused gives zero o e h = refl
 refused gives (suc n) o e h = rw h refl
 
--- ---- a note lies in the data, and the next one behind it
+-- ---- a note lies in the data, and the next one after it
 
 aligned_behind : (align o p : ℕ) → aligned align o ≡ Ok p → o ≤ p
 unfolding aligned

@@ -10,7 +10,7 @@ use Rattle.elf_parts.specs.declared.gnu_symver.records.VerNeed.{VerNeed}
 use Rattle.elf_parts.specs.declared.gnu_symver.records.VerNeedAux.{VerNeedAux}
 use Rattle.elf_parts.specs.declared.gnu_symver.table.Needed.{Needed}
 
--- after the versions of the first need were put in, the entry of an index, or else what the needs behind have for
+-- after the versions of the first need were put in, the entry of an index, or else what the later needs have for
 -- it, is what it was before
 pub needed_front : (k : ℕ) (old new : Option Needed) (need : VerNeed × List VerNeedAux)
     (needs : List (VerNeed × List VerNeedAux)) →
@@ -36,7 +36,7 @@ unfolding needed_version
 needed_end k None = refl
 needed_end k (Some x) = refl
 
--- after the first definition was put in, the definition from the entry of an index on, or else from those behind on,
+-- after the first definition was put in, the definition from the entry of an index on, or else from those after on,
 -- is what it was before; `list` gives the definitions from a place on
 pub defined_front : {I : Type 0} (list : I → List (VerDef × List VerDefAux)) (k : ℕ) (old new : Option I)
     (start left : I)

@@ -115,7 +115,7 @@ abbrev pub is_version : Option ℕ → ℕ → Bool
 is_version None n = true
 is_version (Some version) n = n == version
 
--- the fields are those of the members, the first of which begins at the place
+-- the fields are those of the members; the first begins at the place
 abbrev pub is_struct_of : ℕ → List Field → List Member → Bool
 is_struct_of place [] [] = true
 is_struct_of place [] (m ∷ ms) = false
@@ -146,7 +146,7 @@ accepted-version : (version : Option ℕ) (n : ℕ) → is_version version n ≡
 accepted-version None n is = refl
 accepted-version (Some version) n is = grind (arith, common_steps)
 
--- the bytes behind a front of known length
+-- the bytes after a front of known length
 pub behind_front : (front here rest : List ℕ) (o w : ℕ) → length front ≡ o → length here ≡ w →
     take w (drop o (front ++ (here ++ rest))) ≡ here
 behind_front front here rest o w at long =

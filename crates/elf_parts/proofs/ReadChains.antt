@@ -42,7 +42,7 @@ module _ {A : Type 0} (layout : Layout A) (struct : A → List Member) (next : A
       rw (lies.3, sym lies.2)
       (is.0 little class x lies.0 lies.1 fit (omega (arith, inside, lies.2, small)))
 
-  -- one link, and what is behind it
+  -- one link, and what is after it
   pub link_read : (x : A) (o n : ℕ) → LiesAt little (struct x) bytes o → Fits (struct x) →
       links (record_by layout little class bytes) (λ p y. next_start p (next y)) (suc n) o
       ≡ (o, x) ∷ from_next (next_start o (next x)) (links (record_by layout little class bytes) (λ p y. next_start p (next y)) n)

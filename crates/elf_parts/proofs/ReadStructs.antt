@@ -32,8 +32,8 @@ use Rattle.elf_records.specs.inner.RecordLaws.{within_by}
 use Rattle.elf_records.proofs.Items.{LiesWithin, items_from-enough, items_from-read}
 use Rattle.elf_parts.proofs.ReadBack.{signed_number_complement, is_struct_of, is_packed_from, place_is_sum, length-struct, struct_read_back}
 
--- what has to be looked at in each type of records, mostly by evaluation: the table has the widths of the structure, one
--- behind the other, and the numbers of a structure make its record
+-- what has to be checked for each type of records, mostly by evaluation: the table has the widths of the structure, one
+-- after the other, and the numbers of a structure make its record
 pub record Meets {A : Type 0} (layout : Layout A) (struct : Class → A → List Member) : Type 0 where
   pub size : (class : Class) → (1 ≤ size_by layout class) × (size_by layout class < 2 ^ 64)
   pub fields : (class : Class) (x : A) → is_struct_of 0 (layout.fields class) (struct class x) ≡ true

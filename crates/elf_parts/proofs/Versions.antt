@@ -18,7 +18,7 @@ use Rattle.elf_parts.specs.declared.gnu_symver.lists.AuxIterator.{AuxIterator}
 use Rattle.elf_parts.specs.declared.gnu_symver.records.VerNeed.{VerNeed}
 use Rattle.elf_parts.specs.declared.gnu_symver.records.VerNeedAux.{VerNeedAux}
 
--- an item with the property is found before those behind it
+-- an item with the property is found before those after it
 found_front : {A B : Type 0} (p : A → Bool) (q : B → Bool) (f : B → A) → ((x : B) → p (f x) ≡ q x) →
     (xs : List B) (ys : List A) (x : B) → find q xs ≡ Some x → find p (map f xs ++ ys) ≡ Some (f x)
 found_front p q f same [] ys x e = cc
@@ -27,7 +27,7 @@ found_front p q f same (z ∷ xs) ys x e =
     let behind : find q xs ≡ Some x → find p (map f xs ++ ys) ≡ Some (f x) = found_front p q f same xs ys x in
     grind (arith, common_steps)
 
--- where none has it, one of those behind is found
+-- where none has it, one of those after it is found
 found_behind : {A B : Type 0} (p : A → Bool) (q : B → Bool) (f : B → A) → ((x : B) → p (f x) ≡ q x) →
     (xs : List B) (ys : List A) → find q xs ≡ None → find p (map f xs ++ ys) ≡ find p ys
 found_behind p q f same [] ys e = refl

@@ -13,7 +13,7 @@ use Rattle.elf_parts.specs.gnu_symver.Table.{kept, version_with}
 use Rattle.elf_parts.specs.declared.gnu_symver.records.VerNeedAux.{VerNeedAux}
 use Rattle.elf_parts.specs.declared.gnu_symver.table.Needed.{Needed}
 
--- ---- one step: the version at the front of the first n from o on, and those from p on behind it
+-- ---- one step: the version at the front of the first n from o on, and those from p on after it
 
 abbrev pub versions_from : Table → ℕ → ℕ → List (ℕ × VerNeedAux)
 versions_from t n o = links_in (record_by ver_need_aux_layout) (λ x. x.vna_next) t n o

@@ -54,7 +54,7 @@ gnu_section little class bytes =
       chains = table_in little class (drop (16 + address_size class * header.nbloom + 4 * header.nbucket) bytes);
     })
 
--- the rest of a run, behind a word that does not end it
+-- the rest of a run, after a word that does not end it
 abbrev pub run_on : Result ℕ ParseError → List ℕ → List ℕ
 run_on (Ok word) rest = if word % 2 == 1 then [] else rest
 run_on (Err e) rest = []
@@ -69,7 +69,7 @@ module _ (t : GnuTable) where
   abbrev pub bloom_of : ℕ → Result ℕ ParseError
   bloom_of hash = bloom_word t.bloom (hash / address_bits t.bloom.class % t.hdr.nbloom)
 
-  -- whether both bits of a hash are set in its bloom word; the second one is looked at only where the first is
+  -- whether both bits of a hash are set in its bloom word; the second one is read only if the first is set
   unfoldable pub passes : ℕ → Result Bool ParseError
   passes hash =
       bloom_of hash >>= λ word.
@@ -82,8 +82,8 @@ module _ (t : GnuTable) where
   ReadsBloom = (i : ℕ) → i < t.hdr.nbloom → IsOk (bloom_word t.bloom i)
 
 module _ (t : GnuTable) (symbols : Table) (strings name : List ℕ) where
-  -- what a chain word decides, at the index of its symbol: where it is the hash apart from bit 0, the error of
-  -- the symbol or its name, or the symbol where it has the name
+  -- what a chain word decides, at the index of its symbol: if it is the hash apart from bit 0, the error of
+  -- the symbol or its name, or the symbol if it has the name
   abbrev pub word_decides : ℕ → ℕ → Result (Option (ℕ × Symbol)) ParseError
   word_decides index word =
       if word / 2 == gnu_hash_of name / 2 then ok_map (if_named name index) (named_symbol symbols strings index)

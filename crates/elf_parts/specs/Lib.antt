@@ -1,6 +1,6 @@
 -- What the contracts of the parts of a file cite, in reading order.
 
--- records of which each says where the next one begins
+-- records that say where the next one begins
 pub mod Link
 -- notes
 pub mod Note

@@ -10,7 +10,7 @@ from_next None list = []
 
 -- ---- `gives` reads at an offset, and `follow` gives the offset of the next one, if there is one
 
--- a record and those behind it, if it was read
+-- a record and those after it, if it was read
 abbrev pub linked : {A : Type 0} → (ℕ → A → Option ℕ) → ℕ → Result A ParseError → (ℕ → List (ℕ × A)) → List (ℕ × A)
 linked follow o (Ok x) behind = (o, x) ∷ from_next (follow o x) behind
 linked follow o (Err e) behind = []
@@ -22,7 +22,7 @@ links gives follow zero start = []
 links gives follow (suc count) start = linked follow start (gives start) (links gives follow count)
 
 -- what the list has to be, said without a count of steps: the first record begins at the place, each is the one that
--- is read there, and those behind it begin where it says
+-- is read there, and those after it begin where it says
 abbrev pub AreLinked : {A : Type 0} → (ℕ → Result A ParseError) → (ℕ → A → Option ℕ) → Option ℕ → List (ℕ × A) → Type 0
 AreLinked gives follow place [] = ⊤
 AreLinked gives follow place (link ∷ behind) =

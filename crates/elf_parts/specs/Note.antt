@@ -97,9 +97,9 @@ aligned align o =
 abbrev pub IsLeastMultiple : ℕ → ℕ → ℕ → Type 0
 IsLeastMultiple align x y = (y % align ≡ 0) × (x ≤ y) × ((k : ℕ) → x ≤ k * align → y ≤ k * align)
 
--- the note at o, and where the next one begins, or why it does not fit: the header, the name behind it, the
+-- the note at o, and where the next one begins, or why it does not fit: the header, the name after it, the
 -- descriptor from the next multiple of the alignment on, counted from the start of the data, and the next note from
--- the next multiple behind that
+-- the next multiple after that
 unfoldable pub note_at : Bool → ℕ → List ℕ → ℕ → Result (NoteContent × ℕ) ParseError
 note_at little align bytes o =
     record_by note_header_layout little ELF32 bytes o >>= λ header.
@@ -133,7 +133,7 @@ notes_in little align bytes = notes_from little align bytes 0
 
 -- ---- a name as text
 
--- the text is the name without the 0 bytes at its end: behind it there are only 0 bytes, and it does not end in one
+-- the text is the name without the 0 bytes at its end: after it there are only 0 bytes, and it does not end in one
 abbrev pub IsWithoutNuls : List ℕ → List ℕ → Type 0
 IsWithoutNuls name text = ((n : ℕ) × (name ≡ text ++ repeat n (0 ∷ []))) × ((front : List ℕ) → text ≢ front ++ 0 ∷ [])
 
@@ -142,7 +142,7 @@ abbrev pub GivesNameText : List ℕ → Result (Bor (List ℕ)) ParseError → T
 GivesNameText name result =
     MatchResult result (λ text. IsUtf8 name × IsWithoutNuls name text.now) (λ e. GivesText (Ok name) (Err e))
 
--- ---- what the structs show
+-- ---- the view of the structs
 
 -- what a note says
 abbrev pub note_view : Note → NoteContent

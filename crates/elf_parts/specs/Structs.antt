@@ -115,7 +115,7 @@ sysv_header_struct x = word x.nbucket ∷ word x.nchain ∷ []
 abbrev pub gnu_header_struct : GnuHashHeader → List Member
 gnu_header_struct x = word x.nbucket ∷ word x.table_start_idx ∷ word x.nbloom ∷ word x.nshift ∷ []
 
--- Elf32_Ehdr and Elf64_Ehdr behind e_ident (gABI, "ELF Header")
+-- Elf32_Ehdr and Elf64_Ehdr after e_ident (gABI, "ELF Header")
 abbrev pub tail_struct : {E : Type 0} → Class → FileHeader E → List Member
 tail_struct ELF32 x =
     half x.e_type ∷ half x.e_machine ∷ word x.version ∷ word x.e_entry ∷ word x.e_phoff ∷ word x.e_shoff
@@ -191,7 +191,7 @@ abbrev pub note_end : ℕ → ℕ → ℕ × List ℕ × List ℕ → ℕ
 note_end align o parts =
     next_multiple_of (next_multiple_of (o + 12 + length parts.1) align + length parts.2) align
 
--- notes one behind the other, from the offset o on
+-- consecutive notes, from the offset o on
 abbrev pub notes_bytes : Bool → ℕ → ℕ → List NoteContent → List ℕ
 notes_bytes little align o [] = []
 notes_bytes little align o (note ∷ notes) =

@@ -45,7 +45,7 @@ walk chains (suc limit) index =
     if index == 0 then [] else index ∷ walk_on (word_at chains index) (walk chains limit)
 
 module _ (t : SysvTable) (symbols : Table) (strings name : List ℕ) where
-  -- what an index of a walk decides: the error of its symbol or its name, the symbol where it has the name, or
+  -- what an index of a walk decides: the error of its symbol or its name, the symbol if it has the name, or
   -- the error of its chain word
   abbrev pub decided_by : ℕ → Option (ℕ × Symbol) → Result (Option (ℕ × Symbol)) ParseError
   decided_by index (Some found) = Ok (Some found)
@@ -58,7 +58,7 @@ module _ (t : SysvTable) (symbols : Table) (strings name : List ℕ) where
   unfoldable pub find_along : ℕ → ℕ → Result (Option (ℕ × Symbol)) ParseError
   find_along limit index = first_decided (map index_decides (walk t.chains limit index))
 
-  -- the same from the bucket of the name's hash on, by at most as many indices as there are chain words
+  -- the same from the bucket of the name's hash on, by at most as many indexes as there are chain words
   unfoldable pub sysv_find : Result (Option (ℕ × Symbol)) ParseError
   sysv_find =
       if word_count t.buckets == 0 then Ok None

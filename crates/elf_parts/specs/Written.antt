@@ -32,7 +32,7 @@ FitsSigned width (negsuc n) = n < 2 ^ (8 * width - 1)
 -- ---- structures
 
 -- a member of a C struct, by its number of bytes: an unsigned number; a signed number; or, with the number of bits of
--- its lower part, a number in two parts, of which the higher one comes first
+-- its lower part, a number in two parts; the higher one comes first
 pub data Member : Type 0 where
   Unsigned : ℕ → ℕ → Member
   Signed : ℕ → ℤ → Member
@@ -78,13 +78,13 @@ abbrev pub Fits : List Member → Type 0
 Fits [] = ⊤
 Fits (member ∷ members) = FitsMember member × Fits members
 
--- the members one directly behind the other
+-- the members, each directly after the one before it
 abbrev pub struct_bytes : Bool → List Member → List ℕ
 struct_bytes little [] = []
 struct_bytes little (member ∷ members) =
     bytes_of little (width_of member) (number_of member) ++ struct_bytes little members
 
--- structures one directly behind the other
+-- structures, each directly after the one before it
 abbrev pub table_of : {A : Type 0} → Bool → (A → List Member) → List A → List ℕ
 table_of little struct [] = []
 table_of little struct (x ∷ xs) = struct_bytes little (struct x) ++ table_of little struct xs
@@ -139,7 +139,7 @@ abbrev pub HasNoNul : List ℕ → Type 0
 HasNoNul [] = ⊤
 HasNoNul (byte ∷ bytes) = (byte ≢ 0) × HasNoNul bytes
 
--- names one behind the other, a 0 byte behind each
+-- consecutive names, a 0 byte after each
 abbrev pub strings_of : List (List ℕ) → List ℕ
 strings_of [] = []
 strings_of (name ∷ names) = name ++ 0 ∷ strings_of names

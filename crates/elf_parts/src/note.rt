@@ -202,7 +202,7 @@ pub struct NoteIterator<'data, E: EndianParse> {
 }
 
 impl<'data, E: EndianParse> NoteIterator<'data, E> {
-    /// The notes of the data, of which there are at most as many as bytes. The descriptor of a note, and the next
+    /// The notes of the data, at most one for each byte. The descriptor of a note, and the next
     /// note, begin at multiples of `align`, counted in bytes from the start of the data. If `align` is 0, there are
     /// no notes. Both classes have the same notes.
     #[tactic(auto, using(crate::proofs::NoteLists::notes_few))]

@@ -1,4 +1,4 @@
--- A map of buffers by their starts, none of which lies within another.
+-- A map of buffers by their starts; none lies within another.
 use Rattle.std.proofs.Common.{◌≡◌, ℕ, zero, suc, ◌+◌, ◌-◌, ◌<◌, ◌≤◌, Bool, true, false, ◌&&◌, ◌||◌, List, [], ◌∷◌, ◌++◌, length, map, get_or, refl, sym, ap, ◌∙◌, arith, subst, leb-true, le-leb, not, true≢false, ◌⊎◌, inl, inr}
 use Rattle.std.specs.Prelude.{IsTrue, nat_lt}
 use Rattle.std.specs.List.{list_any, filter, All, AllPairs, Contains}
@@ -161,7 +161,7 @@ module _ {V : Type 0} (bytes : V → List ℕ) where
         (λ same. All-cons P (e.0, v) es (subst (λ n. P (n, v)) same p) (All-tail P e es h))
         (λ _. All-cons P e (put es) (All-head P e es h) (all_put P p es (All-tail P e es h)))
 
-    -- the new buffer before others that start behind it
+    -- the new buffer before others that start past it
     pub spread_first : (es : List (ℕ × V)) → All (λ e. k < e.0) es → AreSpread bytes es → AreSpread bytes (filter keep (new ∷ es))
     spread_first es behind spread =
         subst (AreSpread bytes) (sym (kept_head keep new es (keep_low new (omega arith))))

@@ -52,7 +52,7 @@ IsBefore p q = (p.start < q.start) × (end_of p < end_of q)
 abbrev pub AreSpread : {V : Type 0} → (V → List ℕ) → List (ℕ × V) → Type 0
 AreSpread bytes es = AllPairs (λ a b. IsBefore (piece_of bytes a) (piece_of bytes b)) es
 
--- whether it lies behind start, and ends at end or before it
+-- whether it lies past start, and ends at end or before it
 abbrev pub is_within : ℕ → ℕ → Piece → Bool
 is_within start end p = nat_lt start p.start && nat_le (end_of p) end
 

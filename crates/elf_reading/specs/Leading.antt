@@ -9,6 +9,6 @@ abbrev pub at_front : {A : Type 0}
     → ℕ → (List ℕ → ℕ → Result A ParseError) → List ℕ → Result (List ℕ × A) ParseError
 at_front size gives bytes = gives bytes 0 >>= λ x. Ok (drop size bytes, x)
 
--- what borrowed bytes show, with the header in front of them
+-- the view of borrowed bytes, with the header before them
 abbrev pub data_view : {A : Type 0} → Bor (List ℕ) × A → List ℕ × A
 data_view found = (found.0.now, found.1)

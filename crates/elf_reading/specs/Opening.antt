@@ -17,7 +17,7 @@ use Rattle.elf_records.specs.declared.parse.ParseError.{ParseError}
 use Rattle.elf_records.specs.declared.parse.ParseError.TheVariants.{BadEntsize}
 use Rattle.elf_reading.specs.declared.opening.Opened.{Opened}
 
--- ---- what an opened file shows
+-- ---- the view of an opened file
 
 -- its header as it is now, its bytes, and the two tables that it declares
 pub record View (E : Type 0) : Type 0 where
@@ -48,7 +48,7 @@ table_bytes size entsize count offset bytes =
 -- names
 
 module _ {E : Type 0} (little : E → Bool) where
-  -- the header at the front: the identification in the first sixteen bytes, and the tail behind them
+  -- the header at the front: the identification in the first sixteen bytes, and the tail after them
   unfoldable pub header_at_front : (ℕ → Option E) → List ℕ → Result (FileHeader E) ParseError
   header_at_front of_byte bytes =
       bytes_at ei_nident bytes 0 >>= λ front. ident_of of_byte front >>= λ ident.

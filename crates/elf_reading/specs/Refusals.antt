@@ -14,7 +14,7 @@ kind (IOError _) = SourceFailure
 kind OutOfMemory = AllocationFailure
 kind _ = Refusal
 
--- a failure of the source raises its count, and nothing else does; the content is refused only where it has no answer
+-- a failure of the source raises its count, and nothing else does; the content is refused only if it has no answer
 abbrev pub IsRefused : ℕ → ℕ → Bool → Type 0 → Kind → Type 0
 IsRefused before now can_fail none SourceFailure = (before < now) × IsTrue can_fail
 IsRefused before now can_fail none AllocationFailure = now ≡ before

@@ -107,7 +107,7 @@ impl<A: Allocator> Cache<A> {
     }
 }
 
-// Drops the buffers that start behind `start` and end at or before `end`.
+// Drops the buffers that start past `start` and end at or before `end`.
 fn take_within<A: Allocator>(buffers: &mut BTreeMap<u64, Vec<u8, A>, A>, start: u64, end: u64)
     requires { AreSpread (λ v. v.items) (filter (λ e. nat_lt start e.0) buffers.old.entries) }
     ensures { buffers.new.entries
@@ -118,7 +118,7 @@ fn take_within<A: Allocator>(buffers: &mut BTreeMap<u64, Vec<u8, A>, A>, start: 
     }
 }
 
-// The first buffer that starts behind `start`, if it ends at or before `end`. If it does not, no later buffer does.
+// The first buffer that starts past `start`, if it ends at or before `end`. If it does not, no later buffer does.
 fn next_within<A: Allocator>(
     buffers: &BTreeMap<u64, Vec<u8, A>, A>,
     start: u64,

@@ -7,7 +7,7 @@ use elf_parts::endian::EndianParse;
 use elf_parts::file::Class;
 use elf_parts::parse::{ParseAt, ParseError};
 
-/// Returns the record at the front of the data, and the bytes behind it. The only error is that of `parse_at` at
+/// Returns the record at the front of the data, and the bytes after it. The only error is that of `parse_at` at
 /// offset 0.
 pub fn leading_record<'data, E: EndianParse, P: ParseAt + Drop>(
     endian: E,

@@ -15,7 +15,7 @@ past : {A : Type 0} (gives : List ℕ → ℕ → Result A ParseError) (size : �
 past gives size bytes o xs (Ok x) law end e = absurd (omega (arith, law.some, law.within bytes o x e))
 past gives size bytes o xs (Err d) law end e = refl
 
--- the limit does not matter where it is large enough
+-- the limit does not matter if it is large enough
 pub items_from-enough : {A : Type 0} (gives : List ℕ → ℕ → Result A ParseError) (size : ℕ) (bytes : List ℕ) → LiesWithin gives size → (m n o : ℕ) → length bytes ≤ o + m → length bytes ≤ o + n → items_from gives size m bytes o ≡ items_from gives size n bytes o
 items_from-enough gives size bytes law zero zero o hm hn = refl
 items_from-enough {A = A} gives size bytes law zero (suc n) o hm hn =

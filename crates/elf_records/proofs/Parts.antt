@@ -1,4 +1,4 @@
--- A field table is its parts, one behind the other, and a long record is read so.
+-- A field table is its parts in order, and a long record is read part by part.
 use Rattle.std.proofs.Common.{◌≡◌, ℕ, ◌+◌, Bool, true, List, [], ◌∷◌, ◌++◌, take, drop, if◌then◌else◌, Result, Ok}
 use Rattle.std.proofs.Common.{Err, is_ok, refl, ap, sym, ◌∙◌, arith}
 use Rattle.std.proofs.lemmas.List.{take-append-drop}
@@ -24,7 +24,7 @@ ok_map-same (Err e) = refl
 abbrev pub joined : Result (List ℕ) ParseError → Result (List ℕ) ParseError → Result (List ℕ) ParseError
 joined p q = p >>= λ ns. ok_map (λ ms. ns ++ ms) q
 
--- a number in front of the one part is in front of both
+-- a number before the one part is before both
 accepted_first :
     (a : Result ℕ ParseError) (p q : Result (List ℕ) ParseError) →
     (a >>= λ n. joined p q >>= λ ns. Ok (n ∷ ns)) ≡ joined (a >>= λ n. p >>= λ ns. Ok (n ∷ ns)) q
@@ -91,7 +91,7 @@ offset_from-append little (f ∷ fs) gs bytes o at e =
     (numbers_from little fs bytes (o + f.width)) (offset_from little fs bytes (o + f.width))
     (offset_from little gs bytes at)
 
--- ---- a table cut behind its first fields
+-- ---- a table cut after its first fields
 
 two_parts :
     (count : ℕ) (little : Bool) (fs : List Field) (bytes : List ℕ) (o at : ℕ) → at ≡ o + width_of (take count fs) →

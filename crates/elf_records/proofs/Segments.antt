@@ -1,4 +1,4 @@
--- The field table of a program header is three parts, of which the outer ones are read where the record is.
+-- The field table of a program header is three parts; the outer ones are read in the record's own `parse_at`.
 use Rattle.std.proofs.Common.{◌≡◌, ℕ, ◌+◌, Bool, List, take, drop, refl, ◌∙◌}
 use Rattle.elf_records.specs.declared.file.Class.TheVariants.{ELF32, ELF64}
 use Rattle.elf_records.specs.Record.{numbers_at, numbers_end}

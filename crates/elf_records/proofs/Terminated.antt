@@ -22,7 +22,7 @@ none_found p bytes k none low =
 same_place : {n m : ℕ} → Some n ≡ Some m → n ≡ m
 same_place e = cc e
 
--- whether the first 0 byte is behind as many bytes as are asked for, and they are those, is whether they are equal
+-- whether the first 0 byte is after as many bytes as are asked for, and they are those, is whether they are equal
 module _ (p : ℕ → Bool) (bytes asked : List ℕ) (r : Bool) (decides : Decides r ((position p bytes ≡ Some (length asked)) × (take (length asked) bytes ≡ asked))) where
   same_answer : (n : ℕ) → position p bytes ≡ Some n → r ≡ bytes_eq (take n bytes) asked
   same_answer n found = elim (cases_Bool (bytes_eq (take n bytes) asked)) [
@@ -71,7 +71,7 @@ module _ (bytes : List ℕ) (n o : ℕ) (terminated : IsTerminated bytes n) (beh
   pub none_follows : position (λ (byte : ℕ). byte == 0) (drop o bytes) ≡ None
   none_follows = none_by (position (λ (byte : ℕ). byte == 0) (drop o bytes)) refl
 
--- none follows from a group of bytes on, of which none is 0
+-- no 0 byte follows, starting at a group of bytes without one
 pub none_from_group : (bytes : List ℕ) (end : ℕ) → 16 ≤ end → end ≤ length bytes → NoneFrom bytes end → before_nul bytes (end - 16) 16 ≡ 16 → NoneFrom bytes (end - 16)
 none_from_group bytes end some low none all k from inside = elim (cases_lt k end) [
   | inl early ↦

@@ -32,7 +32,7 @@ dyn_layout = record { fields = dyn_fields; make = dyn_entry }
 abbrev pub dyn_reads : RecordType Dyn
 dyn_reads = by_layout dyn_layout refl
 
--- the one number behind the tag, a value or an address
+-- the one number after the tag, a value or an address
 abbrev pub d_un_view : Dyn → ℕ
 d_un_view entry = entry.d_un
 

@@ -1,4 +1,4 @@
--- The file header (gABI, chapter "ELF Header"): the identification, and the fields behind it, called the tail.
+-- The file header (gABI, chapter "ELF Header"): the identification, and the fields after it, called the tail.
 use Rattle.std.specs.Prelude.{ℕ, Bool, ◌==◌, ◌&&◌, if◌then◌else◌, Option, ok_or, Result, Ok, Err}
 use Rattle.std.specs.Prelude.{List, [], ◌∷◌, slice_get, slice_index}
 use Rattle.elf_abi.specs.Values.{ei_abiversion, ei_class, ei_data, ei_nident, ei_osabi, ei_version, ev_current}
@@ -43,7 +43,7 @@ version_in bytes =
     if version == ev_current then Ok tt else Err (UnsupportedVersion (version, ev_current))
 
 -- the identification at the front of the bytes, or the first of these that is refused: magic, version, class, order,
--- and the bytes behind them
+-- and the bytes after them
 unfoldable pub ident_of : {E : Type 0} → (ℕ → Option E) → List ℕ → Result (Ident E) ParseError
 ident_of of_byte bytes =
     magic_in bytes >>= λ _. version_in bytes >>= λ _.

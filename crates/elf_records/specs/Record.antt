@@ -7,7 +7,7 @@ use Rattle.elf_records.specs.declared.parse.ParseError.{ParseError}
 use Rattle.elf_records.specs.declared.parse.ParseError.TheVariants.{UnsupportedVersion}
 use Rattle.elf_records.specs.Number.{number_at, ok_map}
 
--- a number of `width` bytes, `place` bytes behind the start of its record; a version has to be the one given
+-- a number of `width` bytes, `place` bytes after the start of its record; a version has to be the one given
 pub record Field : Type 0 where
   pub place : ℕ
   pub width : ℕ
@@ -29,7 +29,7 @@ abbrev pub ◌>>=◌ : {A B E : Type 0} → Result A E → (A → Result B E) �
 (Ok x) >>= f = f x
 (Err e) >>= f = Err e
 
--- the number, where it is the version that it has to be
+-- the number, if it is the version that it has to be
 abbrev pub accepted : Option ℕ → ℕ → Result ℕ ParseError
 accepted None n = Ok n
 accepted (Some version) n = if n == version then Ok n else Err (UnsupportedVersion (n, version))
@@ -41,13 +41,13 @@ numbers_at little (f ∷ fs) bytes o =
     number_at little f.width bytes (o + f.place) >>= λ x. accepted f.version x >>= λ n.
     numbers_at little fs bytes o >>= λ ns. Ok (n ∷ ns)
 
--- where the read of a field leaves an offset, `next` being where the fields behind it leave it: at a field that
--- cannot be read, behind a version that is not accepted
+-- where the read of a field leaves an offset, `next` being where the fields after it leave it: at a field that
+-- cannot be read, after a version that is not accepted
 abbrev pub after_field : ℕ → Field → Result ℕ ParseError → ℕ → ℕ
 after_field o f (Err e) next = o + f.place
 after_field o f (Ok x) next = if is_ok (accepted f.version x) then next else o + f.place + f.width
 
--- where the read of a record leaves an offset o: behind the record, or where the first field that is refused leaves it
+-- where the read of a record leaves an offset o: after the record, or where the first field that is refused leaves it
 unfoldable pub numbers_end : Bool → ℕ → List Field → List ℕ → ℕ → ℕ
 numbers_end little size [] bytes o = o + size
 numbers_end little size (f ∷ fs) bytes o =
@@ -71,7 +71,7 @@ offset_by layout little class bytes o = numbers_end little (size_by layout class
 
 -- ---- the laws of every type of records
 
--- a record that is read lies in the bytes, and the offset moves behind it
+-- a record that is read lies in the bytes, and the offset moves past it
 abbrev pub ReadsWithin :
     {A : Type 0} → (Class → ℕ) → (Bool → Class → List ℕ → ℕ → Result A ParseError) →
     (Bool → Class → List ℕ → ℕ → ℕ) → Type 0

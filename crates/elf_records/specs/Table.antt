@@ -1,4 +1,4 @@
--- Tables: records of one size that lie one behind the other (gABI, "Sections" and "Program Header").
+-- Tables: consecutive records of one size (gABI, "Sections" and "Program Header").
 use Rattle.std.specs.Prelude.{ℕ, zero, suc, ◌+◌, ◌-◌, ◌*◌, ◌/◌, ◌^◌, Bool, if◌then◌else◌, ◌==◌, nat_le, nat_lt, List}
 use Rattle.std.specs.Prelude.{[], ◌∷◌, length, Result, Ok, Err}
 use Rattle.elf_records.specs.declared.file.Class.{Class}
@@ -27,7 +27,7 @@ item_at gives size bytes i =
     else if nat_lt (length bytes) (i * size) then Err (BadOffset i)
     else gives bytes (i * size)
 
--- a record, if it was read, and those behind it
+-- a record, if it was read, and those after it
 abbrev pub unless_refused : {A : Type 0} → Result A ParseError → List A → List A
 unless_refused (Ok x) xs = x ∷ xs
 unless_refused (Err e) xs = []
@@ -58,7 +58,7 @@ module _ {A : Type 0} (reads : RecordType A) where
   abbrev pub table_items : Table → List A
   table_items t = items (reads.record_at t.little t.class) (reads.size t.class) t.bytes
 
--- ---- what the structs show
+-- ---- the view of the structs
 
 abbrev pub table_view : {E P : Type 0} → ParsingTable E P → Table
 table_view t = table_in t.little t.class t.«data».now

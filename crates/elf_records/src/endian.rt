@@ -6,7 +6,7 @@ ghost use Rattle.elf_records.specs.Number.{bytes_at, moved_by, number_at, ok_map
 use crate::parse::ParseError;
 use elf_abi::abi;
 
-/// Returns the `width` bytes of the data at `offset`, and moves `offset` behind them.
+/// Returns the `width` bytes of the data at `offset`, and moves `offset` past them.
 ///
 /// Errors, which leave `offset` as it is, in order: `IntegerOverflow` if their end does not fit 64 bits;
 /// `SliceReadError((start, end))` if they do not lie in the data.
@@ -42,7 +42,7 @@ fn next_array<const N: usize>(offset: &mut usize, data: &[u8]) -> Result<[u8; N]
 
 /// A byte order, fixed by the type or stated by the file.
 ///
-/// Each `parse_*` returns the number at `offset`, in bytes, and moves `offset` behind it. Errors, in order:
+/// Each `parse_*` returns the number at `offset`, in bytes, and moves `offset` past it. Errors, in order:
 /// `IntegerOverflow` if the end of the number does not fit 64 bits; `SliceReadError((start, end))` if the number
 /// does not lie in the data. An error leaves `offset` unchanged.
 ///

@@ -136,7 +136,7 @@ fn parse_class(class_byte: u8) -> Result<Class, ParseError>
 /// the ABI. Nine bytes are enough.
 ///
 /// Errors, in order: `BadMagic`, `UnsupportedVersion((found, 1))`, `UnsupportedElfClass`,
-/// `UnsupportedElfEndianness`. If the data end before a byte that is looked at, the error is `SliceReadError((0,
+/// `UnsupportedElfEndianness`. If the data end before a byte that is checked, the error is `SliceReadError((0,
 /// 16))`.
 #[tactic(auto, unfolding(crate::specs::File::ident_of))]
 pub fn parse_ident<E: EndianParse>(data: &[u8]) -> Result<(E, Class, u8, u8), ParseError>
@@ -163,7 +163,7 @@ impl<E: EndianParse> Clone for FileHeader<E> {
 }
 
 impl<E: EndianParse> FileHeader<E> {
-    /// Reads the tail of the header, the bytes behind the identification, at the front of the data: 36 bytes
+    /// Reads the tail of the header, the bytes after the identification, at the front of the data: 36 bytes
     /// (ELF32) or 48 (ELF64). If the data are shorter, the error is `SliceReadError((start, end))` of the first
     /// field that does not fit. Further bytes are ignored.
     pub fn parse_tail(ident: (E, Class, u8, u8), data: &[u8]) -> Result<FileHeader<E>, ParseError>

@@ -131,12 +131,12 @@ pub trait ParseAt: Sized {
     // How a record is read: its size, what is read at an offset, and the laws of these.
     ghost reads: { RecordType Self };
 
-    /// Returns the record at `offset`, in bytes, and moves `offset` behind it.
+    /// Returns the record at `offset`, in bytes, and moves `offset` past it.
     ///
     /// A record with a field table returns the error of the first field that has one: `IntegerOverflow` if the end
     /// of the field does not fit 64 bits, `SliceReadError((start, end))` if the field does not lie in the data, or
     /// `UnsupportedVersion((found, 1))` for the version of a `VerDef` or `VerNeed`. The error leaves `offset` at
-    /// that field, or behind the version.
+    /// that field, or after the version.
     fn parse_at<E: EndianParse>(
         endian: E,
         class: Class,
@@ -192,7 +192,7 @@ pub fn get_bytes<'data>(
 }
 
 /// Returns an address, an offset or a size, which has four bytes in a 32-bit file and eight in a 64-bit one, and moves
-/// `offset` behind it. Errors, in order: those of `parse_u32_at` or `parse_u64_at`, which leave `offset` as it is.
+/// `offset` after it. Errors, in order: those of `parse_u32_at` or `parse_u64_at`, which leave `offset` as it is.
 // A call of it costs more than what it does, and a section header has six.
 #[inline(always)]
 pub fn parse_by_class<E: EndianParse>(

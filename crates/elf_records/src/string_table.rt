@@ -133,7 +133,7 @@ impl<'data> StringTable<'data> {
         Ok(from_utf8(raw)?)
     }
 
-    // The error of an offset behind which no byte is 0.
+    // The error of an offset after which no byte is 0.
     #[tactic(auto, unfolding(crate::specs::StringTable::string_at))]
     fn refused(&self, offset: usize) -> ParseError
         requires { position (λ byte. byte == 0) (drop offset (strings_view self.now)) ≡ None }

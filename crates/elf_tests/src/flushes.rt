@@ -33,7 +33,7 @@ const CALLS: [Call; 17] = [
 const TYPES: [u8; 10] = [2, 3, 4, 5, 6, 7, 8, 9, 10, 11];
 
 /// The file of five sections with another type of section 2, with 1,600 bytes in that section, and with a segment of
-/// notes behind it. So most lists of the section do not fit into the buffer of a line.
+/// notes after it. So most lists of the section do not fit into the buffer of a line.
 fn with_type(alloc: Global, kind: u8) -> Result<Vec<u8>, AllocError> {
     let mut file = Vec::from_slice(alloc, &VERSIONED)?;
     file.resize(2000, 0)?;

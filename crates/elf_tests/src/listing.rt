@@ -34,7 +34,7 @@ fn is_pairs(text: &[u8]) -> bool {
     rest.is_empty()
 }
 
-/// `PAIRS` pairs of two items behind the first ones.
+/// `PAIRS` pairs of two items after the first ones.
 fn with_pairs<T: Copy>(mut items: Vec<T>, pair: [T; 2]) -> Result<Vec<T>, AllocError> {
     for _ in 0..PAIRS {
         items.extend_from_slice(&pair)?;

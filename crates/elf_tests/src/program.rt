@@ -189,7 +189,7 @@ fn words_without_a_call_are_no_request(rt: HostRuntime) {
     assert!(rt; refused == Some(RequestError::Usage), "{refused:?}");
 }
 
-/// Files of which none is there.
+/// Files that do not exist.
 struct NoFiles;
 
 impl FileSystem for NoFiles {
@@ -223,7 +223,7 @@ fn a_missing_file_is_reported_in_each_mode(rt: HostRuntime) -> io::Result<()> {
     Ok(())
 }
 
-/// Asserts the message where each flush fails behind a number of flushes.
+/// Asserts the message where each flush fails after a number of flushes.
 fn assert_flush_reported(
     rt: &(impl Abort + AllocGlobal),
     mode: &str,

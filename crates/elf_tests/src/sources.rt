@@ -22,7 +22,7 @@ pub(crate) fn is_of_source(error: &io::Error) -> bool {
     error.kind() == ErrorKind::TimedOut
 }
 
-/// Gives `width` bytes a read, or one if that is 0, and fails once, behind `calls_before` calls. The owner of that cell
+/// Gives `width` bytes a read, or one if that is 0, and fails once, after `calls_before` calls. The owner of that cell
 /// may change the number.
 #[derive(Drop)]
 pub(crate) struct Halting<'a> {

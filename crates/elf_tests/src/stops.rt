@@ -85,7 +85,7 @@ fn a_buffer_changes_no_count(rt: HostRuntime) -> Result<(), Fail> {
     Ok(())
 }
 
-/// Whether the write behind this number of writes fails, which is reported then; else all is written.
+/// Whether the write after this number of writes fails, which is reported then; else all is written.
 fn fails_behind(rt: &(impl Abort + AllocGlobal), writes_before: usize, whole: &[u8]) -> bool {
     let mut out = Faulty::at_write(rt.alloc(), writes_before);
     let (done, error) = run_into(&mut out);

@@ -38,7 +38,7 @@ fn done_of(stopped: &Result<(), RunError>, all: usize) -> Option<usize> {
     }
 }
 
-/// Runs calls over a source that fails behind a number of its calls, unless the opening fails.
+/// Runs calls over a source that fails after a number of its calls, unless the opening fails.
 fn run_behind(
     alloc: Global,
     data: &[u8],
@@ -66,7 +66,7 @@ fn assert_done(
     Ok(())
 }
 
-/// Whether there is a fault where the source fails behind a number of its calls, and none if the opening fails. The
+/// Whether there is a fault where the source fails after a number of its calls, and none if the opening fails. The
 /// whole text is written, or the fault says how many calls were done and just their text is written.
 fn faults_behind(
     rt: &(impl Abort + AllocGlobal),

@@ -476,7 +476,7 @@ fn has_headers(stream: &Halted<'_>, file: &Bytes<'_>) -> bool {
         && are_records_of(stream.segments(), file.segments())
 }
 
-/// Whether a source that fails behind a number of calls fails in the opening or in the calls that follow.
+/// Whether a source that fails after a number of calls fails in the opening or in the calls that follow.
 fn run_fails(
     rt: &(impl Abort + AllocGlobal),
     bytes: &[u8],
@@ -632,7 +632,7 @@ fn open<'a>(
     Halted::open_stream(alloc, Halting::new(bytes, 1, calls_left))
 }
 
-/// Whether the first call of a stream is refused, where its source fails behind a number of calls.
+/// Whether the first call of a stream is refused, where its source fails after a number of calls.
 fn first_call_fails(
     rt: &(impl Abort + AllocGlobal),
     bytes: &[u8],
@@ -699,7 +699,7 @@ fn opened<'a>(
     }
 }
 
-/// All calls over a file, of which one may be refused for an allocation failure. `tests/refused-memory` runs this with
+/// All calls over a file. One may fail for an allocation. `tests/refused-memory` runs this with
 /// each allocation refused.
 fn assert_answered(rt: &(impl Abort + AllocGlobal), bytes: &[u8]) -> Result<usize, ParseError> {
     let file = ElfBytes::minimal_parse(bytes)?;

@@ -9,7 +9,7 @@ use std::test::Fail;
 /// How many sections there are, more than a header can hold.
 const COUNT: u32 = 65000;
 
-/// Where the names lie: behind the section headers, which begin at 64.
+/// Where the names lie: after the section headers, which begin at 64.
 const NAMES: u32 = 64 + 64 * COUNT;
 
 /// The line of a section, without its number and with each of its numbers 0.

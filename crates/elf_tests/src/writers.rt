@@ -41,7 +41,7 @@ impl Write for Narrow {
     }
 }
 
-/// Fails at one write and goes on behind it, or fails at each flush behind some.
+/// Fails at one write and goes on after it, or fails at each flush after some.
 #[derive(Drop)]
 pub(crate) struct Faulty {
     pub(crate) written: Vec<u8>,
@@ -50,7 +50,7 @@ pub(crate) struct Faulty {
 }
 
 impl Faulty {
-    /// Fails at the write behind a number of writes.
+    /// Fails at the write after a number of writes.
     pub(crate) fn at_write(alloc: Global, writes_before: usize) -> Faulty {
         Faulty {
             written: Vec::new(alloc),
@@ -64,7 +64,7 @@ impl Faulty {
         Faulty::behind_flushes(alloc, 0)
     }
 
-    /// Fails at each flush behind a number of flushes.
+    /// Fails at each flush after a number of flushes.
     pub(crate) fn behind_flushes(alloc: Global, flushes_before: usize) -> Faulty {
         Faulty {
             written: Vec::new(alloc),

@@ -89,7 +89,7 @@ up_to last ranges = filter (λ r. not (is_lt (nat_cmp last r.0))) ranges
 outside : (m : Mapping) (n : ℕ) (size : ℕ) → m.address + m.memory_size ≤ n → meets m (n, size) ≡ false
 outside m n size le = grind (arith, nat_tests, le)
 
--- a mapping, and an address before its end, behind which no other address belongs to it
+-- a mapping, and an address before its end, after which no other address belongs to it
 module _ (m : Mapping) (last : ℕ) (within : last < m.address + m.memory_size) (beyond : (n : ℕ) → n < 2 ^ 64 → last < n → m.address + m.memory_size ≤ n) where
   pub any_up_to : (start : ℕ) (ranges : List (ℕ × ℕ)) → AreApart start ranges → list_any (meets m) (up_to last ranges) ≡ list_any (meets m) ranges
   any_up_to start [] h = refl

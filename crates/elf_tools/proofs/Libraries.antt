@@ -11,7 +11,7 @@ use Rattle.elf_records.specs.declared.parse.ParseError.{ParseError}
 use Rattle.elf_records.specs.declared.section.SectionHeader.{SectionHeader}
 use Rattle.elf.specs.Answers.{dynamic_symbol_table, symbol_version_table}
 use Rattle.elf.specs.Data.{section_data}
-use Rattle.elf.specs.ElfStream.{Headers, IsOpening, Keeps, Seen, headers_of}
+use Rattle.elf.specs.ElfStream.{StreamHeaders, IsOpening, Keeps, Seen, headers_of}
 use Rattle.elf_reading.specs.Opening.{opened}
 use Rattle.elf.specs.Headers.{first_section_of}
 use Rattle.elf.specs.ObjectFile.{ObjectFile}
@@ -27,13 +27,13 @@ use Rattle.elf_tools.specs.Readings.{IsRead, Reads}
 use Rattle.elf_tools.specs.declared.bindings.library.Library.{Library}
 use Rattle.elf_tools.proofs.Readings.{reads_behind}
 
--- ---- readings one behind the other
+-- ---- consecutive readings
 
 pub reads_of_file : {E T Y : Type 0} (little : E → Bool) (old middle new : Seen E) (r : Result T ParseError) (shown : Bool → Class → T → Y) (answer : ObjectFile → Result Y ParseError) → Keeps old middle
     → Reads middle new r (shown (little middle.headers.ehdr.endianness) middle.headers.ehdr.class) (λ bytes. answer (stream_file little middle bytes))
     → Reads old new r (shown (little old.headers.ehdr.endianness) old.headers.ehdr.class) (λ bytes. answer (stream_file little old bytes))
 reads_of_file {E} {T} {Y} little old middle new r shown answer keeps reads =
-    let Such : Headers E → Type 0 = λ h. Reads middle new r (shown (little h.ehdr.endianness) h.ehdr.class) (λ bytes. answer (listed_file little h bytes)) in
+    let Such : StreamHeaders E → Type 0 = λ h. Reads middle new r (shown (little h.ehdr.endianness) h.ehdr.class) (λ bytes. answer (listed_file little h bytes)) in
     reads_behind old middle new r (shown (little old.headers.ehdr.endianness) old.headers.ehdr.class) (λ bytes. answer (stream_file little old bytes)) keeps
     (subst Such keeps.headers reads)
 

@@ -1,4 +1,4 @@
--- What is found passes the test; and what two calls of a stream, one after the other, tell.
+-- What is found passes the test; and what two consecutive calls of a stream return.
 use Rattle.std.proofs.Common.{◌≡◌, ◌≢◌, ℕ, Bool, true, false, List, [], ◌∷◌, Result, Ok, Err, Option, Some, None, refl, ap, sym, subst, ◌∙◌, arith}
 use Rattle.std.specs.Prelude.{IfSome, cond}
 use Rattle.std.specs.List.{find}
@@ -47,7 +47,7 @@ tells_made old new requested shown answer r x shows made given leaves is g =
     let answers = subst (λ w. IfSome old.content (λ bytes. IsAnswer shown (answer bytes) old.can_fail old.failures new.failures w)) is leaves.answers in
     record { keeps = leaves.keeps; answers = known_made old.content shown answer old.can_fail old.failures new.failures x shows made given answers g }
 
--- ---- a call of a stream behind another that was not refused
+-- ---- a call of a stream after another that was not refused
 
 refused_so : (k : Kind) (P Q : Type 0) (before middle now : ℕ) (can_fail : Bool) → (P → Q) → middle ≡ before → IsRefused middle now can_fail P k → IsRefused before now can_fail Q k
 refused_so Kind.SourceFailure P Q before middle now can_fail so same h = let up = h.0 in (omega arith, h.1)
@@ -99,7 +99,7 @@ tells_later little old middle new shown first x entries later e is some refused 
       answers = known_later little old middle new.failures old.content shown x entries e a.keeps some one here;
     }
 
--- ---- where there are entries there are names, or an error
+-- ---- if there are entries there are names, or an error
 
 some_not_none : {Y : Type 0} (r : Result Y NamesError) → ok_map Some r ≢ Ok None
 some_not_none (Ok y) e = cc e

@@ -1,4 +1,4 @@
--- Readings of a stream, one after the other.
+-- Consecutive readings of a stream.
 use Rattle.std.proofs.Common.{◌≡◌, ℕ, Bool, List, Option, Some, None, Result, Ok, Err, refl, sym, ◌∙◌, subst, IfSome}
 use Rattle.std.specs.Prelude.{IsErr, ⊤}
 use Rattle.elf_records.specs.Number.{ok_map}
@@ -28,7 +28,7 @@ keeps_then old middle new a b = record {
   cached = λ start end h. b.cached start end (a.cached start end h);
 }
 
--- a reading behind calls that kept the file
+-- a reading after calls that kept the file
 pub reads_behind : {E T Y : Type 0} (old middle new : Seen E) (r : Result T ParseError) (shown : T → Y) (answer : List ℕ → Result Y ParseError) → Keeps old middle → Reads middle new r shown answer
     → Reads old new r shown answer
 reads_behind old middle new r shown answer keeps reads =

@@ -8,7 +8,7 @@ use Rattle.elf_records.specs.Symbol.{symbol_binding, symbol_type}
 use Rattle.elf_parts.specs.gnu_symver.Table.{Definition}
 use Rattle.elf_records.specs.declared.parse.ParseError.{ParseError}
 use Rattle.elf_records.specs.declared.symbol.Symbol.{Symbol}
-use Rattle.elf_tools.specs.declared.functions.Version.{Version}
+use Rattle.elf_tools.specs.declared.functions.FunctionVersion.{FunctionVersion}
 
 -- it is a function (STT_FUNC, 2) or one that is chosen when the file is loaded (STT_GNU_IFUNC, 10)
 abbrev pub is_function : Symbol → Bool
@@ -19,7 +19,7 @@ abbrev pub is_defined_function : Symbol → Bool
 is_defined_function s = not (s.st_shndx == shn_undef) && not (symbol_binding s == stb_local) && is_function s
 
 -- the first name as text, or why it is none; a version without names is none
-abbrev pub GivesFirst : Bool → List (Result (List ℕ) ParseError) → Result (Option Version) ParseError → Type 0
+abbrev pub GivesFirst : Bool → List (Result (List ℕ) ParseError) → Result (Option FunctionVersion) ParseError → Type 0
 GivesFirst hidden [] result = result ≡ Ok None
 GivesFirst hidden (name ∷ others) result =
     MatchResult result
@@ -27,11 +27,11 @@ GivesFirst hidden (name ∷ others) result =
     (λ e. GivesText name (Err e))
 
 -- a definition of the file itself (VER_FLG_BASE, 1) is no version
-abbrev pub GivesVersionOf : Definition → Result (Option Version) ParseError → Type 0
+abbrev pub GivesVersionOf : Definition → Result (Option FunctionVersion) ParseError → Type 0
 GivesVersionOf d result =
     MatchBool (bit_and d.flags ver_flg_base == 0) (GivesFirst d.hidden d.names result) (result ≡ Ok None)
 
-abbrev pub GivesVersion : Result (Option Definition) ParseError → Result (Option Version) ParseError → Type 0
+abbrev pub GivesVersion : Result (Option Definition) ParseError → Result (Option FunctionVersion) ParseError → Type 0
 GivesVersion (Err e) result = result ≡ Err e
 GivesVersion (Ok None) result = result ≡ Ok None
 GivesVersion (Ok (Some d)) result = GivesVersionOf d result

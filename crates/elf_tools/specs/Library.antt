@@ -13,7 +13,7 @@ use Rattle.elf_parts.specs.gnu_symver.Lists.{ver_defs, ver_needs}
 use Rattle.elf_parts.specs.gnu_symver.Table.{Definitions, Needs, Versions}
 use Rattle.elf.specs.Answers.{dynamic_symbol_table, symbol_version_table}
 use Rattle.elf.specs.Data.{section_data}
-use Rattle.elf.specs.ElfStream.{Headers, MayRefuse, headers_of}
+use Rattle.elf.specs.ElfStream.{StreamHeaders, MayRefuse, headers_of}
 use Rattle.elf_reading.specs.Refusals.{kind}
 use Rattle.elf.specs.Headers.{first_section_of}
 use Rattle.elf_reading.specs.Opening.{opened}
@@ -71,7 +71,7 @@ versions_in little class kept = record {
 abbrev pub hash_of : HashSection → ObjectFile → SectionHeader → Result (HashSection × List ℕ) ParseError
 hash_of kind file s = ok_map (λ found. (kind, found.0)) (section_data file s)
 
--- the first GNU hash section, or where there is none the first SysV one, if there is one
+-- the first GNU hash section, or if there is none the first SysV one, if there is one
 abbrev pub hash_by : ObjectFile → Option SectionHeader → Option SectionHeader →
     Result (Option (HashSection × List ℕ)) ParseError
 hash_by file (Some gnu) sysv = ok_map Some (hash_of Gnu file gnu)
@@ -93,11 +93,11 @@ pub record IsLibraryOf {E : Type 0} (little : E → Bool) (can_fail : Bool) (fil
   pub versions : IsRead (option_map (versions_in file.little file.class)) can_fail (symbol_version_table file)
       library.versions
 
--- the library of the file that these bytes hold, where it can be opened
+-- the library of the file that these bytes hold, if it can be opened
 abbrev pub IsOpened :
     {E : Type 0} → (E → Bool) → (ℕ → Option E) → Bool → List ℕ → Result (Library E) ParseError → Type 0
 IsOpened {E} little of_byte can_fail bytes (Ok library) =
-    (h : Headers E) × (ok_map headers_of (opened little of_byte bytes) ≡ Ok h)
+    (h : StreamHeaders E) × (ok_map headers_of (opened little of_byte bytes) ≡ Ok h)
     × IsLibraryOf little can_fail (listed_file little h bytes) library
 IsOpened {E} little of_byte can_fail bytes (Err e) =
     MayRefuse can_fail (IsOk (opened little of_byte bytes)) (IsErr (opened little of_byte bytes)) (kind e)

@@ -74,7 +74,7 @@ abbrev pub IsFirstOverlap : List Mapping → ℕ → Type 0
 IsFirstOverlap all k = IsSomeAnd (slice_get all k) (λ m. overlaps_earlier all k m ≡ true) × ApartBefore all k
 
 -- what an error says of the mappings: what is wrong with the first that is not loadable, in this order; overlaps are
--- looked at where all are
+-- checked if all are
 abbrev pub IsTrueOf : Class → ℕ → List Mapping → PlanError → Type 0
 IsTrueOf class count all (FileSize k) = IsFirstFaulty class count all (λ m. fits m ≡ false) k
 IsTrueOf class count all (OutsideFile k) =

@@ -30,7 +30,7 @@ abbrev pub or_error : {A : Type 0} → (ParseError → NamesError) → Result A 
 or_error to (Ok x) = Ok x
 or_error to (Err e) = Err (to e)
 
--- what is answered of a value, where there is one
+-- what is answered of a value, if there is one
 abbrev pub if_some : {A B : Type 0} → (A → Result B NamesError) → Option A → Result (Option B) NamesError
 if_some answer None = Ok None
 if_some answer (Some x) = ok_map Some (answer x)
@@ -104,7 +104,7 @@ names_in strings entries =
 abbrev pub name_bytes : List ℕ → Name → List ℕ
 name_bytes strings name = unwrap_or (result_ok (string_at strings name.start)) []
 
--- what the result shows
+-- the view of the result
 abbrev pub names_view : Names → Named
 names_view n =
     let bytes = name_bytes n.strings.items in
@@ -124,7 +124,7 @@ IsGiven shown answer (Err e) = answer ≡ Err e
 
 -- ---- over a file
 
--- its dynamic entries, where it has any
+-- its dynamic entries, if it has any
 abbrev pub entries_of : ObjectFile → Result (Option (List Dyn)) NamesError
 entries_of file = or_error Read (ok_map (option_map entries_in) (dynamic file))
 
@@ -135,7 +135,7 @@ names_of_part file part entries = or_error Read (segment_data file part) >>= λ 
 abbrev pub names_by : ObjectFile → List Dyn → Result Named NamesError
 names_by file entries = string_part file.segments entries >>= λ part. names_of_part file part entries
 
--- its names, where it has dynamic entries
+-- its names, if it has dynamic entries
 abbrev pub names : ObjectFile → Result (Option Named) NamesError
 names file = entries_of file >>= λ entries. if_some (names_by file) entries
 

@@ -21,7 +21,7 @@ use Rattle.elf_binding.specs.declared.resolve.ObjectFault.{ObjectFault}
 use Rattle.elf_tools.specs.declared.resolver.TablesError.{TablesError}
 use Rattle.elf_tools.specs.declared.resolver.TablesError.TheVariants.{Fault, Memory, NoHash}
 
--- the object that a library is, by a type of orders of which some are little
+-- the object that a library is, by a type of byte orders and which of them are little
 abbrev pub library : {E : Type 0} → (E → Bool) → ElfBytes E → Option (Result Object ObjectFault)
 library little file = object_of (object_file little (view file))
 

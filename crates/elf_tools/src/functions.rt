@@ -15,7 +15,7 @@ use std::alloc::{AllocError, Global};
 /// The version with which a symbol is defined. A reference without a version binds to a symbol whose version is not
 /// hidden.
 #[derive(Debug, Clone, Copy)]
-pub struct Version<'a> {
+pub struct FunctionVersion<'a> {
     pub name: &'a str,
     pub hidden: bool,
 }
@@ -54,7 +54,7 @@ pub fn functions<E: EndianParse>(
 // version.
 fn version_in<'a, E: EndianParse>(
     definition: SymbolDefinition<'a, E>,
-) -> Result<Option<Version<'a>>, ParseError>
+) -> Result<Option<FunctionVersion<'a>>, ParseError>
     ensures { GivesVersionOf (definition_view definition.entry) result }
 {
     if definition.flags & abi::VER_FLG_BASE != 0 {
@@ -62,7 +62,7 @@ fn version_in<'a, E: EndianParse>(
     }
     let mut names = definition.names;
     match names.next() {
-        Some(Ok(name)) => Ok(Some(Version {
+        Some(Ok(name)) => Ok(Some(FunctionVersion {
             name,
             hidden: definition.hidden,
         })),
@@ -75,10 +75,10 @@ fn version_in<'a, E: EndianParse>(
 /// definition, or one without a name, or only that of the file itself (`VER_FLG_BASE`).
 ///
 /// Errors, in order: that of `get_definition`; that of the first name of the definition.
-pub fn version_of<'a, E: EndianParse, V: SymbolVersions<E>>(
+pub fn function_version<'a, E: EndianParse, V: SymbolVersions<E>>(
     versions: &'a V,
     symbol: usize,
-) -> Result<Option<Version<'a>>, ParseError>
+) -> Result<Option<FunctionVersion<'a>>, ParseError>
     ensures { GivesVersion (definition (V.versions versions.now) symbol) result }
 {
     match versions.get_definition(symbol) {

@@ -3,7 +3,7 @@
 ghost use Rattle.elf_records.specs.Clones.{ClonesExactly};
 
 use crate::bindings::Bound;
-use crate::functions::Version;
+use crate::functions::FunctionVersion;
 use crate::load_plan::Mapping;
 use crate::needed::Name;
 
@@ -12,5 +12,5 @@ pub fn clones()
     ensures mapping { ClonesExactly ⟦<Mapping as Clone>⟧.is_clone ⟦<Mapping as Clone>⟧.is_infallible }
     ensures name { ClonesExactly ⟦<Name as Clone>⟧.is_clone ⟦<Name as Clone>⟧.is_infallible }
     ensures bound { ClonesExactly ⟦<Bound as Clone>⟧.is_clone ⟦<Bound as Clone>⟧.is_infallible }
-    ensures version { ClonesExactly ⟦<Version<'static> as Clone>⟧.is_clone ⟦<Version<'static> as Clone>⟧.is_infallible }
+    ensures version { ClonesExactly ⟦<FunctionVersion<'static> as Clone>⟧.is_clone ⟦<FunctionVersion<'static> as Clone>⟧.is_infallible }
 {}

@@ -132,7 +132,7 @@ fn first_fault(class: Class, len: usize, all: &[Mapping]) -> Option<PlanError>
 }
 
 // Whether an address of the mapping lies in one of these ranges. Of the ranges that begin before the mapping ends, the
-// last one also ends last, so no other one has to be looked at.
+// last one also ends last, so no other one has to be checked.
 fn meets_any(mapping: &Mapping, ranges: &BTreeMap<u64, u64>) -> bool
     requires { AreApart 0 ranges.now.entries }
     ensures { result ≡ list_any (meets mapping.now) ranges.now.entries }

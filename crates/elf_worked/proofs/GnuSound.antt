@@ -88,7 +88,7 @@ not_in_run : IsTrueOfGnu (gnu_with 3 5 0xc0 0x07 0x09) (NotInRun 2)
 unfolding word word_at bloom bloom_word named named_symbol string_at bytes_at number_at numbers_at gnu_hash_of
 not_in_run = (lit≤ tt, (1, refl, (refl, (lit≤ tt, (refl, refl)), no_run)))
 
--- ---- a section of which a fault is true is not sound
+-- ---- a section is not sound if a fault is true of it
 
 with_fault : (s : WithSymbols GnuTable) (fault : HashFault) → IsTrueOfGnu s fault → HasGnuFault fault s
 with_fault s fault h = (λ sound. true_fault s sound fault h, h)

@@ -59,7 +59,7 @@ module _ (nbucket : ℕ) (hashes : List ℕ) where
     | inr more ↦ rw more (omega arith)
   ]
 
-  -- a hash with another one of its bucket behind it does not end the run
+  -- a hash with another one of its bucket after it does not end the run
   inner_even : (j : ℕ) → j + 1 < length hashes → gnu_bucket nbucket hashes (j + 1) ≡ gnu_bucket nbucket hashes j →
       run_word nbucket hashes j % 2 ≡ 0
   inner_even j below same =

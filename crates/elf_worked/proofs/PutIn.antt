@@ -1,4 +1,4 @@
--- The chain of a bucket in which symbols were put one after the other.
+-- The chain of a bucket in which symbols were put in order.
 use Rattle.std.proofs.Common.{◌≡◌, ℕ, ◌+◌, ◌<◌, ◌≤◌, zero, suc, true, false, eqb, List, [], ◌∷◌, length, Option, Some, refl, ap, sym, ◌∙◌, subst, inl, inr, arith}
 use Rattle.std.specs.Prelude.{◌⊎◌}
 use Rattle.std.specs.List.{Contains, IsDistinct}
@@ -56,7 +56,7 @@ module _ (bucket_of : ℕ → ℕ) (put : List ℕ) (bucket : ℕ) (value : ℕ 
     pub visited : (i : ℕ) → i < last → Visited i
     pub reached : (k : ℕ) → Contains left k → bucket_of k ≡ bucket → (i : ℕ) × (i < last) × (value i ≡ Some k)
 
-  -- behind a symbol that was put in comes its chain word
+  -- after a symbol that was put in comes its chain word
   abbrev pub Steps : Type 0
   Steps = (j x : ℕ) → Contains put x → value j ≡ Some x → value (suc j) ≡ Some (chain_after bucket_of put x)
 

@@ -62,7 +62,7 @@ pub other_bucket : IsTrueOfSysv (sysv_with 8 (in_four 1)) (Endless 1) → ⊥
 unfolding word word_at bytes_at number_at numbers_at
 other_bucket h = h.1 1 (lit≤ tt) refl
 
--- ---- a section of which a fault is true is not sound
+-- ---- a section is not sound if a fault is true of it
 
 with_fault : (s : WithSymbols SysvTable) (fault : HashFault) → IsTrueOfSysv s fault → HasSysvFault fault s
 with_fault s fault h = (λ sound. true_fault s sound fault h, h)

@@ -167,7 +167,7 @@ sections_read little h (first ∷ rest) bytes small lie =
     (counted (nat_eq h.e_shnum 0) first (first_section little h bytes) (λ f. f.sh_size) h.e_shnum n found stated)
     (table_cut section_header_layout section_header_struct section_header_is_struct (little h.endianness) h.class (shdr_size h.class) (first ∷ rest) bytes h.e_shoff h.e_shentsize (Some (declared_sections h first)) (shdr_same h.class) small lie)
 
--- the first section header, where there is one
+-- the first section header, if there is one
 first_found : {E : Type 0} (little : E → Bool) (h : FileHeader E) (sections : List SectionHeader) (bytes : List ℕ) → length bytes < 2 ^ 64 → SectionsLie little h sections bytes → (first : SectionHeader) (rest : List SectionHeader) → sections ≡ first ∷ rest → first_section little h bytes ≡ Ok first
 first_found little h [] bytes small lie first rest e = cc e
 first_found little h (one ∷ others) bytes small lie first rest e =

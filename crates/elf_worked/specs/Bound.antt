@@ -37,7 +37,7 @@ defined_as flags index hash name = (
   record { vda_name = name; vda_next = 0 } ∷ [],
 )
 
--- The file itself at 1, "v" at 2, "w" at 3, and at 4 a version whose name would begin behind the strings.
+-- The file itself at 1, "v" at 2, "w" at 3, and at 4 a version whose name would begin past the strings.
 -- The symbols: 0 has "v" hidden, 1 "w", 2 the file's own, 3 "w" hidden, 4 the file's own hidden, 5 the version at 4.
 abbrev pub library_versions : Versions
 library_versions = record {
@@ -61,15 +61,15 @@ w = named_version 8 (codes "w")
 abbrev pub IsFor : Version → NamedVersion → Type 0
 IsFor wanted version = (wanted.name.now ≡ version.name) × (wanted.hash ≡ version.hash)
 
--- symbols of the library by their indices, each a global function
+-- symbols of the library by their indexes, each a global function
 abbrev pub functions_of : List ℕ → List (ℕ × Symbol)
 functions_of [] = []
 functions_of (i ∷ is) = (i, function_at 16) ∷ functions_of is
 
 -- what a reference takes in an object with these versions, whose symbols of the name are these, in look-up order
 abbrev pub Takes : Option Versions → List ℕ → Wanted → Result (Option (ℕ × Symbol)) Unreadable → Type 0
-Takes versions indices wanted result =
-    (symbols : Object) (name : List ℕ) → AreAllNamed symbols name (functions_of indices)
+Takes versions indexes wanted result =
+    (symbols : Object) (name : List ℕ) → AreAllNamed symbols name (functions_of indexes)
     → IsChosen (record { symbols = symbols; versions = versions }) name wanted result
 
 -- the function of an index

@@ -60,7 +60,7 @@ pub record CanPutIn (nbucket : ℕ) (names : List (List ℕ)) (put : List ℕ) (
   -- the names are those that the symbol table and the strings give
   pub named : All (λ index. name_at symbols strings index ≡ Some (name_in names index)) put
 
--- a section that was built for symbols of these names, from index 0 on, of which those were put in
+-- a section that was built for symbols of these names, starting at index 0, with those of them that were put in
 abbrev pub IsBuiltSysv : List (List ℕ) → List ℕ → WithSymbols SysvTable → Type 0
 IsBuiltSysv names put s =
     HasSysvWords names put s.table × CanPutIn (word_count s.table.buckets) names put s.symbols s.strings
@@ -77,7 +77,7 @@ module _ (nbucket : ℕ) (hashes : List ℕ) where
   abbrev pub first_in : ℕ → ℕ
   first_in bucket = position_or_len (λ hash. hash % nbucket == bucket) hashes
 
-  -- the word of a bucket: the index of its first symbol, or 0 where it has none; hash 0 is that of symbol `first`
+  -- the word of a bucket: the index of its first symbol, or 0 if it has none; hash 0 is that of symbol `first`
   abbrev pub bucket_word : ℕ → ℕ → ℕ
   bucket_word first bucket = if first_in bucket == length hashes then 0 else first + first_in bucket
 
@@ -85,11 +85,11 @@ module _ (nbucket : ℕ) (hashes : List ℕ) where
   abbrev pub ends_bucket : ℕ → Bool
   ends_bucket k = k + 1 == length hashes || not (gnu_bucket (k + 1) == gnu_bucket k)
 
-  -- chain word k: the hash, but for bit 0, which is set in the last one of a bucket only
+  -- chain word k: the hash, except for bit 0, which is set in the last one of a bucket only
   abbrev pub run_word : ℕ → ℕ
   run_word k = slice_index hashes k / 2 * 2 + (if ends_bucket k then 1 else 0)
 
-  -- the hashes of a bucket lie one behind the other, as they do where the hashes are in the order of their buckets
+  -- the hashes of a bucket are consecutive, as they are if the hashes are in the order of their buckets
   abbrev pub AreGrouped : Type 0
   AreGrouped =
       (i j k : ℕ) → i ≤ j → j ≤ k → k < length hashes → gnu_bucket i ≡ gnu_bucket k → gnu_bucket j ≡ gnu_bucket i

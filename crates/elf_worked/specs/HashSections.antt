@@ -56,7 +56,7 @@ two_names name = sysv_index (word 1 ++ word 3 ++ word 1 ++ word 0 ++ word 2 ++ w
 unfoldable pub cyclic : List ℕ → Result (Option ℕ) ParseError
 cyclic name = sysv_index (word 1 ++ word 3 ++ word 1 ++ word 0 ++ word 2 ++ word 1) name
 
--- one bucket, whose chain begins at 2, where there is one chain word
+-- one bucket, whose chain begins at 2, if there is one chain word
 unfoldable pub short_chain : List ℕ → Result (Option ℕ) ParseError
 short_chain name = sysv_index (word 1 ++ word 1 ++ word 2 ++ word 0) name
 

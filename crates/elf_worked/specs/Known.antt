@@ -1,4 +1,4 @@
--- What is known of those files: their headers, what they show when they are opened, and their listings.
+-- What is known of those files: their headers, their views when they are opened, and their listings.
 use Rattle.std.specs.Prelude.{ℕ, true, List, Option, Some, None, Result, ◌++◌}
 use Rattle.elf_records.specs.Number.{ok_map}
 use Rattle.elf_records.specs.Endian.{any_is_little, any_of_byte}

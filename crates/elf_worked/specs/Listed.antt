@@ -80,7 +80,7 @@ dynamic_file =
     ++ zeros 4 ++ in_four 6 ++ zeros 16 ++ in_eight 128 ++ in_eight 16 ++ zeros 16 ++ in_eight 16
     ++ in_eight 1 ++ in_eight 5
 
--- one segment of this type with n bytes behind its header, of this alignment
+-- one segment of this type with n bytes after its header, of this alignment
 abbrev pub segment_file : ℕ → ℕ → ℕ → List ℕ → List ℕ
 segment_file type size alignment bytes =
     small_with (in_eight 64) (in_two 56) (in_two 1)

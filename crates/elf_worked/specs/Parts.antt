@@ -15,7 +15,7 @@ use Rattle.elf_worked.specs.Files.{in_four, in_two, zeros}
 abbrev pub gnu : List ℕ
 gnu = 0x47 ∷ 0x4e ∷ 0x55 ∷ 0 ∷ []
 
--- 4 bytes of name, 3 of descriptor, type 3, and a byte behind the descriptor
+-- 4 bytes of name, 3 of descriptor, type 3, and a byte after the descriptor
 abbrev pub build_id_note : List ℕ
 build_id_note = in_four 4 ++ in_four 3 ++ in_four 3 ++ gnu ++ (0xaa ∷ 0xbb ∷ 0xcc ∷ 0 ∷ [])
 
@@ -23,7 +23,7 @@ build_id_note = in_four 4 ++ in_four 3 ++ in_four 3 ++ gnu ++ (0xaa ∷ 0xbb ∷
 abbrev pub abi_tag_note : List ℕ
 abi_tag_note = in_four 4 ++ in_four 16 ++ in_four 1 ++ gnu ++ in_four 0 ++ in_four 2 ++ in_four 6 ++ in_four 32
 
--- 3 bytes of name, 1 of descriptor, type 5; a byte behind the name, and seven behind the descriptor
+-- 3 bytes of name, 1 of descriptor, type 5; a byte after the name, and seven after the descriptor
 abbrev pub odd_note : List ℕ
 odd_note = in_four 3 ++ in_four 1 ++ in_four 5 ++ (0x61 ∷ 0x62 ∷ 0 ∷ 0 ∷ []) ++ (7 ∷ zeros 3)
 

@@ -10,7 +10,7 @@ word_layout = record { fields = λ _. field 0 4 ∷ []; make = λ _ n. slice_ind
 abbrev pub word_reads : RecordType ℕ
 word_reads = by_layout word_layout refl
 
--- three bytes: a number of one, and a number of two behind it
+-- three bytes: a number of one, and a number of two after it
 abbrev pub three_byte_layout : Layout (ℕ × ℕ)
 three_byte_layout = record {
   fields = λ _. field 0 1 ∷ field 1 2 ∷ [];
@@ -20,7 +20,7 @@ three_byte_layout = record {
 abbrev pub three_byte_reads : RecordType (ℕ × ℕ)
 three_byte_reads = by_layout three_byte_layout refl
 
--- two numbers of two bytes, the first of which has to be 1
+-- two numbers of two bytes; the first has to be 1
 abbrev pub versioned_layout : Layout (ℕ × ℕ)
 versioned_layout = record {
   fields = λ _. version_field 0 2 1 ∷ field 2 2 ∷ [];

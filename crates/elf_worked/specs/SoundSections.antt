@@ -28,7 +28,7 @@ symbol_of name = record { st_name = name; st_value = 0; st_size = 0; st_info = 0
 abbrev pub sysv_names : List ℕ
 sysv_names = (0 ∷ codes "exit") ++ (0 ∷ codes "a") ++ (0 ∷ codes "b") ++ (0 ∷ [])
 
--- four symbols, the st_name of the last of which is given
+-- four symbols; the st_name of the last is given
 abbrev pub sysv_symbols : ℕ → List ℕ
 sysv_symbols third = symbol_named 0 ++ symbol_named 1 ++ symbol_named 6 ++ symbol_named third
 
@@ -68,7 +68,7 @@ HasSysvFault fault s = (SoundSysv s → ⊥) × IsTrueOfSysv s fault
 abbrev pub gnu_names : List ℕ
 gnu_names = (0 ∷ codes "a") ++ (0 ∷ codes "c") ++ (0 ∷ codes "b") ++ (0 ∷ [])
 
--- four symbols, the st_name of the third of which is given
+-- four symbols; the st_name of the third is given
 abbrev pub gnu_symbols : ℕ → List ℕ
 gnu_symbols second = symbol_named 0 ++ symbol_named 1 ++ symbol_named second ++ symbol_named 5
 
@@ -88,7 +88,7 @@ abbrev pub gnu_bytes : ℕ → ℕ → ℕ → ℕ → List ℕ
 gnu_bytes shift low first second =
     in_four 2 ++ in_four 1 ++ in_four 1 ++ in_four shift ++ gnu_bloom low ++ gnu_buckets ++ gnu_chains first second
 
--- what such a section is, with symbols of which one st_name is given
+-- what such a section is, with symbols; one st_name is given
 abbrev pub gnu_cut : ℕ → List ℕ → Result (WithSymbols GnuTable) ParseError
 gnu_cut second section =
     with_symbols (table_in true ELF32 (gnu_symbols second)) gnu_names (gnu_section true ELF32 section)

@@ -78,7 +78,7 @@ module _ {E : Type 0} (little : E → Bool) (h : FileHeader E) where
     pub sections_lie : SectionsLie sections bytes
     pub segments_lie : SegmentsLie sections segments bytes
 
-  -- the tables, and what such a file shows
+  -- the tables, and the view of such a file
   abbrev pub written_sections : List SectionHeader → Option Table
   written_sections [] = None
   written_sections (first ∷ rest) =
@@ -112,7 +112,7 @@ module _ {E : Type 0} (little : E → Bool) (h : FileHeader E) where
     pub size : section.sh_size ≡ length names
     pub lie : LieAt names bytes section.sh_offset
 
--- the program headers, of which there are none where no table is declared
+-- the program headers; none if no table is declared
 abbrev pub segments_of : Option (List ProgramHeader) → List ProgramHeader
 segments_of None = []
 segments_of (Some segments) = segments

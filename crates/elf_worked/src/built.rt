@@ -60,7 +60,7 @@ pub fn built_gnu_section_is_sound()
 {}
 
 /// The bytes that a linker writes for any symbols are a section that was built for them. The numbers of its header and
-/// the indices of its symbols have to fit into words.
+/// the indexes of its symbols have to fit into words.
 pub fn built_gnu_bytes_are_sound()
     ensures { (little : Bool) (class : AnyClass) (h : GnuHashHeader) (names : List (List ℕ)) (symbols : Table)
         (strings : List ℕ) → Fits (gnu_header_struct h) → h.table_start_idx + length names ≤ 2 ^ 32 →

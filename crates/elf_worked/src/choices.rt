@@ -1,4 +1,4 @@
-//! Which sections are taken, where there are several.
+//! Which sections are taken, if there are several.
 ghost use Rattle.std.specs.Prelude.{◌≡◌, [], ◌∷◌, Some, None};
 ghost use Rattle.elf.specs.Headers.{first_section_of};
 ghost use Rattle.elf_reading.specs.Versions.{last_section_of};
@@ -6,7 +6,7 @@ ghost use Rattle.elf_reading.specs.Versions.{version_sections};
 ghost use Rattle.elf_worked.specs.Objects.{definitions_at, indexes_at, needs_at};
 
 /// Of the three types of sections of versions the last of each is taken, among those up to the first section by which
-/// all three were seen: what follows is not looked at.
+/// all three were seen: what follows does not count.
 pub fn version_sections_taken()
     ensures in_order { version_sections (indexes_at 1 ∷ needs_at 2 ∷ definitions_at 3 ∷ indexes_at 4 ∷ needs_at 5 ∷ [])
         ≡ record { indexes = Some (indexes_at 1); needs = Some (needs_at 2); definitions = Some (definitions_at 3) } }

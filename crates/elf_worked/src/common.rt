@@ -7,7 +7,7 @@ ghost use Rattle.elf.specs.Common.{find_common_data};
 ghost use Rattle.elf_worked.specs.Files.{counted, zeros};
 ghost use Rattle.elf_worked.specs.Objects.{linked_section_of, object_with, section_of, segment_of};
 
-/// A file of the bytes 00 to 3f with two tables of symbols, of which the last is taken, one of dynamic linking, all
+/// A file of the bytes 00 to 3f with two tables of symbols (the last is taken), one of dynamic linking, all
 /// with the four strings at 20, and entries in a segment of type PT_DYNAMIC.
 pub fn common_data_found()
     ensures of_sections { find_common_data (object_with counted
@@ -34,7 +34,7 @@ pub fn common_data_found()
     }) }
 {}
 
-/// Hash sections of no words, of both kinds, and dynamic entries of a section, before which no segment is looked at.
+/// Hash sections of no words, of both kinds, and dynamic entries of a section, and no segment is read before these.
 pub fn hashes_found()
     ensures { find_common_data (object_with (zeros 16)
         (section_of 5 0 0 8 ∷ section_of 0x6ffffff6 0 0 16 ∷ linked_section_of 6 8 8 0 8 ∷ [])

@@ -18,7 +18,7 @@ ghost use Rattle.elf_worked.specs.Records.{versioned_layout};
 
 // ---- identifications
 
-/// Three bytes are too few for the magic number, also where they are its first three; four bytes that
+/// Three bytes are too few for the magic number, also if they are its first three; four bytes that
 /// are another number are refused as such.
 pub fn ident_magic()
     ensures none { ident_of any_of_byte [] ≡ Err (SliceReadError (0, 16)) }
@@ -29,7 +29,7 @@ pub fn ident_magic()
         ≡ Err (BadMagic (0x7f ∷ 0x45 ∷ 0x4c ∷ 0x47 ∷ [])) }
 {}
 
-/// Behind the magic number the version is looked at first, then the class, then the order. The error
+/// After the magic number the version is checked first, then the class, then the order. The error
 /// is that of the first that is wrong.
 pub fn ident_refusals()
     ensures six_bytes { ident_of any_of_byte (0x7f ∷ 0x45 ∷ 0x4c ∷ 0x46 ∷ 9 ∷ 9 ∷ [])
@@ -202,7 +202,7 @@ pub fn sizes_of_records()
 {}
 
 /// Section headers that do not fit into what is there: the error is that of the first field that ends
-/// behind the bytes.
+/// after the bytes.
 pub fn refused_records()
     ensures fourth_field { record_by section_header_layout true ELF64 (take 20 counted) 0
         ≡ Err (SliceReadError (16, 24)) }
@@ -233,8 +233,8 @@ pub fn offsets_of_refused_records()
         ≡ 18446744073709551615 }
 {}
 
-/// Two numbers of two bytes, the first of which is a version that has to be 1. Another version is
-/// refused once it can be read and before the field behind it is looked at, and leaves the offset behind
+/// Two numbers of two bytes; the first is a version that has to be 1. Another version is
+/// an error once it can be read and before the field after it is read, and leaves the offset past
 /// the version.
 pub fn versioned_record()
     ensures accepted { record_by versioned_layout true ELF32 (1 ∷ 0 ∷ 5 ∷ 0 ∷ []) 0 ≡ Ok (1, 5) }
@@ -250,7 +250,7 @@ pub fn versioned_record()
 
 // ---- the tail of a header
 
-/// The tail of the small file, by itself and with bytes behind it.
+/// The tail of the small file, by itself and with bytes after it.
 pub fn tail_of_small_file()
     ensures alone { header_with_tail any_is_little (Little, ELF64, 0, 0) small_tail ≡ Ok small_header }
     ensures more { header_with_tail any_is_little (Little, ELF64, 0, 0) (small_tail ++ counted)

@@ -118,7 +118,7 @@ pub fn dynamic_entries_written()
     ensures negative { dyn_line 1 (record { d_tag = negsuc 0; d_un = 0 }) ≡ codes "dyn 1 tag=-1 value=0x0\n" }
 {}
 
-/// The versions of the symbols 0 to 5, the last of which there is not: needed of a file and hidden or not, defined with
+/// The versions of the symbols 0 to 5 (there is no symbol 5): needed of a file and hidden or not, defined with
 /// names that can be read or not, and none.
 pub fn versions_written()
     ensures none { version_line versions 0 ≡ codes "version 0 noneed nodef\n" }

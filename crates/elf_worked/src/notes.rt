@@ -44,7 +44,7 @@ pub fn refused_notes()
         ≡ Err (SliceReadError (8, 12)) }
 {}
 
-/// Notes one behind the other; the list ends before one that does not fit, and there is none in no bytes.
+/// Consecutive notes; the list ends before one that does not fit, and there is none in no bytes.
 pub fn lists()
     ensures two { notes_in true 4 (odd_note ++ build_id_note)
         ≡ Other 5 (0x61 ∷ 0x62 ∷ 0 ∷ []) (7 ∷ []) ∷ BuildId (0xaa ∷ 0xbb ∷ 0xcc ∷ []) ∷ [] }

@@ -13,7 +13,7 @@ pub fn one_byte()
 {}
 
 /// The first two of the bytes 01 to 08 spell 0x0201 in little order and 0x0102 in big order, and the
-/// offset moves behind them.
+/// offset moves past them.
 pub fn two_bytes()
     ensures little { number_at true 2 one_to_eight 0 ≡ Ok 0x0201 }
     ensures big { number_at false 2 one_to_eight 0 ≡ Ok 0x0102 }
@@ -51,7 +51,7 @@ pub fn ends_of_signed_range()
         ≡ Ok (negsuc 2147483647) }
 {}
 
-/// The last two of eight bytes can be read; two bytes one further on cannot, nor one byte behind the
+/// The last two of eight bytes can be read; two bytes one further on cannot, nor one byte past the
 /// end. An error gives the range, and leaves the offset unchanged.
 pub fn past_the_end()
     ensures last { number_at true 2 one_to_eight 6 ≡ Ok 0x0807 }
@@ -72,7 +72,7 @@ pub fn past_64_bits()
         ≡ 18446744073709551615 }
 {}
 
-/// A range of no bytes lies in the bytes up to their end, and not behind it.
+/// A range of no bytes lies in the bytes up to their end, and not after it.
 pub fn no_bytes()
     ensures at_the_end { bytes_at 0 (1 ∷ 2 ∷ []) 2 ≡ Ok [] }
     ensures behind { bytes_at 0 (1 ∷ 2 ∷ []) 3 ≡ Err (SliceReadError (3, 3)) }

@@ -40,7 +40,7 @@ pub fn small_file_opened()
     ensures { opening small_file ≡ Ok small_view }
 {}
 
-/// Fifteen bytes ff are too few, and what they are is not looked at; sixteen are no file.
+/// Fifteen bytes ff are too few, and their values are not checked; sixteen are no file.
 pub fn bytes_that_are_no_file()
     ensures none { opening [] ≡ Err (SliceReadError (0, 16)) }
     ensures fifteen { opening (ones 15) ≡ Err (SliceReadError (0, 16)) }
@@ -95,7 +95,7 @@ pub fn names_without_sections()
 {}
 
 /// The small file with e_phoff 64: its e_phentsize, 0, is refused also for a table of no records. With 56
-/// the table is declared and empty, and at 65, which lies behind the end, it is refused.
+/// the table is declared and empty, and at 65, which lies past the end, it is refused.
 pub fn segment_tables()
     ensures entry_size { opening (small_with (in_eight 64) (zeros 2) (zeros 2))
         ≡ Err (BadEntsize (0, 56)) }
@@ -109,7 +109,7 @@ pub fn segment_tables()
 
 /// The first error is returned: of the sections their number, which may be in the first header,
 /// then the size of an entry, then the place of the table; then the same of the segments, and nothing is
-/// behind this header.
+/// after this header.
 pub fn refusals_of_tables()
     ensures number { opening (header_of_tables (in_eight 64 ++ in_eight 64) (zeros 4) (zeros 6))
         ≡ Err (SliceReadError (64, 68)) }
@@ -123,7 +123,7 @@ pub fn refusals_of_tables()
         ≡ Err (BadEntsize (0, 56)) }
 {}
 
-/// Tables at the greatest number of 64 bits: the size of an entry is looked at before the end of the
+/// Tables at the greatest number of 64 bits: the size of an entry is checked before the end of the
 /// table, which overflows unless there are no entries.
 pub fn tables_at_64_bits()
     ensures sections { opening (header_of_tables (zeros 8 ++ ones 8) (zeros 4) (in_two 64 ++ in_two 1 ++ zeros 2))
@@ -138,7 +138,7 @@ pub fn tables_at_64_bits()
         ≡ Err (SliceReadError (18446744073709551615, 18446744073709551615)) }
 {}
 
-/// The header with one program header behind it: bytes to be loaded at 0x400000.
+/// The header with one program header after it: bytes to be loaded at 0x400000.
 pub fn one_segment_opened()
     ensures table { ok_map (λ file. file.segments) (opening one_segment)
         ≡ Ok (Some (table_in true ELF64 loaded_segment)) }
@@ -163,7 +163,7 @@ pub fn two_sections_opened()
     ensures all { table_items section_header_reads two_table ≡ null_header ∷ names_header ∷ [] }
 {}
 
-/// The same file cut by a byte, cut behind its header, and with an e_shnum far too great.
+/// The same file cut by a byte, cut after its header, and with an e_shnum far too great.
 pub fn section_table_cut()
     ensures last_byte { opening (take 135 two_sections) ≡ Err (SliceReadError (56, 136)) }
     ensures header_alone { opening (take 52 two_sections) ≡ Err (SliceReadError (56, 136)) }
@@ -183,7 +183,7 @@ pub fn names_by_first_section()
 {}
 
 /// The file once opened, with another e_shstrndx set in its header: 0 means no names, 2 is the
-/// place behind the table, 3 is further on, and 0xffff leads to section 0, which has no bytes.
+/// place after the table, 3 is further on, and 0xffff leads to section 0, which has no bytes.
 pub fn names_by_standing_header()
     ensures none { names_in (two_view_with 0) ≡ Ok None }
     ensures at_the_end { names_in (two_view_with 2) ≡ Err (SliceReadError (80, 84)) }

@@ -79,7 +79,7 @@ pub fn relocations()
     ensures size_64 { size_by rel_layout ELF64 ≡ 16 }
 {}
 
-/// The same with an addend behind it, which is signed: fc ff ff ff is -4 in little order.
+/// The same with an addend after it, which is signed: fc ff ff ff is -4 in little order.
 pub fn relocations_with_addends()
     ensures positive_32 { record_by rela_layout true ELF32 counted 0
         ≡ Ok (record { r_offset = 0x03020100; r_sym = 0x070605; r_type = 0x04; r_addend = pos 0x0b0a0908 }) }
@@ -93,7 +93,7 @@ pub fn relocations_with_addends()
     ensures size_64 { size_by rela_layout ELF64 ≡ 24 }
 {}
 
-/// A tag, which is signed, and a number behind it, of four bytes each in 32 bits and of eight in 64 bits.
+/// A tag, which is signed, and a number after it, of four bytes each in 32 bits and of eight in 64 bits.
 pub fn dynamic_entries()
     ensures little_32 { record_by dyn_layout true ELF32 counted 0
         ≡ Ok (record { d_tag = pos 0x03020100; d_un = 0x07060504 }) }
@@ -129,7 +129,7 @@ pub fn compression_headers()
     ensures cut { record_by compression_header_layout true ELF64 (take 23 counted) 0 ≡ Err (SliceReadError (16, 24)) }
 {}
 
-/// The two words in front of the buckets, and the four in front of the bloom filter.
+/// The two words before the buckets, and the four before the bloom filter.
 pub fn hash_headers()
     ensures sysv { record_by sysv_header_layout true ELF64 counted 0
         ≡ Ok (record { nbucket = 0x03020100; nchain = 0x07060504 }) }

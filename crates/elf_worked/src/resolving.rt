@@ -25,7 +25,7 @@ pub fn names_resolved()
     ensures no_objects { Resolves [] (codes "a") None }
 {}
 
-/// The indices behind one that was found, and those of them that have a name.
+/// The indexes after one that was found, and those of them that have a name.
 pub fn names_listed()
     ensures chain { chain_from (sysv_with 8 (in_four 0)).table (Some (1, symbol_of 1)) ≡ 1 ∷ 3 ∷ [] }
     ensures run { run_from (gnu_with 3 5 0xc0 0x06 0x09).table (Some (1, symbol_of 1)) ≡ 1 ∷ 2 ∷ [] }
@@ -34,7 +34,7 @@ pub fn names_listed()
         kept_named s.symbols s.strings (codes "b") (1 ∷ 3 ∷ []) ≡ (3, symbol_of 8) ∷ [] }
 {}
 
-/// The object of a file: by its GNU section, by its SysV section where it has no other, and none without either.
+/// The object of a file: by its GNU section, by its SysV section if it has no other, and none without either.
 pub fn objects_of_files()
     ensures gnu { object_in symbol_a ≡ Ok (Some (Ok (ByGnu gnu_of_a))) }
     ensures sysv { object_in (symbol_a_with (in_four 1) 0) ≡ Ok (Some (Ok (BySysv (sysv_of_a 0)))) }

@@ -5,7 +5,7 @@ ghost use Rattle.elf_records.specs.declared.parse.ParseError.TheVariants.{Intege
 ghost use Rattle.elf_records.specs.declared.parse.ParseError.TheVariants.{UnexpectedSectionType};
 ghost use Rattle.elf_worked.specs.Objects.{section_of, small_object};
 
-/// The bytes 10 to 1f of the bytes 00 to 3f in 32 bits: as they are; behind the compression header that they begin
+/// The bytes 10 to 1f of the bytes 00 to 3f in 32 bits: as they are; after the compression header that they begin
 /// with; and of a section of type SHT_NOBITS none, whatever its range and flags.
 pub fn section_data_found()
     ensures plain { section_data small_object (section_of 1 0 0x3c 4) ≡ Ok (0x3c ∷ 0x3d ∷ 0x3e ∷ 0x3f ∷ [], None) }

@@ -25,8 +25,8 @@ pub fn sysv_section_is_sound()
         ≡ Ok (codes "sound indexed=3\n") }
 {}
 
-/// The same, but for: the chain word of symbol 3, which leads back to symbol 1; the number of chain words, which leaves
-/// symbol 3 without one; the name of symbol 3, which would begin behind the strings; and the chain word of symbol 3,
+/// The same, except: the chain word of symbol 3, which leads back to symbol 1; the number of chain words, which leaves
+/// symbol 3 without one; the name of symbol 3, which would begin past the strings; and the chain word of symbol 3,
 /// which leads to symbol 2, of the other bucket.
 pub fn sysv_sections_with_a_fault()
     ensures endless { IsOkAnd (sysv_cut 8 (sysv_bytes 4 (in_four 1))) (HasSysvFault (Endless 0)) }
@@ -47,7 +47,7 @@ pub fn gnu_section_is_sound()
         ≡ Ok (codes "sound indexed=3\n") }
 {}
 
-/// The same, but for: a shift of 32; the name of symbol 2, which would begin behind the strings; the chain word of
+/// The same, except: a shift of 32; the name of symbol 2, which would begin past the strings; the chain word of
 /// symbol 2, which is the hash of another name; bit 7 of the bloom word, which "b" needs; and bit 0 of the first chain
 /// word, which ends the run before symbol 2.
 pub fn gnu_sections_with_a_fault()

@@ -9,7 +9,7 @@ ghost use Rattle.std.specs.declared.str.Utf8Error.{Utf8Error as Fault};
 ghost use denote.Ref.{Bor};
 
 /// The bytes 00 45 4c 46, in which no 0 follows the text "ELF": an offset within them or at their end
-/// lacks a 0, and one behind their end is bad. At 0 there is an empty string.
+/// lacks a 0, and one after their end is bad. At 0 there is an empty string.
 pub fn without_end()
     ensures first { string_at (0x00 ∷ 0x45 ∷ 0x4c ∷ 0x46 ∷ []) 0 ≡ Ok [] }
     ensures within { string_at (0x00 ∷ 0x45 ∷ 0x4c ∷ 0x46 ∷ []) 1 ≡ Err (StringTableMissingNul 1) }
@@ -17,7 +17,7 @@ pub fn without_end()
     ensures behind { string_at (0x00 ∷ 0x45 ∷ 0x4c ∷ 0x46 ∷ []) 5 ≡ Err (BadOffset 5) }
 {}
 
-/// The same bytes with a 0 behind them hold the texts "ELF" and "LF", and an empty one at that 0.
+/// The same bytes with a 0 after them hold the texts "ELF" and "LF", and an empty one at that 0.
 pub fn with_end()
     ensures whole { string_at (0x00 ∷ 0x45 ∷ 0x4c ∷ 0x46 ∷ 0x00 ∷ []) 1 ≡ Ok (codes "ELF") }
     ensures its_end { string_at (0x00 ∷ 0x45 ∷ 0x4c ∷ 0x46 ∷ 0x00 ∷ []) 2 ≡ Ok (codes "LF") }

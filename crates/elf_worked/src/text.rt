@@ -18,7 +18,7 @@ pub fn numbers_written()
     ensures hex_greatest { hex (2 ^ 64 - 1) ≡ codes "0xffffffffffffffff" }
 {}
 
-/// Names: visible characters are written as they are, but for the backslash; all other bytes, the space
+/// Names: visible characters are written as they are, except for the backslash; all other bytes, the space
 /// among them, are written by their numbers.
 pub fn names_written()
     ensures plain { escaped (0x21 ∷ 0x2e ∷ 0x73 ∷ 0x7e ∷ []) ≡ codes "!.s~" }
@@ -78,7 +78,7 @@ pub fn names_by_first_section()
         ) }
 {}
 
-/// A name behind the strings cannot be read; the other fields are shown all the same.
+/// A name after the strings cannot be read; the other fields are shown all the same.
 pub fn name_that_is_refused()
     ensures { listing (two_with (in_two 2) (in_two 1) (zeros 4) (in_four 4)) (Sections ∷ []) ≡ Ok (
         codes "section 0 name= nameoff=0 type=0 flags=0x0 addr=0x0 offset=0 size=0"
@@ -99,7 +99,7 @@ pub fn section_without_names()
 {}
 
 /// The file whose table has no records and whose e_shstrndx is 1: the call is refused, in a line, and
-/// the calls behind it are written.
+/// the calls after it are written.
 pub fn refused_call_listed()
     ensures { listing (counted_by_size (zeros 8)) (Sections ∷ Header ∷ []) ≡ Ok (
         codes "refused\n"

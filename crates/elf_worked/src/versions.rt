@@ -21,7 +21,7 @@ pub fn needed_files()
     ensures version { ver_needs (table_in true ELF64 (in_two 2 ++ zeros 14)) 1 0 ≡ [] }
 {}
 
-/// The base version with one name, and a version with two names, the second of which is that of the version before it.
+/// The base version with one name, and a version with two names; the second is that of the version before it.
 pub fn defined_versions()
     ensures both { ver_defs (table_in true ELF64 definitions) 2 0 ≡ base_definition ∷ second_definition ∷ [] }
     ensures one { ver_defs (table_in true ELF64 definitions) 1 0 ≡ base_definition ∷ [] }

@@ -14,7 +14,7 @@ ghost use Rattle.elf_worked.specs.Known.{names_header, null_header, two_header_w
 ghost use Rattle.elf_worked.specs.WrittenFiles.{IsWritten, NamesLie, segments_of};
 ghost use Rattle.elf_worked.specs.WrittenFiles.{written_sections, written_segments, written_view};
 
-/// A file that holds a header at its front, and the tables that the header declares where it says that they lie, is
+/// A file that holds a header at its front, and the tables that the header declares if it says that they lie, is
 /// opened with this header and these tables. Either number of headers may be in the first section header.
 pub fn written_files_are_opened<E>()
     ensures view { (little : E → Bool) (of_byte : ℕ → Option E) (h : FileHeader E) (sections : List SectionHeader)

@@ -1,4 +1,4 @@
--- What the program does: the request that its words are, the arguments behind its name; what a run leaves that opens
+-- What the program does: the request that its words are, the arguments after its name; what a run leaves that opens
 -- its file; and what is written.
 use Rattle.std.specs.Prelude.{◌≡◌, ℕ, ◌<◌, Bool, if◌then◌else◌, List, [], ◌∷◌, codes, length, take, Option, Some, None}
 use Rattle.std.specs.Prelude.{Result, Ok, Err, IfErr, IsErr, IsOk, IsOkAnd}
@@ -19,7 +19,7 @@ use Rattle.elfshow.specs.declared.show.Mode.TheVariants.{Both, Bytes, Stream}
 
 -- ---- requests
 
--- a call in front of others, where there are others
+-- a call before others, if there are others
 abbrev pub before_calls : Option (List Question) → Question → Option (List Question)
 before_calls others call = option_map (λ calls. call ∷ calls) others
 

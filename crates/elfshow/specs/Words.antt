@@ -14,7 +14,7 @@ use Rattle.elf_calls.specs.Question.{Notes, Seg, SegNotes, Symbols, DynSyms, Dyn
 abbrev pub is_digit : ℕ → Bool
 is_digit b = nat_le 48 b && nat_le b 57
 
--- a number with one more digit behind it, where this is a digit and the number stays below 2^64
+-- a number with one more digit after it, where this is a digit and the number stays below 2^64
 abbrev pub with_digit : Option ℕ → ℕ → Option ℕ
 with_digit None digit = None
 with_digit (Some n) digit =
@@ -24,7 +24,7 @@ abbrev pub with_digits : Option ℕ → List ℕ → Option ℕ
 with_digits number [] = number
 with_digits number (digit ∷ digits) = with_digits (with_digit number digit) digits
 
--- the number that digits spell, where it is below 2^64
+-- the number that digits spell, if it is below 2^64
 abbrev pub number_of : List ℕ → Option ℕ
 number_of digits = with_digits (Some 0) digits
 

@@ -128,7 +128,7 @@ fn are_calls(words: &[&str]) -> bool
     true
 }
 
-/// Runs the program. `words` are the arguments behind the program's name. Writes the text of the requested calls to
+/// Runs the program. `words` are the arguments after the program's name. Writes the text of the requested calls to
 /// `out` and flushes it. On a failure writes its message to `err`, and ignores an error of that write.
 ///
 /// Returns the exit status: 0 if the text was written and flushed; 2 if the words are no request; 1 for every other

@@ -82,7 +82,7 @@ fn parse_number(digits: &[u8]) -> Option<u64>
     number
 }
 
-// A number with one more digit behind it.
+// A number with one more digit after it.
 fn with_digit(number: Option<u64>, digit: u8) -> Option<u64>
     ensures { result ≡ with_digit number digit }
 {

@@ -46,7 +46,7 @@ fn run(rt: &HostRuntime, err: &mut Stderr) -> Result<u8, Failure> {
     Ok(show(rt.alloc(), words.as_slice(), &files, &mut out, err))
 }
 
-// The arguments behind the program's name.
+// The arguments after the program's name.
 fn collect_arguments(rt: &HostRuntime) -> Result<Vec<String>, Failure> {
     let arguments = env::args(rt).map_err(without_arguments)?;
     Ok(arguments.skip(1).collect(rt.alloc())?)

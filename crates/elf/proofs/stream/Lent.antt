@@ -1,4 +1,4 @@
--- Loads that are made for an answer, what a call leaves where they are refused, and which ranges an answer needs.
+-- Loads that are made for an answer, what a call leaves if they are refused, and which ranges an answer needs.
 use Rattle.std.proofs.Common.{◌≡◌, ℕ, Bool, true, false, List, [], ◌∷◌, refl, sym, ◌∙◌, Option, Some, None, IfSome}
 use Rattle.std.specs.Prelude.{◌==◌, if◌then◌else◌, Result, Ok, Err, IsErr, IsOk, is_ok}
 use Rattle.elf_records.specs.Number.{ok_map}

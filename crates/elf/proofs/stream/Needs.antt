@@ -42,7 +42,7 @@ dynamic_needs file s h =
 pub segment_needs : (file : ObjectFile) (p : ProgramHeader) → IsOk (segment_dynamic file p) → AreThere file.bytes (segment_ranges p)
 segment_needs file p h = (ok_inside (table_of file) (segment_data file p) h, tt)
 
--- of the names of sections, where they are chosen
+-- of the names of sections, if they are chosen
 pub names_need : {A : Type 0} (bytes : List ℕ) (s : SectionHeader) (f : Option (List ℕ) → A) → IsOk (ok_map f (if_found (section_range bytes) (Some s))) → AreThere bytes (whole_section s)
 names_need bytes s f h = (ok_inside Some (section_range bytes s) (ok_inside f (ok_map Some (section_range bytes s)) h), tt)
 

@@ -56,7 +56,7 @@ map_later : {A B C : Type 0} (r : Result A ParseError) (t : A → B) (f : B → 
 map_later (Ok x) t f = refl
 map_later (Err e) t f = refl
 
--- all three parts, each cut where it is chosen, or all chosen first
+-- all three parts, each cut if it is chosen, or all chosen first
 all_chosen : {N D P Q A : Type 0} (s : SectionHeader) (size : Result ℕ ParseError) (part : SectionHeader → Result (List ℕ) ParseError) (table : List ℕ → Table) (n : Result N ParseError) (d : Result D ParseError)
     (p : Result P ParseError) (q : Result Q ParseError) (f : P → Result N ParseError) (g : Q → Result D ParseError) (made : Table → N → D → A) → AreAlike n (p >>= f) → AreAlike d (q >>= g)
     → AreAlike ((size >>= λ _. ok_map table (part s)) >>= λ i. n >>= λ x. d >>= λ y. Ok (made i x y))

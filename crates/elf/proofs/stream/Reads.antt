@@ -1,4 +1,4 @@
--- Steps of an opening that read a source, one after the other.
+-- Steps of an opening that read a source, in order.
 use Rattle.std.proofs.Common.{◌≡◌, ℕ, ◌∙◌, List, IfSome, refl}
 use Rattle.std.specs.Prelude.{Result, Ok, Err}
 use Rattle.elf_records.specs.Record.{◌>>=◌}

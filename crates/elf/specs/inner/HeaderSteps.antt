@@ -12,7 +12,7 @@ use Rattle.elf_records.specs.declared.parse.ParseError.{ParseError}
 abbrev pub front_ident : {E : Type 0} → (ℕ → Option E) → List ℕ → Result (Ident E) ParseError
 front_ident of_byte bytes = bytes_at ei_nident bytes 0 >>= λ front. ident_of of_byte front
 
--- the header, by the tail behind them
+-- the header, by the tail after them
 abbrev pub tail_header : {E : Type 0} → (E → Bool) → List ℕ → Ident E → Result (FileHeader E) ParseError
 tail_header little bytes ident =
     bytes_at (size_of (tail_fields ident.1)) bytes ei_nident >>= λ tail. header_with_tail little ident tail
@@ -25,7 +25,7 @@ range_bytes bytes range = take (range.1 - range.0) (drop range.0 bytes)
 abbrev pub range_table : {E : Type 0} → (E → Bool) → FileHeader E → List ℕ → ℕ × ℕ → Table
 range_table little h bytes range = table_in (little h.endianness) h.class (range_bytes bytes range)
 
--- the records of a table; where there is none there are none
+-- the records of a table; if there is none there are none
 abbrev pub range_records : {A : Type 0} → RecordType A → Option Table → List A
 range_records reads None = []
 range_records reads (Some t) = table_items reads t

@@ -36,7 +36,7 @@ pub(super) fn section_range<'data>(
 
 impl<'data, E: EndianParse> ElfBytes<'data, E> {
     /// Returns the bytes of a section, and its compression header if its flags have `SHF_COMPRESSED` (gABI, chapter
-    /// "Sections", "Section Compression"). The bytes are then those behind that header; nothing is decompressed. A
+    /// "Sections", "Section Compression"). The bytes are then those after that header; nothing is decompressed. A
     /// section of type `SHT_NOBITS` has no bytes, and its range is not checked.
     ///
     /// Errors, in order: `IntegerOverflow` if the end of the section does not fit 64 bits;

@@ -127,7 +127,7 @@ impl<'data, E: EndianParse> ElfBytes<'data, E> {
 
     /// Returns the versions of the symbols (GNU symbol versioning), or `None` if there is no section of type
     /// `SHT_GNU_VERSYM`. The version indexes, the needs and the definitions come from the last sections of the types
-    /// `SHT_GNU_VERSYM`, `SHT_GNU_VERNEED` and `SHT_GNU_VERDEF`. If all three types exist, sections behind the first
+    /// `SHT_GNU_VERSYM`, `SHT_GNU_VERNEED` and `SHT_GNU_VERDEF`. If all three types exist, sections after the first
     /// one that completes the three do not count.
     ///
     /// Errors, in order: `BadEntsize((found, 2))` of the indexes; `IntegerOverflow` or `SliceReadError((start, end))`

@@ -74,7 +74,7 @@ impl<E: EndianParse, S: StreamSource, A: Allocator + Copy> ElfStream<E, S, A> {
     }
 
     /// Returns the bytes of a section, and its compression header if its flags have `SHF_COMPRESSED` (gABI, chapter
-    /// "Sections", "Section Compression"). The bytes are then those behind that header; nothing is decompressed.
+    /// "Sections", "Section Compression"). The bytes are then those after that header; nothing is decompressed.
     /// Requests the range of the section. A section of type `SHT_NOBITS` has no bytes, and its range is not requested.
     ///
     /// Errors, in order: that of the range; `SliceReadError((start, end))`, in bytes from the start of the section, of

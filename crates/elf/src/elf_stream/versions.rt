@@ -161,7 +161,7 @@ impl<E: EndianParse, S: StreamSource, A: Allocator + Copy> ElfStream<E, S, A> {
 
     /// Returns the versions of the symbols (GNU symbol versioning), or `None` if there is no section of type
     /// `SHT_GNU_VERSYM`. The version indexes, the needs and the definitions come from the last sections of the types
-    /// `SHT_GNU_VERSYM`, `SHT_GNU_VERNEED` and `SHT_GNU_VERDEF`. If all three types exist, sections behind the first
+    /// `SHT_GNU_VERSYM`, `SHT_GNU_VERNEED` and `SHT_GNU_VERDEF`. If all three types exist, sections after the first
     /// one that completes the three do not count. Requests the ranges of these sections and of the sections of their
     /// strings, up to five.
     ///

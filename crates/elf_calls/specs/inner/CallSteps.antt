@@ -24,7 +24,7 @@ use Rattle.elf_calls.specs.declared.stream.Stop.{Stop}
 use Rattle.elf_calls.specs.declared.stream.Stop.TheVariants as stop
 
 -- of a call that was tried: its text was written; or the stream refuses it, and then nothing was written, and the
--- content is refused only where it has no answer
+-- content is refused only if it has no answer
 abbrev pub TriedOne : {X : Type 0} → Result (List ℕ) ParseError → Option (List ℕ) → Option (List ℕ) → Bool → ℕ → ℕ →
     Result (Result (Unit {0}) X) ParseError → Type 0
 TriedOne answer old new can_fail before now (Ok written) =
@@ -33,7 +33,7 @@ TriedOne answer old new can_fail before now (Err e) =
     (new ≡ old) × IsRefused before now can_fail (IsErr answer) (kind e)
 
 -- the same file, the text of the call or an error, and no error if the cache answers it; its ranges are cached
--- where it is not refused
+-- if it is not refused
 pub record TriedCall {E X : Type 0} (little : E → Bool) (call : Question) (old new : Seen E)
     (before after : Option (List ℕ)) (r : Result (Result (Unit {0}) X) ParseError) : Type 0 where
   pub keeps : Keeps old new

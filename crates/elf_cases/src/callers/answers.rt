@@ -10,7 +10,7 @@ use elf::{ElfBytes, MemSource, ParseError};
 use elf_binding::resolve::resolve;
 use elf_tools::bindings::reading::open_library;
 use elf_tools::build_id::build_id;
-use elf_tools::functions::{functions, version_of};
+use elf_tools::functions::{function_version, functions};
 use elf_tools::hash_lint::lint;
 use elf_tools::load_plan::{Mapping, load_plan};
 use elf_tools::resolver::{definition, tables};
@@ -148,7 +148,7 @@ fn print_version<W: Write>(
     let Some(versions) = versions else {
         return writeln!(out);
     };
-    match version_of(versions, index) {
+    match function_version(versions, index) {
         Ok(Some(version)) => {
             let name = version.name;
             let sign = if version.hidden { "@" } else { "@@" };

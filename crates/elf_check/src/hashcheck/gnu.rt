@@ -11,7 +11,7 @@ ghost use Rattle.elf_check.specs.inner.SoundProps.{GnuReads, GnuReads-prop, Soun
 
 mod check;
 
-use crate::hashcheck::named::{Links, NamedSymbols, Walk};
+use crate::hashcheck::named::{Following, FollowingIndexes, NamedSymbols};
 use crate::hashcheck::words::word_count;
 pub use check::{check_gnu, check_gnu_counted};
 use elf_parts::endian::EndianParse;
@@ -33,7 +33,7 @@ pub struct CheckedGnuHash<'data, E: EndianParse> {
 
 impl<'data, E: EndianParse> CheckedGnuHash<'data, E> {
     ghost use Rattle.elf_check.specs.CheckedTable.{checked_gnu_view, gnu_indexed};
-    ghost use Rattle.elf_check.specs.NamedSymbols.{indices_left, run_from};
+    ghost use Rattle.elf_check.specs.NamedSymbols.{indexes_left, run_from};
 
     /// Returns the least index with the name and its symbol, or `None` exactly if no indexed symbol has the name.
     pub fn find(&self, name: &[u8]) -> Option<(usize, Symbol)>
@@ -45,20 +45,20 @@ impl<'data, E: EndianParse> CheckedGnuHash<'data, E> {
         }
     }
 
-    // The indices of a run, from the index that `find` gives on, where it gives one.
-    fn run_from(&self, found: Option<(usize, Symbol)>) -> Walk<'data, E>
-        ensures { indices_left result ≡ run_from (checked_gnu_view self.now).table found }
+    // The indexes of a run, starting at the index that `find` returns, if it returns one.
+    fn run_from(&self, found: Option<(usize, Symbol)>) -> FollowingIndexes<'data, E>
+        ensures { indexes_left result ≡ run_from (checked_gnu_view self.now).table found }
     {
         let chains = self.table.chains();
-        let links = Links::Run {
+        let links = Following::Run {
             first: self.table.hdr.table_start_idx,
         };
         let Some((index, _)) = found else {
-            return Walk::new(links, chains, None, 0);
+            return FollowingIndexes::new(links, chains, None, 0);
         };
         let place = index.saturating_sub(self.table.hdr.table_start_idx as usize);
         let left = word_count(&chains).saturating_sub(place);
-        Walk::new(links, chains, Some(index), left)
+        FollowingIndexes::new(links, chains, Some(index), left)
     }
 
     /// All indexed symbols with a name, each once with its index, in the order of their indexes. The first is the

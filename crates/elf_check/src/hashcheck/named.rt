@@ -3,7 +3,7 @@ ghost use Rattle.std.specs.Prelude.{◌≡◌, ◌-◌};
 ghost use Rattle.std.specs.Iterator.{YieldsFirst, item_count};
 ghost use Rattle.elf_records.specs.StringTable.{strings_view};
 ghost use Rattle.elf_records.specs.Table.{table_view};
-ghost use Rattle.elf_check.specs.NamedSymbols.{index_behind, indices_from, indices_left, kept_named, named_left};
+ghost use Rattle.elf_check.specs.NamedSymbols.{index_behind, indexes_from, indexes_left, kept_named, named_left};
 ghost use Rattle.elf_check.specs.NamedSymbols.{symbol_named, unless_last, unless_zero};
 ghost use Rattle.elf_check.specs.WithSymbols.{word};
 
@@ -15,23 +15,23 @@ use elf_parts::symbol::{Symbol, SymbolTable};
 
 // What leads from one index to the next.
 #[derive(Copy, Clone, Debug)]
-pub(crate) enum Links {
+pub(crate) enum Following {
     // The chain word of an index is the next index, or 0.
     Chain,
     // The next index follows. The chain words begin with that of the index `first`, and bit 0 ends a run.
     Run { first: u32 },
 }
 
-// The indices of a chain or a run, from one on: at most `left`.
+// The indexes of a chain or a run, from one on: at most `left`.
 #[derive(Debug, Drop)]
-pub(crate) struct Walk<'data, E: EndianParse> {
-    links: Links,
+pub(crate) struct FollowingIndexes<'data, E: EndianParse> {
+    links: Following,
     chains: U32Table<'data, E>,
     next: Option<usize>,
     left: usize,
 }
 
-// The index behind an index of a chain.
+// The next index of a chain.
 fn behind_in_chain<E: EndianParse>(chains: &U32Table<'_, E>, index: usize) -> Option<usize>
     ensures { result ≡ unless_zero (word (table_view chains.now) index) }
 {
@@ -39,7 +39,7 @@ fn behind_in_chain<E: EndianParse>(chains: &U32Table<'_, E>, index: usize) -> Op
     if next == 0 { None } else { Some(next as usize) }
 }
 
-// The index behind an index of a run.
+// The next index of a run.
 fn behind_in_run<E: EndianParse>(
     chains: &U32Table<'_, E>,
     first: u32,
@@ -55,16 +55,16 @@ fn behind_in_run<E: EndianParse>(
     if word % 2 == 1 { None } else { Some(index + 1) }
 }
 
-impl<'data, E: EndianParse> Walk<'data, E> {
+impl<'data, E: EndianParse> FollowingIndexes<'data, E> {
     pub(crate) fn new(
-        links: Links,
+        links: Following,
         chains: U32Table<'data, E>,
         next: Option<usize>,
         left: usize,
     ) -> Self
-        ensures { indices_left result ≡ indices_from (index_behind (table_view chains.entry) links) left next }
+        ensures { indexes_left result ≡ indexes_from (index_behind (table_view chains.entry) links) left next }
     {
-        Walk {
+        FollowingIndexes {
             links,
             chains,
             next,
@@ -76,18 +76,18 @@ impl<'data, E: EndianParse> Walk<'data, E> {
         ensures { result ≡ index_behind (table_view self.now.chains) self.now.links index }
     {
         match self.links {
-            Links::Chain => behind_in_chain(&self.chains, index),
-            Links::Run { first } => behind_in_run(&self.chains, first, index),
+            Following::Chain => behind_in_chain(&self.chains, index),
+            Following::Run { first } => behind_in_run(&self.chains, first, index),
         }
     }
 }
 
-impl<'data, E: EndianParse> Iterator for Walk<'data, E> {
+impl<'data, E: EndianParse> Iterator for FollowingIndexes<'data, E> {
     type Item = usize;
 
-    ghost next_gives = { YieldsFirst indices_left };
+    ghost next_gives = { YieldsFirst indexes_left };
 
-    ghost remaining = { item_count indices_left };
+    ghost remaining = { item_count indexes_left };
 
     #[tactic(auto, using(crate::proofs::NamedLists::walk_steps))]
     fn next(&mut self) -> Option<usize> {
@@ -105,7 +105,7 @@ impl<'data, E: EndianParse> Iterator for Walk<'data, E> {
 /// them. After its first `None` it keeps returning `None`. Nothing is allocated.
 #[derive(Debug, Drop)]
 pub struct NamedSymbols<'a, 'data, E: EndianParse> {
-    walk: Walk<'data, E>,
+    walk: FollowingIndexes<'data, E>,
     symtab: SymbolTable<'data, E>,
     strings: TerminatedStrings<'data>,
     name: &'a [u8],
@@ -113,13 +113,13 @@ pub struct NamedSymbols<'a, 'data, E: EndianParse> {
 
 impl<'a, 'data, E: EndianParse> NamedSymbols<'a, 'data, E> {
     pub(crate) fn new(
-        walk: Walk<'data, E>,
+        walk: FollowingIndexes<'data, E>,
         symtab: SymbolTable<'data, E>,
         strtab: StringTable<'data>,
         name: &'a [u8],
     ) -> Self
         ensures { named_left result
-            ≡ kept_named (table_view symtab.entry) (strings_view strtab.entry) name.now (indices_left walk.entry) }
+            ≡ kept_named (table_view symtab.entry) (strings_view strtab.entry) name.now (indexes_left walk.entry) }
     {
         NamedSymbols {
             walk,
@@ -129,7 +129,7 @@ impl<'a, 'data, E: EndianParse> NamedSymbols<'a, 'data, E> {
         }
     }
 
-    // The symbol of an index, where it has the name.
+    // The symbol of an index, if it has the name.
     #[tactic(auto, unfolding(crate::specs::WithSymbols::named, elf_parts::specs::Hash::named_symbol))]
     fn symbol_named(&self, index: usize) -> Option<(usize, Symbol)>
         ensures { let s = self.now in

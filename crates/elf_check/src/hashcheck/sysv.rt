@@ -11,7 +11,7 @@ ghost use Rattle.elf_check.specs.inner.SoundProps.{SoundSysv-prop, SysvReads, Sy
 
 mod check;
 
-use crate::hashcheck::named::{Links, NamedSymbols, Walk};
+use crate::hashcheck::named::{Following, FollowingIndexes, NamedSymbols};
 use crate::hashcheck::words::word_count;
 pub use check::{check_sysv, check_sysv_counted};
 use elf_parts::endian::EndianParse;
@@ -33,7 +33,7 @@ pub struct CheckedSysvHash<'data, E: EndianParse> {
 
 impl<'data, E: EndianParse> CheckedSysvHash<'data, E> {
     ghost use Rattle.elf_check.specs.CheckedTable.{checked_sysv_view, sysv_indexed};
-    ghost use Rattle.elf_check.specs.NamedSymbols.{chain_from, indices_left};
+    ghost use Rattle.elf_check.specs.NamedSymbols.{chain_from, indexes_left};
 
     /// Returns the index and the symbol of a name, the first along its chain, or `None` exactly if no indexed
     /// symbol has the name.
@@ -46,15 +46,15 @@ impl<'data, E: EndianParse> CheckedSysvHash<'data, E> {
         }
     }
 
-    // The indices of a chain, from the index that `find` gives on, where it gives one.
-    fn chain_from(&self, found: Option<(usize, Symbol)>) -> Walk<'data, E>
-        ensures { indices_left result ≡ chain_from (checked_sysv_view self.now).table found }
+    // The indexes of a chain, starting at the index that `find` returns, if it returns one.
+    fn chain_from(&self, found: Option<(usize, Symbol)>) -> FollowingIndexes<'data, E>
+        ensures { indexes_left result ≡ chain_from (checked_sysv_view self.now).table found }
     {
         let chains = self.table.chains();
         let left = word_count(&chains);
         match found {
-            Some((index, _)) => Walk::new(Links::Chain, chains, Some(index), left),
-            None => Walk::new(Links::Chain, chains, None, 0),
+            Some((index, _)) => FollowingIndexes::new(Following::Chain, chains, Some(index), left),
+            None => FollowingIndexes::new(Following::Chain, chains, None, 0),
         }
     }
 

@@ -28,7 +28,7 @@ pub(super) fn fill_pairs(bytes: &[u8], room: &mut [u8])
     }
 }
 
-// The same for fewer bytes than a block has. They get their digits in front of those of bytes of 0, which are not kept.
+// The same for fewer bytes than a block has. They get their digits before those of bytes of 0, which are not kept.
 #[inline(never)]
 fn fill_few(bytes: &[u8], room: &mut [u8])
     requires few { length bytes.now < BLOCK }

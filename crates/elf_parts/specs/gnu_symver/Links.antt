@@ -22,13 +22,13 @@ module _ {A : Type 0} (record_at : Bool → Class → List ℕ → ℕ → Resul
 abbrev pub records_of : {A : Type 0} → List (ℕ × A) → List A
 records_of {A = A} list = map (λ (link : ℕ × A). link.1) list
 
--- the first n records: that at the front, if there is one, and those behind it
+-- the first n records: that at the front, if there is one, and those after it
 abbrev pub front_then : {A : Type 0} → ℕ → ℕ → Option A → List (ℕ × A) → List (ℕ × A)
 front_then zero o front behind = []
 front_then (suc n) o None behind = behind
 front_then (suc n) o (Some x) behind = (o, x) ∷ behind
 
--- ---- what the struct shows
+-- ---- the view of the struct
 
 -- the bytes that an iterator reads, with their order and class
 abbrev pub links_view : {E R : Type 0} → Links E R → Table

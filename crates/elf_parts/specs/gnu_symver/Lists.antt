@@ -56,7 +56,7 @@ module _ {V A : Type 0} (record_at : Bool → Class → List ℕ → ℕ → Res
 
 -- ---- needs
 
--- the versions that are needed of one file, the first of which begins at `start`
+-- the versions that are needed of one file; the first begins at `start`
 abbrev pub ver_need_aux_records : Table → ℕ → ℕ → List VerNeedAux
 ver_need_aux_records t count start = aux_records (record_by ver_need_aux_layout) (λ x. x.vna_next) t count start
 
@@ -78,7 +78,7 @@ ver_needs_left s = entries_left (record_by ver_need_layout) (λ x. x.vn_next) ve
 
 -- ---- definitions
 
--- the names of one version, the first of which begins at `start`
+-- the names of one version; the first begins at `start`
 abbrev pub ver_def_aux_records : Table → ℕ → ℕ → List VerDefAux
 ver_def_aux_records t count start = aux_records (record_by ver_def_aux_layout) (λ x. x.vda_next) t count start
 

@@ -58,7 +58,7 @@ version_with index versions = find (λ aux. aux.vna_other == index) versions
 unfoldable pub needed_version : ℕ → List (VerNeed × List VerNeedAux) → Option (VerNeed × VerNeedAux)
 needed_version index needs = find (λ pair. pair.1.vna_other == index) (needed_versions needs)
 
--- what a symbol needs: the raw names of the file and of the version, each of which may be an error, and the fields
+-- what a symbol needs: the raw names of the file and of the version, each a name or an error, and the fields
 -- beside them
 pub record Requirement : Type 0 where
   pub file : Result (List ℕ) ParseError
@@ -101,7 +101,7 @@ abbrev pub requirement_among : Option Needs → Result VersionIndex ParseError �
 requirement_among None version = Ok None
 requirement_among (Some needs) version = ok_map (requirement_with needs) version
 
--- what symbol i needs: nothing where there are no needs, whatever its index; else the error of its index; else the
+-- what symbol i needs: nothing if there are no needs, whatever its index; else the error of its index; else the
 -- first needed version with this index, if there is one
 abbrev pub requirement : Versions → ℕ → Result (Option Requirement) ParseError
 requirement versions i = requirement_among versions.needs (index_of versions i)
@@ -139,7 +139,7 @@ GivesRequirement (Ok (Some needed)) result = OfSome (GivesTexts needed) result
 unfoldable pub defined_version : ℕ → List (VerDef × List VerDefAux) → Option (VerDef × List VerDefAux)
 defined_version index definitions = find (λ definition. definition.0.vd_ndx == index) definitions
 
--- the raw names of a version, each of which may be an error
+-- the raw names of a version, each a name or an error
 abbrev pub raw_names : List ℕ → List VerDefAux → List (Result (List ℕ) ParseError)
 raw_names strings names = map (λ (aux : VerDefAux). string_at strings aux.vda_name) names
 
@@ -169,12 +169,12 @@ abbrev pub definition_among : Option Definitions → Result VersionIndex ParseEr
 definition_among None version = Ok None
 definition_among (Some defs) version = ok_map (definition_with defs) version
 
--- what symbol i is defined with: nothing where there are no definitions, whatever its index; else the error of its
+-- what symbol i is defined with: nothing if there are no definitions, whatever its index; else the error of its
 -- index; else the first definition with this index, if there is one
 abbrev pub definition : Versions → ℕ → Result (Option Definition) ParseError
 definition versions i = definition_among versions.definitions (index_of versions i)
 
--- ---- what the structs show
+-- ---- the view of the structs
 
 abbrev pub needs_view : {E : Type 0} → EntryIterator E VerNeed VerNeedAux × StringTable → Needs
 needs_view needs = record { list = ver_needs_left needs.0; strings = strings_view needs.1 }

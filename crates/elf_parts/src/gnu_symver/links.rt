@@ -14,7 +14,7 @@ use std::marker::PhantomData;
 
 /// A record that states the distance from its own start to the start of the next record.
 pub trait Linked: ParseAt {
-    // How many bytes behind its start the next record begins; 0 where there is none.
+    // How many bytes after its start the next record begins; 0 if there is none.
     ghost next_distance: { Self → ℕ };
 
     /// The distance to the next record, in bytes; 0 if this record is the last one.
@@ -40,7 +40,7 @@ pub trait VersionEntry: Linked {
         ensures view { links_view result ≡ links_view entries.now };
 }
 
-// Where the record `distance` bytes behind `start` begins, if there is one.
+// Where the record `distance` bytes after `start` begins, if there is one.
 fn next_start(start: usize, distance: u32) -> Option<usize>
     ensures { result ≡ next_start start distance }
 {
@@ -96,18 +96,18 @@ impl<'data, E: EndianParse, R: Linked> Links<'data, E, R> {
         }
     }
 
-    /// The records of another type that are linked from the one `distance` bytes behind `start`: at most `count`.
+    /// The records of another type that are linked from the one `distance` bytes after `start`: at most `count`.
     pub fn aux<A: Linked>(&self, start: usize, count: u16, distance: u32) -> Links<'data, E, A>
         ensures items { links_left A.reads.record_at A.next_distance result
             ≡ links_in A.reads.record_at A.next_distance (links_view self.now) count (start + distance) }
         ensures view { links_view result ≡ links_view self.now }
     {
-        // No record begins at the end of the data or behind it.
+        // No record begins at the end of the data or after it.
         let offset = start.saturating_add(distance as usize).min(self.data.len());
         Links::new(self.little, self.class, count as u64, offset, self.data)
     }
 
-    // Goes on to the record `distance` bytes behind this one, or to the end.
+    // Goes on to the record `distance` bytes after this one, or to the end.
     #[tactic(auto, using(crate::proofs::LinkedRecords::links_none))]
     fn follow(&mut self, distance: u32)
         ensures items { links_left R.reads.record_at R.next_distance self.new
@@ -155,7 +155,7 @@ impl<'data, E: EndianParse, R: Linked> Links<'data, E, R> {
         self.count = self.count.saturating_sub(steps);
     }
 
-    // Where the record `distance` bytes behind the next one begins, or the end of the data if there is none.
+    // Where the record `distance` bytes after the next one begins, or the end of the data if there is none.
     fn behind(&self, distance: u32) -> usize
         ensures { (n : ℕ) → links_in R.reads.record_at R.next_distance (links_view self.now) n result
             ≡ from_next (next_start self.now.offset distance)
@@ -167,7 +167,7 @@ impl<'data, E: EndianParse, R: Linked> Links<'data, E, R> {
         }
     }
 
-    /// Reads the next record, whatever the count is, and goes on to the one behind it, or to the end of the data if
+    /// Reads the next record, whatever the count is, and goes on to the one after it, or to the end of the data if
     /// there is none.
     pub fn step(&mut self) -> Option<R>
         ensures view { links_view self.new ≡ links_view self.old }

@@ -9,7 +9,7 @@ use crate::file::Class;
 use crate::parse::{ParseAt, ParseError, ParsingTable};
 use elf_abi::abi;
 
-/// A need: a file of which versions are needed. `vn_cnt` is the number of its auxiliary entries, `vn_file` the
+/// A need: a file from which versions are needed. `vn_cnt` is the number of its auxiliary entries, `vn_file` the
 /// offset of the file's name in the linked strings, in bytes. A version field other than 1 is `UnsupportedVersion`.
 #[derive(Debug, Drop, PartialEq, Eq)]
 pub struct VerNeed {

@@ -97,7 +97,7 @@ fn hash_eight(hash: u32, bytes: &[u8; 8]) -> u32
 // The hash of an empty name, from which that of each name starts.
 const START: u32 = 5381;
 
-// Where a name behind bytes of 0 starts: from the hash at index n, 8 - n bytes of 0 lead to `START`.
+// Where a name after bytes of 0 starts: from the hash at index n, 8 - n bytes of 0 lead to `START`.
 const STARTS: [u32; 8] = [
     3_048_333_317,
     1_810_751_653,
@@ -109,7 +109,7 @@ const STARTS: [u32; 8] = [
     2_082_408_549,
 ];
 
-// The hash of the first `count` of eight bytes. They are moved behind bytes of 0, and all eight are taken at once: a
+// The hash of the first `count` of eight bytes. They are moved past bytes of 0, and all eight are taken at once: a
 // loop over them would run another number of times for each name, which a processor predicts badly.
 #[tactic(auto, using(crate::proofs::Hashing::head_at_once), unfolding(crate::specs::Hash::gnu_hash_of))]
 fn hash_head(eight: &[u8; 8], count: usize) -> u32
@@ -196,7 +196,7 @@ fn bloom_word<E: EndianParse>(
 }
 
 impl<'data, E: EndianParse> GnuHashTable<'data, E> {
-    /// Reads the header at the front of the section, and finds the bloom words and the buckets behind it. The rest of
+    /// Reads the header at the front of the section, and finds the bloom words and the buckets after it. The rest of
     /// the data are the chain words.
     ///
     /// Errors, in order: `SliceReadError((start, end))` of the first number of the header that does not lie in the
@@ -278,7 +278,7 @@ impl<'data, E: EndianParse> GnuHashTable<'data, E> {
         Ok((word >> (second % bits)) & 1 == 1)
     }
 
-    // The error of bloom bits that cannot be looked at.
+    // The error of bloom bits that cannot be read.
     #[inline(never)]
     fn refused_by_bloom(&self, hash: u32) -> Found
         requires { 0 < self.now.hdr.nbloom }

@@ -55,7 +55,7 @@ fn fold_top(hash: u32) -> u32
     hash ^ ((hash >> 24) & 0xf0)
 }
 
-/// The hash of a name in a SysV hash section (gABI, chapter "Hash Table"): 32 bits, of which the upper four are 0.
+/// The hash of a name in a SysV hash section (gABI, chapter "Hash Table"): 32 bits. The upper four are 0.
 #[tactic(auto, using(crate::proofs::Hashing::hash_steps), unfolding(crate::specs::Hash::sysv_hash_of))]
 pub fn sysv_hash(name: &[u8]) -> u32
     ensures { result ≡ sysv_hash_of name.now }
@@ -75,7 +75,7 @@ pub struct SysVHashTable<'data, E: EndianParse> {
 }
 
 impl<'data, E: EndianParse> SysVHashTable<'data, E> {
-    /// Reads the header at the front of the section, and finds the buckets and the chain words behind it.
+    /// Reads the header at the front of the section, and finds the buckets and the chain words after it.
     ///
     /// Errors, in order: `SliceReadError((start, end))` of the first number of the header that does not lie in the
     /// data; the same of the buckets; the same of the chain words.

@@ -9,7 +9,7 @@ use Rattle.elf_records.specs.File.{tail_fields}
 use Rattle.elf_records.specs.Record.{Field, field}
 use Rattle.elf_records.specs.inner.Running.{numbers_from, offset_from}
 
--- the numbers of these fields, the first of which lies at o
+-- the numbers of these fields; the first lies at o
 unfoldable pub part_at : Bool → List Field → List ℕ → ℕ → Result (List ℕ) ParseError
 part_at little fs bytes o = numbers_from little fs bytes o
 
@@ -17,7 +17,7 @@ part_at little fs bytes o = numbers_from little fs bytes o
 unfoldable pub part_end : Bool → List Field → List ℕ → ℕ → ℕ
 part_end little fs bytes o = offset_from little fs bytes o
 
--- fields of the size of an address, the first of which has this place
+-- fields of the size of an address; the first has this place
 abbrev pub class_fields : Class → ℕ → ℕ → List Field
 class_fields class place zero = []
 class_fields class place (suc count) =

@@ -108,7 +108,7 @@ pub fn read_record<P: ParseAt>(
     }
 }
 
-/// A table of records of one type, each directly behind the one before it. It borrows the bytes, copies none of
+/// A table of records of one type, each directly after the one before it. It borrows the bytes, copies none of
 /// them, and reads a record when it is requested.
 // The order is stored as a bool, which is all that the reading of a record depends on.
 #[derive(Debug)]

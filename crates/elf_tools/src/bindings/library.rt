@@ -39,7 +39,7 @@ pub struct SymbolBytes {
     pub strings: Vec<u8>,
 }
 
-/// The bytes of a section of needs or of definitions, of which there are at most `count`, and those of its strings.
+/// The bytes of a section of needs or of definitions, at most `count`, and those of its strings.
 #[derive(Debug, Drop)]
 pub struct EntryBytes {
     pub count: u32,

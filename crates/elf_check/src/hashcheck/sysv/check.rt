@@ -27,7 +27,7 @@ use elf_parts::parse::ParseError;
 use elf_parts::string_table::StringTable;
 use elf_parts::symbol::SymbolTable;
 
-// How many indices the chain of a bucket has before its 0, or what it lacks.
+// How many indexes the chain of a bucket has before its 0, or what it lacks.
 fn chain_length<'data, E: EndianParse>(
     table: &SysVHashTable<'data, E>,
     bucket: usize,
@@ -75,7 +75,7 @@ fn chain_length<'data, E: EndianParse>(
     }
 }
 
-// How many indices all chains have before their 0, or what the section lacks.
+// How many indexes all chains have before their 0, or what the section lacks.
 fn first_fault<'data, E: EndianParse>(
     table: &SysVHashTable<'data, E>,
     symtab: &SymbolTable<'data, E>,

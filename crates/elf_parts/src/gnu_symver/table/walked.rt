@@ -21,7 +21,7 @@ const STRETCH_LENGTH: u64 = 1_024;
 /// prime, so stretches of entries of one size get places of their own.
 pub(super) const STRETCHES: usize = 1_021;
 
-/// A stretch of `STRETCH_LENGTH` entries that was walked. It begins at the offset `from`, and the entry behind it at the
+/// A stretch of `STRETCH_LENGTH` entries that was walked. It begins at the offset `from`, and the entry after it at the
 /// offset `to`, in bytes.
 #[derive(Clone, Copy, Debug)]
 pub struct Stretch {
@@ -51,7 +51,7 @@ fn stretch_from(stretches: &[Option<Stretch>], from: usize) -> Option<Stretch>
     }
 }
 
-// Puts the next version in, and goes on to the one behind it.
+// Puts the next version in, and goes on to the one after it.
 fn put_next<E: EndianParse>(
     slots: &mut [Option<Needed>],
     file: u32,

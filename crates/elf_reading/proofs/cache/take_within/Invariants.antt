@@ -3,7 +3,7 @@ use Rattle.std.specs.List.{filter}
 use Rattle.elf_reading.specs.Cache.{AreSpread, is_within, piece_of}
 use Rattle.elf_reading.proofs.cache.take_within.Given as goal
 
--- what is left behind start is in order, and those that stay are there
+-- what is left after start is in order, and those that stay are there
 abbrev pub invariant-loop-next : goal.invariant-loop-next
 invariant-loop-next g l =
     AreSpread (λ v. v.items) (filter (λ e. nat_lt l.start e.0) l.buffers.entries)

@@ -1,4 +1,4 @@
--- No more notes than bytes, of which there are fewer than 2^64.
+-- No more notes than bytes, and there are fewer than 2^64 bytes.
 use Rattle.std.proofs.Common.{arith}
 use Rattle.elf_parts.proofs.NoteLists.{notes_few}
 use Rattle.elf_parts.proofs.laws.notes.few_notes_are_left.Goals as goal

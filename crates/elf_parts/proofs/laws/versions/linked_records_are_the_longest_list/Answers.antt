@@ -1,4 +1,4 @@
--- By induction on the count; and no record is behind the data.
+-- By induction on the count; and no record is past the data.
 use Rattle.std.proofs.Common.{arith}
 use Rattle.elf_records.specs.Table.{table_in}
 use Rattle.elf_parts.specs.gnu_symver.Links.{links_in, next_start}

@@ -1,4 +1,4 @@
--- A note that fits is the first that was left; behind one that does not, nothing is left.
+-- A note that fits is the first that was left; after one that does not, nothing is left.
 use Rattle.std.proofs.Common.{ℕ, length, map, ap, sym, arith}
 use Rattle.elf_parts.specs.Note.{NoteContent, note_view}
 use Rattle.elf_parts.proofs.NoteLists.{note_first, note_none, note_refused}

@@ -1,4 +1,4 @@
--- Behind the part that is read by a function of its own, the field table is its parts. Named here and not on the
+-- After the part that is read by a function of its own, the field table is its parts. Named here and not on the
 -- function, since all else that is tried first is slow to fail.
 use Rattle.std.proofs.Common.{arith}
 use Rattle.elf_records.proofs.Segments.{segment}

@@ -1,4 +1,4 @@
--- No record begins behind the data.
+-- No record begins past the data.
 use Rattle.std.proofs.Common.{arith}
 use Rattle.elf_records.specs.Table.{table_in}
 use Rattle.elf_parts.proofs.LinkedRecords.{links_few}

@@ -1,4 +1,4 @@
--- The first records are the one that is read, and those from the place behind it on.
+-- The first records are the one that is read, and those from the place after it on.
 use Rattle.std.proofs.Common.{ap, sym, ◌∙◌, ℕ}
 use Rattle.elf_parts.specs.Link.{from_next}
 use Rattle.elf_parts.specs.gnu_symver.Links.{links_in, links_view, next_start}

@@ -1,4 +1,4 @@
--- A record that is read is the first that was left; behind an error nothing is left.
+-- A record that is read is the first that was left; after an error nothing is left.
 use Rattle.std.proofs.Common.{◌≡◌, ◌≤◌, ◌-◌, length, ap, sym, refl, arith, ◌∙◌, ◌∷◌, ℕ}
 use Rattle.elf_parts.specs.Link.{from_next}
 use Rattle.elf_parts.specs.gnu_symver.Links.{links_in, links_view, next_start}
