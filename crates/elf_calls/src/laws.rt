@@ -1,5 +1,5 @@
-//! Laws of the equality and the clones of a call: theorems for the proofs of callers. Each is the contract of a function
-//! that does nothing; a caller uses the law by calling it.
+//! Laws of the equality and the clones of a call: theorems for the proofs of callers. Each is the contract of a
+//! function that does nothing; a caller uses the law by calling it.
 ghost use Rattle.std.specs.Prelude.{◌≡◌, ◌↔◌, IsTrue};
 ghost use Rattle.elf_records.specs.Clones.{ClonesExactly};
 ghost use Rattle.elf_calls.specs.Question.{question};

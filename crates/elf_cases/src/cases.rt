@@ -34,8 +34,8 @@ impl FileSystem for FilesBeside<'_> {
 }
 
 /// Runs the cases of the file `cases`. A case is a line `FILE CHANGE.. : WORD..`: a small file, changed, and the words
-/// of the command line, of which `''` is the empty one. In a case `- : WORD..` the words name a file beside the program.
-/// A line repeats the case. After it comes what goes to standard output, then the exit status, and then what goes to
+/// of the command line; `''` is the empty word. In a case `- : WORD..` the words name a file beside the program. A line
+/// repeats the case. After it comes what goes to standard output, then the exit status, and then what goes to
 /// standard error.
 pub(crate) fn show_cases(rt: &HostRuntime) -> Result<(), RowError> {
     let cases = fs::read_to_string(rt, "cases")?;

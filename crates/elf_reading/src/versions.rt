@@ -60,7 +60,8 @@ impl VersionSections {
     }
 }
 
-/// The last sections of a table of the three types of version sections, up to the first section that completes the three.
+/// The last sections of a table of the three types of version sections, up to the first section that completes the
+/// three.
 #[tactic(auto, using(crate::proofs::VersionChoice::found_in_all))]
 pub fn version_sections_of_table<E: EndianParse>(
     shdrs: SectionHeaderTable<'_, E>,
@@ -77,7 +78,8 @@ pub fn version_sections_of_table<E: EndianParse>(
     found
 }
 
-/// The last sections of a list of the three types of version sections, up to the first section that completes the three.
+/// The last sections of a list of the three types of version sections, up to the first section that completes the
+/// three.
 #[tactic(auto, using(crate::proofs::VersionChoice::found_in_all))]
 pub fn version_sections_of_list(shdrs: &[SectionHeader]) -> VersionSections
     ensures { result ≡ version_sections shdrs.now }

@@ -1,4 +1,5 @@
-//! Dynamic entries and tables of them, by which a file tells the dynamic linker what it needs (gABI, chapter "Dynamic Section").
+//! Dynamic entries, by which a file tells the dynamic linker what it needs, and tables of them (gABI, chapter "Dynamic
+//! Section").
 ghost use Rattle.std.specs.Prelude.{◌≡◌, [], ◌∷◌};
 ghost use Rattle.elf_records.specs.Dynamic.{d_un_view, dyn_entry};
 

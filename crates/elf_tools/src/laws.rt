@@ -12,5 +12,6 @@ pub fn clones()
     ensures mapping { ClonesExactly ⟦<Mapping as Clone>⟧.is_clone ⟦<Mapping as Clone>⟧.is_infallible }
     ensures name { ClonesExactly ⟦<Name as Clone>⟧.is_clone ⟦<Name as Clone>⟧.is_infallible }
     ensures bound { ClonesExactly ⟦<Bound as Clone>⟧.is_clone ⟦<Bound as Clone>⟧.is_infallible }
-    ensures version { ClonesExactly ⟦<FunctionVersion<'static> as Clone>⟧.is_clone ⟦<FunctionVersion<'static> as Clone>⟧.is_infallible }
+    ensures version { ClonesExactly
+        ⟦<FunctionVersion<'static> as Clone>⟧.is_clone ⟦<FunctionVersion<'static> as Clone>⟧.is_infallible }
 {}

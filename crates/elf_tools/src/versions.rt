@@ -7,8 +7,8 @@ use elf::endian::EndianParse;
 use elf::gnu_symver::{IndexedVersions, SymbolVersionTable};
 use std::alloc::{AllocError, Global};
 
-/// Returns an index of these versions, if there are any. The only error is a failed allocation. Without versions nothing
-/// is allocated.
+/// Returns an index of these versions, if there are any. The only error is a failed allocation. Without versions
+/// nothing is allocated.
 pub fn indexed<'a, 'data, E: EndianParse>(
     alloc: Global,
     versions: Option<&'a SymbolVersionTable<'data, E>>,

@@ -9,9 +9,9 @@ ghost use Rattle.elf_check.specs.CheckedTable.{object_view};
 ghost use Rattle.elf_binding.specs.ObjectTable.{GivesObjectTable, object_of};
 ghost use Rattle.elf_binding.specs.VersionedView.{versioned_view};
 ghost use Rattle.elf_tools.specs.Library.{GivesFrom, IsLibraryFault, IsLibraryOf, definitions_in, library_hash};
-ghost use Rattle.elf_tools.specs.Library.{needs_in};
-ghost use Rattle.elf_tools.specs.Library.{part_result, shown_hash};
-ghost use Rattle.elf_tools.specs.Library.{library_object, library_symbols, object_result, versions_in, library_versions};
+ghost use Rattle.elf_tools.specs.Library.{needs_in, part_result, shown_hash};
+ghost use Rattle.elf_tools.specs.Library.{library_object, library_symbols, library_versions, object_result};
+ghost use Rattle.elf_tools.specs.Library.{versions_in};
 ghost use Rattle.elf_tools.specs.declared.bindings.library.LibraryFault.TheVariants.{Unread as IsUnread};
 
 use elf::ParseError;

@@ -22,10 +22,11 @@ use std::marker::Model;
 
 /// The versions of the symbols of a file. Two slices that the caller provides hold the first need and the first
 /// definition of each version index for which they have a place. Such a version is found without a walk, any other one
-/// as `SymbolVersionTable` finds it. Version indexes have 15 bits, so with 32,768 places in each slice no look-up walks.
-/// Filling the slices costs the number of needs, of their auxiliary entries and of definitions. An entry that several
-/// needs share counts once, and each need some two thousand steps at most; only in a section of some ten mebibytes a need
-/// may cost more. For a section of more than 16 KiB the call takes 24 KiB of the stack. Allocates no memory.
+/// as `SymbolVersionTable` finds it. Version indexes have 15 bits, so with 32,768 places in each slice no look-up
+/// walks. Filling the slices costs the number of needs, of their auxiliary entries and of definitions. An entry that
+/// several needs share counts once, and each need takes some two thousand steps at most. Only in a section of some ten
+/// mebibytes may a need cost more. For a section of more than 16 KiB the call takes 24 KiB of the stack. Allocates no
+/// memory.
 #[derive(Debug, Drop)]
 pub struct PlacedVersions<'a, 'data, E: EndianParse> {
     versions: &'a SymbolVersionTable<'data, E>,
