@@ -15,8 +15,8 @@ use Rattle.elf.specs.Data.{section_data}
 use Rattle.elf.specs.Headers.{first_section_of}
 use Rattle.elf.specs.ObjectFile.{ObjectFile}
 use Rattle.elf_check.specs.Object.{IsSound, IsTrueOf, Object, object_in}
-use Rattle.elf_check.specs.declared.hashcheck.any.HashSection.{HashSection}
-use Rattle.elf_check.specs.declared.hashcheck.any.HashSection.TheVariants.{Gnu, Sysv}
+use Rattle.elf_check.specs.declared.hashcheck.any.HashKind.{HashKind}
+use Rattle.elf_check.specs.declared.hashcheck.any.HashKind.TheVariants.{Gnu, Sysv}
 use Rattle.elf_binding.specs.declared.resolve.ObjectFault.{ObjectFault}
 use Rattle.elf_binding.specs.declared.resolve.ObjectFault.TheVariants.{Faulty, NoSymbols, Read}
 use denote.Ref.{Bor}
@@ -42,7 +42,7 @@ abbrev pub parts_view : {E : Type 0} → Bor (List ℕ) × (ParsingTable E Symbo
 parts_view parts = (parts.0.now, symbols_view parts.1)
 
 -- the object that a section of a kind holds, with these symbols; the fault of the first step that fails
-abbrev pub section_object : HashSection → ObjectFile → SectionHeader → Result Object ObjectFault
+abbrev pub section_object : HashKind → ObjectFile → SectionHeader → Result Object ObjectFault
 section_object kind file s =
     section_parts file s >>= λ parts.
     read (object_in kind file.little file.class parts.0 parts.1.0 parts.1.1)

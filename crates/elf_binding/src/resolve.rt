@@ -10,7 +10,7 @@ mod objects;
 
 use elf::parse::ParseError;
 use elf_check::hashcheck::HashFault;
-pub use elf_check::hashcheck::{AnyChecked, HashKind};
+pub use elf_check::hashcheck::{AnyChecked, HashSection};
 pub use objects::{object_table, resolve};
 use thiserror::Error;
 

@@ -22,7 +22,7 @@ use Rattle.elf.specs.ElfStream.{Seen, headers_of}
 use Rattle.elf_reading.specs.Opening.{View}
 use Rattle.elf.proofs.Alike.{alike_first, alike_later, alike_map}
 use Rattle.elf_check.specs.Object.{object_in}
-use Rattle.elf_check.specs.declared.hashcheck.any.HashSection.{HashSection}
+use Rattle.elf_check.specs.declared.hashcheck.any.HashKind.{HashKind}
 use Rattle.elf_calls.specs.Question.{Question, Header, Sections, Segments, Name, Data, Strings, Rels, Relas, Notes, Seg, SegNotes, Symbols, DynSyms, Dynamic, Versions, Hash}
 use Rattle.elf_calls.specs.Text.{call_answer, call_text, checked_as, checked_for, dynamic_text, of_section, of_segment, or_refused, symbol_count, symbols_text, text, unless_absent, unless_none}
 use Rattle.elf_calls.specs.declared.hashes.Verdict.{Verdict}
@@ -58,11 +58,11 @@ absent_alike one other (Some x) h = h x
 -- ---- a checked section
 
 -- as tables of this order and class
-abbrev checked_with : HashSection → Bool → Class → ObjectFile → SectionHeader → Result (Option Verdict) ParseError
+abbrev checked_with : HashKind → Bool → Class → ObjectFile → SectionHeader → Result (Option Verdict) ParseError
 checked_with kind little class file s =
     section_data file s >>= λ found. dynamic_symbol_table file >>= λ symbols. checked_for (object_in kind little class found.0) symbols
 
-module _ (kind : HashSection) (one other : ObjectFile) (same : SameAnswers one other) (s : SectionHeader) where
+module _ (kind : HashKind) (one other : ObjectFile) (same : SameAnswers one other) (s : SectionHeader) where
   with_alike : (little : Bool) (class : Class) → AreAlike (checked_with kind little class one s) (checked_with kind little class other s)
   with_alike little class =
       let answer : List ℕ × Option CompressionHeader → Option (Table × List ℕ) → Result (Option Verdict) ParseError = λ found symbols. checked_for (object_in kind little class found.0) symbols in

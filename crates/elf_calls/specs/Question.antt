@@ -1,8 +1,8 @@
 -- The question of a call: the call itself, with bytes in place of references, and one question for both kinds of hash
 -- section.
 use Rattle.std.specs.Prelude.{ℕ, List}
-use Rattle.elf_check.specs.declared.hashcheck.any.HashSection.{HashSection}
-use Rattle.elf_check.specs.declared.hashcheck.any.HashSection.TheVariants.{Gnu, Sysv}
+use Rattle.elf_check.specs.declared.hashcheck.any.HashKind.{HashKind}
+use Rattle.elf_check.specs.declared.hashcheck.any.HashKind.TheVariants.{Gnu, Sysv}
 use Rattle.elf_calls.specs.declared.calls.Call.{Call}
 use Rattle.elf_calls.specs.declared.calls.Call.TheVariants as call
 
@@ -22,7 +22,7 @@ pub data Question : Type 0 where
   DynSyms : Question
   Dynamic : Question
   Versions : Question
-  Hash : HashSection → ℕ → Question
+  Hash : HashKind → ℕ → Question
 
 abbrev pub question : Call → Question
 question call.Header = Header

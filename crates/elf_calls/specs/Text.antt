@@ -18,7 +18,7 @@ use Rattle.elf.specs.Answers.{symbol_version_table}
 use Rattle.elf.specs.Names.{name_table}
 use Rattle.elf.specs.ObjectFile.{ObjectFile}
 use Rattle.elf_check.specs.Object.{Object, object_in}
-use Rattle.elf_check.specs.declared.hashcheck.any.HashSection.{HashSection}
+use Rattle.elf_check.specs.declared.hashcheck.any.HashKind.{HashKind}
 use Rattle.elf_calls.specs.Verdicts.{verdict_of}
 use Rattle.elf_calls.specs.Question.{Question, Header, Sections, Segments, Name, Data, Strings, Rels, Relas}
 use Rattle.elf_calls.specs.Question.{Notes, Seg, SegNotes, Symbols, DynSyms, Dynamic, Versions, Hash}
@@ -73,7 +73,7 @@ checked_for object_of None = Ok None
 checked_for object_of (Some (symbols, names)) = ok_map (λ object. Some (verdict_of object)) (object_of symbols names)
 
 -- of the bytes of a section, whatever its type, as a hash section of a kind, for the symbols of dynamic linking
-abbrev pub checked_as : HashSection → ObjectFile → SectionHeader → Result (Option Verdict) ParseError
+abbrev pub checked_as : HashKind → ObjectFile → SectionHeader → Result (Option Verdict) ParseError
 checked_as kind file s =
     section_data file s >>= λ found. dynamic_symbol_table file >>= λ symbols.
     checked_for (object_in kind file.little file.class found.0) symbols

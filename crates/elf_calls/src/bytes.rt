@@ -20,7 +20,7 @@ use elf::segment::ProgramHeader;
 use elf::string_table::{StringTable, TerminatedStrings};
 use elf::symbol::SymbolTable;
 use elf::{ElfBytes, ParseError};
-use elf_check::hashcheck::HashSection;
+use elf_check::hashcheck::HashKind;
 use elf_lines::counted::{write_end, write_records};
 use elf_lines::data::{write_section_data, write_segment_data};
 use elf_lines::dynamic::DynLine;
@@ -65,8 +65,8 @@ pub fn write_call<E: EndianParse, R: Room, W: Write>(
         Call::DynSyms => write_symbols(file.dynamic_symbol_table(), out),
         Call::Dynamic => write_dynamic(file, out),
         Call::Versions => write_symbol_versions(file, room, out),
-        Call::Sysv(index) => write_hash(file, HashSection::Sysv, index, out),
-        Call::Gnu(index) => write_hash(file, HashSection::Gnu, index, out),
+        Call::Sysv(index) => write_hash(file, HashKind::Sysv, index, out),
+        Call::Gnu(index) => write_hash(file, HashKind::Gnu, index, out),
     }
 }
 
@@ -309,7 +309,7 @@ fn write_symbol_versions<E: EndianParse, R: Room, W: Write>(
 // The result of checking a section as a hash section of the symbols for dynamic linking, if there are any.
 fn section_verdict<E: EndianParse>(
     file: &ElfBytes<'_, E>,
-    kind: HashSection,
+    kind: HashKind,
     section: &SectionHeader,
 ) -> Result<Option<Verdict>, ParseError>
     ensures { result ≡ checked_as kind (object_file E.little (view file.now)) section.now }
@@ -325,7 +325,7 @@ fn section_verdict<E: EndianParse>(
 
 fn write_hash<E: EndianParse, W: Write>(
     file: &ElfBytes<'_, E>,
-    kind: HashSection,
+    kind: HashKind,
     index: u64,
     out: &mut W,
 ) -> io::Result<()>

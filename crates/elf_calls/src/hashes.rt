@@ -13,7 +13,7 @@ use elf::endian::EndianParse;
 use elf::file::Class;
 use elf::string_table::StringTable;
 use elf::symbol::SymbolTable;
-use elf_check::hashcheck::{Checked, HashSection, check_any};
+use elf_check::hashcheck::{Checked, HashKind, check_any};
 use std::io;
 use std::io::Write;
 
@@ -27,7 +27,7 @@ pub(crate) enum Verdict {
 
 /// Checks bytes as a hash section of these symbols. The error is that of `new` of the table.
 pub(crate) fn hash_verdict<E: EndianParse>(
-    kind: HashSection,
+    kind: HashKind,
     endian: E,
     class: Class,
     bytes: &[u8],

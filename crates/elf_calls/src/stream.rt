@@ -23,7 +23,7 @@ use elf::section::SectionHeader;
 use elf::segment::ProgramHeader;
 use elf::string_table::TerminatedStrings;
 use elf::{ElfStream, ParseError, StreamSource};
-use elf_check::hashcheck::HashSection;
+use elf_check::hashcheck::HashKind;
 use elf_lines::counted::{write_records, write_slice};
 use elf_lines::data::{write_section_data, write_segment_data};
 use elf_lines::dynamic::DynLine;
@@ -96,8 +96,8 @@ fn try_call<E: EndianParse, S: StreamSource, A: Allocator + Copy, W: Write>(
         Call::DynSyms => write_dynsyms(stream, out),
         Call::Dynamic => write_dynamic(stream, out),
         Call::Versions => write_symbol_versions(stream, out),
-        Call::Sysv(index) => write_hash(stream, HashSection::Sysv, index, out),
-        Call::Gnu(index) => write_hash(stream, HashSection::Gnu, index, out),
+        Call::Sysv(index) => write_hash(stream, HashKind::Sysv, index, out),
+        Call::Gnu(index) => write_hash(stream, HashKind::Gnu, index, out),
     }
 }
 
@@ -411,7 +411,7 @@ fn section_copy<E: EndianParse, S: StreamSource, A: Allocator + Copy>(
 // the check is apart from one of the stream.
 fn section_verdict<E: EndianParse, S: StreamSource, A: Allocator + Copy>(
     stream: &mut ElfStream<E, S, A>,
-    kind: HashSection,
+    kind: HashKind,
     section: &SectionHeader,
 ) -> Result<Option<Result<Verdict, ParseError>>, ParseError>
     ensures { Gives (checked_ranges (headers_alone E.little stream.old) section.now) (λ verdict. verdict)
@@ -433,7 +433,7 @@ fn section_verdict<E: EndianParse, S: StreamSource, A: Allocator + Copy>(
 
 fn write_hash<E: EndianParse, S: StreamSource, A: Allocator + Copy, W: Write>(
     stream: &mut ElfStream<E, S, A>,
-    kind: HashSection,
+    kind: HashKind,
     index: u64,
     out: &mut W,
 ) -> Result<io::Result<()>, ParseError>

@@ -7,8 +7,8 @@ use elf::file::Class;
 use elf::string_table::StringTable;
 use elf::symbol::{Symbol, SymbolTable};
 use elfshow::hashcheck::{
-    Checked, CheckedGnuHash, CheckedSysvHash, HashFault, HashSection, NamedSymbols, Reads,
-    check_any, check_gnu_counted, check_sysv_counted,
+    Checked, CheckedGnuHash, CheckedSysvHash, HashFault, HashKind, NamedSymbols, Reads, check_any,
+    check_gnu_counted, check_sysv_counted,
 };
 use std::io;
 use std::str::SplitWhitespace;
@@ -72,9 +72,9 @@ fn show_all_named(
     names: SplitWhitespace<'_>,
 ) -> io::Result<()> {
     let kind = if kind == "sysv" {
-        HashSection::Sysv
+        HashKind::Sysv
     } else {
-        HashSection::Gnu
+        HashKind::Gnu
     };
     match check_any(
         kind,

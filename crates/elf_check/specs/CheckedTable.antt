@@ -10,8 +10,8 @@ use Rattle.elf_check.specs.Object.{ByGnu, BySysv, Object}
 use Rattle.elf_check.specs.WithSymbols.{WithSymbols, gnu_with, sysv_with}
 use Rattle.elf_check.specs.declared.hashcheck.gnu.CheckedGnuHash.{CheckedGnuHash}
 use Rattle.elf_check.specs.declared.hashcheck.sysv.CheckedSysvHash.{CheckedSysvHash}
-use Rattle.elf_check.specs.declared.hashcheck.any.HashKind.{HashKind}
-use Rattle.elf_check.specs.declared.hashcheck.any.HashKind.TheVariants.{Gnu, Sysv}
+use Rattle.elf_check.specs.declared.hashcheck.any.HashSection.{HashSection}
+use Rattle.elf_check.specs.declared.hashcheck.any.HashSection.TheVariants.{Gnu, Sysv}
 
 module _ {E : Type 0} {order : EndianGhosts E} {default : DefaultGhosts E} {equal : PartialEqGhosts E} where
   abbrev pub checked_gnu_view : CheckedGnuHash E order default equal → WithSymbols GnuTable
@@ -28,6 +28,6 @@ module _ {E : Type 0} {order : EndianGhosts E} {default : DefaultGhosts E} {equa
 
   -- of either kind
   abbrev pub object_view :
-      HashKind (CheckedSysvHash E order default equal) (CheckedGnuHash E order default equal) → Object
+      HashSection (CheckedSysvHash E order default equal) (CheckedGnuHash E order default equal) → Object
   object_view (Sysv table) = BySysv (checked_sysv_view table)
   object_view (Gnu table) = ByGnu (checked_gnu_view table)

@@ -15,15 +15,15 @@ use Rattle.elf_check.specs.SoundGnu.{SoundGnu}
 use Rattle.elf_check.specs.SoundSysv.{SoundSysv}
 use Rattle.elf_check.specs.WithSymbols.{WithSymbols, with_symbols}
 use Rattle.elf_check.specs.declared.hashcheck.HashFault.{HashFault}
-use Rattle.elf_check.specs.declared.hashcheck.any.HashSection.{HashSection}
-use Rattle.elf_check.specs.declared.hashcheck.any.HashSection.TheVariants.{Gnu, Sysv}
+use Rattle.elf_check.specs.declared.hashcheck.any.HashKind.{HashKind}
+use Rattle.elf_check.specs.declared.hashcheck.any.HashKind.TheVariants.{Gnu, Sysv}
 
 pub data Object : Type 0 where
   BySysv : WithSymbols SysvTable → Object
   ByGnu : WithSymbols GnuTable → Object
 
 -- the object that a section of a kind holds, with these symbols and the bytes of their names
-abbrev pub object_in : HashSection → Bool → Class → List ℕ → Table → List ℕ → Result Object ParseError
+abbrev pub object_in : HashKind → Bool → Class → List ℕ → Table → List ℕ → Result Object ParseError
 object_in Sysv little class section symbols strings =
     ok_map BySysv (with_symbols symbols strings (sysv_section little class section))
 object_in Gnu little class section symbols strings =

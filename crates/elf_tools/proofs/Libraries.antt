@@ -18,8 +18,8 @@ use Rattle.elf.specs.ObjectFile.{ObjectFile}
 use Rattle.elf.specs.StreamFile.{listed_file, stream_file}
 use Rattle.elf_check.specs.Object.{object_in}
 use Rattle.elf_binding.specs.ObjectTable.{needed, object_by, object_of, read}
-use Rattle.elf_check.specs.declared.hashcheck.any.HashSection.{HashSection}
-use Rattle.elf_check.specs.declared.hashcheck.any.HashSection.TheVariants.{Gnu, Sysv}
+use Rattle.elf_check.specs.declared.hashcheck.any.HashKind.{HashKind}
+use Rattle.elf_check.specs.declared.hashcheck.any.HashKind.TheVariants.{Gnu, Sysv}
 use Rattle.elf_binding.specs.declared.resolve.ObjectFault.{ObjectFault}
 use Rattle.elf_tools.specs.Library.{IsLibraryOf, IsOpened, hash_by, hash_in, library_hash, hash_section, object_from, library_object}
 use Rattle.elf_tools.specs.Library.{symbols_in, versions_in, library_versions}
@@ -47,7 +47,7 @@ all_known (Some bytes) P Q R S so p q r = so bytes p q r
 abbrev parts_of : Result (List ℕ × Option CompressionHeader) ParseError → Result (Option (Table × List ℕ)) ParseError → Result (List ℕ × (Table × List ℕ)) ObjectFault
 parts_of found symbols = read found >>= λ part. read symbols >>= needed >>= λ s. Ok (part.0, s)
 
-by_parts : (kind : HashSection) (file : ObjectFile) (found : Result (List ℕ × Option CompressionHeader) ParseError) (symbols : Result (Option (Table × List ℕ)) ParseError)
+by_parts : (kind : HashKind) (file : ObjectFile) (found : Result (List ℕ × Option CompressionHeader) ParseError) (symbols : Result (Option (Table × List ℕ)) ParseError)
     → Some (parts_of found symbols >>= λ parts. read (object_in kind file.little file.class parts.0 parts.1.0 parts.1.1))
     ≡ object_from file.little file.class (ok_map Some (ok_map (λ (part : List ℕ × Option CompressionHeader). (kind, part.0)) found)) symbols
 by_parts kind file (Ok part) (Ok (Some found)) = refl

@@ -14,7 +14,7 @@ use Rattle.elf_check.specs.Object.{IsSound, Object}
 use Rattle.elf_binding.specs.ObjectTable.{IsFaultOf, IsTableOf}
 use Rattle.elf_check.specs.declared.hashcheck.gnu.CheckedGnuHash.{CheckedGnuHash}
 use Rattle.elf_check.specs.declared.hashcheck.sysv.CheckedSysvHash.{CheckedSysvHash}
-use Rattle.elf_check.specs.declared.hashcheck.any.HashKind.{HashKind}
+use Rattle.elf_check.specs.declared.hashcheck.any.HashSection.{HashSection}
 use Rattle.elf_binding.specs.declared.resolve.ObjectFault.{ObjectFault}
 use Rattle.elf_tools.specs.Resolver.{HasTable, HaveTables, IsTable, IsTrueOf, library}
 use Rattle.elf_tools.specs.declared.resolver.TablesError.TheVariants.{Fault, Memory, NoHash}
@@ -61,7 +61,7 @@ module _ {C : Type 0} (view : C → Object) (table : C) where
   object_sound None h = absurd h
 
 module _ {E : Type 0} {order : EndianGhosts E} {default : DefaultGhosts E} {equal : PartialEqGhosts E} (little : E → Bool) where
-  pub table_sound : (file : ElfBytes E) (table : HashKind (CheckedSysvHash E order default equal) (CheckedGnuHash E order default equal)) →
+  pub table_sound : (file : ElfBytes E) (table : HashSection (CheckedSysvHash E order default equal) (CheckedGnuHash E order default equal)) →
       IsTable little file table → HasTable little file
   table_sound file table h = object_sound object_view table (library little file) h
 

@@ -7,7 +7,7 @@ use Rattle.elf_records.specs.declared.section.SectionHeader.{SectionHeader}
 use Rattle.elf.specs.ObjectFile.{ObjectFile}
 use Rattle.elf_check.specs.Object.{IsSound, Object, indexed_count}
 use Rattle.elf_binding.specs.ObjectTable.{IsFaultOf, section_object}
-use Rattle.elf_check.specs.declared.hashcheck.any.HashSection.TheVariants.{Gnu, Sysv}
+use Rattle.elf_check.specs.declared.hashcheck.any.HashKind.TheVariants.{Gnu, Sysv}
 use Rattle.elf_binding.specs.declared.resolve.ObjectFault.{ObjectFault}
 
 -- the table of a section of type SHT_GNU_HASH or SHT_HASH, over the dynamic symbols

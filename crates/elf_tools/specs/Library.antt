@@ -22,8 +22,8 @@ use Rattle.elf.specs.ObjectFile.{ObjectFile}
 use Rattle.elf_binding.specs.Binding.{VersionedObject}
 use Rattle.elf_check.specs.Object.{IsSound, Object, object_in}
 use Rattle.elf_binding.specs.ObjectTable.{IsFaultOf, needed, read}
-use Rattle.elf_check.specs.declared.hashcheck.any.HashSection.{HashSection}
-use Rattle.elf_check.specs.declared.hashcheck.any.HashSection.TheVariants.{Gnu, Sysv}
+use Rattle.elf_check.specs.declared.hashcheck.any.HashKind.{HashKind}
+use Rattle.elf_check.specs.declared.hashcheck.any.HashKind.TheVariants.{Gnu, Sysv}
 use Rattle.elf_binding.specs.declared.resolve.ObjectFault.{ObjectFault}
 use Rattle.elf_binding.specs.declared.resolve.ObjectFault.TheVariants.{Read}
 use Rattle.elf_tools.specs.Readings.{IsRead}
@@ -39,7 +39,7 @@ use denote.Ref.{Bor}
 -- ---- what is stored, in an order and a class
 
 -- a hash section by its kind and its bytes
-abbrev pub hash_in : HashBytes → HashSection × List ℕ
+abbrev pub hash_in : HashBytes → HashKind × List ℕ
 hash_in kept = (kept.kind, kept.section.items)
 
 -- symbols with their strings
@@ -68,17 +68,17 @@ versions_in little class kept = record {
 -- ---- what a reading gives
 
 -- the hash section of a kind, by its bytes
-abbrev pub hash_of : HashSection → ObjectFile → SectionHeader → Result (HashSection × List ℕ) ParseError
+abbrev pub hash_of : HashKind → ObjectFile → SectionHeader → Result (HashKind × List ℕ) ParseError
 hash_of kind file s = ok_map (λ found. (kind, found.0)) (section_data file s)
 
 -- the first GNU hash section, or if there is none the first SysV one, if there is one
 abbrev pub hash_by : ObjectFile → Option SectionHeader → Option SectionHeader →
-    Result (Option (HashSection × List ℕ)) ParseError
+    Result (Option (HashKind × List ℕ)) ParseError
 hash_by file (Some gnu) sysv = ok_map Some (hash_of Gnu file gnu)
 hash_by file None (Some sysv) = ok_map Some (hash_of Sysv file sysv)
 hash_by file None None = Ok None
 
-abbrev pub hash_section : ObjectFile → Result (Option (HashSection × List ℕ)) ParseError
+abbrev pub hash_section : ObjectFile → Result (Option (HashKind × List ℕ)) ParseError
 hash_section file =
     hash_by file (first_section_of sht_gnu_hash file.sections) (first_section_of sht_hash file.sections)
 
@@ -105,7 +105,7 @@ IsOpened {E} little of_byte can_fail bytes (Err e) =
 -- ---- which object it is
 
 -- the parts as they are now, or the error of reading them
-abbrev pub library_hash : {E : Type 0} → Library E → Result (Option (HashSection × List ℕ)) ParseError
+abbrev pub library_hash : {E : Type 0} → Library E → Result (Option (HashKind × List ℕ)) ParseError
 library_hash library = ok_map (option_map hash_in) library.hash
 
 module _ {E : Type 0} (little : E → Bool) where
@@ -118,7 +118,7 @@ module _ {E : Type 0} (little : E → Bool) where
       ok_map (option_map (versions_in (little library.endianness) library.class)) library.versions
 
 -- the object that a hash section holds with these symbols, if there is one; the fault of the first step that fails
-abbrev pub object_from : Bool → Class → Result (Option (HashSection × List ℕ)) ParseError →
+abbrev pub object_from : Bool → Class → Result (Option (HashKind × List ℕ)) ParseError →
     Result (Option (Table × List ℕ)) ParseError → Option (Result Object ObjectFault)
 object_from little class (Ok None) symbols = None
 object_from little class (Ok (Some hash)) symbols =
@@ -134,7 +134,7 @@ abbrev pub part_result : {T Y : Type 0} → (T → Y) → Result T (Bor ParseErr
 part_result shown (Ok x) = Ok (shown x)
 part_result shown (Err e) = Err e.now
 
-abbrev pub shown_hash : HashSection × Bor (List ℕ) → HashSection × List ℕ
+abbrev pub shown_hash : HashKind × Bor (List ℕ) → HashKind × List ℕ
 shown_hash hash = (hash.0, hash.1.now)
 
 -- the fault of the object

@@ -16,7 +16,7 @@ use Rattle.elf_binding.specs.ObjectTable.{IsFaultOf, IsTableOf, object_of}
 use Rattle.elf_binding.specs.Resolve.{At}
 use Rattle.elf_check.specs.declared.hashcheck.gnu.CheckedGnuHash.{CheckedGnuHash}
 use Rattle.elf_check.specs.declared.hashcheck.sysv.CheckedSysvHash.{CheckedSysvHash}
-use Rattle.elf_check.specs.declared.hashcheck.any.HashKind.{HashKind}
+use Rattle.elf_check.specs.declared.hashcheck.any.HashSection.{HashSection}
 use Rattle.elf_binding.specs.declared.resolve.ObjectFault.{ObjectFault}
 use Rattle.elf_tools.specs.declared.resolver.TablesError.{TablesError}
 use Rattle.elf_tools.specs.declared.resolver.TablesError.TheVariants.{Fault, Memory, NoHash}
@@ -29,12 +29,12 @@ module _ {E : Type 0} {order : EndianGhosts E} {default : DefaultGhosts E} {equa
     (little : E → Bool) where
   -- the table is that of the library
   abbrev pub IsTable : ElfBytes E →
-      HashKind (CheckedSysvHash E order default equal) (CheckedGnuHash E order default equal) → Type 0
+      HashSection (CheckedSysvHash E order default equal) (CheckedGnuHash E order default equal) → Type 0
   IsTable file table = IsSomeAnd (library little file) (λ object. IsTableOf object_view object table)
 
   -- table k is that of library k, and there are no others
   abbrev pub AreTables : List (ElfBytes E) →
-      List (HashKind (CheckedSysvHash E order default equal) (CheckedGnuHash E order default equal)) → Type 0
+      List (HashSection (CheckedSysvHash E order default equal) (CheckedGnuHash E order default equal)) → Type 0
   AreTables files tables =
       (length tables ≡ length files)
       × ((k : ℕ) → k < length files →

@@ -8,11 +8,11 @@ use elf::endian::EndianParse;
 use elf::section::SectionHeader;
 use elf::{ElfBytes, abi};
 use elf_binding::resolve::ObjectFault;
-use elf_check::hashcheck::{Checked, HashSection, check_any};
+use elf_check::hashcheck::{Checked, HashKind, check_any};
 
 fn kind_lint<E: EndianParse>(
     file: &ElfBytes<'_, E>,
-    kind: HashSection,
+    kind: HashKind,
     section: &SectionHeader,
 ) -> Result<usize, ObjectFault>
     ensures { IsLint (section_object kind (object_file E.little (view file.now)) section.now) result }
@@ -41,8 +41,8 @@ pub fn lint<E: EndianParse>(
     ensures { GivesLint (hash_object (object_file E.little (view file.now)) section.now) result }
 {
     match section.sh_type {
-        abi::SHT_GNU_HASH => Some(kind_lint(file, HashSection::Gnu, section)),
-        abi::SHT_HASH => Some(kind_lint(file, HashSection::Sysv, section)),
+        abi::SHT_GNU_HASH => Some(kind_lint(file, HashKind::Gnu, section)),
+        abi::SHT_HASH => Some(kind_lint(file, HashKind::Sysv, section)),
         _ => None,
     }
 }

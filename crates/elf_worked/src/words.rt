@@ -1,6 +1,6 @@
 //! What the words of a command line request.
 ghost use Rattle.std.specs.Prelude.{◌≡◌, [], ◌∷◌, ◌++◌, Some, None, codes};
-ghost use Rattle.elf_check.specs.declared.hashcheck.any.HashSection.TheVariants.{Gnu, Sysv};
+ghost use Rattle.elf_check.specs.declared.hashcheck.any.HashKind.TheVariants.{Gnu, Sysv};
 ghost use Rattle.elf_calls.specs.Question.{Data, DynSyms, Dynamic, Hash, Header, Name, Notes, Relas, Rels};
 ghost use Rattle.elf_calls.specs.Question.{Sections, Seg, SegNotes, Segments, Strings, Symbols, Versions};
 ghost use Rattle.elf_lines.specs.Pieces.{newline};

@@ -15,7 +15,7 @@ use elf::section::SectionHeader;
 use elf::string_table::StringTable;
 use elf::symbol::{Symbol, SymbolTable};
 use elf::{ElfBytes, abi};
-use elf_check::hashcheck::{AnyChecked, Checked, HashSection, check_any};
+use elf_check::hashcheck::{AnyChecked, Checked, HashKind, check_any};
 
 // The bytes of a section, and the dynamic symbols with their strings.
 type SectionParts<'data, E> = (&'data [u8], (SymbolTable<'data, E>, StringTable<'data>));
@@ -37,7 +37,7 @@ fn section_parts<'data, E: EndianParse>(
 // The checked table of a section of a kind.
 fn section_table<'data, E: EndianParse>(
     file: &ElfBytes<'data, E>,
-    kind: HashSection,
+    kind: HashKind,
     section: &SectionHeader,
 ) -> Result<AnyChecked<'data, E>, ObjectFault>
     ensures { GivesTable object_view (section_object kind (object_file E.little (view file.now)) section.now) result }
@@ -64,10 +64,10 @@ pub fn object_table<'data, E: EndianParse>(
     ensures { GivesObjectTable object_view (object_of (object_file E.little (view file.now))) result }
 {
     if let Some(section) = file.first_section_of(abi::SHT_GNU_HASH) {
-        return Ok(Some(section_table(file, HashSection::Gnu, &section)?));
+        return Ok(Some(section_table(file, HashKind::Gnu, &section)?));
     }
     if let Some(section) = file.first_section_of(abi::SHT_HASH) {
-        return Ok(Some(section_table(file, HashSection::Sysv, &section)?));
+        return Ok(Some(section_table(file, HashKind::Sysv, &section)?));
     }
     Ok(None)
 }

@@ -12,7 +12,7 @@ use Rattle.elf_records.specs.Record.{◌>>=◌}
 use Rattle.elf_records.specs.declared.parse.ParseError.{ParseError}
 use Rattle.elf_records.specs.declared.section.SectionHeader.{SectionHeader}
 use Rattle.elf_check.specs.Object.{object_in}
-use Rattle.elf_check.specs.declared.hashcheck.any.HashSection.{HashSection}
+use Rattle.elf_check.specs.declared.hashcheck.any.HashKind.{HashKind}
 use Rattle.elf_lines.specs.NoAnswer.{refused_line}
 use Rattle.elf_calls.specs.Question.{Question}
 use Rattle.elf_calls.specs.Ranges.{call_ranges}
@@ -79,7 +79,7 @@ abbrev pub section_bytes : ObjectFile → SectionHeader → Result (List ℕ) Pa
 section_bytes file s = ok_map (λ found. found.0) (section_data file s)
 
 -- what a checker says of a section, if there are symbols to check it for; its error is apart from a stream's
-abbrev pub checked_apart : HashSection → ObjectFile → SectionHeader →
+abbrev pub checked_apart : HashKind → ObjectFile → SectionHeader →
     Result (Option (Result Verdict ParseError)) ParseError
 checked_apart kind file s =
     section_bytes file s >>= λ part. dynamic_symbol_table file >>= λ symbols.

@@ -18,7 +18,7 @@ use elf_parts::symbol::{Symbol, SymbolTable};
 
 /// A kind of hash section.
 #[derive(Copy, Clone, Debug, PartialEq, Eq)]
-pub enum HashSection {
+pub enum HashKind {
     /// The one of the gABI, of type `SHT_HASH`.
     Sysv,
     /// The one of GNU, of type `SHT_GNU_HASH`.
@@ -28,7 +28,7 @@ pub enum HashSection {
 /// A table of either kind of hash section.
 // The two are type parameters, since an enum that borrows bytes may not have a struct with a ghost field by its name.
 #[derive(Debug, Drop)]
-pub enum HashKind<S: Drop, G: Drop> {
+pub enum HashSection<S: Drop, G: Drop> {
     /// A table of a gABI hash section.
     Sysv(S),
     /// A table of a GNU hash section.
@@ -36,9 +36,9 @@ pub enum HashKind<S: Drop, G: Drop> {
 }
 
 /// The table of a hash section of either kind that is sound for its symbols.
-pub type AnyChecked<'data, E> = HashKind<CheckedSysvHash<'data, E>, CheckedGnuHash<'data, E>>;
+pub type AnyChecked<'data, E> = HashSection<CheckedSysvHash<'data, E>, CheckedGnuHash<'data, E>>;
 
-impl<'data, E: EndianParse> HashKind<CheckedSysvHash<'data, E>, CheckedGnuHash<'data, E>> {
+impl<'data, E: EndianParse> HashSection<CheckedSysvHash<'data, E>, CheckedGnuHash<'data, E>> {
     ghost use Rattle.elf_check.specs.NamedSymbols.{AreAllNamed, named_left};
     ghost use Rattle.elf_check.specs.Object.{Indexed, IsFound, indexed_count};
 
@@ -79,7 +79,7 @@ impl<'data, E: EndianParse> HashKind<CheckedSysvHash<'data, E>, CheckedGnuHash<'
 /// Checks a section of either kind as `check_sysv` or `check_gnu` does. Returns an error exactly if `new` of the
 /// table does, and that error.
 pub fn check_any<'data, E: EndianParse>(
-    kind: HashSection,
+    kind: HashKind,
     endian: E,
     class: Class,
     section: &'data [u8],
@@ -91,12 +91,12 @@ pub fn check_any<'data, E: EndianParse>(
         GivesVerdict object_view IsSound IsTrueOf object result }
 {
     match kind {
-        HashSection::Sysv => match check_sysv(endian, class, section, symtab, strtab) {
+        HashKind::Sysv => match check_sysv(endian, class, section, symtab, strtab) {
             Ok(Checked::Sound(table)) => Ok(Checked::Sound(AnyChecked::Sysv(table))),
             Ok(Checked::Faulty(fault)) => Ok(Checked::Faulty(fault)),
             Err(error) => Err(error),
         },
-        HashSection::Gnu => match check_gnu(endian, class, section, symtab, strtab) {
+        HashKind::Gnu => match check_gnu(endian, class, section, symtab, strtab) {
             Ok(Checked::Sound(table)) => Ok(Checked::Sound(AnyChecked::Gnu(table))),
             Ok(Checked::Faulty(fault)) => Ok(Checked::Faulty(fault)),
             Err(error) => Err(error),

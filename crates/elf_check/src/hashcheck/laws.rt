@@ -17,7 +17,7 @@ ghost use Rattle.elf_check.specs.WithSymbols.{WithSymbols};
 ghost use Rattle.elf_check.specs.declared.hashcheck.HashFault.{HashFault};
 ghost use Rattle.elf_check.specs.declared.hashcheck.reads.Reads.{Reads};
 
-use crate::hashcheck::{HashFault, HashSection, Reads};
+use crate::hashcheck::{HashFault, HashKind, Reads};
 use elf_parts::laws::find::{gnu_words_can_be_read, sysv_words_can_be_read};
 
 /// On a sound GNU section `GnuHashTable::find`, with `hdr` as `new` left it, returns no error. It returns the least
@@ -61,8 +61,8 @@ pub fn equal_hash_faults(a: HashFault, b: HashFault)
 {}
 
 /// Two kinds of hash sections are equal exactly if they are the same kind.
-pub fn equal_hash_sections(a: HashSection, b: HashSection)
-    ensures { IsTrue (⟦<HashSection as PartialEq>⟧.eq a b) ↔ (a ≡ b) }
+pub fn equal_hash_sections(a: HashKind, b: HashKind)
+    ensures { IsTrue (⟦<HashKind as PartialEq>⟧.eq a b) ↔ (a ≡ b) }
 {}
 
 /// Two counts of reads are equal exactly if their numbers are.
@@ -79,6 +79,6 @@ pub fn default_reads()
 /// fail.
 pub fn clones()
     ensures fault { ClonesExactly ⟦<HashFault as Clone>⟧.is_clone ⟦<HashFault as Clone>⟧.is_infallible }
-    ensures kind { ClonesExactly ⟦<HashSection as Clone>⟧.is_clone ⟦<HashSection as Clone>⟧.is_infallible }
+    ensures kind { ClonesExactly ⟦<HashKind as Clone>⟧.is_clone ⟦<HashKind as Clone>⟧.is_infallible }
     ensures reads { ClonesExactly ⟦<Reads as Clone>⟧.is_clone ⟦<Reads as Clone>⟧.is_infallible }
 {}

@@ -22,13 +22,13 @@ use elf::string_table::StringTable;
 use elf::symbol::SymbolTable;
 use elf_binding::VersionedObject;
 use elf_binding::resolve::ObjectFault;
-use elf_check::hashcheck::{AnyChecked, Checked, HashSection, check_any};
+use elf_check::hashcheck::{AnyChecked, Checked, HashKind, check_any};
 use thiserror::Error;
 
 /// The bytes of a hash section, and its kind.
 #[derive(Debug, Drop)]
 pub struct HashBytes {
-    pub kind: HashSection,
+    pub kind: HashKind,
     pub section: Vec<u8>,
 }
 
@@ -86,7 +86,7 @@ impl<'a> From<&'a ParseError> for LibraryFault<'a> {
 
 impl<E: EndianParse> Library<E> {
     /// The hash section, if there is one, or the error of reading it.
-    fn hash_section(&self) -> Result<Option<(HashSection, &[u8])>, &ParseError>
+    fn hash_section(&self) -> Result<Option<(HashKind, &[u8])>, &ParseError>
         ensures { part_result (option_map shown_hash) result ≡ library_hash self.now }
     {
         match &self.hash {

@@ -22,7 +22,7 @@ use elf::headers::Headers;
 use elf::parse::ParseAt;
 use elf::section::SectionHeader;
 use elf::{ElfStream, ParseError, StreamSource, abi};
-use elf_check::hashcheck::HashSection;
+use elf_check::hashcheck::HashKind;
 use std::alloc::Global;
 
 // A copy of the bytes.
@@ -84,7 +84,7 @@ fn read_linked<E: EndianParse, S: StreamSource>(
 fn read_hash_of<E: EndianParse, S: StreamSource>(
     alloc: Global,
     stream: &mut ElfStream<E, S, Global>,
-    kind: HashSection,
+    kind: HashKind,
     section: &SectionHeader,
 ) -> Result<Option<HashBytes>, ParseError>
     ensures { Reads stream.old stream.new result (option_map hash_in)
@@ -105,10 +105,10 @@ fn read_hash<E: EndianParse, S: StreamSource>(
         (λ bytes. hash_section (stream_file E.little stream.old bytes)) }
 {
     if let Some(section) = stream.first_section_of(abi::SHT_GNU_HASH) {
-        return read_hash_of(alloc, stream, HashSection::Gnu, &section);
+        return read_hash_of(alloc, stream, HashKind::Gnu, &section);
     }
     if let Some(section) = stream.first_section_of(abi::SHT_HASH) {
-        return read_hash_of(alloc, stream, HashSection::Sysv, &section);
+        return read_hash_of(alloc, stream, HashKind::Sysv, &section);
     }
     Ok(None)
 }
