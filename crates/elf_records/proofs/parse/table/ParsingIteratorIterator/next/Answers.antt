@@ -1,5 +1,5 @@
 -- A record that is read is the first that was left; after an error nothing is left.
-use Rattle.std.proofs.Common.{ℕ, length, ◌+◌, ◌∙◌, ap, sym, refl, arith}
+use Rattle.std.proofs.Common.{ℕ, length, ◌+◌, ◌∙◌, ap, sym, arith}
 use Rattle.elf_records.specs.Table.{items_left}
 use Rattle.elf_records.proofs.Items.{items_from-refused, none_left, refusal, step_read}
 use Rattle.elf_records.proofs.parse.table.ParsingIteratorIterator.next.Goals as goal
