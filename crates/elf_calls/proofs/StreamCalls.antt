@@ -1,11 +1,13 @@
 -- What a call over a stream leaves, by what the stream answered.
-use Rattle.std.proofs.Common.{◌≡◌, ℕ, ◌+◌, Bool, List, [], ◌∷◌, ◌++◌, Option, Some, None, Result, Ok, Err, refl, sym, ap, ◌∙◌, subst, IfSome}
-use Rattle.std.specs.Prelude.{IsErr, IsOk, OnOk, is_ok, slice_get}
+use Rattle.std.proofs.Common.{◌≡◌, ℕ, ◌+◌, ◌⊎◌, inl, inr, Bool, List, [], ◌∷◌, ◌++◌, Option, Some, None, Result, Ok, Err, refl, sym, ap, ◌∙◌, subst, IfSome}
+use Rattle.std.specs.Prelude.{⊤, IfErr, IsErr, IsOk, OnOk, is_ok, slice_get}
 use Rattle.std.specs.Io.KnownBytes.{Appends}
 use Rattle.elf.specs.Ranges.{headers_alone, if_there}
 use Rattle.elf.specs.StreamFile.{stream_file}
 use Rattle.elf.specs.ObjectFile.{ObjectFile}
-use Rattle.elf.specs.ElfStream.{AreCached, IsAnswer, Keeps, Leaves, Seen}
+use Rattle.elf.specs.ElfStream.{AreCached, IsAnswer, IsFor, IsNeeded, Keeps, Leaves, Seen}
+use Rattle.elf.specs.inner.Loads.{AreThere}
+use Rattle.elf.proofs.stream.Steps.{needed_back, needed_front, only_then, only_wider}
 use Rattle.elf_reading.specs.Refusals.{IsRefused, Kind, kind}
 use Rattle.elf_records.specs.Number.{ok_map}
 use Rattle.elf_records.specs.Record.{◌>>=◌}
@@ -14,12 +16,12 @@ use Rattle.elf_records.specs.declared.section.SectionHeader.{SectionHeader}
 use Rattle.elf_records.specs.declared.segment.ProgramHeader.{ProgramHeader}
 use Rattle.elf_lines.specs.NoAnswer.{refused_line}
 use Rattle.elf_calls.specs.Question.{Question}
-use Rattle.elf_calls.specs.Ranges.{call_ranges, ranges_of}
-use Rattle.elf_calls.specs.Stream.{IsAtHand, IsFaultlessCall, RanCall, RanOne, stream_answer}
+use Rattle.elf_calls.specs.Ranges.{Copies, TakesNoMemory, call_ranges, ranges_of}
+use Rattle.elf_calls.specs.Stream.{IfFault, IsAtHand, IsFaultlessCall, IsUse, MayUse, RanCall, RanOne, stream_answer}
 use Rattle.elf_calls.specs.Text.{call_answer, or_refused, unless_absent}
 use Rattle.elf_calls.specs.declared.stream.Stop.{Stop}
 use Rattle.elf_calls.specs.declared.stream.Stop.TheVariants as stop
-use Rattle.elf_calls.specs.inner.CallSteps.{Gives, IsWritten, LeadsTo, TriedCall, TriedOne}
+use Rattle.elf_calls.specs.inner.CallSteps.{Gives, IsWritten, LeadsTo, TriedCall, TriedOne, Uses}
 
 -- ---- a stream that keeps its file
 
@@ -68,9 +70,6 @@ ran_by Kind.Refusal answer old new before now can_fail (Ok x) h leads = (h.0, su
 ran_by Kind.Refusal answer old new before now can_fail (Err (stop.Fault e)) h leads = absurd leads
 ran_by Kind.Refusal answer old new before now can_fail (Err (stop.Write e)) h leads = h.0
 
-not_refused : (T : Type 0) (e : ParseError) → IsOk {T = T} (Err e) → ⊥
-not_refused T e h = cc
-
 refused_by : (k : Kind) (P Q : Type 0) (before now : ℕ) (can_fail : Bool) → (P → Q) → IsRefused before now can_fail P k → IsRefused before now can_fail Q k
 refused_by Kind.SourceFailure P Q before now can_fail so h = h
 refused_by Kind.AllocationFailure P Q before now can_fail so h = h
@@ -80,49 +79,152 @@ pub ok_or_err : {A : Type 0} (r : Result A ParseError) → IsOk r → IsErr r �
 ok_or_err (Ok x) ok err = cc
 ok_or_err (Err e) ok err = cc
 
--- an answer that another one rests on
-ok_below : {A B : Type 0} (below : Result A ParseError) (above : Result B ParseError) → (IsErr below → IsErr above) → IsOk above → IsOk below
-ok_below (Ok x) above so ok = refl
-ok_below (Err e) above so ok = absurd (ok_or_err above ok (so refl))
-
 known_tried : {T Y : Type 0} (X : Type 0) (known : Option (List ℕ)) (shown : T → Y) (answer : List ℕ → Result Y ParseError) (whole : List ℕ → Result (List ℕ) ParseError) (old : Option (List ℕ)) (before now : ℕ) (can_fail : Bool) (e : ParseError)
     → IfSome known (λ bytes. IsAnswer shown (answer bytes) can_fail before now (Err e)) → ((bytes : List ℕ) → IsErr (answer bytes) → IsErr (whole bytes))
     → IfSome known (λ bytes. TriedOne {X = X} (whole bytes) old old can_fail before now (Err e))
 known_tried X None shown answer whole old before now can_fail e h so = tt
 known_tried X (Some bytes) shown answer whole old before now can_fail e h so = (refl, refused_by (kind e) (IsErr (answer bytes)) (IsErr (whole bytes)) before now can_fail (so bytes) h)
 
-known_accepted : {E Y : Type 0} (T U : Type 0) (known : Option (List ℕ)) (old : Seen E) (ranges : List (ℕ × ℕ)) (hand : List ℕ → Type 0) (answer : List ℕ → Result Y ParseError) (e : ParseError)
-    → IfSome known (λ bytes. IsOk (answer bytes) → AreCached old ranges → IsOk {T = T} (Err e)) → ((bytes : List ℕ) → hand bytes → AreCached old ranges × IsOk (answer bytes)) → IfSome known (λ bytes. hand bytes → IsOk {T = U} (Err e))
-known_accepted T U None old ranges hand answer e h at_hand = tt
-known_accepted T U (Some bytes) old ranges hand answer e h at_hand = λ ready. let p = at_hand bytes ready in h p.1 p.0
+-- ---- what is used
 
--- what a call leaves after another one, whose ranges may have been loaded before
-pub record LeavesBehind {E T Y : Type 0} (requested : List (ℕ × ℕ)) (shown : T → Y) (answer : List ℕ → Result Y ParseError) (old new : Seen E) (r : Result T ParseError) : Type 0 where
-  pub keeps : Keeps old new
-  pub loaded : OnOk r (AreCached new requested)
-  pub answers : IfSome old.content (λ bytes. IsAnswer shown (answer bytes) old.can_fail old.failures new.failures r)
-  pub accepted : IfSome old.content (λ bytes. IsOk (answer bytes) → AreCached old requested → IsOk r)
+everywhere : (known : Option (List ℕ)) (P : List ℕ → Type 0) → ((bytes : List ℕ) → P bytes) → IfSome known P
+everywhere None P h = tt
+everywhere (Some bytes) P h = h bytes
+
+source_is_no_refusal : Kind.SourceFailure ≡ Kind.Refusal → ⊥
+source_is_no_refusal h = cc
+
+memory_is_no_refusal : Kind.AllocationFailure ≡ Kind.Refusal → ⊥
+memory_is_no_refusal h = cc
+
+unused : (k : Kind) (takes : Type 0) → k ≡ Kind.Refusal → IsUse ⊥ takes k
+unused Kind.SourceFailure takes h = source_is_no_refusal h
+unused Kind.AllocationFailure takes h = absurd (memory_is_no_refusal h)
+unused Kind.Refusal takes h = tt
+
+use_for : (k : Kind) (need copies : Type 0) → IsFor need k → IsUse need (need ⊎ copies) k
+use_for Kind.SourceFailure need copies h = h
+use_for Kind.AllocationFailure need copies h = inl h
+use_for Kind.Refusal need copies h = tt
+
+pub use_so : (k : Kind) (a b c d : Type 0) → (a → b) → (c → d) → IsUse a c k → IsUse b d k
+use_so Kind.SourceFailure a b c d f g h = f h
+use_so Kind.AllocationFailure a b c d f g h = g h
+use_so Kind.Refusal a b c d f g h = tt
+
+either_so : {a b c d : Type 0} → (a → b) → (c → d) → a ⊎ c → b ⊎ d
+either_so f g (inl x) = inl (f x)
+either_so f g (inr y) = inr (g y)
+
+none_used : {T : Type 0} (r : Result T ParseError) (takes : Type 0) → IfErr r (λ e. kind e ≡ Kind.Refusal) → IfErr r (λ e. IsUse ⊥ takes (kind e))
+none_used (Ok x) takes h = tt
+none_used (Err e) takes h = unused (kind e) takes h
+
+needed_for : {T : Type 0} (known : Option (List ℕ)) (need copies : List ℕ → Type 0) (r : Result T ParseError)
+    → IfSome known (λ bytes. IfErr r (λ e. IsFor (need bytes) (kind e))) → IfSome known (λ bytes. IfErr r (λ e. IsUse (need bytes) (need bytes ⊎ copies bytes) (kind e)))
+needed_for None need copies r h = tt
+needed_for (Some bytes) need copies (Ok x) h = tt
+needed_for (Some bytes) need copies (Err e) h = use_for (kind e) (need bytes) (copies bytes) h
+
+needed_so : {T : Type 0} (known : Option (List ℕ)) (a b c d : List ℕ → Type 0) (r : Result T ParseError) → IfSome known (λ bytes. a bytes → b bytes) → ((bytes : List ℕ) → c bytes → d bytes)
+    → IfSome known (λ bytes. IfErr r (λ e. IsUse (a bytes) (a bytes ⊎ c bytes) (kind e))) → IfSome known (λ bytes. IfErr r (λ e. IsUse (b bytes) (b bytes ⊎ d bytes) (kind e)))
+needed_so None a b c d r f g h = tt
+needed_so (Some bytes) a b c d (Ok x) f g h = tt
+needed_so (Some bytes) a b c d (Err e) f g h = use_so (kind e) (a bytes) (b bytes) (a bytes ⊎ c bytes) (b bytes ⊎ d bytes) f (either_so f (g bytes)) h
+
+takes_so : {T : Type 0} (r : Result T ParseError) (a b : Type 0) → (a → b) → IfErr r (λ e. IsUse ⊥ a (kind e)) → IfErr r (λ e. IsUse ⊥ b (kind e))
+takes_so (Ok x) a b so h = tt
+takes_so (Err e) a b so h = use_so (kind e) ⊥ ⊥ a b (λ x. x) so h
+
+module _ {E T : Type 0} (old new : Seen E) where
+  pub uses_of : {Y : Type 0} (requested : List (ℕ × ℕ)) (takes : Type 0) (copies : List ℕ → Type 0) (shown : T → Y) (answer : List ℕ → Result Y ParseError) (r : Result T ParseError) → Leaves requested shown answer old new r → Uses requested takes copies old new r
+  uses_of requested takes copies shown answer r h = record {
+    only = h.only;
+    untouched = λ cached. let used = h.untouched cached in (used.0, none_used r takes used.1);
+    needed = needed_for old.content (λ bytes. IsNeeded bytes new requested) copies r h.needed;
+  }
+
+  -- of a call that is not refused, whatever it returns
+  pub uses_ok : {U : Type 0} (requested : List (ℕ × ℕ)) (takes : Type 0) (copies : List ℕ → Type 0) (r : Result T ParseError) (x : U) → Uses requested takes copies old new r → Uses requested takes copies old new (Ok x)
+  uses_ok requested takes copies r x h = record {
+    only = h.only;
+    untouched = λ cached. ((h.untouched cached).0, tt);
+    needed = everywhere old.content (λ _. ⊤) (λ bytes. tt);
+  }
+
+  -- of a call that is refused for the same error
+  pub uses_err : {U : Type 0} (requested : List (ℕ × ℕ)) (takes : Type 0) (copies : List ℕ → Type 0) (r : Result T ParseError) (e : ParseError) → r ≡ Err e → Uses requested takes copies old new r → Uses {T = U} requested takes copies old new (Err e)
+  uses_err requested takes copies r e is h =
+      let here : Uses {T = T} requested takes copies old new (Err e) = subst (λ w. Uses requested takes copies old new w) is h in
+      record { only = here.only; untouched = here.untouched; needed = here.needed }
+
+  -- of more ranges, which are not reached
+  pub uses_front : (rs qs : List (ℕ × ℕ)) (takes : Type 0) (copies : List ℕ → Type 0) (r : Result T ParseError) → Uses rs takes copies old new r → Uses (rs ++ qs) takes copies old new r
+  uses_front rs qs takes copies r h = record {
+    only = only_wider old new rs qs h.only;
+    untouched = λ cached. h.untouched (cached_front old rs qs cached);
+    needed = needed_so old.content (λ bytes. IsNeeded bytes new rs) (λ bytes. IsNeeded bytes new (rs ++ qs)) copies copies r
+        (everywhere old.content (λ bytes. IsNeeded bytes new rs → IsNeeded bytes new (rs ++ qs)) (λ bytes. needed_front bytes new rs qs)) (λ bytes c. c) h.needed;
+  }
+
+  pub uses_more : (requested : List (ℕ × ℕ)) (takes more : Type 0) (copies others : List ℕ → Type 0) (r : Result T ParseError) → (takes → more) → ((bytes : List ℕ) → copies bytes → others bytes) → Uses requested takes copies old new r → Uses requested more others old new r
+  uses_more requested takes more copies others r so there h = record {
+    only = h.only;
+    untouched = λ cached. let used = h.untouched cached in (used.0, takes_so r takes more so used.1);
+    needed = needed_so old.content (λ bytes. IsNeeded bytes new requested) (λ bytes. IsNeeded bytes new requested) copies others r (everywhere old.content (λ bytes. IsNeeded bytes new requested → IsNeeded bytes new requested) (λ bytes n. n)) there h.needed;
+  }
+
+behind_there : {E : Type 0} (known : Option (List ℕ)) (new : Seen E) (rs qs : List (ℕ × ℕ)) → IfSome known (λ bytes. AreThere bytes rs) → IfSome known (λ bytes. IsNeeded bytes new qs → IsNeeded bytes new (rs ++ qs))
+behind_there None new rs qs h = tt
+behind_there (Some bytes) new rs qs h = needed_back bytes new rs qs h
+
+-- of one call after another, whose ranges lie in the content
+pub uses_then : {E T U : Type 0} (old middle new : Seen E) (rs qs : List (ℕ × ℕ)) (takes : Type 0) (copies others : List ℕ → Type 0) (first : Result T ParseError) (r : Result U ParseError) → Keeps old middle → IfSome old.content (λ bytes. AreThere bytes rs)
+    → ((bytes : List ℕ) → others bytes → copies bytes) → Uses rs takes copies old middle first → Uses qs takes others middle new r → Uses (rs ++ qs) takes copies old new r
+uses_then old middle new rs qs takes copies others first r keeps there so a b = record {
+  only = only_then old middle new rs qs a.only b.only;
+  untouched = λ cached.
+      let one = a.untouched (cached_front old rs qs cached) in
+      let two = b.untouched (subst (λ s. AreCached s qs) (sym one.0) (cached_back old rs qs cached)) in
+      (two.0 ∙ one.0, two.1);
+  needed = needed_so old.content (λ bytes. IsNeeded bytes new qs) (λ bytes. IsNeeded bytes new (rs ++ qs)) others copies r (behind_there old.content new rs qs there) so
+      (subst (λ known. IfSome known (λ bytes. IfErr r (λ e. IsUse (IsNeeded bytes new qs) (IsNeeded bytes new qs ⊎ others bytes) (kind e)))) keeps.content b.needed);
+}
 
 -- the call has no answer where a method of the stream that it calls has none
 module _ {E : Type 0} (little : E → Bool) (call : Question) (old new : Seen E) where
-  pub behind_refused : {T Y X : Type 0} (requested : List (ℕ × ℕ)) (shown : T → Y) (answer : List ℕ → Result Y ParseError) (whole : Result T ParseError) (e : ParseError) (before : Option (List ℕ))
-      → ((bytes : List ℕ) → IsErr (answer bytes) → IsErr (stream_answer little old bytes call)) → (AreCached old (call_ranges little old call) → AreCached old requested)
-      → LeavesBehind requested shown answer old new whole → whole ≡ Err e → TriedCall {X = X} little call old new before before (Err e)
-  behind_refused {T} {Y} {X} requested shown answer whole e before so cached leaves is =
-      let refused : LeavesBehind requested shown answer old new (Err e) = subst (λ w. LeavesBehind requested shown answer old new w) is leaves in
+  abbrev takes : Type 0
+  takes = ¬ TakesNoMemory call
+
+  abbrev copies : List ℕ → Type 0
+  copies bytes = Copies (stream_file little old bytes) call
+
+  pub tried_err : {T Y X : Type 0} (shown : T → Y) (answer : List ℕ → Result Y ParseError) (whole : Result T ParseError) (e : ParseError) (before : Option (List ℕ))
+      → ((bytes : List ℕ) → IsErr (answer bytes) → IsErr (stream_answer little old bytes call)) → Keeps old new → IfSome old.content (λ bytes. IsAnswer shown (answer bytes) old.can_fail old.failures new.failures whole)
+      → Uses (call_ranges little old call) takes copies old new whole → whole ≡ Err e → TriedCall {X = X} little call old new before before (Err e)
+  tried_err {T} {Y} {X} shown answer whole e before so keeps answers uses is =
+      let here = subst (λ w. IfSome old.content (λ bytes. IsAnswer shown (answer bytes) old.can_fail old.failures new.failures w)) is answers in
       record {
-        keeps = refused.keeps;
-        tried = known_tried X old.content shown answer (λ bytes. stream_answer little old bytes call) before old.failures new.failures old.can_fail e refused.answers so;
-        accepted = known_accepted T (Result (Unit {0}) X) old.content old requested (λ bytes. IsAtHand little old bytes call) answer e refused.accepted
-            (λ bytes ready. (cached ready.1, ok_below (answer bytes) (stream_answer little old bytes call) (so bytes) ready.2));
+        keeps = keeps;
+        tried = known_tried X old.content shown answer (λ bytes. stream_answer little old bytes call) before old.failures new.failures old.can_fail e here so;
+        uses = uses_err old new (call_ranges little old call) takes copies whole e is uses;
         loaded = tt;
       }
 
   pub call_refused : {T Y X : Type 0} (requested : List (ℕ × ℕ)) (shown : T → Y) (answer : List ℕ → Result Y ParseError) (whole : Result T ParseError) (e : ParseError) (before : Option (List ℕ))
-      → ((bytes : List ℕ) → IsErr (answer bytes) → IsErr (stream_answer little old bytes call)) → (AreCached old (call_ranges little old call) → AreCached old requested)
+      → ((bytes : List ℕ) → IsErr (answer bytes) → IsErr (stream_answer little old bytes call)) → call_ranges little old call ≡ requested
       → Leaves requested shown answer old new whole → whole ≡ Err e → TriedCall {X = X} little call old new before before (Err e)
-  call_refused requested shown answer whole e before so cached leaves is =
-      behind_refused requested shown answer whole e before so cached (record { keeps = leaves.keeps; loaded = leaves.loaded; answers = leaves.answers; accepted = leaves.accepted }) is
+  call_refused requested shown answer whole e before so same leaves is =
+      tried_err shown answer whole e before so leaves.keeps leaves.answers
+      (subst (λ rs. Uses rs takes copies old new whole) (sym same) (uses_of old new requested takes copies shown answer whole leaves)) is
+
+  -- of a call that takes memory for a copy
+  pub given_refused : {T Y X : Type 0} (requested : List (ℕ × ℕ)) (copied : List ℕ → Type 0) (shown : T → Y) (answer : List ℕ → Result Y ParseError) (whole : Result T ParseError) (e : ParseError) (before : Option (List ℕ))
+      → ((bytes : List ℕ) → IsErr (answer bytes) → IsErr (stream_answer little old bytes call)) → call_ranges little old call ≡ requested → takes → ((bytes : List ℕ) → copied bytes → copies bytes)
+      → Gives requested copied shown answer old new whole → whole ≡ Err e → TriedCall {X = X} little call old new before before (Err e)
+  given_refused requested copied shown answer whole e before so same may there gives is =
+      tried_err shown answer whole e before so gives.keeps gives.answers
+      (subst (λ rs. Uses rs takes copies old new whole) (sym same) (uses_more old new requested ⊤ takes copied copies whole (λ _. may) there gives.uses)) is
 
 pub inner_refused : {A B : Type 0} (f : A → B) (r : Result A ParseError) → IsErr (ok_map f r) → IsErr r
 inner_refused f (Ok x) h = cc
@@ -163,48 +265,47 @@ known_answer : {T Y : Type 0} (known : Option (List ℕ)) (shown : T → Y) (ans
 known_answer None shown answer x before now can_fail h = tt
 known_answer (Some bytes) shown answer x before now can_fail h = h.1
 
-pub gives_of : {E T Y : Type 0} (old new : Seen E) (requested : List (ℕ × ℕ)) (shown : T → Y) (answer : List ℕ → Result Y ParseError) (r : Result T ParseError) → Leaves requested shown answer old new r → Gives requested shown answer old new r
-gives_of old new requested shown answer r h = record { keeps = h.keeps; loaded = h.loaded; answers = h.answers }
+pub gives_of : {E T Y : Type 0} (old new : Seen E) (requested : List (ℕ × ℕ)) (copies : List ℕ → Type 0) (shown : T → Y) (answer : List ℕ → Result Y ParseError) (r : Result T ParseError) → Leaves requested shown answer old new r → Gives requested copies shown answer old new r
+gives_of old new requested copies shown answer r h = record { keeps = h.keeps; loaded = h.loaded; answers = h.answers; uses = uses_of old new requested ⊤ copies shown answer r h }
 
-pub gives_same : {E T Y : Type 0} (old new : Seen E) (requested : List (ℕ × ℕ)) (shown : T → Y) (answer : List ℕ → Result Y ParseError) (whole : Result T ParseError) (x : T) → whole ≡ Ok x → Gives requested shown answer old new whole → IfSome old.content (λ _. new.failures ≡ old.failures)
-gives_same old new requested shown answer whole x is h = known_same old.content shown answer x old.failures new.failures old.can_fail (subst (λ w. IfSome old.content (λ bytes. IsAnswer shown (answer bytes) old.can_fail old.failures new.failures w)) is h.answers)
+pub gives_same : {E T Y : Type 0} (old new : Seen E) (shown : T → Y) (answer : List ℕ → Result Y ParseError) (whole : Result T ParseError) (x : T) → whole ≡ Ok x → IfSome old.content (λ bytes. IsAnswer shown (answer bytes) old.can_fail old.failures new.failures whole) → IfSome old.content (λ _. new.failures ≡ old.failures)
+gives_same old new shown answer whole x is h = known_same old.content shown answer x old.failures new.failures old.can_fail (subst (λ w. IfSome old.content (λ bytes. IsAnswer shown (answer bytes) old.can_fail old.failures new.failures w)) is h)
 
-pub gives_answer : {E T Y : Type 0} (old new : Seen E) (requested : List (ℕ × ℕ)) (shown : T → Y) (answer : List ℕ → Result Y ParseError) (whole : Result T ParseError) (x : T) → whole ≡ Ok x → Gives requested shown answer old new whole → IfSome old.content (λ bytes. answer bytes ≡ Ok (shown x))
-gives_answer old new requested shown answer whole x is h = known_answer old.content shown answer x old.failures new.failures old.can_fail (subst (λ w. IfSome old.content (λ bytes. IsAnswer shown (answer bytes) old.can_fail old.failures new.failures w)) is h.answers)
+pub gives_answer : {E T Y : Type 0} (old new : Seen E) (shown : T → Y) (answer : List ℕ → Result Y ParseError) (whole : Result T ParseError) (x : T) → whole ≡ Ok x → IfSome old.content (λ bytes. IsAnswer shown (answer bytes) old.can_fail old.failures new.failures whole) → IfSome old.content (λ bytes. answer bytes ≡ Ok (shown x))
+gives_answer old new shown answer whole x is h = known_answer old.content shown answer x old.failures new.failures old.can_fail (subst (λ w. IfSome old.content (λ bytes. IsAnswer shown (answer bytes) old.can_fail old.failures new.failures w)) is h)
 
-always_ok : {T : Type 0} (known : Option (List ℕ)) (hand : List ℕ → Type 0) (x : T) → IfSome known (λ bytes. hand bytes → IsOk {E = ParseError} (Ok x))
-always_ok None hand x = tt
-always_ok (Some bytes) hand x = λ _. refl
+known_there : {T Y : Type 0} (known : Option (List ℕ)) (shown : T → Y) (answer : List ℕ → Result Y ParseError) (x : T) (rs : List (ℕ × ℕ)) → ((bytes : List ℕ) → IsOk (answer bytes) → AreThere bytes rs) → IfSome known (λ bytes. answer bytes ≡ Ok (shown x)) → IfSome known (λ bytes. AreThere bytes rs)
+known_there None shown answer x rs needs h = tt
+known_there (Some bytes) shown answer x rs needs h = needs bytes (ap is_ok h)
+
+-- the ranges that an answer needs lie in the content
+pub gives_there : {E T Y : Type 0} (old new : Seen E) (rs : List (ℕ × ℕ)) (shown : T → Y) (answer : List ℕ → Result Y ParseError) (whole : Result T ParseError) (x : T) → ((bytes : List ℕ) → IsOk (answer bytes) → AreThere bytes rs)
+    → whole ≡ Ok x → IfSome old.content (λ bytes. IsAnswer shown (answer bytes) old.can_fail old.failures new.failures whole) → IfSome old.content (λ bytes. AreThere bytes rs)
+gives_there old new rs shown answer whole x needs is h = known_there old.content shown answer x rs needs (gives_answer old new shown answer whole x is h)
 
 module _ {E : Type 0} (little : E → Bool) (call : Question) (old new : Seen E) where
   pub call_written : {T Y X : Type 0} (shown : T → Y) (answer : List ℕ → Result Y ParseError) (whole : Result T ParseError) (x : T) (written : List ℕ) (before after : Option (List ℕ)) (w : Result (Unit {0}) X)
       → IfSome old.content (λ bytes. answer bytes ≡ Ok (shown x) → stream_answer little old bytes call ≡ Ok written)
-      → Gives (call_ranges little old call) shown answer old new whole → whole ≡ Ok x → OnOk w (Appends before after written) → TriedCall little call old new before after (Ok w)
-  call_written {T} shown answer whole x written before after w text gives is wrote =
-      let answers = subst (λ w. IfSome old.content (λ bytes. IsAnswer shown (answer bytes) old.can_fail old.failures new.failures w)) is gives.answers in
+      → Keeps old new → IfSome old.content (λ bytes. IsAnswer shown (answer bytes) old.can_fail old.failures new.failures whole)
+      → Uses (call_ranges little old call) (¬ TakesNoMemory call) (λ bytes. Copies (stream_file little old bytes) call) old new whole → AreCached new (call_ranges little old call)
+      → whole ≡ Ok x → OnOk w (Appends before after written) → TriedCall little call old new before after (Ok w)
+  call_written {T} shown answer whole x written before after w text keeps answers uses loaded is wrote =
+      let here = subst (λ w. IfSome old.content (λ bytes. IsAnswer shown (answer bytes) old.can_fail old.failures new.failures w)) is answers in
       record {
-        keeps = gives.keeps;
-        tried = known_written old.content shown answer x (λ bytes. stream_answer little old bytes call) written before after old.failures new.failures old.can_fail w text answers wrote;
-        accepted = always_ok old.content (λ bytes. IsAtHand little old bytes call) w;
-        loaded = subst (λ w. OnOk w (AreCached new (call_ranges little old call))) is gives.loaded;
+        keeps = keeps;
+        tried = known_written old.content shown answer x (λ bytes. stream_answer little old bytes call) written before after old.failures new.failures old.can_fail w text here wrote;
+        uses = uses_ok old new (call_ranges little old call) (¬ TakesNoMemory call) (λ bytes. Copies (stream_file little old bytes) call) whole w uses;
+        loaded = loaded;
       }
 
-  never_at_hand : {T : Type 0} (known : Option (List ℕ)) (hand : List ℕ → Type 0) (r : Result T ParseError) → ((bytes : List ℕ) → hand bytes → ⊥) → IfSome known (λ bytes. hand bytes → IsOk r)
-  never_at_hand None hand r h = tt
-  never_at_hand (Some bytes) hand r h = λ ready. absurd (h bytes ready)
-
-  -- of a call that takes memory
-  pub call_refused_given : {T Y X : Type 0} (requested : List (ℕ × ℕ)) (shown : T → Y) (answer : List ℕ → Result Y ParseError) (whole : Result T ParseError) (e : ParseError) (before : Option (List ℕ))
-      → ((bytes : List ℕ) → IsErr (answer bytes) → IsErr (stream_answer little old bytes call)) → ((bytes : List ℕ) → IsAtHand little old bytes call → ⊥)
-      → Gives requested shown answer old new whole → whole ≡ Err e → TriedCall {X = X} little call old new before before (Err e)
-  call_refused_given {T} {Y} {X} requested shown answer whole e before so hand gives is =
-      let answers = subst (λ w. IfSome old.content (λ bytes. IsAnswer shown (answer bytes) old.can_fail old.failures new.failures w)) is gives.answers in
-      record {
-        keeps = gives.keeps;
-        tried = known_tried X old.content shown answer (λ bytes. stream_answer little old bytes call) before old.failures new.failures old.can_fail e answers so;
-        accepted = never_at_hand {T = Result (Unit {0}) X} old.content (λ bytes. IsAtHand little old bytes call) (Err e) hand;
-        loaded = tt;
-      }
+  pub call_leaves_written : {T Y X : Type 0} (requested : List (ℕ × ℕ)) (shown : T → Y) (answer : List ℕ → Result Y ParseError) (whole : Result T ParseError) (x : T) (written : List ℕ) (before after : Option (List ℕ)) (w : Result (Unit {0}) X)
+      → IfSome old.content (λ bytes. answer bytes ≡ Ok (shown x) → stream_answer little old bytes call ≡ Ok written)
+      → call_ranges little old call ≡ requested → Leaves requested shown answer old new whole → whole ≡ Ok x → OnOk w (Appends before after written) → TriedCall little call old new before after (Ok w)
+  call_leaves_written requested shown answer whole x written before after w text same leaves is wrote =
+      call_written shown answer whole x written before after w text leaves.keeps leaves.answers
+      (subst (λ rs. Uses rs (¬ TakesNoMemory call) (λ bytes. Copies (stream_file little old bytes) call) old new whole) (sym same)
+      (uses_of old new requested (¬ TakesNoMemory call) (λ bytes. Copies (stream_file little old bytes) call) shown answer whole leaves))
+      (subst (λ rs. AreCached new rs) (sym same) (subst (λ w. OnOk w (AreCached new requested)) is leaves.loaded)) is wrote
 
 -- ---- a call that was tried, and what it returns
 
@@ -213,20 +314,36 @@ ran_tried : {X : Type 0} (known : Option (List ℕ)) (answer : List ℕ → Resu
 ran_tried None answer old new before now can_fail w r h is = tt
 ran_tried (Some bytes) answer old new before now can_fail w r h is = ran_written (answer bytes) old new before now can_fail w r h.0 h.1 is
 
-known_faultless : (known : Option (List ℕ)) (hand : List ℕ → Type 0) (r : Result (Unit {0}) Stop) → IsFaultlessCall r → IfSome known (λ bytes. hand bytes → IsFaultlessCall r)
-known_faultless None hand r h = tt
-known_faultless (Some bytes) hand r h = λ _. h
+no_fault_so : (r : Result (Unit {0}) Stop) (P : ParseError → Type 0) → IsFaultlessCall r → IfFault r P
+no_fault_so (Ok x) P h = tt
+no_fault_so (Err (stop.Fault e)) P h = absurd h
+no_fault_so (Err (stop.Write e)) P h = tt
+
+-- a fault is of the kind of the error that led to it
+fault_use : (k : Kind) (source memory : Type 0) (old new : Option (List ℕ)) (r : Result (Unit {0}) Stop) → LeadsTo k old new r → IsUse source memory k → IfFault r (λ e. IsUse source memory (kind e))
+fault_use k source memory old new (Ok x) leads used = tt
+fault_use k source memory old new (Err (stop.Write e)) leads used = tt
+fault_use Kind.SourceFailure source memory old new (Err (stop.Fault e)) leads used = subst (λ k. IsUse source memory k) (sym leads.1) used
+fault_use Kind.AllocationFailure source memory old new (Err (stop.Fault e)) leads used = subst (λ k. IsUse source memory k) (sym leads.1) used
+fault_use Kind.Refusal source memory old new (Err (stop.Fault e)) leads used = absurd leads
+
+fault_needed : (known : Option (List ℕ)) (k : Kind) (source memory : List ℕ → Type 0) (old new : Option (List ℕ)) (r : Result (Unit {0}) Stop) → LeadsTo k old new r → IfSome known (λ bytes. IsUse (source bytes) (memory bytes) k)
+    → IfSome known (λ bytes. IfFault r (λ e. IsUse (source bytes) (memory bytes) (kind e)))
+fault_needed None k source memory old new r leads used = tt
+fault_needed (Some bytes) k source memory old new r leads used = fault_use k (source bytes) (memory bytes) old new r leads used
+
+hand_faultless : (k : Kind) (none : Type 0) (old new : Option (List ℕ)) (r : Result (Unit {0}) Stop) → LeadsTo k old new r → none → IsUse ⊥ (¬ none) k → IsFaultlessCall r
+hand_faultless k none old new (Ok x) leads free used = tt
+hand_faultless k none old new (Err (stop.Write e)) leads free used = tt
+hand_faultless Kind.SourceFailure none old new (Err (stop.Fault e)) leads free used = used
+hand_faultless Kind.AllocationFailure none old new (Err (stop.Fault e)) leads free used = used free
+hand_faultless Kind.Refusal none old new (Err (stop.Fault e)) leads free used = leads
 
 refused_ran : (X : Type 0) (known : Option (List ℕ)) (answer : List ℕ → Result (List ℕ) ParseError) (old middle new : Option (List ℕ)) (before now : ℕ) (can_fail : Bool) (e : ParseError) (r : Result (Unit {0}) Stop)
     → IfSome known (λ bytes. TriedOne {X = X} (answer bytes) old middle can_fail before now (Err e)) → LeadsTo (kind e) middle new r → IfSome known (λ bytes. RanOne (answer bytes) old new can_fail before now r)
 refused_ran X None answer old middle new before now can_fail e r h leads = tt
 refused_ran X (Some bytes) answer old middle new before now can_fail e r h leads =
     ran_by (kind e) (answer bytes) old new before now can_fail r h.1 (subst (λ o. LeadsTo (kind e) o new r) h.0 leads)
-
-refused_faultless : (T : Type 0) (known : Option (List ℕ)) (hand : List ℕ → Type 0) (e : ParseError) (r : Result (Unit {0}) Stop)
-    → IfSome known (λ bytes. hand bytes → IsOk {T = T} (Err e)) → IfSome known (λ bytes. hand bytes → IsFaultlessCall r)
-refused_faultless T None hand e r h = tt
-refused_faultless T (Some bytes) hand e r h = λ ready. absurd (not_refused T e (h ready))
 
 -- its ranges are cached, in words of the stream that it leaves
 pub loaded_there : {E : Type 0} (little : E → Bool) (call : Question) (old new : Seen E) → Keeps old new → AreCached new (call_ranges little old call) → AreCached new (call_ranges little new call)
@@ -273,7 +390,10 @@ module _ {E : Type 0} (little : E → Bool) (call : Question) (old new : Seen E)
       record {
         keeps = here.keeps;
         ran = ran_tried old.content answer before after old.failures new.failures old.can_fail w r here.tried known_so;
-        no_fault = known_faultless old.content (λ bytes. IsAtHand little old bytes call) r (faultless w r known_so);
+        only = here.uses.only;
+        untouched = λ cached. ((here.uses.untouched cached).0, no_fault_so r (λ e. IsUse ⊥ (¬ TakesNoMemory call) (kind e)) (faultless w r known_so));
+        needed = everywhere old.content (λ bytes. IfFault r (λ e. MayUse little old new bytes call (kind e))) (λ bytes. no_fault_so r (λ e. MayUse little old new bytes call (kind e)) (faultless w r known_so));
+        no_fault = λ _. faultless w r known_so;
         loaded = loaded_known old.content later (AreCached new (call_ranges little new call)) r (loaded_there little call old new here.keeps here.loaded);
       }
 
@@ -284,7 +404,10 @@ module _ {E : Type 0} (little : E → Bool) (call : Question) (old new : Seen E)
       record {
         keeps = here.keeps;
         ran = refused_ran X old.content answer before middle after old.failures new.failures old.can_fail e r here.tried leads;
-        no_fault = refused_faultless (Result (Unit {0}) X) old.content (λ bytes. IsAtHand little old bytes call) e r here.accepted;
+        only = here.uses.only;
+        untouched = λ cached. let used = here.uses.untouched cached in (used.0, fault_use (kind e) ⊥ (¬ TakesNoMemory call) middle after r leads used.1);
+        needed = fault_needed old.content (kind e) (λ bytes. IsNeeded bytes new (call_ranges little old call)) (λ bytes. IsNeeded bytes new (call_ranges little old call) ⊎ Copies (stream_file little old bytes) call) middle after r leads here.uses.needed;
+        no_fault = λ hand. hand_faultless (kind e) (TakesNoMemory call) middle after r leads hand.0 (here.uses.untouched hand.1).1;
         loaded = loaded_by old.content (kind e) answer later (AreCached new (call_ranges little new call)) middle after old.failures new.failures old.can_fail r leads
             (tried_refusal X old.content answer before middle old.failures new.failures old.can_fail e here.tried) (λ bytes ready. subst IsOk (same_answer little call old new bytes here.keeps) ready);
       }
@@ -299,33 +422,24 @@ later_answers little old middle new shown answer r (Some bytes) keeps same h =
     (subst (λ count. IsAnswer shown (answer (stream_file little middle bytes)) old.can_fail count new.failures r) same
     (subst (λ can_fail. IsAnswer shown (answer (stream_file little middle bytes)) can_fail middle.failures new.failures r) keeps.can_fail h))
 
-pub gives_later : {E T Y : Type 0} (little : E → Bool) (old middle new : Seen E) (requested : ObjectFile → List (ℕ × ℕ)) (shown : T → Y) (answer : ObjectFile → Result Y ParseError) (r : Result T ParseError) → Keeps old middle → IfSome old.content (λ _. middle.failures ≡ old.failures)
-    → Gives (requested (headers_alone little middle)) shown (λ bytes. answer (stream_file little middle bytes)) middle new r → Gives (requested (headers_alone little old)) shown (λ bytes. answer (stream_file little old bytes)) old new r
-gives_later little old middle new requested shown answer r keeps same h = record {
-  keeps = keeps_then old middle new keeps h.keeps;
-  loaded = subst (λ file. OnOk r (AreCached new (requested file))) (same_file little old middle [] keeps) h.loaded;
-  answers = later_answers little old middle new shown answer r old.content keeps same
-      (subst (λ known. IfSome known (λ bytes. IsAnswer shown (answer (stream_file little middle bytes)) middle.can_fail middle.failures new.failures r)) keeps.content h.answers);
-}
+-- what a call leaves after another one, whose ranges may have been loaded before
+pub record LeavesBehind {E T Y : Type 0} (requested : List (ℕ × ℕ)) (shown : T → Y) (answer : List ℕ → Result Y ParseError) (old new : Seen E) (r : Result T ParseError) : Type 0 where
+  pub keeps : Keeps old new
+  pub loaded : OnOk r (AreCached new requested)
+  pub answers : IfSome old.content (λ bytes. IsAnswer shown (answer bytes) old.can_fail old.failures new.failures r)
 
-later_accepted : {E T Y : Type 0} (little : E → Bool) (old middle : Seen E) (requested : ObjectFile → List (ℕ × ℕ)) (answer : ObjectFile → Result Y ParseError) (r : Result T ParseError) (known : Option (List ℕ)) → Keeps old middle
-    → IfSome known (λ bytes. IsOk (answer (stream_file little middle bytes)) → AreCached middle (requested (headers_alone little middle)) → IsOk r) → IfSome known (λ bytes. IsOk (answer (stream_file little old bytes)) → AreCached old (requested (headers_alone little old)) → IsOk r)
-later_accepted little old middle requested answer r None keeps h = tt
-later_accepted little old middle requested answer r (Some bytes) keeps h = λ ok cached.
-    h (subst (λ file. IsOk (answer file)) (sym (same_file little old middle bytes keeps)) ok)
-    (subst (λ file. AreCached middle (requested file)) (sym (same_file little old middle [] keeps)) (still_cached old middle (requested (headers_alone little old)) keeps cached))
+module _ {E T Y : Type 0} (little : E → Bool) (old middle new : Seen E) (requested : ObjectFile → List (ℕ × ℕ)) (shown : T → Y) (answer : ObjectFile → Result Y ParseError) (r : Result T ParseError) (keeps : Keeps old middle) (h : Leaves (requested (headers_alone little middle)) shown (λ bytes. answer (stream_file little middle bytes)) middle new r) where
+  pub leaves_later : IfSome old.content (λ _. middle.failures ≡ old.failures) → LeavesBehind (requested (headers_alone little old)) shown (λ bytes. answer (stream_file little old bytes)) old new r
+  leaves_later same = record {
+    keeps = keeps_then old middle new keeps h.keeps;
+    loaded = subst (λ file. OnOk r (AreCached new (requested file))) (same_file little old middle [] keeps) h.loaded;
+    answers = later_answers little old middle new shown answer r old.content keeps same
+        (subst (λ known. IfSome known (λ bytes. IsAnswer shown (answer (stream_file little middle bytes)) middle.can_fail middle.failures new.failures r)) keeps.content h.answers);
+  }
 
-pub leaves_later : {E T Y : Type 0} (little : E → Bool) (old middle new : Seen E) (requested : ObjectFile → List (ℕ × ℕ)) (shown : T → Y) (answer : ObjectFile → Result Y ParseError) (r : Result T ParseError) → Keeps old middle → IfSome old.content (λ _. middle.failures ≡ old.failures)
-    → Leaves (requested (headers_alone little middle)) shown (λ bytes. answer (stream_file little middle bytes)) middle new r → LeavesBehind (requested (headers_alone little old)) shown (λ bytes. answer (stream_file little old bytes)) old new r
-leaves_later {E} {T} {Y} little old middle new requested shown answer r keeps same h =
-    let given = gives_later little old middle new requested shown answer r keeps same (gives_of middle new (requested (headers_alone little middle)) shown (λ bytes. answer (stream_file little middle bytes)) r h) in
-    record {
-      keeps = given.keeps;
-      loaded = given.loaded;
-      answers = given.answers;
-      accepted = later_accepted little old middle requested answer r old.content keeps
-          (subst (λ known. IfSome known (λ bytes. IsOk (answer (stream_file little middle bytes)) → AreCached middle (requested (headers_alone little middle)) → IsOk r)) keeps.content h.accepted);
-    }
+  -- what it uses, of the ranges that the stream before named
+  pub uses_later : (takes : Type 0) (copies : List ℕ → Type 0) → Uses (requested (headers_alone little old)) takes copies middle new r
+  uses_later takes copies = subst (λ file. Uses (requested file) takes copies middle new r) (same_file little old middle [] keeps) (uses_of middle new (requested (headers_alone little middle)) takes copies shown (λ bytes. answer (stream_file little middle bytes)) r h)
 
 -- an error is one of what is made of the answer, too
 err_same : {A B : Type 0} (a : Result A ParseError) (b : Result B ParseError) → is_ok a ≡ is_ok b → IsErr b → IsErr a
@@ -358,23 +472,17 @@ leaves_made {E} {T} {Y} {U} {Z} old new requested shown answer shows made whole 
       needed = refused.needed;
     }
 
-pub gives_made : {E T Y U Z : Type 0} (old new : Seen E) (requested : List (ℕ × ℕ)) (shown : T → Y) (answer : List ℕ → Result Y ParseError) (shows : U → Z) (made : List ℕ → Result Z ParseError) (whole : Result T ParseError) (e : ParseError) → ((bytes : List ℕ) → is_ok (made bytes) ≡ is_ok (answer bytes))
-    → whole ≡ Err e → Gives requested shown answer old new whole → Gives requested shows made old new (Err e)
-gives_made old new requested shown answer shows made whole e same is gives =
-    let answers = subst (λ w. IfSome old.content (λ bytes. IsAnswer shown (answer bytes) old.can_fail old.failures new.failures w)) is gives.answers in
-    record { keeps = gives.keeps; loaded = tt; answers = made_answers old.content shown answer shows made old.failures new.failures old.can_fail e same answers }
-
 answers_refused : {T Y U Z : Type 0} (known : Option (List ℕ)) (shown : T → Y) (answer : List ℕ → Result Y ParseError) (shows : U → Z) (made : List ℕ → Result Z ParseError) (before now : ℕ) (can_fail : Bool) (e : ParseError) → ((bytes : List ℕ) → IsErr (answer bytes) → IsErr (made bytes))
     → IfSome known (λ bytes. IsAnswer shown (answer bytes) can_fail before now (Err e)) → IfSome known (λ bytes. IsAnswer shows (made bytes) can_fail before now (Err e))
 answers_refused None shown answer shows made before now can_fail e so h = tt
 answers_refused (Some bytes) shown answer shows made before now can_fail e so h = refused_by (kind e) (IsErr (answer bytes)) (IsErr (made bytes)) before now can_fail (so bytes) h
 
 -- what is made of an answer is refused where the answer is
-pub gives_refused : {E T Y U Z : Type 0} (old new : Seen E) (requested asked : List (ℕ × ℕ)) (shown : T → Y) (answer : List ℕ → Result Y ParseError) (shows : U → Z) (made : List ℕ → Result Z ParseError) (whole : Result T ParseError) (e : ParseError) → ((bytes : List ℕ) → IsErr (answer bytes) → IsErr (made bytes))
-    → whole ≡ Err e → Gives requested shown answer old new whole → Gives asked shows made old new (Err e)
-gives_refused old new requested asked shown answer shows made whole e so is gives =
-    let answers = subst (λ w. IfSome old.content (λ bytes. IsAnswer shown (answer bytes) old.can_fail old.failures new.failures w)) is gives.answers in
-    record { keeps = gives.keeps; loaded = tt; answers = answers_refused old.content shown answer shows made old.failures new.failures old.can_fail e so answers }
+pub answer_refused : {E T Y U Z : Type 0} (old new : Seen E) (requested : List (ℕ × ℕ)) (copies : List ℕ → Type 0) (shown : T → Y) (answer : List ℕ → Result Y ParseError) (shows : U → Z) (made : List ℕ → Result Z ParseError) (whole : Result T ParseError) (e : ParseError) → ((bytes : List ℕ) → IsErr (answer bytes) → IsErr (made bytes))
+    → whole ≡ Err e → Keeps old new → IfSome old.content (λ bytes. IsAnswer shown (answer bytes) old.can_fail old.failures new.failures whole) → Uses requested ⊤ copies old new whole → Gives requested copies shows made old new (Err e)
+answer_refused old new requested copies shown answer shows made whole e so is keeps answers uses =
+    let here = subst (λ w. IfSome old.content (λ bytes. IsAnswer shown (answer bytes) old.can_fail old.failures new.failures w)) is answers in
+    record { keeps = keeps; loaded = tt; answers = answers_refused old.content shown answer shows made old.failures new.failures old.can_fail e so here; uses = uses_err old new requested ⊤ copies whole e is uses }
 
 pub second_refused : {A B C : Type 0} (a : Result A ParseError) (b : Result B ParseError) (f : A → B → Result C ParseError) → IsErr b → IsErr (a >>= λ x. b >>= f x)
 second_refused (Ok x) (Ok y) f h = cc
@@ -401,19 +509,15 @@ both_known count line (Err e) b n y counted is = cc counted
 
 -- ---- of a section, and of a segment, that is there
 
-everywhere : (known : Option (List ℕ)) (P : List ℕ → Type 0) → ((bytes : List ℕ) → P bytes) → IfSome known P
-everywhere None P h = tt
-everywhere (Some bytes) P h = h bytes
-
 module _ {E T Y X : Type 0} (little : E → Bool) (call : Question) (old new : Seen E) (shown : T → Y) (line : Y → List ℕ) where
   pub section_refused : (ranges : SectionHeader → List (ℕ × ℕ)) (i : ℕ) (s : SectionHeader) (answer : ObjectFile → SectionHeader → Result Y ParseError) (whole : Result T ParseError) (e : ParseError) (before : Option (List ℕ))
       → ((bytes : List ℕ) → stream_answer little old bytes call ≡ unless_absent (λ s. ok_map line (answer (stream_file little old bytes) s)) (slice_get old.headers.sections i))
-      → (AreCached old (call_ranges little old call) → AreCached old (if_there ranges (slice_get old.headers.sections i)))
+      → call_ranges little old call ≡ if_there ranges (slice_get old.headers.sections i)
       → slice_get old.headers.sections i ≡ Some s → Leaves (ranges s) shown (λ bytes. answer (stream_file little old bytes) s) old new whole → whole ≡ Err e → TriedCall {X = X} little call old new before before (Err e)
-  section_refused ranges i s answer whole e before texts cached there leaves is =
+  section_refused ranges i s answer whole e before texts requested there leaves is =
       call_refused little call old new (ranges s) shown (λ bytes. answer (stream_file little old bytes) s) whole e before
       (λ bytes refused. subst IsErr (sym (texts bytes ∙ ap (unless_absent (λ s. ok_map line (answer (stream_file little old bytes) s))) there)) (outer_refused line (answer (stream_file little old bytes) s) refused))
-      (λ ready. subst (λ o. AreCached old (if_there ranges o)) there (cached ready))
+      (requested ∙ ap (if_there ranges) there)
       leaves is
 
   pub section_written : (ranges : SectionHeader → List (ℕ × ℕ)) (i : ℕ) (s : SectionHeader) (answer : ObjectFile → SectionHeader → Result Y ParseError) (whole : Result T ParseError) (x : T) (written : List ℕ) (before after : Option (List ℕ)) (w : Result (Unit {0}) X)
@@ -423,19 +527,18 @@ module _ {E T Y X : Type 0} (little : E → Bool) (call : Question) (old new : S
   section_written ranges i s answer whole x written before after w texts requested there leaves is text wrote =
       let found = λ (bytes : List ℕ) (e : answer (stream_file little old bytes) s ≡ Ok (shown x)).
       texts bytes ∙ ap (unless_absent (λ s. ok_map line (answer (stream_file little old bytes) s))) there ∙ ap (ok_map line) e ∙ ap Ok text in
-      let cached = subst (λ rs. OnOk whole (AreCached new rs)) (sym (requested ∙ ap (if_there ranges) there)) leaves.loaded in
-      call_written little call old new shown (λ bytes. answer (stream_file little old bytes) s) whole x written before after w
+      call_leaves_written little call old new (ranges s) shown (λ bytes. answer (stream_file little old bytes) s) whole x written before after w
       (everywhere old.content (λ bytes. answer (stream_file little old bytes) s ≡ Ok (shown x) → stream_answer little old bytes call ≡ Ok written) found)
-      (record { keeps = leaves.keeps; loaded = cached; answers = leaves.answers }) is wrote
+      (requested ∙ ap (if_there ranges) there) leaves is wrote
 
   pub segment_refused : (ranges : ProgramHeader → List (ℕ × ℕ)) (i : ℕ) (p : ProgramHeader) (answer : ObjectFile → ProgramHeader → Result Y ParseError) (whole : Result T ParseError) (e : ParseError) (before : Option (List ℕ))
       → ((bytes : List ℕ) → stream_answer little old bytes call ≡ unless_absent (λ p. ok_map line (answer (stream_file little old bytes) p)) (slice_get old.headers.segments i))
-      → (AreCached old (call_ranges little old call) → AreCached old (if_there ranges (slice_get old.headers.segments i)))
+      → call_ranges little old call ≡ if_there ranges (slice_get old.headers.segments i)
       → slice_get old.headers.segments i ≡ Some p → Leaves (ranges p) shown (λ bytes. answer (stream_file little old bytes) p) old new whole → whole ≡ Err e → TriedCall {X = X} little call old new before before (Err e)
-  segment_refused ranges i p answer whole e before texts cached there leaves is =
+  segment_refused ranges i p answer whole e before texts requested there leaves is =
       call_refused little call old new (ranges p) shown (λ bytes. answer (stream_file little old bytes) p) whole e before
       (λ bytes refused. subst IsErr (sym (texts bytes ∙ ap (unless_absent (λ p. ok_map line (answer (stream_file little old bytes) p))) there)) (outer_refused line (answer (stream_file little old bytes) p) refused))
-      (λ ready. subst (λ o. AreCached old (if_there ranges o)) there (cached ready))
+      (requested ∙ ap (if_there ranges) there)
       leaves is
 
   pub segment_written : (ranges : ProgramHeader → List (ℕ × ℕ)) (i : ℕ) (p : ProgramHeader) (answer : ObjectFile → ProgramHeader → Result Y ParseError) (whole : Result T ParseError) (x : T) (written : List ℕ) (before after : Option (List ℕ)) (w : Result (Unit {0}) X)
@@ -445,10 +548,9 @@ module _ {E T Y X : Type 0} (little : E → Bool) (call : Question) (old new : S
   segment_written ranges i p answer whole x written before after w texts requested there leaves is text wrote =
       let found = λ (bytes : List ℕ) (e : answer (stream_file little old bytes) p ≡ Ok (shown x)).
       texts bytes ∙ ap (unless_absent (λ p. ok_map line (answer (stream_file little old bytes) p))) there ∙ ap (ok_map line) e ∙ ap Ok text in
-      let cached = subst (λ rs. OnOk whole (AreCached new rs)) (sym (requested ∙ ap (if_there ranges) there)) leaves.loaded in
-      call_written little call old new shown (λ bytes. answer (stream_file little old bytes) p) whole x written before after w
+      call_leaves_written little call old new (ranges p) shown (λ bytes. answer (stream_file little old bytes) p) whole x written before after w
       (everywhere old.content (λ bytes. answer (stream_file little old bytes) p ≡ Ok (shown x) → stream_answer little old bytes call ≡ Ok written) found)
-      (record { keeps = leaves.keeps; loaded = cached; answers = leaves.answers }) is wrote
+      (requested ∙ ap (if_there ranges) there) leaves is wrote
 
 -- ---- a section that is checked
 

@@ -1,6 +1,7 @@
 -- Which ranges of a source a call requests of a stream, and which calls allocate.
-use Rattle.std.specs.Prelude.{ℕ, Bool, List, [], ◌++◌, slice_get}
+use Rattle.std.specs.Prelude.{ℕ, Bool, IsOk, List, [], ◌++◌, MatchOption, slice_get}
 use Rattle.elf_abi.specs.Values.{sht_dynsym, sht_note, sht_rel, sht_rela, sht_strtab, sht_symtab}
+use Rattle.elf.specs.Data.{section_data}
 use Rattle.elf.specs.Ranges.{dynamic_ranges, headers_alone, if_there, names_ranges, section_ranges, segment_ranges}
 use Rattle.elf.specs.Ranges.{segment_notes_ranges, symbols_ranges, typed_section_ranges, versions_ranges}
 use Rattle.elf.specs.ObjectFile.{ObjectFile}
@@ -40,3 +41,8 @@ call_ranges little s call = ranges_of (headers_alone little s) call
 abbrev pub TakesNoMemory : Question → Type 0
 TakesNoMemory (Hash kind i) = ⊥
 TakesNoMemory _ = Unit {0}
+
+-- the call copies a section, whose bytes were found
+abbrev pub Copies : ObjectFile → Question → Type 0
+Copies file (Hash kind i) = MatchOption (slice_get file.sections i) ⊥ (λ s. IsOk (section_data file s))
+Copies file _ = ⊥

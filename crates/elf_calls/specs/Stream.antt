@@ -1,12 +1,12 @@
 -- What a call over a stream writes, and why it stops.
-use Rattle.std.specs.Prelude.{◌≡◌, ℕ, Bool, List, Option, Result, Ok, Err, IfSome, IsOk, OnOk}
+use Rattle.std.specs.Prelude.{◌≡◌, ◌⊎◌, ℕ, Bool, List, Option, Result, Ok, Err, IfSome, IsOk, OnOk}
 use Rattle.std.specs.Io.KnownBytes.{Appends, Keeps as KeepsBytes}
 use Rattle.elf.specs.StreamFile.{stream_file}
-use Rattle.elf.specs.ElfStream.{AreCached, Keeps, Seen}
-use Rattle.elf_reading.specs.Refusals.{IsRefused, kind}
+use Rattle.elf.specs.ElfStream.{AreCached, IsCached, IsNeeded, IsRequested, Keeps, Seen}
+use Rattle.elf_reading.specs.Refusals.{IsRefused, Kind, SourceFailure, AllocationFailure, Refusal, kind}
 use Rattle.elf_records.specs.declared.parse.ParseError.{ParseError}
 use Rattle.elf_calls.specs.Question.{Question}
-use Rattle.elf_calls.specs.Ranges.{TakesNoMemory, call_ranges}
+use Rattle.elf_calls.specs.Ranges.{Copies, TakesNoMemory, call_ranges}
 use Rattle.elf_calls.specs.Text.{call_answer, or_refused}
 use Rattle.elf_calls.specs.declared.stream.Stop.{Stop}
 use Rattle.elf_calls.specs.declared.stream.Stop.TheVariants as stop
@@ -19,10 +19,9 @@ stream_answer little s bytes call = call_answer s.headers.ehdr (stream_file litt
 abbrev pub IsLoaded : {E : Type 0} → (E → Bool) → Seen E → List ℕ → Question → Type 0
 IsLoaded little s bytes call = IsOk (stream_answer little s bytes call) → AreCached s (call_ranges little s call)
 
--- the call is answered, by what is cached and without memory
-abbrev pub IsAtHand : {E : Type 0} → (E → Bool) → Seen E → List ℕ → Question → Type 0
-IsAtHand little s bytes call =
-    TakesNoMemory call × AreCached s (call_ranges little s call) × IsOk (stream_answer little s bytes call)
+-- what the call requests is cached, and it takes no memory
+abbrev pub IsAtHand : {E : Type 0} → (E → Bool) → Seen E → Question → Type 0
+IsAtHand little s call = TakesNoMemory call × AreCached s (call_ranges little s call)
 
 -- there was no fault
 abbrev pub IsFaultlessCall : Result (Unit {0}) Stop → Type 0
@@ -38,11 +37,38 @@ RanOne answer old new can_fail before now (Err (stop.Fault e)) =
     KeepsBytes old new × IsRefused before now can_fail ⊥ (kind e)
 RanOne answer old new can_fail before now (Err (stop.Write e)) = now ≡ before
 
--- the same file, the text of the call, no fault if the cache answers it, and at Ok its ranges if it is answered
+-- ---- what a call uses
+
+-- the source fails, and memory is refused, only if they are needed
+abbrev pub IsUse : Type 0 → Type 0 → Kind → Type 0
+IsUse source memory SourceFailure = source
+IsUse source memory AllocationFailure = memory
+IsUse source memory Refusal = Unit {0}
+
+-- both are needed for a requested range that lies in the content and was not cached, and memory for a copy too
+abbrev pub MayUse : {E : Type 0} → (E → Bool) → Seen E → Seen E → List ℕ → Question → Kind → Type 0
+MayUse little old new bytes call =
+    let range = IsNeeded bytes new (call_ranges little old call) in
+    IsUse range (range ⊎ Copies (stream_file little old bytes) call)
+
+-- of a fault
+abbrev pub IfFault : Result (Unit {0}) Stop → (ParseError → Type 0) → Type 0
+IfFault (Ok _) P = Unit {0}
+IfFault (Err (stop.Fault e)) P = P e
+IfFault (Err (stop.Write e)) P = Unit {0}
+
+-- The same file, and the text of the call. No range is cached that was not cached before and does not lie within a
+-- requested one. If the requested ranges were cached before, the stream is as it was, and a fault is that of a copy;
+-- there is none if the call takes no memory. After an Ok the ranges of a call that is answered are cached.
 pub record RanCall {E : Type 0} (little : E → Bool) (call : Question) (old new : Seen E)
     (before after : Option (List ℕ)) (r : Result (Unit {0}) Stop) : Type 0 where
   pub keeps : Keeps old new
   pub ran : IfSome old.content (λ bytes.
       RanOne (stream_answer little old bytes call) before after old.can_fail old.failures new.failures r)
-  pub no_fault : IfSome old.content (λ bytes. IsAtHand little old bytes call → IsFaultlessCall r)
+  pub only : (start end : ℕ) → IsCached new start end
+      → IsCached old start end ⊎ IsRequested (call_ranges little old call) start end
+  pub untouched : AreCached old (call_ranges little old call)
+      → (new ≡ old) × IfFault r (λ e. IsUse ⊥ (¬ TakesNoMemory call) (kind e))
+  pub needed : IfSome old.content (λ bytes. IfFault r (λ e. MayUse little old new bytes call (kind e)))
+  pub no_fault : IsAtHand little old call → IsFaultlessCall r
   pub loaded : OnOk r (IfSome old.content (λ bytes. IsLoaded little new bytes call))

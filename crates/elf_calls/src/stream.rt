@@ -1,8 +1,9 @@
 //! The text of a call, from the results of an `ElfStream`.
-ghost use Rattle.std.specs.Prelude.{◌≡◌, ℕ, OnOk, IfSome, slice_get};
+ghost use Rattle.std.specs.Prelude.{◌≡◌, ℕ, IsOk, OnOk, IfSome, slice_get};
 ghost use Rattle.std.specs.Io.KnownBytes.{Appends};
 ghost use Rattle.elf_abi.specs.Values.{sht_dynsym};
 ghost use Rattle.elf.specs.Answers.{dynamic_symbol_table};
+ghost use Rattle.elf.specs.Data.{section_data};
 ghost use Rattle.elf.specs.Ranges.{headers_alone, section_ranges, symbols_ranges};
 ghost use Rattle.elf.specs.StreamFile.{stream_file};
 ghost use Rattle.elf.specs.ElfStream.{Leaves};
@@ -52,8 +53,10 @@ pub enum Stop {
 /// Writes the text of a call over a stream. A call for which the stream returns an error other than `IOError` and
 /// `OutOfMemory` writes the line `refused`.
 ///
-/// The calls `sysv` and `gnu` copy a section's bytes with the stream's allocator. After `Ok` the ranges of a call that
-/// has a result are cached: if the call is run again, it does not need the source.
+/// No range is cached that was not cached before and does not lie within a range that the call requests. If the
+/// requested ranges are cached, the stream is unchanged, and `Fault` has no `IOError`. It has an `OutOfMemory` only for
+/// the calls `sysv` and `gnu`, which copy a section's bytes with the stream's allocator. After `Ok` the ranges of a
+/// call that has a result are cached.
 ///
 /// Errors over known content, in order: `Fault` if the source or an allocation failed, with nothing written; `Write` if
 /// the writer fails.
@@ -394,7 +397,8 @@ fn section_copy<E: EndianParse, S: StreamSource, A: Allocator + Copy>(
     stream: &mut ElfStream<E, S, A>,
     section: &SectionHeader,
 ) -> Result<Vec<u8, A>, ParseError>
-    ensures { Gives (section_ranges section.now) (λ copy. copy.items)
+    ensures { Gives (section_ranges section.now)
+        (λ bytes. IsOk (section_data (stream_file E.little stream.old bytes) section.now)) (λ copy. copy.items)
         (λ bytes. section_bytes (stream_file E.little stream.old bytes) section.now) stream.old stream.new result }
 {
     let alloc = *stream.section_headers().allocator();
@@ -414,7 +418,8 @@ fn section_verdict<E: EndianParse, S: StreamSource, A: Allocator + Copy>(
     kind: HashKind,
     section: &SectionHeader,
 ) -> Result<Option<Result<Verdict, ParseError>>, ParseError>
-    ensures { Gives (checked_ranges (headers_alone E.little stream.old) section.now) (λ verdict. verdict)
+    ensures { Gives (checked_ranges (headers_alone E.little stream.old) section.now)
+        (λ bytes. IsOk (section_data (stream_file E.little stream.old bytes) section.now)) (λ verdict. verdict)
         (λ bytes. checked_apart kind (stream_file E.little stream.old bytes) section.now)
         stream.old stream.new result }
 {

@@ -1,11 +1,12 @@
 -- What the parts of a call over a stream leave; contracts of private functions speak of it.
-use Rattle.std.specs.Prelude.{◌≡◌, ℕ, Bool, List, Option, Result, Ok, Err, IfSome, IsErr, IsOk, OnOk}
+use Rattle.std.specs.Prelude.{◌≡◌, ◌⊎◌, ⊤, ℕ, Bool, List, Option, Result, Ok, Err, IfErr, IfSome, IsErr, OnOk}
 use Rattle.std.specs.Io.KnownBytes.{Appends, Keeps as KeepsBytes}
 use Rattle.std.specs.Option.{option_map}
 use Rattle.elf.specs.Answers.{dynamic_symbol_table}
 use Rattle.elf.specs.Data.{section_data}
 use Rattle.elf.specs.ObjectFile.{ObjectFile}
-use Rattle.elf.specs.ElfStream.{AreCached, IsAnswer, Keeps, Seen}
+use Rattle.elf.specs.ElfStream.{AreCached, IsAnswer, IsCached, IsNeeded, IsRequested, Keeps, Seen}
+use Rattle.elf.specs.StreamFile.{stream_file}
 use Rattle.elf_reading.specs.Refusals.{IsRefused, Kind, kind}
 use Rattle.elf_records.specs.Number.{ok_map}
 use Rattle.elf_records.specs.Record.{◌>>=◌}
@@ -15,8 +16,8 @@ use Rattle.elf_check.specs.Object.{object_in}
 use Rattle.elf_check.specs.declared.hashcheck.any.HashKind.{HashKind}
 use Rattle.elf_lines.specs.NoAnswer.{refused_line}
 use Rattle.elf_calls.specs.Question.{Question}
-use Rattle.elf_calls.specs.Ranges.{call_ranges}
-use Rattle.elf_calls.specs.Stream.{IsAtHand, stream_answer}
+use Rattle.elf_calls.specs.Ranges.{Copies, TakesNoMemory, call_ranges}
+use Rattle.elf_calls.specs.Stream.{IsUse, stream_answer}
 use Rattle.elf_calls.specs.Text.{or_refused}
 use Rattle.elf_calls.specs.Verdicts.{verdict_of}
 use Rattle.elf_calls.specs.declared.hashes.Verdict.{Verdict}
@@ -32,14 +33,23 @@ TriedOne answer old new can_fail before now (Ok written) =
 TriedOne answer old new can_fail before now (Err e) =
     (new ≡ old) × IsRefused before now can_fail (IsErr answer) (kind e)
 
--- the same file, the text of the call or an error, and no error if the cache answers it; its ranges are cached
--- if it is not refused
+-- What is used for ranges that were requested, and what is cached after. `takes` says whether memory is taken for a
+-- copy, and `copies` over which content.
+pub record Uses {E T : Type 0} (requested : List (ℕ × ℕ)) (takes : Type 0) (copies : List ℕ → Type 0)
+    (old new : Seen E) (r : Result T ParseError) : Type 0 where
+  pub only : (start end : ℕ) → IsCached new start end → IsCached old start end ⊎ IsRequested requested start end
+  pub untouched : AreCached old requested → (new ≡ old) × IfErr r (λ e. IsUse ⊥ takes (kind e))
+  pub needed : IfSome old.content (λ bytes. IfErr r (λ e.
+      IsUse (IsNeeded bytes new requested) (IsNeeded bytes new requested ⊎ copies bytes) (kind e)))
+
+-- the same file, the text of the call or an error, and what is used for it; its ranges are cached if it has no error
 pub record TriedCall {E X : Type 0} (little : E → Bool) (call : Question) (old new : Seen E)
     (before after : Option (List ℕ)) (r : Result (Result (Unit {0}) X) ParseError) : Type 0 where
   pub keeps : Keeps old new
   pub tried : IfSome old.content (λ bytes.
       TriedOne (stream_answer little old bytes call) before after old.can_fail old.failures new.failures r)
-  pub accepted : IfSome old.content (λ bytes. IsAtHand little old bytes call → IsOk r)
+  pub uses : Uses (call_ranges little old call) (¬ TakesNoMemory call)
+      (λ bytes. Copies (stream_file little old bytes) call) old new r
   pub loaded : OnOk r (AreCached new (call_ranges little old call))
 
 -- the result of a write, as that of a call over a stream
@@ -67,12 +77,14 @@ LeadsTo Kind.Refusal old new r = WritesRefused old new r
 
 -- ---- calls that call a stream more than once
 
--- the same file, and the answer that the content gives, for which the requested ranges are cached, or an error
-pub record Gives {E T Y : Type 0} (requested : List (ℕ × ℕ)) (shown : T → Y) (answer : List ℕ → Result Y ParseError)
-    (old new : Seen E) (r : Result T ParseError) : Type 0 where
+-- the same file, and the answer that the content gives, for which the requested ranges are cached, or an error; and
+-- what is used for it, with a copy
+pub record Gives {E T Y : Type 0} (requested : List (ℕ × ℕ)) (copies : List ℕ → Type 0) (shown : T → Y)
+    (answer : List ℕ → Result Y ParseError) (old new : Seen E) (r : Result T ParseError) : Type 0 where
   pub keeps : Keeps old new
   pub loaded : OnOk r (AreCached new requested)
   pub answers : IfSome old.content (λ bytes. IsAnswer shown (answer bytes) old.can_fail old.failures new.failures r)
+  pub uses : Uses requested ⊤ copies old new r
 
 -- the bytes of a section
 abbrev pub section_bytes : ObjectFile → SectionHeader → Result (List ℕ) ParseError

@@ -10,7 +10,7 @@ use Rattle.elf_calls.proofs.stream.write_data.Goals as goal
 pub returns-in-Err : goal.returns-in-Err
 returns-in-Err g c =
     section_refused g.E.EndianParse.little (Data c.args.index) c.args.stream.now c.section_data.follows.lender-at-none data_view (λ found. section_data_line found.0 found.1) section_ranges c.args.index c.in-Some.section section_data c.section_data.result c.in-Err.error _
-    (λ bytes. refl) (λ cached. cached) (sym c.section_header.ensures ∙ c.in-Some.is) c.section_data.follows.holds-at-none c.in-Err.is
+    (λ bytes. refl) refl (sym c.section_header.ensures ∙ c.in-Some.is) c.section_data.follows.holds-at-none c.in-Err.is
 
 pub returns-in-Ok : goal.returns-in-Ok
 returns-in-Ok g c =

@@ -1,3 +1,4 @@
+use Rattle.std.proofs.Common.{refl}
 use Rattle.std.specs.Option.{option_map}
 use Rattle.elf.specs.Answers.{dynamic}
 use Rattle.elf.specs.Ranges.{headers_alone, dynamic_ranges}
@@ -15,5 +16,5 @@ returns-in-Err g c =
     let file = stream_file little old in
     call_refused little Dynamic old c.dynamic.follows.lender-at-none (dynamic_ranges (headers_alone little old)) (option_map table_view) (λ bytes. dynamic (file bytes)) c.dynamic.result c.in-Err.error _
     (λ bytes refused. outer_refused (unless_none dynamic_text) (dynamic (file bytes)) refused)
-    (λ cached. cached)
+    refl
     c.dynamic.follows.holds-at-none c.in-Err.is

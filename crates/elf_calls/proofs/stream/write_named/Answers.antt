@@ -1,3 +1,4 @@
+use Rattle.std.proofs.Common.{refl}
 use Rattle.std.specs.Prelude.{option_copied}
 use Rattle.elf.specs.Answers.{section_header_by_name}
 use Rattle.elf.specs.Ranges.{headers_alone, names_ranges}
@@ -15,5 +16,5 @@ returns-in-Err g c =
     let file = stream_file little old in
     call_refused little (Name c.args.name.now) old c.section_header_by_name.follows.lender-at-none (names_ranges (headers_alone little old)) option_copied (λ bytes. section_header_by_name (file bytes) c.args.name.now) c.section_header_by_name.result c.in-Err.error _
     (λ bytes refused. outer_refused (unless_none found_line) (section_header_by_name (file bytes) c.args.name.now) refused)
-    (λ cached. cached)
+    refl
     c.section_header_by_name.follows.holds-at-none c.in-Err.is

@@ -10,4 +10,4 @@ use Rattle.elf_calls.proofs.stream.write_relas.Goals as goal
 pub returns-in-Err : goal.returns-in-Err
 returns-in-Err g c =
     section_refused g.E.EndianParse.little (Relas c.args.index) c.args.stream.now c.section_data_as_relas.follows.lender-at-none relas_left (counted_lines rela_line) (typed_section_ranges 4) c.args.index c.in-Some.section section_data_as_relas c.section_data_as_relas.result c.in-Err.error _
-    (λ bytes. refl) (λ cached. cached) (sym c.section_header.ensures ∙ c.in-Some.is) c.section_data_as_relas.follows.holds-at-none c.in-Err.is
+    (λ bytes. refl) refl (sym c.section_header.ensures ∙ c.in-Some.is) c.section_data_as_relas.follows.holds-at-none c.in-Err.is

@@ -10,4 +10,4 @@ use Rattle.elf_calls.proofs.stream.write_rels.Goals as goal
 pub returns-in-Err : goal.returns-in-Err
 returns-in-Err g c =
     section_refused g.E.EndianParse.little (Rels c.args.index) c.args.stream.now c.section_data_as_rels.follows.lender-at-none rels_left (counted_lines rel_line) (typed_section_ranges 9) c.args.index c.in-Some.section section_data_as_rels c.section_data_as_rels.result c.in-Err.error _
-    (λ bytes. refl) (λ cached. cached) (sym c.section_header.ensures ∙ c.in-Some.is) c.section_data_as_rels.follows.holds-at-none c.in-Err.is
+    (λ bytes. refl) refl (sym c.section_header.ensures ∙ c.in-Some.is) c.section_data_as_rels.follows.holds-at-none c.in-Err.is

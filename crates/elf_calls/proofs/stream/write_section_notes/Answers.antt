@@ -11,4 +11,4 @@ use Rattle.elf_calls.proofs.stream.write_section_notes.Goals as goal
 pub returns-in-Err : goal.returns-in-Err
 returns-in-Err g c =
     section_refused g.E.EndianParse.little (Notes c.args.index) c.args.stream.now c.section_data_as_notes.follows.lender-at-none notes_left (counted_lines note_line) (typed_section_ranges 7) c.args.index c.in-Some.section section_data_as_notes c.section_data_as_notes.result c.in-Err.error _
-    (λ bytes. refl) (λ cached. cached) (sym c.section_header.ensures ∙ c.in-Some.is) c.section_data_as_notes.follows.holds-at-none c.in-Err.is
+    (λ bytes. refl) refl (sym c.section_header.ensures ∙ c.in-Some.is) c.section_data_as_notes.follows.holds-at-none c.in-Err.is

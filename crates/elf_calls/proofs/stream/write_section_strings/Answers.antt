@@ -11,4 +11,4 @@ use Rattle.elf_calls.proofs.stream.write_section_strings.Goals as goal
 pub returns-in-Err : goal.returns-in-Err
 returns-in-Err g c =
     section_refused g.E.EndianParse.little (Strings c.args.index) c.args.stream.now c.section_data_as_strtab.follows.lender-at-none strings_view (λ bytes. counted_lines string_line (strings_of bytes)) (typed_section_ranges 3) c.args.index c.in-Some.section section_data_as_strtab c.section_data_as_strtab.result c.in-Err.error _
-    (λ bytes. refl) (λ cached. cached) (sym c.section_header.ensures ∙ c.in-Some.is) c.section_data_as_strtab.follows.holds-at-none c.in-Err.is
+    (λ bytes. refl) refl (sym c.section_header.ensures ∙ c.in-Some.is) c.section_data_as_strtab.follows.holds-at-none c.in-Err.is

@@ -1,3 +1,4 @@
+use Rattle.std.proofs.Common.{refl}
 use Rattle.elf.specs.Ranges.{headers_alone, names_ranges}
 use Rattle.elf.specs.StreamFile.{stream_file}
 use Rattle.elf.specs.Names.{headers_with_names, name_table}
@@ -15,5 +16,5 @@ returns-in-Err g c =
     let file = stream_file little old in
     call_refused little Sections old c.section_headers_with_strtab.follows.lender-at-none (names_ranges (headers_alone little old)) listed_view (λ bytes. headers_with_names (file bytes)) c.section_headers_with_strtab.result c.in-Err.error _
     (λ bytes refused. outer_refused (λ names. counted_lines (section_line names) old.headers.sections) (name_table (file bytes)) (inner_refused (λ names. (old.headers.sections, names)) (name_table (file bytes)) refused))
-    (λ cached. cached)
+    refl
     c.section_headers_with_strtab.follows.holds-at-none c.in-Err.is

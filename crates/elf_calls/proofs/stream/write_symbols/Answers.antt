@@ -1,3 +1,4 @@
+use Rattle.std.proofs.Common.{refl}
 use Rattle.std.specs.Option.{option_map}
 use Rattle.elf.specs.Answers.{symbol_table, symbols_view}
 use Rattle.elf.specs.Ranges.{headers_alone, symbols_ranges}
@@ -14,5 +15,5 @@ returns-in-Err g c =
     let file = stream_file little old in
     call_refused little Symbols old c.symbol_table.follows.lender-at-none (symbols_ranges 2 (headers_alone little old)) (option_map symbols_view) (λ bytes. symbol_table (file bytes)) c.symbol_table.result c.in-Err.error _
     (λ bytes refused. outer_refused (unless_none symbols_text) (symbol_table (file bytes)) refused)
-    (λ cached. cached)
+    refl
     c.symbol_table.follows.holds-at-none c.in-Err.is
