@@ -1,31 +1,37 @@
 -- What a run of calls over a stream leaves, by what its calls leave.
-use Rattle.std.proofs.Common.{◌≡◌, ℕ, ◌+◌, ◌<◌, Bool, List, [], ◌∷◌, ◌++◌, Option, Some, None, Result, Ok, Err, sym, ap, ◌∙◌, subst, All, IfSome, append_assoc, get_or, length, map, take}
+use Rattle.std.proofs.Common.{◌≡◌, ℕ, zero, suc, ◌+◌, ◌<◌, ◌⊎◌, inl, inr, arith, refl, Bool, List, [], ◌∷◌, ◌++◌, Option, Some, None, Result, Ok, Err, sym, ap, ◌∙◌, subst, All, IfSome, append_assoc, get_or, length, map, take}
 use Rattle.std.proofs.lemmas.List.{append-nil, take_more}
 use Rattle.std.proofs.lemmas.List.Elements.{All-get_or, All-more, All-weaker}
-use Rattle.std.specs.Prelude.{IsOk, OnOk}
+use Rattle.std.specs.Prelude.{IsOk, OnOk, slice_get}
 use Rattle.std.specs.Io.KnownBytes.{Appends, Keeps as KeepsBytes}
 use Rattle.elf.specs.Ranges.{headers_alone}
 use Rattle.elf.specs.StreamFile.{stream_file}
 use Rattle.elf.specs.ObjectFile.{ObjectFile}
-use Rattle.elf.specs.ElfStream.{AreCached, Keeps, Seen}
+use Rattle.elf.specs.ElfStream.{AreCached, IsCached, IsRequested, Keeps, Seen}
+use Rattle.elf.proofs.stream.Steps.{requested_back, requested_front}
+use Rattle.elf_records.specs.declared.parse.ParseError.{ParseError}
 use Rattle.elf_reading.specs.Refusals.{IsRefused, kind}
 use Rattle.elf_records.specs.declared.file.FileHeader.{FileHeader}
 use Rattle.elf_lines.proofs.Writing.{appends_more}
 use Rattle.elf_calls.specs.Question.{Question, question}
-use Rattle.elf_calls.specs.Ranges.{call_ranges, ranges_of}
-use Rattle.elf_calls.specs.Stream.{IsAtHand, IsFaultlessCall, IsLoaded, RanOne, stream_answer}
+use Rattle.elf_calls.specs.Ranges.{TakesNoMemory, call_ranges, ranges_of}
+use Rattle.elf_calls.specs.Stream.{IfFault, IsAtHand, IsFaultlessCall, IsLoaded, IsUse, MayUse, RanOne, stream_answer}
 use Rattle.elf_calls.specs.Text.{call_text, or_refused, text}
 use Rattle.elf_calls.specs.declared.calls.Call.{Call}
 use Rattle.elf_calls.specs.declared.stream.Stop.{Stop}
 use Rattle.elf_calls.specs.declared.stream.Stop.TheVariants as stop
-use Rattle.elf_calls.proofs.StreamCalls.{loaded_there, same_answer, same_file, still_cached}
-use Rattle.elf_calls.specs.Run.{IsFaultless, Ran}
+use Rattle.elf_calls.proofs.StreamCalls.{cached_back, cached_front, loaded_there, same_answer, same_file, still_cached}
+use Rattle.elf_calls.specs.Run.{IfFaultAt, IsFaultless, Ran, run_ranges}
 use Rattle.elf_calls.specs.inner.RunSteps.{stopped_after}
 
-hand_later : {E : Type 0} (little : E → Bool) (old middle : Seen E) (bytes : List ℕ) (call : Question) → Keeps old middle → IsAtHand little old bytes call → IsAtHand little middle bytes call
-hand_later little old middle bytes call keeps h =
-    let cached = subst (λ file. AreCached middle (ranges_of file call)) (sym (same_file little old middle [] keeps)) (still_cached old middle (ranges_of (headers_alone little old) call) keeps h.1) in
-    (h.0, cached, subst IsOk (sym (same_answer little call old middle bytes keeps)) h.2)
+same_ranges : {E : Type 0} (little : E → Bool) (old middle : Seen E) (call : Question) → Keeps old middle → call_ranges little middle call ≡ call_ranges little old call
+same_ranges little old middle call keeps = ap (λ file. ranges_of file call) (same_file little old middle [] keeps)
+
+ranges_later : {E : Type 0} (little : E → Bool) (old middle : Seen E) (call : Question) → Keeps old middle → AreCached middle (call_ranges little old call) → AreCached middle (call_ranges little middle call)
+ranges_later little old middle call keeps h = subst (λ rs. AreCached middle rs) (sym (same_ranges little old middle call keeps)) h
+
+hand_later : {E : Type 0} (little : E → Bool) (old middle : Seen E) (call : Question) → Keeps old middle → IsAtHand little old call → IsAtHand little middle call
+hand_later little old middle call keeps h = (h.0, ranges_later little old middle call keeps (still_cached old middle (ranges_of (headers_alone little old) call) keeps h.1))
 
 loaded_later : {E : Type 0} (little : E → Bool) (old new : Seen E) (bytes : List ℕ) (call : Question) → Keeps old new → IsLoaded little old bytes call → IsLoaded little new bytes call
 loaded_later little old new bytes call keeps loaded = λ ready.
@@ -101,10 +107,82 @@ still_faultless : (i : ℕ) (s : Stop) → IsFaultlessCall (Err s) → IsFaultle
 still_faultless i (stop.Fault e) h = absurd h
 still_faultless i (stop.Write e) h = tt
 
--- a call of the list that the cache answers makes no fault
-pub faulted : {E : Type 0} (little : E → Bool) (old middle : Seen E) (known : Option (List ℕ)) (calls : List Call) (i : ℕ) (d : Call) (r : Result (Unit {0}) Stop) (s : Stop) → Keeps old middle → i < length calls → r ≡ Err s
-    → IfSome known (λ bytes. IsAtHand little middle bytes (question (get_or calls i d)) → IsFaultlessCall r) → IfSome known (λ bytes. All (λ call. IsAtHand little old bytes (question call)) calls → IsFaultless (Err (stopped_after i s)))
-faulted little old middle None calls i d r s keeps within is h = tt
-faulted little old middle (Some bytes) calls i d r s keeps within is h = λ all.
-    let here : IsAtHand little old bytes (question (get_or calls i d)) = All-get_or (λ call. IsAtHand little old bytes (question call)) calls i d within all in
-    still_faultless i s (subst IsFaultlessCall is (h (hand_later little old middle bytes (question (get_or calls i d)) keeps here)))
+-- a call of the list that is at hand makes no fault
+pub faulted : {E : Type 0} (little : E → Bool) (old middle : Seen E) (calls : List Call) (i : ℕ) (d : Call) (r : Result (Unit {0}) Stop) (s : Stop) → Keeps old middle → i < length calls → r ≡ Err s
+    → (IsAtHand little middle (question (get_or calls i d)) → IsFaultlessCall r) → All (λ call. IsAtHand little old (question call)) calls → IsFaultless (Err (stopped_after i s))
+faulted little old middle calls i d r s keeps within is h all =
+    let here : IsAtHand little old (question (get_or calls i d)) = All-get_or (λ call. IsAtHand little old (question call)) calls i d within all in
+    still_faultless i s (subst IsFaultlessCall is (h (hand_later little old middle (question (get_or calls i d)) keeps here)))
+
+-- ---- what is used, and what is cached
+
+module _ {E : Type 0} (little : E → Bool) (s : Seen E) where
+  abbrev all : List Call → List (ℕ × ℕ)
+  all calls = run_ranges little s (map question calls)
+
+  -- the ranges of one call are requested, and are cached if all are
+  one_requested : (calls : List Call) (i : ℕ) (d : Call) (start end : ℕ) → i < length calls → IsRequested (call_ranges little s (question (get_or calls i d))) start end → IsRequested (all calls) start end
+  one_requested [] i d start end within h = let no : ⊥ = omega arith in absurd no
+  one_requested (call ∷ calls) zero d start end within h = requested_front (call_ranges little s (question call)) (all calls) start end h
+  one_requested (call ∷ calls) (suc i) d start end within h = requested_back (call_ranges little s (question call)) (all calls) start end (one_requested calls i d start end (omega arith) h)
+
+  one_cached : (calls : List Call) (i : ℕ) (d : Call) → i < length calls → AreCached s (all calls) → AreCached s (call_ranges little s (question (get_or calls i d)))
+  one_cached [] i d within h = let no : ⊥ = omega arith in absurd no
+  one_cached (call ∷ calls) zero d within h = cached_front s (call_ranges little s (question call)) (all calls) h
+  one_cached (call ∷ calls) (suc i) d within h = one_cached calls i d (omega arith) (cached_back s (call_ranges little s (question call)) (all calls) h)
+
+call_at : (calls : List Call) (i : ℕ) (d : Call) → i < length calls → slice_get (map question calls) i ≡ Some (question (get_or calls i d))
+call_at [] i d within = let no : ⊥ = omega arith in absurd no
+call_at (call ∷ calls) zero d within = refl
+call_at (call ∷ calls) (suc i) d within = call_at calls i d (omega arith)
+
+-- a fault of the call is one of the run, at that call
+fault_at : (calls : List Call) (i : ℕ) (d : Call) (s : Stop) (P : Question → ParseError → Type 0) → i < length calls → IfFault (Err s) (λ e. P (question (get_or calls i d)) e) → IfFaultAt (map question calls) (Err (stopped_after i s)) P
+fault_at calls i d (stop.Fault e) P within h = subst (λ o. IfSome o (λ call. P call e)) (sym (call_at calls i d within)) h
+fault_at calls i d (stop.Write e) P within h = tt
+
+-- the calls so far cached nothing else
+pub record HasUsed {E : Type 0} (little : E → Bool) (calls : List Call) (old new : Seen E) : Type 0 where
+  pub only : (start end : ℕ) → IsCached new start end → IsCached old start end ⊎ IsRequested (run_ranges little old (map question calls)) start end
+  pub untouched : AreCached old (run_ranges little old (map question calls)) → new ≡ old
+
+pub none_used : {E : Type 0} (little : E → Bool) (calls : List Call) (old : Seen E) → HasUsed little calls old old
+none_used little calls old = record { only = λ start end h. inl h; untouched = λ _. refl }
+
+module _ {E : Type 0} (little : E → Bool) (old middle new : Seen E) (calls : List Call) (i : ℕ) (d : Call) (keeps : Keeps old middle) (within : i < length calls) (used : HasUsed little calls old middle) where
+  abbrev here : Question
+  here = question (get_or calls i d)
+
+  at_one : (start end : ℕ) → IsCached middle start end ⊎ IsRequested (call_ranges little middle here) start end → IsCached old start end ⊎ IsRequested (run_ranges little old (map question calls)) start end
+  at_one start end (inl before) = used.only start end before
+  at_one start end (inr there) = inr (one_requested little old calls i d start end within (subst (λ rs. IsRequested rs start end) (same_ranges little old middle here keeps) there))
+
+  pub here_cached : AreCached old (run_ranges little old (map question calls)) → AreCached middle (call_ranges little middle here)
+  here_cached cached = ranges_later little old middle here keeps (still_cached old middle (call_ranges little old here) keeps (one_cached little old calls i d within cached))
+
+  -- one call more
+  pub more_used : ((start end : ℕ) → IsCached new start end → IsCached middle start end ⊎ IsRequested (call_ranges little middle here) start end) → (AreCached middle (call_ranges little middle here) → new ≡ middle) → HasUsed little calls old new
+  more_used only untouched = record {
+    only = λ start end h. at_one start end (only start end h);
+    untouched = λ cached. untouched (here_cached cached) ∙ used.untouched cached;
+  }
+
+  -- the call stopped the run
+  pub stopped_use : (r : Result (Unit {0}) Stop) (s : Stop) → r ≡ Err s → (AreCached middle (call_ranges little middle here) → (new ≡ middle) × IfFault r (λ e. IsUse ⊥ (¬ TakesNoMemory here) (kind e)))
+      → AreCached old (run_ranges little old (map question calls)) → (new ≡ old) × IfFaultAt (map question calls) (Err (stopped_after i s)) (λ call e. IsUse ⊥ (¬ TakesNoMemory call) (kind e))
+  stopped_use r s is untouched cached =
+      let one = untouched (here_cached cached) in
+      (one.0 ∙ used.untouched cached, fault_at calls i d s (λ call e. IsUse ⊥ (¬ TakesNoMemory call) (kind e)) within (subst (λ w. IfFault w (λ e. IsUse ⊥ (¬ TakesNoMemory here) (kind e))) is one.1))
+
+  may_use : (bytes : List ℕ) (e : ParseError) → MayUse little middle new bytes here (kind e) → MayUse little old new bytes here (kind e)
+  may_use bytes e h = subst (λ headers. MayUse little (record middle { headers = headers }) new bytes here (kind e)) keeps.headers h
+
+  known_need : (known : Option (List ℕ)) (s : Stop) → IfSome known (λ bytes. IfFault (Err s) (λ e. MayUse little middle new bytes here (kind e)))
+      → IfSome known (λ bytes. IfFaultAt (map question calls) (Err (stopped_after i s)) (λ call e. MayUse little old new bytes call (kind e)))
+  known_need None s h = tt
+  known_need (Some bytes) (stop.Fault e) h = fault_at calls i d (stop.Fault e) (λ call e. MayUse little old new bytes call (kind e)) within (may_use bytes e h)
+  known_need (Some bytes) (stop.Write e) h = tt
+
+  pub stopped_need : (r : Result (Unit {0}) Stop) (s : Stop) → r ≡ Err s → IfSome old.content (λ bytes. IfFault r (λ e. MayUse little middle new bytes here (kind e)))
+      → IfSome old.content (λ bytes. IfFaultAt (map question calls) (Err (stopped_after i s)) (λ call e. MayUse little old new bytes call (kind e)))
+  stopped_need r s is h = known_need old.content s (subst (λ w. IfSome old.content (λ bytes. IfFault w (λ e. MayUse little middle new bytes here (kind e)))) is h)

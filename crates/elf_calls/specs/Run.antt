@@ -1,7 +1,12 @@
 -- What a run of calls over a stream writes, and why it stops.
-use Rattle.std.specs.Prelude.{◌≡◌, ℕ, ◌<◌, Bool, List, length, take, Option, Result, Ok, Err}
+use Rattle.std.specs.Prelude.{◌≡◌, ℕ, ◌<◌, Bool, List, length, take, Option, Result, Ok, Err, IfSome, slice_get}
+use Rattle.std.specs.List.{flat_map}
 use Rattle.std.specs.Io.KnownBytes.{Appends}
 use Rattle.elf_reading.specs.Refusals.{IsRefused, kind}
+use Rattle.elf.specs.ElfStream.{Seen}
+use Rattle.elf_records.specs.declared.parse.ParseError.{ParseError}
+use Rattle.elf_calls.specs.Question.{Question}
+use Rattle.elf_calls.specs.Ranges.{call_ranges}
 use Rattle.elf_calls.specs.declared.runs.RunError.{RunError}
 use Rattle.elf_calls.specs.declared.runs.RunError.TheVariants.{Fault, Open, Write}
 
@@ -27,3 +32,16 @@ IsFaultless (Ok _) = Unit {0}
 IsFaultless (Err (Open e)) = Unit {0}
 IsFaultless (Err (Fault done e)) = ⊥
 IsFaultless (Err (Write done e)) = Unit {0}
+
+-- ---- what a run uses
+
+-- the ranges that its calls request, one call after the other
+abbrev pub run_ranges : {E : Type 0} → (E → Bool) → Seen E → List Question → List (ℕ × ℕ)
+run_ranges little s calls = flat_map (call_ranges little s) calls
+
+-- of a fault, and of the call at which it came
+abbrev pub IfFaultAt : List Question → Result (Unit {0}) RunError → (Question → ParseError → Type 0) → Type 0
+IfFaultAt calls (Ok _) P = Unit {0}
+IfFaultAt calls (Err (Open e)) P = Unit {0}
+IfFaultAt calls (Err (Fault done e)) P = IfSome (slice_get calls done) (λ call. P call e)
+IfFaultAt calls (Err (Write done e)) P = Unit {0}

@@ -1,15 +1,16 @@
 //! Runs of the calls of a listing, which write their text.
-ghost use Rattle.std.specs.Prelude.{◌≡◌, ◌≢◌, ℕ, All, List, IsOk, OnOk, IfOk, IfErr, IfSome, Err, length, map};
+ghost use Rattle.std.specs.Prelude.{◌≡◌, ◌≢◌, ◌⊎◌, ℕ, All, List, IsOk, OnOk, IfOk, IfErr, IfSome, Err, length, map};
 ghost use Rattle.std.specs.Io.KnownBytes.{Appends};
 ghost use Rattle.elf.specs.StreamFile.{stream_file};
 ghost use Rattle.elf.specs.ObjectFile.{object_file};
 ghost use Rattle.elf_reading.specs.Opening.{opened};
-ghost use Rattle.elf.specs.ElfStream.{Keeps, Seen};
+ghost use Rattle.elf.specs.ElfStream.{AreCached, IsCached, IsRequested, Keeps, Seen};
+ghost use Rattle.elf_reading.specs.Refusals.{kind};
 ghost use Rattle.elf_calls.specs.Question.{question};
 ghost use Rattle.elf_calls.specs.Ranges.{TakesNoMemory};
-ghost use Rattle.elf_calls.specs.Stream.{IsAtHand, IsLoaded, stream_answer};
+ghost use Rattle.elf_calls.specs.Stream.{IsAtHand, IsLoaded, IsUse, MayUse, stream_answer};
 ghost use Rattle.elf_calls.specs.Text.{text};
-ghost use Rattle.elf_calls.specs.Run.{IsFaultless, Ran, StopsWithin};
+ghost use Rattle.elf_calls.specs.Run.{IfFaultAt, IsFaultless, Ran, StopsWithin, run_ranges};
 ghost use Rattle.elf_calls.specs.inner.RunSteps.{stopped_after};
 ghost use Rattle.elf_records.specs.declared.parse.ParseError.{ParseError};
 
@@ -120,8 +121,10 @@ fn run_bytes_in<E: EndianParse, R: Room, W: Write>(
 /// `IOError` and `OutOfMemory` writes the line `refused`, and the run continues. The writer is flushed after each call,
 /// so `done` counts the calls that reached its end.
 ///
-/// The calls `sysv` and `gnu` copy a section's bytes with the stream's allocator. After `Ok` the ranges of each call
-/// that has a result are cached: if such a call is run again, it does not need the source.
+/// No range is cached that was not cached before and does not lie within a range that one of the calls requests. If
+/// the requested ranges are cached, the stream is unchanged, and `Fault` has no `IOError`. It has an `OutOfMemory` only
+/// for the calls `sysv` and `gnu`, which copy a section's bytes with the stream's allocator. After `Ok` the ranges of
+/// each call that has a result are cached.
 ///
 /// Errors over known content: `Fault` if the source or an allocation failed, with exactly the text of the calls before
 /// it written; `Write` if the writer fails; never `Open`.
@@ -135,8 +138,14 @@ pub fn run_stream<E: EndianParse, S: StreamSource, A: Allocator + Copy, W: Write
         Ran (λ calls. text stream.old.headers.ehdr (stream_file E.little stream.old bytes) (map question calls))
         calls.now (W.contents out.old) (W.contents out.new)
         stream.old.can_fail stream.old.failures stream.new.failures result) }
-    ensures no_fault { IfSome stream.old.content (λ bytes.
-        All (λ call. IsAtHand E.little stream.old bytes (question call)) calls.now → IsFaultless result) }
+    ensures only { (start end : ℕ) → IsCached stream.new start end → IsCached stream.old start end
+        ⊎ IsRequested (run_ranges E.little stream.old (map question calls.now)) start end }
+    ensures untouched { AreCached stream.old (run_ranges E.little stream.old (map question calls.now)) →
+        (stream.new ≡ stream.old) × IfFaultAt (map question calls.now) result
+        (λ call e. IsUse ⊥ (¬ TakesNoMemory call) (kind e)) }
+    ensures needed { IfSome stream.old.content (λ bytes. IfFaultAt (map question calls.now) result
+        (λ call e. MayUse E.little stream.old stream.new bytes call (kind e))) }
+    ensures no_fault { All (λ call. IsAtHand E.little stream.old (question call)) calls.now → IsFaultless result }
     ensures loaded { OnOk result (IfSome stream.old.content (λ bytes.
         All (λ call. IsLoaded E.little stream.new bytes (question call)) calls.now)) }
 {
@@ -170,5 +179,5 @@ pub fn loaded_calls_are_at_hand<E: EndianParse>()
     ensures { (s : Seen E) (bytes : List ℕ) (calls : List Call) →
         All (λ call. IsLoaded E.little s bytes (question call)) calls →
         All (λ call. TakesNoMemory (question call) × IsOk (stream_answer E.little s bytes (question call))) calls →
-        All (λ call. IsAtHand E.little s bytes (question call)) calls }
+        All (λ call. IsAtHand E.little s (question call)) calls }
 {}

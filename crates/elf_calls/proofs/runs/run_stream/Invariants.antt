@@ -5,12 +5,15 @@ use Rattle.elf.specs.ElfStream.{Keeps}
 use Rattle.elf_calls.specs.Question.{question}
 use Rattle.elf_calls.specs.Stream.{IsLoaded}
 use Rattle.elf_calls.specs.Text.{text}
+use Rattle.elf_calls.proofs.StreamRuns.{HasUsed}
 use Rattle.elf_calls.proofs.runs.run_stream.Given as goal
 
--- the same file, the text of the calls so far was written, and their ranges are cached
+-- the same file, nothing but their ranges was cached, the text of the calls so far was written, and their ranges are
+-- cached
 abbrev pub invariant-loop-done : goal.invariant-loop-done
 invariant-loop-done g l = record {
   keeps : Keeps l.initial.stream l.stream;
+  used : HasUsed g.E.EndianParse.little l.calls l.initial.stream l.stream;
   written : IfSome l.initial.stream.content (λ bytes.
       Appends (g.W.Write.contents l.initial.out) (g.W.Write.contents l.out) (text l.initial.stream.headers.ehdr (stream_file g.E.EndianParse.little l.initial.stream bytes) (map question (take l.done l.calls)))
       × (l.stream.failures ≡ l.initial.stream.failures));
