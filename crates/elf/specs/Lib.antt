@@ -5,7 +5,7 @@
 -- what an `ElfBytes` shows
 pub mod ElfBytes
 -- section i, the bytes that a header gives a range of, and the first or last header of a type
-pub mod StreamHeaders
+pub mod Headers
 -- what the answers take: headers and bytes
 pub mod ObjectFile
 -- ---- the answers
