@@ -1,6 +1,6 @@
 use Rattle.elf_check.specs.CheckedTable.{object_view}
 use Rattle.elf_binding.specs.Resolve.{NoneBefore}
-use Rattle.elf_check.proofs.resolve.objects.resolve.Given as goal
+use Rattle.elf_binding.proofs.resolve.objects.resolve.Given as goal
 
 -- no object so far has the name
 abbrev pub invariant-loop-place : goal.invariant-loop-place
