@@ -1,5 +1,5 @@
 -- A byte at an even offset.
-use Rattle.std.specs.Prelude.{◌≡◌, ℕ, Bool, ◌≤◌, ◌%◌, if◌then◌else◌, ◌==◌, List, Result, Ok, Err, refl}
+use Rattle.std.specs.Prelude.{◌≡◌, ℕ, Bool, false, ◌≤◌, ◌%◌, if◌then◌else◌, ◌==◌, List, Result, Ok, Err, refl}
 use Rattle.std.proofs.Common.{arith, lit≤, sym, ap, ◌∙◌}
 use Rattle.std.proofs.lemmas.Grind.{common_steps}
 use Rattle.elf_records.specs.Number.{number, number_at, moved_by, ok_map}
