@@ -187,7 +187,7 @@ fn first_overlap(alloc: Global, all: &[Mapping]) -> Result<Option<usize>, AllocE
 /// Errors, in order: `Memory` if an allocation failed; of the first mapping for which one of them holds, `FileSize` if
 /// it has more bytes in the file than in memory, `OutsideFile` if its bytes do not lie in the file, and `AddressSpace`
 /// if it ends past the last address of the file's class; `Overlap` with the first mapping that shares an address with
-/// an earlier one. A file without segments has an empty plan, and no error.
+/// an earlier one. A file without segments has an empty plan.
 pub fn load_plan<E: EndianParse>(
     alloc: Global,
     file: &ElfBytes<'_, E>,
@@ -196,7 +196,6 @@ pub fn load_plan<E: EndianParse>(
         IfOk result (λ plan. (plan.items ≡ all) × IsPlan file.now.ehdr.class (length (view file.now).bytes) all) }
     ensures refused { let all = mappings (segment_list (view file.now).segments) in
         IfErr result (IsTrueOf file.now.ehdr.class (length (view file.now).bytes) all) }
-    ensures none { IsNone (view file.now).segments → IsOk result }
 {
     let plan = mappings(alloc, file)?;
     let len = file.data().len();

@@ -21,7 +21,7 @@ returns-clause-parts g c =
     let first = c.read_hash-hash.ensures.keeps in
     let second = keeps_then old one two first c.read_symbols-symbols.ensures.keeps in
     let symbols = reads_of_file little old one two c.read_symbols-symbols.result (λ l k. option_map (symbols_in l k)) dynamic_symbol_table first c.read_symbols-symbols.ensures in
-    let versions = reads_of_file little old two three c.read_versions-versions.result (λ l k. option_map (versions_in l k)) symbol_version_table second c.read_versions-versions.ensures in
+    let versions = reads_of_file little old two three c.read_versions-versions.result (λ l k. option_map (versions_in l k)) symbol_version_table second c.read_versions-versions.ensures.versions in
     all_known old.content
     (λ bytes. IsRead (option_map hash_in) old.can_fail (hash_section (stream_file little old bytes)) c.read_hash-hash.result)
     (λ bytes. IsRead (option_map (symbols_in (little old.headers.ehdr.endianness) old.headers.ehdr.class)) old.can_fail (dynamic_symbol_table (stream_file little old bytes)) c.read_symbols-symbols.result)
