@@ -1,9 +1,9 @@
 -- A byte at an even offset.
-use Rattle.std.specs.Prelude.{◌≡◌, ℕ, Bool, false, ◌≤◌, ◌%◌, if◌then◌else◌, ◌==◌, List, Result, Ok, Err, refl}
+use Rattle.std.specs.Prelude.{◌≡◌, ℕ, Bool, false, true, ◌≤◌, ◌%◌, if◌then◌else◌, ◌==◌, List, Result, Ok, Err, refl}
 use Rattle.std.proofs.Common.{arith, lit≤, sym, ap, ◌∙◌}
 use Rattle.std.proofs.lemmas.Grind.{common_steps}
 use Rattle.elf_records.specs.Number.{number, number_at, moved_by, ok_map}
-use Rattle.elf_records.specs.Record.{ReadsOnly, ReadsWithin, RecordType}
+use Rattle.elf_records.specs.Record.{ReadsLocally, ReadsOnly, ReadsWithin, RecordType}
 use Rattle.elf_records.specs.inner.RecordLaws.{number_at-ok, ok_map-ok}
 use Rattle.elf_records.specs.declared.file.Class.{Class}
 use Rattle.elf_records.specs.declared.parse.ParseError.{ParseError}
@@ -46,6 +46,10 @@ even_byte_only little class bytes others o p x y e d same =
     let b = number_at-ok little 1 others p n.0 n.1 in
     sym m.2 ∙ ap even_byte (a.2 ∙ ap (number little) same ∙ sym b.2) ∙ n.2
 
+-- an even byte is not local, so there is nothing to show
+pub even_byte_locally : false ≡ true → ReadsLocally even_byte_size even_byte_at
+even_byte_locally yes = cc
+
 abbrev pub even_bytes : RecordType EvenByte
 even_bytes = record {
   size = even_byte_size;
@@ -55,5 +59,5 @@ even_bytes = record {
   within = even_byte_within;
   only = even_byte_only;
   local = false;
-  locally = λ yes. cc;
+  locally = even_byte_locally;
 }
