@@ -48,7 +48,7 @@ even_byte_only little class bytes others o p x y e d same =
 
 -- an even byte is not local, so there is nothing to show
 pub even_byte_locally : false ≡ true → ReadsLocally even_byte_size even_byte_at
-even_byte_locally yes = cc
+even_byte_locally e = cc
 
 abbrev pub even_bytes : RecordType EvenByte
 even_bytes = record {
