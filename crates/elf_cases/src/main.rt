@@ -1,6 +1,6 @@
 //! Without words, runs the test cases: makes the library's calls of the file `calls`, a line each, and prints what each
 //! returns; then does the same with the command lines of the file `cases`, and with the example callers of the file
-//! `callers`. The last lines are the constants of the standard.
+//! `callers`.
 //!
 //! `elf_cases CALLER FILE..` prints the results of an example caller for each file. `resolver=NAME` looks a definition
 //! of a name up in all of them, `resolve=NAME` any symbol of it, and `bindings` binds the undefined symbols of all of
@@ -15,7 +15,6 @@ mod callers;
 mod cases;
 mod checks;
 mod common;
-mod constants;
 mod ends;
 mod files;
 mod hashes;
@@ -50,8 +49,7 @@ fn show_all(rt: &HostRuntime) -> Result<(), RowError> {
         show_row(rt, call)?;
     }
     cases::show_cases(rt)?;
-    callers::show_rows(rt)?;
-    Ok(constants::show_constants(rt)?)
+    callers::show_rows(rt)
 }
 
 fn show_row(rt: &HostRuntime, row: &str) -> Result<(), RowError> {
