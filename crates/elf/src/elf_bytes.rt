@@ -62,6 +62,30 @@ impl<'data, E: EndianParse> ElfBytes<'data, E> {
         })
     }
 
+    /// Returns the file with these parts: its header, its bytes and the two tables that it declares. So a file that
+    /// was opened elsewhere is not opened again. Nothing is checked: with the parts of an opened file it is that file,
+    /// and with any others each method answers by what they say.
+    pub fn from_parts(
+        ehdr: FileHeader<E>,
+        data: &'data [u8],
+        sections: Option<SectionHeaderTable<'data, E>>,
+        segments: Option<SegmentTable<'data, E>>,
+    ) -> Self
+        ensures { view result ≡ record {
+          ehdr = ehdr.entry;
+          bytes = «data».now;
+          sections = option_map table_view sections.entry;
+          segments = option_map table_view segments.entry;
+        } }
+    {
+        ElfBytes {
+            ehdr,
+            data,
+            shdrs: sections,
+            phdrs: segments,
+        }
+    }
+
     /// Returns the bytes of the whole file.
     pub fn data(&self) -> &'data [u8]
         ensures { result.now ≡ (view self.now).bytes }

@@ -1,7 +1,7 @@
 //! The versions of symbols (GNU symbol versioning): the versions that a file needs of other files, the versions
 //! that it defines, and the version of each symbol.
 
-pub(crate) mod links;
+pub mod links;
 mod lists;
 mod records;
 mod table;

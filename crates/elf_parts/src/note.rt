@@ -169,11 +169,16 @@ fn interpret<'data>(
     }))
 }
 
-// The note at an offset, and where the next one begins. Notes are the same in both classes. Inlined with its parts into
-// the iterator, which drops the error.
+/// Reads the note at `start`, in bytes, and returns it with the offset where the next note begins. Notes are the same
+/// in both classes. A descriptor and the next note begin at multiples of `align`.
+///
+/// Errors, in order: those of the note's header; `IntegerOverflow` or `SliceReadError((start, end))` if the name does
+/// not lie in the data; `IntegerOverflow` if `align` is 0; the same two if the descriptor does not lie there; those of
+/// the ABI tag that a descriptor holds.
+// Inlined with its parts into the iterator, which drops the error.
 #[tactic(auto, unfolding(crate::specs::Note::note_at))]
 #[inline(always)]
-fn note_at<'data>(
+pub fn note_at<'data>(
     little: bool,
     align: usize,
     start: usize,

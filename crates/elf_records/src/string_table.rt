@@ -102,6 +102,13 @@ impl<'data> StringTable<'data> {
         StringTable { data }
     }
 
+    /// Returns the bytes in which the strings lie.
+    pub fn bytes(&self) -> &'data [u8]
+        ensures { result.now ≡ strings_view self.now }
+    {
+        self.data
+    }
+
     /// Returns the bytes of the string at `offset`, in bytes, without the 0 byte that ends it.
     ///
     /// Errors, in order: `BadOffset(offset)` if the table has no bytes or the offset lies past its end;

@@ -1,6 +1,7 @@
 //! The records of the version sections (GNU symbol versioning). They are the same in both classes.
-ghost use Rattle.std.specs.Prelude.{◌≡◌, ◌==◌};
+ghost use Rattle.std.specs.Prelude.{◌≡◌, ◌==◌, ◌+◌};
 ghost use Rattle.elf_abi.specs.Values.{ver_ndx_global, ver_ndx_local};
+ghost use Rattle.elf_parts.specs.gnu_symver.Links.{links_in, links_left, links_view};
 ghost use Rattle.elf_parts.specs.gnu_symver.Records.{version_index, version_is_hidden};
 
 use super::links::{Linked, Links, VersionEntry};
@@ -17,6 +18,24 @@ pub struct VerNeed {
     pub vn_file: u32,
     vn_aux: u32,
     vn_next: u32,
+}
+
+impl VerNeed {
+    ghost use Rattle.elf_parts.specs.gnu_symver.Records.{ver_need_aux_reads};
+
+    /// The auxiliary entries of this need, which begins at the offset `start` of the data in which `needs` lie.
+    pub fn aux_links<'data, E: EndianParse>(
+        &self,
+        needs: &Links<'data, E, VerNeed>,
+        start: usize,
+    ) -> Links<'data, E, VerNeedAux>
+        ensures items { links_left ver_need_aux_reads.record_at (λ x. x.vna_next) result
+            ≡ links_in ver_need_aux_reads.record_at (λ x. x.vna_next) (links_view needs.now) self.now.vn_cnt
+            (start + self.now.vn_aux) }
+        ensures view { links_view result ≡ links_view needs.now }
+    {
+        needs.aux(start, self.vn_cnt, self.vn_aux)
+    }
 }
 
 impl ParseAt for VerNeed {
@@ -75,7 +94,7 @@ impl VersionEntry for VerNeed {
         entries: &Links<'data, E, VerNeed>,
         start: usize,
     ) -> Links<'data, E, VerNeedAux> {
-        entries.aux(start, self.vn_cnt, self.vn_aux)
+        self.aux_links(entries, start)
     }
 }
 
@@ -140,6 +159,24 @@ pub struct VerDef {
     vd_next: u32,
 }
 
+impl VerDef {
+    ghost use Rattle.elf_parts.specs.gnu_symver.Records.{ver_def_aux_reads};
+
+    /// The names of this definition, which begins at the offset `start` of the data in which `definitions` lie.
+    pub fn aux_links<'data, E: EndianParse>(
+        &self,
+        definitions: &Links<'data, E, VerDef>,
+        start: usize,
+    ) -> Links<'data, E, VerDefAux>
+        ensures items { links_left ver_def_aux_reads.record_at (λ x. x.vda_next) result
+            ≡ links_in ver_def_aux_reads.record_at (λ x. x.vda_next) (links_view definitions.now) self.now.vd_cnt
+            (start + self.now.vd_aux) }
+        ensures view { links_view result ≡ links_view definitions.now }
+    {
+        definitions.aux(start, self.vd_cnt, self.vd_aux)
+    }
+}
+
 impl ParseAt for VerDef {
     ghost use Rattle.elf_parts.specs.gnu_symver.Records.{ver_def_reads};
 
@@ -198,7 +235,7 @@ impl VersionEntry for VerDef {
         entries: &Links<'data, E, VerDef>,
         start: usize,
     ) -> Links<'data, E, VerDefAux> {
-        entries.aux(start, self.vd_cnt, self.vd_aux)
+        self.aux_links(entries, start)
     }
 }
 

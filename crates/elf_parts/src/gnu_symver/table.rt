@@ -221,6 +221,13 @@ impl<'data, E: EndianParse> SymbolVersionTable<'data, E> {
         }
     }
 
+    /// Returns the version indexes of the symbols.
+    pub fn indexes(&self) -> VersionIndexTable<'data, E>
+        ensures { table_view result ≡ (versions_view self.now).indexes }
+    {
+        self.indexes
+    }
+
     /// Returns the version index of a symbol, counted from 0, or the error of `ParsingTable::get`.
     pub fn get_index(&self, symbol: usize) -> Result<VersionIndex, ParseError>
         ensures { result ≡ index_of (versions_view self.now) symbol }

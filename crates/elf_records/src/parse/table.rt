@@ -226,6 +226,13 @@ impl<'data, E: EndianParse, P: ParseAt> ParsingTable<'data, E, P> {
         ParsingIterator::starting(self.little, self.class, self.data)
     }
 
+    /// Returns the bytes in which the records lie.
+    pub fn bytes(&self) -> &'data [u8]
+        ensures { result.now ≡ (table_view self.now).bytes }
+    {
+        self.data
+    }
+
     /// How many records fit: the table's bytes divided by the size of a record, rounded down.
     pub fn len(&self) -> usize
         ensures count { result ≡ table_len P.reads (table_view self.now) }
