@@ -31,7 +31,7 @@ const BYTES: SectionHeader = SectionHeader {
 
 /// A 32-bit header that declares no tables, and `len` bytes after it.
 fn large_file(alloc: Global, len: usize) -> Result<Vec<u8>, AllocError> {
-    let mut file = Vec::with_capacity(alloc, 52 + len)?;
+    let mut file = Vec::with_capacity(alloc, len.saturating_add(52))?;
     file.extend_from_slice(&[0x7f, 0x45, 0x4c, 0x46, 1, 1, 1])?;
     file.resize(52, 0)?;
     for i in 0..len {
