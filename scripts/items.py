@@ -4,13 +4,33 @@ clauses. `scripts/api` writes them as pages, and `tests/documents` looks up the 
 import os
 import re
 
-# The crates whose items others use. The other crates are programs and tests.
-LIBRARIES = [
-    "elf_abi", "elf_records", "elf_parts", "elf_reading", "elf", "elf_check", "elf_binding", "elf_lines", "elf_calls",
-    "elfshow", "elf_tools", "elf_user_types", "elf_worked",
-]
 CLAUSE = re.compile(r"(?:requires|ensures)\*?(?!\w)")
 WORD = re.compile(r"\w+")
+
+
+def crates(top):
+    """Each crate with those that it uses, in the order of crates.txt: lowest first."""
+    found = {}
+    with open(os.path.join(top, "crates.txt"), encoding="utf-8") as file:
+        for line in file:
+            name, apart, used = line.partition("#")[0].partition(":")
+            if apart:
+                found[name.split()[0]] = used.split()
+    return found
+
+
+def libraries(top):
+    """The crates whose items others use. The other crates are programs and tests."""
+    return [crate for crate in crates(top) if crate != "elf_tests"
+            and os.path.isfile(os.path.join(top, "crates", crate, "src", "lib.rt"))]
+
+
+def below(names, uses):
+    """These crates of the repository and those that they use, lowest first."""
+    found = []
+    for name in names:
+        found += [low for low in below(uses.get(name, []), uses) + [name] if low not in found and low in uses]
+    return found
 
 
 class Item:
@@ -283,7 +303,6 @@ def entries(crate, modules):
             seen.add(id(item))
             page += entries_of(item, impls.get(item.name, []))
         pages.append((path, module.doc, page))
-    # An impl of a trait for a type of another crate
     return pages
 
 
@@ -355,16 +374,16 @@ class Entry:
 
 def all_paths(top):
     """Each public path of each library, with the names of the clauses of the item: `elf::ElfBytes::minimal_parse`."""
-    crates = {crate: read_crate(top, crate) for crate in LIBRARIES}
+    read = {crate: read_crate(top, crate) for crate in libraries(top)}
     paths = {}
-    for crate, modules in crates.items():
+    for crate, modules in read.items():
         for path, _, page in entries(crate, modules):
             paths.setdefault(path, [])
             for entry in page:
                 if entry.title:
                     paths[f"{path}::{entry.title}"] = entry.clauses
     # Re-exports of other crates, from the lowest crate up.
-    for crate, modules in crates.items():
+    for crate, modules in read.items():
         for path, module, _ in public_modules(crate, modules):
             for used, name in module.uses:
                 for known, clauses in list(paths.items()):
