@@ -332,7 +332,8 @@ def entries_of(item, impls):
             methods = [member.text for member in impl.members if member.kind == "fn" and "ensures" in member.text]
             if ghosts or methods:
                 lines = [line for text in ghosts + methods for line in text.split("\n")]
-                found.append(Entry("", impl.text.rstrip() + " {\n    " + "\n    ".join(lines) + "\n}", impl.doc, [], []))
+                body = "\n    ".join(lines)
+                found.append(Entry("", f"{impl.text.rstrip()} {{\n    {body}\n}}", impl.doc, [], []))
             elif bare(trait) not in ("Drop",):
                 found.append(Entry("", impl.text.rstrip() + " {..}", impl.doc, [], []))
             continue
