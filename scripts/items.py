@@ -6,6 +6,8 @@ import re
 
 CLAUSE = re.compile(r"(?:requires|ensures)\*?(?!\w)")
 WORD = re.compile(r"\w+")
+# The word that says what an item is, after those that qualify it.
+HEAD = re.compile(r'(?:(?:(?:const|unsafe|async|extern "\w+") )*(?=(?:fn|trait|impl)\b))?(\w+)')
 
 
 def crates(top):
@@ -158,9 +160,9 @@ def parse(text, inner=False):
             at = visibility.end()
         else:
             public = inner == "trait"
-        head = re.compile(r"(?:const |unsafe )?(\w+)").match(text, at)
-        word = "const" if text.startswith("const ", at) and not text.startswith("const fn", at) else head.group(1)
-        name = WORD.search(text, head.end() if word != "const" else at + 6)
+        head = HEAD.match(text, at)
+        word = head.group(1)
+        name = WORD.search(text, head.end())
         name = name.group(0) if name else ""
         item = None
         if word == "fn":
@@ -175,6 +177,8 @@ def parse(text, inner=False):
             end = block_end(text, brace)
             item = Item(word, name, dedent(text, start, brace), doc, derives, public)
             item.members = parse(text[brace + 1:end - 1], word).items
+        elif word == "extern":
+            end = block_end(text, text.index("{", head.end()))
         elif word == "mod":
             end = until(text, head.end(), ";") + 1
             module.modules[name] = public
