@@ -47,6 +47,7 @@ class Item:
         self.public = public
         self.clauses = list(clauses)
         self.members = []
+        self.cited = {}
 
 
 class Module:
@@ -57,6 +58,7 @@ class Module:
         self.items = []
         self.modules = {}
         self.uses = []
+        self.cited = {}
 
 
 def past(text, at):
@@ -176,7 +178,8 @@ def parse(text, inner=False):
             brace = until(text, head.end(), "{")
             end = block_end(text, brace)
             item = Item(word, name, dedent(text, start, brace), doc, derives, public)
-            item.members = parse(text[brace + 1:end - 1], word).items
+            block = parse(text[brace + 1:end - 1], word)
+            item.members, item.cited = block.items, block.cited
         elif word == "extern":
             end = block_end(text, text.index("{", head.end()))
         elif word == "mod":
@@ -188,7 +191,9 @@ def parse(text, inner=False):
                 module.uses += names_of(text[head.end():end - 1])
         elif word == "ghost":
             end = until(text, head.end(), ";") + 1
-            if name != "use":
+            if name == "use":
+                module.cited.update(definitions_of(text[head.end():end - 1]))
+            else:
                 item = Item(word, name, dedent(text, start, end), doc, derives, True)
         else:
             end = until(text, head.end(), ";") + 1
@@ -198,6 +203,15 @@ def parse(text, inner=False):
         doc, derives = [], []
         at = blank(text, end)
     return module
+
+
+def definitions_of(text):
+    """The names of a `ghost use` of definitions of this repository, each with its crate and file."""
+    use = re.fullmatch(r"\s*use Rattle\.(\w+)\.specs\.([\w.]+)\.\{(.*)\}\s*", text, re.S)
+    if not use or use.group(1) == "std" or use.group(2).startswith("declared"):
+        return {}
+    place = (use.group(1), use.group(2).replace(".", "/"))
+    return {part.split(" as ")[-1].strip(): place for part in use.group(3).split(",") if part.strip()}
 
 
 def names_of(text):
@@ -296,55 +310,50 @@ def entries(crate, modules):
     for module in modules.values():
         for item in module.items:
             if item.kind == "impl":
+                item.cited = module.cited | item.cited
                 impls.setdefault(bare(type_of(item.text)[1]), []).append(item)
     pages = []
     seen = set()
     for path, module, items in public_modules(crate, modules):
         page = []
-        for item, _ in items:
+        for item, home in items:
             if not item.public or item.kind in ("impl", "ghost") or id(item) in seen:
                 continue
             seen.add(id(item))
-            page += entries_of(item, impls.get(item.name, []))
+            page += entries_of(item, home.cited, impls.get(item.name, []))
         pages.append((path, module.doc, page))
     return pages
 
 
-def entries_of(item, impls):
-    found = []
-    if item.kind == "trait":
-        ghosts = [member.text for member in item.members if member.kind in ("ghost", "type")]
-        text = item.text.rstrip() + (" {\n    " + "\n    ".join(line for text in ghosts for line in text.split("\n"))
-                                     + "\n}" if ghosts else "")
-        found.append(Entry(item.name, text, item.doc, [], []))
-        for member in item.members:
-            if member.kind == "fn":
-                found.append(Entry(f"{item.name}::{member.name}", member.text, member.doc, [], member.clauses))
-        return found
-    text = item.text
-    if item.kind == "struct":
-        text = without_private(text)
+def entries_of(item, cited, impls):
+    """The entries of an item: itself, the methods of a trait, and what the `impl` blocks say of a type."""
     if item.kind == "const":
-        return [Entry(item.name, text, item.doc, [], [], constant=True)]
-    found.append(Entry(item.name, text, item.doc, item.derives, item.clauses))
-    if item.kind not in ("struct", "enum"):
-        return found
+        return [Entry(item.name, item, {}, constant=True)]
+    if item.kind == "trait":
+        cited = cited | item.cited
+        methods = [member for member in item.members if member.kind == "fn"]
+        return [Entry(item.name, item, cited, with_members(item, methods=False))] + [
+            Entry(f"{item.name}::{method.name}", method, cited) for method in methods]
+    found = [Entry(item.name, item, cited, without_private(item.text) if item.kind == "struct" else item.text)]
     for impl in impls:
         trait, _ = type_of(impl.text)
-        if trait:
-            ghosts = [member.text for member in impl.members if member.kind in ("ghost", "type")]
-            methods = [member.text for member in impl.members if member.kind == "fn" and "ensures" in member.text]
-            if ghosts or methods:
-                lines = [line for text in ghosts + methods for line in text.split("\n")]
-                body = "\n    ".join(lines)
-                found.append(Entry("", f"{impl.text.rstrip()} {{\n    {body}\n}}", impl.doc, [], []))
-            elif bare(trait) not in ("Drop",):
-                found.append(Entry("", impl.text.rstrip() + " {..}", impl.doc, [], []))
-            continue
-        for member in impl.members:
-            if member.kind == "fn" and member.text.startswith("pub fn"):
-                found.append(Entry(f"{item.name}::{member.name}", member.text, member.doc, [], member.clauses))
+        if not trait:
+            found += [Entry(f"{item.name}::{member.name}", member, impl.cited) for member in impl.members
+                      if member.kind == "fn" and member.text.startswith("pub ") and member.public]
+        elif bare(trait) != "Drop":
+            found.append(Entry("", impl, impl.cited, with_members(impl, methods=True)))
     return found
+
+
+def with_members(item, methods):
+    """A trait or an `impl` with its ghost members and types, and the methods that have clauses of their own."""
+    members = [member.text for member in item.members if member.kind in ("ghost", "type")
+               or methods and member.kind == "fn" and CLAUSE.search(member.text)]
+    lines = [line for text in members for line in text.split("\n")]
+    if not lines:
+        return item.text.rstrip() + (" {..}" if item.kind == "impl" else "")
+    body = "\n    ".join(lines)
+    return f"{item.text.rstrip()} {{\n    {body}\n}}"
 
 
 def without_private(text):
@@ -368,13 +377,18 @@ def without_private(text):
 
 
 class Entry:
-    def __init__(self, title, text, doc, derives, clauses, constant=False):
+    """What a page says of an item: a title, a text in the language, documentation, derived traits, the names of the
+    clauses, and the definitions that the text cites, each with its crate and file."""
+
+    def __init__(self, title, item, cited, text=None, constant=False):
         self.title = title
-        self.text = text
-        self.doc = doc
-        self.derives = derives
-        self.clauses = clauses
+        self.text = text or item.text
+        self.doc = item.doc
+        self.derives = item.derives
+        self.clauses = item.clauses
         self.constant = constant
+        words = set(WORD.findall(self.text))
+        self.cited = {name: place for name, place in cited.items() if name in words}
 
 
 def all_paths(top):
