@@ -1,0 +1,12 @@
+pub mod NoteEnds
+pub mod ChainSteps
+pub mod Texts
+pub mod Looked
+pub mod Entries
+pub mod Tables
+pub mod Named
+pub mod Linked
+pub mod Firsts
+pub mod VersionFaults
+pub mod SoundVersions
+pub mod Verdicts

@@ -1,0 +1,3 @@
+pub mod VersionProps
+pub mod DynamicProps
+pub mod SoundProps
