@@ -22,7 +22,7 @@ found_step {A = A} p y xs x true test after e =
     let same : y ≡ x = cc in (subst (λ (z : A). p z ≡ true) same test, (0, e))
 found_step p y xs x false test after e = let r = after e in (r.0, (suc r.1.0, r.1.1))
 
-found_at : {A : Type 0} (p : A → Bool) (xs : List A) (x : A) → find p xs ≡ Some x → (p x ≡ true) × ((i : ℕ) × (slice_get xs i ≡ Some x))
+pub found_at : {A : Type 0} (p : A → Bool) (xs : List A) (x : A) → find p xs ≡ Some x → (p x ≡ true) × ((i : ℕ) × (slice_get xs i ≡ Some x))
 found_at p [] x e = cc
 found_at p (y ∷ xs) x e = found_step p y xs x (p y) refl (found_at p xs x) e
 

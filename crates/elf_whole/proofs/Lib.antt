@@ -6,6 +6,7 @@ pub mod Entries
 pub mod Tables
 pub mod Named
 pub mod Linked
+pub mod Dynamics
 pub mod Firsts
 pub mod VersionFaults
 pub mod SoundVersions

@@ -33,7 +33,7 @@ some_of_shown P f (Some x) r e h = refl
 some_of_shown P f None (Ok y) e h = cc
 some_of_shown P f None (Err d) e h = absurd h
 
-at_ok : {A E : Type 0} (P : A → Type 0) (r : Result A E) (x : A) → r ≡ Ok x → IsOkAnd r P → P x
+pub at_ok : {A E : Type 0} (P : A → Type 0) (r : Result A E) (x : A) → r ≡ Ok x → IsOkAnd r P → P x
 at_ok P r x e h = subst (λ (q : Result _ _). IsOkAnd q P) e h
 
 -- the bytes of the symbols are as many as the section has

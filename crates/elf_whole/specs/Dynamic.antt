@@ -1,13 +1,14 @@
 -- When dynamic entries are sound (gABI, chapter "Dynamic Section").
-use Rattle.std.specs.Prelude.{◌≡◌, ◌≢◌, ℕ, ◌%◌, ◌||◌, Bool, not, if◌then◌else◌, List, length, map, Option, Some, None, IsTrue, is_ok}
+use Rattle.std.specs.Prelude.{◌≡◌, ◌≢◌, ℕ, ◌%◌, ◌||◌, Bool, not, if◌then◌else◌, List, length, map, Option, Some, None, Result, Ok, IsTrue, is_ok}
 use Rattle.std.specs.List.{list_all, list_any, position, take_while}
 use Rattle.std.specs.Result.{IsErr, IsOkAnd, result_ok}
 use Rattle.elf_abi.specs.Values.{dt_needed, dt_null, dt_rpath, dt_runpath, dt_soname, sht_strtab}
 use Rattle.elf_records.specs.Dynamic.{d_un_view, dyn_layout, dyn_reads, has_tag}
-use Rattle.elf_records.specs.Record.{size_by}
+use Rattle.elf_records.specs.Record.{◌>>=◌, size_by}
 use Rattle.elf_records.specs.StringTable.{string_at}
 use Rattle.elf_records.specs.Table.{Table, table_items}
 use Rattle.elf_records.specs.declared.dynamic.Dyn.{Dyn}
+use Rattle.elf_records.specs.declared.parse.ParseError.{ParseError}
 use Rattle.elf_records.specs.declared.section.SectionHeader.{SectionHeader}
 use Rattle.elf.specs.Data.{content}
 use Rattle.elf.specs.ObjectFile.{ObjectFile, table_of}
@@ -51,6 +52,12 @@ pub record SoundDynamic (file : ObjectFile) (s : SectionHeader) : Type 0 where
   pub linked : IsOkAnd (file.section_at s.sh_link) (λ linked. linked.sh_type ≡ sht_strtab)
   pub entries : IsOkAnd (content file s) (λ bytes. IsOkAnd (linked_strings file s) (λ strings.
       SoundEntries strings (table_of file bytes)))
+
+-- the entries of a section before the first with the tag DT_NULL, each with its string
+abbrev pub dynamic_entries : ObjectFile → SectionHeader → Result (List (Dyn × Option (List ℕ))) ParseError
+dynamic_entries file s =
+    content file s >>= λ bytes. linked_strings file s >>= λ strings.
+    Ok (entries_with_strings strings (before_null (table_items dyn_reads (table_of file bytes))))
 
 -- ---- faults
 

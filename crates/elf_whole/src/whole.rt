@@ -4,6 +4,7 @@ ghost use Rattle.std.specs.Option.{option_map};
 ghost use Rattle.std.specs.Result.{result_ok};
 ghost use Rattle.elf_records.specs.StringTable.{strings_view};
 ghost use Rattle.elf.specs.ElfBytes.{view};
+ghost use Rattle.elf.specs.Headers.{first_section_of};
 ghost use Rattle.elf.specs.Names.{name_table};
 ghost use Rattle.elf.specs.ObjectFile.{object_file};
 ghost use Rattle.elf.specs.Answers.{dynamic_symbol_table, symbol_table, symbol_version_table, symbols_view};
@@ -20,6 +21,7 @@ use elf::symbol::SymbolTable;
 
 mod check;
 mod dynamic;
+mod dynamic_section;
 mod iter;
 mod names;
 mod relocation;
@@ -95,6 +97,19 @@ impl<'a, 'data, E: EndianParse> WholeFile<'a, 'data, E> {
     {
         match self.file.symbol_version_table().unwrap() {
             Some(table) => Some(WholeVersions::new(table)),
+            None => None,
+        }
+    }
+
+    /// The first section of a type, or `None` exactly if there is none.
+    pub fn first_section_of(&self, sh_type: u32) -> Option<WholeSection<'a, 'data, E>>
+        ensures header { option_map section_header result
+            ≡ first_section_of sh_type (whole_view E.little self.now).sections }
+        ensures same { IfSome result (λ s. section_file E.little s ≡ whole_view E.little self.now) }
+    {
+        sections_are_listed(self.file);
+        match self.file.first_section_of(sh_type) {
+            Some(header) => Some(WholeSection::new(self.file, self.names, self.sections, header)),
             None => None,
         }
     }
