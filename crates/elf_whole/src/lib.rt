@@ -17,5 +17,5 @@ mod whole;
 
 pub use whole::{
     SymbolVersion, WholeDefinition, WholeDynamic, WholeFile, WholeNames, WholeSection,
-    WholeSymbols, WholeSymbolsIter, WholeVersions, check_file,
+    WholeSymbols, WholeSymbolsIter, WholeVersions, check_file, check_file_in,
 };

@@ -22,7 +22,9 @@ use crate::faults::VersionsFault;
 use elf::ElfBytes;
 use elf::endian::EndianParse;
 use elf::gnu_symver::links::Links;
-use elf::gnu_symver::{SymbolVersionTable, VerDef, VerNeed, VersionIndex};
+use elf::gnu_symver::{
+    Needed, PlacedVersions, SymbolVersionTable, VerDef, VerDefIterator, VerNeed, VersionIndex,
+};
 use elf::headers::{Headers, VersionSections};
 use elf::parse::ParseAt;
 use elf::section::SectionHeader;
@@ -131,10 +133,12 @@ fn definitions_fault_if<E: EndianParse>(
     }
 }
 
-// What the version indexes lack.
-fn indexes_fault<E: EndianParse>(
-    file: &ElfBytes<'_, E>,
-    table: &SymbolVersionTable<'_, E>,
+// What the version indexes lack. A version whose index has a place is looked up without a walk.
+fn indexes_fault<'data, E: EndianParse>(
+    file: &ElfBytes<'data, E>,
+    table: &SymbolVersionTable<'data, E>,
+    needed: &mut [Option<Needed>],
+    defined: &mut [Option<VerDefIterator<'data, E>>],
 ) -> Option<VersionsFault>
     ensures { let whole = object_file E.little (view file.now) in
         MatchOption result (SoundIndexesOf whole (versions_view table.now)) (IsTrueOfIndexes whole (versions_view table.now)) }
@@ -147,7 +151,8 @@ fn indexes_fault<E: EndianParse>(
     if symbols.len() != count {
         return Some(VersionsFault::CountOfIndexes);
     }
-    match first_unknown(table, count) {
+    let versions = PlacedVersions::new(table, needed, defined);
+    match first_unknown(&versions, count) {
         Some(symbol) => Some(VersionsFault::UnknownIndex { symbol }),
         None => None,
     }
@@ -162,10 +167,12 @@ fn is_whole<E: EndianParse>(file: &ElfBytes<'_, E>, shdr: &SectionHeader) -> boo
 }
 
 // What the versions with the indexes of a section lack.
-fn fault_of<E: EndianParse>(
-    file: &ElfBytes<'_, E>,
+fn fault_of<'data, E: EndianParse>(
+    file: &ElfBytes<'data, E>,
     chosen: &VersionSections,
     shdr: &SectionHeader,
+    needed: &mut [Option<Needed>],
+    defined: &mut [Option<VerDefIterator<'data, E>>],
 ) -> Option<VersionsFault>
     requires chosen { version_sections (object_file E.little (view file.now)).sections ≡ chosen.now }
     requires section { chosen.now.indexes ≡ Some shdr.now }
@@ -184,19 +191,23 @@ fn fault_of<E: EndianParse>(
         return Some(VersionsFault::PartOfIndex);
     }
     match file.symbol_version_table() {
-        Ok(Some(table)) => indexes_fault(file, &table),
+        Ok(Some(table)) => indexes_fault(file, &table, needed, defined),
         _ => Some(VersionsFault::IndexesUnreadable),
     }
 }
 
 // What the versions of a file lack.
-pub(crate) fn versions_fault<E: EndianParse>(file: &ElfBytes<'_, E>) -> Option<VersionsFault>
+pub(crate) fn versions_fault<'data, E: EndianParse>(
+    file: &ElfBytes<'data, E>,
+    needed: &mut [Option<Needed>],
+    defined: &mut [Option<VerDefIterator<'data, E>>],
+) -> Option<VersionsFault>
     ensures { let whole = object_file E.little (view file.now) in
         MatchOption result (SoundVersions whole) (IsTrueOfVersions whole) }
 {
     let chosen = file.version_sections();
     match &chosen.indexes {
-        Some(shdr) => fault_of(file, &chosen, shdr),
+        Some(shdr) => fault_of(file, &chosen, shdr, needed, defined),
         None => None,
     }
 }

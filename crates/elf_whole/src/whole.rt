@@ -29,7 +29,7 @@ mod section;
 mod symbols;
 mod versions;
 
-pub use check::check_file;
+pub use check::{check_file, check_file_in};
 pub use dynamic::WholeDynamic;
 pub use iter::WholeSymbolsIter;
 pub use names::WholeNames;

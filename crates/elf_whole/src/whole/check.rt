@@ -11,11 +11,33 @@ use crate::types::repeated_type;
 use crate::versions::versions_fault;
 use elf::ElfBytes;
 use elf::endian::EndianParse;
+use elf::gnu_symver::{Needed, VerDefIterator};
 use elf::string_table::TerminatedStrings;
 
-/// Checks whether a file is sound. Allocates nothing.
+/// Checks whether a file is sound: whether what its headers declare can be read. Allocates nothing.
+///
+/// A fault is the first one in this order: the names of the sections; a type of which there is to be one section, and
+/// there are two; the sections in order, of each its name, its bytes, compression, and its content; the needs, the
+/// definitions and the indexes of versions.
+///
+/// The version of each symbol is looked up by a walk over the needs and the definitions. `check_file_in` takes no such
+/// walks.
 pub fn check_file<'a, 'data, E: EndianParse>(
     file: &'a ElfBytes<'data, E>,
+) -> FileVerdict<WholeFile<'a, 'data, E>>
+    ensures { IsVerdict (whole_view E.little) (object_file E.little (view file.now)) result }
+{
+    check_file_in(file, &mut [], &mut [])
+}
+
+/// Checks what `check_file` does. Two slices that the caller provides hold what `PlacedVersions` puts there, so that the
+/// version of a symbol is looked up without a walk if its version index has a place; with 32,768 places in each slice
+/// every one has. The time then grows with the size of the file alone, except that the name of a version or of a file
+/// is read once for each record that has it. The earlier content of the places is ignored.
+pub fn check_file_in<'a, 'data, E: EndianParse>(
+    file: &'a ElfBytes<'data, E>,
+    needed: &mut [Option<Needed>],
+    defined: &mut [Option<VerDefIterator<'data, E>>],
 ) -> FileVerdict<WholeFile<'a, 'data, E>>
     ensures { IsVerdict (whole_view E.little) (object_file E.little (view file.now)) result }
 {
@@ -29,7 +51,7 @@ pub fn check_file<'a, 'data, E: EndianParse>(
     let terminated = names.map(|names| TerminatedStrings::new(&names));
     match first_bad_section(file, &terminated) {
         Some((index, fault)) => FileVerdict::Faulty(FileFault::Section { index, fault }),
-        None => match versions_fault(file) {
+        None => match versions_fault(file, needed, defined) {
             Some(fault) => FileVerdict::Faulty(FileFault::Versions(fault)),
             None => FileVerdict::Sound(WholeFile {
                 file,

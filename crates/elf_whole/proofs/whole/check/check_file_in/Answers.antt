@@ -4,7 +4,7 @@ use Rattle.elf.specs.ObjectFile.{object_file}
 use Rattle.elf_whole.specs.Faults.{IsTrueOf}
 use Rattle.elf_whole.specs.declared.faults.FileFault.TheVariants.{Section, Versions}
 use Rattle.elf_whole.proofs.Verdicts.{true_fault}
-use Rattle.elf_whole.proofs.whole.check.check_file.Goals as goal
+use Rattle.elf_whole.proofs.whole.check.check_file_in.Goals as goal
 
 pub returns-in-Some-first_bad_section : goal.returns-in-Some-first_bad_section
 returns-in-Some-first_bad_section g c =
