@@ -1,4 +1,4 @@
--- Linked records that are looked at one after the other.
+-- Linked records that are checked in order.
 use Rattle.std.proofs.Common.{◌≡◌, ◌↔◌, ℕ, zero, suc, ◌+◌, ◌<◌, Bool, true, false, not, List, [], ◌∷◌, length, take, drop, Option, Some, None, IsTrue, refl, ap, sym, ◌∙◌, subst, arith, add-one, MatchOption}
 use Rattle.std.specs.List.{AllByRecursion, slice_get}
 use Rattle.std.specs.Option.{IsSomeAnd, is_some}

@@ -10,7 +10,7 @@ use Rattle.elf_whole.specs.Notes.{IsNoNote, notes_end}
 pub end_after : (little : Bool) (align : ℕ) (bytes : List ℕ) (o : ℕ) (p : NoteContent × ℕ) → note_at little align bytes o ≡ Ok p → notes_end o (note_links little align bytes o) ≡ notes_end p.1 (note_links little align bytes p.1)
 end_after little align bytes o p e = ap (notes_end o) (note_first little align bytes o p e)
 
--- where there is none
+-- if there is none
 pub end_here : (little : Bool) (align : ℕ) (bytes : List ℕ) (o : ℕ) (e : ParseError) → note_at little align bytes o ≡ Err e → notes_end o (note_links little align bytes o) ≡ o
 end_here little align bytes o e h = ap (notes_end o) (note_refused little align bytes o e h)
 

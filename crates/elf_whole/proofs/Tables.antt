@@ -1,4 +1,4 @@
--- Members of tables that are looked at one after the other.
+-- Members of tables that are checked in order.
 use Rattle.std.proofs.Common.{◌≡◌, ◌↔◌, ℕ, ◌+◌, ◌<◌, ◌≤◌, ◌^◌, length, Some, Result, Ok, Err, refl, sym, subst, inl, inr, arith}
 use Rattle.std.proofs.lemmas.Bool.{cases_lt}
 use Rattle.std.specs.Result.{IsOk, IsOkAnd, result_ok}

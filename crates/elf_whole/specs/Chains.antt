@@ -1,11 +1,11 @@
--- When linked records are sound: as many as are declared, the last of which has no next one.
+-- When linked records are sound: as many as are declared, and the last one has no next one.
 use Rattle.std.specs.Prelude.{◌≡◌, ◌≢◌, ℕ, ◌+◌, ◌<◌, List, [], ◌∷◌, length, slice_get, take}
 use Rattle.std.specs.Option.{IsSomeAnd}
 use Rattle.std.specs.List.{AllByRecursion}
 use Rattle.elf_whole.specs.declared.faults.ChainFault.{ChainFault}
 use Rattle.elf_whole.specs.declared.faults.ChainFault.TheVariants.{At, NotLast, Short}
 
--- the distance that the last record gives, or d where there is none
+-- the distance that the last record gives, or d if there is none
 abbrev pub last_distance : {A : Type 0} → (A → ℕ) → ℕ → List (ℕ × A) → ℕ
 last_distance distance d [] = d
 last_distance distance d (link ∷ after) = last_distance distance (distance link.1) after
@@ -16,7 +16,7 @@ total_extent extent [] = 0
 total_extent extent (link ∷ after) = extent link.1 + total_extent extent after
 
 module _ {A : Type 0} (distance : A → ℕ) (IsSound : ℕ × A → Type 0) where
-  -- exactly so many records, each of which is sound; the last one says that there is no next one
+  -- exactly this number of records, and each is sound; the last one says that there is no next one
   pub record SoundChain (count : ℕ) (list : List (ℕ × A)) : Type 0 where
     pub all : length list ≡ count
     pub ends : last_distance distance 0 list ≡ 0

@@ -1,4 +1,5 @@
--- When relocations are sound (gABI, chapter "Relocation"), and what their faults say.
+-- When relocations are sound (gABI, chapter "Relocation"), and what their faults say. The symbol is that of the gABI's
+-- r_info; files of 64-bit MIPS pack theirs otherwise.
 use Rattle.std.specs.Prelude.{◌≡◌, ◌≢◌, ℕ, ◌/◌, ◌%◌, ◌<◌, ◌≤◌, ◌==◌, if◌then◌else◌, List, length, Option, Some, None, Result, Ok}
 use Rattle.std.specs.Option.{IsSomeAnd, option_and_then}
 use Rattle.std.specs.Result.{IsOkAnd, result_ok}

@@ -35,7 +35,7 @@ pub(crate) trait Extent: Linked + Drop {
         ensures { result ≡ extent self.now };
 }
 
-// Whether these linked records, each with its auxiliary records, take at most so many bytes.
+// Whether these linked records, each with its auxiliary records, take at most `limit` bytes.
 pub(crate) fn do_fit<E: EndianParse, R: Extent>(links: Links<'_, E, R>, limit: u64) -> bool
     ensures { IsTrue result ↔ (total_extent R.extent (links_left R.reads.record_at R.next_distance links.entry) ≤ limit) }
 {
@@ -50,7 +50,7 @@ pub(crate) fn do_fit<E: EndianParse, R: Extent>(links: Links<'_, E, R>, limit: u
     true
 }
 
-// What these linked records lack, of which there are to be `count`.
+// What these linked records lack, if `count` of them are declared.
 pub(crate) fn chain_fault<E: EndianParse, R: Checkable>(
     links: Links<'_, E, R>,
     count: u64,

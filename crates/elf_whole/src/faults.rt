@@ -180,7 +180,7 @@ pub enum FileFault {
     /// The names of the sections cannot be read.
     #[error("no names of sections")]
     NoNames,
-    /// More than one section has this type, of which there is to be one at most.
+    /// More than one section has this type, and there is to be one at most.
     #[error("more than one section of type {sh_type:#x}")]
     Repeated { sh_type: u32 },
     /// This is the first section that is not sound.

@@ -6,8 +6,7 @@ ghost use Rattle.elf.specs.Answers.{symbols_of, symbols_view};
 ghost use Rattle.elf.specs.Data.{content};
 ghost use Rattle.elf.specs.ElfBytes.{view};
 ghost use Rattle.elf.specs.ObjectFile.{object_file};
-ghost use Rattle.elf_whole.specs.Hashes.{IsTrueOfHash};
-ghost use Rattle.elf_whole.specs.Hashes.{SoundHash};
+ghost use Rattle.elf_whole.specs.Hashes.{IsTrueOfHash, SoundHash};
 ghost use Rattle.elf_whole.specs.Symbols.{holds_symbols};
 
 use crate::faults::HashSectionFault;

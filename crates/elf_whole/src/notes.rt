@@ -4,8 +4,7 @@ ghost use Rattle.std.specs.Result.{IsOkAnd};
 ghost use Rattle.elf.specs.Data.{content};
 ghost use Rattle.elf.specs.ElfBytes.{view};
 ghost use Rattle.elf.specs.ObjectFile.{object_file};
-ghost use Rattle.elf_whole.specs.Notes.{IsNoNote};
-ghost use Rattle.elf_whole.specs.Notes.{SoundNotes};
+ghost use Rattle.elf_whole.specs.Notes.{IsNoNote, SoundNotes};
 
 mod bytes;
 

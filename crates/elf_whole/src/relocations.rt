@@ -4,8 +4,7 @@ ghost use Rattle.elf.specs.Data.{content};
 ghost use Rattle.elf.specs.ElfBytes.{view};
 ghost use Rattle.elf.specs.ObjectFile.{object_file};
 ghost use Rattle.elf_records.specs.Table.{table_get, table_in, table_len, table_view};
-ghost use Rattle.elf_whole.specs.Members.{IsFirstFault};
-ghost use Rattle.elf_whole.specs.Members.{AllSound};
+ghost use Rattle.elf_whole.specs.Members.{AllSound, IsFirstFault};
 ghost use Rattle.elf_whole.specs.Relocations.{IsTrueOfRelocations, IsTrueOfTable, NamesNone, SoundRelocationTable, SoundRelocations};
 ghost use Rattle.elf_whole.specs.Relocations.{symbols_counted, symbols_to_name};
 
@@ -54,7 +53,7 @@ fn record_below<E: EndianParse, P: PlainRecord>(table: &ParsingTable<'_, E, P>, 
     table.get(index).unwrap()
 }
 
-// The first relocation that names none of so many symbols, and the number that it names instead.
+// The first relocation that names no symbol below this number, and the symbol that it names.
 fn first_without_symbol<E: EndianParse, P: Relocation>(
     table: &ParsingTable<'_, E, P>,
     symbols: usize,
@@ -73,7 +72,7 @@ fn first_without_symbol<E: EndianParse, P: Relocation>(
     None
 }
 
-// What these relocations lack, where there are so many symbols to name.
+// What these relocations lack, if there are this many symbols to name.
 fn table_fault<E: EndianParse, P: Relocation>(
     endian: E,
     class: Class,
@@ -105,7 +104,7 @@ fn symbols_counted<E: EndianParse>(file: &ElfBytes<'_, E>, linked: &SectionHeade
     }
 }
 
-// How many symbols the relocations of a section have to name.
+// How many symbols the relocations of a section can name.
 fn symbols_to_name<E: EndianParse>(file: &ElfBytes<'_, E>, shdr: &SectionHeader) -> Option<usize>
     ensures { result ≡ symbols_to_name (object_file E.little (view file.now)) shdr.now }
 {

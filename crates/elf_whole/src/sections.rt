@@ -9,12 +9,9 @@ ghost use Rattle.elf.specs.Data.{content};
 ghost use Rattle.elf.specs.ElfBytes.{view};
 ghost use Rattle.elf.specs.Names.{name_table};
 ghost use Rattle.elf.specs.ObjectFile.{object_file};
-ghost use Rattle.elf_whole.specs.Members.{IsFirstFault};
-ghost use Rattle.elf_whole.specs.Sections.{IsTrueOfContent, IsTrueOfSection};
-ghost use Rattle.elf_whole.specs.Symbols.{IsTrueOfSymbols};
-ghost use Rattle.elf_whole.specs.Members.{AllSound};
-ghost use Rattle.elf_whole.specs.Sections.{SoundContent, SoundSection};
-ghost use Rattle.elf_whole.specs.Symbols.{HoldsSymbols, SoundSymbols};
+ghost use Rattle.elf_whole.specs.Members.{AllSound, IsFirstFault};
+ghost use Rattle.elf_whole.specs.Sections.{IsTrueOfContent, IsTrueOfSection, SoundContent, SoundSection};
+ghost use Rattle.elf_whole.specs.Symbols.{HoldsSymbols, IsTrueOfSymbols, SoundSymbols};
 ghost use Rattle.elf_whole.specs.Sections.{IsPlain, is_compressed, is_structural, name_in};
 
 use crate::dynamic::dynamic_fault;
@@ -131,7 +128,7 @@ fn has_readable_name(names: &Option<TerminatedStrings<'_>>, shdr: &SectionHeader
     }
 }
 
-// Whether records, strings or tables of a section are read where its header says, by its type.
+// Whether the records, strings or tables of a section are read as they lie in the file, by its type.
 fn is_structural(shdr: &SectionHeader) -> bool
     ensures { result ≡ is_structural shdr.now }
 {

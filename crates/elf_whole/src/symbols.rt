@@ -3,9 +3,8 @@ ghost use Rattle.std.specs.Prelude.{◌≡◌, ◌<◌, MatchOption, Ok};
 ghost use Rattle.elf_parts.specs.Hash.{symbol_at};
 ghost use Rattle.elf_records.specs.Table.{table_len, table_view};
 ghost use Rattle.elf_records.specs.Symbol.{symbol_reads};
-ghost use Rattle.elf_whole.specs.Symbols.{IsFirstOfTable, IsTrueOfSymbol};
+ghost use Rattle.elf_whole.specs.Symbols.{IsFirstOfTable, IsTrueOfSymbol, SoundSymbol};
 ghost use Rattle.elf_whole.specs.Members.{AllSound};
-ghost use Rattle.elf_whole.specs.Symbols.{SoundSymbol};
 
 use crate::faults::SymbolFault;
 use crate::strings::has_string;

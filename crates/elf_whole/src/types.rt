@@ -17,7 +17,7 @@ fn is_repeated<E: EndianParse>(file: &ElfBytes<'_, E>, sh_type: u32) -> bool
     }
 }
 
-// The first type that more than one section has, of the types of which a file has one section at most.
+// The first type that more than one section has, of those of which a file has one section at most.
 pub(crate) fn repeated_type<E: EndianParse>(file: &ElfBytes<'_, E>) -> Option<u32>
     ensures { result ≡ repeated_type (object_file E.little (view file.now)) }
 {

@@ -106,7 +106,7 @@ fn definitions_fault<E: EndianParse>(
     }
 }
 
-// The same, where there is such a section.
+// What the section of needs lacks, if there is one.
 fn needs_fault_if<E: EndianParse>(
     file: &ElfBytes<'_, E>,
     shdr: &Option<SectionHeader>,
@@ -120,6 +120,7 @@ fn needs_fault_if<E: EndianParse>(
     }
 }
 
+// What the section of definitions lacks, if there is one.
 fn definitions_fault_if<E: EndianParse>(
     file: &ElfBytes<'_, E>,
     shdr: &Option<SectionHeader>,

@@ -51,7 +51,7 @@ pub record SoundVersionsOf (file : ObjectFile) (chosen : VersionSections) (s : S
   pub whole : s.sh_size % size_by version_index_layout file.class ≡ 0
   pub indexes : IsOkAnd (versions_of file chosen s) (SoundIndexesOf file)
 
--- the sections that the versions are taken from, where there are version indexes
+-- the sections that the versions are taken from, if there are version indexes
 abbrev pub SoundVersions : ObjectFile → Type 0
 SoundVersions file =
     let chosen = version_sections file.sections in IfSome chosen.indexes (SoundVersionsOf file chosen)

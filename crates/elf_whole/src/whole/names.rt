@@ -9,7 +9,7 @@ ghost use Rattle.elf_whole.specs.inner.VersionProps.{AllText-prop};
 use elf::endian::EndianParse;
 use elf::gnu_symver::SymbolNamesIterator;
 
-/// The names of a version, each of which is text. After its first `None` it keeps returning `None`.
+/// The names of a version. Each is text. After its first `None` it keeps returning `None`.
 #[derive(Debug, Drop)]
 pub struct WholeNames<'data, E: EndianParse> {
     names: SymbolNamesIterator<'data, E>,

@@ -2,7 +2,7 @@
 ghost use Rattle.std.specs.Prelude.{◌≡◌, MatchOption, Ok, length};
 ghost use Rattle.std.specs.Option.{option_map};
 ghost use Rattle.elf_records.specs.StringTable.{strings_view};
-ghost use Rattle.elf.specs.Answers.{symbols_of};
+ghost use Rattle.elf.specs.Answers.{section_data_as_notes, symbols_of};
 ghost use Rattle.elf.specs.Data.{section_data};
 ghost use Rattle.elf.specs.ElfBytes.{view};
 ghost use Rattle.elf.specs.ObjectFile.{object_file};
@@ -11,7 +11,6 @@ ghost use Rattle.std.specs.Prelude.{◌≢◌};
 ghost use Rattle.std.specs.Result.{IsOkAnd};
 ghost use Rattle.elf_abi.specs.Values.{sht_hash, sht_note};
 ghost use Rattle.elf_parts.specs.Note.{notes_left};
-ghost use Rattle.elf.specs.Answers.{section_data_as_notes};
 ghost use Rattle.elf_check.specs.declared.hashcheck.any.HashKind.TheVariants.{Sysv};
 ghost use Rattle.elf_whole.specs.Hashes.{SoundHash, hash_object};
 ghost use Rattle.elf_whole.specs.Notes.{SoundNotes};

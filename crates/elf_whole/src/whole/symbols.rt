@@ -7,8 +7,7 @@ ghost use Rattle.elf_records.specs.Table.{table_items, table_len, table_view};
 ghost use Rattle.elf_records.specs.StringTable.{strings_view};
 ghost use Rattle.elf_records.specs.Symbol.{symbol_reads};
 ghost use Rattle.elf_reading.specs.Leading.{data_view};
-ghost use Rattle.elf_whole.specs.Symbols.{AllNamed, with_names};
-ghost use Rattle.elf_whole.specs.Symbols.{SoundSymbolTable};
+ghost use Rattle.elf_whole.specs.Symbols.{AllNamed, SoundSymbolTable, with_names};
 ghost use Rattle.elf_whole.specs.inner.SoundProps.{SoundSymbolTable-prop};
 
 use super::iter::WholeSymbolsIter;
