@@ -1,5 +1,6 @@
 -- When dynamic entries are sound (gABI, chapter "Dynamic Section").
-use Rattle.std.specs.Prelude.{◌≡◌, ◌≢◌, ℕ, ◌%◌, ◌||◌, Bool, not, if◌then◌else◌, List, length, map, Option, Some, None, Result, Ok, IsTrue, is_ok}
+use Rattle.std.specs.Prelude.{◌≡◌, ◌≢◌, ℕ, ◌%◌, ◌||◌, Bool, not, if◌then◌else◌, List, length, map, Option, Some, None}
+use Rattle.std.specs.Prelude.{Result, Ok, IsTrue, is_ok}
 use Rattle.std.specs.List.{list_all, list_any, position, take_while}
 use Rattle.std.specs.Result.{IsErr, IsOkAnd, result_ok}
 use Rattle.elf_abi.specs.Values.{dt_needed, dt_null, dt_rpath, dt_runpath, dt_soname, sht_strtab}
@@ -14,14 +15,15 @@ use Rattle.elf.specs.Data.{content}
 use Rattle.elf.specs.ObjectFile.{ObjectFile, table_of}
 use Rattle.elf.specs.Versions.{linked_strings}
 use Rattle.elf_whole.specs.declared.faults.DynamicFault.{DynamicFault}
-use Rattle.elf_whole.specs.declared.faults.DynamicFault.TheVariants.{EntrySize, NoNull, NoString, NoStrings, NotLinked, PartOfEntry}
+use Rattle.elf_whole.specs.declared.faults.DynamicFault.TheVariants.{EntrySize, NoNull, NoString, NoStrings}
+use Rattle.elf_whole.specs.declared.faults.DynamicFault.TheVariants.{NotLinked, PartOfEntry}
 
 -- the entries before the first with the tag DT_NULL, which ends a table
 abbrev pub before_null : List Dyn → List Dyn
 before_null entries = take_while (λ entry. not (has_tag dt_null entry)) entries
 
--- whether the number of an entry is the offset of a string: of a library that is needed, of the file's own name, or of a
--- list of folders
+-- whether the number of an entry is the offset of a string: of a library that is needed, of the file's own name, or of
+-- a list of folders
 abbrev pub names_string : Dyn → Bool
 names_string entry =
     has_tag dt_needed entry || has_tag dt_soname entry || has_tag dt_rpath entry || has_tag dt_runpath entry

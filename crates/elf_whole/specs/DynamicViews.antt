@@ -19,4 +19,5 @@ entry_view found = (found.0, option_map (λ string. string.now) found.1)
 module _ {E : Type 0} {order : EndianGhosts E} {default : DefaultGhosts E} {equal : PartialEqGhosts E} where
   -- the entries that are left to yield, each with its string
   abbrev pub entries_left : WholeDynamic E order default equal → List (Dyn × Option (List ℕ))
-  entries_left s = entries_with_strings (strings_view s.strings) (if s.ended then [] else before_null (items_left dyn_reads s.entries))
+  entries_left s = entries_with_strings (strings_view s.strings) (if s.ended then [] else before_null (items_left
+      dyn_reads s.entries))

@@ -1,5 +1,5 @@
--- What each fault says of a file. The faults are looked for in the order of the cases below, and each case says that the
--- ones before it are not there.
+-- What each fault says of a file. The faults are looked for in the order of the cases below, and each case says that
+-- the ones before it are not there.
 use Rattle.std.specs.Prelude.{◌≡◌, Some, None, IsOk, IsErr}
 use Rattle.elf.specs.Names.{name_table}
 use Rattle.elf.specs.ObjectFile.{ObjectFile}

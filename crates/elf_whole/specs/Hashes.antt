@@ -28,7 +28,8 @@ SoundHash kind file s = IsOkAnd (file.section_at s.sh_link) (λ linked.
 
 abbrev pub IsTrueOfHash : HashKind → ObjectFile → SectionHeader → HashSectionFault → Type 0
 IsTrueOfHash kind file s NotLinked = ¬ IsOkAnd (file.section_at s.sh_link) (λ linked. IsTrue (holds_symbols linked))
-IsTrueOfHash kind file s NoTable = IsOkAnd (file.section_at s.sh_link) (λ linked. IsErr (hash_object kind file s linked))
+IsTrueOfHash kind file s NoTable = IsOkAnd (file.section_at s.sh_link) (λ linked. IsErr (hash_object kind file s
+    linked))
 IsTrueOfHash kind file s (Unsound fault) =
     IsOkAnd (file.section_at s.sh_link) (λ linked. IsOkAnd (hash_object kind file s linked) (λ object.
     (¬ IsSound object) × IsTrueOfObject object fault))

@@ -1,6 +1,7 @@
 -- When relocations are sound (gABI, chapter "Relocation"), and what their faults say. The symbol is that of the gABI's
 -- r_info; files of 64-bit MIPS pack theirs otherwise.
-use Rattle.std.specs.Prelude.{◌≡◌, ◌≢◌, ℕ, ◌/◌, ◌%◌, ◌<◌, ◌≤◌, ◌==◌, if◌then◌else◌, List, length, Option, Some, None, Result, Ok}
+use Rattle.std.specs.Prelude.{◌≡◌, ◌≢◌, ℕ, ◌/◌, ◌%◌, ◌<◌, ◌≤◌, ◌==◌, if◌then◌else◌, List, length, Option, Some, None}
+use Rattle.std.specs.Prelude.{Result, Ok}
 use Rattle.std.specs.Option.{IsSomeAnd, option_and_then}
 use Rattle.std.specs.Result.{IsOkAnd, result_ok}
 use Rattle.elf_records.specs.Number.{ok_map}
@@ -28,8 +29,8 @@ symbols_counted file linked =
     if holds_symbols linked
     then Some (linked.sh_size / size_by symbol_layout file.class) else None
 
--- how many symbols the relocations of a section can name: those of the section that is linked, or if none is linked symbol
--- 0 alone, which is no symbol
+-- how many symbols the relocations of a section can name: those of the section that is linked, or if none is linked
+-- symbol 0 alone, which is no symbol
 abbrev pub symbols_to_name : ObjectFile → SectionHeader → Option ℕ
 symbols_to_name file s =
     if s.sh_link == 0 then Some 1 else option_and_then (symbols_counted file) (result_ok (file.section_at s.sh_link))

@@ -1,8 +1,11 @@
 -- When a section is sound (gABI, chapters "Sections" and "String Table"), and what its faults say.
-use Rattle.std.specs.Prelude.{◌≡◌, ◌⊎◌, ℕ, ◌==◌, ◌||◌, bit_and, nat_lt, not, Bool, List, [], ◌∷◌, filter, length, Option, Result, IsOk, IsErr, IsTrue}
+use Rattle.std.specs.Prelude.{◌≡◌, ◌⊎◌, ℕ, ◌==◌, ◌||◌, bit_and, nat_lt, not, Bool, List, [], ◌∷◌, filter, length}
+use Rattle.std.specs.Prelude.{Option, Result, IsOk, IsErr, IsTrue}
 use Rattle.std.specs.List.{find}
 use Rattle.std.specs.Result.{IsOkAnd}
-use Rattle.elf_abi.specs.Values.{shf_compressed, sht_dynamic, sht_dynsym, sht_gnu_hash, sht_gnu_verdef, sht_gnu_verneed, sht_gnu_versym, sht_hash, sht_note, sht_rel, sht_rela, sht_strtab, sht_symtab}
+use Rattle.elf_abi.specs.Values.{shf_compressed, sht_dynamic, sht_dynsym, sht_gnu_hash, sht_gnu_verdef}
+use Rattle.elf_abi.specs.Values.{sht_gnu_verneed, sht_gnu_versym, sht_hash, sht_note, sht_rel, sht_rela, sht_strtab}
+use Rattle.elf_abi.specs.Values.{sht_symtab}
 use Rattle.elf_records.specs.Record.{◌>>=◌}
 use Rattle.elf_records.specs.Relocation.{rel_reads, rela_reads}
 use Rattle.elf_records.specs.StringTable.{string_at}
@@ -21,7 +24,8 @@ use Rattle.elf_whole.specs.Relocations.{IsTrueOfRelocations, SoundRelocations}
 use Rattle.elf_whole.specs.Strings.{EndsInNul}
 use Rattle.elf_whole.specs.Symbols.{HoldsSymbols, IsTrueOfSymbols, SoundSymbols}
 use Rattle.elf_whole.specs.declared.faults.SectionFault.{SectionFault}
-use Rattle.elf_whole.specs.declared.faults.SectionFault.TheVariants.{Compressed, Dynamic, Hash, NoBytes, NoLastNul, NoName, NoNote, Relocations, Symbols}
+use Rattle.elf_whole.specs.declared.faults.SectionFault.TheVariants.{Compressed, Dynamic, Hash, NoBytes, NoLastNul}
+use Rattle.elf_whole.specs.declared.faults.SectionFault.TheVariants.{NoName, NoNote, Relocations, Symbols}
 
 -- ---- types of which a file has one section at most
 
@@ -80,8 +84,8 @@ pub record SoundContent (file : ObjectFile) (s : SectionHeader) : Type 0 where
   pub dynamic : s.sh_type ≡ sht_dynamic → SoundDynamic file s
   pub notes : s.sh_type ≡ sht_note → SoundNotes file s
 
--- its name, its bytes and its compression header can be read, it is not compressed if its type is one of those above, and
--- its content is sound
+-- its name, its bytes and its compression header can be read, it is not compressed if its type is one of those above,
+-- and its content is sound
 pub record SoundSection (file : ObjectFile) (s : SectionHeader) : Type 0 where
   pub name : IsOk (section_name file s)
   pub bytes : IsOk (section_data file s)

@@ -6,8 +6,8 @@ use Rattle.elf_whole.specs.Members.{AllSound}
 use Rattle.elf_whole.specs.Sections.{SoundSection, repeated_type}
 use Rattle.elf_whole.specs.versions.InFile.{SoundVersions}
 
--- the names of the sections can be read, no type of which there is to be one section has two, each section is sound, and
--- so are the versions of symbols
+-- the names of the sections can be read, no type of which there is to be one section has two, each section is sound,
+-- and so are the versions of symbols
 pub record SoundFile (file : ObjectFile) : Type 0 where
   pub names : IsOk (name_table file)
   pub single : repeated_type file ≡ None

@@ -1,5 +1,6 @@
 -- When symbols are sound (gABI, chapter "Symbol Table"), and what their faults say.
-use Rattle.std.specs.Prelude.{◌≡◌, ◌≢◌, ◌⊎◌, ℕ, ◌%◌, ◌<◌, ◌≤◌, ◌==◌, ◌||◌, Bool, List, [], length, map, slice_get, Some, IsOk, IsErr}
+use Rattle.std.specs.Prelude.{◌≡◌, ◌≢◌, ◌⊎◌, ℕ, ◌%◌, ◌<◌, ◌≤◌, ◌==◌, ◌||◌, Bool, List, [], length, map, slice_get}
+use Rattle.std.specs.Prelude.{Some, IsOk, IsErr}
 use Rattle.std.specs.Result.{IsOkAnd, result_unwrap_or}
 use Rattle.elf_abi.specs.Values.{sht_dynsym, sht_strtab, sht_symtab}
 use Rattle.elf_records.specs.Record.{size_by}
@@ -15,7 +16,8 @@ use Rattle.elf_whole.specs.Members.{AllSound, IsFirstFault}
 use Rattle.elf_whole.specs.declared.faults.SymbolFault.{SymbolFault}
 use Rattle.elf_whole.specs.declared.faults.SymbolFault.TheVariants.{NoName, NoSection}
 use Rattle.elf_whole.specs.declared.faults.SymbolsFault.{SymbolsFault}
-use Rattle.elf_whole.specs.declared.faults.SymbolsFault.TheVariants.{At, BadLink, LinkedToNoStrings, NoSymbols, PartOfSymbol}
+use Rattle.elf_whole.specs.declared.faults.SymbolsFault.TheVariants.{At, BadLink, LinkedToNoStrings, NoSymbols}
+use Rattle.elf_whole.specs.declared.faults.SymbolsFault.TheVariants.{PartOfSymbol}
 
 -- section numbers starting at this one are reserved: they name no section
 abbrev pub shn_loreserve : ℕ
@@ -30,7 +32,8 @@ pub record SoundSymbol (sections : ℕ) (strings : List ℕ) (symbol : Symbol) :
 abbrev pub SoundSymbolTable : ℕ → Table → List ℕ → Type 0
 SoundSymbolTable sections symbols strings = AllSound (symbol_at symbols) (SoundSymbol sections strings)
 
--- the section is linked to strings and has the entry size of symbols, it holds a whole number of them, and each is sound
+-- the section is linked to strings and has the entry size of symbols, it holds a whole number of them, and each is
+-- sound
 pub record SoundSymbols (file : ObjectFile) (s : SectionHeader) : Type 0 where
   pub linked : IsOkAnd (with_linked file s) (λ pair. pair.1.sh_type ≡ sht_strtab)
   pub whole : s.sh_size % size_by symbol_layout file.class ≡ 0

@@ -37,7 +37,8 @@ pub(crate) trait Extent: Linked + Drop {
 
 // Whether these linked records, each with its auxiliary records, take at most `limit` bytes.
 pub(crate) fn do_fit<E: EndianParse, R: Extent>(links: Links<'_, E, R>, limit: u64) -> bool
-    ensures { IsTrue result ↔ (total_extent R.extent (links_left R.reads.record_at R.next_distance links.entry) ≤ limit) }
+    ensures { IsTrue result ↔ (total_extent R.extent (links_left R.reads.record_at R.next_distance links.entry) ≤
+        limit) }
 {
     let mut room = limit;
     for (_, record) in links {
@@ -59,7 +60,8 @@ pub(crate) fn chain_fault<E: EndianParse, R: Checkable>(
     requires { length (links_left R.reads.record_at R.next_distance links) ≤ count }
     ensures { let list = links_left R.reads.record_at R.next_distance links.entry in
         let sound = R.sound (strings_view strings.now) (links_view links.entry) in
-        MatchOption result (SoundChain R.next_distance sound count list) (IsTrueOfChain R.next_distance sound count list) }
+        MatchOption result (SoundChain R.next_distance sound count list) (IsTrueOfChain R.next_distance sound count
+        list) }
 {
     let mut found = 0;
     let mut distance = 0;

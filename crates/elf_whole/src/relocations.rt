@@ -5,7 +5,8 @@ ghost use Rattle.elf.specs.ElfBytes.{view};
 ghost use Rattle.elf.specs.ObjectFile.{object_file};
 ghost use Rattle.elf_records.specs.Table.{table_get, table_in, table_len, table_view};
 ghost use Rattle.elf_whole.specs.Members.{AllSound, IsFirstFault};
-ghost use Rattle.elf_whole.specs.Relocations.{IsTrueOfRelocations, IsTrueOfTable, NamesNone, SoundRelocationTable, SoundRelocations};
+ghost use Rattle.elf_whole.specs.Relocations.{IsTrueOfRelocations, IsTrueOfTable, NamesNone, SoundRelocationTable};
+ghost use Rattle.elf_whole.specs.Relocations.{SoundRelocations};
 ghost use Rattle.elf_whole.specs.Relocations.{symbols_counted, symbols_to_name};
 
 use crate::faults::RelocationsFault;

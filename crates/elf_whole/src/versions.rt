@@ -8,8 +8,10 @@ ghost use Rattle.elf_parts.specs.gnu_symver.Records.{version_index_layout};
 ghost use Rattle.elf_parts.specs.gnu_symver.Table.{versions_view};
 ghost use Rattle.elf.specs.ElfBytes.{view};
 ghost use Rattle.elf.specs.ObjectFile.{object_file};
-ghost use Rattle.elf_whole.specs.versions.InFile.{IsTrueOfDefs, IsTrueOfIndexes, IsTrueOfNeeds, IsTrueOfVersions, IsTrueOfVersionsOf};
-ghost use Rattle.elf_whole.specs.versions.InFile.{SoundDefsOf, SoundIndexesOf, SoundNeedsOf, SoundVersions, SoundVersionsOf};
+ghost use Rattle.elf_whole.specs.versions.InFile.{IsTrueOfDefs, IsTrueOfIndexes, IsTrueOfNeeds, IsTrueOfVersions};
+ghost use Rattle.elf_whole.specs.versions.InFile.{IsTrueOfVersionsOf};
+ghost use Rattle.elf_whole.specs.versions.InFile.{SoundDefsOf, SoundIndexesOf, SoundNeedsOf, SoundVersions};
+ghost use Rattle.elf_whole.specs.versions.InFile.{SoundVersionsOf};
 ghost use Rattle.elf_whole.specs.versions.InFile.{with_strings};
 ghost use Rattle.elf_whole.specs.Whole.{strings_beside};
 ghost use Rattle.elf_reading.specs.Versions.{version_sections};
@@ -37,7 +39,8 @@ fn with_strings<'data, E: EndianParse>(
     file: &ElfBytes<'data, E>,
     shdr: &SectionHeader,
 ) -> Option<(&'data [u8], StringTable<'data>)>
-    ensures { option_map strings_beside result ≡ result_ok (with_strings (object_file E.little (view file.now)) shdr.now) }
+    ensures { option_map strings_beside result ≡ result_ok (with_strings (object_file E.little (view file.now))
+        shdr.now) }
 {
     let bytes = get_bytes(file.data(), shdr.sh_offset as usize, shdr.sh_size as usize).ok()?;
     let linked = file.section_at(shdr.sh_link as usize).ok()?;
@@ -112,7 +115,8 @@ fn needs_fault_if<E: EndianParse>(
     shdr: &Option<SectionHeader>,
 ) -> Option<VersionsFault>
     ensures { let whole = object_file E.little (view file.now) in
-        MatchOption result (IfSome shdr.now (SoundNeedsOf whole)) (λ fault. IsSomeAnd shdr.now (λ s. IsTrueOfNeeds whole s fault)) }
+        MatchOption result (IfSome shdr.now (SoundNeedsOf whole)) (λ fault. IsSomeAnd shdr.now (λ s. IsTrueOfNeeds
+        whole s fault)) }
 {
     match shdr {
         Some(shdr) => needs_fault(file, shdr),
@@ -126,7 +130,8 @@ fn definitions_fault_if<E: EndianParse>(
     shdr: &Option<SectionHeader>,
 ) -> Option<VersionsFault>
     ensures { let whole = object_file E.little (view file.now) in
-        MatchOption result (IfSome shdr.now (SoundDefsOf whole)) (λ fault. IsSomeAnd shdr.now (λ s. IsTrueOfDefs whole s fault)) }
+        MatchOption result (IfSome shdr.now (SoundDefsOf whole)) (λ fault. IsSomeAnd shdr.now (λ s. IsTrueOfDefs
+        whole s fault)) }
 {
     match shdr {
         Some(shdr) => definitions_fault(file, shdr),
@@ -142,7 +147,8 @@ fn indexes_fault<'data, E: EndianParse>(
     defined: &mut [Option<VerDefIterator<'data, E>>],
 ) -> Option<VersionsFault>
     ensures { let whole = object_file E.little (view file.now) in
-        MatchOption result (SoundIndexesOf whole (versions_view table.now)) (IsTrueOfIndexes whole (versions_view table.now)) }
+        MatchOption result (SoundIndexesOf whole (versions_view table.now)) (IsTrueOfIndexes whole (versions_view
+        table.now)) }
 {
     let Ok(Some((symbols, _))) = file.dynamic_symbol_table() else {
         return Some(VersionsFault::NoDynamicSymbols);

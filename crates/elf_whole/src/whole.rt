@@ -43,8 +43,10 @@ pub struct WholeFile<'a, 'data, E: EndianParse> {
     file: &'a ElfBytes<'data, E>,
     names: Option<StringTable<'data>>,
     sections: usize,
-    ghost sound: { SoundFile (object_file E.little (view file.now)) } by { SoundFile-prop (object_file E.little (view file.now)) },
-    ghost named: { IsNamed (object_file E.little (view file.now)) (option_map strings_view names) } by { IsNamed-prop (object_file E.little (view file.now)) (option_map strings_view names) },
+    ghost sound: { SoundFile (object_file E.little (view file.now)) } by { SoundFile-prop (object_file E.little (view
+        file.now)) },
+    ghost named: { IsNamed (object_file E.little (view file.now)) (option_map strings_view names) } by { IsNamed-prop
+        (object_file E.little (view file.now)) (option_map strings_view names) },
     ghost counted: { sections ≡ length (object_file E.little (view file.now)).sections },
 }
 
@@ -116,7 +118,8 @@ impl<'a, 'data, E: EndianParse> WholeFile<'a, 'data, E> {
 
     /// The section of an index, or `None` exactly if there is none.
     pub fn section(&self, index: usize) -> Option<WholeSection<'a, 'data, E>>
-        ensures header { option_map section_header result ≡ result_ok ((whole_view E.little self.now).section_at index) }
+        ensures header { option_map section_header result ≡ result_ok ((whole_view E.little self.now).section_at
+            index) }
         ensures same { IfSome result (λ s. section_file E.little s ≡ whole_view E.little self.now) }
     {
         match self.file.section_at(index) {

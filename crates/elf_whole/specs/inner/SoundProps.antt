@@ -33,13 +33,15 @@ IsNamed file names = result_ok (name_table file) ≡ Some names
 pub IsNamed-prop : (file : ObjectFile) (names : Option (List ℕ)) → IsProp (IsNamed file names)
 IsNamed-prop file names = hlevel (Coded-set, codes)
 
-pub SoundSymbolTable-prop : (sections : ℕ) (symbols : Table) (strings : List ℕ) → IsProp (SoundSymbolTable sections symbols strings)
+pub SoundSymbolTable-prop : (sections : ℕ) (symbols : Table) (strings : List ℕ) → IsProp (SoundSymbolTable sections
+    symbols strings)
 SoundSymbolTable-prop sections symbols strings = hlevel (le_prop, Coded-set, codes)
 
 pub SoundSymbols-prop : (file : ObjectFile) (s : SectionHeader) → IsProp (SoundSymbols file s)
 SoundSymbols-prop file s = hlevel (IsOkAnd-prop, SoundSymbolTable-prop, le_prop, Coded-set, codes)
 
-pub SoundRelocations-prop : {R : Type 0} (reads : RecordType R) (symbol_of : R → ℕ) (file : ObjectFile) (s : SectionHeader) → IsProp (SoundRelocations reads symbol_of file s)
+pub SoundRelocations-prop : {R : Type 0} (reads : RecordType R) (symbol_of : R → ℕ) (file : ObjectFile) (s :
+    SectionHeader) → IsProp (SoundRelocations reads symbol_of file s)
 SoundRelocations-prop reads symbol_of file s = hlevel (IsSomeAnd-prop, IsOkAnd-prop, le_prop, Coded-set, codes)
 
 pub IsSound-prop : (object : Object) → IsProp (IsSound object)
@@ -56,7 +58,17 @@ pub SoundDynamic-prop : (file : ObjectFile) (s : SectionHeader) → IsProp (Soun
 SoundDynamic-prop file s = hlevel (IsOkAnd-prop, Coded-set, codes)
 
 SoundContent-prop : (file : ObjectFile) (s : SectionHeader) → IsProp (SoundContent file s)
-SoundContent-prop file s = hlevel (IsOkAnd-prop, SoundDynamic-prop, SoundHash-prop, SoundNotes-prop, SoundRelocations-prop, SoundSymbols-prop, le_prop, Coded-set, codes)
+SoundContent-prop file s = hlevel (
+  IsOkAnd-prop,
+  SoundDynamic-prop,
+  SoundHash-prop,
+  SoundNotes-prop,
+  SoundRelocations-prop,
+  SoundSymbols-prop,
+  le_prop,
+  Coded-set,
+  codes,
+)
 
 pub SoundSection-prop : (file : ObjectFile) (s : SectionHeader) → IsProp (SoundSection file s)
 SoundSection-prop file s = hlevel (SoundContent-prop, Coded-set, codes)
@@ -70,9 +82,18 @@ SoundDefsOf-prop file s = hlevel (IsOkAnd-prop, SoundDefs-prop)
 SoundIndexesOf-prop : (file : ObjectFile) (versions : Versions) → IsProp (SoundIndexesOf file versions)
 SoundIndexesOf-prop file versions = hlevel (IsOkAnd-prop, IsSomeAnd-prop, Coded-set, codes)
 
-SoundVersionsOf-prop : (file : ObjectFile) (chosen : VersionSections) (s : SectionHeader) → IsProp (SoundVersionsOf file chosen s)
+SoundVersionsOf-prop : (file : ObjectFile) (chosen : VersionSections) (s : SectionHeader) → IsProp (SoundVersionsOf
+    file chosen s)
 SoundVersionsOf-prop file chosen s =
-    hlevel (IfSome-prop (SoundNeedsOf file) (SoundNeedsOf-prop file), IfSome-prop (SoundDefsOf file) (SoundDefsOf-prop file), IsOkAnd-prop, SoundIndexesOf-prop, Coded-set, codes)
+    hlevel (
+      IfSome-prop (SoundNeedsOf file) (SoundNeedsOf-prop file),
+      IfSome-prop (SoundDefsOf file)
+          (SoundDefsOf-prop file),
+      IsOkAnd-prop,
+      SoundIndexesOf-prop,
+      Coded-set,
+      codes,
+    )
 
 SoundVersions-prop : (file : ObjectFile) → IsProp (SoundVersions file)
 SoundVersions-prop file =

@@ -22,7 +22,13 @@ TextDefinitions-prop : (defs : Definitions) → IsProp (TextDefinitions defs)
 TextDefinitions-prop defs = hlevel (AllByRecursion-prop, IsOkAnd-prop, Coded-set, codes)
 
 pub SoundVersionTable-prop : (versions : Versions) → IsProp (SoundVersionTable versions)
-SoundVersionTable-prop versions = hlevel (IfSome-prop TextNeeds TextNeeds-prop, IfSome-prop TextDefinitions TextDefinitions-prop, Coded-set, codes)
+SoundVersionTable-prop versions = hlevel (
+  IfSome-prop TextNeeds TextNeeds-prop,
+  IfSome-prop TextDefinitions
+      TextDefinitions-prop,
+  Coded-set,
+  codes,
+)
 
 SoundNeed-prop : (strings : List ℕ) (t : Table) (link : ℕ × VerNeed) → IsProp (SoundNeed strings t link)
 SoundNeed-prop strings t link = hlevel (AllByRecursion-prop, IsOkAnd-prop, Coded-set, codes)

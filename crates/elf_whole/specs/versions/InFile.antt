@@ -12,7 +12,8 @@ use Rattle.elf_parts.specs.gnu_symver.Records.{version_index_layout, version_ind
 use Rattle.elf_parts.specs.gnu_symver.Table.{Versions}
 use Rattle.elf_whole.specs.Chains.{IsTrueOfChain, total_extent}
 use Rattle.elf_whole.specs.versions.Indexes.{IsFirstUnknown, SoundIndexes}
-use Rattle.elf_whole.specs.versions.Records.{SoundDef, SoundDefs, SoundNeed, SoundNeeds, def_extent, def_links, need_extent, need_links}
+use Rattle.elf_whole.specs.versions.Records.{SoundDef, SoundDefs, SoundNeed, SoundNeeds, def_extent, def_links}
+use Rattle.elf_whole.specs.versions.Records.{need_extent, need_links}
 use Rattle.elf.specs.Answers.{dynamic_symbol_table}
 use Rattle.elf.specs.Headers.{section_range}
 use Rattle.elf.specs.ObjectFile.{ObjectFile, table_of}
@@ -20,12 +21,17 @@ use Rattle.elf.specs.Versions.{linked_strings, versions_of}
 use Rattle.elf_reading.specs.Versions.{version_sections}
 use Rattle.elf_reading.specs.declared.versions.VersionSections.{VersionSections}
 use Rattle.elf_whole.specs.declared.faults.VersionsFault.{VersionsFault}
-use Rattle.elf_whole.specs.declared.faults.VersionsFault.TheVariants.{CountOfIndexes, DefinitionsTooLong, DefinitionsUnreadable, FaultyDefinitions, FaultyNeeds}
-use Rattle.elf_whole.specs.declared.faults.VersionsFault.TheVariants.{IndexesUnreadable, NeedsTooLong, NeedsUnreadable, NoDynamicSymbols, PartOfIndex, UnknownIndex}
+use Rattle.elf_whole.specs.declared.faults.VersionsFault.TheVariants.{CountOfIndexes, DefinitionsTooLong}
+use Rattle.elf_whole.specs.declared.faults.VersionsFault.TheVariants.{DefinitionsUnreadable, FaultyDefinitions}
+use Rattle.elf_whole.specs.declared.faults.VersionsFault.TheVariants.{FaultyNeeds}
+use Rattle.elf_whole.specs.declared.faults.VersionsFault.TheVariants.{IndexesUnreadable, NeedsTooLong}
+use Rattle.elf_whole.specs.declared.faults.VersionsFault.TheVariants.{NeedsUnreadable, NoDynamicSymbols, PartOfIndex}
+use Rattle.elf_whole.specs.declared.faults.VersionsFault.TheVariants.{UnknownIndex}
 
 -- the bytes of a section, and those of the section that it links to
 abbrev pub with_strings : ObjectFile → SectionHeader → Result (List ℕ × List ℕ) ParseError
-with_strings file s = section_range file.bytes s >>= λ bytes. ok_map (λ strings. (bytes, strings)) (linked_strings file s)
+with_strings file s = section_range file.bytes s >>= λ bytes. ok_map (λ strings. (bytes, strings)) (linked_strings
+    file s)
 
 -- a section of needs: exactly sh_info of them
 abbrev pub SoundNeedsOf : ObjectFile → SectionHeader → Type 0
@@ -61,7 +67,8 @@ SoundVersions file =
 abbrev pub IsTrueOfNeeds : ObjectFile → SectionHeader → VersionsFault → Type 0
 IsTrueOfNeeds file s NeedsUnreadable = IsErr (with_strings file s)
 IsTrueOfNeeds file s (FaultyNeeds fault) = IsOkAnd (with_strings file s) (λ found.
-    let t = table_of file found.0 in IsTrueOfChain (λ x. x.vn_next) (SoundNeed found.1 t) s.sh_info (need_links t s.sh_info) fault)
+    let t = table_of file found.0 in IsTrueOfChain (λ x. x.vn_next) (SoundNeed found.1 t) s.sh_info (need_links t
+    s.sh_info) fault)
 IsTrueOfNeeds file s NeedsTooLong = IsOkAnd (with_strings file s) (λ found.
     length found.0 < total_extent need_extent (need_links (table_of file found.0) s.sh_info))
 IsTrueOfNeeds file s fault = ⊥
@@ -69,7 +76,8 @@ IsTrueOfNeeds file s fault = ⊥
 abbrev pub IsTrueOfDefs : ObjectFile → SectionHeader → VersionsFault → Type 0
 IsTrueOfDefs file s DefinitionsUnreadable = IsErr (with_strings file s)
 IsTrueOfDefs file s (FaultyDefinitions fault) = IsOkAnd (with_strings file s) (λ found.
-    let t = table_of file found.0 in IsTrueOfChain (λ x. x.vd_next) (SoundDef found.1 t) s.sh_info (def_links t s.sh_info) fault)
+    let t = table_of file found.0 in IsTrueOfChain (λ x. x.vd_next) (SoundDef found.1 t) s.sh_info (def_links t
+    s.sh_info) fault)
 IsTrueOfDefs file s DefinitionsTooLong = IsOkAnd (with_strings file s) (λ found.
     length found.0 < total_extent def_extent (def_links (table_of file found.0) s.sh_info))
 IsTrueOfDefs file s fault = ⊥
@@ -84,18 +92,25 @@ IsTrueOfIndexes file versions fault = ⊥
 
 abbrev pub IsTrueOfVersionsOf : ObjectFile → VersionSections → SectionHeader → VersionsFault → Type 0
 IsTrueOfVersionsOf file chosen s NeedsUnreadable = IsSomeAnd chosen.needs (λ n. IsTrueOfNeeds file n NeedsUnreadable)
-IsTrueOfVersionsOf file chosen s (FaultyNeeds fault) = IsSomeAnd chosen.needs (λ n. IsTrueOfNeeds file n (FaultyNeeds fault))
-IsTrueOfVersionsOf file chosen s DefinitionsUnreadable = IsSomeAnd chosen.definitions (λ d. IsTrueOfDefs file d DefinitionsUnreadable)
-IsTrueOfVersionsOf file chosen s (FaultyDefinitions fault) = IsSomeAnd chosen.definitions (λ d. IsTrueOfDefs file d (FaultyDefinitions fault))
+IsTrueOfVersionsOf file chosen s (FaultyNeeds fault) = IsSomeAnd chosen.needs (λ n. IsTrueOfNeeds file n (FaultyNeeds
+    fault))
+IsTrueOfVersionsOf file chosen s DefinitionsUnreadable = IsSomeAnd chosen.definitions (λ d. IsTrueOfDefs file d
+    DefinitionsUnreadable)
+IsTrueOfVersionsOf file chosen s (FaultyDefinitions fault) = IsSomeAnd chosen.definitions (λ d. IsTrueOfDefs file d
+    (FaultyDefinitions fault))
 IsTrueOfVersionsOf file chosen s NeedsTooLong = IsSomeAnd chosen.needs (λ n. IsTrueOfNeeds file n NeedsTooLong)
 IsTrueOfVersionsOf file chosen s DefinitionsTooLong =
     IsSomeAnd chosen.definitions (λ d. IsTrueOfDefs file d DefinitionsTooLong)
 IsTrueOfVersionsOf file chosen s PartOfIndex = s.sh_size % size_by version_index_layout file.class ≢ 0
 IsTrueOfVersionsOf file chosen s IndexesUnreadable = IsErr (versions_of file chosen s)
-IsTrueOfVersionsOf file chosen s NoDynamicSymbols = IsOkAnd (versions_of file chosen s) (λ v. IsTrueOfIndexes file v NoDynamicSymbols)
-IsTrueOfVersionsOf file chosen s CountOfIndexes = IsOkAnd (versions_of file chosen s) (λ v. IsTrueOfIndexes file v CountOfIndexes)
-IsTrueOfVersionsOf file chosen s (UnknownIndex symbol) = IsOkAnd (versions_of file chosen s) (λ v. IsTrueOfIndexes file v (UnknownIndex symbol))
+IsTrueOfVersionsOf file chosen s NoDynamicSymbols = IsOkAnd (versions_of file chosen s) (λ v. IsTrueOfIndexes file v
+    NoDynamicSymbols)
+IsTrueOfVersionsOf file chosen s CountOfIndexes = IsOkAnd (versions_of file chosen s) (λ v. IsTrueOfIndexes file v
+    CountOfIndexes)
+IsTrueOfVersionsOf file chosen s (UnknownIndex symbol) = IsOkAnd (versions_of file chosen s) (λ v. IsTrueOfIndexes
+    file v (UnknownIndex symbol))
 
 abbrev pub IsTrueOfVersions : ObjectFile → VersionsFault → Type 0
 IsTrueOfVersions file fault =
-    let chosen = version_sections file.sections in IsSomeAnd chosen.indexes (λ s. IsTrueOfVersionsOf file chosen s fault)
+    let chosen = version_sections file.sections in IsSomeAnd chosen.indexes (λ s. IsTrueOfVersionsOf file chosen s
+    fault)

@@ -1,12 +1,14 @@
 -- Which version a symbol has (GNU symbol versioning): none of its own, one that another file must have, or one that is
 -- defined.
-use Rattle.std.specs.Prelude.{◌≡◌, ℕ, ◌<◌, ◌==◌, Bool, if◌then◌else◌, Option, Some, None, IsSome, IfSome, Result, Ok, option_map, List}
+use Rattle.std.specs.Prelude.{◌≡◌, ℕ, ◌<◌, ◌==◌, Bool, if◌then◌else◌, Option, Some, None, IsSome, IfSome, Result, Ok}
+use Rattle.std.specs.Prelude.{option_map, List}
 use Rattle.std.specs.List.{AllByRecursion}
 use Rattle.std.specs.Option.{option_or}
 use Rattle.elf_records.specs.Number.{ok_map}
 use Rattle.elf_records.specs.declared.parse.ParseError.{ParseError}
 use Rattle.elf_parts.specs.gnu_symver.Records.{version_index, version_index_reads}
-use Rattle.elf_parts.specs.gnu_symver.Table.{Definition, Definitions, Needs, Requirement, Versions, definition_with, index_of, requirement_with}
+use Rattle.elf_parts.specs.gnu_symver.Table.{Definition, Definitions, Needs, Requirement, Versions, definition_with}
+use Rattle.elf_parts.specs.gnu_symver.Table.{index_of, requirement_with}
 use Rattle.elf_parts.specs.declared.gnu_symver.records.VerDef.{VerDef}
 use Rattle.elf_parts.specs.declared.gnu_symver.records.VerDefAux.{VerDefAux}
 use Rattle.elf_parts.specs.declared.gnu_symver.records.VerNeed.{VerNeed}
@@ -30,8 +32,8 @@ abbrev pub defined_with : Option Definitions → VersionIndex → Option Definit
 defined_with None version = None
 defined_with (Some defs) version = definition_with defs version
 
--- the version with an index, if there is one: 0 and 1 name none of the tables; else what is needed with it, or else what
--- is defined with it
+-- the version with an index, if there is one: 0 and 1 name none of the tables; else what is needed with it, or else
+-- what is defined with it
 abbrev pub version_with_index : Versions → VersionIndex → Option Version
 version_with_index versions version =
     if version_index version == 0 then Some LocalVersion
@@ -51,7 +53,8 @@ SoundIndexes versions =
 -- the index of this symbol, the first one, is that of none
 pub record IsFirstUnknown (versions : Versions) (i : ℕ) : Type 0 where
   pub here : symbol_version versions i ≡ Ok None
-  pub before : (k : ℕ) (version : VersionIndex) → k < i → index_of versions k ≡ Ok version → IsSome (version_with_index versions version)
+  pub before : (k : ℕ) (version : VersionIndex) → k < i → index_of versions k ≡ Ok version → IsSome
+      (version_with_index versions version)
 
 -- ---- names that are text
 

@@ -76,7 +76,8 @@ pub(super) fn entries_fault<E: EndianParse>(
     strings: &StringTable<'_>,
 ) -> Option<DynamicFault>
     ensures { let table = table_in (E.little endian) class bytes.now in
-        MatchOption result (SoundEntries (strings_view strings.now) table) (IsTrueOfEntries (strings_view strings.now) table) }
+        MatchOption result (SoundEntries (strings_view strings.now) table) (IsTrueOfEntries (strings_view
+        strings.now) table) }
 {
     if bytes.len() % Dyn::size_for(class) != 0 {
         return Some(DynamicFault::PartOfEntry);

@@ -23,7 +23,9 @@ pub struct WholeDynamic<'data, E: EndianParse> {
     entries: ParsingIterator<'data, E, Dyn>,
     strings: StringTable<'data>,
     ended: bool,
-    ghost read: { IsTrue (list_all (has_its_string (strings_view strings)) (if ended then [] else before_null (items_left dyn_reads entries))) } by { AllRead-prop (strings_view strings) (if ended then [] else before_null (items_left dyn_reads entries)) },
+    ghost read: { IsTrue (list_all (has_its_string (strings_view strings)) (if ended then [] else before_null
+        (items_left dyn_reads entries))) } by { AllRead-prop (strings_view strings) (if ended then [] else
+            before_null (items_left dyn_reads entries)) },
 }
 
 // The string that an entry names.
@@ -42,8 +44,10 @@ impl<'data, E: EndianParse> WholeDynamic<'data, E> {
     ghost use Rattle.elf_whole.specs.DynamicViews.{entries_left};
 
     pub(super) fn new(table: &DynamicTable<'data, E>, strings: StringTable<'data>) -> Self
-        requires { IsTrue (list_all (has_its_string (strings_view strings)) (before_null (table_items dyn_reads (table_view table.now)))) }
-        ensures { entries_left result ≡ entries_with_strings (strings_view strings.entry) (before_null (table_items dyn_reads (table_view table.now))) }
+        requires { IsTrue (list_all (has_its_string (strings_view strings)) (before_null (table_items dyn_reads
+            (table_view table.now)))) }
+        ensures { entries_left result ≡ entries_with_strings (strings_view strings.entry) (before_null (table_items
+            dyn_reads (table_view table.now))) }
     {
         WholeDynamic {
             entries: table.iter(),

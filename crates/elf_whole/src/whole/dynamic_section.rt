@@ -18,7 +18,8 @@ impl<'a, 'data, E: EndianParse> WholeSection<'a, 'data, E> {
     // The entries of a section of dynamic entries.
     fn dynamic_entries(&self) -> WholeDynamic<'data, E>
         requires { (section_header self.now).sh_type ≡ sht_dynamic }
-        ensures { dynamic_entries (section_file E.little self.now) (section_header self.now) ≡ Ok (entries_left result) }
+        ensures { dynamic_entries (section_file E.little self.now) (section_header self.now) ≡ Ok (entries_left
+            result) }
     {
         let (bytes, _) = self.data();
         let linked = self.file.section_at(self.header.sh_link as usize).unwrap();

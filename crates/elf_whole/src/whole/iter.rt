@@ -17,7 +17,8 @@ use elf::symbol::Symbol;
 pub struct WholeSymbolsIter<'data, E: EndianParse> {
     symbols: ParsingIterator<'data, E, Symbol>,
     strings: StringTable<'data>,
-    ghost named: { AllNamed (strings_view strings) (items_left symbol_reads symbols) } by { AllNamed-prop (strings_view strings) (items_left symbol_reads symbols) },
+    ghost named: { AllNamed (strings_view strings) (items_left symbol_reads symbols) } by { AllNamed-prop
+        (strings_view strings) (items_left symbol_reads symbols) },
 }
 
 impl<'data, E: EndianParse> WholeSymbolsIter<'data, E> {

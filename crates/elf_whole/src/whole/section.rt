@@ -38,9 +38,12 @@ pub struct WholeSection<'a, 'data, E: EndianParse> {
     names: Option<StringTable<'data>>,
     pub(super) sections: usize,
     pub(super) header: SectionHeader,
-    ghost whole: { SoundFile (object_file E.little (view file.now)) } by { SoundFile-prop (object_file E.little (view file.now)) },
-    ghost sound: { SoundSection (object_file E.little (view file.now)) header } by { SoundSection-prop (object_file E.little (view file.now)) header },
-    ghost named: { IsNamed (object_file E.little (view file.now)) (option_map strings_view names) } by { IsNamed-prop (object_file E.little (view file.now)) (option_map strings_view names) },
+    ghost whole: { SoundFile (object_file E.little (view file.now)) } by { SoundFile-prop (object_file E.little (view
+        file.now)) },
+    ghost sound: { SoundSection (object_file E.little (view file.now)) header } by { SoundSection-prop (object_file
+        E.little (view file.now)) header },
+    ghost named: { IsNamed (object_file E.little (view file.now)) (option_map strings_view names) } by { IsNamed-prop
+        (object_file E.little (view file.now)) (option_map strings_view names) },
     ghost counted: { sections ≡ length (object_file E.little (view file.now)).sections },
 }
 

@@ -23,7 +23,8 @@ pub struct WholeSymbols<'data, E: EndianParse> {
     symbols: SymbolTable<'data, E>,
     strings: StringTable<'data>,
     sections: usize,
-    ghost sound: { SoundSymbolTable sections (table_view symbols) (strings_view strings) } by { SoundSymbolTable-prop sections (table_view symbols) (strings_view strings) },
+    ghost sound: { SoundSymbolTable sections (table_view symbols) (strings_view strings) } by { SoundSymbolTable-prop
+        sections (table_view symbols) (strings_view strings) },
 }
 
 impl<'data, E: EndianParse> WholeSymbols<'data, E> {

@@ -103,7 +103,8 @@ impl<'data, E: EndianParse> WholeVersions<'data, E> {
     /// The version of a symbol, counted from 0, or `None` exactly if there is no such symbol.
     pub fn version_of(&self, symbol: usize) -> Option<SymbolVersion<'_, E>>
         ensures { MatchOption result (IsErr (index_of (whole_versions self.now) symbol)) (λ shown.
-            IsOkAnd (symbol_version (whole_versions self.now) symbol) (λ found. IsSomeAnd found (λ version. Shows version shown))) }
+            IsOkAnd (symbol_version (whole_versions self.now) symbol) (λ found. IsSomeAnd found (λ version. Shows
+            version shown))) }
     {
         let Ok(index) = self.table.get_index(symbol) else {
             return None;
