@@ -10,4 +10,8 @@ pub mod Dynamics
 pub mod Firsts
 pub mod VersionFaults
 pub mod SoundVersions
+pub mod SegmentsListed
+pub mod SegmentsVerdicts
+pub mod SegmentsFound
+pub mod SegmentsPaths
 pub mod Verdicts

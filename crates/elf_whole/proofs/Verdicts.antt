@@ -35,7 +35,7 @@ use Rattle.elf_whole.specs.declared.faults.DynamicFault.{DynamicFault}
 use Rattle.elf_whole.specs.declared.faults.DynamicFault.TheVariants.{NoNull, NoString, NoStrings, PartOfEntry}
 use Rattle.elf_whole.specs.declared.faults.DynamicFault.TheVariants.{EntrySize as EntrySizeOfDynamic, NotLinked as NotLinkedOfDynamic}
 use Rattle.elf_whole.specs.declared.faults.FileFault.{FileFault}
-use Rattle.elf_whole.specs.declared.faults.FileFault.TheVariants.{NoNames, Repeated, Section, Versions}
+use Rattle.elf_whole.specs.declared.faults.FileFault.TheVariants.{NoNames, Repeated, Section, Segments, Versions}
 use Rattle.elf_whole.specs.declared.faults.HashSectionFault.{HashSectionFault}
 use Rattle.elf_whole.specs.declared.faults.HashSectionFault.TheVariants.{NoTable, NotLinked, Unsound}
 use Rattle.elf_whole.specs.declared.faults.RelocationsFault.{RelocationsFault}
@@ -48,6 +48,7 @@ use Rattle.elf_whole.specs.declared.faults.SymbolsFault.{SymbolsFault}
 use Rattle.elf_whole.specs.declared.faults.SymbolsFault.TheVariants.{At, BadLink, LinkedToNoStrings, NoSymbols, PartOfSymbol}
 use Rattle.elf_whole.proofs.Entries.{one_fails}
 use Rattle.elf_whole.proofs.Tables.{ok_and, ok_from_some}
+use Rattle.elf_whole.proofs.SegmentsVerdicts.{true_segments}
 use Rattle.elf_whole.proofs.VersionFaults.{true_versions}
 
 -- ---- results
@@ -221,6 +222,7 @@ true_fault file (Repeated sh_type) t sound =
 true_fault file (Section i fault) t sound =
     no_first file.section_at (SoundSection file) (IsTrueOfSection file) i fault (λ s. true_section file s fault) t.2 sound.sections
 true_fault file (Versions fault) t sound = true_versions file fault t.3 sound.versions
+true_fault file (Segments fault) t sound = true_segments file fault t.4 sound.segments
 
 -- ---- the content of a section that is read where it lies
 

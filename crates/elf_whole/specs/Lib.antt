@@ -13,6 +13,11 @@ pub mod Notes
 pub mod Sections
 -- the versions of symbols: their records, which version a symbol has, and those of a file
 pub mod versions
+-- the segments: when they are sound, what each fault says, and what those of a checked file show
+pub mod Segments
+pub mod SegmentsFaults
+pub mod SegmentsBytes
+pub mod SegmentsWhole
 -- when a file is sound, what each fault says, and what a check says
 pub mod Sound
 pub mod Faults

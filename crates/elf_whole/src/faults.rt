@@ -1,6 +1,7 @@
 //! What a check of a file says. The texts of the faults name a record by its index, counted from 0, and a string by its
 //! offset in its table, in bytes.
 
+use crate::segments::SegmentsFault;
 use elf_check::hashcheck::HashFault;
 use thiserror::Error;
 
@@ -189,6 +190,9 @@ pub enum FileFault {
     /// The versions of symbols are not sound.
     #[error("versions: {0}")]
     Versions(VersionsFault),
+    /// The segments are not sound.
+    #[error("{0}")]
+    Segments(SegmentsFault),
 }
 
 /// The result of a check: a file whose parts can all be read, or a fault of the file.

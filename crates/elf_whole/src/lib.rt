@@ -9,6 +9,7 @@ mod listed;
 mod notes;
 mod relocations;
 mod sections;
+pub mod segments;
 mod strings;
 mod symbols;
 mod types;

@@ -8,7 +8,7 @@ ghost use Rattle.elf_whole.specs.Notes.{IsNoNote, SoundNotes};
 
 mod bytes;
 
-use bytes::first_no_note;
+pub(crate) use bytes::first_no_note;
 use elf::ElfBytes;
 use elf::endian::EndianParse;
 use elf::section::SectionHeader;

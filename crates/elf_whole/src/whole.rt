@@ -13,6 +13,7 @@ ghost use Rattle.elf_whole.specs.Symbols.{SoundSymbolTable};
 ghost use Rattle.elf_whole.specs.inner.SoundProps.{IsNamed, IsNamed-prop, SoundFile-prop};
 
 use crate::listed::sections_are_listed;
+use crate::segments::WholeSegments;
 use elf::ElfBytes;
 use elf::endian::EndianParse;
 use elf::headers::Headers;
@@ -53,6 +54,7 @@ pub struct WholeFile<'a, 'data, E: EndianParse> {
 impl<'a, 'data, E: EndianParse> WholeFile<'a, 'data, E> {
     ghost use Rattle.elf_whole.specs.Whole.{section_file, section_header, whole_symbols, whole_view};
     ghost use Rattle.elf_whole.specs.versions.Views.{whole_versions};
+    ghost use Rattle.elf_whole.specs.SegmentsWhole.{segments_file};
 
     /// The file that was checked.
     pub fn file(&self) -> &'a ElfBytes<'data, E>
@@ -101,6 +103,13 @@ impl<'a, 'data, E: EndianParse> WholeFile<'a, 'data, E> {
             Some(table) => Some(WholeVersions::new(table)),
             None => None,
         }
+    }
+
+    /// The segments, each with its bytes; none if the file declares no program headers.
+    pub fn segments(&self) -> WholeSegments<'a, 'data, E>
+        ensures { segments_file E.little result ≡ whole_view E.little self.now }
+    {
+        WholeSegments::new(self.file)
     }
 
     /// The first section of a type, or `None` exactly if there is none.

@@ -15,6 +15,7 @@ use Rattle.elf_records.specs.declared.symbol.Symbol.{Symbol}
 use Rattle.elf_parts.specs.gnu_symver.Table.{Versions}
 use Rattle.elf_reading.specs.Versions.{version_sections}
 use Rattle.elf_reading.specs.declared.versions.VersionSections.{VersionSections}
+use Rattle.elf_whole.specs.inner.SegmentsProps.{SoundSegments-prop}
 use Rattle.elf_whole.specs.inner.VersionProps.{IfSome-prop, SoundDefs-prop, SoundNeeds-prop}
 use Rattle.elf_whole.specs.versions.InFile.{SoundDefsOf, SoundIndexesOf, SoundNeedsOf, SoundVersions, SoundVersionsOf}
 use Rattle.elf_whole.specs.Symbols.{AllNamed}
@@ -101,7 +102,7 @@ SoundVersions-prop file =
     IfSome-prop (SoundVersionsOf file chosen) (SoundVersionsOf-prop file chosen) chosen.indexes
 
 pub SoundFile-prop : (file : ObjectFile) → IsProp (SoundFile file)
-SoundFile-prop file = hlevel (SoundSection-prop, SoundVersions-prop, Coded-set, codes)
+SoundFile-prop file = hlevel (SoundSection-prop, SoundVersions-prop, SoundSegments-prop, Coded-set, codes)
 
 pub AllNamed-prop : (strings : List ℕ) (symbols : List Symbol) → IsProp (AllNamed strings symbols)
 AllNamed-prop strings symbols = hlevel (Coded-set, codes)

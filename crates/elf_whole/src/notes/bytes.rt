@@ -5,7 +5,7 @@ ghost use Rattle.elf_whole.specs.Notes.{IsNoNote, NotesFill};
 use elf::note::note_at;
 
 /// Where the first bytes are that are no note, if the notes do not fill the bytes.
-pub(super) fn first_no_note(little: bool, align: usize, bytes: &[u8]) -> Option<usize>
+pub(crate) fn first_no_note(little: bool, align: usize, bytes: &[u8]) -> Option<usize>
     ensures { MatchOption result (NotesFill little align bytes.now) (IsNoNote little align bytes.now) }
 {
     let mut offset = 0;

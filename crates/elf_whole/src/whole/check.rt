@@ -7,6 +7,7 @@ ghost use Rattle.elf_whole.specs.Whole.{whole_view};
 use super::WholeFile;
 use crate::faults::{FileFault, FileVerdict};
 use crate::sections::{first_bad_section, section_count};
+use crate::segments::segments_fault;
 use crate::types::repeated_type;
 use crate::versions::versions_fault;
 use elf::ElfBytes;
@@ -18,7 +19,7 @@ use elf::string_table::TerminatedStrings;
 ///
 /// A fault is the first one in this order: the names of the sections; a type of which there is to be one section, and
 /// there are two; the sections in order, of each its name, its bytes, compression, and its content; the needs, the
-/// definitions and the indexes of versions.
+/// definitions and the indexes of versions; the segments, in the order of `segments_fault`.
 ///
 /// The version of each symbol is looked up by a walk over the needs and the definitions. `check_file_in` takes no such
 /// walks.
@@ -53,11 +54,14 @@ pub fn check_file_in<'a, 'data, E: EndianParse>(
         Some((index, fault)) => FileVerdict::Faulty(FileFault::Section { index, fault }),
         None => match versions_fault(file, needed, defined) {
             Some(fault) => FileVerdict::Faulty(FileFault::Versions(fault)),
-            None => FileVerdict::Sound(WholeFile {
-                file,
-                names,
-                sections: section_count(file),
-            }),
+            None => match segments_fault(file) {
+                Some(fault) => FileVerdict::Faulty(FileFault::Segments(fault)),
+                None => FileVerdict::Sound(WholeFile {
+                    file,
+                    names,
+                    sections: section_count(file),
+                }),
+            },
         },
     }
 }
