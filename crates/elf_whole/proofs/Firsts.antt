@@ -26,6 +26,13 @@ pub found_at : {A : Type 0} (p : A → Bool) (xs : List A) (x : A) → find p xs
 found_at p [] x e = cc
 found_at p (y ∷ xs) x e = found_step p y xs x (p y) refl (found_at p xs x) e
 
+-- it has the type
+pub first_type : (t : ℕ) (sections : List SectionHeader) (s : SectionHeader) → find (is_of_type t) sections ≡ Some s → s.sh_type ≡ t
+first_type t sections s e =
+    let r = found_at (is_of_type t) sections s e in
+    let is : is_of_type t s ≡ true = r.0 in
+    let same : s.sh_type ≡ t = search (rules, tests) in same
+
 -- symbols that can be read, each with its name, or none
 pub record FirstSound (file : ObjectFile) (t : ℕ) : Type 0 where
   pub found : Option (Table × List ℕ)

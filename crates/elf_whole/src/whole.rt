@@ -1,6 +1,8 @@
 //! A file that was checked.
-ghost use Rattle.std.specs.Prelude.{◌≡◌, IfSome, Ok, length};
-ghost use Rattle.std.specs.Option.{option_map};
+ghost use Rattle.std.specs.Prelude.{◌≡◌, IfSome, MatchOption, None, Ok, length};
+ghost use Rattle.std.specs.Option.{IsSomeAnd, option_map};
+ghost use Rattle.elf_abi.specs.Values.{sht_dynamic};
+ghost use Rattle.elf_whole.specs.Dynamic.{dynamic_entries};
 ghost use Rattle.std.specs.Result.{result_ok};
 ghost use Rattle.elf_records.specs.StringTable.{strings_view};
 ghost use Rattle.elf.specs.ElfBytes.{view};
@@ -14,11 +16,11 @@ ghost use Rattle.elf_whole.specs.inner.SoundProps.{IsNamed, IsNamed-prop, SoundF
 
 use crate::listed::sections_are_listed;
 use crate::segments::WholeSegments;
-use elf::ElfBytes;
 use elf::endian::EndianParse;
 use elf::headers::Headers;
 use elf::string_table::StringTable;
 use elf::symbol::SymbolTable;
+use elf::{ElfBytes, abi};
 
 mod check;
 mod dynamic;
@@ -52,6 +54,7 @@ pub struct WholeFile<'a, 'data, E: EndianParse> {
 }
 
 impl<'a, 'data, E: EndianParse> WholeFile<'a, 'data, E> {
+    ghost use Rattle.elf_whole.specs.DynamicViews.{entries_left};
     ghost use Rattle.elf_whole.specs.Whole.{section_file, section_header, whole_symbols, whole_view};
     ghost use Rattle.elf_whole.specs.versions.Views.{whole_versions};
     ghost use Rattle.elf_whole.specs.SegmentsWhole.{segments_file};
@@ -121,6 +124,20 @@ impl<'a, 'data, E: EndianParse> WholeFile<'a, 'data, E> {
         sections_are_listed(self.file);
         match self.file.first_section_of(sh_type) {
             Some(header) => Some(WholeSection::new(self.file, self.names, self.sections, header)),
+            None => None,
+        }
+    }
+
+    /// The dynamic entries of the first section of type `SHT_DYNAMIC`, each with the string that it names, or `None`
+    /// exactly if there is no such section.
+    pub fn dynamic(&self) -> Option<WholeDynamic<'data, E>>
+        ensures { let whole = whole_view E.little self.now in
+            MatchOption result (first_section_of sht_dynamic whole.sections ≡ None) (λ entries.
+            IsSomeAnd (first_section_of sht_dynamic whole.sections) (λ s.
+            dynamic_entries whole s ≡ Ok (entries_left entries))) }
+    {
+        match self.first_section_of(abi::SHT_DYNAMIC) {
+            Some(section) => Some(section.dynamic_entries()),
             None => None,
         }
     }

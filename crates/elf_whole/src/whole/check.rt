@@ -33,8 +33,9 @@ pub fn check_file<'a, 'data, E: EndianParse>(
 
 /// Checks what `check_file` does. Two slices that the caller provides hold what `PlacedVersions` puts there, so that
 /// the version of a symbol is looked up without a walk if its version index has a place; with 32,768 places in each
-/// slice every one has. The time then grows with the size of the file alone, except that the name of a version or of a
-/// file is read once for each record that has it. The earlier content of the places is ignored.
+/// slice every one has. The time then grows with the size of the file and with the names that are read to their ends:
+/// those of the symbols of hash sections, and those of needs, definitions and their versions. The earlier content of
+/// the places is ignored.
 pub fn check_file_in<'a, 'data, E: EndianParse>(
     file: &'a ElfBytes<'data, E>,
     needed: &mut [Option<Needed>],

@@ -16,7 +16,7 @@ impl<'a, 'data, E: EndianParse> WholeSection<'a, 'data, E> {
     ghost use Rattle.elf_whole.specs.Whole.{section_file, section_header};
 
     // The entries of a section of dynamic entries.
-    fn dynamic_entries(&self) -> WholeDynamic<'data, E>
+    pub(super) fn dynamic_entries(&self) -> WholeDynamic<'data, E>
         requires { (section_header self.now).sh_type ≡ sht_dynamic }
         ensures { dynamic_entries (section_file E.little self.now) (section_header self.now) ≡ Ok (entries_left
             result) }
