@@ -1,0 +1,17 @@
+pub mod NoteEnds
+pub mod ChainSteps
+pub mod Texts
+pub mod Looked
+pub mod Entries
+pub mod Tables
+pub mod Named
+pub mod Linked
+pub mod Dynamics
+pub mod Firsts
+pub mod VersionFaults
+pub mod SoundVersions
+pub mod SegmentsListed
+pub mod SegmentsVerdicts
+pub mod SegmentsFound
+pub mod SegmentsPaths
+pub mod Verdicts

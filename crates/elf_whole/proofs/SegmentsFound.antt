@@ -1,0 +1,65 @@
+-- What is found among the segments of a file that are sound.
+use Rattle.std.proofs.Common.{◌≡◌, ℕ, suc, ◌==◌, Bool, true, false, List, [], ◌∷◌, Option, Some, None, Result, Ok, Err, refl, ap, sym, ◌∙◌, subst, rules, tests, if◌then◌else◌}
+use Rattle.std.proofs.lemmas.Option.{slice_get_within}
+use Rattle.std.specs.List.{find, slice_get}
+use Rattle.std.specs.Option.{IsSome, MatchOption, option_map}
+use Rattle.std.specs.Result.{IsOk, IsOkAnd, result_ok}
+use Rattle.elf_records.specs.Number.{ok_map}
+use Rattle.elf_records.specs.declared.segment.ProgramHeader.{ProgramHeader}
+use Rattle.elf.specs.Headers.{first_segment_of}
+use Rattle.elf.specs.ObjectFile.{ObjectFile}
+use Rattle.elf_whole.specs.SegmentsBytes.{AllRead}
+use Rattle.elf_whole.specs.Segments.{SoundSegment, SoundSegments}
+
+-- ---- what is found is a member of the list, and passes the test
+
+found_step : {A : Type 0} (p : A → Bool) (y : A) (xs : List A) (x : A) (b : Bool) → p y ≡ b → (find p xs ≡ Some x → (p x ≡ true) × ((i : ℕ) × (slice_get xs i ≡ Some x))) → (if b then Some y else find p xs) ≡ Some x → (p x ≡ true) × ((i : ℕ) × (slice_get (y ∷ xs) i ≡ Some x))
+found_step {A = A} p y xs x true test later e =
+    let same : y ≡ x = cc in (subst (λ (z : A). p z ≡ true) same test, (0, e))
+found_step p y xs x false test later e = let r = later e in (r.0, (suc r.1.0, r.1.1))
+
+found_at : {A : Type 0} (p : A → Bool) (xs : List A) (x : A) → find p xs ≡ Some x → (p x ≡ true) × ((i : ℕ) × (slice_get xs i ≡ Some x))
+found_at p [] x e = cc
+found_at p (y ∷ xs) x e = found_step p y xs x (p y) refl (found_at p xs x) e
+
+pub member_sound : (file : ObjectFile) (i : ℕ) (p : ProgramHeader) → slice_get file.segments i ≡ Some p → SoundSegments file → SoundSegment file p
+member_sound file i p e sound = sound.each i p (slice_get_within file.segments i p e) e
+
+-- a segment that is found is sound, and has the type
+pub found_sound : (file : ObjectFile) (t : ℕ) (p : ProgramHeader) → first_segment_of t file.segments ≡ Some p → SoundSegments file → SoundSegment file p
+found_sound file t p e sound =
+    let r = found_at (λ p. p.p_type == t) file.segments p e in member_sound file r.1.0 p r.1.1 sound
+
+pub found_type : (t : ℕ) (segments : List ProgramHeader) (p : ProgramHeader) → first_segment_of t segments ≡ Some p → p.p_type ≡ t
+found_type t segments p e = let r = found_at (λ p. p.p_type == t) segments p e in search (rules, tests)
+
+-- ---- bytes that can be read
+
+pub some_of_ok : {A B E : Type 0} (f : A → B) (o : Option A) (r : Result B E) → option_map f o ≡ result_ok r → IsOk r → IsSome o
+some_of_ok f (Some x) r e ok = refl
+some_of_ok f None (Ok x) e ok = cc
+some_of_ok f None (Err d) e ok = cc
+
+-- and what they are
+pub ok_of_some : {A E : Type 0} (r : Result A E) (x : A) → Some x ≡ result_ok r → r ≡ Ok x
+ok_of_some (Ok y) x e = cc
+ok_of_some (Err d) x e = cc
+
+pub and_value : {A E : Type 0} (P : A → Type 0) (r : Result A E) (x : A) → r ≡ Ok x → IsOkAnd r P → P x
+and_value {A = A} {E = E} P r x e p = subst (λ (q : Result A E). IsOkAnd q P) e p
+
+pub ok_of_shown : {A B E : Type 0} (f : A → B) (r : Result A E) (shown : Result B E) → ok_map f r ≡ shown → IsOk shown → IsOk r
+ok_of_shown f (Ok x) shown e ok = refl
+ok_of_shown f (Err d) shown e ok = cc
+
+-- ---- segments that an iterator has left to yield
+
+later_read : (file : ObjectFile) (p : ProgramHeader) (olds news : List ProgramHeader) → olds ≡ p ∷ news → AllRead file olds → AllRead file news
+later_read file p olds news e all = λ i q d. all (suc i) q (ap (λ (xs : List ProgramHeader). slice_get xs (suc i)) e ∙ d)
+
+pub read_after : (file : ObjectFile) (r : Option ProgramHeader) (olds news : List ProgramHeader) → MatchOption r ((olds ≡ []) × (news ≡ [])) (λ p. olds ≡ p ∷ news) → AllRead file olds → AllRead file news
+read_after file None olds news steps all = subst (λ (xs : List ProgramHeader). AllRead file xs) (sym steps.1) (λ i p e. absurd (cc))
+read_after file (Some p) olds news steps all = later_read file p olds news steps all
+
+pub all_read : (file : ObjectFile) (segments : List ProgramHeader) → segments ≡ file.segments → SoundSegments file → AllRead file segments
+all_read file segments is sound = λ i p e. (member_sound file i p (subst (λ (xs : List ProgramHeader). slice_get xs i ≡ Some p) is e) sound).bytes

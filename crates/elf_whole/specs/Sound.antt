@@ -1,0 +1,17 @@
+-- When a file is sound (gABI, chapters "Sections" and "Program Header"): what its headers declare can be read.
+use Rattle.std.specs.Prelude.{◌≡◌, None, IsOk}
+use Rattle.elf.specs.Names.{name_table}
+use Rattle.elf.specs.ObjectFile.{ObjectFile}
+use Rattle.elf_whole.specs.Members.{AllSound}
+use Rattle.elf_whole.specs.Sections.{SoundSection, repeated_type}
+use Rattle.elf_whole.specs.Segments.{SoundSegments}
+use Rattle.elf_whole.specs.versions.InFile.{SoundVersions}
+
+-- the names of the sections can be read, no type of which there is to be one section has two, each section is sound,
+-- and so are the versions of symbols and the segments
+pub record SoundFile (file : ObjectFile) : Type 0 where
+  pub names : IsOk (name_table file)
+  pub single : repeated_type file ≡ None
+  pub sections : AllSound file.section_at (SoundSection file)
+  pub versions : SoundVersions file
+  pub segments : SoundSegments file

@@ -1,0 +1,4 @@
+pub mod VersionProps
+pub mod DynamicProps
+pub mod SegmentsProps
+pub mod SoundProps

@@ -1,0 +1,4 @@
+pub mod Records
+pub mod Indexes
+pub mod InFile
+pub mod Views

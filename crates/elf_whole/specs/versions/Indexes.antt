@@ -1,0 +1,80 @@
+-- Which version a symbol has (GNU symbol versioning): none of its own, one that another file must have, or one that is
+-- defined.
+use Rattle.std.specs.Prelude.{◌≡◌, ℕ, ◌<◌, ◌==◌, Bool, if◌then◌else◌, Option, Some, None, IsSome, IfSome, Result, Ok}
+use Rattle.std.specs.Prelude.{option_map, List}
+use Rattle.std.specs.List.{AllByRecursion}
+use Rattle.std.specs.Option.{option_or}
+use Rattle.elf_records.specs.Number.{ok_map}
+use Rattle.elf_records.specs.declared.parse.ParseError.{ParseError}
+use Rattle.elf_parts.specs.gnu_symver.Records.{version_index, version_index_reads}
+use Rattle.elf_parts.specs.gnu_symver.Table.{Definition, Definitions, Needs, Requirement, Versions, definition_with}
+use Rattle.elf_parts.specs.gnu_symver.Table.{index_of, requirement_with}
+use Rattle.elf_parts.specs.declared.gnu_symver.records.VerDef.{VerDef}
+use Rattle.elf_parts.specs.declared.gnu_symver.records.VerDefAux.{VerDefAux}
+use Rattle.elf_parts.specs.declared.gnu_symver.records.VerNeed.{VerNeed}
+use Rattle.elf_parts.specs.declared.gnu_symver.records.VerNeedAux.{VerNeedAux}
+use Rattle.elf_whole.specs.versions.Records.{IsText, IsTextAt}
+use Rattle.elf_parts.specs.declared.gnu_symver.records.VersionIndex.{VersionIndex}
+
+-- the version of a symbol: of this file alone, of no version, of another file, or defined
+pub data Version : Type 0 where
+  LocalVersion : Version
+  GlobalVersion : Version
+  RequiredVersion : Requirement → Version
+  DefinedVersion : Definition → Version
+
+-- what is needed or defined with an index, if anything is
+abbrev pub required_with : Option Needs → VersionIndex → Option Requirement
+required_with None version = None
+required_with (Some needs) version = requirement_with needs version
+
+abbrev pub defined_with : Option Definitions → VersionIndex → Option Definition
+defined_with None version = None
+defined_with (Some defs) version = definition_with defs version
+
+-- the version with an index, if there is one: 0 and 1 name none of the tables; else what is needed with it, or else
+-- what is defined with it
+abbrev pub version_with_index : Versions → VersionIndex → Option Version
+version_with_index versions version =
+    if version_index version == 0 then Some LocalVersion
+    else if version_index version == 1 then Some GlobalVersion
+    else option_or (option_map RequiredVersion (required_with versions.needs version))
+    (option_map DefinedVersion (defined_with versions.definitions version))
+
+-- the version of symbol i, if its index is that of one
+abbrev pub symbol_version : Versions → ℕ → Result (Option Version) ParseError
+symbol_version versions i = ok_map (version_with_index versions) (index_of versions i)
+
+-- each index that can be read is that of a version
+abbrev pub SoundIndexes : Versions → Type 0
+SoundIndexes versions =
+    (i : ℕ) (version : VersionIndex) → index_of versions i ≡ Ok version → IsSome (version_with_index versions version)
+
+-- the index of this symbol, the first one, is that of none
+pub record IsFirstUnknown (versions : Versions) (i : ℕ) : Type 0 where
+  pub here : symbol_version versions i ≡ Ok None
+  pub before : (k : ℕ) (version : VersionIndex) → k < i → index_of versions k ≡ Ok version → IsSome
+      (version_with_index versions version)
+
+-- ---- names that are text
+
+-- the names of a need and of its versions
+abbrev pub TextNeed : List ℕ → VerNeed × List VerNeedAux → Type 0
+TextNeed strings need =
+    IsTextAt strings need.0.vn_file × AllByRecursion (λ aux. IsTextAt strings aux.vna_name) need.1
+
+abbrev pub TextNeeds : Needs → Type 0
+TextNeeds needs = AllByRecursion (TextNeed needs.strings) needs.list
+
+-- the names of a definition
+abbrev pub TextDefinition : List ℕ → VerDef × List VerDefAux → Type 0
+TextDefinition strings definition = AllByRecursion (λ aux. IsTextAt strings aux.vda_name) definition.1
+
+abbrev pub TextDefinitions : Definitions → Type 0
+TextDefinitions defs = AllByRecursion (TextDefinition defs.strings) defs.list
+
+-- all names, and each index is that of a version
+pub record SoundVersionTable (versions : Versions) : Type 0 where
+  pub needs : IfSome versions.needs TextNeeds
+  pub definitions : IfSome versions.definitions TextDefinitions
+  pub indexes : SoundIndexes versions

@@ -1,0 +1,22 @@
+//! The check of a whole file. A file that was checked is read without errors.
+#![tactic(auto)]
+
+mod chains;
+mod dynamic;
+pub mod faults;
+mod hashes;
+mod listed;
+mod notes;
+mod relocations;
+mod sections;
+pub mod segments;
+mod strings;
+mod symbols;
+mod types;
+mod versions;
+mod whole;
+
+pub use whole::{
+    SymbolVersion, WholeDefinition, WholeDynamic, WholeFile, WholeNames, WholeSection,
+    WholeSymbols, WholeSymbolsIter, WholeVersions, check_file, check_file_in,
+};

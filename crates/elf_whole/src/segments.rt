@@ -1,0 +1,82 @@
+//! The check of the segments of a file (gABI, chapters "Program Header" and "Program Loading").
+ghost use Rattle.std.specs.Prelude.{◌≡◌, MatchOption, MatchResult};
+ghost use Rattle.elf.specs.ElfBytes.{view};
+ghost use Rattle.elf.specs.ObjectFile.{object_file};
+ghost use Rattle.elf_whole.specs.Segments.{SoundSegments, headers_in};
+ghost use Rattle.elf_whole.specs.SegmentsFaults.{IsTrueOfSegments};
+ghost use Rattle.elf_whole.specs.SegmentsWhole.{segments_file};
+
+use each::first_unsound;
+use elf::ElfBytes;
+use elf::endian::EndianParse;
+use elf::segment::SegmentTable;
+use loads::first_overlap;
+use types::types_fault;
+
+mod dynamic;
+mod each;
+mod faults;
+mod iter;
+mod loads;
+mod table;
+mod types;
+mod whole;
+
+pub use faults::{SegmentFault, SegmentsFault};
+pub use iter::WholeSegmentsIter;
+pub use whole::WholeSegments;
+
+// What the segments of a table lack.
+fn table_fault<E: EndianParse>(
+    file: &ElfBytes<'_, E>,
+    table: &SegmentTable<'_, E>,
+) -> Option<SegmentsFault>
+    requires { headers_in table.now ≡ (object_file E.little (view file.now)).segments }
+    ensures { let whole = object_file E.little (view file.now) in
+        MatchOption result (SoundSegments whole) (IsTrueOfSegments whole) }
+{
+    match types_fault(table) {
+        Some(fault) => return Some(fault),
+        None => {}
+    }
+    match first_unsound(file, table) {
+        Some(fault) => return Some(fault),
+        None => {}
+    }
+    match first_overlap(table) {
+        Some((first, index)) => Some(SegmentsFault::OverlappingLoad { first, index }),
+        None => None,
+    }
+}
+
+/// Returns what the segments of a file lack, or `None` exactly if they are sound: of the types `PT_INTERP`,
+/// `PT_DYNAMIC`, `PT_PHDR` and `PT_TLS` there is one at most, `PT_PHDR` comes before the loaded segments, each segment
+/// is sound, and the loaded ones are in the order of their addresses and have no address in common. A file without
+/// segments is sound.
+///
+/// The fault is the first one in this order: types, in the order above; segments, in the order of the table; the
+/// overlap whose second segment comes first. Allocates nothing. The time is linear in the number of the headers and in
+/// the number of the bytes in segments of the types `PT_NOTE` and `PT_DYNAMIC`.
+pub fn segments_fault<E: EndianParse>(file: &ElfBytes<'_, E>) -> Option<SegmentsFault>
+    ensures { let whole = object_file E.little (view file.now) in
+        MatchOption result (SoundSegments whole) (λ fault. (¬ SoundSegments whole) × IsTrueOfSegments whole fault) }
+{
+    match file.segments() {
+        Some(table) => table_fault(file, &table),
+        None => None,
+    }
+}
+
+/// Checks the segments of a file: `Ok` exactly if they are sound, otherwise the fault of `segments_fault`.
+pub fn check_segments<'a, 'data, E: EndianParse>(
+    file: &'a ElfBytes<'data, E>,
+) -> Result<WholeSegments<'a, 'data, E>, SegmentsFault>
+    ensures { let whole = object_file E.little (view file.now) in
+        MatchResult result (λ segments. SoundSegments whole × (segments_file E.little segments ≡ whole))
+        (λ fault. (¬ SoundSegments whole) × IsTrueOfSegments whole fault) }
+{
+    match segments_fault(file) {
+        Some(fault) => Err(fault),
+        None => Ok(WholeSegments::new(file)),
+    }
+}

@@ -1,0 +1,58 @@
+//! The check of version indexes.
+ghost use Rattle.std.specs.Prelude.{◌≡◌, ◌<◌, ◌↔◌, ℕ, Ok, IsOk, MatchOption, is_some};
+ghost use Rattle.elf_parts.specs.gnu_symver.Table.{index_of};
+ghost use Rattle.elf_whole.specs.versions.Indexes.{IsFirstUnknown, SoundIndexes, version_with_index};
+
+use elf::endian::EndianParse;
+use elf::gnu_symver::{SymbolVersions, VersionIndex};
+
+// Whether the index of a symbol is that of a version.
+fn is_known<E: EndianParse, V: SymbolVersions<E>>(
+    table: &V,
+    symbol: usize,
+    index: VersionIndex,
+) -> bool
+    requires { index_of (V.versions table.now) symbol ≡ Ok index }
+    ensures { result ≡ is_some (version_with_index (V.versions table.now) index) }
+{
+    if index.index() == 0 || index.index() == 1 {
+        return true;
+    }
+    match table.get_requirement(symbol) {
+        Ok(None) => match table.get_definition(symbol) {
+            Ok(None) => false,
+            _ => true,
+        },
+        _ => true,
+    }
+}
+
+// The index of a symbol below their number.
+fn index_below<E: EndianParse, V: SymbolVersions<E>>(
+    table: &V,
+    symbol: usize,
+    symbols: usize,
+) -> VersionIndex
+    requires below { symbol < symbols }
+    requires readable { (i : ℕ) → IsOk (index_of (V.versions table.now) i) ↔ (i < symbols) }
+    ensures { index_of (V.versions table.now) symbol ≡ Ok result }
+{
+    table.get_index(symbol).unwrap()
+}
+
+/// The first symbol whose version index is that of no version.
+pub(super) fn first_unknown<E: EndianParse, V: SymbolVersions<E>>(
+    table: &V,
+    symbols: usize,
+) -> Option<usize>
+    requires { (i : ℕ) → IsOk (index_of (V.versions table.now) i) ↔ (i < symbols) }
+    ensures { MatchOption result (SoundIndexes (V.versions table.now)) (IsFirstUnknown (V.versions table.now)) }
+{
+    for symbol in 0..symbols {
+        let index = index_below::<E, V>(table, symbol, symbols);
+        if !is_known::<E, V>(table, symbol, index) {
+            return Some(symbol);
+        }
+    }
+    None
+}

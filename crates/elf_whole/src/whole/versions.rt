@@ -1,0 +1,123 @@
+//! Versions that were checked.
+ghost use Rattle.std.specs.Prelude.{◌≡◌, ◌<◌, ◌↔◌, ℕ, IsOk, Ok, Some, IsErr, IsSome, MatchOption};
+ghost use Rattle.std.specs.List.{AllByRecursion};
+ghost use Rattle.std.specs.Option.{IsSomeAnd};
+ghost use Rattle.std.specs.Result.{IsOkAnd};
+ghost use Rattle.elf_records.specs.Table.{table_len};
+ghost use Rattle.elf_parts.specs.gnu_symver.Records.{version_index_reads};
+ghost use Rattle.elf_parts.specs.gnu_symver.Table.{GivesTexts, definition_view, index_of, versions_view};
+ghost use Rattle.elf_whole.specs.versions.Records.{IsText};
+ghost use Rattle.elf_whole.specs.versions.Indexes.{SoundVersionTable, defined_with, required_with, symbol_version};
+ghost use Rattle.elf_whole.specs.inner.VersionProps.{SoundVersionTable-prop};
+
+use super::names::WholeNames;
+use elf::endian::EndianParse;
+use elf::gnu_symver::{SymbolDefinition, SymbolRequirement, SymbolVersionTable, VersionIndex};
+
+/// The version of a symbol.
+#[derive(Debug, Drop)]
+pub enum SymbolVersion<'data, E: EndianParse> {
+    /// The symbol is local: its index is 0.
+    Local,
+    /// The symbol has no version: its index is 1.
+    Global,
+    /// The version that another file must have.
+    Required(SymbolRequirement<'data>),
+    /// The version with which the symbol is defined. Each of its names is text.
+    Defined(WholeDefinition<'data, E>),
+}
+
+/// The version with which a symbol is defined: its hash, its flags and its names, and whether the symbol's version
+/// index is hidden.
+#[derive(Debug, Drop)]
+pub struct WholeDefinition<'data, E: EndianParse> {
+    pub hash: u32,
+    pub flags: u16,
+    pub names: WholeNames<'data, E>,
+    pub hidden: bool,
+}
+
+impl<'data, E: EndianParse> WholeDefinition<'data, E> {
+    ghost use Rattle.elf_whole.specs.versions.Views.{ShowsDefinition};
+
+    // The same definition, with names that are all text.
+    fn new(found: SymbolDefinition<'data, E>) -> Self
+        requires { AllByRecursion IsText (definition_view found).names }
+        ensures { ShowsDefinition (definition_view found.entry) result }
+    {
+        WholeDefinition {
+            hash: found.hash,
+            flags: found.flags,
+            names: WholeNames::new(found.names),
+            hidden: found.hidden,
+        }
+    }
+}
+
+/// The versions of the symbols of a file that was checked: each symbol has one, and all names are text.
+#[derive(Debug, Drop)]
+pub struct WholeVersions<'data, E: EndianParse> {
+    table: SymbolVersionTable<'data, E>,
+    ghost sound: { SoundVersionTable (versions_view table) } by { SoundVersionTable-prop (versions_view table) },
+}
+
+impl<'data, E: EndianParse> WholeVersions<'data, E> {
+    ghost use Rattle.elf_whole.specs.versions.Views.{Shows, whole_versions};
+
+    // The versions of a table that is sound.
+    pub(super) fn new(table: SymbolVersionTable<'data, E>) -> Self
+        requires { SoundVersionTable (versions_view table) }
+        ensures { whole_versions result ≡ versions_view table.entry }
+    {
+        WholeVersions { table }
+    }
+
+    /// How many symbols there are.
+    pub fn len(&self) -> usize
+        ensures count { result ≡ table_len version_index_reads (whole_versions self.now).indexes }
+        ensures readable { (i : ℕ) → IsOk (index_of (whole_versions self.now) i) ↔ (i < result) }
+    {
+        let indexes = self.table.indexes();
+        indexes.len()
+    }
+
+    // What a symbol needs of another file.
+    fn required(&self, symbol: usize, index: &VersionIndex) -> Option<SymbolRequirement<'_>>
+        requires { index_of (whole_versions self.now) symbol ≡ Ok index.now }
+        ensures { let needed = required_with (whole_versions self.now).needs index.now in
+            MatchOption result (needed ≡ None) (λ found. IsSomeAnd needed (λ r. GivesTexts r (Ok found))) }
+    {
+        self.table.get_requirement(symbol).unwrap()
+    }
+
+    // What a symbol is defined with.
+    fn defined(&self, symbol: usize, index: &VersionIndex) -> SymbolDefinition<'_, E>
+        requires here { index_of (whole_versions self.now) symbol ≡ Ok index.now }
+        requires some { IsSome (defined_with (whole_versions self.now).definitions index.now) }
+        ensures value { defined_with (whole_versions self.now).definitions index.now ≡ Some (definition_view result) }
+        ensures names { AllByRecursion IsText (definition_view result).names }
+    {
+        self.table.get_definition(symbol).unwrap().unwrap()
+    }
+
+    /// The version of a symbol, counted from 0, or `None` exactly if there is no such symbol.
+    pub fn version_of(&self, symbol: usize) -> Option<SymbolVersion<'_, E>>
+        ensures { MatchOption result (IsErr (index_of (whole_versions self.now) symbol)) (λ shown.
+            IsOkAnd (symbol_version (whole_versions self.now) symbol) (λ found. IsSomeAnd found (λ version. Shows
+            version shown))) }
+    {
+        let Ok(index) = self.table.get_index(symbol) else {
+            return None;
+        };
+        match index.index() {
+            0 => Some(SymbolVersion::Local),
+            1 => Some(SymbolVersion::Global),
+            _ => match self.required(symbol, &index) {
+                Some(required) => Some(SymbolVersion::Required(required)),
+                None => Some(SymbolVersion::Defined(WholeDefinition::new(self.defined(
+                    symbol, &index,
+                )))),
+            },
+        }
+    }
+}
