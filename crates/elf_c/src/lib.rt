@@ -1,0 +1,8 @@
+//! The reader `ElfBytes` for C, and for every language that calls C. Nothing is allocated, and nothing is kept between
+//! two calls.
+#![tactic(auto)]
+
+pub mod records;
+pub mod status;
+pub mod strings;
+pub mod table;
