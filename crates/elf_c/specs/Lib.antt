@@ -6,3 +6,7 @@ pub mod Tables
 pub mod Filled
 -- the structs of the records
 pub mod Records
+-- look-ups by hash sections
+pub mod Find
+-- hash sections that are checked
+pub mod Sound

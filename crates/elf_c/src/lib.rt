@@ -2,6 +2,7 @@
 //! two calls.
 #![tactic(auto)]
 
+pub mod find;
 pub mod records;
 pub mod status;
 pub mod strings;
