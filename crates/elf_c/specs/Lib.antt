@@ -10,3 +10,5 @@ pub mod Records
 pub mod Find
 -- hash sections that are checked
 pub mod Sound
+-- notes
+pub mod Notes
