@@ -12,3 +12,8 @@ pub mod Find
 pub mod Sound
 -- notes
 pub mod Notes
+-- files that C holds open
+-- the bytes of sections and segments
+-- symbols, dynamic entries and the names of sections
+-- the versions of symbols
+pub mod Versions

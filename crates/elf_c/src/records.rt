@@ -5,7 +5,7 @@ ghost use Rattle.elf_records.specs.Relocation.{rel_reads, rela_reads};
 ghost use Rattle.elf_records.specs.Section.{section_header_reads};
 ghost use Rattle.elf_records.specs.Segment.{program_header_reads};
 ghost use Rattle.elf_records.specs.Symbol.{symbol_reads};
-ghost use Rattle.elf_records.specs.Table.{table_get};
+ghost use Rattle.elf_records.specs.Table.{table_get, table_len};
 ghost use Rattle.elf_c.specs.Filled.{IsFilled};
 ghost use Rattle.elf_c.specs.Records.{dynamic_shown, rel_shown, rela_shown, section_in, section_shown, segment_in};
 ghost use Rattle.elf_c.specs.Records.{segment_shown, symbol_shown};
@@ -13,7 +13,7 @@ ghost use Rattle.elf_c.specs.Status.{status_of, written};
 ghost use Rattle.elf_c.specs.Tables.{table_of_c};
 
 use crate::status::NugwierStatus;
-use crate::table::{ForC, NugwierTable, fill, get};
+use crate::table::{ForC, NugwierTable, count, fill, get};
 use elf_parts::dynamic::Dyn;
 use elf_parts::relocation::{Rel, Rela};
 use elf_parts::section::SectionHeader;
@@ -360,4 +360,86 @@ pub extern "C" fn nugwier_dynamics(
         IsErr (table_get dyn_reads (table_of_c table.now) (first + result)) ⊎ (2 ^ 64 ≤ first + result) }
 {
     fill::<Dyn>(table, first, dynamics)
+}
+
+/// Fills `sections` with the section headers of a table starting at number `first`, and returns how many these are: up to
+/// the first that cannot be read, and no more than there are places.
+#[unsafe(no_mangle)]
+pub extern "C" fn nugwier_sections(
+    table: &NugwierTable<'_>,
+    first: usize,
+    sections: &mut [NugwierSection],
+) -> usize
+    ensures count { result ≤ length sections.new }
+    ensures read { IsFilled section_header_reads section_shown (table_of_c table.now) first result sections.new }
+    ensures rest { drop result sections.new ≡ drop result sections.old }
+    ensures all { result < length sections.new →
+        IsErr (table_get section_header_reads (table_of_c table.now) (first + result)) ⊎ (2 ^ 64 ≤ first + result) }
+{
+    fill::<SectionHeader>(table, first, sections)
+}
+
+/// Fills `segments` with the program headers of a table starting at number `first`, and returns how many these are: up to
+/// the first that cannot be read, and no more than there are places.
+#[unsafe(no_mangle)]
+pub extern "C" fn nugwier_segments(
+    table: &NugwierTable<'_>,
+    first: usize,
+    segments: &mut [NugwierSegment],
+) -> usize
+    ensures count { result ≤ length segments.new }
+    ensures read { IsFilled program_header_reads segment_shown (table_of_c table.now) first result segments.new }
+    ensures rest { drop result segments.new ≡ drop result segments.old }
+    ensures all { result < length segments.new →
+        IsErr (table_get program_header_reads (table_of_c table.now) (first + result)) ⊎ (2 ^ 64 ≤ first + result) }
+{
+    fill::<ProgramHeader>(table, first, segments)
+}
+
+/// Returns how many symbols fit into a table.
+#[unsafe(no_mangle)]
+pub extern "C" fn nugwier_symbol_count(table: &NugwierTable<'_>) -> usize
+    ensures { result ≡ table_len symbol_reads (table_of_c table.now) }
+{
+    count::<Symbol>(table)
+}
+
+/// Returns how many section headers fit into a table.
+#[unsafe(no_mangle)]
+pub extern "C" fn nugwier_section_count(table: &NugwierTable<'_>) -> usize
+    ensures { result ≡ table_len section_header_reads (table_of_c table.now) }
+{
+    count::<SectionHeader>(table)
+}
+
+/// Returns how many program headers fit into a table.
+#[unsafe(no_mangle)]
+pub extern "C" fn nugwier_segment_count(table: &NugwierTable<'_>) -> usize
+    ensures { result ≡ table_len program_header_reads (table_of_c table.now) }
+{
+    count::<ProgramHeader>(table)
+}
+
+/// Returns how many relocations fit into a table.
+#[unsafe(no_mangle)]
+pub extern "C" fn nugwier_rel_count(table: &NugwierTable<'_>) -> usize
+    ensures { result ≡ table_len rel_reads (table_of_c table.now) }
+{
+    count::<Rel>(table)
+}
+
+/// Returns how many relocations with an addend fit into a table.
+#[unsafe(no_mangle)]
+pub extern "C" fn nugwier_rela_count(table: &NugwierTable<'_>) -> usize
+    ensures { result ≡ table_len rela_reads (table_of_c table.now) }
+{
+    count::<Rela>(table)
+}
+
+/// Returns how many dynamic entries fit into a table.
+#[unsafe(no_mangle)]
+pub extern "C" fn nugwier_dynamic_count(table: &NugwierTable<'_>) -> usize
+    ensures { result ≡ table_len dyn_reads (table_of_c table.now) }
+{
+    count::<Dyn>(table)
 }

@@ -1,7 +1,8 @@
 //! Strings of a table.
 ghost use Rattle.std.specs.Prelude.{◌≡◌};
 ghost use Rattle.elf_records.specs.StringTable.{string_at};
-ghost use Rattle.elf_c.specs.Status.{status_of, written};
+ghost use Rattle.elf_c.specs.Status.{IsWritten, status_of};
+ghost use Rattle.elf_c.specs.Tables.{bytes_view};
 
 use crate::status::{NugwierStatus, done, refused};
 use elf_parts::string_table::StringTable;
@@ -22,11 +23,11 @@ pub extern "C" fn nugwier_string<'data>(
     string: &mut NugwierBytes<'data>,
 ) -> NugwierStatus
     ensures status { result ≡ status_of (string_at strings.now offset) }
-    ensures string { string.new.bytes.now ≡ written (λ s. s) string.old.bytes.now (string_at strings.now offset) }
+    ensures string { IsWritten bytes_view string.new string.old (string_at strings.now offset) }
 {
     match StringTable::new(strings).get_raw(offset) {
         Ok(found) => {
-            string.bytes = found;
+            *string = NugwierBytes { bytes: found };
             done()
         }
         Err(error) => refused(&error),
