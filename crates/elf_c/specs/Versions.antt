@@ -1,17 +1,27 @@
 -- The versions of symbols as C sees them.
-use Rattle.std.specs.Prelude.{ℕ, Bool, if◌then◌else◌, List, Option, Some, None, Result, Ok, Err}
-use Rattle.elf_parts.specs.gnu_symver.Lists.{ver_defs, ver_needs}
-use Rattle.elf_parts.specs.gnu_symver.Records.{version_index, version_is_hidden}
-use Rattle.elf_parts.specs.gnu_symver.Table.{Definitions, Needs, Requirement, Versions, index_of, requirement}
+use Rattle.std.specs.Prelude.{◌≡◌, ℕ, ◌==◌, Bool, true, false, if◌then◌else◌, List, [], ◌∷◌, Option, Some, None, Result, Ok, Err}
+use Rattle.elf_parts.specs.gnu_symver.Links.{links_in, links_left, records_of}
+use Rattle.elf_parts.specs.gnu_symver.Lists.{ver_def_aux_records, ver_defs, ver_needs}
+use Rattle.elf_parts.specs.gnu_symver.Records.{ver_def_aux_reads, ver_def_reads, version_index, version_is_hidden}
+use Rattle.elf_parts.specs.gnu_symver.Table.{Definition, Definitions, Needs, Requirement, Versions}
+use Rattle.elf_parts.specs.gnu_symver.Table.{index_of, raw_names, requirement}
+use Rattle.elf_parts.specs.declared.gnu_symver.links.Links.{Links}
+use Rattle.elf_parts.specs.declared.gnu_symver.records.VerDef.{VerDef}
+use Rattle.elf_parts.specs.declared.gnu_symver.records.VerDefAux.{VerDefAux}
 use Rattle.elf_parts.specs.declared.gnu_symver.records.VerNeed.{VerNeed}
 use Rattle.elf_parts.specs.declared.gnu_symver.records.VerNeedAux.{VerNeedAux}
 use Rattle.elf_parts.specs.declared.gnu_symver.records.VersionIndex.{VersionIndex}
 use Rattle.elf_records.specs.Record.{◌>>=◌}
 use Rattle.elf_records.specs.declared.parse.ParseError.{ParseError}
-use Rattle.elf_c.specs.Tables.{table_of_c}
+use Rattle.elf_c.specs.Status.{IsWritten, done, status_of}
+use Rattle.elf_c.specs.Tables.{bytes_view, table_of_c}
+use Rattle.elf_c.specs.declared.status.NugwierStatus.{NugwierStatus}
+use Rattle.elf_c.specs.declared.strings.NugwierBytes.{NugwierBytes}
+use Rattle.elf_c.specs.declared.versions.NugwierDefinition.{NugwierDefinition}
 use Rattle.elf_c.specs.declared.versions.NugwierEntries.{NugwierEntries}
 use Rattle.elf_c.specs.declared.versions.NugwierRequirement.{NugwierRequirement}
 use Rattle.elf_c.specs.declared.versions.NugwierVersion.{NugwierVersion}
+use Rattle.elf_c.specs.declared.versions.NugwierVersionNames.{NugwierVersionNames}
 use Rattle.elf_c.specs.declared.versions.NugwierVersions.{NugwierVersions}
 
 -- ---- what the handle holds
@@ -72,3 +82,35 @@ needed_view r =
 
 abbrev pub requirement_view : NugwierRequirement → Option Named
 requirement_view r = if r.found then Some (needed_view r) else None
+
+-- ---- what a symbol is defined with
+
+-- the definitions with the offsets where they begin
+abbrev pub definition_links : NugwierEntries → List (ℕ × VerDef)
+definition_links e = links_in ver_def_reads.record_at (λ x. x.vd_next) (table_of_c e.entries) e.count 0
+
+-- a definition has this index
+abbrev pub has_index : ℕ → ℕ × VerDef → Bool
+has_index index link = link.1.vd_ndx == index
+
+-- the names that an iterator has left to yield, as entries
+abbrev pub aux_of_links : {E : Type 0} → Links E VerDefAux → List VerDefAux
+aux_of_links s = records_of (links_left ver_def_aux_reads.record_at (λ x. x.vda_next) s)
+
+-- the raw names that are left, each a name or an error
+abbrev pub names_left : NugwierVersionNames → List (Result (List ℕ) ParseError)
+names_left n = raw_names n.strings.now (ver_def_aux_records (table_of_c n.entries) n.count n.offset)
+
+abbrev pub defined_view : NugwierDefinition → Definition
+defined_view d = record { hash = d.hash; flags = d.flags; names = names_left d.names; hidden = d.hidden }
+
+abbrev pub definition_view : NugwierDefinition → Option Definition
+definition_view d = if d.found then Some (defined_view d) else None
+
+-- a call took the first name that was left, or nothing was left
+abbrev pub TakesName : List (Result (List ℕ) ParseError) → List (Result (List ℕ) ParseError) → Bool →
+    NugwierBytes → NugwierBytes → NugwierStatus → Type 0
+TakesName [] left found new old status =
+    (left ≡ []) × (found ≡ false) × (new ≡ old) × (status ≡ done)
+TakesName (name ∷ rest) left found new old status =
+    (left ≡ rest) × (found ≡ true) × IsWritten bytes_view new old name × (status ≡ status_of name)
