@@ -17,3 +17,5 @@ pub mod Notes
 -- symbols, dynamic entries and the names of sections
 -- the versions of symbols
 pub mod Versions
+-- the names of values
+pub mod Names

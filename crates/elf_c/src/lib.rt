@@ -3,6 +3,7 @@
 #![tactic(auto)]
 
 pub mod find;
+pub mod names;
 pub mod notes;
 pub mod records;
 pub mod status;
