@@ -1,3 +1,4 @@
 pub mod Filling
 pub mod Least
 pub mod Definitions
+pub mod Files

@@ -19,3 +19,9 @@ pub mod Notes
 pub mod Versions
 -- the names of values
 pub mod Names
+-- files that C holds open
+pub mod File
+-- the bytes of sections and segments
+pub mod Data
+-- symbols, dynamic entries and the names of sections
+pub mod Symbols

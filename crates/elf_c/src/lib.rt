@@ -2,11 +2,15 @@
 //! two calls.
 #![tactic(auto)]
 
+pub mod data;
+pub mod file;
 pub mod find;
 pub mod names;
 pub mod notes;
 pub mod records;
 pub mod status;
 pub mod strings;
+pub mod symbols;
 pub mod table;
+pub mod version_table;
 pub mod versions;
