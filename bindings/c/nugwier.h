@@ -403,6 +403,9 @@ void nugwier_ch_type_name(uint32_t ch_type, struct nugwier_name *name);
 void nugwier_note_abi_tag_os_name(uint32_t os, struct nugwier_name *name);
 void nugwier_d_tag_name(int64_t d_tag, struct nugwier_name *name);
 
+/* The name of the error with the code of a status, as BadMagic. */
+void nugwier_error_name(uint32_t code, struct nugwier_name *name);
+
 #ifdef __cplusplus
 }
 #endif

@@ -1,5 +1,5 @@
 -- A definition that is found by the links is the one that is found by the list.
-use Rattle.std.proofs.Common.{◌≡◌, ℕ, ◌==◌, Bool, List, [], ◌∷◌, map, Option, Some, None, refl, arith}
+use Rattle.std.proofs.Common.{◌≡◌, ℕ, ◌==◌, Bool, List, [], ◌∷◌, map, refl, arith}
 use Rattle.std.proofs.lemmas.Grind.{common_steps}
 use Rattle.std.specs.List.{find}
 use Rattle.std.specs.Option.{option_map}
@@ -7,7 +7,6 @@ use Rattle.elf_parts.specs.gnu_symver.Lists.{ver_def_with_aux, ver_defs}
 use Rattle.elf_parts.specs.gnu_symver.Table.{defined_version}
 use Rattle.elf_parts.specs.declared.gnu_symver.records.VerDef.{VerDef}
 use Rattle.elf_parts.specs.declared.gnu_symver.records.VerDefAux.{VerDefAux}
-use Rattle.elf_records.specs.Table.{Table}
 use Rattle.elf_c.specs.Tables.{table_of_c}
 use Rattle.elf_c.specs.Versions.{definition_links, has_index}
 use Rattle.elf_c.specs.declared.versions.NugwierEntries.{NugwierEntries}

@@ -1,6 +1,5 @@
 -- The handle of a file that was opened has the parts of that file.
-use Rattle.std.proofs.Common.{◌≡◌, ℕ, ◌*◌, ◌==◌, Bool, true, false, if◌then◌else◌, List, [], Option, Some, None, Result, Ok, Err, refl, sym, ap, ◌∙◌, subst}
-use Rattle.std.specs.Option.{option_map}
+use Rattle.std.proofs.Common.{◌≡◌, ℕ, ◌==◌, Bool, true, false, if◌then◌else◌, List, Option, Some, None, Result, Ok, refl, sym, ap, ◌∙◌, subst}
 use Rattle.std.specs.Prelude.{is_some}
 use Rattle.elf_records.specs.Endian.{any_is_little, any_of_byte}
 use Rattle.elf_records.specs.Record.{◌>>=◌, size_by}
@@ -14,11 +13,10 @@ use Rattle.elf_records.specs.declared.file.Class.TheVariants.{ELF32, ELF64}
 use Rattle.elf_records.specs.declared.file.FileHeader.{FileHeader}
 use Rattle.elf_records.specs.declared.parse.ParseError.{ParseError}
 use Rattle.elf_records.specs.inner.RecordLaws.{bind-ok}
-use Rattle.elf_reading.specs.Opening.{View, header_at_front, opened, section_count, section_table, segment_count, segment_table, table_bytes}
+use Rattle.elf_reading.specs.Opening.{View, header_at_front, section_count, section_table, segment_count, segment_table, table_bytes}
 use Rattle.elf_c.specs.File.{HasOwnTables, IsOwn, bytes_if, file_view, header_in, header_shown, opened_in, table_if}
-use Rattle.elf_c.specs.Tables.{class_in, is_64, order_in, table_of_c}
+use Rattle.elf_c.specs.Tables.{class_in, is_64, order_in}
 use Rattle.elf_c.specs.declared.file.NugwierFile.{NugwierFile}
-use Rattle.elf_c.specs.declared.file.NugwierHeader.{NugwierHeader}
 use Rattle.elf_c.specs.declared.table.NugwierTable.{NugwierTable}
 
 pub class_in_is_64 : (class : Class) → class_in (is_64 class) ≡ class

@@ -1,7 +1,6 @@
 -- A slice that is filled from its front with the records of a table.
 use Rattle.std.proofs.Common.{inl, inr, drop-drop, [], ◌∷◌, zero, suc, ◌≡◌, ℕ, ◌+◌, ◌<◌, List, Option, Result, Ok, Some, length, slice_get, slice_set, drop, sym, subst, ◌∙◌, ap, arith, refl}
 use Rattle.std.proofs.lemmas.Bool.{cases_eq}
-use Rattle.std.proofs.lemmas.Grind.{common_steps}
 use Rattle.std.proofs.lemmas.List.{drop-set-lt}
 use Rattle.elf_records.specs.Record.{RecordType}
 use Rattle.elf_records.specs.Table.{Table, table_get}

@@ -1,5 +1,5 @@
 -- Files that C holds open.
-use Rattle.std.specs.Prelude.{◌≡◌, ℕ, ⊤, Bool, true, false, List, [], Option, Some, None, Result, Ok, Err}
+use Rattle.std.specs.Prelude.{◌≡◌, ℕ, ⊤, Bool, true, false, List, [], Option, Some, None, Result, Err}
 use Rattle.elf_records.specs.Endian.{any_is_little, any_of_byte}
 use Rattle.elf_records.specs.Segment.{program_header_reads}
 use Rattle.elf_records.specs.Table.{Table, table_get, table_in}

@@ -1,5 +1,5 @@
 -- Hash sections that are checked.
-use Rattle.std.specs.Prelude.{◌≡◌, ◌↔◌, IsTrue, ℕ, Bool, true, false, if◌then◌else◌, List, Option, Result, Ok, Err}
+use Rattle.std.specs.Prelude.{◌≡◌, ◌↔◌, IsTrue, ℕ, Bool, if◌then◌else◌, List, Option, Result, Ok, Err}
 use Rattle.elf_parts.specs.GnuFind.{GnuTable, gnu_section}
 use Rattle.elf_parts.specs.SysvFind.{SysvTable, sysv_section}
 use Rattle.elf_records.specs.declared.parse.ParseError.{ParseError}

@@ -1,5 +1,5 @@
 -- The versions of symbols as C sees them.
-use Rattle.std.specs.Prelude.{◌≡◌, ℕ, ◌==◌, Bool, true, false, if◌then◌else◌, List, [], ◌∷◌, Option, Some, None, Result, Ok, Err}
+use Rattle.std.specs.Prelude.{◌≡◌, ℕ, ◌==◌, Bool, true, false, if◌then◌else◌, List, [], ◌∷◌, Option, Some, None, Result, Ok}
 use Rattle.elf_parts.specs.gnu_symver.Links.{links_in, links_left, records_of}
 use Rattle.elf_parts.specs.gnu_symver.Lists.{ver_def_aux_records, ver_defs, ver_needs}
 use Rattle.elf_parts.specs.gnu_symver.Records.{ver_def_aux_reads, ver_def_reads, version_index, version_is_hidden}

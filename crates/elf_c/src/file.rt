@@ -105,9 +105,7 @@ fn header_in(header: &NugwierHeader) -> FileHeader<AnyEndian>
 }
 
 // The bytes of a table, or none if it is not declared.
-fn bytes_of<'data, R: ParseAt>(
-    table: &Option<ParsingTable<'data, AnyEndian, R>>,
-) -> &'data [u8]
+fn bytes_of<'data, R: ParseAt>(table: &Option<ParsingTable<'data, AnyEndian, R>>) -> &'data [u8]
     ensures { result.now ≡ bytes_if (option_map table_view table.now) }
 {
     match table {

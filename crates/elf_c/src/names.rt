@@ -10,7 +10,7 @@ ghost use Rattle.elf_abi.specs.SectionNames.{ch_type_names, sh_type_names};
 ghost use Rattle.elf_abi.specs.SegmentNames.{p_type_names};
 ghost use Rattle.elf_abi.specs.SymbolNames.{st_bind_names, st_symtype_names, st_vis_names};
 ghost use Rattle.elf_abi.specs.Names.{name_of};
-ghost use Rattle.elf_c.specs.Names.{name_view};
+ghost use Rattle.elf_c.specs.Names.{error_name, name_view};
 
 use elf_abi::to_str;
 
@@ -124,4 +124,38 @@ pub extern "C" fn nugwier_d_tag_name(d_tag: i64, name: &mut NugwierName<'static>
     ensures { name_view name.new ≡ name_of int_eq d_tag_names d_tag }
 {
     write_name(to_str::d_tag_to_str(d_tag), name);
+}
+
+// The name of the error with a code.
+fn error_name(code: u32) -> Option<&'static str>
+    ensures { option_copied result ≡ error_name code }
+{
+    match code {
+        1 => Some("BadMagic"),
+        2 => Some("UnsupportedElfClass"),
+        3 => Some("UnsupportedElfEndianness"),
+        4 => Some("UnsupportedVersion"),
+        5 => Some("BadOffset"),
+        6 => Some("StringTableMissingNul"),
+        7 => Some("BadEntsize"),
+        8 => Some("UnexpectedSectionType"),
+        9 => Some("UnexpectedSegmentType"),
+        10 => Some("UnexpectedAlignment"),
+        11 => Some("SliceReadError"),
+        12 => Some("IntegerOverflow"),
+        13 => Some("Utf8Error"),
+        14 => Some("TryFromSliceError"),
+        15 => Some("TryFromIntError"),
+        16 => Some("IOError"),
+        17 => Some("OutOfMemory"),
+        _ => None,
+    }
+}
+
+/// Writes the name of the error with a code of a `nugwier_status`, as `BadMagic`. The code 0, of success, has none.
+#[unsafe(no_mangle)]
+pub extern "C" fn nugwier_error_name(code: u32, name: &mut NugwierName<'static>)
+    ensures { name_view name.new ≡ error_name code }
+{
+    write_name(error_name(code), name);
 }

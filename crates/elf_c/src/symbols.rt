@@ -140,9 +140,7 @@ fn segment_dynamic<'data>(
 }
 
 // The dynamic entries of a file.
-fn dynamic_in<'data>(
-    file: &NugwierFile<'data>,
-) -> Result<Option<NugwierTable<'data>>, ParseError>
+fn dynamic_in<'data>(file: &NugwierFile<'data>) -> Result<Option<NugwierTable<'data>>, ParseError>
     ensures { ok_map (option_map table_of_c) result ≡ dynamic (file_of_c file.now) }
 {
     let object = file_in(file);

@@ -94,11 +94,7 @@ pub(crate) fn get<R: ForC>(
 
 // Fills places with the records of a table starting at `first`, and returns how many these are: up to the first that
 // cannot be read, and no more than there are places.
-pub(crate) fn fill<R: ForC>(
-    table: &NugwierTable<'_>,
-    first: usize,
-    places: &mut [R::Seen],
-) -> usize
+pub(crate) fn fill<R: ForC>(table: &NugwierTable<'_>, first: usize, places: &mut [R::Seen]) -> usize
     ensures count { result ≤ length places.new }
     ensures read { IsFilled R.reads R.shown (table_of_c table.now) first result places.new }
     ensures rest { drop result places.new ≡ drop result places.old }

@@ -117,10 +117,7 @@ fn version_with(versions: VerNeedAuxIterator<'_, AnyEndian>, index: u16) -> Opti
 
 // The first needed version with this index, and the need that it belongs to.
 #[tactic(auto, using(elf_parts::proofs::Versions::needed))]
-fn first_needed(
-    needs: VerNeedIterator<'_, AnyEndian>,
-    index: u16,
-) -> Option<(VerNeed, VerNeedAux)>
+fn first_needed(needs: VerNeedIterator<'_, AnyEndian>, index: u16) -> Option<(VerNeed, VerNeedAux)>
     ensures { result ≡ needed_version index (ver_needs_left needs.entry) }
 {
     for (need, versions) in needs {
