@@ -28,11 +28,18 @@ static void expect(int holds, const char *what)
 static void read_notes(const struct nugwier_notes *notes)
 {
     struct nugwier_note note = {0};
-    size_t offset = 0;
-    for (int i = 0; i < 100 && !nugwier_note(notes, &offset, &note).code; i++) {
+    struct nugwier_note many[4];
+    memset(many, 0, sizeof many);
+    size_t offset = 0, end = 0, before = 0;
+    size_t got = nugwier_note_list(notes, &end, many, 4);
+    for (size_t i = 0; i < 100 && !nugwier_note(notes, &offset, &note).code; i++) {
         touch(note.name, note.name_len);
         touch(note.desc, note.desc_len);
+        if (i >= got) continue;
+        expect(note.kind == many[i].kind && note.desc_len == many[i].desc_len, "a note of many is another one");
+        before = offset;
     }
+    expect(before == end, "many notes leave another offset");
 }
 
 static void read_hash(const struct nugwier_data *part, const struct nugwier_symbol_table *table, bool gnu)

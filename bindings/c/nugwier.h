@@ -289,6 +289,11 @@ struct nugwier_note {
  * both as they are. */
 struct nugwier_status nugwier_note(const struct nugwier_notes *notes, size_t *offset, struct nugwier_note *note);
 
+/* The notes from `offset` on, which is moved to the next note: returns how many were written, up to the first that cannot
+ * be read, and no more than there are places. */
+size_t nugwier_note_list(const struct nugwier_notes *notes, size_t *offset, struct nugwier_note *places,
+                         size_t places_len);
+
 /* ---- hash sections */
 
 /* If `found` is false, all numbers are 0. */

@@ -1,8 +1,10 @@
 -- Notes as C sees them.
-use Rattle.std.specs.Prelude.{◌≡◌, ℕ, List, [], Result, Ok, Err}
+use Rattle.std.specs.Prelude.{◌≡◌, ℕ, zero, suc, ◌<◌, slice_get, List, [], Option, Some, None, Result, Ok, Err}
 use Rattle.elf_abi.specs.Values.{nt_gnu_abi_tag, nt_gnu_build_id}
 use Rattle.elf_parts.specs.Note.{AbiTag, BuildId, NoteContent, Other, note_at}
 use Rattle.elf_parts.specs.declared.note.NoteGnuAbiTag.{NoteGnuAbiTag}
+use Rattle.elf_records.specs.Number.{ok_map}
+use Rattle.elf_records.specs.Record.{◌>>=◌}
 use Rattle.elf_records.specs.declared.parse.ParseError.{ParseError}
 use Rattle.elf_c.specs.declared.notes.NugwierAbiTag.{NugwierAbiTag}
 use Rattle.elf_c.specs.declared.notes.NugwierNote.{NugwierNote}
@@ -33,3 +35,25 @@ IsNote note (Other n_type name desc) = HasFields note 0 no_tag n_type name desc
 abbrev pub IsNoteWritten : NugwierNote → NugwierNote → Result (NoteContent × ℕ) ParseError → Type 0
 IsNoteWritten new old (Err e) = new ≡ old
 IsNoteWritten new old (Ok found) = IsNote new found.0
+
+-- ---- many notes
+
+-- the offset after the note at an offset
+abbrev pub next_note : NugwierNotes → ℕ → Result ℕ ParseError
+next_note notes o = ok_map (λ found. found.1) (note_of_c notes o)
+
+-- the offset after n notes, the first of which begins at o
+abbrev pub note_after : NugwierNotes → ℕ → ℕ → Result ℕ ParseError
+note_after notes zero o = Ok o
+note_after notes (suc n) o = note_after notes n o >>= next_note notes
+
+-- a place that shows the note that is read
+abbrev pub IsShown : Result (NoteContent × ℕ) ParseError → Option NugwierNote → Type 0
+IsShown (Ok found) (Some place) = IsNote place found.0
+IsShown (Ok found) None = ⊥
+IsShown (Err e) place = ⊥
+
+-- the first n places show the notes that begin at o and after
+abbrev pub AreNotes : NugwierNotes → ℕ → ℕ → List NugwierNote → Type 0
+AreNotes notes o n places =
+    (k : ℕ) → k < n → IsShown (note_after notes k o >>= note_of_c notes) (slice_get places k)

@@ -1,7 +1,7 @@
 //! Notes.
-ghost use Rattle.std.specs.Prelude.{◌≡◌};
+ghost use Rattle.std.specs.Prelude.{◌≡◌, ◌<◌, ◌≤◌, IsErr, Ok, drop, length};
 ghost use Rattle.elf_parts.specs.Note.{note_view};
-ghost use Rattle.elf_c.specs.Notes.{IsNote, IsNoteWritten, no_tag, note_of_c};
+ghost use Rattle.elf_c.specs.Notes.{AreNotes, IsNote, IsNoteWritten, no_tag, note_after, note_of_c};
 ghost use Rattle.elf_c.specs.Status.{status_of, written};
 
 use crate::status::{NugwierStatus, done, refused};
@@ -106,4 +106,30 @@ pub extern "C" fn nugwier_note<'data>(
         }
         Err(error) => refused(&error),
     }
+}
+
+/// Fills `places` with the notes from `offset` on, moves `offset` to where the next note begins, and returns how many
+/// notes these are: up to the first that cannot be read, and no more than there are places.
+#[unsafe(no_mangle)]
+pub extern "C" fn nugwier_note_list<'data>(
+    notes: &NugwierNotes<'data>,
+    offset: &mut usize,
+    places: &mut [NugwierNote<'data>],
+) -> usize
+    ensures count { result ≤ length places.new }
+    ensures read { AreNotes notes.now offset.old result places.new }
+    ensures moved { note_after notes.now result offset.old ≡ Ok offset.new }
+    ensures rest { drop result places.new ≡ drop result places.old }
+    ensures all { result < length places.new → IsErr (note_of_c notes.now offset.new) }
+{
+    let mut count = 0;
+    while count < places.len() {
+        let Ok((note, next)) = note_at(notes.little, notes.align, *offset, notes.bytes) else {
+            return count;
+        };
+        places[count] = note_shown(&note);
+        *offset = next;
+        count += 1;
+    }
+    count
 }
