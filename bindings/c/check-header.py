@@ -16,7 +16,9 @@ NUMBERS = {
     "bool": "bool", "u8": "uint8_t", "u16": "uint16_t", "u32": "uint32_t", "u64": "uint64_t", "usize": "size_t",
     "i8": "int8_t", "i16": "int16_t", "i32": "int32_t", "i64": "int64_t", "isize": "ptrdiff_t",
 }
-SIZES = {"bool": 1, "u8": 1, "u16": 2, "u32": 4, "u64": 8, "usize": 8, "i8": 1, "i16": 2, "i32": 4, "i64": 8, "isize": 8}
+SIZES = {
+    "bool": 1, "u8": 1, "u16": 2, "u32": 4, "u64": 8, "usize": 8, "i8": 1, "i16": 2, "i32": 4, "i64": 8, "isize": 8,
+}
 
 
 def fail(text):
@@ -136,7 +138,8 @@ def main():
     in_header = set(re.findall(r"^struct (\w+) \{", header, re.M))
     wanted = {c_name(name) for name in structs}
     if in_header != wanted:
-        fail(f"structs only in the header: {sorted(in_header - wanted)}, only in the sources: {sorted(wanted - in_header)}")
+        fail(f"structs only in the header: {sorted(in_header - wanted)}, "
+             f"only in the sources: {sorted(wanted - in_header)}")
     declared = set(re.findall(r"\b(nugwier_\w+)\s*\(", header))
     if declared != set(exports):
         fail(f"functions only in the header: {sorted(declared - set(exports))}, "
@@ -144,8 +147,9 @@ def main():
     for name, fields in structs.items():
         body = re.search(r"^struct %s \{(.*?)^\};" % c_name(name), header, re.M | re.S).group(1)
         count = len([line for line in body.split(";") if line.strip()])
-        if count != len(list(c_fields(fields))):
-            fail(f"struct {c_name(name)} has {count} fields in the header, {len(list(c_fields(fields)))} in the sources")
+        expected = len(list(c_fields(fields)))
+        if count != expected:
+            fail(f"struct {c_name(name)} has {count} fields in the header, {expected} in the sources")
 
     out = ['#include "nugwier.h"', "", "#ifdef __cplusplus", "#define CHECK(fact) static_assert(fact, #fact)", "#else",
            "#define CHECK(fact) _Static_assert(fact, #fact)", "#endif", ""]

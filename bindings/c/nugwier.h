@@ -1,7 +1,7 @@
 /* Nugwier: a proved reader of ELF files, for C and C++.
  *
- * Nothing is allocated, and nothing is kept between two calls. Each call is a total function of its arguments: any bytes
- * may be given as a file, a section or a table, and bad ones are an error.
+ * Nothing is allocated, and nothing is kept between two calls. Each call is a total function of its arguments: any
+ * bytes may be given as a file, a section or a table, and bad ones are an error.
  *
  * What the caller owes, and no proof can state:
  *
@@ -131,8 +131,8 @@ struct nugwier_status nugwier_rela(const struct nugwier_table *table, size_t ind
 struct nugwier_status nugwier_dynamic(const struct nugwier_table *table, size_t index,
                                       struct nugwier_dynamic *dynamic);
 
-/* The records of a table starting at number `first`: returns how many were written, up to the first that cannot be read,
- * and no more than there are places. */
+/* The records of a table starting at number `first`: returns how many were written, up to the first that cannot be
+ * read, and no more than there are places. */
 size_t nugwier_symbols(const struct nugwier_table *table, size_t first, struct nugwier_symbol *symbols,
                        size_t symbols_len);
 size_t nugwier_sections(const struct nugwier_table *table, size_t first, struct nugwier_section *sections,
@@ -289,8 +289,8 @@ struct nugwier_note {
  * both as they are. */
 struct nugwier_status nugwier_note(const struct nugwier_notes *notes, size_t *offset, struct nugwier_note *note);
 
-/* The notes from `offset` on, which is moved to the next note: returns how many were written, up to the first that cannot
- * be read, and no more than there are places. */
+/* The notes from `offset` on, which is moved to the next note: returns how many were written, up to the first that
+ * cannot be read, and no more than there are places. */
 size_t nugwier_note_list(const struct nugwier_notes *notes, size_t *offset, struct nugwier_note *places,
                          size_t places_len);
 

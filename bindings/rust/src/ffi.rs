@@ -1,8 +1,8 @@
 //! The functions of libnugwier.a, and the structs that cross. This is the only file with `unsafe`.
 //!
 //! Each export is a total function: it accepts any bytes and any numbers. What a caller owes (nugwier.h) is held here
-//! by types: a `Bytes<'a>` is made of a slice of this lifetime or written by the library, which writes only parts of the
-//! bytes that it was given, or constants; its fields are private. A `bool` is a Rust `bool`. `&` and `&mut` overlap
+//! by types: a `Bytes<'a>` is made of a slice of this lifetime or written by the library, which writes only parts of
+//! the bytes that it was given, or constants; its fields are private. A `bool` is a Rust `bool`. `&` and `&mut` overlap
 //! nothing.
 use std::marker::PhantomData;
 

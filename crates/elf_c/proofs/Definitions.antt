@@ -8,7 +8,7 @@ use Rattle.elf_parts.specs.gnu_symver.Table.{defined_version}
 use Rattle.elf_parts.specs.declared.gnu_symver.records.VerDef.{VerDef}
 use Rattle.elf_parts.specs.declared.gnu_symver.records.VerDefAux.{VerDefAux}
 use Rattle.elf_c.specs.Tables.{table_of_c}
-use Rattle.elf_c.specs.Versions.{definition_links, has_index}
+use Rattle.elf_c.specs.inner.DefinitionLinks.{definition_links, has_index}
 use Rattle.elf_c.specs.declared.versions.NugwierEntries.{NugwierEntries}
 
 find_map : {A B : Type 0} (p : B → Bool) (f : A → B) (xs : List A) →

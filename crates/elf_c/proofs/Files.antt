@@ -14,7 +14,8 @@ use Rattle.elf_records.specs.declared.file.FileHeader.{FileHeader}
 use Rattle.elf_records.specs.declared.parse.ParseError.{ParseError}
 use Rattle.elf_records.specs.inner.RecordLaws.{bind-ok}
 use Rattle.elf_reading.specs.Opening.{View, header_at_front, section_count, section_table, segment_count, segment_table, table_bytes}
-use Rattle.elf_c.specs.File.{HasOwnTables, IsOwn, bytes_if, file_view, header_in, header_shown, opened_in, table_if}
+use Rattle.elf_c.specs.File.{file_view, header_in, header_shown, opened_in, table_if}
+use Rattle.elf_c.specs.inner.OwnTables.{HasOwnTables, IsOwn, bytes_if}
 use Rattle.elf_c.specs.Tables.{class_in, is_64, order_in}
 use Rattle.elf_c.specs.declared.file.NugwierFile.{NugwierFile}
 use Rattle.elf_c.specs.declared.table.NugwierTable.{NugwierTable}

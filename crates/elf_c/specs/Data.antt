@@ -17,7 +17,12 @@ use Rattle.elf_c.specs.declared.notes.NugwierNotes.{NugwierNotes}
 
 abbrev pub compression_shown : Option CompressionHeader → NugwierCompression
 compression_shown None = record { compressed = false; kind = 0; size = 0; addralign = 0 }
-compression_shown (Some h) = record { compressed = true; kind = h.ch_type; size = h.ch_size; addralign = h.ch_addralign }
+compression_shown (Some h) = record {
+  compressed = true;
+  kind = h.ch_type;
+  size = h.ch_size;
+  addralign = h.ch_addralign;
+}
 
 -- the bytes of a section, and what its compression header says: as the library has them, and as C sees them
 abbrev pub data_shown : List ℕ × Option CompressionHeader → List ℕ × NugwierCompression

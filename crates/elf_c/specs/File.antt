@@ -1,8 +1,8 @@
 -- Files that C holds open.
-use Rattle.std.specs.Prelude.{◌≡◌, ℕ, ⊤, Bool, true, false, List, [], Option, Some, None, Result, Err}
+use Rattle.std.specs.Prelude.{ℕ, Bool, true, false, List, Option, Some, None, Result, Err}
 use Rattle.elf_records.specs.Endian.{any_is_little, any_of_byte}
 use Rattle.elf_records.specs.Segment.{program_header_reads}
-use Rattle.elf_records.specs.Table.{Table, table_get, table_in}
+use Rattle.elf_records.specs.Table.{Table, table_get}
 use Rattle.elf_records.specs.declared.endian.AnyEndian.{AnyEndian}
 use Rattle.elf_records.specs.declared.file.FileHeader.{FileHeader}
 use Rattle.elf_records.specs.declared.parse.ParseError.{ParseError}
@@ -63,11 +63,6 @@ abbrev pub table_if : Bool → NugwierTable → Option Table
 table_if true t = Some (table_of_c t)
 table_if false t = None
 
--- the bytes of a table that is declared
-abbrev pub bytes_if : Option Table → List ℕ
-bytes_if (Some t) = t.bytes
-bytes_if None = []
-
 -- the opened file whose parts a handle holds
 abbrev pub file_view : NugwierFile → View AnyEndian
 file_view f = record {
@@ -89,11 +84,3 @@ opened_in bytes = opened any_is_little any_of_byte bytes
 abbrev pub segment_at : Option Table → ℕ → Result ProgramHeader ParseError
 segment_at None i = Err (BadOffset i)
 segment_at (Some t) i = table_get program_header_reads t i
-
--- a table that has the order and the class of the file
-abbrev pub IsOwn : FileHeader AnyEndian → Option Table → Type 0
-IsOwn h None = ⊤
-IsOwn h (Some t) = t ≡ table_in (any_is_little h.endianness) h.class t.bytes
-
-abbrev pub HasOwnTables : View AnyEndian → Type 0
-HasOwnTables v = IsOwn v.ehdr v.sections × IsOwn v.ehdr v.segments

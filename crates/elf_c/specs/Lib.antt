@@ -25,3 +25,5 @@ pub mod File
 pub mod Data
 -- symbols, dynamic entries and the names of sections
 pub mod Symbols
+-- what only implementations cite
+pub mod inner

@@ -1,13 +1,10 @@
 -- The versions of symbols as C sees them.
-use Rattle.std.specs.Prelude.{◌≡◌, ℕ, ◌==◌, Bool, true, false, if◌then◌else◌, List, [], ◌∷◌, Option, Some, None, Result, Ok}
-use Rattle.elf_parts.specs.gnu_symver.Links.{links_in, links_left, records_of}
+use Rattle.std.specs.Prelude.{◌≡◌, ℕ, Bool, true, false, if◌then◌else◌, List, [], ◌∷◌, Option, Some, None}
+use Rattle.std.specs.Prelude.{Result, Ok}
 use Rattle.elf_parts.specs.gnu_symver.Lists.{ver_def_aux_records, ver_defs, ver_needs}
-use Rattle.elf_parts.specs.gnu_symver.Records.{ver_def_aux_reads, ver_def_reads, version_index, version_is_hidden}
+use Rattle.elf_parts.specs.gnu_symver.Records.{version_index, version_is_hidden}
 use Rattle.elf_parts.specs.gnu_symver.Table.{Definition, Definitions, Needs, Requirement, Versions}
 use Rattle.elf_parts.specs.gnu_symver.Table.{index_of, raw_names, requirement}
-use Rattle.elf_parts.specs.declared.gnu_symver.links.Links.{Links}
-use Rattle.elf_parts.specs.declared.gnu_symver.records.VerDef.{VerDef}
-use Rattle.elf_parts.specs.declared.gnu_symver.records.VerDefAux.{VerDefAux}
 use Rattle.elf_parts.specs.declared.gnu_symver.records.VerNeed.{VerNeed}
 use Rattle.elf_parts.specs.declared.gnu_symver.records.VerNeedAux.{VerNeedAux}
 use Rattle.elf_parts.specs.declared.gnu_symver.records.VersionIndex.{VersionIndex}
@@ -84,18 +81,6 @@ abbrev pub requirement_view : NugwierRequirement → Option Named
 requirement_view r = if r.found then Some (needed_view r) else None
 
 -- ---- what a symbol is defined with
-
--- the definitions with the offsets where they begin
-abbrev pub definition_links : NugwierEntries → List (ℕ × VerDef)
-definition_links e = links_in ver_def_reads.record_at (λ x. x.vd_next) (table_of_c e.entries) e.count 0
-
--- a definition has this index
-abbrev pub has_index : ℕ → ℕ × VerDef → Bool
-has_index index link = link.1.vd_ndx == index
-
--- the names that an iterator has left to yield, as entries
-abbrev pub aux_of_links : {E : Type 0} → Links E VerDefAux → List VerDefAux
-aux_of_links s = records_of (links_left ver_def_aux_reads.record_at (λ x. x.vda_next) s)
 
 -- the raw names that are left, each a name or an error
 abbrev pub names_left : NugwierVersionNames → List (Result (List ℕ) ParseError)

@@ -3,7 +3,8 @@ ghost use Rattle.std.specs.Prelude.{◌≡◌};
 ghost use Rattle.std.specs.Option.{option_map};
 ghost use Rattle.elf.specs.ElfBytes.{view};
 ghost use Rattle.elf_records.specs.Table.{table_view};
-ghost use Rattle.elf_c.specs.File.{HasOwnTables, bytes_if, file_of_c, file_view, header_in, header_shown};
+ghost use Rattle.elf_c.specs.File.{file_of_c, file_view, header_in, header_shown};
+ghost use Rattle.elf_c.specs.inner.OwnTables.{HasOwnTables, bytes_if};
 ghost use Rattle.elf_c.specs.File.{opened_in, segment_at, table_if};
 ghost use Rattle.elf_c.specs.Records.{section_shown, segment_shown};
 ghost use Rattle.elf_c.specs.Status.{IsWritten, status_of, written};
@@ -170,8 +171,8 @@ pub(crate) fn file_in<'data>(file: &NugwierFile<'data>) -> ElfBytes<'data, AnyEn
 }
 
 /// Opens a file: reads its header, and finds its two tables of headers. The view of `file` is then the opened file, so
-/// what a call returns about `file` is the result about that file. An error leaves `file` as it is; the errors are those
-/// of `ElfBytes::minimal_parse`.
+/// what a call returns about `file` is the result about that file. An error leaves `file` as it is. The errors are
+/// those of `ElfBytes::minimal_parse`.
 #[unsafe(no_mangle)]
 pub extern "C" fn nugwier_open<'data>(
     bytes: &'data [u8],

@@ -249,8 +249,8 @@ pub extern "C" fn nugwier_symbol(
     get::<Symbol>(table, index, symbol)
 }
 
-/// Fills `symbols` with the symbols of a table starting at number `first`, and returns how many these are: up to the
-/// first that cannot be read, and no more than there are places.
+/// Fills `symbols` with the symbols of a table, the first of them number `first`. Returns how many were
+/// written: up to the first that cannot be read, and no more than there are places.
 #[unsafe(no_mangle)]
 pub extern "C" fn nugwier_symbols(
     table: &NugwierTable<'_>,
@@ -281,8 +281,8 @@ pub extern "C" fn nugwier_rel(
     get::<Rel>(table, index, rel)
 }
 
-/// Fills `rels` with the relocations of a table starting at number `first`, and returns how many these are: up to the
-/// first that cannot be read, and no more than there are places.
+/// Fills `rels` with the relocations of a table, the first of them number `first`. Returns how many were
+/// written: up to the first that cannot be read, and no more than there are places.
 #[unsafe(no_mangle)]
 pub extern "C" fn nugwier_rels(
     table: &NugwierTable<'_>,
@@ -298,8 +298,8 @@ pub extern "C" fn nugwier_rels(
     fill::<Rel>(table, first, rels)
 }
 
-/// Reads the relocation with an addend `index` of a table, counted from 0. An error leaves `rela` as it is; the errors are those of
-/// `ParsingTable::get`.
+/// Reads the relocation with an addend `index` of a table, counted from 0. An error leaves `rela` as it is; the errors
+/// are those of `ParsingTable::get`.
 #[unsafe(no_mangle)]
 pub extern "C" fn nugwier_rela(
     table: &NugwierTable<'_>,
@@ -313,8 +313,8 @@ pub extern "C" fn nugwier_rela(
     get::<Rela>(table, index, rela)
 }
 
-/// Fills `relas` with the relocations with an addend of a table starting at number `first`, and returns how many these are: up to the
-/// first that cannot be read, and no more than there are places.
+/// Fills `relas` with the relocations with an addend of a table, the first of them number `first`. Returns how many
+/// were written: up to the first that cannot be read, and no more than there are places.
 #[unsafe(no_mangle)]
 pub extern "C" fn nugwier_relas(
     table: &NugwierTable<'_>,
@@ -330,8 +330,8 @@ pub extern "C" fn nugwier_relas(
     fill::<Rela>(table, first, relas)
 }
 
-/// Reads the dynamic entry `index` of a table, counted from 0. An error leaves `dynamic` as it is; the errors are those of
-/// `ParsingTable::get`.
+/// Reads the dynamic entry `index` of a table, counted from 0. An error leaves `dynamic` as it is; the errors are those
+/// of `ParsingTable::get`.
 #[unsafe(no_mangle)]
 pub extern "C" fn nugwier_dynamic(
     table: &NugwierTable<'_>,
@@ -345,8 +345,8 @@ pub extern "C" fn nugwier_dynamic(
     get::<Dyn>(table, index, dynamic)
 }
 
-/// Fills `dynamics` with the dynamic entries of a table starting at number `first`, and returns how many these are: up to the
-/// first that cannot be read, and no more than there are places.
+/// Fills `dynamics` with the dynamic entries of a table, the first of them number `first`. Returns how many were
+/// written: up to the first that cannot be read, and no more than there are places.
 #[unsafe(no_mangle)]
 pub extern "C" fn nugwier_dynamics(
     table: &NugwierTable<'_>,
@@ -362,8 +362,8 @@ pub extern "C" fn nugwier_dynamics(
     fill::<Dyn>(table, first, dynamics)
 }
 
-/// Fills `sections` with the section headers of a table starting at number `first`, and returns how many these are: up to
-/// the first that cannot be read, and no more than there are places.
+/// Fills `sections` with the section headers of a table, the first of them number `first`. Returns how many were
+/// written: up to the first that cannot be read, and no more than there are places.
 #[unsafe(no_mangle)]
 pub extern "C" fn nugwier_sections(
     table: &NugwierTable<'_>,
@@ -379,8 +379,8 @@ pub extern "C" fn nugwier_sections(
     fill::<SectionHeader>(table, first, sections)
 }
 
-/// Fills `segments` with the program headers of a table starting at number `first`, and returns how many these are: up to
-/// the first that cannot be read, and no more than there are places.
+/// Fills `segments` with the program headers of a table, the first of them number `first`. Returns how many were
+/// written: up to the first that cannot be read, and no more than there are places.
 #[unsafe(no_mangle)]
 pub extern "C" fn nugwier_segments(
     table: &NugwierTable<'_>,

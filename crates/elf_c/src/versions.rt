@@ -10,8 +10,10 @@ ghost use Rattle.elf_parts.specs.gnu_symver.Table.{definition, needed_version, r
 ghost use Rattle.elf_records.specs.Number.{ok_map};
 ghost use Rattle.elf_c.specs.Status.{IsWritten, status_of, written};
 ghost use Rattle.elf_c.specs.Tables.{table_of_c};
-ghost use Rattle.elf_c.specs.Versions.{TakesName, aux_of_links, defined_view, definition_links, definition_view};
-ghost use Rattle.elf_c.specs.Versions.{has_index, index_of_c, names_left, versions_of_c};
+ghost use Rattle.elf_c.specs.Versions.{TakesName, defined_view, definition_view};
+ghost use Rattle.elf_c.specs.inner.DefinitionLinks.{aux_of_links, definition_links};
+ghost use Rattle.elf_c.specs.Versions.{index_of_c, names_left, versions_of_c};
+ghost use Rattle.elf_c.specs.inner.DefinitionLinks.{has_index};
 ghost use Rattle.elf_c.specs.Versions.{needed_view, needs_list, requirement_of_c, requirement_view, version_shown};
 
 use crate::status::{NugwierStatus, done, refused};
@@ -317,8 +319,8 @@ pub extern "C" fn nugwier_definition<'data>(
 }
 
 /// Takes the next name of a version. If none is left, `found` is false, and nothing else is written. A name that cannot
-/// be read is an error, which leaves `name` as it is; the next call goes on with the name after it. The errors are those
-/// of `StringTable::get_raw`.
+/// be read is an error, which leaves `name` as it is; the next call goes on with the name after it. The errors are
+/// those of `StringTable::get_raw`.
 #[unsafe(no_mangle)]
 pub extern "C" fn nugwier_version_name<'data>(
     names: &mut NugwierVersionNames<'data>,

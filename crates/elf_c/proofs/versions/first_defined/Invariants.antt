@@ -2,7 +2,7 @@ use Rattle.std.proofs.Common.{◌≡◌}
 use Rattle.std.specs.List.{find}
 use Rattle.elf_parts.specs.gnu_symver.Links.{links_left}
 use Rattle.elf_parts.specs.gnu_symver.Records.{ver_def_reads}
-use Rattle.elf_c.specs.Versions.{definition_links, has_index}
+use Rattle.elf_c.specs.inner.DefinitionLinks.{definition_links, has_index}
 use Rattle.elf_c.proofs.versions.first_defined.Given as goal
 
 -- none of the definitions so far has the index
