@@ -226,7 +226,7 @@ class ElfFile:
         return table if table.found else None
 
     def symbols(self, dynamic=False):
-        """The symbols in order, those for dynamic linking if `dynamic`. A name is bytes, or None if none can be read."""
+        """The symbols in order, those for dynamic linking if `dynamic`. A name is bytes, or None if there is none."""
         table = self._symbols(dynamic)
         if table is None:
             return

@@ -1,8 +1,8 @@
 //! Reads ELF files by the proved library Nugwier, under the names of the crate `elf` 0.8.0.
 //!
 //! A program over `elf` changes one line of its Cargo.toml: `elf = { package = "nugwier", path = ".." }`. README.md
-//! says what differs. Everything that is read from a file's bytes is read by the proved functions of `libnugwier.a`; this
-//! crate only gives their answers Rust's types. Its uses of `unsafe` are all in `ffi.rs`.
+//! says what differs. Everything that is read from a file's bytes is read by the proved functions of `libnugwier.a`;
+//! this crate only gives their answers Rust's types. Its uses of `unsafe` are all in `ffi.rs`.
 #![deny(unsafe_code)]
 
 // The constants of the proved crate itself.
