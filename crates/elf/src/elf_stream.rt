@@ -43,9 +43,10 @@ mod versions;
 /// nothing.
 ///
 /// If the content of the source is known, a method returns the value that the method of `ElfBytes` with the same name
-/// returns over that content, or an error: `IOError` if the source failed in this call; `OutOfMemory` if an allocation
-/// failed in this call; another variant only if the method of `ElfBytes` returns an error too. That variant may differ,
-/// and the contracts leave it open. After `IOError` or `OutOfMemory` the call may be repeated.
+/// returns over that content, or an error: `IOError` if the source failed in this call; `OutOfMemory`, only if a range
+/// that lies in the content is not cached (tested, not proved: only if an allocation failed); another variant only if
+/// the method of `ElfBytes` returns an error too. That variant may differ, and the contracts leave it open. After
+/// `IOError` or `OutOfMemory` the call may be repeated.
 ///
 /// A range gives `IntegerOverflow` if its end does not fit 64 bits, and `BadOffset(end)` if its end lies past the end
 /// of the source.
@@ -92,9 +93,9 @@ impl<E: EndianParse, S: StreamSource, A: Allocator + Copy> ElfStream<E, S, A> {
     /// source.
     ///
     /// If the content of the source is known, the tables are those that `ElfBytes::minimal_parse` finds in it. Returns
-    /// an error if that returns one. Otherwise the error is `IOError` if the source failed, or `OutOfMemory` if an
-    /// allocation failed; of a file that `minimal_parse` does not open it is never `OutOfMemory`. The source is dropped
-    /// with any error.
+    /// an error if that returns one. Otherwise the error is `IOError`, only if the source can fail, or `OutOfMemory`
+    /// (tested, not proved: only if an allocation failed); of a file that `minimal_parse` does not open it is never
+    /// `OutOfMemory`. The source is dropped with any error.
     pub fn open_stream(alloc: A, mut reader: S) -> Result<Self, ParseError>
         ensures content { IfOk result (λ s. (s.content ≡ S.content reader) × (s.can_fail ≡ S.can_fail reader)) }
         ensures cached { IfOk result (λ s. s.cached ≡ []) }

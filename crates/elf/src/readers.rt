@@ -31,8 +31,8 @@ pub fn list_answers_as_table<E: EndianParse>()
 
 /// The main theorem, about lists of calls. Take a stream over known content that was opened from it, whatever calls
 /// were made since. Then each call of a list of calls returns what `ElfBytes` over that content returns, whatever
-/// header is put into `ehdr` before the call: the same value, or an error from both. The stream alone may return an
-/// error only if the source or an allocation failed in that call.
+/// header is put into `ehdr` before the call: the same value, or an error from both. If the stream alone returns an
+/// error, that is `IOError` or `OutOfMemory`.
 pub fn calls_answer_alike<E: EndianParse>()
     ensures { (bytes : List ℕ) (v : View E) (s : Seen E) (calls : List (Call E)) →
         opened E.little E.of_byte bytes ≡ Ok v → s.content ≡ Some bytes →

@@ -285,8 +285,8 @@ pub struct SourceHeaders<E: EndianParse, A: Allocator + Copy> {
 /// Header"). Allocates memory for the two tables only, and only if both lie in the source.
 ///
 /// If the content of the source is known, the headers are those that `open` finds in it. Returns an error if that
-/// returns one. Otherwise the error is `IOError` if the source failed, or `OutOfMemory` if an allocation failed; of a
-/// file that `open` does not open it is never `OutOfMemory`.
+/// returns one. Otherwise the error is `IOError`, only if the source can fail, or `OutOfMemory` (tested, not proved: only
+/// if an allocation failed); of a file that `open` does not open it is never `OutOfMemory`.
 pub fn open_source<E: EndianParse, S: StreamSource, A: Allocator + Copy>(
     alloc: A,
     source: &mut S,
