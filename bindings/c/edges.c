@@ -1,0 +1,219 @@
+/* Calls each function with no bytes, with empty tables, and with a file of which one byte after the other is damaged.
+ * Built with -fsanitize=address,undefined it shows that what C gives and gets is used as nugwier.h says.
+ *
+ * usage: edges FILE
+ */
+#include <stdio.h>
+#include <stdlib.h>
+#include <string.h>
+
+#include "nugwier.h"
+
+static unsigned long seen;
+
+/* Reads each byte, so that the sanitizer sees a range that is not there. */
+static void touch(const uint8_t *bytes, size_t length)
+{
+    for (size_t i = 0; i < length; i++) seen += bytes[i];
+}
+
+static void expect(int holds, const char *what)
+{
+    if (!holds) {
+        fprintf(stderr, "edges: %s\n", what);
+        exit(1);
+    }
+}
+
+static void read_notes(const struct nugwier_notes *notes)
+{
+    struct nugwier_note note = {0};
+    struct nugwier_note many[4];
+    memset(many, 0, sizeof many);
+    size_t offset = 0, end = 0, before = 0;
+    size_t got = nugwier_note_list(notes, &end, many, 4);
+    for (size_t i = 0; i < 100 && !nugwier_note(notes, &offset, &note).code; i++) {
+        touch(note.name, note.name_len);
+        touch(note.desc, note.desc_len);
+        if (i >= got) continue;
+        expect(note.kind == many[i].kind && note.desc_len == many[i].desc_len, "a note of many is another one");
+        before = offset;
+    }
+    expect(before == end, "many notes leave another offset");
+}
+
+static void read_hash(const struct nugwier_data *part, const struct nugwier_symbol_table *table, bool gnu)
+{
+    struct nugwier_found found = {0};
+    struct nugwier_verdict verdict = {0};
+    const uint8_t *name = (const uint8_t *)"printf";
+    struct nugwier_status looked = (gnu ? nugwier_gnu_find : nugwier_sysv_find)(
+        part->bytes, part->bytes_len, &table->symbols, table->strings, table->strings_len, name, 6, &found);
+    struct nugwier_status checked = nugwier_hash_check(gnu, part->bytes, part->bytes_len, &table->symbols,
+                                                       table->strings, table->strings_len, &verdict);
+    if (!checked.code && verdict.sound) expect(looked.code == 0, "a look-up in a sound section failed");
+}
+
+static void read_section(const struct nugwier_file *file, const struct nugwier_section *section,
+                         const struct nugwier_symbol_table *table)
+{
+    struct nugwier_data part = {0};
+    struct nugwier_bytes strings = {0};
+    struct nugwier_table records = {0};
+    struct nugwier_notes notes = {0};
+    struct nugwier_rel rels[8];
+    struct nugwier_rela relas[8];
+    if (!nugwier_section_data(file, section, &part).code) {
+        touch(part.bytes, part.bytes_len < 512 ? part.bytes_len : 512);
+        if (section->kind == 0x6ffffff6) read_hash(&part, table, true);
+        if (section->kind == 5) read_hash(&part, table, false);
+    }
+    if (!nugwier_section_strings(file, section, &strings).code && strings.bytes_len)
+        touch(strings.bytes + strings.bytes_len - 1, 1);
+    if (!nugwier_section_rels(file, section, &records).code) nugwier_rels(&records, 0, rels, 8);
+    if (!nugwier_section_relas(file, section, &records).code) nugwier_relas(&records, 0, relas, 8);
+    if (!nugwier_section_notes(file, section, &notes).code) read_notes(&notes);
+}
+
+static void read_versions(const struct nugwier_file *file)
+{
+    struct nugwier_versions versions = {0};
+    if (nugwier_version_table(file, &versions).code || !versions.found) return;
+    for (size_t i = 0; i < 20; i++) {
+        struct nugwier_version version = {0};
+        struct nugwier_requirement requirement = {0};
+        struct nugwier_definition defined = {0};
+        if (nugwier_version_index(&versions, i, &version).code) return;
+        if (!nugwier_requirement(&versions, i, &requirement).code && requirement.found)
+            touch(requirement.name, requirement.name_len);
+        if (nugwier_definition(&versions, i, &defined).code || !defined.found) continue;
+        bool found = true;
+        for (int j = 0; found && j < 10; j++) {
+            struct nugwier_bytes name = {0};
+            nugwier_version_name(&defined.names, &found, &name);
+            touch(name.bytes, name.bytes_len);
+        }
+    }
+}
+
+static void read_all(const uint8_t *bytes, size_t length)
+{
+    struct nugwier_file file = {0};
+    struct nugwier_status status = nugwier_open(bytes, length, &file);
+    if (status.code) {
+        expect(file.bytes == NULL && !file.has_sections, "an error changed the handle");
+        return;
+    }
+    struct nugwier_symbol_table table = {0};
+    struct nugwier_dynamic_table dynamics = {0};
+    struct nugwier_section_names names = {0};
+    struct nugwier_symbol symbols[16];
+    struct nugwier_section section = {0};
+    struct nugwier_segment segment = {0};
+    bool found = false;
+    if (!nugwier_symbol_table(&file, true, &table).code && table.found) {
+        size_t got = nugwier_symbols(&table.symbols, 0, symbols, 16);
+        for (size_t i = 0; i < got; i++) {
+            struct nugwier_bytes name = {0};
+            struct nugwier_symbol one = {0};
+            expect(nugwier_symbol(&table.symbols, i, &one).code == 0, "a symbol of many is not there by itself");
+            expect(memcmp(&one, &symbols[i], sizeof one) == 0, "a symbol of many is another one by itself");
+            if (!nugwier_string(table.strings, table.strings_len, one.name, &name).code)
+                touch(name.bytes, name.bytes_len);
+        }
+    }
+    if (!nugwier_dynamic_table(&file, &dynamics).code && dynamics.found) {
+        struct nugwier_dynamic entries[8];
+        nugwier_dynamics(&dynamics.entries, 0, entries, 8);
+    }
+    nugwier_section_names(&file, &names);
+    nugwier_section_by_name(&file, (const uint8_t *)".dynstr", 7, &found, &section);
+    nugwier_section_by_name(&file, (const uint8_t *)"\xff\xfe", 2, &found, &section);
+    expect(!found, "a name that is not UTF-8 was found");
+    for (size_t i = 0; i < 64 && !nugwier_section(&file, i, &section).code; i++) read_section(&file, &section, &table);
+    for (size_t i = 0; i < 32 && !nugwier_segment(&file, i, &segment).code; i++) {
+        struct nugwier_bytes part = {0};
+        struct nugwier_notes notes = {0};
+        if (!nugwier_segment_data(&file, &segment, &part).code && part.bytes_len)
+            touch(part.bytes + part.bytes_len - 1, 1);
+        if (!nugwier_segment_notes(&file, &segment, &notes).code) read_notes(&notes);
+    }
+    read_versions(&file);
+}
+
+static void nothing(void)
+{
+    struct nugwier_file file = {0};
+    struct nugwier_table table = {0};
+    struct nugwier_symbol symbol = {0};
+    struct nugwier_symbol_table symbols = {0};
+    struct nugwier_dynamic_table dynamics = {0};
+    struct nugwier_section_names names = {0};
+    struct nugwier_versions versions = {0};
+    struct nugwier_section section = {0};
+    struct nugwier_bytes string = {0};
+    struct nugwier_notes notes = {0};
+    struct nugwier_note note = {0};
+    struct nugwier_found one = {0};
+    struct nugwier_name name = {0};
+    size_t offset = 0;
+    bool found = true;
+    expect(nugwier_open(NULL, 0, &file).code == NUGWIER_SLICE_READ_ERROR, "a file of no bytes");
+    expect(nugwier_symbol(&table, 0, &symbol).code == NUGWIER_BAD_OFFSET, "a symbol of an empty table");
+    expect(nugwier_symbol(&table, SIZE_MAX, &symbol).code == NUGWIER_BAD_OFFSET, "symbol SIZE_MAX of an empty table");
+    expect(nugwier_symbols(&table, 0, NULL, 0) == 0, "no symbols into no places");
+    expect(nugwier_symbol_count(&table) == 0, "an empty table has symbols");
+    expect(nugwier_string(NULL, 0, 0, &string).code == NUGWIER_BAD_OFFSET, "a string of no bytes");
+    expect(nugwier_string((const uint8_t *)"", 1, 0, &string).code == 0 && string.bytes_len == 0, "the empty string");
+    expect(nugwier_note(&notes, &offset, &note).code != 0 && offset == 0, "a note of no bytes");
+    expect(nugwier_gnu_find(NULL, 0, &table, NULL, 0, NULL, 0, &one).code != 0, "a hash section of no bytes");
+    /* a handle of zeros is a file with no headers */
+    expect(nugwier_section(&file, 0, &section).code == NUGWIER_BAD_OFFSET, "a section of a file without any");
+    expect(nugwier_symbol_table(&file, true, &symbols).code == 0 && !symbols.found, "symbols of a file without any");
+    expect(nugwier_dynamic_table(&file, &dynamics).code == 0 && !dynamics.found, "entries of a file without any");
+    expect(nugwier_section_names(&file, &names).code == 0 && !names.found, "names of a file without any");
+    expect(nugwier_version_table(&file, &versions).code == 0 && !versions.found, "versions of a file without any");
+    expect(nugwier_section_by_name(&file, NULL, 0, &found, &section).code == 0 && !found, "a section of no name");
+    nugwier_e_machine_name(62, &name);
+    expect(name.found && name.bytes_len == 9 && !memcmp(name.bytes, "EM_X86_64", 9), "the name of a machine");
+    nugwier_e_machine_name(0xfffe, &name);
+    expect(!name.found, "the name of no machine");
+    nugwier_error_name(NUGWIER_BAD_MAGIC, &name);
+    expect(name.found && name.bytes_len == 8 && !memcmp(name.bytes, "BadMagic", 8), "the name of an error");
+}
+
+int main(int argc, char **argv)
+{
+    nothing();
+    if (argc < 2) return 0;
+    FILE *file = fopen(argv[1], "rb");
+    if (!file || fseek(file, 0, SEEK_END)) return perror(argv[1]), 1;
+    size_t length = (size_t)ftell(file);
+    rewind(file);
+    uint8_t *bytes = malloc(length);
+    if (!bytes || fread(bytes, 1, length, file) != length) return perror(argv[1]), 1;
+    fclose(file);
+    read_all(bytes, length);
+    /* the file cut off */
+    for (size_t cut = 0; cut < 100 && cut < length; cut++) {
+        size_t left = cut < 80 ? cut : length / 100 * cut;
+        uint8_t *part = malloc(left ? left : 1);
+        memcpy(part, bytes, left);
+        read_all(part, left);
+        free(part);
+    }
+    /* a byte of the header, or one of the last ones, where the section headers lie, changed */
+    static const uint8_t values[4] = {0, 1, 0x7f, 0xff};
+    for (size_t i = 0; i < 64 + 512 && i < length; i++)
+        for (int j = 0; j < 4; j++) {
+            size_t place = i < 64 ? i : length - (i - 63) * 7 % length;
+            if (place >= length) continue;
+            uint8_t old = bytes[place];
+            bytes[place] = values[j];
+            read_all(bytes, length);
+            bytes[place] = old;
+        }
+    free(bytes);
+    printf("edges: fine (%lu)\n", seen);
+    return 0;
+}

@@ -1,0 +1,418 @@
+/* Nugwier: a proved reader of ELF files, for C and C++.
+ *
+ * Nothing is allocated, and nothing is kept between two calls. Each call is a total function of its arguments: any
+ * bytes may be given as a file, a section or a table, and bad ones are an error.
+ *
+ * What the caller owes, and no proof can state:
+ *
+ *  - A pointer and its length name readable memory, or the length is 0. This holds for parameters and for the pairs in
+ *    structs, before a call too; so set a struct to {0} before its first use. If the length is 0, the pointer may be
+ *    NULL.
+ *  - A `bool` is 0 or 1, in structs too.
+ *  - Bytes that a struct points to stay alive and unchanged as long as the struct is used. A file that is mapped must
+ *    not be truncated meanwhile.
+ *  - What a call writes overlaps nothing that it reads, and no other thing that it writes.
+ *
+ * A pointer whose length is 0 need not point into the bytes that were given. Strings have no 0 byte at their end: use
+ * their length. Calls in several threads at once are fine if none writes what another uses.
+ */
+#ifndef NUGWIER_H
+#define NUGWIER_H
+
+#include <stdbool.h>
+#include <stddef.h>
+#include <stdint.h>
+
+#ifdef __cplusplus
+extern "C" {
+#endif
+
+/* ---- what a call returns */
+
+enum {
+    NUGWIER_OK = 0,
+    NUGWIER_BAD_MAGIC = 1,                 /* first: the four bytes, the first one lowest */
+    NUGWIER_UNSUPPORTED_CLASS = 2,         /* first: the class byte */
+    NUGWIER_UNSUPPORTED_ENDIANNESS = 3,    /* first: the byte of the order */
+    NUGWIER_UNSUPPORTED_VERSION = 4,       /* first: found, second: expected */
+    NUGWIER_BAD_OFFSET = 5,                /* first: the offset or the index */
+    NUGWIER_STRING_MISSING_NUL = 6,        /* first: the offset */
+    NUGWIER_BAD_ENTSIZE = 7,               /* first: found, second: expected */
+    NUGWIER_UNEXPECTED_SECTION_TYPE = 8,   /* first: found, second: expected */
+    NUGWIER_UNEXPECTED_SEGMENT_TYPE = 9,   /* first: found, second: expected */
+    NUGWIER_UNEXPECTED_ALIGNMENT = 10,     /* never returned */
+    NUGWIER_SLICE_READ_ERROR = 11,         /* first: start, second: end of the range that does not lie in the bytes */
+    NUGWIER_INTEGER_OVERFLOW = 12,
+    NUGWIER_UTF8_ERROR = 13                /* never returned */
+};
+
+struct nugwier_status {
+    uint32_t code;
+    uint64_t first;
+    uint64_t second;
+};
+
+/* ---- bytes and tables */
+
+struct nugwier_bytes {
+    const uint8_t *bytes;
+    size_t bytes_len;
+};
+
+/* The bytes of a table, with the byte order and the class of its records. */
+struct nugwier_table {
+    bool little;
+    bool is_64;
+    const uint8_t *bytes;
+    size_t bytes_len;
+};
+
+/* The string at an offset of a table of strings. */
+struct nugwier_status nugwier_string(const uint8_t *strings, size_t strings_len, size_t offset,
+                                     struct nugwier_bytes *string);
+
+/* ---- records */
+
+struct nugwier_symbol {
+    uint32_t name;
+    uint8_t info;
+    uint8_t other;
+    uint16_t shndx;
+    uint64_t value;
+    uint64_t size;
+};
+
+struct nugwier_section {
+    uint32_t name;
+    uint32_t kind;
+    uint64_t flags;
+    uint64_t addr;
+    uint64_t offset;
+    uint64_t size;
+    uint32_t link;
+    uint32_t info;
+    uint64_t addralign;
+    uint64_t entsize;
+};
+
+struct nugwier_segment {
+    uint32_t kind;
+    uint32_t flags;
+    uint64_t offset;
+    uint64_t vaddr;
+    uint64_t paddr;
+    uint64_t filesz;
+    uint64_t memsz;
+    uint64_t align;
+};
+
+struct nugwier_rel {
+    uint64_t offset;
+    uint32_t symbol;
+    uint32_t kind;
+};
+
+struct nugwier_rela {
+    uint64_t offset;
+    int64_t addend;
+    uint32_t symbol;
+    uint32_t kind;
+};
+
+struct nugwier_dynamic {
+    int64_t tag;
+    uint64_t value;
+};
+
+/* Record `index` of a table, counted from 0. An error leaves the record as it is. */
+struct nugwier_status nugwier_symbol(const struct nugwier_table *table, size_t index, struct nugwier_symbol *symbol);
+struct nugwier_status nugwier_rel(const struct nugwier_table *table, size_t index, struct nugwier_rel *rel);
+struct nugwier_status nugwier_rela(const struct nugwier_table *table, size_t index, struct nugwier_rela *rela);
+struct nugwier_status nugwier_dynamic(const struct nugwier_table *table, size_t index,
+                                      struct nugwier_dynamic *dynamic);
+
+/* The records of a table starting at number `first`: returns how many were written, up to the first that cannot be
+ * read, and no more than there are places. */
+size_t nugwier_symbols(const struct nugwier_table *table, size_t first, struct nugwier_symbol *symbols,
+                       size_t symbols_len);
+size_t nugwier_sections(const struct nugwier_table *table, size_t first, struct nugwier_section *sections,
+                        size_t sections_len);
+size_t nugwier_segments(const struct nugwier_table *table, size_t first, struct nugwier_segment *segments,
+                        size_t segments_len);
+size_t nugwier_rels(const struct nugwier_table *table, size_t first, struct nugwier_rel *rels, size_t rels_len);
+size_t nugwier_relas(const struct nugwier_table *table, size_t first, struct nugwier_rela *relas, size_t relas_len);
+size_t nugwier_dynamics(const struct nugwier_table *table, size_t first, struct nugwier_dynamic *dynamics,
+                        size_t dynamics_len);
+
+/* How many records fit into a table. */
+size_t nugwier_symbol_count(const struct nugwier_table *table);
+size_t nugwier_section_count(const struct nugwier_table *table);
+size_t nugwier_segment_count(const struct nugwier_table *table);
+size_t nugwier_rel_count(const struct nugwier_table *table);
+size_t nugwier_rela_count(const struct nugwier_table *table);
+size_t nugwier_dynamic_count(const struct nugwier_table *table);
+
+/* ---- files */
+
+struct nugwier_header {
+    bool little;
+    bool is_64;
+    uint8_t osabi;
+    uint8_t abiversion;
+    uint32_t version;
+    uint16_t kind;
+    uint16_t machine;
+    uint32_t flags;
+    uint64_t entry;
+    uint64_t phoff;
+    uint64_t shoff;
+    uint16_t ehsize;
+    uint16_t phentsize;
+    uint16_t phnum;
+    uint16_t shentsize;
+    uint16_t shnum;
+    uint16_t shstrndx;
+};
+
+/* A file that was opened. It belongs to the caller, and holds nothing that has to be freed. The tables are those of the
+ * section headers and of the program headers, if `has_sections` and `has_segments` say that there are any. */
+struct nugwier_file {
+    struct nugwier_header header;
+    const uint8_t *bytes;
+    size_t bytes_len;
+    bool has_sections;
+    bool has_segments;
+    struct nugwier_table sections;
+    struct nugwier_table segments;
+};
+
+/* Opens a file whose bytes are given. An error leaves `file` as it is. */
+struct nugwier_status nugwier_open(const uint8_t *bytes, size_t bytes_len, struct nugwier_file *file);
+
+/* Header `index`, counted from 0. An error leaves the header as it is. */
+struct nugwier_status nugwier_section(const struct nugwier_file *file, size_t index, struct nugwier_section *section);
+struct nugwier_status nugwier_segment(const struct nugwier_file *file, size_t index, struct nugwier_segment *segment);
+
+/* ---- the bytes of sections and segments, and what lies in them */
+
+/* What the compression header of a section says. If it has none, all numbers are 0. */
+struct nugwier_compression {
+    bool compressed;
+    uint32_t kind;
+    uint64_t size;
+    uint64_t addralign;
+};
+
+/* The bytes of a section, after its compression header if it has one; nothing is decompressed. */
+struct nugwier_data {
+    const uint8_t *bytes;
+    size_t bytes_len;
+    struct nugwier_compression compression;
+};
+
+/* The notes of a section or of a segment. */
+struct nugwier_notes {
+    bool little;
+    size_t align;
+    const uint8_t *bytes;
+    size_t bytes_len;
+};
+
+struct nugwier_status nugwier_section_data(const struct nugwier_file *file, const struct nugwier_section *section,
+                                           struct nugwier_data *part);
+struct nugwier_status nugwier_segment_data(const struct nugwier_file *file, const struct nugwier_segment *segment,
+                                           struct nugwier_bytes *part);
+struct nugwier_status nugwier_section_strings(const struct nugwier_file *file, const struct nugwier_section *section,
+                                              struct nugwier_bytes *strings);
+struct nugwier_status nugwier_section_rels(const struct nugwier_file *file, const struct nugwier_section *section,
+                                           struct nugwier_table *table);
+struct nugwier_status nugwier_section_relas(const struct nugwier_file *file, const struct nugwier_section *section,
+                                            struct nugwier_table *table);
+struct nugwier_status nugwier_section_notes(const struct nugwier_file *file, const struct nugwier_section *section,
+                                            struct nugwier_notes *notes);
+struct nugwier_status nugwier_segment_notes(const struct nugwier_file *file, const struct nugwier_segment *segment,
+                                            struct nugwier_notes *notes);
+
+/* ---- symbols, dynamic entries, the names of sections */
+
+/* If `found` is false, the call wrote nothing else. */
+struct nugwier_symbol_table {
+    bool found;
+    struct nugwier_table symbols;
+    const uint8_t *strings;
+    size_t strings_len;
+};
+
+struct nugwier_dynamic_table {
+    bool found;
+    struct nugwier_table entries;
+};
+
+struct nugwier_section_names {
+    bool found;
+    const uint8_t *strings;
+    size_t strings_len;
+};
+
+/* The symbols for dynamic linking, or all symbols, with their strings. */
+struct nugwier_status nugwier_symbol_table(const struct nugwier_file *file, bool dynamic,
+                                           struct nugwier_symbol_table *symbols);
+struct nugwier_status nugwier_dynamic_table(const struct nugwier_file *file, struct nugwier_dynamic_table *dynamics);
+struct nugwier_status nugwier_section_names(const struct nugwier_file *file, struct nugwier_section_names *names);
+
+/* The first section with a name. If there is none, `found` is false and `section` stays as it is. */
+struct nugwier_status nugwier_section_by_name(const struct nugwier_file *file, const uint8_t *name, size_t name_len,
+                                              bool *found, struct nugwier_section *section);
+
+/* ---- notes */
+
+struct nugwier_abi_tag {
+    uint32_t os;
+    uint32_t major;
+    uint32_t minor;
+    uint32_t subminor;
+};
+
+/* `kind` is 1 for an ABI tag (in `tag`), 2 for a build id (in `desc`), and 0 for any other note (in `n_type`, `name`,
+ * with the 0 bytes at its end, and `desc`). */
+struct nugwier_note {
+    uint32_t kind;
+    struct nugwier_abi_tag tag;
+    uint64_t n_type;
+    const uint8_t *name;
+    size_t name_len;
+    const uint8_t *desc;
+    size_t desc_len;
+};
+
+/* The note at `offset`, which is moved to the next note. The first note is at 0. An error, which ends the notes, leaves
+ * both as they are. */
+struct nugwier_status nugwier_note(const struct nugwier_notes *notes, size_t *offset, struct nugwier_note *note);
+
+/* The notes from `offset` on, which is moved to the next note: returns how many were written, up to the first that
+ * cannot be read, and no more than there are places. */
+size_t nugwier_note_list(const struct nugwier_notes *notes, size_t *offset, struct nugwier_note *places,
+                         size_t places_len);
+
+/* ---- hash sections */
+
+/* If `found` is false, all numbers are 0. */
+struct nugwier_found {
+    bool found;
+    size_t index;
+    struct nugwier_symbol symbol;
+};
+
+struct nugwier_verdict {
+    bool sound;
+    size_t indexed;
+};
+
+/* The symbol of a name, by the bytes of a hash section and the symbols that it is for. */
+struct nugwier_status nugwier_gnu_find(const uint8_t *section, size_t section_len, const struct nugwier_table *symbols,
+                                       const uint8_t *strings, size_t strings_len, const uint8_t *name,
+                                       size_t name_len, struct nugwier_found *found);
+struct nugwier_status nugwier_sysv_find(const uint8_t *section, size_t section_len, const struct nugwier_table *symbols,
+                                        const uint8_t *strings, size_t strings_len, const uint8_t *name,
+                                        size_t name_len, struct nugwier_found *found);
+
+/* Whether a hash section is sound for these symbols. On one that is, a look-up returns no error, and finds a symbol
+ * exactly if one that the section indexes has the name. */
+struct nugwier_status nugwier_hash_check(bool gnu, const uint8_t *section, size_t section_len,
+                                         const struct nugwier_table *symbols, const uint8_t *strings,
+                                         size_t strings_len, struct nugwier_verdict *verdict);
+
+/* ---- versions of symbols */
+
+struct nugwier_entries {
+    bool found;
+    uint64_t count;
+    struct nugwier_table entries;
+    const uint8_t *strings;
+    size_t strings_len;
+};
+
+struct nugwier_versions {
+    bool found;
+    struct nugwier_table indexes;
+    struct nugwier_entries needs;
+    struct nugwier_entries definitions;
+};
+
+struct nugwier_version {
+    uint16_t index;
+    bool hidden;
+};
+
+struct nugwier_requirement {
+    bool found;
+    bool hidden;
+    uint16_t flags;
+    uint32_t hash;
+    const uint8_t *file;
+    size_t file_len;
+    const uint8_t *name;
+    size_t name_len;
+};
+
+struct nugwier_version_names {
+    uint64_t count;
+    size_t offset;
+    struct nugwier_table entries;
+    const uint8_t *strings;
+    size_t strings_len;
+};
+
+struct nugwier_definition {
+    bool found;
+    bool hidden;
+    uint16_t flags;
+    uint32_t hash;
+    struct nugwier_version_names names;
+};
+
+/* The versions of the symbols of a file. If `found` is false, the call wrote nothing else. */
+struct nugwier_status nugwier_version_table(const struct nugwier_file *file, struct nugwier_versions *versions);
+
+/* What symbol number `symbol` has. If `found` is false, the call wrote nothing else. */
+struct nugwier_status nugwier_version_index(const struct nugwier_versions *versions, size_t symbol,
+                                            struct nugwier_version *version);
+struct nugwier_status nugwier_requirement(const struct nugwier_versions *versions, size_t symbol,
+                                          struct nugwier_requirement *requirement);
+struct nugwier_status nugwier_definition(const struct nugwier_versions *versions, size_t symbol,
+                                         struct nugwier_definition *defined);
+
+/* The next name of a definition. If none is left, `found` is false and `name` stays as it is. After an error the next
+ * call goes on with the name after it. */
+struct nugwier_status nugwier_version_name(struct nugwier_version_names *names, bool *found,
+                                           struct nugwier_bytes *name);
+
+/* ---- the names of values */
+
+/* If `found` is false, the value has no name. */
+struct nugwier_name {
+    bool found;
+    const uint8_t *bytes;
+    size_t bytes_len;
+};
+
+void nugwier_e_osabi_name(uint8_t e_osabi, struct nugwier_name *name);
+void nugwier_e_type_name(uint16_t e_type, struct nugwier_name *name);
+void nugwier_e_machine_name(uint16_t e_machine, struct nugwier_name *name);
+void nugwier_sh_type_name(uint32_t sh_type, struct nugwier_name *name);
+void nugwier_p_type_name(uint32_t p_type, struct nugwier_name *name);
+void nugwier_st_symtype_name(uint8_t st_symtype, struct nugwier_name *name);
+void nugwier_st_bind_name(uint8_t st_bind, struct nugwier_name *name);
+void nugwier_st_vis_name(uint8_t st_vis, struct nugwier_name *name);
+void nugwier_ch_type_name(uint32_t ch_type, struct nugwier_name *name);
+void nugwier_note_abi_tag_os_name(uint32_t os, struct nugwier_name *name);
+void nugwier_d_tag_name(int64_t d_tag, struct nugwier_name *name);
+
+/* The name of the error with the code of a status, as BadMagic. */
+void nugwier_error_name(uint32_t code, struct nugwier_name *name);
+
+#ifdef __cplusplus
+}
+#endif
+
+#endif

@@ -1,0 +1,285 @@
+//! The reader over a slice of a file's bytes.
+use crate::abi;
+use crate::compression::CompressionHeader;
+use crate::dynamic::DynamicTable;
+use crate::endian::EndianParse;
+use crate::ffi;
+use crate::file::FileHeader;
+use crate::gnu_symver::SymbolVersionTable;
+use crate::hash::{GnuHashTable, SysVHashTable};
+use crate::note::NoteIterator;
+use crate::parse::{checked, ParseAt, ParseError, ParsingTable};
+use crate::relocation::{RelIterator, RelaIterator};
+use crate::section::{SectionHeader, SectionHeaderTable};
+use crate::segment::{ProgramHeader, SegmentTable};
+use crate::string_table::StringTable;
+use crate::symbol::{Symbol, SymbolTable};
+
+/// An ELF file in a slice of bytes, with its header and its two tables of headers.
+#[derive(Debug)]
+pub struct ElfBytes<'data, E: EndianParse> {
+    pub ehdr: FileHeader<E>,
+    file: ffi::File<'data>,
+}
+
+/// The sections that are looked up most often. A field is `None` if the file does not have it.
+#[derive(Debug, Default)]
+pub struct CommonElfData<'data, E: EndianParse> {
+    pub symtab: Option<SymbolTable<'data, E>>,
+    pub symtab_strs: Option<StringTable<'data>>,
+    pub dynsyms: Option<SymbolTable<'data, E>>,
+    pub dynsyms_strs: Option<StringTable<'data>>,
+    pub dynamic: Option<DynamicTable<'data, E>>,
+    pub sysv_hash: Option<SysVHashTable<'data, E>>,
+    pub gnu_hash: Option<GnuHashTable<'data, E>>,
+}
+
+type SymbolsWithStrings<'data, E> = (SymbolTable<'data, E>, StringTable<'data>);
+
+impl<'data, E: EndianParse> ElfBytes<'data, E> {
+    /// Opens a file: reads its header, and finds its two tables of headers.
+    pub fn minimal_parse(data: &'data [u8]) -> Result<Self, ParseError> {
+        let mut file = ffi::File::default();
+        let opened = checked(ffi::open(ffi::Bytes::new(data), &mut file));
+        let identified = !matches!(
+            opened,
+            Err(ParseError::BadMagic(_)
+                | ParseError::UnsupportedElfClass(_)
+                | ParseError::UnsupportedElfEndianness(_)
+                | ParseError::UnsupportedVersion(_))
+        );
+        let endianness = match data.get(abi::EI_DATA) {
+            // an order that this type does not have is an error before those of what follows it
+            Some(order) if identified && data.len() >= abi::EI_NIDENT => E::from_ei_data(*order)?,
+            _ => E::default(),
+        };
+        opened?;
+        Ok(ElfBytes {
+            ehdr: FileHeader::of(&file.header, endianness),
+            file,
+        })
+    }
+
+    /// The file with the current header.
+    fn handle(&self) -> ffi::File<'data> {
+        ffi::File {
+            header: self.ehdr.raw(),
+            ..self.file
+        }
+    }
+
+    /// The program headers, if the file declares any.
+    pub fn segments(&self) -> Option<SegmentTable<'data, E>> {
+        self.file
+            .has_segments
+            .then(|| ParsingTable::of(self.file.segments))
+    }
+
+    /// The section headers, if the file declares any.
+    pub fn section_headers(&self) -> Option<SectionHeaderTable<'data, E>> {
+        self.file
+            .has_sections
+            .then(|| ParsingTable::of(self.file.sections))
+    }
+
+    /// The section headers, and the table of their names.
+    pub fn section_headers_with_strtab(
+        &self,
+    ) -> Result<
+        (
+            Option<SectionHeaderTable<'data, E>>,
+            Option<StringTable<'data>>,
+        ),
+        ParseError,
+    > {
+        let mut names = ffi::SectionNames::default();
+        checked(ffi::section_names(&self.handle(), &mut names))?;
+        let strings = names.found.then(|| StringTable::new(names.strings.get()));
+        Ok((self.section_headers(), strings))
+    }
+
+    /// The first section with a name.
+    pub fn section_header_by_name(&self, name: &str) -> Result<Option<SectionHeader>, ParseError> {
+        let (mut found, mut section) = (false, ffi::Section::default());
+        let wanted = ffi::Bytes::new(name.as_bytes());
+        checked(ffi::section_by_name(
+            &self.handle(),
+            wanted,
+            &mut found,
+            &mut section,
+        ))?;
+        Ok(found.then(|| SectionHeader::of(&section)))
+    }
+
+    /// The bytes of a section, and its compression header if it has one.
+    pub fn section_data(
+        &self,
+        shdr: &SectionHeader,
+    ) -> Result<(&'data [u8], Option<CompressionHeader>), ParseError> {
+        let mut part = ffi::Data::default();
+        checked(ffi::section_data(&self.handle(), &shdr.raw(), &mut part))?;
+        Ok((part.bytes.get(), CompressionHeader::of(&part.compression)))
+    }
+
+    /// The strings of a section of type `SHT_STRTAB`.
+    pub fn section_data_as_strtab(
+        &self,
+        shdr: &SectionHeader,
+    ) -> Result<StringTable<'data>, ParseError> {
+        let mut strings = ffi::Bytes::default();
+        checked(ffi::section_strings(
+            &self.handle(),
+            &shdr.raw(),
+            &mut strings,
+        ))?;
+        Ok(StringTable::new(strings.get()))
+    }
+
+    /// The relocations of a section of type `SHT_REL`.
+    pub fn section_data_as_rels(
+        &self,
+        shdr: &SectionHeader,
+    ) -> Result<RelIterator<'data, E>, ParseError> {
+        let mut table = ffi::Table::default();
+        checked(ffi::section_rels(&self.handle(), &shdr.raw(), &mut table))?;
+        Ok(RelIterator::of(table))
+    }
+
+    /// The relocations of a section of type `SHT_RELA`.
+    pub fn section_data_as_relas(
+        &self,
+        shdr: &SectionHeader,
+    ) -> Result<RelaIterator<'data, E>, ParseError> {
+        let mut table = ffi::Table::default();
+        checked(ffi::section_relas(&self.handle(), &shdr.raw(), &mut table))?;
+        Ok(RelaIterator::of(table))
+    }
+
+    /// The notes of a section of type `SHT_NOTE`.
+    pub fn section_data_as_notes(
+        &self,
+        shdr: &SectionHeader,
+    ) -> Result<NoteIterator<'data, E>, ParseError> {
+        let mut notes = ffi::Notes::default();
+        checked(ffi::section_notes(&self.handle(), &shdr.raw(), &mut notes))?;
+        Ok(NoteIterator::of(notes))
+    }
+
+    /// The bytes of a segment in the file.
+    pub fn segment_data(&self, phdr: &ProgramHeader) -> Result<&'data [u8], ParseError> {
+        let mut part = ffi::Bytes::default();
+        checked(ffi::segment_data(&self.handle(), &phdr.raw(), &mut part))?;
+        Ok(part.get())
+    }
+
+    /// The notes of a segment of type `PT_NOTE`.
+    pub fn segment_data_as_notes(
+        &self,
+        phdr: &ProgramHeader,
+    ) -> Result<NoteIterator<'data, E>, ParseError> {
+        let mut notes = ffi::Notes::default();
+        checked(ffi::segment_notes(&self.handle(), &phdr.raw(), &mut notes))?;
+        Ok(NoteIterator::of(notes))
+    }
+
+    /// The dynamic entries.
+    pub fn dynamic(&self) -> Result<Option<DynamicTable<'data, E>>, ParseError> {
+        let mut table = ffi::DynamicTable::default();
+        checked(ffi::dynamic_table(&self.handle(), &mut table))?;
+        Ok(table.found.then(|| ParsingTable::of(table.entries)))
+    }
+
+    fn symbols(&self, dynamic: bool) -> Result<Option<SymbolsWithStrings<'data, E>>, ParseError> {
+        let mut table = ffi::SymbolTable::default();
+        checked(ffi::symbol_table(&self.handle(), dynamic, &mut table))?;
+        Ok(table.found.then(|| {
+            (
+                ParsingTable::of(table.symbols),
+                StringTable::new(table.strings.get()),
+            )
+        }))
+    }
+
+    /// The symbols of the first section of type `SHT_SYMTAB`, and their strings.
+    pub fn symbol_table(&self) -> Result<Option<SymbolsWithStrings<'data, E>>, ParseError> {
+        self.symbols(false)
+    }
+
+    /// The symbols of the first section of type `SHT_DYNSYM`, and their strings.
+    pub fn dynamic_symbol_table(&self) -> Result<Option<SymbolsWithStrings<'data, E>>, ParseError> {
+        self.symbols(true)
+    }
+
+    /// The versions of the dynamic symbols.
+    pub fn symbol_version_table(&self) -> Result<Option<SymbolVersionTable<'data, E>>, ParseError> {
+        let mut versions = ffi::Versions::default();
+        checked(ffi::version_table(&self.handle(), &mut versions))?;
+        Ok(versions.found.then(|| SymbolVersionTable::of(versions)))
+    }
+
+    // The bytes in the range of a section, whatever its type and its flags are.
+    fn range(&self, shdr: &SectionHeader) -> Result<&'data [u8], ParseError> {
+        let plain = SectionHeader {
+            sh_type: abi::SHT_PROGBITS,
+            sh_flags: 0,
+            ..*shdr
+        };
+        Ok(self.section_data(&plain)?.0)
+    }
+
+    fn symbols_of(&self, shdr: &SectionHeader) -> Result<SymbolsWithStrings<'data, E>, ParseError> {
+        let mut linked = ffi::Section::default();
+        checked(ffi::section(
+            &self.handle(),
+            shdr.sh_link as usize,
+            &mut linked,
+        ))?;
+        Symbol::validate_entsize(self.ehdr.class, shdr.sh_entsize as usize)?;
+        let symbols = self.range(shdr)?;
+        let strings = self.range(&SectionHeader::of(&linked))?;
+        let table = SymbolTable::new(self.ehdr.endianness, self.ehdr.class, symbols);
+        Ok((table, StringTable::new(strings)))
+    }
+
+    /// The symbols, the dynamic entries and the hash sections, found in one pass over the sections.
+    pub fn find_common_data(&self) -> Result<CommonElfData<'data, E>, ParseError> {
+        let mut found = CommonElfData::default();
+        let (endian, class) = (self.ehdr.endianness, self.ehdr.class);
+        for shdr in self.section_headers().into_iter().flatten() {
+            match shdr.sh_type {
+                abi::SHT_SYMTAB => {
+                    let (symbols, strings) = self.symbols_of(&shdr)?;
+                    found.symtab = Some(symbols);
+                    found.symtab_strs = Some(strings);
+                }
+                abi::SHT_DYNSYM => {
+                    let (symbols, strings) = self.symbols_of(&shdr)?;
+                    found.dynsyms = Some(symbols);
+                    found.dynsyms_strs = Some(strings);
+                }
+                abi::SHT_DYNAMIC => {
+                    crate::dynamic::Dyn::validate_entsize(class, shdr.sh_entsize as usize)?;
+                    found.dynamic = Some(DynamicTable::new(
+                        endian,
+                        class,
+                        self.section_data(&shdr)?.0,
+                    ));
+                }
+                abi::SHT_HASH => {
+                    found.sysv_hash = Some(SysVHashTable::new(endian, class, self.range(&shdr)?)?)
+                }
+                abi::SHT_GNU_HASH => {
+                    found.gnu_hash = Some(GnuHashTable::new(endian, class, self.range(&shdr)?)?)
+                }
+                _ => {}
+            }
+        }
+        if found.dynamic.is_none() {
+            let mut segments = self.segments().into_iter().flatten();
+            if let Some(phdr) = segments.find(|phdr| phdr.p_type == abi::PT_DYNAMIC) {
+                found.dynamic = Some(DynamicTable::new(endian, class, self.segment_data(&phdr)?));
+            }
+        }
+        Ok(found)
+    }
+}

@@ -1,0 +1,713 @@
+//! The functions of libnugwier.a, and the structs that cross. This is the only file with `unsafe`.
+//!
+//! Each export is a total function: it accepts any bytes and any numbers. What a caller owes (nugwier.h) is held here
+//! by types: a `Bytes<'a>` is made of a slice of this lifetime or written by the library, which writes only parts of
+//! the bytes that it was given, or constants; its fields are private. A `bool` is a Rust `bool`. `&` and `&mut` overlap
+//! nothing.
+use std::marker::PhantomData;
+
+/// Bytes that live as long as `'a`.
+#[repr(C)]
+#[derive(Clone, Copy)]
+pub struct Bytes<'a> {
+    at: *const u8,
+    len: usize,
+    of: PhantomData<&'a [u8]>,
+}
+
+// SAFETY: it is a shared slice of bytes, which may be sent.
+unsafe impl Send for Bytes<'_> {}
+// SAFETY: it is a shared slice of bytes, which may be shared.
+unsafe impl Sync for Bytes<'_> {}
+
+impl<'a> Bytes<'a> {
+    pub fn new(bytes: &'a [u8]) -> Self {
+        Bytes {
+            at: bytes.as_ptr(),
+            len: bytes.len(),
+            of: PhantomData,
+        }
+    }
+
+    pub fn get(self) -> &'a [u8] {
+        if self.len == 0 {
+            return &[];
+        }
+        // SAFETY: `new` made it of such a slice, or the library wrote it: a part of bytes that live as long as `'a`.
+        unsafe { std::slice::from_raw_parts(self.at, self.len) }
+    }
+}
+
+impl Default for Bytes<'_> {
+    fn default() -> Self {
+        Bytes::new(&[])
+    }
+}
+
+impl std::fmt::Debug for Bytes<'_> {
+    fn fmt(&self, f: &mut std::fmt::Formatter<'_>) -> std::fmt::Result {
+        self.get().fmt(f)
+    }
+}
+
+#[repr(C)]
+pub struct Status {
+    pub code: u32,
+    pub first: u64,
+    pub second: u64,
+}
+
+#[repr(C)]
+#[derive(Clone, Copy, Debug, Default)]
+pub struct Table<'a> {
+    pub little: bool,
+    pub is_64: bool,
+    pub bytes: Bytes<'a>,
+}
+
+#[repr(C)]
+#[derive(Clone, Copy, Debug, Default)]
+pub struct Header {
+    pub little: bool,
+    pub is_64: bool,
+    pub osabi: u8,
+    pub abiversion: u8,
+    pub version: u32,
+    pub kind: u16,
+    pub machine: u16,
+    pub flags: u32,
+    pub entry: u64,
+    pub phoff: u64,
+    pub shoff: u64,
+    pub ehsize: u16,
+    pub phentsize: u16,
+    pub phnum: u16,
+    pub shentsize: u16,
+    pub shnum: u16,
+    pub shstrndx: u16,
+}
+
+#[repr(C)]
+#[derive(Clone, Copy, Debug, Default)]
+pub struct File<'a> {
+    pub header: Header,
+    pub bytes: Bytes<'a>,
+    pub has_sections: bool,
+    pub has_segments: bool,
+    pub sections: Table<'a>,
+    pub segments: Table<'a>,
+}
+
+#[repr(C)]
+#[derive(Clone, Copy, Debug, Default)]
+pub struct Section {
+    pub name: u32,
+    pub kind: u32,
+    pub flags: u64,
+    pub addr: u64,
+    pub offset: u64,
+    pub size: u64,
+    pub link: u32,
+    pub info: u32,
+    pub addralign: u64,
+    pub entsize: u64,
+}
+
+#[repr(C)]
+#[derive(Clone, Copy, Debug, Default)]
+pub struct Segment {
+    pub kind: u32,
+    pub flags: u32,
+    pub offset: u64,
+    pub vaddr: u64,
+    pub paddr: u64,
+    pub filesz: u64,
+    pub memsz: u64,
+    pub align: u64,
+}
+
+#[repr(C)]
+#[derive(Clone, Copy, Debug, Default)]
+pub struct Symbol {
+    pub name: u32,
+    pub info: u8,
+    pub other: u8,
+    pub shndx: u16,
+    pub value: u64,
+    pub size: u64,
+}
+
+#[repr(C)]
+#[derive(Clone, Copy, Debug, Default)]
+pub struct Rel {
+    pub offset: u64,
+    pub symbol: u32,
+    pub kind: u32,
+}
+
+#[repr(C)]
+#[derive(Clone, Copy, Debug, Default)]
+pub struct Rela {
+    pub offset: u64,
+    pub addend: i64,
+    pub symbol: u32,
+    pub kind: u32,
+}
+
+#[repr(C)]
+#[derive(Clone, Copy, Debug, Default)]
+pub struct Dynamic {
+    pub tag: i64,
+    pub value: u64,
+}
+
+#[repr(C)]
+#[derive(Clone, Copy, Debug, Default)]
+pub struct Compression {
+    pub compressed: bool,
+    pub kind: u32,
+    pub size: u64,
+    pub addralign: u64,
+}
+
+#[repr(C)]
+#[derive(Clone, Copy, Debug, Default)]
+pub struct Data<'a> {
+    pub bytes: Bytes<'a>,
+    pub compression: Compression,
+}
+
+#[repr(C)]
+#[derive(Clone, Copy, Debug, Default)]
+pub struct SymbolTable<'a> {
+    pub found: bool,
+    pub symbols: Table<'a>,
+    pub strings: Bytes<'a>,
+}
+
+#[repr(C)]
+#[derive(Clone, Copy, Debug, Default)]
+pub struct DynamicTable<'a> {
+    pub found: bool,
+    pub entries: Table<'a>,
+}
+
+#[repr(C)]
+#[derive(Clone, Copy, Debug, Default)]
+pub struct SectionNames<'a> {
+    pub found: bool,
+    pub strings: Bytes<'a>,
+}
+
+#[repr(C)]
+#[derive(Clone, Copy, Debug, Default)]
+pub struct Notes<'a> {
+    pub little: bool,
+    pub align: usize,
+    pub bytes: Bytes<'a>,
+}
+
+#[repr(C)]
+#[derive(Clone, Copy, Debug, Default)]
+pub struct AbiTag {
+    pub os: u32,
+    pub major: u32,
+    pub minor: u32,
+    pub subminor: u32,
+}
+
+#[repr(C)]
+#[derive(Clone, Copy, Debug, Default)]
+pub struct Note<'a> {
+    pub kind: u32,
+    pub tag: AbiTag,
+    pub n_type: u64,
+    pub name: Bytes<'a>,
+    pub desc: Bytes<'a>,
+}
+
+#[repr(C)]
+#[derive(Clone, Copy, Debug, Default)]
+pub struct Found {
+    pub found: bool,
+    pub index: usize,
+    pub symbol: Symbol,
+}
+
+#[repr(C)]
+#[derive(Clone, Copy, Debug, Default)]
+pub struct Verdict {
+    pub sound: bool,
+    pub indexed: usize,
+}
+
+#[repr(C)]
+#[derive(Clone, Copy, Debug, Default)]
+pub struct Entries<'a> {
+    pub found: bool,
+    pub count: u64,
+    pub entries: Table<'a>,
+    pub strings: Bytes<'a>,
+}
+
+#[repr(C)]
+#[derive(Clone, Copy, Debug, Default)]
+pub struct Versions<'a> {
+    pub found: bool,
+    pub indexes: Table<'a>,
+    pub needs: Entries<'a>,
+    pub definitions: Entries<'a>,
+}
+
+#[repr(C)]
+#[derive(Clone, Copy, Debug, Default)]
+pub struct Version {
+    pub index: u16,
+    pub hidden: bool,
+}
+
+#[repr(C)]
+#[derive(Clone, Copy, Debug, Default)]
+pub struct Requirement<'a> {
+    pub found: bool,
+    pub hidden: bool,
+    pub flags: u16,
+    pub hash: u32,
+    pub file: Bytes<'a>,
+    pub name: Bytes<'a>,
+}
+
+#[repr(C)]
+#[derive(Clone, Copy, Debug, Default)]
+pub struct VersionNames<'a> {
+    pub count: u64,
+    pub offset: usize,
+    pub entries: Table<'a>,
+    pub strings: Bytes<'a>,
+}
+
+#[repr(C)]
+#[derive(Clone, Copy, Debug, Default)]
+pub struct Definition<'a> {
+    pub found: bool,
+    pub hidden: bool,
+    pub flags: u16,
+    pub hash: u32,
+    pub names: VersionNames<'a>,
+}
+
+#[repr(C)]
+#[derive(Clone, Copy, Debug, Default)]
+pub struct Name<'a> {
+    pub found: bool,
+    pub bytes: Bytes<'a>,
+}
+
+// A pair of a pointer and a length stands for a slice; the lifetimes that tie what is written to what was given are
+// stated by the functions below.
+extern "C" {
+    fn nugwier_section_data(file: &File<'_>, section: &Section, part: &mut Data<'_>) -> Status;
+    fn nugwier_segment_data(file: &File<'_>, segment: &Segment, part: &mut Bytes<'_>) -> Status;
+    fn nugwier_section_strings(
+        file: &File<'_>,
+        section: &Section,
+        strings: &mut Bytes<'_>,
+    ) -> Status;
+    fn nugwier_section_rels(file: &File<'_>, section: &Section, table: &mut Table<'_>) -> Status;
+    fn nugwier_section_relas(file: &File<'_>, section: &Section, table: &mut Table<'_>) -> Status;
+    fn nugwier_section_notes(file: &File<'_>, section: &Section, notes: &mut Notes<'_>) -> Status;
+    fn nugwier_segment_notes(file: &File<'_>, segment: &Segment, notes: &mut Notes<'_>) -> Status;
+    fn nugwier_open(bytes: *const u8, bytes_len: usize, file: &mut File<'_>) -> Status;
+    fn nugwier_section(file: &File<'_>, index: usize, section: &mut Section) -> Status;
+    fn nugwier_segment(file: &File<'_>, index: usize, segment: &mut Segment) -> Status;
+    fn nugwier_gnu_find(
+        section: *const u8,
+        section_len: usize,
+        symbols: &Table<'_>,
+        strings: *const u8,
+        strings_len: usize,
+        name: *const u8,
+        name_len: usize,
+        found: &mut Found,
+    ) -> Status;
+    fn nugwier_sysv_find(
+        section: *const u8,
+        section_len: usize,
+        symbols: &Table<'_>,
+        strings: *const u8,
+        strings_len: usize,
+        name: *const u8,
+        name_len: usize,
+        found: &mut Found,
+    ) -> Status;
+    fn nugwier_hash_check(
+        gnu: bool,
+        section: *const u8,
+        section_len: usize,
+        symbols: &Table<'_>,
+        strings: *const u8,
+        strings_len: usize,
+        verdict: &mut Verdict,
+    ) -> Status;
+    fn nugwier_e_osabi_name(e_osabi: u8, name: &mut Name<'static>);
+    fn nugwier_e_type_name(e_type: u16, name: &mut Name<'static>);
+    fn nugwier_e_machine_name(e_machine: u16, name: &mut Name<'static>);
+    fn nugwier_sh_type_name(sh_type: u32, name: &mut Name<'static>);
+    fn nugwier_p_type_name(p_type: u32, name: &mut Name<'static>);
+    fn nugwier_st_symtype_name(st_symtype: u8, name: &mut Name<'static>);
+    fn nugwier_st_bind_name(st_bind: u8, name: &mut Name<'static>);
+    fn nugwier_st_vis_name(st_vis: u8, name: &mut Name<'static>);
+    fn nugwier_ch_type_name(ch_type: u32, name: &mut Name<'static>);
+    fn nugwier_note_abi_tag_os_name(os: u32, name: &mut Name<'static>);
+    fn nugwier_d_tag_name(d_tag: i64, name: &mut Name<'static>);
+    fn nugwier_error_name(code: u32, name: &mut Name<'static>);
+    fn nugwier_note(notes: &Notes<'_>, offset: &mut usize, note: &mut Note<'_>) -> Status;
+    fn nugwier_symbol(table: &Table<'_>, index: usize, symbol: &mut Symbol) -> Status;
+    fn nugwier_rel(table: &Table<'_>, index: usize, rel: &mut Rel) -> Status;
+    fn nugwier_rela(table: &Table<'_>, index: usize, rela: &mut Rela) -> Status;
+    fn nugwier_dynamic(table: &Table<'_>, index: usize, dynamic: &mut Dynamic) -> Status;
+    fn nugwier_symbol_count(table: &Table<'_>) -> usize;
+    fn nugwier_section_count(table: &Table<'_>) -> usize;
+    fn nugwier_segment_count(table: &Table<'_>) -> usize;
+    fn nugwier_rel_count(table: &Table<'_>) -> usize;
+    fn nugwier_rela_count(table: &Table<'_>) -> usize;
+    fn nugwier_dynamic_count(table: &Table<'_>) -> usize;
+    fn nugwier_string(
+        strings: *const u8,
+        strings_len: usize,
+        offset: usize,
+        string: &mut Bytes<'_>,
+    ) -> Status;
+    fn nugwier_symbol_table(
+        file: &File<'_>,
+        dynamic: bool,
+        symbols: &mut SymbolTable<'_>,
+    ) -> Status;
+    fn nugwier_dynamic_table(file: &File<'_>, dynamics: &mut DynamicTable<'_>) -> Status;
+    fn nugwier_section_names(file: &File<'_>, names: &mut SectionNames<'_>) -> Status;
+    fn nugwier_section_by_name(
+        file: &File<'_>,
+        name: *const u8,
+        name_len: usize,
+        found: &mut bool,
+        section: &mut Section,
+    ) -> Status;
+    fn nugwier_version_table(file: &File<'_>, versions: &mut Versions<'_>) -> Status;
+    fn nugwier_version_index(
+        versions: &Versions<'_>,
+        symbol: usize,
+        version: &mut Version,
+    ) -> Status;
+    fn nugwier_requirement(
+        versions: &Versions<'_>,
+        symbol: usize,
+        requirement: &mut Requirement<'_>,
+    ) -> Status;
+    fn nugwier_definition(
+        versions: &Versions<'_>,
+        symbol: usize,
+        defined: &mut Definition<'_>,
+    ) -> Status;
+    fn nugwier_version_name(
+        names: &mut VersionNames<'_>,
+        found: &mut bool,
+        name: &mut Bytes<'_>,
+    ) -> Status;
+}
+
+pub fn section_data<'a>(file: &File<'a>, section: &Section, part: &mut Data<'a>) -> Status {
+    // SAFETY: the export accepts all values of these types, and writes values of these types.
+    unsafe { nugwier_section_data(file, section, part) }
+}
+
+pub fn segment_data<'a>(file: &File<'a>, segment: &Segment, part: &mut Bytes<'a>) -> Status {
+    // SAFETY: the export accepts all values of these types, and writes values of these types.
+    unsafe { nugwier_segment_data(file, segment, part) }
+}
+
+pub fn section_strings<'a>(file: &File<'a>, section: &Section, strings: &mut Bytes<'a>) -> Status {
+    // SAFETY: the export accepts all values of these types, and writes values of these types.
+    unsafe { nugwier_section_strings(file, section, strings) }
+}
+
+pub fn section_rels<'a>(file: &File<'a>, section: &Section, table: &mut Table<'a>) -> Status {
+    // SAFETY: the export accepts all values of these types, and writes values of these types.
+    unsafe { nugwier_section_rels(file, section, table) }
+}
+
+pub fn section_relas<'a>(file: &File<'a>, section: &Section, table: &mut Table<'a>) -> Status {
+    // SAFETY: the export accepts all values of these types, and writes values of these types.
+    unsafe { nugwier_section_relas(file, section, table) }
+}
+
+pub fn section_notes<'a>(file: &File<'a>, section: &Section, notes: &mut Notes<'a>) -> Status {
+    // SAFETY: the export accepts all values of these types, and writes values of these types.
+    unsafe { nugwier_section_notes(file, section, notes) }
+}
+
+pub fn segment_notes<'a>(file: &File<'a>, segment: &Segment, notes: &mut Notes<'a>) -> Status {
+    // SAFETY: the export accepts all values of these types, and writes values of these types.
+    unsafe { nugwier_segment_notes(file, segment, notes) }
+}
+
+pub fn open<'a>(bytes: Bytes<'a>, file: &mut File<'a>) -> Status {
+    // SAFETY: the export accepts all values of these types, and writes values of these types.
+    unsafe { nugwier_open(bytes.at, bytes.len, file) }
+}
+
+pub fn section(file: &File<'_>, index: usize, section: &mut Section) -> Status {
+    // SAFETY: the export accepts all values of these types, and writes values of these types.
+    unsafe { nugwier_section(file, index, section) }
+}
+
+pub fn segment(file: &File<'_>, index: usize, segment: &mut Segment) -> Status {
+    // SAFETY: the export accepts all values of these types, and writes values of these types.
+    unsafe { nugwier_segment(file, index, segment) }
+}
+
+pub fn gnu_find(
+    section: Bytes<'_>,
+    symbols: &Table<'_>,
+    strings: Bytes<'_>,
+    name: Bytes<'_>,
+    found: &mut Found,
+) -> Status {
+    // SAFETY: the export accepts all values of these types, and writes values of these types.
+    unsafe {
+        nugwier_gnu_find(
+            section.at,
+            section.len,
+            symbols,
+            strings.at,
+            strings.len,
+            name.at,
+            name.len,
+            found,
+        )
+    }
+}
+
+pub fn sysv_find(
+    section: Bytes<'_>,
+    symbols: &Table<'_>,
+    strings: Bytes<'_>,
+    name: Bytes<'_>,
+    found: &mut Found,
+) -> Status {
+    // SAFETY: the export accepts all values of these types, and writes values of these types.
+    unsafe {
+        nugwier_sysv_find(
+            section.at,
+            section.len,
+            symbols,
+            strings.at,
+            strings.len,
+            name.at,
+            name.len,
+            found,
+        )
+    }
+}
+
+pub fn hash_check(
+    gnu: bool,
+    section: Bytes<'_>,
+    symbols: &Table<'_>,
+    strings: Bytes<'_>,
+    verdict: &mut Verdict,
+) -> Status {
+    // SAFETY: the export accepts all values of these types, and writes values of these types.
+    unsafe {
+        nugwier_hash_check(
+            gnu,
+            section.at,
+            section.len,
+            symbols,
+            strings.at,
+            strings.len,
+            verdict,
+        )
+    }
+}
+
+pub fn e_osabi_name(e_osabi: u8, name: &mut Name<'static>) {
+    // SAFETY: the export accepts all values of these types, and writes values of these types.
+    unsafe { nugwier_e_osabi_name(e_osabi, name) }
+}
+
+pub fn e_type_name(e_type: u16, name: &mut Name<'static>) {
+    // SAFETY: the export accepts all values of these types, and writes values of these types.
+    unsafe { nugwier_e_type_name(e_type, name) }
+}
+
+pub fn e_machine_name(e_machine: u16, name: &mut Name<'static>) {
+    // SAFETY: the export accepts all values of these types, and writes values of these types.
+    unsafe { nugwier_e_machine_name(e_machine, name) }
+}
+
+pub fn sh_type_name(sh_type: u32, name: &mut Name<'static>) {
+    // SAFETY: the export accepts all values of these types, and writes values of these types.
+    unsafe { nugwier_sh_type_name(sh_type, name) }
+}
+
+pub fn p_type_name(p_type: u32, name: &mut Name<'static>) {
+    // SAFETY: the export accepts all values of these types, and writes values of these types.
+    unsafe { nugwier_p_type_name(p_type, name) }
+}
+
+pub fn st_symtype_name(st_symtype: u8, name: &mut Name<'static>) {
+    // SAFETY: the export accepts all values of these types, and writes values of these types.
+    unsafe { nugwier_st_symtype_name(st_symtype, name) }
+}
+
+pub fn st_bind_name(st_bind: u8, name: &mut Name<'static>) {
+    // SAFETY: the export accepts all values of these types, and writes values of these types.
+    unsafe { nugwier_st_bind_name(st_bind, name) }
+}
+
+pub fn st_vis_name(st_vis: u8, name: &mut Name<'static>) {
+    // SAFETY: the export accepts all values of these types, and writes values of these types.
+    unsafe { nugwier_st_vis_name(st_vis, name) }
+}
+
+pub fn ch_type_name(ch_type: u32, name: &mut Name<'static>) {
+    // SAFETY: the export accepts all values of these types, and writes values of these types.
+    unsafe { nugwier_ch_type_name(ch_type, name) }
+}
+
+pub fn note_abi_tag_os_name(os: u32, name: &mut Name<'static>) {
+    // SAFETY: the export accepts all values of these types, and writes values of these types.
+    unsafe { nugwier_note_abi_tag_os_name(os, name) }
+}
+
+pub fn d_tag_name(d_tag: i64, name: &mut Name<'static>) {
+    // SAFETY: the export accepts all values of these types, and writes values of these types.
+    unsafe { nugwier_d_tag_name(d_tag, name) }
+}
+
+pub fn error_name(code: u32, name: &mut Name<'static>) {
+    // SAFETY: the export accepts all values of these types, and writes values of these types.
+    unsafe { nugwier_error_name(code, name) }
+}
+
+pub fn note<'a>(notes: &Notes<'a>, offset: &mut usize, note: &mut Note<'a>) -> Status {
+    // SAFETY: the export accepts all values of these types, and writes values of these types.
+    unsafe { nugwier_note(notes, offset, note) }
+}
+
+pub fn symbol(table: &Table<'_>, index: usize, symbol: &mut Symbol) -> Status {
+    // SAFETY: the export accepts all values of these types, and writes values of these types.
+    unsafe { nugwier_symbol(table, index, symbol) }
+}
+
+pub fn rel(table: &Table<'_>, index: usize, rel: &mut Rel) -> Status {
+    // SAFETY: the export accepts all values of these types, and writes values of these types.
+    unsafe { nugwier_rel(table, index, rel) }
+}
+
+pub fn rela(table: &Table<'_>, index: usize, rela: &mut Rela) -> Status {
+    // SAFETY: the export accepts all values of these types, and writes values of these types.
+    unsafe { nugwier_rela(table, index, rela) }
+}
+
+pub fn dynamic(table: &Table<'_>, index: usize, dynamic: &mut Dynamic) -> Status {
+    // SAFETY: the export accepts all values of these types, and writes values of these types.
+    unsafe { nugwier_dynamic(table, index, dynamic) }
+}
+
+pub fn symbol_count(table: &Table<'_>) -> usize {
+    // SAFETY: the export accepts all values of these types, and writes values of these types.
+    unsafe { nugwier_symbol_count(table) }
+}
+
+pub fn section_count(table: &Table<'_>) -> usize {
+    // SAFETY: the export accepts all values of these types, and writes values of these types.
+    unsafe { nugwier_section_count(table) }
+}
+
+pub fn segment_count(table: &Table<'_>) -> usize {
+    // SAFETY: the export accepts all values of these types, and writes values of these types.
+    unsafe { nugwier_segment_count(table) }
+}
+
+pub fn rel_count(table: &Table<'_>) -> usize {
+    // SAFETY: the export accepts all values of these types, and writes values of these types.
+    unsafe { nugwier_rel_count(table) }
+}
+
+pub fn rela_count(table: &Table<'_>) -> usize {
+    // SAFETY: the export accepts all values of these types, and writes values of these types.
+    unsafe { nugwier_rela_count(table) }
+}
+
+pub fn dynamic_count(table: &Table<'_>) -> usize {
+    // SAFETY: the export accepts all values of these types, and writes values of these types.
+    unsafe { nugwier_dynamic_count(table) }
+}
+
+pub fn string<'a>(strings: Bytes<'a>, offset: usize, string: &mut Bytes<'a>) -> Status {
+    // SAFETY: the export accepts all values of these types, and writes values of these types.
+    unsafe { nugwier_string(strings.at, strings.len, offset, string) }
+}
+
+pub fn symbol_table<'a>(file: &File<'a>, dynamic: bool, symbols: &mut SymbolTable<'a>) -> Status {
+    // SAFETY: the export accepts all values of these types, and writes values of these types.
+    unsafe { nugwier_symbol_table(file, dynamic, symbols) }
+}
+
+pub fn dynamic_table<'a>(file: &File<'a>, dynamics: &mut DynamicTable<'a>) -> Status {
+    // SAFETY: the export accepts all values of these types, and writes values of these types.
+    unsafe { nugwier_dynamic_table(file, dynamics) }
+}
+
+pub fn section_names<'a>(file: &File<'a>, names: &mut SectionNames<'a>) -> Status {
+    // SAFETY: the export accepts all values of these types, and writes values of these types.
+    unsafe { nugwier_section_names(file, names) }
+}
+
+pub fn section_by_name(
+    file: &File<'_>,
+    name: Bytes<'_>,
+    found: &mut bool,
+    section: &mut Section,
+) -> Status {
+    // SAFETY: the export accepts all values of these types, and writes values of these types.
+    unsafe { nugwier_section_by_name(file, name.at, name.len, found, section) }
+}
+
+pub fn version_table<'a>(file: &File<'a>, versions: &mut Versions<'a>) -> Status {
+    // SAFETY: the export accepts all values of these types, and writes values of these types.
+    unsafe { nugwier_version_table(file, versions) }
+}
+
+pub fn version_index(versions: &Versions<'_>, symbol: usize, version: &mut Version) -> Status {
+    // SAFETY: the export accepts all values of these types, and writes values of these types.
+    unsafe { nugwier_version_index(versions, symbol, version) }
+}
+
+pub fn requirement<'a>(
+    versions: &Versions<'a>,
+    symbol: usize,
+    requirement: &mut Requirement<'a>,
+) -> Status {
+    // SAFETY: the export accepts all values of these types, and writes values of these types.
+    unsafe { nugwier_requirement(versions, symbol, requirement) }
+}
+
+pub fn definition<'a>(
+    versions: &Versions<'a>,
+    symbol: usize,
+    defined: &mut Definition<'a>,
+) -> Status {
+    // SAFETY: the export accepts all values of these types, and writes values of these types.
+    unsafe { nugwier_definition(versions, symbol, defined) }
+}
+
+pub fn version_name<'a>(
+    names: &mut VersionNames<'a>,
+    found: &mut bool,
+    name: &mut Bytes<'a>,
+) -> Status {
+    // SAFETY: the export accepts all values of these types, and writes values of these types.
+    unsafe { nugwier_version_name(names, found, name) }
+}

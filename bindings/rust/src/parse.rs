@@ -1,0 +1,267 @@
+//! The error type, and tables of records.
+use crate::endian::EndianParse;
+use crate::ffi;
+use crate::file::Class;
+use std::fmt;
+use std::marker::PhantomData;
+
+/// An error. A pair of numbers is (found, expected), or (start, end) of a range of bytes.
+#[derive(Debug)]
+pub enum ParseError {
+    BadMagic([u8; 4]),
+    UnsupportedElfClass(u8),
+    UnsupportedElfEndianness(u8),
+    UnsupportedVersion((u64, u64)),
+    BadOffset(u64),
+    StringTableMissingNul(u64),
+    BadEntsize((u64, u64)),
+    UnexpectedSectionType((u32, u32)),
+    UnexpectedSegmentType((u32, u32)),
+    UnexpectedAlignment(usize),
+    SliceReadError((usize, usize)),
+    IntegerOverflow,
+    Utf8Error(std::str::Utf8Error),
+    TryFromSliceError(std::array::TryFromSliceError),
+    TryFromIntError(std::num::TryFromIntError),
+    IOError(std::io::Error),
+}
+
+impl fmt::Display for ParseError {
+    fn fmt(&self, f: &mut fmt::Formatter<'_>) -> fmt::Result {
+        match self {
+            ParseError::BadMagic(magic) => write!(f, "Invalid Magic Bytes: {magic:X?}"),
+            ParseError::UnsupportedElfClass(class) => write!(f, "Unsupported ELF Class: {class}"),
+            ParseError::UnsupportedElfEndianness(order) => {
+                write!(f, "Unsupported ELF Endianness: {order}")
+            }
+            ParseError::UnsupportedVersion((found, expected)) => {
+                write!(
+                    f,
+                    "Unsupported ELF Version field found: {found} expected: {expected}"
+                )
+            }
+            ParseError::BadOffset(offset) => write!(f, "Bad offset: {offset:#X}"),
+            ParseError::StringTableMissingNul(offset) => {
+                write!(
+                    f,
+                    "Could not find terminating NUL byte starting at offset: {offset:#X}"
+                )
+            }
+            ParseError::BadEntsize((found, expected)) => {
+                write!(
+                    f,
+                    "Invalid entsize. Expected: {expected:#X}, Found: {found:#X}"
+                )
+            }
+            ParseError::UnexpectedSectionType((found, expected))
+            | ParseError::UnexpectedSegmentType((found, expected)) => {
+                write!(
+                    f,
+                    "Could not interpret section of type {found} as type {expected}"
+                )
+            }
+            ParseError::UnexpectedAlignment(align) => {
+                write!(
+                    f,
+                    "Could not interpret section with unexpected alignment of {align}"
+                )
+            }
+            ParseError::SliceReadError((start, end)) => {
+                write!(f, "Could not read bytes in range [{start:#X}, {end:#X})")
+            }
+            ParseError::IntegerOverflow => f.write_str("Integer overflow detected"),
+            ParseError::Utf8Error(error) => error.fmt(f),
+            ParseError::TryFromSliceError(error) => error.fmt(f),
+            ParseError::TryFromIntError(error) => error.fmt(f),
+            ParseError::IOError(error) => error.fmt(f),
+        }
+    }
+}
+
+impl std::error::Error for ParseError {
+    fn source(&self) -> Option<&(dyn std::error::Error + 'static)> {
+        match self {
+            ParseError::Utf8Error(error) => Some(error),
+            ParseError::TryFromSliceError(error) => Some(error),
+            ParseError::TryFromIntError(error) => Some(error),
+            ParseError::IOError(error) => Some(error),
+            _ => None,
+        }
+    }
+}
+
+impl From<std::str::Utf8Error> for ParseError {
+    fn from(error: std::str::Utf8Error) -> Self {
+        ParseError::Utf8Error(error)
+    }
+}
+
+impl From<std::array::TryFromSliceError> for ParseError {
+    fn from(error: std::array::TryFromSliceError) -> Self {
+        ParseError::TryFromSliceError(error)
+    }
+}
+
+impl From<std::num::TryFromIntError> for ParseError {
+    fn from(error: std::num::TryFromIntError) -> Self {
+        ParseError::TryFromIntError(error)
+    }
+}
+
+impl From<std::io::Error> for ParseError {
+    fn from(error: std::io::Error) -> Self {
+        ParseError::IOError(error)
+    }
+}
+
+/// The error that a status stands for, if it does not stand for success.
+pub(crate) fn checked(status: ffi::Status) -> Result<(), ParseError> {
+    let (first, second) = (status.first, status.second);
+    Err(match status.code {
+        0 => return Ok(()),
+        1 => ParseError::BadMagic((first as u32).to_le_bytes()),
+        2 => ParseError::UnsupportedElfClass(first as u8),
+        3 => ParseError::UnsupportedElfEndianness(first as u8),
+        4 => ParseError::UnsupportedVersion((first, second)),
+        5 => ParseError::BadOffset(first),
+        6 => ParseError::StringTableMissingNul(first),
+        7 => ParseError::BadEntsize((first, second)),
+        8 => ParseError::UnexpectedSectionType((first as u32, second as u32)),
+        9 => ParseError::UnexpectedSegmentType((first as u32, second as u32)),
+        10 => ParseError::UnexpectedAlignment(first as usize),
+        11 => ParseError::SliceReadError((first as usize, second as usize)),
+        12 => ParseError::IntegerOverflow,
+        // no export returns the others, which hold errors of Rust's library
+        code => unreachable!("status {code}"),
+    })
+}
+
+/// A record that a table holds.
+///
+/// It is sealed: the record types of this crate are the only ones.
+pub trait ParseAt: Sized + sealed::Record {
+    /// The size of a record in bytes.
+    fn size_for(class: Class) -> usize;
+
+    /// The entry size of a header, if it is that of the record.
+    fn validate_entsize(class: Class, entsize: usize) -> Result<usize, ParseError> {
+        let expected = Self::size_for(class);
+        if entsize == expected {
+            Ok(entsize)
+        } else {
+            Err(ParseError::BadEntsize((entsize as u64, expected as u64)))
+        }
+    }
+}
+
+pub(crate) mod sealed {
+    use super::ParseError;
+    use crate::ffi;
+
+    pub trait Record: Sized {
+        /// The record of an index of a table.
+        fn read(table: &ffi::Table<'_>, index: usize) -> Result<Self, ParseError>;
+    }
+}
+
+/// A table of records of one type. A record is read when it is requested.
+#[derive(Debug)]
+pub struct ParsingTable<'data, E: EndianParse, P: ParseAt> {
+    table: ffi::Table<'data>,
+    kind: PhantomData<(E, P)>,
+}
+
+impl<E: EndianParse, P: ParseAt> Clone for ParsingTable<'_, E, P> {
+    fn clone(&self) -> Self {
+        *self
+    }
+}
+
+impl<E: EndianParse, P: ParseAt> Copy for ParsingTable<'_, E, P> {}
+
+impl<'data, E: EndianParse, P: ParseAt> ParsingTable<'data, E, P> {
+    pub fn new(endian: E, class: Class, data: &'data [u8]) -> Self {
+        ParsingTable::of(ffi::Table {
+            little: endian.is_little(),
+            is_64: class == Class::ELF64,
+            bytes: ffi::Bytes::new(data),
+        })
+    }
+
+    pub(crate) fn of(table: ffi::Table<'data>) -> Self {
+        ParsingTable {
+            table,
+            kind: PhantomData,
+        }
+    }
+
+    pub(crate) fn raw(&self) -> &ffi::Table<'data> {
+        &self.table
+    }
+
+    fn class(&self) -> Class {
+        if self.table.is_64 {
+            Class::ELF64
+        } else {
+            Class::ELF32
+        }
+    }
+
+    /// The records in order, up to the first that cannot be read.
+    pub fn iter(&self) -> ParsingIterator<'data, E, P> {
+        ParsingIterator {
+            table: *self,
+            index: 0,
+        }
+    }
+
+    /// How many records fit.
+    pub fn len(&self) -> usize {
+        self.table.bytes.get().len() / P::size_for(self.class())
+    }
+
+    pub fn is_empty(&self) -> bool {
+        self.len() == 0
+    }
+
+    /// The record of an index, counted from 0.
+    pub fn get(&self, index: usize) -> Result<P, ParseError> {
+        P::read(&self.table, index)
+    }
+}
+
+impl<'data, E: EndianParse, P: ParseAt> IntoIterator for ParsingTable<'data, E, P> {
+    type Item = P;
+    type IntoIter = ParsingIterator<'data, E, P>;
+
+    fn into_iter(self) -> ParsingIterator<'data, E, P> {
+        self.iter()
+    }
+}
+
+/// The records of a table in order, up to the first that cannot be read.
+#[derive(Debug)]
+pub struct ParsingIterator<'data, E: EndianParse, P: ParseAt> {
+    table: ParsingTable<'data, E, P>,
+    index: usize,
+}
+
+impl<'data, E: EndianParse, P: ParseAt> ParsingIterator<'data, E, P> {
+    pub fn new(endian: E, class: Class, data: &'data [u8]) -> Self {
+        ParsingTable::new(endian, class, data).iter()
+    }
+
+    pub(crate) fn of(table: ffi::Table<'data>) -> Self {
+        ParsingTable::of(table).iter()
+    }
+}
+
+impl<E: EndianParse, P: ParseAt> Iterator for ParsingIterator<'_, E, P> {
+    type Item = P;
+
+    fn next(&mut self) -> Option<P> {
+        let record = self.table.get(self.index).ok()?;
+        self.index += 1;
+        Some(record)
+    }
+}

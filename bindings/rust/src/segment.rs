@@ -1,0 +1,71 @@
+//! Program headers.
+use crate::ffi;
+use crate::file::Class;
+use crate::parse::{checked, sealed, ParseAt, ParseError, ParsingTable};
+
+/// A table of program headers.
+pub type SegmentTable<'data, E> = ParsingTable<'data, E, ProgramHeader>;
+
+/// A program header.
+#[derive(Clone, Copy, Debug, PartialEq, Eq)]
+pub struct ProgramHeader {
+    pub p_type: u32,
+    pub p_offset: u64,
+    pub p_vaddr: u64,
+    pub p_paddr: u64,
+    pub p_filesz: u64,
+    pub p_memsz: u64,
+    pub p_flags: u32,
+    pub p_align: u64,
+}
+
+impl ProgramHeader {
+    pub(crate) fn of(raw: &ffi::Segment) -> Self {
+        ProgramHeader {
+            p_type: raw.kind,
+            p_offset: raw.offset,
+            p_vaddr: raw.vaddr,
+            p_paddr: raw.paddr,
+            p_filesz: raw.filesz,
+            p_memsz: raw.memsz,
+            p_flags: raw.flags,
+            p_align: raw.align,
+        }
+    }
+
+    pub(crate) fn raw(&self) -> ffi::Segment {
+        ffi::Segment {
+            kind: self.p_type,
+            offset: self.p_offset,
+            vaddr: self.p_vaddr,
+            paddr: self.p_paddr,
+            filesz: self.p_filesz,
+            memsz: self.p_memsz,
+            flags: self.p_flags,
+            align: self.p_align,
+        }
+    }
+}
+
+impl sealed::Record for ProgramHeader {
+    fn read(table: &ffi::Table<'_>, index: usize) -> Result<Self, ParseError> {
+        // the read of a header is one of a file: of one that has only this table
+        let file = ffi::File {
+            has_segments: true,
+            segments: *table,
+            ..Default::default()
+        };
+        let mut found = ffi::Segment::default();
+        checked(ffi::segment(&file, index, &mut found))?;
+        Ok(ProgramHeader::of(&found))
+    }
+}
+
+impl ParseAt for ProgramHeader {
+    fn size_for(class: Class) -> usize {
+        match class {
+            Class::ELF32 => 32,
+            Class::ELF64 => 56,
+        }
+    }
+}

@@ -1,0 +1,31 @@
+//! Tables of strings.
+use crate::ffi;
+use crate::parse::{checked, ParseError};
+
+/// A table of strings, each of which ends in a 0 byte.
+#[derive(Clone, Copy, Debug, Default)]
+pub struct StringTable<'data> {
+    data: &'data [u8],
+}
+
+impl<'data> StringTable<'data> {
+    pub fn new(data: &'data [u8]) -> Self {
+        StringTable { data }
+    }
+
+    pub(crate) fn bytes(&self) -> ffi::Bytes<'data> {
+        ffi::Bytes::new(self.data)
+    }
+
+    /// The bytes of the string at an offset, without the 0 byte.
+    pub fn get_raw(&self, offset: usize) -> Result<&'data [u8], ParseError> {
+        let mut found = ffi::Bytes::default();
+        checked(ffi::string(self.bytes(), offset, &mut found))?;
+        Ok(found.get())
+    }
+
+    /// The string at an offset as text.
+    pub fn get(&self, offset: usize) -> Result<&'data str, ParseError> {
+        Ok(std::str::from_utf8(self.get_raw(offset)?)?)
+    }
+}

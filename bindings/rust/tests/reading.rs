@@ -1,0 +1,116 @@
+//! Reads the file of the running test itself.
+use nugwier::abi;
+use nugwier::endian::{AnyEndian, BigEndian, LittleEndian, NativeEndian};
+use nugwier::note::Note;
+use nugwier::{ElfBytes, ParseError};
+
+fn own_file() -> Vec<u8> {
+    std::fs::read("/proc/self/exe").unwrap()
+}
+
+#[test]
+fn sections_have_names() {
+    let bytes = own_file();
+    let file = ElfBytes::<AnyEndian>::minimal_parse(&bytes).unwrap();
+    let (sections, names) = file.section_headers_with_strtab().unwrap();
+    let (sections, names) = (sections.unwrap(), names.unwrap());
+    assert_eq!(sections.len(), file.ehdr.e_shnum as usize);
+    assert_eq!(sections.iter().count(), sections.len());
+    for (index, section) in sections.iter().enumerate() {
+        assert_eq!(sections.get(index).unwrap(), section);
+        let name = names.get(section.sh_name as usize).unwrap();
+        if !name.is_empty() {
+            assert!(file.section_header_by_name(name).unwrap().is_some());
+        }
+    }
+    assert!(file
+        .section_header_by_name("no such section")
+        .unwrap()
+        .is_none());
+    assert!(matches!(
+        sections.get(sections.len() + 1),
+        Err(ParseError::BadOffset(_))
+    ));
+}
+
+#[test]
+fn symbols_are_found_by_their_names() {
+    let bytes = own_file();
+    let file = ElfBytes::<NativeEndian>::minimal_parse(&bytes).unwrap();
+    let common = file.find_common_data().unwrap();
+    let (symbols, strings) = (common.dynsyms.unwrap(), common.dynsyms_strs.unwrap());
+    let hash = common.gnu_hash.unwrap();
+    for (index, symbol) in symbols
+        .iter()
+        .enumerate()
+        .filter(|(_, symbol)| !symbol.is_undefined())
+    {
+        let name = strings.get_raw(symbol.st_name as usize).unwrap();
+        let (found, same) = hash.find(name, &symbols, &strings).unwrap().unwrap();
+        assert!(found <= index);
+        assert_eq!(strings.get_raw(same.st_name as usize).unwrap(), name);
+    }
+    assert!(hash
+        .find(b"no such symbol", &symbols, &strings)
+        .unwrap()
+        .is_none());
+}
+
+#[test]
+fn versions_and_notes_are_read() {
+    let bytes = own_file();
+    let file = ElfBytes::<AnyEndian>::minimal_parse(&bytes).unwrap();
+    let (symbols, _) = file.dynamic_symbol_table().unwrap().unwrap();
+    let versions = file.symbol_version_table().unwrap().unwrap();
+    let needed = (0..symbols.len()).filter_map(|symbol| versions.get_requirement(symbol).unwrap());
+    assert!(needed
+        .map(|one| one.file.to_string())
+        .any(|file| file.starts_with("libc.so")));
+    let notes = file
+        .segments()
+        .unwrap()
+        .iter()
+        .filter(|one| one.p_type == abi::PT_NOTE);
+    let notes: Vec<Note> = notes
+        .flat_map(|one| file.segment_data_as_notes(&one).unwrap())
+        .collect();
+    assert!(notes
+        .iter()
+        .any(|note| matches!(note, Note::GnuBuildId(id) if id.0.len() >= 8)));
+    assert!(file
+        .dynamic()
+        .unwrap()
+        .unwrap()
+        .iter()
+        .any(|one| one.d_tag == abi::DT_NEEDED));
+}
+
+#[test]
+fn errors_are_those_of_the_first_step() {
+    assert!(matches!(
+        ElfBytes::<AnyEndian>::minimal_parse(&[]),
+        Err(ParseError::SliceReadError((0, 16)))
+    ));
+    let bytes = own_file();
+    assert!(matches!(
+        ElfBytes::<BigEndian>::minimal_parse(&bytes),
+        Err(ParseError::UnsupportedElfEndianness(1))
+    ));
+    assert!(ElfBytes::<LittleEndian>::minimal_parse(&bytes).is_ok());
+    let mut other = bytes.clone();
+    other[0] = 0;
+    let error = ElfBytes::<BigEndian>::minimal_parse(&other).unwrap_err();
+    assert!(matches!(error, ParseError::BadMagic([0, b'E', b'L', b'F'])));
+    assert_eq!(error.to_string(), "Invalid Magic Bytes: [0, 45, 4C, 46]");
+}
+
+#[test]
+fn values_have_names() {
+    assert_eq!(nugwier::to_str::e_machine_to_str(62), Some("EM_X86_64"));
+    assert_eq!(
+        nugwier::to_str::sh_type_to_string(0x12345),
+        "sh_type(0x12345)"
+    );
+    assert_eq!(nugwier::hash::gnu_hash(b"printf"), 0x156b2bb8);
+    assert_eq!(nugwier::hash::sysv_hash(b"printf"), 0x077905a6);
+}

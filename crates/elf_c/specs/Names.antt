@@ -1,0 +1,28 @@
+-- The names of values as C sees them.
+use Rattle.std.specs.Prelude.{ℕ, ◌==◌, codes, if◌then◌else◌, List, Option, Some, None}
+use Rattle.elf_c.specs.declared.names.NugwierName.{NugwierName}
+
+abbrev pub name_view : NugwierName → Option (List ℕ)
+name_view n = if n.found then Some n.bytes.now else None
+
+-- the name of the error with a code
+abbrev pub error_name : ℕ → Option (List ℕ)
+error_name code =
+    if code == 1 then Some (codes "BadMagic")
+    else if code == 2 then Some (codes "UnsupportedElfClass")
+    else if code == 3 then Some (codes "UnsupportedElfEndianness")
+    else if code == 4 then Some (codes "UnsupportedVersion")
+    else if code == 5 then Some (codes "BadOffset")
+    else if code == 6 then Some (codes "StringTableMissingNul")
+    else if code == 7 then Some (codes "BadEntsize")
+    else if code == 8 then Some (codes "UnexpectedSectionType")
+    else if code == 9 then Some (codes "UnexpectedSegmentType")
+    else if code == 10 then Some (codes "UnexpectedAlignment")
+    else if code == 11 then Some (codes "SliceReadError")
+    else if code == 12 then Some (codes "IntegerOverflow")
+    else if code == 13 then Some (codes "Utf8Error")
+    else if code == 14 then Some (codes "TryFromSliceError")
+    else if code == 15 then Some (codes "TryFromIntError")
+    else if code == 16 then Some (codes "IOError")
+    else if code == 17 then Some (codes "OutOfMemory")
+    else None

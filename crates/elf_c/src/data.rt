@@ -1,0 +1,273 @@
+//! The bytes of sections and segments, and what lies in them: strings, relocations, notes.
+ghost use Rattle.std.specs.Prelude.{◌≡◌};
+ghost use Rattle.elf_abi.specs.Values.{sht_note, sht_rel, sht_rela};
+ghost use Rattle.elf_records.specs.Number.{ok_map};
+ghost use Rattle.elf_reading.specs.Leading.{data_view};
+ghost use Rattle.elf.specs.Answers.{section_data_as_strtab, segment_data};
+ghost use Rattle.elf.specs.Data.{content_of_type, section_data};
+ghost use Rattle.elf.specs.ObjectFile.{table_of};
+ghost use Rattle.elf_c.specs.Data.{compression_shown, data_shown, data_view_of_c, notes_view};
+ghost use Rattle.elf_c.specs.Data.{section_notes, section_records, segment_notes};
+ghost use Rattle.elf_c.specs.File.{file_of_c};
+ghost use Rattle.elf_c.specs.Records.{section_in, segment_in};
+ghost use Rattle.elf_c.specs.Status.{IsWritten, status_of};
+ghost use Rattle.elf_c.specs.Tables.{bytes_view, table_of_c};
+
+use crate::file::{NugwierFile, file_in};
+use crate::notes::NugwierNotes;
+use crate::records::{NugwierSection, NugwierSegment, section_in, segment_in};
+use crate::status::{NugwierStatus, done, refused};
+use crate::strings::NugwierBytes;
+use crate::table::NugwierTable;
+use elf::{ParseError, abi};
+use elf_parts::compression::CompressionHeader;
+
+/// What the compression header of a section says. If it has none, all numbers are 0.
+#[repr(C)]
+#[derive(Clone, Copy, Debug, PartialEq, Eq)]
+pub struct NugwierCompression {
+    pub compressed: bool,
+    pub kind: u32,
+    pub size: u64,
+    pub addralign: u64,
+}
+
+/// The bytes of a section, after its compression header if it has one, and what that says.
+#[repr(C)]
+#[derive(Drop)]
+pub struct NugwierData<'data> {
+    pub bytes: &'data [u8],
+    pub compression: NugwierCompression,
+}
+
+// A compression header as C sees it.
+fn compression_shown(header: &Option<CompressionHeader>) -> NugwierCompression
+    ensures { result ≡ compression_shown header.now }
+{
+    match header {
+        Some(header) => NugwierCompression {
+            compressed: true,
+            kind: header.ch_type,
+            size: header.ch_size,
+            addralign: header.ch_addralign,
+        },
+        None => NugwierCompression {
+            compressed: false,
+            kind: 0,
+            size: 0,
+            addralign: 0,
+        },
+    }
+}
+
+/// Finds the bytes of a section, and reads its compression header if it has one; nothing is decompressed. A section of
+/// type `SHT_NOBITS` has no bytes. An error leaves `part` as it is; the errors are those of `ElfBytes::section_data`.
+#[unsafe(no_mangle)]
+pub extern "C" fn nugwier_section_data<'data>(
+    file: &NugwierFile<'data>,
+    section: &NugwierSection,
+    part: &mut NugwierData<'data>,
+) -> NugwierStatus
+    ensures status { result ≡ status_of (section_data (file_of_c file.now) (section_in section.now)) }
+    ensures part { IsWritten data_view_of_c part.new part.old
+        (ok_map data_shown (section_data (file_of_c file.now) (section_in section.now))) }
+{
+    match file_in(file).section_data(&section_in(section)) {
+        Ok((bytes, header)) => {
+            *part = NugwierData {
+                bytes,
+                compression: compression_shown(&header),
+            };
+            done()
+        }
+        Err(error) => refused(&error),
+    }
+}
+
+/// Finds the bytes of a segment in the file. An error leaves `part` as it is; the errors are those of
+/// `ElfBytes::segment_data`.
+#[unsafe(no_mangle)]
+pub extern "C" fn nugwier_segment_data<'data>(
+    file: &NugwierFile<'data>,
+    segment: &NugwierSegment,
+    part: &mut NugwierBytes<'data>,
+) -> NugwierStatus
+    ensures status { result ≡ status_of (segment_data (file_of_c file.now) (segment_in segment.now)) }
+    ensures part { IsWritten bytes_view part.new part.old
+        (segment_data (file_of_c file.now) (segment_in segment.now)) }
+{
+    match file_in(file).segment_data(&segment_in(segment)) {
+        Ok(bytes) => {
+            *part = NugwierBytes { bytes };
+            done()
+        }
+        Err(error) => refused(&error),
+    }
+}
+
+// The bytes of a section that must have a given type.
+fn content_of_type<'data>(
+    file: &NugwierFile<'data>,
+    section: &NugwierSection,
+    kind: u32,
+) -> Result<&'data [u8], ParseError>
+    ensures { ok_map (λ bytes. bytes.now) result
+        ≡ content_of_type kind (file_of_c file.now) (section_in section.now) }
+{
+    if section.kind != kind {
+        return Err(ParseError::UnexpectedSectionType((section.kind, kind)));
+    }
+    let (bytes, _) = file_in(file).section_data(&section_in(section))?;
+    Ok(bytes)
+}
+
+// The records that lie in these bytes of a file.
+#[tactic(auto, using(crate::proofs::Files::is_little_in))]
+pub(crate) fn table_in<'data>(file: &NugwierFile<'_>, bytes: &'data [u8]) -> NugwierTable<'data>
+    ensures { table_of_c result ≡ table_of (file_of_c file.now) bytes.now }
+{
+    NugwierTable {
+        little: file.header.little,
+        is_64: file.header.is_64,
+        bytes,
+    }
+}
+
+/// Finds the strings of a section of type `SHT_STRTAB`. An error leaves `strings` as it is; the errors are those of
+/// `ElfBytes::section_data_as_strtab`.
+#[unsafe(no_mangle)]
+pub extern "C" fn nugwier_section_strings<'data>(
+    file: &NugwierFile<'data>,
+    section: &NugwierSection,
+    strings: &mut NugwierBytes<'data>,
+) -> NugwierStatus
+    ensures status { result ≡ status_of (section_data_as_strtab (file_of_c file.now) (section_in section.now)) }
+    ensures strings { IsWritten bytes_view strings.new strings.old
+        (section_data_as_strtab (file_of_c file.now) (section_in section.now)) }
+{
+    match content_of_type(file, section, abi::SHT_STRTAB) {
+        Ok(bytes) => {
+            *strings = NugwierBytes { bytes };
+            done()
+        }
+        Err(error) => refused(&error),
+    }
+}
+
+// The records of a section that must have a given type.
+fn section_records<'data>(
+    file: &NugwierFile<'data>,
+    section: &NugwierSection,
+    kind: u32,
+    table: &mut NugwierTable<'data>,
+) -> NugwierStatus
+    ensures status { result ≡ status_of (section_records kind (file_of_c file.now) (section_in section.now)) }
+    ensures table { IsWritten table_of_c table.new table.old
+        (section_records kind (file_of_c file.now) (section_in section.now)) }
+{
+    match content_of_type(file, section, kind) {
+        Ok(bytes) => {
+            *table = table_in(file, bytes);
+            done()
+        }
+        Err(error) => refused(&error),
+    }
+}
+
+/// Finds the relocations of a section of type `SHT_REL`. An error leaves `table` as it is; the errors are those of
+/// `ElfBytes::section_data_as_rels`.
+#[unsafe(no_mangle)]
+pub extern "C" fn nugwier_section_rels<'data>(
+    file: &NugwierFile<'data>,
+    section: &NugwierSection,
+    table: &mut NugwierTable<'data>,
+) -> NugwierStatus
+    ensures status { result ≡ status_of (section_records sht_rel (file_of_c file.now) (section_in section.now)) }
+    ensures table { IsWritten table_of_c table.new table.old
+        (section_records sht_rel (file_of_c file.now) (section_in section.now)) }
+{
+    section_records(file, section, abi::SHT_REL, table)
+}
+
+/// Finds the relocations of a section of type `SHT_RELA`. An error leaves `table` as it is; the errors are those of
+/// `ElfBytes::section_data_as_relas`.
+#[unsafe(no_mangle)]
+pub extern "C" fn nugwier_section_relas<'data>(
+    file: &NugwierFile<'data>,
+    section: &NugwierSection,
+    table: &mut NugwierTable<'data>,
+) -> NugwierStatus
+    ensures status { result ≡ status_of (section_records sht_rela (file_of_c file.now) (section_in section.now)) }
+    ensures table { IsWritten table_of_c table.new table.old
+        (section_records sht_rela (file_of_c file.now) (section_in section.now)) }
+{
+    section_records(file, section, abi::SHT_RELA, table)
+}
+
+// The notes that lie in these bytes of a file, with this alignment.
+#[tactic(auto, using(crate::proofs::Files::is_little_in))]
+fn notes_in<'data>(file: &NugwierFile<'_>, align: u64, bytes: &'data [u8]) -> NugwierNotes<'data>
+    ensures { notes_view result ≡ ((file_of_c file.now).little, align, bytes.now) }
+{
+    NugwierNotes {
+        little: file.header.little,
+        align: align as usize,
+        bytes,
+    }
+}
+
+/// Finds the notes of a section of type `SHT_NOTE`. An error leaves `notes` as it is; the errors are those of
+/// `ElfBytes::section_data_as_notes`.
+#[unsafe(no_mangle)]
+pub extern "C" fn nugwier_section_notes<'data>(
+    file: &NugwierFile<'data>,
+    section: &NugwierSection,
+    notes: &mut NugwierNotes<'data>,
+) -> NugwierStatus
+    ensures status { result ≡ status_of (section_notes (file_of_c file.now) (section_in section.now)) }
+    ensures notes { IsWritten notes_view notes.new notes.old
+        (section_notes (file_of_c file.now) (section_in section.now)) }
+{
+    match content_of_type(file, section, abi::SHT_NOTE) {
+        Ok(bytes) => {
+            *notes = notes_in(file, section.addralign, bytes);
+            done()
+        }
+        Err(error) => refused(&error),
+    }
+}
+
+// The bytes of a segment that must be of notes.
+fn note_segment<'data>(
+    file: &NugwierFile<'data>,
+    segment: &NugwierSegment,
+) -> Result<NugwierNotes<'data>, ParseError>
+    ensures { ok_map notes_view result ≡ segment_notes (file_of_c file.now) (segment_in segment.now) }
+{
+    if segment.kind != abi::PT_NOTE {
+        return Err(ParseError::UnexpectedSegmentType((segment.kind, abi::PT_NOTE)));
+    }
+    let bytes = file_in(file).segment_data(&segment_in(segment))?;
+    Ok(notes_in(file, segment.align, bytes))
+}
+
+/// Finds the notes of a segment of type `PT_NOTE`. An error leaves `notes` as it is; the errors are those of
+/// `ElfBytes::segment_data_as_notes`.
+#[unsafe(no_mangle)]
+pub extern "C" fn nugwier_segment_notes<'data>(
+    file: &NugwierFile<'data>,
+    segment: &NugwierSegment,
+    notes: &mut NugwierNotes<'data>,
+) -> NugwierStatus
+    ensures status { result ≡ status_of (segment_notes (file_of_c file.now) (segment_in segment.now)) }
+    ensures notes { IsWritten notes_view notes.new notes.old
+        (segment_notes (file_of_c file.now) (segment_in segment.now)) }
+{
+    match note_segment(file, segment) {
+        Ok(found) => {
+            *notes = found;
+            done()
+        }
+        Err(error) => refused(&error),
+    }
+}

@@ -1,0 +1,196 @@
+//! Look-ups by name in hash sections, and the check of hash sections.
+ghost use Rattle.std.specs.Prelude.{◌≡◌, ◌↔◌, IfOk, IsTrue};
+ghost use Rattle.elf_check.specs.Object.{IsSound};
+ghost use Rattle.elf_c.specs.Find.{found_shown, gnu_found, sysv_found};
+ghost use Rattle.elf_c.specs.Sound.{FindsFirst, FindsLeast, IsVerdict, gnu_object, hash_object, sysv_object};
+ghost use Rattle.elf_c.specs.Status.{status_of, written};
+
+use crate::records::NugwierSymbol;
+use crate::status::{NugwierStatus, done, refused};
+use crate::table::{ForC, NugwierTable, class_in, order_in};
+use elf_check::hashcheck::laws::{gnu_find_on_sound, sysv_find_on_sound};
+use elf_check::hashcheck::{Checked, HashKind, check_any};
+use elf_parts::hash::{GnuHashTable, SysVHashTable};
+use elf_parts::parse::ParseError;
+use elf_parts::string_table::StringTable;
+use elf_parts::symbol::{Symbol, SymbolTable};
+
+/// A symbol that was looked up, and its index. If there is none, all numbers are 0.
+#[repr(C)]
+#[derive(Clone, Copy, Debug, PartialEq, Eq)]
+pub struct NugwierFound {
+    pub found: bool,
+    pub index: usize,
+    pub symbol: NugwierSymbol,
+}
+
+// What was found, as C sees it.
+fn found_shown(found: &Option<(usize, Symbol)>) -> NugwierFound
+    ensures { result ≡ found_shown found.now }
+{
+    match found {
+        Some((index, symbol)) => NugwierFound {
+            found: true,
+            index: *index,
+            symbol: symbol.show(),
+        },
+        None => NugwierFound {
+            found: false,
+            index: 0,
+            symbol: NugwierSymbol {
+                name: 0,
+                info: 0,
+                other: 0,
+                shndx: 0,
+                value: 0,
+                size: 0,
+            },
+        },
+    }
+}
+
+// The symbol of a name, by a GNU hash section.
+#[inline(always)]
+fn gnu_found(
+    section: &[u8],
+    symbols: &NugwierTable<'_>,
+    strings: &[u8],
+    name: &[u8],
+) -> Result<Option<(usize, Symbol)>, ParseError>
+    ensures { result ≡ gnu_found section.now symbols.now strings.now name.now }
+{
+    let endian = order_in(symbols.little);
+    let class = class_in(symbols.is_64);
+    let table = GnuHashTable::new(endian, class, section)?;
+    table.find(
+        name,
+        &SymbolTable::new(endian, class, symbols.bytes),
+        &StringTable::new(strings),
+    )
+}
+
+// The symbol of a name, by a SysV hash section.
+#[inline(always)]
+fn sysv_found(
+    section: &[u8],
+    symbols: &NugwierTable<'_>,
+    strings: &[u8],
+    name: &[u8],
+) -> Result<Option<(usize, Symbol)>, ParseError>
+    ensures { result ≡ sysv_found section.now symbols.now strings.now name.now }
+{
+    let endian = order_in(symbols.little);
+    let class = class_in(symbols.is_64);
+    let table = SysVHashTable::new(endian, class, section)?;
+    table.find(
+        name,
+        &SymbolTable::new(endian, class, symbols.bytes),
+        &StringTable::new(strings),
+    )
+}
+
+/// Looks a name up in a GNU hash section, for these symbols and their strings. An error leaves `found` as it is; the
+/// errors are those of `GnuHashTable::new`, then those of its `find`. On a section that `nugwier_hash_check` calls
+/// sound there is no error, and the symbol is the one with the least index of all that the section indexes and that
+/// have the name.
+#[unsafe(no_mangle)]
+pub extern "C" fn nugwier_gnu_find(
+    section: &[u8],
+    symbols: &NugwierTable<'_>,
+    strings: &[u8],
+    name: &[u8],
+    found: &mut NugwierFound,
+) -> NugwierStatus
+    ensures status { result ≡ status_of (gnu_found section.now symbols.now strings.now name.now) }
+    ensures found { found.new ≡ written found_shown found.old
+        (gnu_found section.now symbols.now strings.now name.now) }
+    ensures least { IfOk (gnu_object section.now symbols.now strings.now)
+        (λ s. FindsLeast s name.now result found.new) }
+{
+    gnu_find_on_sound(section);
+    match gnu_found(section, symbols, strings, name) {
+        Ok(one) => {
+            *found = found_shown(&one);
+            done()
+        }
+        Err(error) => refused(&error),
+    }
+}
+
+/// Looks a name up in a SysV hash section, for these symbols and their strings. An error leaves `found` as it is; the
+/// errors are those of `SysVHashTable::new`, then those of its `find`. On a section that `nugwier_hash_check` calls
+/// sound there is no error, and the symbol is the first one with the name along its chain.
+#[unsafe(no_mangle)]
+pub extern "C" fn nugwier_sysv_find(
+    section: &[u8],
+    symbols: &NugwierTable<'_>,
+    strings: &[u8],
+    name: &[u8],
+    found: &mut NugwierFound,
+) -> NugwierStatus
+    ensures status { result ≡ status_of (sysv_found section.now symbols.now strings.now name.now) }
+    ensures found { found.new ≡ written found_shown found.old
+        (sysv_found section.now symbols.now strings.now name.now) }
+    ensures first { IfOk (sysv_object section.now symbols.now strings.now)
+        (λ s. FindsFirst s name.now result found.new) }
+{
+    sysv_find_on_sound(section);
+    match sysv_found(section, symbols, strings, name) {
+        Ok(one) => {
+            *found = found_shown(&one);
+            done()
+        }
+        Err(error) => refused(&error),
+    }
+}
+
+/// What a check says of a hash section: whether it is sound, and then how many symbols it indexes, otherwise 0.
+#[repr(C)]
+#[derive(Clone, Copy, Debug, PartialEq, Eq)]
+pub struct NugwierVerdict {
+    pub sound: bool,
+    pub indexed: usize,
+}
+
+/// Checks a hash section, of GNU or of SysV, for these symbols and their strings. An error leaves `verdict` as it is;
+/// the errors are those of `GnuHashTable::new` and `SysVHashTable::new`.
+#[unsafe(no_mangle)]
+pub extern "C" fn nugwier_hash_check(
+    gnu: bool,
+    section: &[u8],
+    symbols: &NugwierTable<'_>,
+    strings: &[u8],
+    verdict: &mut NugwierVerdict,
+) -> NugwierStatus
+    ensures status { result ≡ status_of (hash_object gnu section.now symbols.now strings.now) }
+    ensures verdict { IsVerdict verdict.new verdict.old (hash_object gnu section.now symbols.now strings.now) }
+{
+    let endian = order_in(symbols.little);
+    let class = class_in(symbols.is_64);
+    let kind = if gnu { HashKind::Gnu } else { HashKind::Sysv };
+    let symtab = SymbolTable::new(endian, class, symbols.bytes);
+    match check_any(
+        kind,
+        endian,
+        class,
+        section,
+        symtab,
+        StringTable::new(strings),
+    ) {
+        Ok(Checked::Sound(table)) => {
+            *verdict = NugwierVerdict {
+                sound: true,
+                indexed: table.indexed(),
+            };
+            done()
+        }
+        Ok(Checked::Faulty(_)) => {
+            *verdict = NugwierVerdict {
+                sound: false,
+                indexed: 0,
+            };
+            done()
+        }
+        Err(error) => refused(&error),
+    }
+}

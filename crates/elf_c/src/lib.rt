@@ -1,0 +1,16 @@
+//! The reader `ElfBytes` for C, and for every language that calls C. Nothing is allocated, and nothing is kept between
+//! two calls.
+#![tactic(auto)]
+
+pub mod data;
+pub mod file;
+pub mod find;
+pub mod names;
+pub mod notes;
+pub mod records;
+pub mod status;
+pub mod strings;
+pub mod symbols;
+pub mod table;
+pub mod version_table;
+pub mod versions;

@@ -1,0 +1,140 @@
+//! The versions of the symbols of a file: where its headers say that they lie.
+ghost use Rattle.std.specs.Prelude.{◌≡◌, None, Some};
+ghost use Rattle.std.specs.Option.{option_map};
+ghost use Rattle.elf_records.specs.Number.{ok_map};
+ghost use Rattle.elf.specs.Answers.{symbol_version_table};
+ghost use Rattle.elf.specs.Headers.{if_found};
+ghost use Rattle.elf.specs.Versions.{version_definitions, version_indexes, version_needs, versions_of};
+ghost use Rattle.elf_c.specs.File.{file_of_c};
+ghost use Rattle.elf_c.specs.Status.{IsWritten, status_of};
+ghost use Rattle.elf_c.specs.Tables.{table_of_c};
+ghost use Rattle.elf_c.specs.Versions.{definitions_of_c, needs_of_c, versions_of_c, versions_view_of_c};
+
+use crate::data::table_in;
+use crate::file::{NugwierFile, file_in};
+use crate::status::{NugwierStatus, done, refused};
+use crate::symbols::section_range;
+use crate::table::NugwierTable;
+use crate::versions::{NugwierEntries, NugwierVersions};
+use elf::ParseError;
+use elf::headers::{Headers, VersionSections};
+use elf_parts::gnu_symver::VersionIndex;
+use elf_parts::parse::ParseAt;
+use elf_parts::section::SectionHeader;
+
+// The version indexes of a section.
+fn indexes_in<'data>(
+    file: &NugwierFile<'data>,
+    shdr: &SectionHeader,
+) -> Result<NugwierTable<'data>, ParseError>
+    ensures { ok_map table_of_c result ≡ version_indexes (file_of_c file.now) shdr.now }
+{
+    VersionIndex::validate_entsize(file_in(file).class(), shdr.sh_entsize as usize)?;
+    let bytes = section_range(file, shdr)?;
+    Ok(table_in(file, bytes))
+}
+
+// The needs or the definitions of a section.
+fn entries_in<'data>(
+    file: &NugwierFile<'data>,
+    shdr: &SectionHeader,
+) -> Result<NugwierEntries<'data>, ParseError>
+    ensures needs { ok_map needs_of_c result ≡ ok_map Some (version_needs (file_of_c file.now) shdr.now) }
+    ensures definitions { ok_map definitions_of_c result
+        ≡ ok_map Some (version_definitions (file_of_c file.now) shdr.now) }
+{
+    let bytes = section_range(file, shdr)?;
+    let linked = file_in(file).section_at(shdr.sh_link as usize)?;
+    let strings = section_range(file, &linked)?;
+    Ok(NugwierEntries {
+        found: true,
+        count: shdr.sh_info as u64,
+        entries: table_in(file, bytes),
+        strings,
+    })
+}
+
+// No needs and no definitions.
+fn no_entries<'data>(file: &NugwierFile<'data>) -> NugwierEntries<'data>
+    ensures needs { needs_of_c result ≡ None }
+    ensures definitions { definitions_of_c result ≡ None }
+{
+    NugwierEntries {
+        found: false,
+        count: 0,
+        entries: table_in(file, &[]),
+        strings: &[],
+    }
+}
+
+// The needs or the definitions, if there is a section of them.
+fn entries_if<'data>(
+    file: &NugwierFile<'data>,
+    shdr: Option<SectionHeader>,
+) -> Result<NugwierEntries<'data>, ParseError>
+    ensures needs { ok_map needs_of_c result ≡ if_found (version_needs (file_of_c file.now)) shdr }
+    ensures definitions { ok_map definitions_of_c result
+        ≡ if_found (version_definitions (file_of_c file.now)) shdr }
+{
+    match shdr {
+        Some(shdr) => entries_in(file, &shdr),
+        None => Ok(no_entries(file)),
+    }
+}
+
+// The versions by the indexes of a section.
+fn versions_of<'data>(
+    file: &NugwierFile<'data>,
+    chosen: VersionSections,
+    shdr: &SectionHeader,
+) -> Result<NugwierVersions<'data>, ParseError>
+    ensures { ok_map versions_of_c result ≡ versions_of (file_of_c file.now) chosen shdr.now }
+{
+    let indexes = indexes_in(file, shdr)?;
+    let needs = entries_if(file, chosen.needs)?;
+    let definitions = entries_if(file, chosen.definitions)?;
+    Ok(NugwierVersions {
+        found: true,
+        indexes,
+        needs,
+        definitions,
+    })
+}
+
+// The versions of the symbols of a file.
+fn versions_in<'data>(
+    file: &NugwierFile<'data>,
+) -> Result<Option<NugwierVersions<'data>>, ParseError>
+    ensures { ok_map (option_map versions_of_c) result ≡ symbol_version_table (file_of_c file.now) }
+{
+    let chosen = file_in(file).version_sections();
+    match chosen.indexes {
+        Some(shdr) => versions_of(file, chosen, &shdr).map(Some),
+        None => Ok(None),
+    }
+}
+
+/// Finds the versions of the symbols of a file. If there are none, `found` is false, and nothing else is written. An
+/// error leaves `versions` as it is; the errors are those of `ElfBytes::symbol_version_table`.
+#[unsafe(no_mangle)]
+pub extern "C" fn nugwier_version_table<'data>(
+    file: &NugwierFile<'data>,
+    versions: &mut NugwierVersions<'data>,
+) -> NugwierStatus
+    ensures status { result ≡ status_of (symbol_version_table (file_of_c file.now)) }
+    ensures versions { IsWritten versions_view_of_c versions.new versions.old
+        (symbol_version_table (file_of_c file.now)) }
+{
+    match versions_in(file) {
+        Ok(Some(found)) => {
+            *versions = found;
+            versions.found = true;
+            done()
+        }
+        Ok(None) => {
+            versions.found = false;
+            done()
+        }
+        Err(error) => refused(&error),
+    }
+}

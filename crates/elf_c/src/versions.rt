@@ -1,0 +1,352 @@
+//! The versions of symbols: the version index of a symbol, the version that it needs of another file, and the one with
+//! which it is defined.
+ghost use Rattle.std.specs.Prelude.{◌≡◌};
+ghost use Rattle.std.specs.List.{find};
+ghost use Rattle.std.specs.Option.{option_map};
+ghost use Rattle.elf_parts.specs.gnu_symver.Records.{ver_def_reads};
+ghost use Rattle.elf_parts.specs.gnu_symver.Links.{links_left, links_view};
+ghost use Rattle.elf_parts.specs.gnu_symver.Lists.{ver_need_aux_left, ver_needs_left};
+ghost use Rattle.elf_parts.specs.gnu_symver.Table.{definition, needed_version, raw_names, version_with};
+ghost use Rattle.elf_records.specs.Number.{ok_map};
+ghost use Rattle.elf_c.specs.Status.{IsWritten, status_of, written};
+ghost use Rattle.elf_c.specs.Tables.{table_of_c};
+ghost use Rattle.elf_c.specs.Versions.{TakesName, defined_view, definition_view};
+ghost use Rattle.elf_c.specs.inner.DefinitionLinks.{aux_of_links, definition_links};
+ghost use Rattle.elf_c.specs.Versions.{index_of_c, names_left, versions_of_c};
+ghost use Rattle.elf_c.specs.inner.DefinitionLinks.{has_index};
+ghost use Rattle.elf_c.specs.Versions.{needed_view, needs_list, requirement_of_c, requirement_view, version_shown};
+
+use crate::status::{NugwierStatus, done, refused};
+use crate::strings::{NugwierBytes, nugwier_string};
+use crate::table::{NugwierTable, class_in, order_in, records_in};
+use elf_parts::endian::AnyEndian;
+use elf_parts::gnu_symver::links::Links;
+use elf_parts::gnu_symver::{
+    VerDef, VerDefAux, VerNeed, VerNeedAux, VerNeedAuxIterator, VerNeedIterator, VersionIndex,
+};
+use elf_parts::parse::ParseError;
+use elf_parts::string_table::StringTable;
+
+/// The entries of a version section, needs or definitions, if there are any: at most `count` records, the first at the
+/// start of `entries`, and the strings with their names.
+#[repr(C)]
+#[derive(Drop)]
+pub struct NugwierEntries<'data> {
+    pub found: bool,
+    pub count: u64,
+    pub entries: NugwierTable<'data>,
+    pub strings: &'data [u8],
+}
+
+/// The versions of the symbols of a file, if it has any: the version indexes, and what they are looked up in.
+#[repr(C)]
+#[derive(Drop)]
+pub struct NugwierVersions<'data> {
+    pub found: bool,
+    pub indexes: NugwierTable<'data>,
+    pub needs: NugwierEntries<'data>,
+    pub definitions: NugwierEntries<'data>,
+}
+
+/// The version index of a symbol: the lower 15 bits, and whether bit 15 is set, which hides the version.
+#[repr(C)]
+#[derive(Clone, Copy, Debug, PartialEq, Eq)]
+pub struct NugwierVersion {
+    pub index: u16,
+    pub hidden: bool,
+}
+
+/// The version that a symbol needs of another file, if any: the names of the file and of the version, its hash and its
+/// flags, and whether the symbol's version index is hidden.
+#[repr(C)]
+#[derive(Drop)]
+pub struct NugwierRequirement<'data> {
+    pub found: bool,
+    pub hidden: bool,
+    pub flags: u16,
+    pub hash: u32,
+    pub file: &'data [u8],
+    pub name: &'data [u8],
+}
+
+/// The names of a version that are left, each the name of an entry: at most `count` entries, the first at `offset` of
+/// `entries`.
+#[repr(C)]
+#[derive(Drop)]
+pub struct NugwierVersionNames<'data> {
+    pub count: u64,
+    pub offset: usize,
+    pub entries: NugwierTable<'data>,
+    pub strings: &'data [u8],
+}
+
+/// The version with which a symbol is defined, if any: its hash, its flags and its names, and whether the symbol's
+/// version index is hidden.
+#[repr(C)]
+#[derive(Drop)]
+pub struct NugwierDefinition<'data> {
+    pub found: bool,
+    pub hidden: bool,
+    pub flags: u16,
+    pub hash: u32,
+    pub names: NugwierVersionNames<'data>,
+}
+
+// The needs.
+fn needs_in<'data>(needs: &NugwierEntries<'data>) -> VerNeedIterator<'data, AnyEndian>
+    ensures { ver_needs_left result ≡ needs_list needs.now }
+{
+    VerNeedIterator::new(
+        order_in(needs.entries.little),
+        class_in(needs.entries.is_64),
+        needs.count,
+        0,
+        needs.entries.bytes,
+    )
+}
+
+// The first of the versions of one file with this index.
+fn version_with(versions: VerNeedAuxIterator<'_, AnyEndian>, index: u16) -> Option<VerNeedAux>
+    ensures { result ≡ version_with index (ver_need_aux_left versions.entry) }
+{
+    for version in versions {
+        if version.vna_other == index {
+            return Some(version);
+        }
+    }
+    None
+}
+
+// The first needed version with this index, and the need that it belongs to.
+#[tactic(auto, using(elf_parts::proofs::Versions::needed))]
+fn first_needed(needs: VerNeedIterator<'_, AnyEndian>, index: u16) -> Option<(VerNeed, VerNeedAux)>
+    ensures { result ≡ needed_version index (ver_needs_left needs.entry) }
+{
+    for (need, versions) in needs {
+        if let Some(version) = version_with(versions, index) {
+            return Some((need, version));
+        }
+    }
+    None
+}
+
+// The version index of a symbol.
+fn index_of(versions: &NugwierVersions<'_>, symbol: usize) -> Result<VersionIndex, ParseError>
+    ensures { result ≡ index_of_c versions.now symbol }
+{
+    records_in::<VersionIndex>(&versions.indexes).get(symbol)
+}
+
+/// Reads the version index of a symbol, counted from 0. An error leaves `version` as it is; the errors are those of
+/// `ParsingTable::get`.
+#[unsafe(no_mangle)]
+pub extern "C" fn nugwier_version_index(
+    versions: &NugwierVersions<'_>,
+    symbol: usize,
+    version: &mut NugwierVersion,
+) -> NugwierStatus
+    ensures status { result ≡ status_of (index_of_c versions.now symbol) }
+    ensures version { version.new ≡ written version_shown version.old (index_of_c versions.now symbol) }
+{
+    match index_of(versions, symbol) {
+        Ok(found) => {
+            *version = NugwierVersion {
+                index: found.index(),
+                hidden: found.is_hidden(),
+            };
+            done()
+        }
+        Err(error) => refused(&error),
+    }
+}
+
+// What a symbol needs, with its names.
+fn requirement_in<'data>(
+    versions: &NugwierVersions<'data>,
+    symbol: usize,
+) -> Result<Option<NugwierRequirement<'data>>, ParseError>
+    ensures { ok_map (option_map needed_view) result ≡ requirement_of_c versions.now symbol }
+{
+    if !versions.needs.found {
+        return Ok(None);
+    }
+    let index = index_of(versions, symbol)?;
+    let Some((need, version)) = first_needed(needs_in(&versions.needs), index.index()) else {
+        return Ok(None);
+    };
+    let strings = StringTable::new(versions.needs.strings);
+    let file = strings.get_raw(need.vn_file as usize)?;
+    let name = strings.get_raw(version.vna_name as usize)?;
+    Ok(Some(NugwierRequirement {
+        found: true,
+        hidden: index.is_hidden(),
+        flags: version.vna_flags,
+        hash: version.vna_hash,
+        file,
+        name,
+    }))
+}
+
+/// Finds the version that a symbol, counted from 0, needs of another file. If there is none, `found` is false, and
+/// nothing else is written. An error leaves `requirement` as it is. The errors are those of `get_requirement`, except
+/// that the names are bytes and need not be UTF-8.
+#[unsafe(no_mangle)]
+pub extern "C" fn nugwier_requirement<'data>(
+    versions: &NugwierVersions<'data>,
+    symbol: usize,
+    requirement: &mut NugwierRequirement<'data>,
+) -> NugwierStatus
+    ensures status { result ≡ status_of (requirement_of_c versions.now symbol) }
+    ensures requirement { IsWritten requirement_view requirement.new requirement.old
+        (requirement_of_c versions.now symbol) }
+{
+    match requirement_in(versions, symbol) {
+        Ok(Some(found)) => {
+            *requirement = found;
+            requirement.found = true;
+            done()
+        }
+        Ok(None) => {
+            requirement.found = false;
+            done()
+        }
+        Err(error) => refused(&error),
+    }
+}
+
+// The table that C gives, again.
+fn same_table<'data>(table: &NugwierTable<'data>) -> NugwierTable<'data>
+    ensures { result ≡ table.now }
+{
+    NugwierTable {
+        little: table.little,
+        is_64: table.is_64,
+        bytes: table.bytes,
+    }
+}
+
+// The links of a definition's names, as C holds them.
+fn names_at<'data>(
+    definitions: &NugwierEntries<'data>,
+    names: &Links<'data, AnyEndian, VerDefAux>,
+) -> NugwierVersionNames<'data>
+    requires { links_view names.now ≡ table_of_c definitions.now.entries }
+    ensures { names_left result ≡ raw_names definitions.now.strings.now (aux_of_links names.now) }
+{
+    NugwierVersionNames {
+        count: names.limit(),
+        offset: names.offset(),
+        entries: same_table(&definitions.entries),
+        strings: definitions.strings,
+    }
+}
+
+// The links of the definitions.
+fn definitions_in<'data>(definitions: &NugwierEntries<'data>) -> Links<'data, AnyEndian, VerDef>
+    ensures items { links_left ver_def_reads.record_at (λ x. x.vd_next) result ≡ definition_links definitions.now }
+    ensures view { links_view result ≡ table_of_c definitions.now.entries }
+{
+    Links::new(
+        definitions.entries.little,
+        class_in(definitions.entries.is_64),
+        definitions.count,
+        0,
+        definitions.entries.bytes,
+    )
+}
+
+// The first definition with this index, and where it begins.
+fn first_defined(definitions: &NugwierEntries<'_>, index: u16) -> Option<(usize, VerDef)>
+    ensures { result ≡ find (has_index index) (definition_links definitions.now) }
+{
+    for (start, definition) in definitions_in(definitions) {
+        if definition.vd_ndx == index {
+            return Some((start, definition));
+        }
+    }
+    None
+}
+
+// What a symbol is defined with.
+#[tactic(auto, using(crate::proofs::Definitions::defined))]
+fn definition_in<'data>(
+    versions: &NugwierVersions<'data>,
+    symbol: usize,
+) -> Result<Option<NugwierDefinition<'data>>, ParseError>
+    ensures { ok_map (option_map defined_view) result ≡ definition (versions_of_c versions.now) symbol }
+{
+    if !versions.definitions.found {
+        return Ok(None);
+    }
+    let index = index_of(versions, symbol)?;
+    let Some((start, definition)) = first_defined(&versions.definitions, index.index()) else {
+        return Ok(None);
+    };
+    let names = definition.aux_links(&definitions_in(&versions.definitions), start);
+    Ok(Some(NugwierDefinition {
+        found: true,
+        hidden: index.is_hidden(),
+        flags: definition.vd_flags,
+        hash: definition.vd_hash,
+        names: names_at(&versions.definitions, &names),
+    }))
+}
+
+/// Finds the version with which a symbol, counted from 0, is defined. If there is none, `found` is false, and nothing
+/// else is written. An error leaves `defined` as it is; the errors are those of `get_definition`.
+#[unsafe(no_mangle)]
+pub extern "C" fn nugwier_definition<'data>(
+    versions: &NugwierVersions<'data>,
+    symbol: usize,
+    defined: &mut NugwierDefinition<'data>,
+) -> NugwierStatus
+    ensures status { result ≡ status_of (definition (versions_of_c versions.now) symbol) }
+    ensures defined { IsWritten definition_view defined.new defined.old
+        (definition (versions_of_c versions.now) symbol) }
+{
+    match definition_in(versions, symbol) {
+        Ok(Some(one)) => {
+            *defined = one;
+            defined.found = true;
+            done()
+        }
+        Ok(None) => {
+            defined.found = false;
+            done()
+        }
+        Err(error) => refused(&error),
+    }
+}
+
+/// Takes the next name of a version. If none is left, `found` is false, and nothing else is written. A name that cannot
+/// be read is an error, which leaves `name` as it is; the next call goes on with the name after it. The errors are
+/// those of `StringTable::get_raw`.
+#[unsafe(no_mangle)]
+pub extern "C" fn nugwier_version_name<'data>(
+    names: &mut NugwierVersionNames<'data>,
+    found: &mut bool,
+    name: &mut NugwierBytes<'data>,
+) -> NugwierStatus
+    ensures { TakesName (names_left names.old) (names_left names.new) found.new name.new name.old result }
+{
+    let mut links: Links<'data, AnyEndian, VerDefAux> = Links::new(
+        names.entries.little,
+        class_in(names.entries.is_64),
+        names.count,
+        names.offset,
+        names.entries.bytes,
+    );
+    let taken = links.next();
+    names.count = links.limit();
+    names.offset = links.offset();
+    match taken {
+        Some((_, record)) => {
+            *found = true;
+            nugwier_string(names.strings, record.vda_name as usize, name)
+        }
+        None => {
+            *found = false;
+            done()
+        }
+    }
+}
