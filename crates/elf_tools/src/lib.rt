@@ -1,7 +1,7 @@
-//! Callers of the library, each in a module of its own, with the contract that its user needs: `build_id`, `functions`,
-//! `load_plan`, `hash_lint`, `resolver`, `bindings`, `needed`, `symbol_versions`, `addresses` and `search`. The program
-//! `elf_cases` prints the results of some. `laws` has theorems for their callers, and `worked` the definitions at known
-//! values.
+//! Ten callers of the library, each in a module of its own, with the contract that its user needs: `build_id`,
+//! `functions`, `load_plan`, `hash_lint`, `resolver`, `bindings`, `needed`, `symbol_versions`, `addresses` and `search`.
+//! The program `elf_cases` prints the results of the first seven. `laws` has theorems for their callers, and `worked` the
+//! definitions of the last three at known values.
 #![tactic(auto)]
 
 pub mod addresses;

@@ -1,0 +1,26 @@
+# Completion of nugwier for bash: commands, options and files.
+_nugwier() {
+    local word=${COMP_WORDS[COMP_CWORD]} before=${COMP_WORDS[COMP_CWORD - 1]}
+    COMPREPLY=()
+    if [ "$COMP_CWORD" -eq 1 ]; then
+        mapfile -t COMPREPLY < <(compgen -W \
+            "list symbols needed exports build-id plan check --help --version" -- "$word")
+        return
+    fi
+    if [ "${COMP_WORDS[1]}" = list ]; then
+        case $before in
+            -x | -p) return ;;
+        esac
+        case $word in
+            -*)
+                mapfile -t COMPREPLY < <(compgen -W "-h -S -l -s -D -d -r -n -V -a -x -p --help" -- "$word")
+                return
+                ;;
+        esac
+    elif [ "${word#-}" != "$word" ]; then
+        mapfile -t COMPREPLY < <(compgen -W "--help" -- "$word")
+        return
+    fi
+    mapfile -t COMPREPLY < <(compgen -f -- "$word")
+}
+complete -o filenames -F _nugwier nugwier

@@ -1,0 +1,25 @@
+# Completion of nugwier for fish: commands, options and files.
+set -l commands list symbols needed exports build-id plan check
+complete -c nugwier -n "not __fish_seen_subcommand_from $commands" -f
+complete -c nugwier -n "not __fish_seen_subcommand_from $commands" -a list -d "headers, tables and contents"
+complete -c nugwier -n "not __fish_seen_subcommand_from $commands" -a symbols -d "symbols for dynamic linking"
+complete -c nugwier -n "not __fish_seen_subcommand_from $commands" -a needed -d "needed libraries"
+complete -c nugwier -n "not __fish_seen_subcommand_from $commands" -a exports -d "defined functions"
+complete -c nugwier -n "not __fish_seen_subcommand_from $commands" -a build-id -d "build id"
+complete -c nugwier -n "not __fish_seen_subcommand_from $commands" -a plan -d "what a loader maps"
+complete -c nugwier -n "not __fish_seen_subcommand_from $commands" -a check -d "what is wrong with a file"
+complete -c nugwier -n "not __fish_seen_subcommand_from $commands" -l version -d "the version"
+complete -c nugwier -l help -d "how it is called"
+complete -c nugwier -n "__fish_seen_subcommand_from $commands" -F
+complete -c nugwier -n "__fish_seen_subcommand_from list" -s h -d "file header"
+complete -c nugwier -n "__fish_seen_subcommand_from list" -s S -d sections
+complete -c nugwier -n "__fish_seen_subcommand_from list" -s l -d segments
+complete -c nugwier -n "__fish_seen_subcommand_from list" -s s -d symbols
+complete -c nugwier -n "__fish_seen_subcommand_from list" -s D -d "symbols for dynamic linking"
+complete -c nugwier -n "__fish_seen_subcommand_from list" -s d -d "dynamic entries"
+complete -c nugwier -n "__fish_seen_subcommand_from list" -s r -d relocations
+complete -c nugwier -n "__fish_seen_subcommand_from list" -s n -d notes
+complete -c nugwier -n "__fish_seen_subcommand_from list" -s V -d versions
+complete -c nugwier -n "__fish_seen_subcommand_from list" -s a -d all
+complete -c nugwier -n "__fish_seen_subcommand_from list" -s x -x -d "bytes of a section"
+complete -c nugwier -n "__fish_seen_subcommand_from list" -s p -x -d "strings of a section"
