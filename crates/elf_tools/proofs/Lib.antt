@@ -3,3 +3,6 @@ pub mod Naming
 pub mod Readings
 pub mod Libraries
 mod Apart
+mod Places
+mod Expanding
+pub mod SymbolVersions

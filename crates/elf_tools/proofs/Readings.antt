@@ -1,20 +1,29 @@
 -- Consecutive readings of a stream.
-use Rattle.std.proofs.Common.{◌≡◌, ℕ, Bool, List, Option, Some, None, Result, Ok, Err, refl, sym, ◌∙◌, subst, IfSome}
-use Rattle.std.specs.Prelude.{IsErr, ⊤}
+use Rattle.std.proofs.Common.{◌≡◌, ℕ, ◌+◌, ◌⊎◌, inl, inr, Bool, true, false, ◌==◌, ◌||◌, List, [], ◌∷◌, ◌++◌, map, Option, Some, None, Result, Ok, Err, refl, sym, ap, ◌∙◌, subst, IfSome}
+use Rattle.std.proofs.lemmas.List.{map-append}
+use Rattle.std.proofs.lemmas.List.Folds.{list_any-append}
+use Rattle.std.specs.Prelude.{IsErr, ⊤, cond}
 use Rattle.elf_records.specs.Number.{ok_map}
 use Rattle.elf_records.specs.Record.{◌>>=◌}
 use Rattle.elf_records.specs.declared.parse.ParseError.{ParseError}
+use Rattle.elf_records.specs.declared.parse.ParseError.TheVariants.{BadEntsize}
 use Rattle.elf_records.specs.declared.section.SectionHeader.{SectionHeader}
 use Rattle.elf.specs.Answers.{symbol_version_table}
-use Rattle.elf.specs.ElfStream.{Keeps, Seen}
+use Rattle.elf.specs.ElfStream.{AreCached, IsRequested, Keeps, Seen}
 use Rattle.elf_reading.specs.Refusals.{MayRefuse}
 use Rattle.elf_reading.specs.Refusals.{Kind, kind}
-use Rattle.elf.specs.Headers.{if_found}
+use Rattle.elf.specs.Headers.{entry_size, if_found}
+use Rattle.elf.specs.Ranges.{headers_alone, if_there, whole_section}
+use Rattle.elf_parts.specs.gnu_symver.Records.{version_index_layout}
+use Rattle.elf_records.specs.Record.{size_by}
+use Rattle.elf_reading.specs.declared.versions.VersionSections.{VersionSections}
+use Rattle.elf_tools.specs.LibraryRanges.{entries_ranges, unless_refused, versions_ranges_of, versions_read}
+use Rattle.elf_reading.specs.Cache.{is_cached}
 use Rattle.elf.specs.ObjectFile.{ObjectFile}
 use Rattle.elf.specs.StreamFile.{stream_file}
 use Rattle.elf.specs.Versions.{version_definitions, version_indexes, version_needs, versions_of}
 use Rattle.elf_reading.specs.Versions.{version_sections}
-use Rattle.elf_tools.specs.Readings.{IsRead, Reads}
+use Rattle.elf_tools.specs.Readings.{IsRead, Reads, Uses}
 
 -- ---- a stream that keeps its file
 
@@ -84,3 +93,82 @@ module _ (file : ObjectFile) (s : SectionHeader) (at : (version_sections file.se
   definitions_refused definitions is refused =
       let here = subst (λ (o : Option SectionHeader). IsErr (if_found (version_definitions file) o)) is refused in
       versions_refused (third_refused (version_indexes file s) (if_found (version_needs file) (version_sections file.sections).needs) (if_found (version_definitions file) (version_sections file.sections).definitions) _ here)
+
+-- ---- what consecutive readings use
+
+abbrev ends : List (ℕ × ℕ) → List (ℕ × ℕ)
+ends rs = map (λ (r : ℕ × ℕ). (r.0, r.0 + r.1)) rs
+
+or_true : (b : Bool) → (b || true) ≡ true
+or_true true = refl
+or_true false = refl
+
+requested_both : (rs qs : List (ℕ × ℕ)) (start end : ℕ) → is_cached (ends (rs ++ qs)) start end ≡ (is_cached (ends rs) start end || is_cached (ends qs) start end)
+requested_both rs qs start end = ap (λ rs. is_cached rs start end) (map-append (λ (r : ℕ × ℕ). (r.0, r.0 + r.1)) rs qs) ∙ list_any-append _ (ends rs) (ends qs)
+
+requested_front : (rs qs : List (ℕ × ℕ)) (start end : ℕ) → IsRequested rs start end → IsRequested (rs ++ qs) start end
+requested_front rs qs start end h = requested_both rs qs start end ∙ ap (λ b. b || is_cached (ends qs) start end) h
+
+requested_back : (rs qs : List (ℕ × ℕ)) (start end : ℕ) → IsRequested qs start end → IsRequested (rs ++ qs) start end
+requested_back rs qs start end h = requested_both rs qs start end ∙ ap (λ b. is_cached (ends rs) start end || b) h ∙ or_true (is_cached (ends rs) start end)
+
+wider : {P : Type 0} (rs qs : List (ℕ × ℕ)) (start end : ℕ) → P ⊎ IsRequested rs start end → P ⊎ IsRequested (rs ++ qs) start end
+wider rs qs start end (inl before) = inl before
+wider rs qs start end (inr there) = inr (requested_front rs qs start end there)
+
+one_later : {P Q : Type 0} (rs qs : List (ℕ × ℕ)) (start end : ℕ) → (P → Q ⊎ IsRequested rs start end) → P ⊎ IsRequested qs start end → Q ⊎ IsRequested (rs ++ qs) start end
+one_later rs qs start end so (inl before) = wider rs qs start end (so before)
+one_later rs qs start end so (inr there) = inr (requested_back rs qs start end there)
+
+cached_front : {E : Type 0} (s : Seen E) (rs qs : List (ℕ × ℕ)) → AreCached s (rs ++ qs) → AreCached s rs
+cached_front s [] qs h = tt
+cached_front s (r ∷ rs) qs h = (h.0, cached_front s rs qs h.1)
+
+cached_back : {E : Type 0} (s : Seen E) (rs qs : List (ℕ × ℕ)) → AreCached s (rs ++ qs) → AreCached s qs
+cached_back s [] qs h = h
+cached_back s (r ∷ rs) qs h = cached_back s rs qs h.1
+
+pub uses_none : {E : Type 0} (s : Seen E) (rs : List (ℕ × ℕ)) → Uses rs s s
+uses_none s rs = record { only = λ start end h. inl h; untouched = λ h. refl }
+
+pub uses_front : {E : Type 0} (old new : Seen E) (rs qs : List (ℕ × ℕ)) → Uses rs old new → Uses (rs ++ qs) old new
+uses_front old new rs qs h = record {
+  only = λ start end cached. wider rs qs start end (h.only start end cached);
+  untouched = λ cached. h.untouched (cached_front old rs qs cached);
+}
+
+pub uses_then : {E : Type 0} (old middle new : Seen E) (rs qs : List (ℕ × ℕ)) → Uses rs old middle → Uses qs middle new → Uses (rs ++ qs) old new
+uses_then old middle new rs qs a b = record {
+  only = λ start end cached. one_later rs qs start end (a.only start end) (b.only start end cached);
+  untouched = λ cached.
+      let first = a.untouched (cached_front old rs qs cached) in
+      b.untouched (subst (λ s. AreCached s qs) (sym first) (cached_back old rs qs cached)) ∙ first;
+}
+
+-- the ranges are taken of headers, which a call keeps
+pub uses_by_headers : {E : Type 0} (little : E → Bool) (old middle new : Seen E) (ranges : ObjectFile → List (ℕ × ℕ)) → Keeps old middle → Uses (ranges (headers_alone little middle)) middle new → Uses (ranges (headers_alone little old)) middle new
+uses_by_headers little old middle new ranges keeps h = subst (λ file. Uses (ranges file) middle new) (same_file little old middle [] keeps) h
+
+by_test : (b : Bool) (requested : List (ℕ × ℕ)) (x m n : ℕ) (e f : ParseError) → Ok x ≡ cond b (Ok m) (Err e) → unless_refused {A = ℕ} requested (cond b (Ok n) (Err f)) ≡ requested
+by_test true requested x m n e f h = refl
+by_test false requested x m n e f h = cc
+
+sized_right : (requested : List (ℕ × ℕ)) (size x : ℕ) (s : SectionHeader) (e : ParseError) → Ok x ≡ cond (s.sh_entsize == size) (Ok s.sh_entsize) (Err e) → unless_refused requested (entry_size size s) ≡ requested
+sized_right requested size x s e h = by_test (s.sh_entsize == size) requested x s.sh_entsize size e (BadEntsize (s.sh_entsize, size)) h
+
+-- the version indexes, the needs and the definitions, one after the other
+pub versions_used : {E : Type 0} (little : E → Bool) (old one two three : Seen E) (chosen : VersionSections) (s : SectionHeader) (size : ℕ)
+    → chosen ≡ version_sections old.headers.sections → chosen.indexes ≡ Some s → Ok size ≡ cond (s.sh_entsize == size_by version_index_layout old.headers.ehdr.class) (Ok s.sh_entsize) (Err (BadEntsize (s.sh_entsize, size_by version_index_layout old.headers.ehdr.class))) → Keeps old one → Keeps one two
+    → Uses (whole_section s) old one → Uses (if_there (entries_ranges (headers_alone little one)) chosen.needs) one two → Uses (if_there (entries_ranges (headers_alone little two)) chosen.definitions) two three
+    → Uses (versions_read (headers_alone little old)) old three
+versions_used little old one two three chosen s size is at sized first second a b c =
+    let file = headers_alone little old in
+    let needs = if_there (entries_ranges file) chosen.needs in
+    let definitions = if_there (entries_ranges file) chosen.definitions in
+    let of_needs = uses_by_headers little old one two (λ f. if_there (entries_ranges f) chosen.needs) first b in
+    let of_definitions = uses_by_headers little old two three (λ f. if_there (entries_ranges f) chosen.definitions) (keeps_then old one two first second) c in
+    let requested = whole_section s ++ (needs ++ definitions) in
+    let all : Uses requested old three = uses_then old one three (whole_section s) (needs ++ definitions) a (uses_then one two three needs definitions of_needs of_definitions) in
+    let sure : Uses (versions_ranges_of file chosen s) old three = subst (λ rs. Uses rs old three) (sym (sized_right requested (size_by version_index_layout old.headers.ehdr.class) size s _ sized)) all in
+    let found : Uses (if_there (versions_ranges_of file chosen) chosen.indexes) old three = subst (λ o. Uses (if_there (versions_ranges_of file chosen) o) old three) (sym at) sure in
+    subst (λ ch. Uses (if_there (versions_ranges_of file ch) ch.indexes) old three) is found

@@ -7,4 +7,9 @@ pub mod Bindings
 pub mod Needed
 pub mod Readings
 pub mod Library
+pub mod LibraryRanges
+pub mod SymbolVersions
+pub mod Addresses
+pub mod Search
+pub mod Known
 pub mod inner

@@ -1,7 +1,7 @@
 -- What a reading of a stream gives and leaves.
-use Rattle.std.specs.Prelude.{◌≡◌, Bool, ⊤, ℕ, List, Result, Ok, Err, IfSome, IsErr}
+use Rattle.std.specs.Prelude.{◌≡◌, ◌⊎◌, Bool, ⊤, ℕ, List, Result, Ok, Err, IfSome, IsErr}
 use Rattle.elf_records.specs.declared.parse.ParseError.{ParseError}
-use Rattle.elf.specs.ElfStream.{Keeps, Seen}
+use Rattle.elf.specs.ElfStream.{AreCached, IsCached, IsRequested, Keeps, Seen}
 use Rattle.elf_reading.specs.Refusals.{MayRefuse}
 use Rattle.elf_reading.specs.Refusals.{kind}
 
@@ -15,3 +15,9 @@ pub record Reads {E T Y : Type 0} (old new : Seen E) (r : Result T ParseError) (
     (answer : List ℕ → Result Y ParseError) : Type 0 where
   pub keeps : Keeps old new
   pub given : IfSome old.content (λ bytes. IsRead shown old.can_fail (answer bytes) r)
+
+-- what a reading used: no range is cached that was not cached before and does not lie within one of these; if they were
+-- cached before, the stream is as it was
+pub record Uses {E : Type 0} (requested : List (ℕ × ℕ)) (old new : Seen E) : Type 0 where
+  pub only : (start end : ℕ) → IsCached new start end → IsCached old start end ⊎ IsRequested requested start end
+  pub untouched : AreCached old requested → new ≡ old

@@ -1,8 +1,10 @@
-//! Seven callers of the library, each in a module of its own, with the contract that its user needs: `build_id`,
-//! `functions`, `load_plan`, `hash_lint`, `resolver`, `bindings` and `needed`. The program `elf_cases` prints their
-//! results. `laws` has theorems for their callers.
+//! Ten callers of the library, each in a module of its own, with the contract that its user needs: `build_id`,
+//! `functions`, `load_plan`, `hash_lint`, `resolver`, `bindings`, `needed`, `symbol_versions`, `addresses` and `search`.
+//! The program `elf_cases` prints the results of the first seven. `laws` has theorems for their callers, and `worked` the
+//! definitions of the last three at known values.
 #![tactic(auto)]
 
+pub mod addresses;
 pub mod bindings;
 pub mod build_id;
 pub mod functions;
@@ -11,4 +13,7 @@ pub mod laws;
 pub mod load_plan;
 pub mod needed;
 pub mod resolver;
+pub mod search;
+pub mod symbol_versions;
 pub mod versions;
+pub mod worked;

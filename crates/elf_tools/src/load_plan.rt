@@ -1,5 +1,5 @@
 //! What a loader maps into memory, and at which addresses.
-ghost use Rattle.std.specs.Prelude.{◌≡◌, ◌||◌, [], false, IfErr, IfOk, IsNone, IsOk, OnOk, MatchOption, length};
+ghost use Rattle.std.specs.Prelude.{◌≡◌, ◌||◌, [], false, IfErr, IfOk, IsNone, IsOk, None, Ok, OnOk, MatchOption, length};
 ghost use Rattle.std.specs.List.{list_any};
 ghost use Rattle.elf.specs.ElfBytes.{view};
 ghost use Rattle.elf_reading.specs.Opening.{segment_list};
@@ -101,7 +101,7 @@ fn mappings<E: EndianParse>(
     file: &ElfBytes<'_, E>,
 ) -> Result<Vec<Mapping>, AllocError>
     ensures mappings { IfOk result (λ all. all.items ≡ mappings (segment_list (view file.now).segments)) }
-    ensures none { IsNone (view file.now).segments → IsOk result }
+    ensures none { IsNone (view file.now).segments → IfOk result (λ all. all.items ≡ []) × IsOk result }
 {
     match file.segments() {
         Some(segments) => segments
@@ -115,7 +115,9 @@ fn mappings<E: EndianParse>(
 
 // What is wrong with the first mapping that is not loadable, in a file of this class and length.
 fn first_fault(class: Class, len: usize, all: &[Mapping]) -> Option<PlanError>
-    ensures { MatchOption result (LoadableBefore class len all.now (length all.now)) (IsTrueOf class len all.now) }
+    ensures fault { MatchOption result (LoadableBefore class len all.now (length all.now))
+        (IsTrueOf class len all.now) }
+    ensures none { all.now ≡ [] → IsNone result }
 {
     for (place, mapping) in all.iter().enumerate() {
         if !mapping.fits() {
@@ -170,7 +172,7 @@ fn add(ranges: &mut BTreeMap<u64, u64>, mapping: &Mapping) -> Result<(), AllocEr
 fn first_overlap(alloc: Global, all: &[Mapping]) -> Result<Option<usize>, AllocError>
     ensures overlap { IfOk result (λ found.
         MatchOption found (ApartBefore all.now (length all.now)) (IsFirstOverlap all.now)) }
-    ensures none { all.now ≡ [] → IsOk result }
+    ensures none { all.now ≡ [] → result ≡ Ok None }
 {
     let mut ranges = BTreeMap::new(alloc);
     for (place, mapping) in all.iter().enumerate() {
@@ -187,7 +189,7 @@ fn first_overlap(alloc: Global, all: &[Mapping]) -> Result<Option<usize>, AllocE
 /// Errors, in order: `Memory` if an allocation failed; of the first mapping for which one of them holds, `FileSize` if
 /// it has more bytes in the file than in memory, `OutsideFile` if its bytes do not lie in the file, and `AddressSpace`
 /// if it ends past the last address of the file's class; `Overlap` with the first mapping that shares an address with
-/// an earlier one. A file without segments has an empty plan.
+/// an earlier one. A file without segments has an empty plan, and no error.
 pub fn load_plan<E: EndianParse>(
     alloc: Global,
     file: &ElfBytes<'_, E>,
@@ -196,6 +198,7 @@ pub fn load_plan<E: EndianParse>(
         IfOk result (λ plan. (plan.items ≡ all) × IsPlan file.now.ehdr.class (length (view file.now).bytes) all) }
     ensures refused { let all = mappings (segment_list (view file.now).segments) in
         IfErr result (IsTrueOf file.now.ehdr.class (length (view file.now).bytes) all) }
+    ensures none { IsNone (view file.now).segments → IsOk result }
 {
     let plan = mappings(alloc, file)?;
     let len = file.data().len();

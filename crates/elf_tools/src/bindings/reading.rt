@@ -1,6 +1,7 @@
 //! Reading a library from a stream.
 ghost use Rattle.std.specs.Prelude.{◌≡◌, IfErr, IfOk, IfSome, IsNone, IsOk, Some};
 ghost use Rattle.std.specs.Option.{option_map};
+ghost use Rattle.elf_abi.specs.Values.{sht_dynsym};
 ghost use Rattle.elf_records.specs.Number.{ok_map};
 ghost use Rattle.elf.specs.Answers.{dynamic_symbol_table, symbol_version_table};
 ghost use Rattle.elf.specs.Answers.{symbols_in as symbols_in_file};
@@ -9,11 +10,13 @@ ghost use Rattle.elf.specs.ElfStream.{Keeps};
 ghost use Rattle.elf_reading.specs.Refusals.{Kind, kind};
 ghost use Rattle.elf_reading.specs.Versions.{version_sections};
 ghost use Rattle.elf.specs.Headers.{if_found, section_range};
+ghost use Rattle.elf.specs.Ranges.{both_sections, headers_alone, if_there, section_ranges, symbols_ranges, whole_section};
 ghost use Rattle.elf.specs.StreamFile.{stream_file};
 ghost use Rattle.elf.specs.Versions.{linked_strings, version_definitions, version_needs};
 ghost use Rattle.elf_tools.specs.Library.{definitions_in, hash_in, hash_of, hash_section, needs_in, symbols_in};
 ghost use Rattle.elf_tools.specs.Library.{IsLibraryOf, IsOpened, versions_in};
-ghost use Rattle.elf_tools.specs.Readings.{Reads};
+ghost use Rattle.elf_tools.specs.LibraryRanges.{entries_ranges, hash_ranges, library_ranges, linked_ranges, versions_read};
+ghost use Rattle.elf_tools.specs.Readings.{Reads, Uses};
 
 use crate::bindings::library::{EntryBytes, HashBytes, Library, SymbolBytes, VersionBytes};
 use elf::endian::EndianParse;
@@ -39,8 +42,9 @@ fn read_data<E: EndianParse, S: StreamSource>(
     stream: &mut ElfStream<E, S, Global>,
     section: &SectionHeader,
 ) -> Result<Vec<u8>, ParseError>
-    ensures { Reads stream.old stream.new result (λ copy. copy.items)
+    ensures reads { Reads stream.old stream.new result (λ copy. copy.items)
         (λ bytes. content (stream_file E.little stream.old bytes) section.now) }
+    ensures used { Uses (section_ranges section.now) stream.old stream.new }
 {
     match stream.section_data(section) {
         Ok((bytes, _)) => copied(alloc, bytes),
@@ -55,7 +59,8 @@ fn read_range<E: EndianParse, S: StreamSource>(
     stream: &mut ElfStream<E, S, Global>,
     section: &SectionHeader,
 ) -> Result<Vec<u8>, ParseError>
-    ensures { Reads stream.old stream.new result (λ copy. copy.items) (λ bytes. section_range bytes section.now) }
+    ensures reads { Reads stream.old stream.new result (λ copy. copy.items) (λ bytes. section_range bytes section.now) }
+    ensures used { Uses (whole_section section.now) stream.old stream.new }
 {
     let whole = SectionHeader {
         sh_type: abi::SHT_PROGBITS,
@@ -71,8 +76,9 @@ fn read_linked<E: EndianParse, S: StreamSource>(
     stream: &mut ElfStream<E, S, Global>,
     section: &SectionHeader,
 ) -> Result<Vec<u8>, ParseError>
-    ensures { Reads stream.old stream.new result (λ copy. copy.items)
+    ensures reads { Reads stream.old stream.new result (λ copy. copy.items)
         (λ bytes. linked_strings (stream_file E.little stream.old bytes) section.now) }
+    ensures used { Uses (linked_ranges ((headers_alone E.little stream.old).section_at section.now.sh_link)) stream.old stream.new }
 {
     match stream.section_at(section.sh_link as usize) {
         Ok(linked) => read_range(alloc, stream, &linked),
@@ -87,8 +93,9 @@ fn read_hash_of<E: EndianParse, S: StreamSource>(
     kind: HashKind,
     section: &SectionHeader,
 ) -> Result<Option<HashBytes>, ParseError>
-    ensures { Reads stream.old stream.new result (option_map hash_in)
+    ensures reads { Reads stream.old stream.new result (option_map hash_in)
         (λ bytes. ok_map Some (hash_of kind (stream_file E.little stream.old bytes) section.now)) }
+    ensures used { Uses (section_ranges section.now) stream.old stream.new }
 {
     match read_data(alloc, stream, section) {
         Ok(section) => Ok(Some(HashBytes { kind, section })),
@@ -101,8 +108,9 @@ fn read_hash<E: EndianParse, S: StreamSource>(
     alloc: Global,
     stream: &mut ElfStream<E, S, Global>,
 ) -> Result<Option<HashBytes>, ParseError>
-    ensures { Reads stream.old stream.new result (option_map hash_in)
+    ensures reads { Reads stream.old stream.new result (option_map hash_in)
         (λ bytes. hash_section (stream_file E.little stream.old bytes)) }
+    ensures used { Uses (hash_ranges (headers_alone E.little stream.old)) stream.old stream.new }
 {
     if let Some(section) = stream.first_section_of(abi::SHT_GNU_HASH) {
         return read_hash_of(alloc, stream, HashKind::Gnu, &section);
@@ -120,9 +128,10 @@ fn read_symbols_of<E: EndianParse, S: StreamSource>(
     section: &SectionHeader,
     linked: &SectionHeader,
 ) -> Result<SymbolBytes, ParseError>
-    ensures { Reads stream.old stream.new result
+    ensures reads { Reads stream.old stream.new result
         (symbols_in (E.little stream.old.headers.ehdr.endianness) stream.old.headers.ehdr.class)
         (λ bytes. symbols_in_file (stream_file E.little stream.old bytes) (section.now, linked.now)) }
+    ensures used { Uses (both_sections (section.now, linked.now)) stream.old stream.new }
 {
     let symbols = read_range(alloc, stream, section)?;
     let strings = read_range(alloc, stream, linked)?;
@@ -134,9 +143,10 @@ fn read_symbols<E: EndianParse, S: StreamSource>(
     alloc: Global,
     stream: &mut ElfStream<E, S, Global>,
 ) -> Result<Option<SymbolBytes>, ParseError>
-    ensures { Reads stream.old stream.new result
+    ensures reads { Reads stream.old stream.new result
         (option_map (symbols_in (E.little stream.old.headers.ehdr.endianness) stream.old.headers.ehdr.class))
         (λ bytes. dynamic_symbol_table (stream_file E.little stream.old bytes)) }
+    ensures used { Uses (symbols_ranges sht_dynsym (headers_alone E.little stream.old)) stream.old stream.new }
 {
     match stream.symbol_sections(abi::SHT_DYNSYM) {
         Ok(Some((section, linked))) => {
@@ -160,6 +170,7 @@ fn read_entries<E: EndianParse, S: StreamSource>(
     ensures definitions { Reads stream.old stream.new result
         (definitions_in (E.little stream.old.headers.ehdr.endianness) stream.old.headers.ehdr.class)
         (λ bytes. version_definitions (stream_file E.little stream.old bytes) section.now) }
+    ensures used { Uses (entries_ranges (headers_alone E.little stream.old) section.now) stream.old stream.new }
 {
     let entries = read_range(alloc, stream, section)?;
     let strings = read_linked(alloc, stream, section)?;
@@ -183,6 +194,7 @@ fn read_entries_if<E: EndianParse, S: StreamSource>(
     ensures definitions { Reads stream.old stream.new result
         (option_map (definitions_in (E.little stream.old.headers.ehdr.endianness) stream.old.headers.ehdr.class))
         (λ bytes. if_found (version_definitions (stream_file E.little stream.old bytes)) section) }
+    ensures used { Uses (if_there (entries_ranges (headers_alone E.little stream.old)) section) stream.old stream.new }
 {
     match section {
         Some(section) => {
@@ -202,6 +214,7 @@ fn read_versions<E: EndianParse, S: StreamSource>(
         (option_map (versions_in (E.little stream.old.headers.ehdr.endianness) stream.old.headers.ehdr.class))
         (λ bytes. symbol_version_table (stream_file E.little stream.old bytes)) }
     ensures none { IsNone (version_sections stream.old.headers.sections).indexes → IsOk result }
+    ensures used { Uses (versions_read (headers_alone E.little stream.old)) stream.old stream.new }
 {
     let chosen = stream.version_sections();
     let Some(section) = chosen.indexes else {
@@ -220,6 +233,9 @@ fn read_versions<E: EndianParse, S: StreamSource>(
 
 /// Reads the parts of a file by which symbols are bound. A part that cannot be read has the error in its place. If no
 /// section has version indexes, there are no versions, and there is no error of reading them.
+///
+/// Of the stream it requests the hash section, the dynamic symbols, and the sections of versions, each with its strings.
+/// No other range is cached. If these were cached before, the stream is unchanged.
 pub fn read_library<E: EndianParse, S: StreamSource>(
     alloc: Global,
     stream: &mut ElfStream<E, S, Global>,
@@ -228,6 +244,7 @@ pub fn read_library<E: EndianParse, S: StreamSource>(
     ensures parts { IfSome stream.old.content (λ bytes.
         IsLibraryOf E.little stream.old.can_fail (stream_file E.little stream.old bytes) result) }
     ensures no_versions { IsNone (version_sections stream.old.headers.sections).indexes → IsOk result.versions }
+    ensures used { Uses (library_ranges (headers_alone E.little stream.old)) stream.old stream.new }
 {
     let endianness = stream.ehdr.endianness;
     let class = stream.ehdr.class;

@@ -1,0 +1,36 @@
+-- The first of the bytes whose sequences are replaced.
+use Rattle.std.proofs.Common.{◌≡◌, ℕ, zero, suc, ◌+◌, ◌-◌, ◌<◌, true, false, ◌==◌, List, [], ◌∷◌, ◌++◌, length, refl, sym, ap, ◌∙◌, arith, get_or, drop}
+use Rattle.std.specs.Prelude.{cond, take}
+use Rattle.elf_tools.specs.Search.{expanded_after, sequence_length}
+
+module _ (folder : List ℕ) where
+  pub skips_first : (bytes : List ℕ) (skip : ℕ) → 0 < length bytes → 0 < skip → expanded_after folder skip bytes ≡ expanded_after folder (skip - 1) (drop 1 bytes)
+  skips_first [] skip some left = absurd (omega (arith, some))
+  skips_first (b ∷ bytes) zero some left = absurd (omega (arith, left))
+  skips_first (b ∷ bytes) (suc n) some left = let same : suc n - 1 ≡ n = omega arith in ap (λ k. expanded_after folder k bytes) (sym same)
+
+  pub keeps_first : (bytes : List ℕ) (d : ℕ) → 0 < length bytes → (sequence_length bytes == 0) ≡ true → expanded_after folder 0 bytes ≡ get_or bytes 0 d ∷ expanded_after folder 0 (drop 1 bytes)
+  keeps_first [] d some none = absurd (omega (arith, some))
+  keeps_first (b ∷ bytes) d some none = ap (λ t. cond t (b ∷ expanded_after folder 0 bytes) (folder ++ expanded_after folder (sequence_length (b ∷ bytes) - 1) bytes)) none
+
+  pub replaces_first : (bytes : List ℕ) → 0 < length bytes → (sequence_length bytes == 0) ≡ false → expanded_after folder 0 bytes ≡ folder ++ expanded_after folder (sequence_length bytes - 1) (drop 1 bytes)
+  replaces_first [] some none = absurd (omega (arith, some))
+  replaces_first (b ∷ bytes) some none = ap (λ t. cond t (b ∷ expanded_after folder 0 bytes) (folder ++ expanded_after folder (sequence_length (b ∷ bytes) - 1) bytes)) none
+
+dropped : {X : Type 0} (xs : List X) (n : ℕ) → drop 1 (drop n xs) ≡ drop (suc n) xs
+dropped [] zero = refl
+dropped [] (suc n) = refl
+dropped (x ∷ xs) zero = refl
+dropped (x ∷ xs) (suc n) = dropped xs n
+
+pub drop_next : {X : Type 0} (xs : List X) (n : ℕ) → drop 1 (drop n xs) ≡ drop (n + 1) xs
+drop_next xs n = let next : suc n ≡ n + 1 = omega arith in dropped xs n ∙ ap (λ k. drop k xs) next
+
+all_taken : {X : Type 0} (xs : List X) → take (length xs) xs ≡ xs
+all_taken [] = refl
+all_taken (x ∷ xs) = ap (λ l. x ∷ l) (all_taken xs)
+
+pub rest_taken : {X : Type 0} (xs : List X) (n : ℕ) → take (length xs - n) (drop n xs) ≡ drop n xs
+rest_taken xs zero = let whole : length xs - 0 ≡ length xs = omega arith in ap (λ k. take k xs) whole ∙ all_taken xs
+rest_taken {X} [] (suc n) = let none : 0 - suc n ≡ 0 = omega arith in ap (λ k. take {A = X} k []) none
+rest_taken (x ∷ xs) (suc n) = let fewer : suc (length xs) - suc n ≡ length xs - n = omega arith in ap (λ k. take k (drop n xs)) fewer ∙ rest_taken xs n

@@ -1,0 +1,92 @@
+-- The version of a symbol, as it is written after the symbol's name (GNU symbol versioning; LSB, "Symbol Versioning").
+use Rattle.std.specs.Prelude.{ℕ, ◌==◌, if◌then◌else◌, nat_lt, not, Bool, bit_and, List, [], ◌∷◌, Option, Some, None}
+use Rattle.std.specs.Prelude.{map, ok_or, Result, Ok, Err}
+use Rattle.std.specs.List.{enumerate_from}
+use Rattle.std.specs.Option.{option_map}
+use Rattle.elf_abi.specs.Values.{ver_flg_base}
+use Rattle.elf_records.specs.Number.{ok_map}
+use Rattle.elf_records.specs.Record.{◌>>=◌}
+use Rattle.elf_records.specs.declared.parse.ParseError.{ParseError}
+use Rattle.elf_records.specs.declared.symbol.Symbol.{Symbol}
+use Rattle.elf_parts.specs.gnu_symver.Records.{version_index}
+use Rattle.elf_parts.specs.gnu_symver.Table.{Definition, Requirement, Versions, definition, requirement}
+use Rattle.elf_parts.specs.declared.gnu_symver.records.VersionIndex.{VersionIndex}
+use Rattle.elf_binding.specs.Binding.{text_of, unreadable, version_index_of}
+use Rattle.elf_binding.specs.declared.Unreadable.{Unreadable}
+use Rattle.elf_tools.specs.declared.symbol_versions.SymbolVersion.{SymbolVersion}
+use Rattle.elf_tools.specs.declared.symbol_versions.SymbolVersion.TheVariants as code
+use Rattle.elf_tools.specs.declared.symbol_versions.VersionedSymbol.{VersionedSymbol}
+
+-- a version of another file, by the name of that file and its own; or one of the file itself, by its name and whether a
+-- reference without a version binds to it
+pub data WrittenVersion : Type 0 where
+  Needed : List ℕ → List ℕ → WrittenVersion
+  Defined : List ℕ → Bool → WrittenVersion
+
+abbrev pub version_view : SymbolVersion → WrittenVersion
+version_view (code.Needed file name) = WrittenVersion.Needed file.now name.now
+version_view (code.Defined name is_default) = WrittenVersion.Defined name.now is_default
+
+-- ---- of a definition
+
+-- its first name; a symbol whose version index is hidden does not have the default version
+abbrev pub defined_by_name : ℕ → Bool → List (Result (List ℕ) ParseError) → Result (Option WrittenVersion) Unreadable
+defined_by_name i hidden [] = Err (unreadable i)
+defined_by_name i hidden (name ∷ others) =
+    ok_or (option_map (λ text. Some (WrittenVersion.Defined text (not hidden))) (text_of name)) (unreadable i)
+
+-- what is defined for the file itself (VER_FLG_BASE) is no version
+abbrev pub defined : ℕ → Definition → Result (Option WrittenVersion) Unreadable
+defined i d = if bit_and d.flags ver_flg_base == 0 then defined_by_name i d.hidden d.names else Ok None
+
+-- ---- of a need
+
+abbrev pub needed_by_names : ℕ → Option (List ℕ) → Option (List ℕ) → Result (Option WrittenVersion) Unreadable
+needed_by_names i (Some file) (Some name) = Ok (Some (WrittenVersion.Needed file name))
+needed_by_names i (Some file) None = Err (unreadable i)
+needed_by_names i None name = Err (unreadable i)
+
+-- a version index that no definition and no need has names nothing
+abbrev pub needed : ℕ → Result (Option Requirement) ParseError → Result (Option WrittenVersion) Unreadable
+needed i (Ok (Some r)) = needed_by_names i (text_of r.file) (text_of r.name)
+needed i (Ok None) = Err (unreadable i)
+needed i (Err e) = Err (unreadable i)
+
+-- ---- of a symbol
+
+-- by the definition with its version index, or if there is none by the need with it. A symbol that is defined may have
+-- its version among the needs: it is the copy of one of another file.
+abbrev pub version_by : ℕ → Result (Option Definition) ParseError → Result (Option Requirement) ParseError →
+    Result (Option WrittenVersion) Unreadable
+version_by i (Ok (Some d)) need = defined i d
+version_by i (Ok None) need = needed i need
+version_by i (Err e) need = Err (unreadable i)
+
+-- the version indexes 0 (VER_NDX_LOCAL) and 1 (VER_NDX_GLOBAL) say that a symbol has no version
+abbrev pub version_with : Versions → ℕ → VersionIndex → Result (Option WrittenVersion) Unreadable
+version_with versions i index =
+    if nat_lt (version_index index) 2 then Ok None
+    else version_by i (definition versions i) (requirement versions i)
+
+abbrev pub version_of_symbol : Versions → ℕ → Result (Option WrittenVersion) Unreadable
+version_of_symbol versions i = version_index_of versions i >>= version_with versions i
+
+-- a file without versions has symbols without versions
+abbrev pub version_in : Option Versions → ℕ → Result (Option WrittenVersion) Unreadable
+version_in (Some versions) i = version_of_symbol versions i
+version_in None i = Ok None
+
+-- ---- of all symbols
+
+abbrev pub SymbolWithVersion : Type 0
+SymbolWithVersion = Symbol × Result (Option WrittenVersion) Unreadable
+
+abbrev pub symbol_view : VersionedSymbol → SymbolWithVersion
+symbol_view one = (one.symbol, ok_map (option_map version_view) one.version)
+
+abbrev pub with_version : Option Versions → ℕ × Symbol → SymbolWithVersion
+with_version versions one = (one.1, version_in versions one.0)
+
+-- each symbol with its version, in order
+abbrev pub versioned_symbols : Option Versions → List Symbol → List SymbolWithVersion
+versioned_symbols versions symbols = map (with_version versions) (enumerate_from 0 symbols)

@@ -1,0 +1,153 @@
+//! The symbols of a file by address: which one lies at an address, or before it.
+ghost use Rattle.std.specs.Prelude.{◌≡◌, ◌≤◌, ◌<◌, ℕ, IfOk, length, slice_index_or, take};
+ghost use Rattle.elf_records.specs.Symbol.{symbol_reads};
+ghost use Rattle.elf_records.specs.Table.{table_items, table_view};
+ghost use Rattle.elf_tools.specs.Addresses.{IsByAddress, has_address, located, located_symbols, nearest, nearest_of};
+ghost use Rattle.elf_tools.specs.Addresses.{starts_before};
+ghost use Rattle.elf_tools.specs.declared.addresses.Located.{Located};
+
+use elf::abi;
+use elf::endian::EndianParse;
+use elf::symbol::{Symbol, SymbolTable};
+use std::alloc::{AllocError, Global};
+use std::marker::Model;
+
+/// A symbol that has an address: its index in its table, counted from 0, its address, and its size in bytes.
+#[derive(Debug, Clone, Copy)]
+pub struct Located {
+    pub symbol: usize,
+    pub address: u64,
+    pub size: u64,
+}
+
+/// The last symbol that starts at an address or before it.
+#[derive(Debug, Clone, Copy)]
+pub struct Nearest {
+    /// Its index in its table, counted from 0.
+    pub symbol: usize,
+    /// The number of bytes from its start to the address.
+    pub distance: u64,
+    /// Whether its size reaches past the address, so that the address is one of its bytes.
+    pub is_inside: bool,
+}
+
+/// The symbols of a table that have an address, in ascending order of their addresses. Symbols with one address are in
+/// the order of the table.
+#[derive(Debug, Drop)]
+pub struct Addresses {
+    symbols: Vec<Located>,
+}
+
+impl Model for Addresses {
+    ghost use Rattle.std.specs.Prelude.{List};
+    ghost use Rattle.std.specs.List.Sorted.{IsNonDecreasingBy};
+    ghost use Rattle.elf_tools.specs.declared.addresses.Located.{Located};
+
+    ghost Value = { List Located };
+
+    ghost view = { λ s. s.symbols.items };
+
+    ghost invariant = { λ s. IsNonDecreasingBy (λ (one : Located). one.address) s.symbols.items };
+}
+
+/// Whether the symbol has an address: it is an object (`STT_OBJECT`), a function (`STT_FUNC`) or a function that is
+/// chosen when the file is loaded (`STT_GNU_IFUNC`), and a section of the file defines it. An absolute symbol
+/// (`SHN_ABS`) has a value that is no address, and that of a common one (`SHN_COMMON`) is an alignment.
+pub fn has_address(symbol: &Symbol) -> bool
+    ensures { result ≡ has_address symbol.now }
+{
+    let symtype = symbol.st_symtype();
+    let section = symbol.st_shndx;
+    let is_placed = symtype == abi::STT_OBJECT
+        || symtype == abi::STT_FUNC
+        || symtype == abi::STT_GNU_IFUNC;
+    is_placed && section != abi::SHN_UNDEF && section != abi::SHN_ABS && section != abi::SHN_COMMON
+}
+
+impl Located {
+    fn new(symbol: usize, found: &Symbol) -> Self
+        ensures { result ≡ located (symbol, found.now) }
+    {
+        Located {
+            symbol,
+            address: found.st_value,
+            size: found.st_size,
+        }
+    }
+
+    // What is known of an address at which the symbol starts, or before which it starts.
+    fn nearest(&self, address: u64) -> Nearest
+        requires { self.now.address ≤ address }
+        ensures { result ≡ nearest_of address self.now }
+    {
+        let distance = address - self.address;
+        Nearest {
+            symbol: self.symbol,
+            distance,
+            is_inside: distance < self.size,
+        }
+    }
+}
+
+// The symbols of a table that have an address, in its order.
+fn located_symbols<E: EndianParse>(
+    alloc: Global,
+    symbols: &SymbolTable<'_, E>,
+) -> Result<Vec<Located>, AllocError>
+    ensures { IfOk result (λ found. found.items ≡ located_symbols (table_items symbol_reads (table_view symbols.now))) }
+{
+    symbols
+        .iter()
+        .enumerate()
+        .filter(|one| has_address(&one.1))
+        .map(|one| Located::new(one.0, &one.1))
+        .collect(alloc)
+}
+
+impl Addresses {
+    /// Returns the symbols of a table that have an address, sorted by it. The only error is a failed allocation. The
+    /// time is the number of symbols times its logarithm.
+    ///
+    /// In a relocatable file (`ET_REL`) the values of symbols are offsets in their sections, and no addresses.
+    pub fn new<E: EndianParse>(
+        alloc: Global,
+        symbols: &SymbolTable<'_, E>,
+    ) -> Result<Self, AllocError>
+        ensures { IfOk result (λ map.
+            IsByAddress (located_symbols (table_items symbol_reads (table_view symbols.now))) map) }
+    {
+        let mut symbols = located_symbols(alloc, symbols)?;
+        symbols.sort_by_key(|one| one.address)?;
+        Ok(Addresses { symbols })
+    }
+
+    /// Returns the symbols, sorted by address.
+    pub fn symbols(&self) -> &[Located]
+        ensures { result.now ≡ self.now }
+    {
+        &self.symbols
+    }
+
+    // The number of symbols that start at an address or before it: they are the first ones.
+    fn count_before(&self, address: u64) -> usize
+        ensures first { starts_before address self.now ≡ take result self.now }
+        ensures bound { result ≤ length self.now }
+        ensures before { (k : ℕ) (d : Located) → k < result → (slice_index_or self.now k d).address ≤ address }
+    {
+        self.symbols.partition_point(|one| one.address <= address)
+    }
+
+    /// Returns the last symbol, in the order by address, that starts at this address or before it, with its distance
+    /// and whether its size reaches past the address. Of several symbols with one address this is the one that comes
+    /// last in the table; a table has its local symbols first, so a global one is preferred. Returns `None` if each
+    /// symbol starts after the address. The time grows with the logarithm of the number of symbols.
+    pub fn find(&self, address: u64) -> Option<Nearest>
+        ensures { result ≡ nearest address self.now }
+    {
+        let count = self.count_before(address);
+        if count == 0 {
+            return None;
+        }
+        Some(self.symbols[count - 1].nearest(address))
+    }
+}
