@@ -10,7 +10,9 @@ use Rattle.elf.specs.StreamFile.{stream_file}
 use Rattle.elf.specs.ObjectFile.{object_file}
 use Rattle.elf.specs.Readers.{AreAlike, SameAnswers}
 use Rattle.elf_reading.specs.Opening.{opened}
-use Rattle.elf.specs.ElfStream.{StreamHeaders, IsAnswer, IsOfFile, Keeps, Leaves, Seen, headers_of}
+use Rattle.elf.specs.ElfStream.{IsOfFile, Keeps, Leaves, Seen}
+use Rattle.elf_reading.specs.Opening.{StreamHeaders, headers_of}
+use Rattle.elf_reading.specs.Refusals.{IsAnswer}
 use Rattle.elf_reading.specs.Refusals.{IsRefused, Kind, kind}
 use Rattle.elf.specs.ElfBytes.{with_header}
 use Rattle.elf_reading.specs.Opening.{View}

@@ -25,7 +25,8 @@ use Rattle.elf.specs.Data.{section_data}
 use Rattle.elf.specs.Headers.{section_at, section_range}
 use Rattle.elf.specs.Readers.{AreAlike, Method, SameAnswers, answer}
 use Rattle.elf.specs.Readers.{Dynamic, DynamicSymbolTable, SectionData, SectionDataAsNotes, SectionDataAsRelas, SectionDataAsRels, SectionDataAsStrtab, SectionHeaderByName, SectionHeadersWithStrtab, SegmentData, SegmentDataAsNotes, SymbolTable, SymbolVersionTable}
-use Rattle.elf.specs.ElfStream.{Seen, headers_of}
+use Rattle.elf.specs.ElfStream.{Seen}
+use Rattle.elf_reading.specs.Opening.{headers_of}
 use Rattle.elf.specs.Versions.{linked_strings, version_definitions, version_indexes, version_needs, versions_of}
 use Rattle.elf_reading.specs.Versions.{version_sections}
 use Rattle.elf.specs.ElfBytes.{with_header}

@@ -1,12 +1,8 @@
 pub mod Pieces
 pub mod Loads
-pub mod Reads
-pub mod Located
 pub mod Opened
 pub mod Steps
-pub mod Chains
-pub mod Plain
-pub mod Parts
 pub mod Lent
 pub mod Needs
 pub mod Planned
+pub mod SectionAt

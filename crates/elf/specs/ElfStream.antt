@@ -1,24 +1,14 @@
 -- What contracts see of an `ElfStream`, and what a call of it leaves and answers.
 use Rattle.std.specs.Prelude.{◌≡◌, ℕ, ◌+◌, ◌⊎◌, Bool, IsTrue, List, [], ◌∷◌, map}
-use Rattle.std.specs.Prelude.{Option, Result, Ok, Err, IfSome, OnOk, IfErr, IsOk, IsErr, is_some}
+use Rattle.std.specs.Prelude.{Option, Result, Ok, Err, IfSome, OnOk, IfErr, IsOk, IsErr}
 use Rattle.elf_records.specs.Number.{bytes_at}
 use Rattle.elf_records.specs.declared.file.FileHeader.{FileHeader}
 use Rattle.elf_records.specs.declared.parse.ParseError.{ParseError}
-use Rattle.elf_records.specs.declared.section.SectionHeader.{SectionHeader}
-use Rattle.elf_records.specs.declared.segment.ProgramHeader.{ProgramHeader}
 use Rattle.elf_reading.specs.Opening.{opened}
 use Rattle.elf.specs.ElfBytes.{with_header}
-use Rattle.elf_reading.specs.Opening.{View, section_list, segment_list}
+use Rattle.elf_reading.specs.Opening.{StreamHeaders, View, headers_of}
 use Rattle.elf_reading.specs.Cache.{is_cached}
-use Rattle.elf_reading.specs.Refusals.{IsRefused, Kind, SourceFailure, AllocationFailure, Refusal, kind}
-
--- the headers of a file, in memory: the file header as it is now, whether a table of section headers is declared, the
--- section headers, and the program headers
-pub record StreamHeaders (E : Type 0) : Type 0 where
-  pub ehdr : FileHeader E
-  pub declares_sections : Bool
-  pub sections : List SectionHeader
-  pub segments : List ProgramHeader
+use Rattle.elf_reading.specs.Refusals.{AllocationFailure, IsAnswer, Kind, MayRefuse, Refusal, SourceFailure, kind}
 
 -- a stream: the content of its source, if known, whether the source can fail and how often it did; its headers; and the
 -- ranges of the source that are cached, each by its start and its end
@@ -30,15 +20,6 @@ pub record Seen (E : Type 0) : Type 0 where
   pub cached : List (ℕ × ℕ)
 
 -- ---- its headers
-
--- the headers of a file that was opened
-abbrev pub headers_of : {E : Type 0} → View E → StreamHeaders E
-headers_of v = record {
-  ehdr = v.ehdr;
-  declares_sections = is_some v.sections;
-  sections = section_list v.sections;
-  segments = segment_list v.segments;
-}
 
 -- the stream is of the file that these bytes hold: its tables are those that the opening gives, whatever header is
 -- in it now
@@ -67,14 +48,6 @@ pub record Keeps {E : Type 0} (old new : Seen E) : Type 0 where
   pub can_fail : new.can_fail ≡ old.can_fail
   pub headers : new.headers ≡ old.headers
   pub cached : (start end : ℕ) → IsCached old start end → IsCached new start end
-
--- ---- what a call answers
-
--- the answer that the content gives, or an error; if the content's answer is an error, an error of any kind
-abbrev pub IsAnswer :
-    {T Y : Type 0} → (T → Y) → Result Y ParseError → Bool → ℕ → ℕ → Result T ParseError → Type 0
-IsAnswer shown answer can_fail before now (Ok x) = (now ≡ before) × (answer ≡ Ok (shown x))
-IsAnswer shown answer can_fail before now (Err e) = IsRefused before now can_fail (IsErr answer) (kind e)
 
 -- ---- what a call leaves
 
@@ -105,12 +78,6 @@ pub record Leaves {E T Y : Type 0} (requested : List (ℕ × ℕ)) (shown : T �
   pub needed : IfSome old.content (λ bytes. IfErr r (λ e. IsFor (IsNeeded bytes new requested) (kind e)))
 
 -- ---- what an opening answers
-
--- as IsRefused, of a source that is dropped with the error; memory is allocated only for a file that opens
-abbrev pub MayRefuse : Bool → Type 0 → Type 0 → Kind → Type 0
-MayRefuse can_fail some none SourceFailure = IsTrue can_fail
-MayRefuse can_fail some none AllocationFailure = some
-MayRefuse can_fail some none Refusal = none
 
 -- a stream with the headers that the content gives, over a source that did not fail; or an error
 abbrev pub IsOpening :

@@ -4,7 +4,8 @@ use Rattle.elf_records.specs.declared.parse.ParseError.{ParseError}
 use Rattle.elf_records.specs.declared.parse.ParseError.TheVariants.{BadOffset}
 use Rattle.elf_records.specs.declared.section.SectionHeader.{SectionHeader}
 use Rattle.elf.specs.ObjectFile.{ObjectFile}
-use Rattle.elf.specs.ElfStream.{StreamHeaders, Seen}
+use Rattle.elf.specs.ElfStream.{Seen}
+use Rattle.elf_reading.specs.Opening.{StreamHeaders}
 
 -- member i of the list, or that there is none
 abbrev pub listed_at : List SectionHeader → ℕ → Result SectionHeader ParseError

@@ -2,5 +2,3 @@ pub mod Passes
 pub mod Plans
 pub mod Opened
 pub mod Loads
-pub mod HeaderSteps
-pub mod Reads

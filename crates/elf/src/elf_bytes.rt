@@ -72,7 +72,7 @@ impl<'data, E: EndianParse> ElfBytes<'data, E> {
         segments: Option<SegmentTable<'data, E>>,
     ) -> Self
         ensures { view result ≡ record {
-          ehdr = ehdr.entry;
+          ehdr = ehdr;
           bytes = «data».now;
           sections = option_map table_view sections.entry;
           segments = option_map table_view segments.entry;

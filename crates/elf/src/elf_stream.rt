@@ -4,7 +4,9 @@ ghost use Rattle.std.specs.Prelude.{IfSome, Ok, IsOk, length, take, drop, [], â—
 ghost use Rattle.elf_records.specs.Number.{bytes_at, ok_map};
 ghost use Rattle.elf.specs.Ranges.{range_of_section, range_of_segment};
 ghost use Rattle.elf_reading.specs.Opening.{opened};
-ghost use Rattle.elf.specs.ElfStream.{IsAnswer, IsFor, IsOfFile, headers_of, Keeps, IsCached, IsOpening};
+ghost use Rattle.elf.specs.ElfStream.{IsFor, IsOfFile, Keeps, IsCached, IsOpening};
+ghost use Rattle.elf_reading.specs.Refusals.{IsAnswer};
+ghost use Rattle.elf_reading.specs.Opening.{headers_of};
 ghost use Rattle.elf_reading.specs.Refusals.{Kind, kind};
 ghost use Rattle.elf.specs.ElfStream.{IsRequested};
 ghost use Rattle.elf.specs.inner.Loads.{Loads};
@@ -15,6 +17,7 @@ use elf_parts::parse::ParseError;
 use elf_parts::section::SectionHeader;
 use elf_parts::segment::ProgramHeader;
 use elf_reading::cache::Cache;
+use elf_reading::opening::open_source;
 use elf_reading::reads::fetch;
 use elf_reading::source::StreamSource;
 use std::alloc::Allocator;
@@ -24,12 +27,9 @@ mod data;
 mod dynamic;
 mod headers;
 mod names;
-mod opening;
 mod segments;
 mod symbols;
 mod versions;
-
-use opening::{locate_phdrs, locate_shdrs, read_ehdr, read_records};
 
 /// An ELF file that is read from a source as calls need its bytes. Opening it reads its header and its two tables of
 /// headers. What later calls read is cached.
@@ -101,23 +101,15 @@ impl<E: EndianParse, S: StreamSource, A: Allocator + Copy> ElfStream<E, S, A> {
         ensures opening { IfSome (S.content reader) (Î» bytes. IsOpening
             (ok_map headers_of (opened E.little E.of_byte bytes)) (S.can_fail reader) (S.failures reader) result) }
     {
-        let len = match reader.seek_end() {
-            Ok(len) => len,
-            Err(e) => return Err(ParseError::IOError(e)),
-        };
-        let ehdr = read_ehdr(&mut reader, len)?;
-        let sections = locate_shdrs(&mut reader, len, &ehdr)?;
-        let segments = locate_phdrs(&mut reader, len, &ehdr)?;
-        let shdrs = read_records(alloc, &mut reader, &ehdr, sections)?;
-        let phdrs = read_records(alloc, &mut reader, &ehdr, segments)?;
+        let found = open_source(alloc, &mut reader)?;
         Ok(ElfStream {
-            ehdr,
-            declares_sections: sections.is_some(),
-            shdrs,
-            phdrs,
+            ehdr: found.ehdr,
+            declares_sections: found.declares_sections,
+            shdrs: found.shdrs,
+            phdrs: found.phdrs,
             alloc,
             source: reader,
-            len,
+            len: found.len,
             cache: Cache::new(alloc),
         })
     }

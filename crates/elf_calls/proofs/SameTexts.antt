@@ -18,7 +18,8 @@ use Rattle.elf.specs.StreamFile.{stream_file}
 use Rattle.elf.specs.ObjectFile.{ObjectFile, object_file}
 use Rattle.elf.specs.Readers.{AreAlike, SameAnswers}
 use Rattle.elf.specs.Readers as readers
-use Rattle.elf.specs.ElfStream.{Seen, headers_of}
+use Rattle.elf.specs.ElfStream.{Seen}
+use Rattle.elf_reading.specs.Opening.{headers_of}
 use Rattle.elf_reading.specs.Opening.{View}
 use Rattle.elf.proofs.Alike.{alike_first, alike_later, alike_map}
 use Rattle.elf_check.specs.Object.{object_in}

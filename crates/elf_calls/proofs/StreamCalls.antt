@@ -5,7 +5,8 @@ use Rattle.std.specs.Io.KnownBytes.{Appends}
 use Rattle.elf.specs.Ranges.{headers_alone, if_there}
 use Rattle.elf.specs.StreamFile.{stream_file}
 use Rattle.elf.specs.ObjectFile.{ObjectFile}
-use Rattle.elf.specs.ElfStream.{AreCached, IsAnswer, IsFor, IsNeeded, Keeps, Leaves, Seen}
+use Rattle.elf.specs.ElfStream.{AreCached, IsFor, IsNeeded, Keeps, Leaves, Seen}
+use Rattle.elf_reading.specs.Refusals.{IsAnswer}
 use Rattle.elf.specs.inner.Loads.{AreThere}
 use Rattle.elf.proofs.stream.Steps.{needed_back, needed_front, only_then, only_wider}
 use Rattle.elf_reading.specs.Refusals.{IsRefused, Kind, kind}

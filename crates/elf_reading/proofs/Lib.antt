@@ -2,3 +2,4 @@ pub mod Left
 mod VersionChoice
 pub mod Cached
 mod Filling
+pub mod steps

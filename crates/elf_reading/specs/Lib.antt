@@ -14,3 +14,5 @@ pub mod Tables
 pub mod Leading
 -- which sections the versions of symbols are taken from
 pub mod Versions
+-- what contracts of private functions cite
+pub mod inner

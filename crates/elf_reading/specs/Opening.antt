@@ -1,7 +1,7 @@
 -- How a file is opened (gABI, chapters "ELF Header", "Sections" and "Program Header"): its header is read,
 -- and the two tables that it declares are found. The file has the error of the first step that has one.
 use Rattle.std.specs.Prelude.{ℕ, ◌*◌, ◌==◌, Bool, if◌then◌else◌, List, Option, Some, None, Result, Ok}
-use Rattle.std.specs.Prelude.{Err, []}
+use Rattle.std.specs.Prelude.{Err, [], is_some}
 use Rattle.std.specs.Option.{option_map}
 use Rattle.elf_abi.specs.Values.{ei_nident, pn_xnum}
 use Rattle.elf_records.specs.Number.{bytes_at, ok_map}
@@ -15,7 +15,8 @@ use Rattle.elf_records.specs.declared.section.SectionHeader.{SectionHeader}
 use Rattle.elf_records.specs.declared.segment.ProgramHeader.{ProgramHeader}
 use Rattle.elf_records.specs.declared.parse.ParseError.{ParseError}
 use Rattle.elf_records.specs.declared.parse.ParseError.TheVariants.{BadEntsize}
-use Rattle.elf_reading.specs.declared.opening.Opened.{Opened}
+use Rattle.elf_reading.specs.declared.opening.slice.Opened.{Opened}
+use Rattle.elf_reading.specs.declared.opening.source.SourceHeaders.{SourceHeaders}
 
 -- ---- the view of an opened file
 
@@ -35,6 +36,25 @@ section_list (Some t) = table_items section_header_reads t
 abbrev pub segment_list : Option Table → List ProgramHeader
 segment_list None = []
 segment_list (Some t) = table_items program_header_reads t
+
+-- ---- the same in memory
+
+-- the headers of a file, in memory: the file header as it is now, whether a table of section headers is declared, the
+-- section headers, and the program headers
+pub record StreamHeaders (E : Type 0) : Type 0 where
+  pub ehdr : FileHeader E
+  pub declares_sections : Bool
+  pub sections : List SectionHeader
+  pub segments : List ProgramHeader
+
+-- the headers of a file that was opened
+abbrev pub headers_of : {E : Type 0} → View E → StreamHeaders E
+headers_of v = record {
+  ehdr = v.ehdr;
+  declares_sections = is_some v.sections;
+  sections = section_list v.sections;
+  segments = segment_list v.segments;
+}
 
 -- ---- its steps
 
@@ -99,4 +119,13 @@ opened_view bytes found = record {
   bytes = bytes;
   sections = option_map table_view found.shdrs;
   segments = option_map table_view found.phdrs;
+}
+
+-- the headers that were read from a source
+abbrev pub read_headers : {E A : Type 0} → SourceHeaders E A → StreamHeaders E
+read_headers found = record {
+  ehdr = found.ehdr;
+  declares_sections = found.declares_sections;
+  sections = found.shdrs.items;
+  segments = found.phdrs.items;
 }

@@ -4,13 +4,21 @@
 #[cfg(test)]
 mod abi_values;
 #[cfg(test)]
+mod current_header;
+#[cfg(test)]
 mod faults;
 #[cfg(test)]
 mod files;
 #[cfg(test)]
+mod flushes;
+#[cfg(test)]
 mod listing;
 #[cfg(test)]
 mod memory;
+#[cfg(test)]
+mod messages;
+#[cfg(test)]
+mod modes;
 #[cfg(test)]
 mod opening;
 #[cfg(test)]
@@ -20,7 +28,11 @@ mod records;
 #[cfg(test)]
 mod refusals;
 #[cfg(test)]
+mod room;
+#[cfg(test)]
 mod shown;
+#[cfg(test)]
+mod sizes;
 #[cfg(test)]
 mod sources;
 #[cfg(test)]
@@ -31,6 +43,8 @@ mod stops;
 mod stream_runs;
 #[cfg(test)]
 mod streams;
+#[cfg(test)]
+mod streams_large;
 #[cfg(test)]
 mod tables;
 #[cfg(test)]

@@ -17,3 +17,11 @@ pub(crate) fn all_memory(alloc: Global) -> Result<Vec<Vec<u8>>, AllocError> {
     }
     Ok(blocks)
 }
+
+/// The same, except for a block of this many bytes.
+pub(crate) fn all_memory_but(alloc: Global, room: usize) -> Result<Vec<Vec<u8>>, AllocError> {
+    let free = Vec::<u8>::with_capacity(alloc, room)?;
+    let blocks = all_memory(alloc)?;
+    drop(free);
+    Ok(blocks)
+}

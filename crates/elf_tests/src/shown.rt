@@ -1,5 +1,5 @@
 //! Values that are shown for a debugger.
-use crate::files::TWO_SECTIONS;
+use crate::files::{HEADER_ALONE, TWO_SECTIONS};
 use elf::endian::{AnyEndian, BigEndian, LittleEndian};
 use elf::file::Class;
 use elf::parse::{ParsingIterator, ParsingTable};
@@ -13,10 +13,10 @@ use std::fmt::Debug;
 use std::process::Abort;
 use std::test::Fail;
 
-/// Asserts that the debug text of a value begins with its type's name, or its variant's.
-fn assert_shown<D: Debug + Drop>(rt: &(impl Abort + AllocGlobal), value: D, name: &str) {
+/// Asserts the debug text of a value.
+fn assert_shown<D: Debug + Drop>(rt: &(impl Abort + AllocGlobal), value: D, want: &str) {
     match format!(in rt.alloc(); "{value:?}") {
-        Ok(text) => assert!(rt; text.starts_with(name), "{text}"),
+        Ok(text) => assert_eq!(rt; text.as_str(), want),
         Err(_) => assert!(rt; false, "no memory"),
     }
 }
@@ -27,27 +27,60 @@ fn parts_are_shown(rt: HostRuntime) {
     assert_shown(&rt, LittleEndian, "LittleEndian");
     assert_shown(&rt, BigEndian, "BigEndian");
     assert_shown(&rt, Class::ELF32, "ELF32");
-    assert_shown(&rt, StringTable::new(b"\0"), "StringTable");
+    assert_shown(&rt, StringTable::new(b"\0"), "StringTable { data: [0] }");
     assert_shown(&rt, ParseError::BadOffset(7), "BadOffset(7)");
+    assert_shown(&rt, Call::Sections, "Sections");
+    let refused = RunError::Open(ParseError::IntegerOverflow);
+    assert_shown(&rt, refused, "Open(IntegerOverflow)");
+    assert_shown(&rt, RequestError::Usage, "Usage");
+}
+
+// The fields of tables are private. A table stores its byte order as a bool.
+#[test]
+fn tables_are_shown(rt: HostRuntime) {
     let table = ParsingTable::<'_, _, Triple>::new(LittleEndian, Class::ELF32, b"abc");
-    assert_shown(&rt, table, "ParsingTable");
-    let items = ParsingIterator::<'_, _, Triple>::new(FileOrder::HighFirst, Class::ELF32, b"abc");
-    assert_shown(&rt, items, "ParsingIterator");
+    assert_shown(
+        &rt,
+        table,
+        "ParsingTable { little: true, class: ELF32, data: [97, 98, 99], order: PhantomData<_>, \
+        records: PhantomData<_> }",
+    );
+    let items = ParsingIterator::<'_, _, Triple>::new(FileOrder::HighFirst, Class::ELF64, b"abc");
+    assert_shown(
+        &rt,
+        items,
+        "ParsingIterator { little: false, class: ELF64, data: [97, 98, 99], offset: 0, order: PhantomData<_>, \
+        records: PhantomData<_> }",
+    );
 }
 
 #[test]
-fn files_and_runs_are_shown(rt: HostRuntime) -> Result<(), Fail> {
+fn headers_are_shown(rt: HostRuntime) -> Result<(), Fail> {
     let file = ElfBytes::<AnyEndian>::minimal_parse(&TWO_SECTIONS)?;
-    let sections = file.section_headers().ok_or("no sections")?;
-    assert_shown(&rt, file.ehdr, "FileHeader");
-    assert_shown(&rt, sections.get(1)?, "SectionHeader");
-    assert_shown(&rt, file, "ElfBytes");
-    assert_shown(&rt, Call::Sections, "Sections");
     assert_shown(
         &rt,
-        RunError::Open(ParseError::IntegerOverflow),
-        "Open(IntegerOverflow)",
+        file.ehdr,
+        "FileHeader { class: ELF32, endianness: Little, version: 0, osabi: 0, abiversion: 0, e_type: 0, e_machine: 0, \
+        e_entry: 0, e_phoff: 0, e_shoff: 56, e_flags: 0, e_ehsize: 0, e_phentsize: 0, e_phnum: 0, e_shentsize: 40, \
+        e_shnum: 2, e_shstrndx: 1 }",
     );
-    assert_shown(&rt, RequestError::Usage, "Usage");
+    let sections = file.section_headers().ok_or("no sections")?;
+    assert_shown(
+        &rt,
+        sections.get(1)?,
+        "SectionHeader { sh_name: 1, sh_type: 3, sh_flags: 0, sh_addr: 0, sh_offset: 52, sh_size: 4, sh_link: 0, \
+        sh_info: 0, sh_addralign: 1, sh_entsize: 0 }",
+    );
+    Ok(())
+}
+
+#[test]
+fn a_file_is_shown_with_its_parts(rt: HostRuntime) -> Result<(), Fail> {
+    let file = ElfBytes::<AnyEndian>::minimal_parse(&HEADER_ALONE)?;
+    let header = file.ehdr;
+    let want = format!(in rt.alloc();
+        "ElfBytes {{ ehdr: {header:?}, data: {HEADER_ALONE:?}, shdrs: None, phdrs: None }}"
+    )?;
+    assert_shown(&rt, file, want.as_str());
     Ok(())
 }

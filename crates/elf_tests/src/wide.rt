@@ -9,11 +9,24 @@ use std::test::Fail;
 /// How many sections there are, more than a header can hold.
 const COUNT: u32 = 65000;
 
-/// Where the names lie: behind the section headers, which begin at 64.
+/// Where the names lie: after the section headers, which begin at 64.
 const NAMES: u32 = 64 + 64 * COUNT;
 
-/// How many bytes the listing has.
-const TEXT: u64 = 7073910;
+/// The line of a section, without its number and with each of its numbers 0.
+const LINE: &str =
+    "section  name=.data nameoff=0 type=0 flags=0x0 addr=0x0 offset=0 size=0 link=0 info=0 align=0 entsize=0\n";
+
+/// The digits of the numbers from 0 to 64,999: one digit each for ten of them, two for 90, and so on.
+const DIGITS: u64 = 10 + 2 * 90 + 3 * 900 + 4 * 9_000 + 5 * 55_000;
+
+/// The digits by which the first two lines are longer: those of the number of sections, and of the offset of the names.
+const MORE_DIGITS: u64 = 4 + 6;
+
+/// How many bytes the listing has, with the last line.
+const TEXT: u64 = COUNT as u64 * LINE.len() as u64 + DIGITS + MORE_DIGITS + END.len() as u64;
+
+/// The last line.
+const END: &[u8; 10] = b"end 65000\n";
 
 /// How many bytes are held back until they are written at once.
 const BUFFER: usize = 65536;
@@ -60,6 +73,6 @@ fn a_long_listing_is_written_a_buffer_at_a_time(rt: HostRuntime) -> Result<(), F
     }
     assert!(rt; inner.bytes == TEXT);
     assert!(rt; (FEWEST_WRITES..=MOST_WRITES).contains(&inner.writes));
-    assert!(rt; &inner.last == b"end 65000\n");
+    assert!(rt; &inner.last == END);
     Ok(())
 }

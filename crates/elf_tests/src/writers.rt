@@ -1,4 +1,4 @@
-//! Writers that fail, one that counts, and one that holds a line.
+//! Writers that fail, some that count, and one that holds a line.
 ghost use Rattle.std.specs.Prelude.{Some};
 
 use std::alloc::Global;
@@ -41,7 +41,7 @@ impl Write for Narrow {
     }
 }
 
-/// Fails at one write and goes on behind it, or fails at each flush behind some.
+/// Fails at one write and goes on after it, or fails at each flush after some.
 #[derive(Drop)]
 pub(crate) struct Faulty {
     pub(crate) written: Vec<u8>,
@@ -50,7 +50,7 @@ pub(crate) struct Faulty {
 }
 
 impl Faulty {
-    /// Fails at the write behind a number of writes.
+    /// Fails at the write after a number of writes.
     pub(crate) fn at_write(alloc: Global, writes_before: usize) -> Faulty {
         Faulty {
             written: Vec::new(alloc),
@@ -64,7 +64,7 @@ impl Faulty {
         Faulty::behind_flushes(alloc, 0)
     }
 
-    /// Fails at each flush behind a number of flushes.
+    /// Fails at each flush after a number of flushes.
     pub(crate) fn behind_flushes(alloc: Global, flushes_before: usize) -> Faulty {
         Faulty {
             written: Vec::new(alloc),
@@ -100,6 +100,50 @@ impl Write for Faulty {
             return Err(io::Error::from(io::ErrorKind::BrokenPipe));
         }
         self.flushes_before -= 1;
+        Ok(())
+    }
+}
+
+/// Fails at each write after a number of writes. Counts the flushes, and the calls after its first failure.
+#[derive(Drop)]
+pub(crate) struct Watched {
+    writes_before: usize,
+    has_failed: bool,
+    pub(crate) flushes: usize,
+    pub(crate) calls_after_failure: usize,
+}
+
+impl Watched {
+    pub(crate) fn new(writes_before: usize) -> Watched {
+        Watched {
+            writes_before,
+            has_failed: false,
+            flushes: 0,
+            calls_after_failure: 0,
+        }
+    }
+
+    fn called(&mut self) {
+        if self.has_failed {
+            self.calls_after_failure = self.calls_after_failure.saturating_add(1);
+        }
+    }
+}
+
+impl Write for Watched {
+    fn write(&mut self, buf: &[u8]) -> io::Result<usize> {
+        self.called();
+        if self.writes_before == 0 {
+            self.has_failed = true;
+            return Err(io::Error::from(io::ErrorKind::StorageFull));
+        }
+        self.writes_before -= 1;
+        Ok(buf.len())
+    }
+
+    fn flush(&mut self) -> io::Result<()> {
+        self.called();
+        self.flushes = self.flushes.saturating_add(1);
         Ok(())
     }
 }

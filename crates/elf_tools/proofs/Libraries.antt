@@ -11,7 +11,8 @@ use Rattle.elf_records.specs.declared.parse.ParseError.{ParseError}
 use Rattle.elf_records.specs.declared.section.SectionHeader.{SectionHeader}
 use Rattle.elf.specs.Answers.{dynamic_symbol_table, symbol_version_table}
 use Rattle.elf.specs.Data.{section_data}
-use Rattle.elf.specs.ElfStream.{StreamHeaders, IsOpening, Keeps, Seen, headers_of}
+use Rattle.elf.specs.ElfStream.{IsOpening, Keeps, Seen}
+use Rattle.elf_reading.specs.Opening.{StreamHeaders, headers_of}
 use Rattle.elf_reading.specs.Opening.{opened}
 use Rattle.elf.specs.Headers.{first_section_of}
 use Rattle.elf.specs.ObjectFile.{ObjectFile}

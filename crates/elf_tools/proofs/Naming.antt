@@ -7,7 +7,8 @@ use Rattle.elf_records.specs.Number.{ok_map}
 use Rattle.elf_records.specs.Record.{◌>>=◌}
 use Rattle.elf_records.specs.declared.dynamic.Dyn.{Dyn}
 use Rattle.elf_records.specs.declared.parse.ParseError.{ParseError}
-use Rattle.elf.specs.ElfStream.{IsAnswer, Keeps, Leaves, Seen}
+use Rattle.elf.specs.ElfStream.{Keeps, Leaves, Seen}
+use Rattle.elf_reading.specs.Refusals.{IsAnswer}
 use Rattle.elf_reading.specs.Refusals.{IsRefused, Kind, kind}
 use Rattle.elf.specs.StreamFile.{stream_file}
 use Rattle.elf_tools.specs.Needed.{IsGiven, IsNamesAnswer, IsUnreadable, GivesNames, entries_of, if_some, names, names_by, names_view, or_error}

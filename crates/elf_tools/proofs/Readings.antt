@@ -6,7 +6,8 @@ use Rattle.elf_records.specs.Record.{◌>>=◌}
 use Rattle.elf_records.specs.declared.parse.ParseError.{ParseError}
 use Rattle.elf_records.specs.declared.section.SectionHeader.{SectionHeader}
 use Rattle.elf.specs.Answers.{symbol_version_table}
-use Rattle.elf.specs.ElfStream.{Keeps, MayRefuse, Seen}
+use Rattle.elf.specs.ElfStream.{Keeps, Seen}
+use Rattle.elf_reading.specs.Refusals.{MayRefuse}
 use Rattle.elf_reading.specs.Refusals.{Kind, kind}
 use Rattle.elf.specs.Headers.{if_found}
 use Rattle.elf.specs.ObjectFile.{ObjectFile}

@@ -13,7 +13,8 @@ use Rattle.elf_parts.specs.gnu_symver.Lists.{ver_defs, ver_needs}
 use Rattle.elf_parts.specs.gnu_symver.Table.{Definitions, Needs, Versions}
 use Rattle.elf.specs.Answers.{dynamic_symbol_table, symbol_version_table}
 use Rattle.elf.specs.Data.{section_data}
-use Rattle.elf.specs.ElfStream.{StreamHeaders, MayRefuse, headers_of}
+use Rattle.elf_reading.specs.Opening.{StreamHeaders, headers_of}
+use Rattle.elf_reading.specs.Refusals.{MayRefuse}
 use Rattle.elf_reading.specs.Refusals.{kind}
 use Rattle.elf.specs.Headers.{first_section_of}
 use Rattle.elf_reading.specs.Opening.{opened}

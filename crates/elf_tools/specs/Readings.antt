@@ -1,7 +1,8 @@
 -- What a reading of a stream gives and leaves.
 use Rattle.std.specs.Prelude.{◌≡◌, Bool, ⊤, ℕ, List, Result, Ok, Err, IfSome, IsErr}
 use Rattle.elf_records.specs.declared.parse.ParseError.{ParseError}
-use Rattle.elf.specs.ElfStream.{Keeps, MayRefuse, Seen}
+use Rattle.elf.specs.ElfStream.{Keeps, Seen}
+use Rattle.elf_reading.specs.Refusals.{MayRefuse}
 use Rattle.elf_reading.specs.Refusals.{kind}
 
 -- what the file answers; or an error: of the source, of memory, or where the file has no answer

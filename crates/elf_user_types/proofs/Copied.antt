@@ -8,7 +8,8 @@ use Rattle.elf_records.specs.declared.section.SectionHeader.{SectionHeader}
 use Rattle.elf.specs.Data.{section_data}
 use Rattle.elf.specs.ElfBytes.{with_header}
 use Rattle.elf_reading.specs.Opening.{View}
-use Rattle.elf.specs.ElfStream.{Seen, headers_of}
+use Rattle.elf.specs.ElfStream.{Seen}
+use Rattle.elf_reading.specs.Opening.{headers_of}
 use Rattle.elf.specs.ObjectFile.{object_file}
 use Rattle.elf_reading.specs.Opening.{opened}
 use Rattle.elf.specs.Readers.{SameAnswers, SectionData}

@@ -5,7 +5,9 @@ use Rattle.std.specs.Io.KnownBytes.{Appends, Keeps as KeepsBytes}
 use Rattle.elf.specs.StreamFile.{stream_file}
 use Rattle.elf.specs.ObjectFile.{object_file}
 use Rattle.elf_reading.specs.Opening.{opened}
-use Rattle.elf.specs.ElfStream.{IsOpening, MayRefuse, Seen, headers_of}
+use Rattle.elf.specs.ElfStream.{IsOpening, Seen}
+use Rattle.elf_reading.specs.Refusals.{MayRefuse}
+use Rattle.elf_reading.specs.Opening.{headers_of}
 use Rattle.elf_reading.specs.Refusals.{IsRefused, Kind, kind}
 use Rattle.elf.specs.ElfBytes.{with_header}
 use Rattle.elf_reading.specs.Opening.{View}

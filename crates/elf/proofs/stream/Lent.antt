@@ -10,11 +10,12 @@ use Rattle.elf.specs.Ranges.{range_of_section, section_ranges}
 use Rattle.elf.specs.ObjectFile.{ObjectFile}
 use Rattle.elf.specs.Data.{content, content_of_type, section_data}
 use Rattle.elf.specs.Headers.{section_range}
-use Rattle.elf.specs.ElfStream.{Seen, AreCached, IsAnswer, Leaves}
+use Rattle.elf.specs.ElfStream.{Seen, AreCached, Leaves}
+use Rattle.elf_reading.specs.Refusals.{IsAnswer}
 use Rattle.elf_reading.specs.Refusals.{IsRefused, kind}
 use Rattle.elf.specs.inner.Loads.{AreThere, Loads, LoadsFor}
 use Rattle.elf_reading.specs.Refusals.{HasReason}
-use Rattle.elf.proofs.stream.Steps.{not_ok, refused_not, refused_so}
+use Rattle.elf_reading.proofs.steps.Ranges.{not_ok, refused_not, refused_so}
 
 -- ---- a load that is made for an answer
 

@@ -4,17 +4,10 @@ use Rattle.std.specs.Prelude.{◌^◌, Result, Ok, Err, IsErr, IsOk, IfErr, is_o
 use Rattle.elf_records.specs.Number.{bytes_at}
 use Rattle.elf_records.specs.declared.parse.ParseError.{ParseError}
 use Rattle.elf_records.specs.declared.parse.ParseError.TheVariants.{OutOfMemory}
-use Rattle.elf.specs.ElfStream.{IsAnswer, IsFor}
+use Rattle.elf.specs.ElfStream.{IsFor}
+use Rattle.elf_reading.specs.Refusals.{IsAnswer}
 use Rattle.elf_reading.specs.Refusals.{Kind, kind}
-use Rattle.elf.proofs.stream.Pieces.{read_within, read_past, read_past_64}
-
-pub refused_past_64 : (known : Option (List ℕ)) (start size count : ℕ) → 2 ^ 64 ≤ start + size → IfSome known (λ bytes. (count ≡ count) × IsErr (bytes_at size bytes start))
-refused_past_64 None start size count past = tt
-refused_past_64 (Some bytes) start size count past = (refl, read_past_64 bytes start size past)
-
-pub refused_past : (known : Option (List ℕ)) (len start size count : ℕ) → IfSome known (λ bytes. len ≡ length bytes) → len < start + size → IfSome known (λ bytes. (count ≡ count) × IsErr (bytes_at size bytes start))
-refused_past None len start size count whole past = tt
-refused_past (Some bytes) len start size count whole past = (refl, read_past bytes start size (omega arith))
+use Rattle.elf_reading.proofs.steps.Ranges.{read_within}
 
 answered : (bytes : List ℕ) (start size before now : ℕ) (can_fail : Bool) (r : Result (Unit {0}) ParseError) → start + size < 2 ^ 64 → start + size ≤ length bytes → now ≡ before → IfErr r (λ e. e ≡ OutOfMemory)
     → IsAnswer (λ _. take size (drop start bytes)) (bytes_at size bytes start) can_fail before now r

@@ -10,28 +10,13 @@ use Rattle.elf_records.specs.Number.{bytes_at}
 use Rattle.std.proofs.lemmas.Bool.Decides.{nat_tests}
 use Rattle.std.proofs.lemmas.List.Folds.{Any-from_list_any}
 use Rattle.std.proofs.lemmas.List.Elements.{All-contains}
+use Rattle.elf_reading.proofs.steps.Ranges.{one_value, read_is_within, read_within}
 
 list_any-map : {X Y : Type 0} (f : X → Y) (t : Y → Bool) (xs : List X) → list_any t (map f xs) ≡ list_any (λ x. t (f x)) xs
 list_any-map f t [] = refl
 list_any-map f t (x ∷ xs) = ap (λ b. t (f x) || b) (list_any-map f t xs)
 
 -- ---- a range of a content
-
-pub read_within : (bytes : List ℕ) (start size : ℕ) → start + size < 2 ^ 64 → start + size ≤ length bytes → bytes_at size bytes start ≡ Ok (take size (drop start bytes))
-unfolding bytes_at
-read_within bytes start size low within = grind (arith, nat_tests)
-
-pub read_past : (bytes : List ℕ) (start size : ℕ) → length bytes < start + size → IsErr (bytes_at size bytes start)
-unfolding bytes_at
-read_past bytes start size past = grind (arith, nat_tests)
-
-pub read_past_64 : (bytes : List ℕ) (start size : ℕ) → 2 ^ 64 ≤ start + size → IsErr (bytes_at size bytes start)
-unfolding bytes_at
-read_past_64 bytes start size past = grind (arith, nat_tests)
-
-pub read_is_within : (bytes : List ℕ) (start size : ℕ) → IsOk (bytes_at size bytes start) → (start + size < 2 ^ 64) × (start + size ≤ length bytes)
-unfolding bytes_at
-read_is_within bytes start size ok = grind (arith, nat_tests)
 
 -- ---- a part that has a range
 
@@ -82,9 +67,6 @@ part_bytes (Some bytes) len ps start size part sound low at =
     let long : start + size - start ≡ size = omega arith in
     read_within bytes start size low (piece_within bytes p start (start + size) of reach)
     ∙ ap Ok (sym (piece_bytes bytes p start size of reach) ∙ ap (λ n. take n (drop (start - p.start) p.bytes)) (sym long) ∙ sym at.3)
-
-pub one_value : {A E : Type 0} (r : Result A E) (a b : A) → r ≡ Ok a → r ≡ Ok b → a ≡ b
-one_value r a b h k = cc
 
 -- the bytes of a range are no more than the content's
 shorter : (bytes part : List ℕ) (start size : ℕ) → bytes_at size bytes start ≡ Ok part → length part ≤ length bytes

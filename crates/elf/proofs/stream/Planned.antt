@@ -16,7 +16,8 @@ use Rattle.elf.specs.StreamFile.{stream_file}
 use Rattle.elf.specs.ObjectFile.{ObjectFile, table_of}
 use Rattle.elf.specs.Headers.{section_range}
 use Rattle.elf.specs.Readers.{AreAlike}
-use Rattle.elf.specs.ElfStream.{AreCached, IsAnswer, Leaves, Seen}
+use Rattle.elf.specs.ElfStream.{AreCached, Leaves, Seen}
+use Rattle.elf_reading.specs.Refusals.{IsAnswer}
 use Rattle.elf.specs.Versions.{version_definitions, version_needs, versions_of}
 use Rattle.elf_reading.specs.Versions.{version_sections}
 use Rattle.elf_reading.specs.declared.versions.VersionSections.{VersionSections}

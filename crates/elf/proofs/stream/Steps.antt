@@ -8,16 +8,12 @@ use Rattle.elf_records.specs.declared.parse.ParseError.{ParseError}
 use Rattle.elf.specs.Ranges.{if_chosen}
 use Rattle.elf.specs.inner.Loads.{AreLow, AreThere, Loads}
 use Rattle.elf_reading.specs.Refusals.{HasReason}
-use Rattle.elf.specs.ElfStream.{IsAnswer, IsFor, IsNeeded, IsRequested, Seen, AreCached, IsCached, Keeps, Leaves}
+use Rattle.elf.specs.ElfStream.{IsFor, IsNeeded, IsRequested, Seen, AreCached, IsCached, Keeps, Leaves}
+use Rattle.elf_reading.specs.Refusals.{IsAnswer}
 use Rattle.elf_reading.specs.Refusals.{IsRefused, Kind, kind}
 use Rattle.elf_reading.specs.Cache.{is_cached}
 use Rattle.elf_reading.proofs.Cached.{or_true}
-use Rattle.elf.proofs.stream.Pieces.{read_is_within}
-
-pub refused_so : (k : Kind) (P Q : Type 0) (before middle now : ℕ) (can_fail : Bool) → (P → Q) → middle ≡ before → IsRefused middle now can_fail P k → IsRefused before now can_fail Q k
-refused_so Kind.SourceFailure P Q before middle now can_fail so same h = let up = h.0 in (omega arith, h.1)
-refused_so Kind.AllocationFailure P Q before middle now can_fail so same h = h ∙ same
-refused_so Kind.Refusal P Q before middle now can_fail so same h = (h.0 ∙ same, so h.1)
+use Rattle.elf_reading.proofs.steps.Ranges.{not_ok, read_is_within, refused_not, refused_so}
 
 pub keeps_then : {E : Type 0} (old middle new : Seen E) → Keeps old middle → Keeps middle new → Keeps old new
 keeps_then old middle new a b = record {
@@ -106,10 +102,6 @@ needed_back bytes s [] qs there h = h
 needed_back bytes s (r ∷ rs) qs there h = (there.0, λ _. needed_back bytes s rs qs there.1 h)
 
 -- ---- a load of one range
-
-pub refused_not : {A E : Type 0} (x : Result A E) → IsErr x → IsOk x → ⊥
-refused_not (Ok a) missing there = cc
-refused_not (Err e) missing there = cc
 
 loaded_one : {E : Type 0} (new : Seen E) (start size : ℕ) (r : Result (Unit {0}) ParseError) → OnOk r ((start + size < 2 ^ 64) × IsCached new start (start + size)) → OnOk r (AreLow ((start, size) ∷ []) × AreCached new ((start, size) ∷ []))
 loaded_one new start size (Ok x) h = ((h.0, tt), (h.1, tt))
@@ -250,10 +242,6 @@ loads_then {E} old middle new rs qs x r a b =
     }
 
 -- ---- a call whose loads were refused
-
-pub not_ok : {A E : Type 0} (x : Result A E) → (IsOk x → ⊥) → IsErr x
-not_ok (Ok a) h = absurd (h refl)
-not_ok (Err e) h = refl
 
 refused_answer : {T Y : Type 0} (known : Option (List ℕ)) (rs : List (ℕ × ℕ)) (shown : T → Y) (answer : List ℕ → Result Y ParseError) (before now : ℕ) (can_fail : Bool) (e : ParseError) → ((bytes : List ℕ) → IsOk (answer bytes) → AreThere bytes rs)
     → IfSome known (λ bytes. IsRefused before now can_fail (AreThere bytes rs → ⊥) (kind e)) → IfSome known (λ bytes. IsAnswer shown (answer bytes) can_fail before now (Err e))

@@ -5,7 +5,8 @@ use Rattle.std.specs.Option.{option_map}
 use Rattle.elf.specs.Answers.{dynamic_symbol_table}
 use Rattle.elf.specs.Data.{section_data}
 use Rattle.elf.specs.ObjectFile.{ObjectFile}
-use Rattle.elf.specs.ElfStream.{AreCached, IsAnswer, IsCached, IsNeeded, IsRequested, Keeps, Seen}
+use Rattle.elf.specs.ElfStream.{AreCached, IsCached, IsNeeded, IsRequested, Keeps, Seen}
+use Rattle.elf_reading.specs.Refusals.{IsAnswer}
 use Rattle.elf.specs.StreamFile.{stream_file}
 use Rattle.elf_reading.specs.Refusals.{IsRefused, Kind, kind}
 use Rattle.elf_records.specs.Number.{ok_map}

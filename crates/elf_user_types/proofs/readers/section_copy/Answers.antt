@@ -5,7 +5,7 @@ use Rattle.elf.specs.Data.{section_data}
 use Rattle.elf_reading.specs.Leading.{data_view}
 use Rattle.elf.specs.ElfBytes.{with_header}
 use Rattle.elf_reading.specs.Opening.{View}
-use Rattle.elf.specs.ElfStream.{IsAnswer}
+use Rattle.elf_reading.specs.Refusals.{IsAnswer}
 use Rattle.elf.specs.ObjectFile.{object_file}
 use Rattle.elf_reading.specs.Opening.{opened}
 use Rattle.elf.specs.Readers.{SameAnswers}

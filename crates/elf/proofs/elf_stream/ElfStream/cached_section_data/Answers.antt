@@ -1,7 +1,7 @@
 use Rattle.std.proofs.lemmas.Result.{err_from_is_err_and}
 use Rattle.elf_records.specs.Compression.{compression_header_layout}
 use Rattle.elf_records.specs.Record.{record_by, size_by}
-use Rattle.elf.proofs.stream.Plain.{plain_front, plain_kind, plain_record_by}
+use Rattle.elf_reading.proofs.steps.Plain.{plain_front, plain_kind, plain_record_by}
 use Rattle.elf.proofs.elf_stream.ElfStream.cached_section_data.Goals as goal
 
 pub returns-in_err-rest-clause-plain : goal.returns-in_err-rest-clause-plain

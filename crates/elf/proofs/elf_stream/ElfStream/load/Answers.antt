@@ -1,9 +1,10 @@
 use Rattle.std.proofs.Common.{rules, arith, length, ◌≡◌, ◌<◌, ◌+◌, ◌-◌, refl}
 use Rattle.std.specs.Prelude.{◌^◌}
-use Rattle.elf.proofs.stream.Loads.{refused_past_64, refused_past, load_answered, needed_there, refused_for}
+use Rattle.elf.proofs.stream.Loads.{load_answered, needed_there, refused_for}
 use Rattle.elf_reading.proofs.Cached.{sound_put, cached_put, loaded_put, only_put}
 use Rattle.elf.proofs.stream.Pieces.{sound_cached}
 use Rattle.elf.proofs.elf_stream.ElfStream.load.Goals as goal
+use Rattle.elf_reading.proofs.steps.Ranges.{refused_past, refused_past_64}
 
 pub returns-in_default-clause-answer : goal.returns-in_default-clause-answer
 returns-in_default-clause-answer g c = refused_past_64 _ c.args.start c.args.size _ (omega (arith, c.in_default.ensures))

@@ -1,6 +1,6 @@
 use Rattle.std.proofs.Common.{Some}
 use Rattle.elf_records.specs.Table.{table_view}
-use Rattle.elf.proofs.stream.Plain.{section_at_refused}
+use Rattle.elf.proofs.stream.SectionAt.{section_at_refused}
 use Rattle.elf.proofs.elf_bytes.headers.ElfBytesHeaders.section_at.Goals as goal
 
 pub returns-in-Some-clause-plain : goal.returns-in-Some-clause-plain

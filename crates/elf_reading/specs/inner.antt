@@ -1,0 +1,2 @@
+pub mod HeaderSteps
+pub mod Reads
