@@ -1,9 +1,28 @@
 -- The places at which a file is wrong, by what the library answers.
 use Rattle.std.specs.Prelude.{ℕ, Bool, true, false, List, [], ◌∷◌, ◌++◌, Option, Some, None, Result, Ok, Err}
-use Rattle.nugwier_lines.specs.Places.{at_if}
+use Rattle.std.specs.Result.{result_ok}
+use Rattle.elf_parts.specs.gnu_symver.Table.{Versions}
+use Rattle.elf_records.specs.Dynamic.{dyn_reads}
+use Rattle.elf_records.specs.Record.{◌>>=◌}
+use Rattle.elf_records.specs.Symbol.{symbol_reads}
+use Rattle.elf_records.specs.Table.{Table, table_items}
+use Rattle.elf_records.specs.declared.dynamic.Dyn.{Dyn}
+use Rattle.elf_records.specs.declared.parse.ParseError.{ParseError}
+use Rattle.elf_records.specs.declared.symbol.Symbol.{Symbol}
+use Rattle.elf.specs.Answers.{dynamic, dynamic_symbol_table, segment_data, symbol_table, symbol_version_table}
+use Rattle.elf.specs.Names.{name_table}
+use Rattle.elf.specs.ObjectFile.{ObjectFile}
+use Rattle.elf_tools.specs.Needed.{entries_in, or_error, string_part}
+use Rattle.elf_tools.specs.declared.needed.NamesError.{NamesError}
+use Rattle.elf_tools.specs.declared.needed.NamesError.TheVariants.{Read}
+use Rattle.nugwier_lines.specs.Names.{entry_wrong, is_listed, needed_wrong, section_wrong, symbol_wrong}
+use Rattle.nugwier_lines.specs.Places.{at_if, is_error, numbered}
 use Rattle.nugwier_lines.specs.declared.problem.Item.TheVariants.{Whole}
 use Rattle.nugwier_lines.specs.declared.problem.Part.{Part}
+use Rattle.nugwier_lines.specs.declared.problem.Part.TheVariants.{Dynamic, DynamicStrings, DynamicSymbols, SectionNames}
+use Rattle.nugwier_lines.specs.declared.problem.Part.TheVariants.{Symbols, Versions as VersionPart}
 use Rattle.nugwier_lines.specs.declared.problem.Place.{Place}
+use Rattle.nugwier_lines.specs.declared.symbols.Form.{Form}
 
 -- a part as a whole
 abbrev pub whole : Part → Place
@@ -14,3 +33,78 @@ abbrev pub answer_wrong : {A E : Type 0} → Part → Result (Option A) E → Li
 answer_wrong part (Ok (Some x)) = []
 answer_wrong part (Ok None) = whole part ∷ []
 answer_wrong part (Err e) = whole part ∷ []
+
+-- what was read, if it was
+abbrev pub readable : {A E : Type 0} → Result (Option A) E → Option A
+readable (Ok found) = found
+readable (Err e) = None
+
+-- what is wrong with a part that has this answer: it cannot be read; if there is none, this; and else what is in it
+abbrev pub part_wrong : {A : Type 0} → Part → List Place → (A → List Place) → Result (Option A) ParseError → List Place
+part_wrong part none wrong (Ok (Some x)) = wrong x
+part_wrong part none wrong (Ok None) = none
+part_wrong part none wrong (Err e) = whole part ∷ []
+
+-- ---- symbols
+
+-- of the symbols of a table with these strings and versions, whose rows have this form
+abbrev pub table_wrong : {E : Type 0} → Form E → Part → Option Versions → Table × List ℕ → List Place
+table_wrong form part versions symbols =
+    numbered (λ i symbol. symbol_wrong (is_listed form i symbol) part symbols.1 versions i symbol) 0
+    (table_items symbol_reads symbols.0)
+
+-- the versions of the file, then the symbols
+abbrev pub versioned_wrong : {E : Type 0} → Form E → ObjectFile → Table × List ℕ → List Place
+versioned_wrong form file symbols =
+    at_if (is_error (symbol_version_table file)) (whole VersionPart)
+    ++ table_wrong form DynamicSymbols (readable (symbol_version_table file)) symbols
+
+-- of the symbols for dynamic linking, which have to be there
+abbrev pub dynamic_symbols_wrong : {E : Type 0} → List Place → Form E → ObjectFile → List Place
+dynamic_symbols_wrong none form file =
+    part_wrong DynamicSymbols none (versioned_wrong form file) (dynamic_symbol_table file)
+
+-- of the other symbols, if there are any
+abbrev pub symbols_wrong : {E : Type 0} → Form E → ObjectFile → List Place
+symbols_wrong form file = part_wrong Symbols [] (table_wrong form Symbols None) (symbol_table file)
+
+-- ---- dynamic entries
+
+-- the strings that the entries name, by their address
+abbrev pub strings_by : ObjectFile → List Dyn → Result (List ℕ) NamesError
+strings_by file entries = string_part file.segments entries >>= λ part. or_error Read (segment_data file part)
+
+-- of the names that a list of needed libraries shows, if the strings can be read
+abbrev pub names_wrong : List Dyn → Option (List ℕ) → List Place
+names_wrong entries None = []
+names_wrong entries (Some strings) = numbered (needed_wrong strings) 0 entries
+
+-- the strings, then the names
+abbrev pub needed_in : ObjectFile → Table → List Place
+needed_in file table =
+    let entries = entries_in table in
+    let strings = strings_by file entries in
+    at_if (is_error strings) (whole DynamicStrings) ++ names_wrong entries (result_ok strings)
+
+-- those of a list of all entries
+abbrev pub listed_in : ObjectFile → Table → List Place
+listed_in file table =
+    let entries = entries_in table in
+    let strings = strings_by file entries in
+    at_if (is_error strings) (whole DynamicStrings) ++ numbered (entry_wrong (result_ok strings)) 0 entries
+
+-- of the names and search paths, for which there have to be dynamic entries
+abbrev pub needed_of : ObjectFile → List Place
+needed_of file = part_wrong Dynamic (whole Dynamic ∷ []) (needed_in file) (dynamic file)
+
+-- of all entries, if there are any
+abbrev pub entries_of : ObjectFile → List Place
+entries_of file = part_wrong Dynamic [] (listed_in file) (dynamic file)
+
+-- ---- sections
+
+-- the names of the sections, then each name
+abbrev pub sections_wrong : ObjectFile → List Place
+sections_wrong file =
+    at_if (is_error (name_table file)) (whole SectionNames)
+    ++ numbered (section_wrong (readable (name_table file))) 0 file.sections

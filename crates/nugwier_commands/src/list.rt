@@ -1,4 +1,9 @@
 //! The parts of a file.
+ghost use Rattle.std.specs.Prelude.{◌≡◌, ◌++◌, OnOk};
+ghost use Rattle.elf.specs.ElfBytes.{view};
+ghost use Rattle.elf.specs.ObjectFile.{object_file};
+ghost use Rattle.nugwier_commands.specs.Wrong.{sections_wrong};
+
 use crate::contents::list_content;
 use crate::names::{name_of, readable_names};
 use crate::strings::list_entries;
@@ -83,7 +88,9 @@ fn list_sections<E: EndianParse, W: Write>(
     file: &ElfBytes<'_, E>,
     out: &mut W,
     problems: &mut Problems,
-) -> Result<(), Stop> {
+) -> Result<(), Stop>
+    ensures { OnOk result (problems.new ≡ problems.old ++ sections_wrong (object_file E.little (view file.now))) }
+{
     let place = Place {
         part: Part::SectionNames,
         item: Item::Whole,
@@ -103,7 +110,9 @@ fn list_segments<E: EndianParse, W: Write>(
     file: &ElfBytes<'_, E>,
     out: &mut W,
     problems: &mut Problems,
-) -> Result<(), Stop> {
+) -> Result<(), Stop>
+    ensures { OnOk result (problems.new ≡ problems.old) }
+{
     let Some(table) = file.segments() else {
         return Ok(());
     };

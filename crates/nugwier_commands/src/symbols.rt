@@ -1,4 +1,13 @@
 //! The symbols of a file.
+ghost use Rattle.std.specs.Prelude.{◌≡◌, ◌++◌, [], ◌∷◌, OnOk};
+ghost use Rattle.std.specs.Option.{option_map};
+ghost use Rattle.elf.specs.Answers.{symbols_view};
+ghost use Rattle.elf.specs.ElfBytes.{view};
+ghost use Rattle.elf.specs.ObjectFile.{object_file};
+ghost use Rattle.nugwier_commands.specs.Wrong.{dynamic_symbols_wrong, symbols_wrong, table_wrong, versioned_wrong, whole};
+ghost use Rattle.nugwier_lines.specs.declared.problem.Part.TheVariants.{DynamicSymbols};
+ghost use Rattle.nugwier_lines.specs.declared.symbols.Form.TheVariants.{Fields};
+
 use elf::endian::EndianParse;
 use elf::gnu_symver::{IndexedVersions, SymbolVersionTable};
 use elf::string_table::{StringTable, TerminatedStrings};
@@ -16,7 +25,9 @@ use std::marker::PhantomData;
 type Symbols<'data, E> = (SymbolTable<'data, E>, StringTable<'data>);
 
 // All of a part of the file.
-fn whole(part: Part) -> Place {
+fn whole(part: Part) -> Place
+    ensures { result ≡ whole part }
+{
     Place {
         part,
         item: Item::Whole,
@@ -30,7 +41,10 @@ pub(crate) fn list_dynamic_symbols<'data, E: EndianParse, W: Write>(
     form: Form<'data, E>,
     out: &mut W,
     problems: &mut Problems,
-) -> Result<(), Stop> {
+) -> Result<(), Stop>
+    ensures { OnOk result (problems.new ≡ problems.old
+        ++ dynamic_symbols_wrong (whole DynamicSymbols ∷ []) form (object_file E.little (view file.now))) }
+{
     match file.dynamic_symbol_table() {
         Ok(Some(symbols)) => list_versioned(alloc, file, symbols, form, out, problems),
         Ok(None) => problems.add(whole(Part::DynamicSymbols), Fault::Missing),
@@ -46,7 +60,10 @@ fn list_versioned<'data, E: EndianParse, W: Write>(
     form: Form<'data, E>,
     out: &mut W,
     problems: &mut Problems,
-) -> Result<(), Stop> {
+) -> Result<(), Stop>
+    ensures { OnOk result (problems.new ≡ problems.old
+        ++ versioned_wrong form (object_file E.little (view file.now)) (symbols_view symbols)) }
+{
     let versions = problems.readable(whole(Part::Versions), file.symbol_version_table())?;
     let versions = match versions {
         Some(versions) => versions,
@@ -63,7 +80,9 @@ fn list_rows<'a, 'data, E: EndianParse, W: Write>(
     form: Form<'data, E>,
     out: &mut W,
     problems: &mut Problems,
-) -> Result<(), Stop> {
+) -> Result<(), Stop>
+    ensures { OnOk result (problems.new ≡ problems.old ++ table_wrong form part versions (symbols_view symbols)) }
+{
     let (table, strings) = symbols;
     let names = Names {
         part,
@@ -79,7 +98,10 @@ pub(crate) fn list_symbols<E: EndianParse, W: Write>(
     file: &ElfBytes<'_, E>,
     out: &mut W,
     problems: &mut Problems,
-) -> Result<(), Stop> {
+) -> Result<(), Stop>
+    ensures { OnOk result (problems.new ≡ problems.old
+        ++ symbols_wrong (Fields {E}) (object_file E.little (view file.now))) }
+{
     match file.symbol_table() {
         Ok(Some(symbols)) => {
             list_heading("Symbols", out)?;
@@ -96,7 +118,10 @@ pub(crate) fn list_linked<E: EndianParse, W: Write>(
     file: &ElfBytes<'_, E>,
     out: &mut W,
     problems: &mut Problems,
-) -> Result<(), Stop> {
+) -> Result<(), Stop>
+    ensures { OnOk result (problems.new ≡ problems.old
+        ++ dynamic_symbols_wrong [] (Fields {E}) (object_file E.little (view file.now))) }
+{
     match file.dynamic_symbol_table() {
         Ok(Some(symbols)) => {
             list_heading("Symbols for dynamic linking", out)?;
