@@ -38,7 +38,10 @@ fn check_section<E: EndianParse, W: Write>(
     };
     match lint(file, section) {
         Some(Ok(symbols)) => {
-            writeln!(out, "section {number}: a sound hash section of {symbols} symbols")?;
+            writeln!(
+                out,
+                "section {number}: a sound hash section of {symbols} symbols"
+            )?;
             Ok(())
         }
         Some(Err(fault)) => problems.add(place, Fault::Check(format!(in alloc; "{fault}")?)),

@@ -144,7 +144,10 @@ impl fmt::Display for WordError<'_> {
             }
             WordError::NoFile(command) => {
                 let command = command.word();
-                write!(f, "nugwier {command}: no file; see nugwier {command} --help")
+                write!(
+                    f,
+                    "nugwier {command}: no file; see nugwier {command} --help"
+                )
             }
             WordError::Memory => write!(f, "nugwier: out of memory"),
         }

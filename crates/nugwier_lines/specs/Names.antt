@@ -88,8 +88,8 @@ abbrev pub is_symbol_bad : Table × List ℕ → ℕ → Bool
 is_symbol_bad symbols i = is_name_bad symbols.1 (table_get symbol_reads symbols.0 i)
 
 -- that of symbol n, which relocation i uses; symbol 0 is none
-abbrev pub relocation_wrong : {E : Type 0} → Part → Option (Symbols E) → ℕ → ℕ → List Place
+abbrev pub relocation_wrong : Part → Option (Table × List ℕ) → ℕ → ℕ → List Place
 relocation_wrong part None i n = []
 relocation_wrong part (Some symbols) i n =
     if n == 0 then []
-    else at_if (is_symbol_bad (symbols_view symbols) n) (record { part = part; item = RelocationSymbol i })
+    else at_if (is_symbol_bad symbols n) (record { part = part; item = RelocationSymbol i })

@@ -18,4 +18,5 @@ pub mod rows;
 pub mod sections;
 pub mod segments;
 pub mod symbols;
+pub mod version_records;
 pub mod versions;

@@ -44,14 +44,16 @@ pub enum Item {
     Whole,
     /// Its name.
     Name,
+    /// The symbols that its relocations use.
+    Symbols,
     SymbolName(u64),
     SymbolVersion(u64),
     /// The string that a dynamic entry names.
     EntryName(u64),
     /// The symbol of a relocation, or its name.
     RelocationSymbol(u64),
-    /// The name of a version definition, or that of the file in an entry of needed versions.
-    EntryVersion(u64),
+    /// The name of the version of this index; of index 0 the name of a file that versions are needed of.
+    VersionName(u64),
 }
 
 /// A place in a file.
@@ -230,10 +232,12 @@ fn write_item<W: fmt::Write>(item: Item, f: &mut fmt::Formatter<W>) -> fmt::Resu
     match item {
         Item::Whole => f.write_str(": "),
         Item::Name => f.write_str(": name: "),
+        Item::Symbols => f.write_str(": symbols: "),
         Item::SymbolName(number) => write!(f, ": name of symbol {number}: "),
         Item::SymbolVersion(number) => write!(f, ": version of symbol {number}: "),
         Item::EntryName(number) => write!(f, ": string of entry {number}: "),
         Item::RelocationSymbol(number) => write!(f, ": symbol of relocation {number}: "),
-        Item::EntryVersion(number) => write!(f, ": name in entry {number}: "),
+        Item::VersionName(0) => f.write_str(": name of a needed file: "),
+        Item::VersionName(index) => write!(f, ": name of version {index}: "),
     }
 }

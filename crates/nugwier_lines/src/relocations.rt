@@ -1,5 +1,6 @@
 //! The rows of relocations.
 ghost use Rattle.std.specs.Prelude.{◌≡◌, ◌++◌, OnOk};
+ghost use Rattle.std.specs.Option.{option_map};
 ghost use Rattle.nugwier_lines.specs.Places.{is_error};
 ghost use Rattle.nugwier_lines.specs.Names.{is_symbol_bad, relocation_wrong, symbols_view};
 
@@ -42,7 +43,7 @@ fn symbol_name<'a, E: EndianParse>(
     symbol: u32,
     problems: &mut Problems,
 ) -> Result<Name<'a>, Stop>
-    ensures { OnOk result (problems.new ≡ problems.old ++ relocation_wrong part symbols.now number symbol) }
+    ensures { OnOk result (problems.new ≡ problems.old ++ relocation_wrong part (option_map symbols_view symbols.now) number symbol) }
 {
     let Some(symbols) = symbols else {
         return Ok(Name(Some(&[])));
@@ -69,7 +70,8 @@ pub struct RelRow<'a, E: EndianParse> {
 impl<E: EndianParse> Row for RelRow<'_, E> {
     type Item = Rel;
 
-    ghost wrong = { λ row number relocation. relocation_wrong row.part row.symbols number relocation.r_sym };
+    ghost wrong = { λ row number relocation. relocation_wrong row.part (option_map symbols_view row.symbols)
+        number relocation.r_sym };
 
     fn list<W: Write>(
         &self,
@@ -103,7 +105,8 @@ pub struct RelaRow<'a, E: EndianParse> {
 impl<E: EndianParse> Row for RelaRow<'_, E> {
     type Item = Rela;
 
-    ghost wrong = { λ row number relocation. relocation_wrong row.part row.symbols number relocation.r_sym };
+    ghost wrong = { λ row number relocation. relocation_wrong row.part (option_map symbols_view row.symbols)
+        number relocation.r_sym };
 
     fn list<W: Write>(
         &self,
