@@ -18,7 +18,6 @@ use nugwier_lines::header::list_header;
 use nugwier_lines::problem::{Item, Part, Place, Problems, Stop};
 use nugwier_lines::rows::list_records;
 use nugwier_lines::sections::SectionRow;
-use nugwier_lines::segments::SegmentRow;
 use nugwier_lines::{sections, segments};
 use std::alloc::Global;
 use std::io::Write;
@@ -52,7 +51,7 @@ fn list_headers<E: EndianParse, W: Write>(
         list_sections(file, out, problems)?;
     }
     if job.parts.segments {
-        list_segments(file, out, problems)?;
+        list_segments(file, out)?;
     }
     Ok(())
 }
@@ -110,13 +109,9 @@ fn list_sections<E: EndianParse, W: Write>(
 fn list_segments<E: EndianParse, W: Write>(
     file: &ElfBytes<'_, E>,
     out: &mut W,
-    problems: &mut Problems,
-) -> Result<(), Stop>
-    ensures { OnOk result (problems.new ≡ problems.old) }
-{
-    let Some(table) = file.segments() else {
-        return Ok(());
-    };
-    segments::list_heading(out)?;
-    list_records(table.iter(), &SegmentRow, out, problems)
+) -> Result<(), Stop> {
+    if let Some(table) = file.segments() {
+        segments::list_segments(&table, out)?;
+    }
+    Ok(())
 }

@@ -14,9 +14,9 @@ use elf::segment::ProgramHeader;
 use elf::string_table::TerminatedStrings;
 use elf::{ElfBytes, ParseError, abi};
 use nugwier_lines::escape::Escaped;
-use nugwier_lines::notes::NoteRow;
+use nugwier_lines::notes;
 use nugwier_lines::problem::{Fault, Item, Part, Place, Problems, Stop};
-use nugwier_lines::rows::{Row, list_items, list_records};
+use nugwier_lines::rows::{Row, list_records};
 use std::io::Write;
 
 /// Lists the notes of the sections or, if no sections are declared, of the segments.
@@ -124,7 +124,10 @@ fn list_found<'data, E: EndianParse, W: Write>(
         item: Item::Whole,
     };
     match notes {
-        Ok(notes) => list_items(notes, &NoteRow::new(), out, problems),
+        Ok(notes) => {
+            notes::list_notes(notes, out)?;
+            Ok(())
+        }
         Err(error) => problems.add(place, Fault::Read(error)),
     }
 }

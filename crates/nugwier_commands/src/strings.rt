@@ -1,5 +1,5 @@
 //! The dynamic entries of a file, and the strings that they name.
-ghost use Rattle.std.specs.Prelude.{◌≡◌, ◌++◌, IfOk, IsTrue, OnOk};
+ghost use Rattle.std.specs.Prelude.{◌≡◌, ◌++◌, IfOk, IsTrue, OnOk, Some};
 ghost use Rattle.std.specs.List.{find};
 ghost use Rattle.std.specs.Option.{option_map};
 ghost use Rattle.std.specs.Result.{result_ok};
@@ -8,6 +8,7 @@ ghost use Rattle.elf.specs.ObjectFile.{object_file};
 ghost use Rattle.elf_records.specs.Dynamic.{has_tag};
 ghost use Rattle.elf_records.specs.Number.{ok_map};
 ghost use Rattle.elf_records.specs.Table.{table_view};
+ghost use Rattle.elf_reading.specs.Opening.{segment_list};
 ghost use Rattle.elf_tools.specs.Needed.{entries_in, first_entry, holds, part_of, string_part};
 ghost use Rattle.nugwier_commands.specs.Wrong.{entries_of, listed_in, needed_in, needed_of, strings_by, whole};
 ghost use Rattle.nugwier_lines.specs.Places.{at_if, is_error};
@@ -15,7 +16,7 @@ ghost use Rattle.nugwier_lines.specs.declared.problem.Part.TheVariants.{DynamicS
 
 use elf::dynamic::{Dyn, DynamicTable};
 use elf::endian::EndianParse;
-use elf::segment::ProgramHeader;
+use elf::segment::{ProgramHeader, SegmentTable};
 use elf::string_table::{StringTable, TerminatedStrings};
 use elf::{ElfBytes, ParseError, abi};
 use elf_tools::needed::NamesError;
@@ -75,7 +76,20 @@ fn holds(segment: &ProgramHeader, address: u64, size: u64) -> bool
         && before <= u64::MAX - segment.p_offset
 }
 
-// The first segment that holds this many bytes from an address on.
+// The first segment of a table that holds this many bytes from an address on.
+fn first_in<E: EndianParse>(
+    segments: SegmentTable<'_, E>,
+    address: u64,
+    size: u64,
+) -> Option<ProgramHeader>
+    ensures { result ≡ find (holds address size) (segment_list (Some (table_view segments.entry))) }
+{
+    segments
+        .iter()
+        .find(|segment| holds(segment, address, size))
+}
+
+// The same of the segments of a file.
 fn first_holding<E: EndianParse>(
     file: &ElfBytes<'_, E>,
     address: u64,
@@ -83,9 +97,10 @@ fn first_holding<E: EndianParse>(
 ) -> Option<ProgramHeader>
     ensures { result ≡ find (holds address size) (object_file E.little (view file.now)).segments }
 {
-    file.segments()?
-        .iter()
-        .find(|segment| holds(segment, address, size))
+    match file.segments() {
+        Some(segments) => first_in(segments, address, size),
+        None => None,
+    }
 }
 
 // The part of a segment at these addresses, as a segment.

@@ -81,7 +81,7 @@ fn list_rows<'a, 'data, E: EndianParse, W: Write>(
     out: &mut W,
     problems: &mut Problems,
 ) -> Result<(), Stop>
-    ensures { OnOk result (problems.new ≡ problems.old ++ table_wrong form part versions (symbols_view symbols)) }
+    ensures { OnOk result (problems.new ≡ problems.old ++ table_wrong form part (option_map (λ index. index) versions) (symbols_view symbols)) }
 {
     let (table, strings) = symbols;
     let names = Names {

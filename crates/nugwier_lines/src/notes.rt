@@ -1,51 +1,32 @@
 //! The lines of notes.
-ghost use Rattle.std.specs.Prelude.{[]};
-
 use crate::dump::Hex;
 use crate::escape::Escaped;
 use crate::named::Named;
-use crate::problem::{Problems, Stop};
-use crate::rows::Row;
 use elf_abi::to_str;
-use elf_parts::note::{Note, NoteAny, NoteGnuAbiTag};
+use elf_parts::endian::EndianParse;
+use elf_parts::note::{Note, NoteAny, NoteGnuAbiTag, NoteIterator};
 use std::io;
 use std::io::Write;
-use std::marker::PhantomData;
 
-/// The line of a note. Its parts borrow from the data.
-#[derive(Clone, Copy)]
-pub struct NoteRow<'a> {
-    data: PhantomData<&'a [u8]>,
-}
-
-impl<'a> NoteRow<'a> {
-    /// The line of a note.
-    pub fn new() -> NoteRow<'a> {
-        NoteRow { data: PhantomData }
+/// Lists notes, a line for each.
+pub fn list_notes<E: EndianParse, W: Write>(
+    notes: NoteIterator<'_, E>,
+    out: &mut W,
+) -> io::Result<()> {
+    for note in notes {
+        list_note(&note, out)?;
     }
+    Ok(())
 }
 
-impl<'a> Row for NoteRow<'a> {
-    type Item = Note<'a>;
-
-    ghost wrong = { λ _ _ _. [] };
-
-    fn list<W: Write>(
-        &self,
-        _number: u64,
-        note: &Note<'a>,
-        out: &mut W,
-        _problems: &mut Problems,
-    ) -> Result<(), Stop> {
-        match note {
-            Note::GnuAbiTag(tag) => list_abi_tag(tag, out)?,
-            Note::GnuBuildId(id) => {
-                let id = Hex(id.0);
-                writeln!(out, "  GNU build id  {id}")?;
-            }
-            Note::Unknown(note) => list_other(note, out)?,
+fn list_note<W: Write>(note: &Note<'_>, out: &mut W) -> io::Result<()> {
+    match note {
+        Note::GnuAbiTag(tag) => list_abi_tag(tag, out),
+        Note::GnuBuildId(id) => {
+            let id = Hex(id.0);
+            writeln!(out, "  GNU build id  {id}")
         }
-        Ok(())
+        Note::Unknown(note) => list_other(note, out),
     }
 }
 

@@ -1,5 +1,6 @@
 //! What is wrong in a file, each with its place.
-ghost use Rattle.std.specs.Prelude.{◌≡◌, ◌++◌, ◌==◌, List, [], ◌∷◌, length, map, OnOk};
+ghost use Rattle.std.specs.Prelude.{◌≡◌, ◌++◌, ◌==◌, List, [], ◌∷◌, length, map, IfOk, OnOk};
+ghost use Rattle.std.specs.Result.{result_ok};
 ghost use Rattle.nugwier_lines.specs.Places.{at_if, is_error};
 ghost use Rattle.nugwier_lines.specs.declared.problem.Place.{Place};
 ghost use Rattle.nugwier_lines.specs.declared.problem.Stop.TheVariants.{Memory as IsMemory, Write as IsWrite};
@@ -162,7 +163,8 @@ impl Problems {
         place: Place,
         read: Result<T, ParseError>,
     ) -> Result<Option<T>, Stop>
-        ensures { OnOk result (self.new ≡ self.old ++ at_if (is_error read) place) }
+        ensures value { IfOk result (λ value. value ≡ result_ok read) }
+        ensures place { OnOk result (self.new ≡ self.old ++ at_if (is_error read) place) }
     {
         match read {
             Ok(value) => Ok(Some(value)),

@@ -1,46 +1,29 @@
 //! The rows of segments.
-ghost use Rattle.std.specs.Prelude.{[]};
-
 use crate::flags::SegmentFlags;
 use crate::named::Named;
-use crate::problem::{Problems, Stop};
-use crate::rows::Row;
 use elf_abi::to_str;
-use elf_parts::segment::ProgramHeader;
+use elf_parts::endian::EndianParse;
+use elf_parts::segment::{ProgramHeader, SegmentTable};
 use std::io;
 use std::io::Write;
 
-/// The row of a segment.
-#[derive(Clone, Copy)]
-pub struct SegmentRow;
-
-impl Row for SegmentRow {
-    type Item = ProgramHeader;
-
-    ghost wrong = { λ _ _ _. [] };
-
-    fn list<W: Write>(
-        &self,
-        number: u64,
-        segment: &ProgramHeader,
-        out: &mut W,
-        _problems: &mut Problems,
-    ) -> Result<(), Stop> {
-        list_segment(number, segment, out)?;
-        Ok(())
-    }
-}
-
-/// The heading of the rows of segments.
-pub fn list_heading<W: Write>(out: &mut W) -> io::Result<()> {
+/// Lists segments under a heading, a row for each.
+pub fn list_segments<E: EndianParse, W: Write>(
+    segments: &SegmentTable<'_, E>,
+    out: &mut W,
+) -> io::Result<()> {
     writeln!(out, "Segments:")?;
     writeln!(
         out,
         "   nr type               offset   address          physical address file size memory   flags align"
-    )
+    )?;
+    for (number, segment) in segments.iter().enumerate() {
+        list_segment(number, &segment, out)?;
+    }
+    Ok(())
 }
 
-fn list_segment<W: Write>(number: u64, segment: &ProgramHeader, out: &mut W) -> io::Result<()> {
+fn list_segment<W: Write>(number: usize, segment: &ProgramHeader, out: &mut W) -> io::Result<()> {
     let ProgramHeader {
         p_type,
         p_offset,
