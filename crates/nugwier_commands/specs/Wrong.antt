@@ -21,14 +21,13 @@ use Rattle.elf.specs.ObjectFile.{ObjectFile}
 use Rattle.elf_tools.specs.Needed.{entries_in, or_error, string_part}
 use Rattle.elf_tools.specs.declared.needed.NamesError.{NamesError}
 use Rattle.elf_tools.specs.declared.needed.NamesError.TheVariants.{Read}
-use Rattle.nugwier_lines.specs.Names.{entry_wrong, is_listed, needed_wrong, relocation_wrong, section_wrong, symbol_wrong}
+use Rattle.nugwier_lines.specs.Names.{entry_wrong, needed_wrong, relocation_wrong, section_wrong, symbol_wrong}
 use Rattle.nugwier_lines.specs.Places.{at_if, is_error, numbered}
 use Rattle.nugwier_lines.specs.declared.problem.Item.TheVariants.{Whole, Symbols as ItemSymbols}
 use Rattle.nugwier_lines.specs.declared.problem.Part.{Part}
 use Rattle.nugwier_lines.specs.declared.problem.Part.TheVariants.{Dynamic, DynamicStrings, DynamicSymbols, Section, SectionNames}
 use Rattle.nugwier_lines.specs.declared.problem.Part.TheVariants.{Segment, Symbols, Versions as VersionPart}
 use Rattle.nugwier_lines.specs.declared.problem.Place.{Place}
-use Rattle.nugwier_lines.specs.declared.symbols.Form.{Form}
 
 -- a part as a whole
 abbrev pub whole : Part → Place
@@ -53,26 +52,26 @@ part_wrong part none wrong (Err e) = whole part ∷ []
 
 -- ---- symbols
 
--- of the symbols of a table with these strings and versions, whose rows have this form
-abbrev pub table_wrong : {E : Type 0} → Form E → Part → Option Versions → Table × List ℕ → List Place
-table_wrong form part versions symbols =
-    numbered (λ i symbol. symbol_wrong (is_listed form i symbol) part symbols.1 versions i symbol) 0
+-- of the symbols of a table with these strings and versions, if they have a row
+abbrev pub table_wrong : (ℕ → Symbol → Bool) → Part → Option Versions → Table × List ℕ → List Place
+table_wrong has_row part versions symbols =
+    numbered (λ i symbol. symbol_wrong (has_row i symbol) part symbols.1 versions i symbol) 0
     (table_items symbol_reads symbols.0)
 
 -- the versions of the file, then the symbols
-abbrev pub versioned_wrong : {E : Type 0} → Form E → ObjectFile → Table × List ℕ → List Place
-versioned_wrong form file symbols =
+abbrev pub versioned_wrong : (ℕ → Symbol → Bool) → ObjectFile → Table × List ℕ → List Place
+versioned_wrong has_row file symbols =
     at_if (is_error (symbol_version_table file)) (whole VersionPart)
-    ++ table_wrong form DynamicSymbols (readable (symbol_version_table file)) symbols
+    ++ table_wrong has_row DynamicSymbols (readable (symbol_version_table file)) symbols
 
 -- of the symbols for dynamic linking, which have to be there
-abbrev pub dynamic_symbols_wrong : {E : Type 0} → List Place → Form E → ObjectFile → List Place
-dynamic_symbols_wrong none form file =
-    part_wrong DynamicSymbols none (versioned_wrong form file) (dynamic_symbol_table file)
+abbrev pub dynamic_symbols_wrong : List Place → (ℕ → Symbol → Bool) → ObjectFile → List Place
+dynamic_symbols_wrong none has_row file =
+    part_wrong DynamicSymbols none (versioned_wrong has_row file) (dynamic_symbol_table file)
 
 -- of the other symbols, if there are any
-abbrev pub symbols_wrong : {E : Type 0} → Form E → ObjectFile → List Place
-symbols_wrong form file = part_wrong Symbols [] (table_wrong form Symbols None) (symbol_table file)
+abbrev pub symbols_wrong : ObjectFile → List Place
+symbols_wrong file = part_wrong Symbols [] (table_wrong (λ i symbol. true) Symbols None) (symbol_table file)
 
 -- ---- dynamic entries
 
@@ -112,8 +111,10 @@ entries_of file = part_wrong Dynamic [] (listed_in file) (dynamic file)
 -- the names of the sections, then each name
 abbrev pub sections_wrong : ObjectFile → List Place
 sections_wrong file =
-    at_if (is_error (name_table file)) (whole SectionNames)
+    if file.declares_sections
+    then at_if (is_error (name_table file)) (whole SectionNames)
     ++ numbered (section_wrong (readable (name_table file))) 0 file.sections
+    else []
 
 -- ---- relocations
 

@@ -5,6 +5,7 @@ ghost use Rattle.elf.specs.ObjectFile.{object_file};
 ghost use Rattle.nugwier_commands.specs.Wrong.{sections_wrong};
 
 use crate::contents::list_content;
+use crate::names::name_table;
 use crate::notes::list_notes;
 use crate::relocations::list_relocations;
 use crate::strings::list_entries;
@@ -13,7 +14,6 @@ use crate::version_lists::list_versions;
 use crate::words::Job;
 use elf::ElfBytes;
 use elf::endian::EndianParse;
-use elf::string_table::TerminatedStrings;
 use nugwier_lines::header::list_header;
 use nugwier_lines::problem::{Item, Part, Place, Problems, Stop};
 use nugwier_lines::rows::list_records;
@@ -98,9 +98,9 @@ fn list_sections<E: EndianParse, W: Write>(
     let Some(table) = file.section_headers() else {
         return Ok(());
     };
-    let names = match problems.readable(place, file.section_headers_with_strtab())? {
-        Some((_, Some(names))) => Some(TerminatedStrings::new(&names)),
-        _ => None,
+    let names = match problems.readable(place, name_table(file))? {
+        Some(names) => names,
+        None => None,
     };
     sections::list_heading(out)?;
     list_records(table.iter(), &SectionRow { names }, out, problems)

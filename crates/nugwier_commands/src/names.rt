@@ -1,16 +1,34 @@
 //! The names of sections.
-use elf::ElfBytes;
+ghost use Rattle.std.specs.Prelude.{◌≡◌};
+ghost use Rattle.elf.specs.ElfBytes.{view};
+ghost use Rattle.elf.specs.Names.{name_table};
+ghost use Rattle.elf.specs.ObjectFile.{object_file};
+
 use elf::endian::EndianParse;
 use elf::section::SectionHeader;
 use elf::string_table::TerminatedStrings;
+use elf::{ElfBytes, ParseError};
+
+/// Returns the names of the sections, if there are any.
+pub(crate) fn name_table<'data, E: EndianParse>(
+    file: &ElfBytes<'data, E>,
+) -> Result<Option<TerminatedStrings<'data>>, ParseError>
+    ensures { result ≡ name_table (object_file E.little (view file.now)) }
+{
+    match file.section_headers_with_strtab() {
+        Ok((_, Some(names))) => Ok(Some(TerminatedStrings::new(&names))),
+        Ok((_, None)) => Ok(None),
+        Err(error) => Err(error),
+    }
+}
 
 /// Returns the names of the sections, if they can be read.
 pub(crate) fn readable_names<'data, E: EndianParse>(
     file: &ElfBytes<'data, E>,
 ) -> Option<TerminatedStrings<'data>> {
-    match file.section_headers_with_strtab() {
-        Ok((_, Some(names))) => Some(TerminatedStrings::new(&names)),
-        _ => None,
+    match name_table(file) {
+        Ok(names) => names,
+        Err(_) => None,
     }
 }
 

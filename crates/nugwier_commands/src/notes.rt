@@ -117,7 +117,7 @@ fn list_found<'data, E: EndianParse, W: Write>(
     out: &mut W,
     problems: &mut Problems,
 ) -> Result<(), Stop>
-    ensures { OnOk result (problems.new ≡ problems.old ++ at_if (is_error notes) (whole part)) }
+    ensures { OnOk result (problems.new ≡ problems.old ++ at_if (is_error notes.entry) (whole part)) }
 {
     let place = Place {
         part,

@@ -115,7 +115,7 @@ fn list_section<'data, E: EndianParse, W: Write>(
     problems: &mut Problems,
 ) -> Result<(), Stop>
     ensures { OnOk result (problems.new ≡ problems.old
-        ++ records_wrong (object_file E.little (view file.now)) (option_map symbols_view symbols) number section.now) }
+        ++ records_wrong (object_file E.little (view file.now)) (option_map symbols_view symbols.entry) number section.now) }
 {
     let part = Part::Section(number);
     let place = Place {

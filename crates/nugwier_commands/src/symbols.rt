@@ -1,12 +1,12 @@
 //! The symbols of a file.
-ghost use Rattle.std.specs.Prelude.{◌≡◌, ◌++◌, [], ◌∷◌, OnOk};
+ghost use Rattle.std.specs.Prelude.{◌≡◌, ◌++◌, [], ◌∷◌, true, OnOk};
 ghost use Rattle.std.specs.Option.{option_map};
 ghost use Rattle.elf.specs.Answers.{symbols_view};
 ghost use Rattle.elf.specs.ElfBytes.{view};
 ghost use Rattle.elf.specs.ObjectFile.{object_file};
 ghost use Rattle.nugwier_commands.specs.Wrong.{dynamic_symbols_wrong, symbols_wrong, table_wrong, versioned_wrong, whole};
+ghost use Rattle.nugwier_lines.specs.Names.{is_listed};
 ghost use Rattle.nugwier_lines.specs.declared.problem.Part.TheVariants.{DynamicSymbols};
-ghost use Rattle.nugwier_lines.specs.declared.symbols.Form.TheVariants.{Fields};
 
 use elf::endian::EndianParse;
 use elf::gnu_symver::{IndexedVersions, SymbolVersionTable};
@@ -43,7 +43,7 @@ pub(crate) fn list_dynamic_symbols<'data, E: EndianParse, W: Write>(
     problems: &mut Problems,
 ) -> Result<(), Stop>
     ensures { OnOk result (problems.new ≡ problems.old
-        ++ dynamic_symbols_wrong (whole DynamicSymbols ∷ []) form (object_file E.little (view file.now))) }
+        ++ dynamic_symbols_wrong (whole DynamicSymbols ∷ []) (is_listed form.entry) (object_file E.little (view file.now))) }
 {
     match file.dynamic_symbol_table() {
         Ok(Some(symbols)) => list_versioned(alloc, file, symbols, form, out, problems),
@@ -62,7 +62,7 @@ fn list_versioned<'data, E: EndianParse, W: Write>(
     problems: &mut Problems,
 ) -> Result<(), Stop>
     ensures { OnOk result (problems.new ≡ problems.old
-        ++ versioned_wrong form (object_file E.little (view file.now)) (symbols_view symbols)) }
+        ++ versioned_wrong (is_listed form.entry) (object_file E.little (view file.now)) (symbols_view symbols.entry)) }
 {
     let versions = problems.readable(whole(Part::Versions), file.symbol_version_table())?;
     let versions = match versions {
@@ -81,7 +81,7 @@ fn list_rows<'a, 'data, E: EndianParse, W: Write>(
     out: &mut W,
     problems: &mut Problems,
 ) -> Result<(), Stop>
-    ensures { OnOk result (problems.new ≡ problems.old ++ table_wrong form part (option_map (λ index. index) versions) (symbols_view symbols)) }
+    ensures { OnOk result (problems.new ≡ problems.old ++ table_wrong (is_listed form.entry) part (option_map (λ index. index) versions.entry) (symbols_view symbols.entry)) }
 {
     let (table, strings) = symbols;
     let names = Names {
@@ -100,7 +100,7 @@ pub(crate) fn list_symbols<E: EndianParse, W: Write>(
     problems: &mut Problems,
 ) -> Result<(), Stop>
     ensures { OnOk result (problems.new ≡ problems.old
-        ++ symbols_wrong (Fields {E}) (object_file E.little (view file.now))) }
+        ++ symbols_wrong (object_file E.little (view file.now))) }
 {
     match file.symbol_table() {
         Ok(Some(symbols)) => {
@@ -120,7 +120,7 @@ pub(crate) fn list_linked<E: EndianParse, W: Write>(
     problems: &mut Problems,
 ) -> Result<(), Stop>
     ensures { OnOk result (problems.new ≡ problems.old
-        ++ dynamic_symbols_wrong [] (Fields {E}) (object_file E.little (view file.now))) }
+        ++ dynamic_symbols_wrong [] (λ i symbol. true) (object_file E.little (view file.now))) }
 {
     match file.dynamic_symbol_table() {
         Ok(Some(symbols)) => {
