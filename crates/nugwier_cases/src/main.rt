@@ -1,0 +1,41 @@
+//! Runs test cases of `nugwier`: each line of the file `cases` is the words of a command line, which name files beside
+//! the program. Prints the line, what is listed, what is told on standard error, and the exit status.
+#![tactic(auto)]
+
+use nugwier_commands::files::Files;
+use nugwier_commands::run::run;
+use std::io::Write;
+use std::{fs, io};
+
+/// The files beside the program.
+#[derive(Drop)]
+struct CaseFiles<'a> {
+    rt: &'a HostRuntime,
+}
+
+impl Files for CaseFiles<'_> {
+    fn read(&self, path: &str) -> io::Result<Vec<u8>> {
+        fs::read(self.rt, path)
+    }
+}
+
+fn main(rt: HostRuntime) -> io::Result<()> {
+    let cases = fs::read_to_string(&rt, "cases")?;
+    let mut out = rt.stdout();
+    for case in cases.lines() {
+        show_case(&rt, case, &mut out)?;
+    }
+    Ok(())
+}
+
+fn show_case<W: Write>(rt: &HostRuntime, case: &str, out: &mut W) -> io::Result<()> {
+    let words: Vec<&str> = case.split_whitespace().collect(rt.alloc())?;
+    let mut listed = Vec::new(rt.alloc());
+    let mut told = Vec::new(rt.alloc());
+    let files = CaseFiles { rt };
+    let status = run(rt.alloc(), words.as_slice(), &files, &mut listed, &mut told);
+    writeln!(out, "== nugwier {case}")?;
+    out.write_all(listed.as_slice())?;
+    out.write_all(told.as_slice())?;
+    writeln!(out, "status {status}")
+}

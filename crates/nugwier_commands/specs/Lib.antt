@@ -1,0 +1,2 @@
+-- the places at which a file is wrong
+pub mod Wrong

@@ -1,0 +1,170 @@
+-- The places at which a file is wrong, by what the library answers.
+use Rattle.std.specs.Prelude.{ℕ, Bool, true, false, ◌==◌, ◌||◌, if◌then◌else◌, List, [], ◌∷◌, ◌++◌}
+use Rattle.std.specs.Prelude.{Option, Some, None, Result, Ok, Err}
+use Rattle.std.specs.Result.{result_ok}
+use Rattle.elf_abi.specs.Values.{pt_note, sht_dynsym, sht_note, sht_rel, sht_rela, sht_symtab}
+use Rattle.elf_parts.specs.gnu_symver.Table.{Versions}
+use Rattle.elf_records.specs.Dynamic.{dyn_reads}
+use Rattle.elf_records.specs.Record.{◌>>=◌}
+use Rattle.elf_records.specs.Symbol.{symbol_reads}
+use Rattle.elf_records.specs.Table.{Table, table_items}
+use Rattle.elf_records.specs.declared.dynamic.Dyn.{Dyn}
+use Rattle.elf_records.specs.declared.parse.ParseError.{ParseError}
+use Rattle.elf_records.specs.declared.section.SectionHeader.{SectionHeader}
+use Rattle.elf_records.specs.declared.segment.ProgramHeader.{ProgramHeader}
+use Rattle.elf_records.specs.declared.symbol.Symbol.{Symbol}
+use Rattle.elf.specs.Answers.{dynamic, dynamic_symbol_table, section_data_as_notes, section_data_as_relas}
+use Rattle.elf.specs.Answers.{section_data_as_rels, segment_data, segment_data_as_notes, symbol_table}
+use Rattle.elf.specs.Answers.{symbol_version_table}
+use Rattle.elf.specs.Names.{name_table}
+use Rattle.elf.specs.ObjectFile.{ObjectFile}
+use Rattle.elf_tools.specs.Needed.{entries_in, or_error, string_part}
+use Rattle.elf_tools.specs.declared.needed.NamesError.{NamesError}
+use Rattle.elf_tools.specs.declared.needed.NamesError.TheVariants.{Read}
+use Rattle.nugwier_lines.specs.Names.{entry_wrong, needed_wrong, relocation_wrong, section_wrong, symbol_wrong}
+use Rattle.nugwier_lines.specs.Places.{at_if, is_error, numbered}
+use Rattle.nugwier_lines.specs.declared.problem.Item.TheVariants.{Whole, Symbols as ItemSymbols}
+use Rattle.nugwier_lines.specs.declared.problem.Part.{Part}
+use Rattle.nugwier_lines.specs.declared.problem.Part.TheVariants.{Dynamic, DynamicStrings, DynamicSymbols, Section, SectionNames}
+use Rattle.nugwier_lines.specs.declared.problem.Part.TheVariants.{Segment, Symbols, Versions as VersionPart}
+use Rattle.nugwier_lines.specs.declared.problem.Place.{Place}
+
+-- a part as a whole
+abbrev pub whole : Part → Place
+whole part = record { part = part; item = Whole }
+
+-- a part that has to be there: it is wrong if it cannot be read, and if there is none
+abbrev pub answer_wrong : {A E : Type 0} → Part → Result (Option A) E → List Place
+answer_wrong part (Ok (Some x)) = []
+answer_wrong part (Ok None) = whole part ∷ []
+answer_wrong part (Err e) = whole part ∷ []
+
+-- what was read, if it was
+abbrev pub readable : {A E : Type 0} → Result (Option A) E → Option A
+readable (Ok found) = found
+readable (Err e) = None
+
+-- what is wrong with a part that has this answer: it cannot be read; if there is none, this; and else what is in it
+abbrev pub part_wrong : {A : Type 0} → Part → List Place → (A → List Place) → Result (Option A) ParseError → List Place
+part_wrong part none wrong (Ok (Some x)) = wrong x
+part_wrong part none wrong (Ok None) = none
+part_wrong part none wrong (Err e) = whole part ∷ []
+
+-- ---- symbols
+
+-- of the symbols of a table with these strings and versions, if they have a row
+abbrev pub table_wrong : (ℕ → Symbol → Bool) → Part → Option Versions → Table × List ℕ → List Place
+table_wrong has_row part versions symbols =
+    numbered (λ i symbol. symbol_wrong (has_row i symbol) part symbols.1 versions i symbol) 0
+    (table_items symbol_reads symbols.0)
+
+-- the versions of the file, then the symbols
+abbrev pub versioned_wrong : (ℕ → Symbol → Bool) → ObjectFile → Table × List ℕ → List Place
+versioned_wrong has_row file symbols =
+    at_if (is_error (symbol_version_table file)) (whole VersionPart)
+    ++ table_wrong has_row DynamicSymbols (readable (symbol_version_table file)) symbols
+
+-- of the symbols for dynamic linking, which have to be there
+abbrev pub dynamic_symbols_wrong : List Place → (ℕ → Symbol → Bool) → ObjectFile → List Place
+dynamic_symbols_wrong none has_row file =
+    part_wrong DynamicSymbols none (versioned_wrong has_row file) (dynamic_symbol_table file)
+
+-- of the other symbols, if there are any
+abbrev pub symbols_wrong : ObjectFile → List Place
+symbols_wrong file = part_wrong Symbols [] (table_wrong (λ i symbol. true) Symbols None) (symbol_table file)
+
+-- ---- dynamic entries
+
+-- the strings that the entries name, by their address
+abbrev pub strings_by : ObjectFile → List Dyn → Result (List ℕ) NamesError
+strings_by file entries = string_part file.segments entries >>= λ part. or_error Read (segment_data file part)
+
+-- of the names that a list of needed libraries shows, if the strings can be read
+abbrev pub names_wrong : List Dyn → Option (List ℕ) → List Place
+names_wrong entries None = []
+names_wrong entries (Some strings) = numbered (needed_wrong strings) 0 entries
+
+-- the strings, then the names
+abbrev pub needed_in : ObjectFile → Table → List Place
+needed_in file table =
+    let entries = entries_in table in
+    let strings = strings_by file entries in
+    at_if (is_error strings) (whole DynamicStrings) ++ names_wrong entries (result_ok strings)
+
+-- those of a list of all entries
+abbrev pub listed_in : ObjectFile → Table → List Place
+listed_in file table =
+    let entries = entries_in table in
+    let strings = strings_by file entries in
+    at_if (is_error strings) (whole DynamicStrings) ++ numbered (entry_wrong (result_ok strings)) 0 entries
+
+-- of the names and search paths, for which there have to be dynamic entries
+abbrev pub needed_of : ObjectFile → List Place
+needed_of file = part_wrong Dynamic (whole Dynamic ∷ []) (needed_in file) (dynamic file)
+
+-- of all entries, if there are any
+abbrev pub entries_of : ObjectFile → List Place
+entries_of file = part_wrong Dynamic [] (listed_in file) (dynamic file)
+
+-- ---- sections
+
+-- the names of the sections, then each name
+abbrev pub sections_wrong : ObjectFile → List Place
+sections_wrong file =
+    if file.declares_sections
+    then at_if (is_error (name_table file)) (whole SectionNames)
+    ++ numbered (section_wrong (readable (name_table file))) 0 file.sections
+    else []
+
+-- ---- relocations
+
+-- the symbols of the section of this number; section 0 is none, and a section of another type has none
+abbrev pub linked_symbols : ObjectFile → ℕ → Result (Option (Table × List ℕ)) ParseError
+linked_symbols file n =
+    if n == 0 then Ok None
+    else file.section_at n >>= λ s.
+    if s.sh_type == sht_dynsym then dynamic_symbol_table file
+    else if s.sh_type == sht_symtab then symbol_table file
+    else Ok None
+
+-- the symbol of each, by the number that these give, or the section as a whole
+abbrev pub symbols_of_each : {R : Type 0} → (R → ℕ) → Option (Table × List ℕ) → ℕ → Result (List R) ParseError →
+    List Place
+symbols_of_each number symbols i (Ok records) =
+    numbered (λ k r. relocation_wrong (Section i) symbols k (number r)) 0 records
+symbols_of_each number symbols i (Err e) = whole (Section i) ∷ []
+
+abbrev pub records_wrong : ObjectFile → Option (Table × List ℕ) → ℕ → SectionHeader → List Place
+records_wrong file symbols i s =
+    if s.sh_type == sht_rel then symbols_of_each (λ r. r.r_sym) symbols i (section_data_as_rels file s)
+    else symbols_of_each (λ r. r.r_sym) symbols i (section_data_as_relas file s)
+
+-- of the relocations of section i, if it has any: the symbols, then each relocation
+abbrev pub relocations_in : ObjectFile → ℕ → SectionHeader → List Place
+relocations_in file i s =
+    if s.sh_type == sht_rel || s.sh_type == sht_rela
+    then (let symbols = linked_symbols file s.sh_link in
+    at_if (is_error symbols) (record { part = Section i; item = ItemSymbols })
+    ++ records_wrong file (readable symbols) i s)
+    else []
+
+abbrev pub relocations_wrong : ObjectFile → List Place
+relocations_wrong file = numbered (relocations_in file) 0 file.sections
+
+-- ---- notes
+
+abbrev pub section_notes_wrong : ObjectFile → ℕ → SectionHeader → List Place
+section_notes_wrong file i s =
+    if s.sh_type == sht_note then at_if (is_error (section_data_as_notes file s)) (whole (Section i)) else []
+
+abbrev pub one_segment_wrong : ObjectFile → ℕ → ProgramHeader → List Place
+one_segment_wrong file i p =
+    if p.p_type == pt_note then at_if (is_error (segment_data_as_notes file p)) (whole (Segment i)) else []
+
+abbrev pub segment_notes_wrong : ObjectFile → List Place
+segment_notes_wrong file = numbered (one_segment_wrong file) 0 file.segments
+
+-- of the sections or, if none are declared, of the segments
+abbrev pub notes_wrong : ObjectFile → List Place
+notes_wrong file =
+    if file.declares_sections then numbered (section_notes_wrong file) 0 file.sections else segment_notes_wrong file

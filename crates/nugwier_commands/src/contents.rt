@@ -1,0 +1,83 @@
+//! The content of a section.
+use crate::names::readable_names;
+use crate::words::{Form, Wanted};
+use elf::endian::EndianParse;
+use elf::section::SectionHeader;
+use elf::string_table::TerminatedStrings;
+use elf::{ElfBytes, ParseError};
+use nugwier_lines::dump::{list_bytes, list_strings};
+use nugwier_lines::escape::Escaped;
+use nugwier_lines::problem::{Fault, Item, Part, Place, Problems, Stop};
+use std::io::Write;
+
+/// Lists the content of a section, by its name or its number. It is wrong if there is no such section.
+pub(crate) fn list_content<E: EndianParse, W: Write>(
+    file: &ElfBytes<'_, E>,
+    wanted: &Wanted<'_>,
+    out: &mut W,
+    problems: &mut Problems,
+) -> Result<(), Stop> {
+    match find(file, wanted.section) {
+        Some((number, section)) => list_found(file, number, &section, wanted, out, problems),
+        None => {
+            let place = Place {
+                part: Part::Wanted,
+                item: Item::Whole,
+            };
+            problems.add(place, Fault::Missing)
+        }
+    }
+}
+
+fn list_found<E: EndianParse, W: Write>(
+    file: &ElfBytes<'_, E>,
+    number: usize,
+    section: &SectionHeader,
+    wanted: &Wanted<'_>,
+    out: &mut W,
+    problems: &mut Problems,
+) -> Result<(), Stop> {
+    let place = Place {
+        part: Part::Section(number as u64),
+        item: Item::Whole,
+    };
+    let (bytes, _) = match file.section_data(section) {
+        Ok(found) => found,
+        Err(error) => return problems.add(place, Fault::Read(error)),
+    };
+    let name = Escaped(wanted.section.as_bytes());
+    match wanted.form {
+        Form::Bytes => {
+            writeln!(out, "Bytes of section {name}:")?;
+            list_bytes(bytes, out)
+        }
+        Form::Strings => {
+            writeln!(out, "Strings of section {name}:")?;
+            list_strings(bytes, out)
+        }
+    }
+}
+
+// The section of a name; or of a number, if no section has such a name.
+fn find<E: EndianParse>(file: &ElfBytes<'_, E>, wanted: &str) -> Option<(usize, SectionHeader)> {
+    let sections = file.section_headers()?;
+    if let Some(names) = readable_names(file) {
+        let named = sections
+            .iter()
+            .enumerate()
+            .find(|one| has_name(&names, &one.1, wanted));
+        if named.is_some() {
+            return named;
+        }
+    }
+    let number: usize = wanted.parse().ok()?;
+    let section: SectionHeader = sections.get(number).ok()?;
+    Some((number, section))
+}
+
+fn has_name(names: &TerminatedStrings<'_>, section: &SectionHeader, name: &str) -> bool {
+    match names.is(section.sh_name as usize, name.as_bytes()) {
+        Ok(is_same) => is_same,
+        Err(_) => false,
+    }
+}

@@ -1,0 +1,101 @@
+//! What `--help` and `--version` print.
+use crate::words::Command;
+
+/// The name and the version of the program.
+pub(crate) const VERSION: &str = "nugwier 0.1.0";
+
+const PROGRAM: &str = "\
+nugwier lists what an ELF file holds.
+
+usage: nugwier COMMAND [OPTION..] FILE..
+
+  list        the headers, the tables and the contents of a file
+  symbols     the symbols for dynamic linking, with their versions
+  needed      the file's own name, the libraries that it needs, and where they are looked for
+  exports     the functions that a file defines for others, with their versions
+  build-id    the build id
+  plan        what a loader maps into memory, and where
+  check       what is wrong with the hash sections of a file
+
+  COMMAND --help    how the command is called
+  --version         the version of nugwier
+
+FILE is a path, or - for standard input. Of several files each has a heading. What cannot be read is told on
+standard error with the file's name, and the rest is still listed.
+
+Exit status: 0 if all was read; 1 if a file, or a part of it, is missing or cannot be read; 2 if the words are wrong.";
+
+const LIST: &str = "\
+usage: nugwier list [OPTION..] FILE..
+
+Lists the parts of a file that the options name; without options, all of -a.
+
+  -h           the file header
+  -S           the sections
+  -l           the segments
+  -s           the symbols
+  -D           the symbols for dynamic linking, with their versions
+  -d           the dynamic entries, with the strings that they name
+  -r           the relocations, with the names of their symbols
+  -n           the notes
+  -V           the versions of the symbols for dynamic linking
+  -a           all of these
+  -x SECTION   the bytes of a section, by its name or its number
+  -p SECTION   the strings of a section, by its name or its number
+
+Letters may stand together, as in -hSl. After -- each word is a file.";
+
+const SYMBOLS: &str = "\
+usage: nugwier symbols FILE..
+
+Lists the symbols for dynamic linking in the order of their table: the value, a letter, and NAME@VERSION, or
+NAME@@VERSION of a default version. The letter is in lower case if the symbol is local:
+
+  T  code                     V, v  a weak object, defined or not
+  D  data that is written     W, w  another weak symbol, defined or not
+  R  data that is only read   U     an undefined symbol
+  B  data without bytes       i     a function that is chosen when the file is loaded
+  A  an absolute value        u     a unique symbol
+  C  a common symbol          N     of a section that is not loaded
+  ?  of no section";
+
+const NEEDED: &str = "\
+usage: nugwier needed FILE..
+
+Lists the file's own name (soname), the libraries that it needs (needed) and where they are looked for (rpath, runpath),
+in the order of the dynamic entries.";
+
+const EXPORTS: &str = "\
+usage: nugwier exports FILE..
+
+Lists the functions that a file defines for others, as NAME@VERSION, or NAME@@VERSION of a default version.";
+
+const BUILD_ID: &str = "\
+usage: nugwier build-id FILE..
+
+Prints the build id, which the notes of a file hold, in hexadecimal.";
+
+const PLAN: &str = "\
+usage: nugwier plan FILE..
+
+Lists what a loader maps: the addresses, the bytes of the file that are there, and the permissions. The rest of the
+memory is 0. Tells why, if a file cannot be mapped so.";
+
+const CHECK: &str = "\
+usage: nugwier check FILE..
+
+Checks the hash sections of a file, by which symbols are looked up, and tells what is wrong with them.";
+
+/// How the program, or one of its commands, is called.
+pub(crate) fn help(command: Option<Command>) -> &'static str {
+    match command {
+        None => PROGRAM,
+        Some(Command::List) => LIST,
+        Some(Command::Symbols) => SYMBOLS,
+        Some(Command::Needed) => NEEDED,
+        Some(Command::Exports) => EXPORTS,
+        Some(Command::BuildId) => BUILD_ID,
+        Some(Command::Plan) => PLAN,
+        Some(Command::Check) => CHECK,
+    }
+}

@@ -1,0 +1,20 @@
+//! The program `nugwier` without its surroundings: what the words of its command line ask for (`words`), and what it
+//! lists of each file (`run`). `run` gets files by a trait (`files::Files`).
+#![tactic(auto)]
+
+mod check;
+mod contents;
+pub mod files;
+mod help;
+mod identity;
+mod list;
+mod names;
+mod notes;
+mod plan;
+mod relocations;
+mod report;
+pub mod run;
+mod strings;
+mod symbols;
+mod version_lists;
+pub mod words;

@@ -1,0 +1,117 @@
+//! The parts of a file.
+ghost use Rattle.std.specs.Prelude.{◌≡◌, ◌++◌, OnOk};
+ghost use Rattle.elf.specs.ElfBytes.{view};
+ghost use Rattle.elf.specs.ObjectFile.{object_file};
+ghost use Rattle.nugwier_commands.specs.Wrong.{sections_wrong};
+
+use crate::contents::list_content;
+use crate::names::name_table;
+use crate::notes::list_notes;
+use crate::relocations::list_relocations;
+use crate::strings::list_entries;
+use crate::symbols::{list_linked, list_symbols};
+use crate::version_lists::list_versions;
+use crate::words::Job;
+use elf::ElfBytes;
+use elf::endian::EndianParse;
+use nugwier_lines::header::list_header;
+use nugwier_lines::problem::{Item, Part, Place, Problems, Stop};
+use nugwier_lines::rows::list_records;
+use nugwier_lines::sections::SectionRow;
+use nugwier_lines::{sections, segments};
+use std::alloc::Global;
+use std::io::Write;
+
+/// Lists the parts of a file that the job names, then the contents of sections.
+pub(crate) fn list<E: EndianParse, W: Write>(
+    alloc: Global,
+    job: &Job<'_>,
+    file: &ElfBytes<'_, E>,
+    out: &mut W,
+    problems: &mut Problems,
+) -> Result<(), Stop> {
+    list_headers(job, file, out, problems)?;
+    list_tables(alloc, job, file, out, problems)?;
+    for wanted in &job.contents {
+        list_content(file, wanted, out, problems)?;
+    }
+    Ok(())
+}
+
+fn list_headers<E: EndianParse, W: Write>(
+    job: &Job<'_>,
+    file: &ElfBytes<'_, E>,
+    out: &mut W,
+    problems: &mut Problems,
+) -> Result<(), Stop> {
+    if job.parts.header {
+        list_header(&file.ehdr, out)?;
+    }
+    if job.parts.sections {
+        list_sections(file, out, problems)?;
+    }
+    if job.parts.segments {
+        list_segments(file, out)?;
+    }
+    Ok(())
+}
+
+fn list_tables<E: EndianParse, W: Write>(
+    alloc: Global,
+    job: &Job<'_>,
+    file: &ElfBytes<'_, E>,
+    out: &mut W,
+    problems: &mut Problems,
+) -> Result<(), Stop> {
+    if job.parts.symbols {
+        list_symbols(file, out, problems)?;
+    }
+    if job.parts.dynamic_symbols {
+        list_linked(alloc, file, out, problems)?;
+    }
+    if job.parts.dynamic {
+        list_entries(alloc, file, out, problems)?;
+    }
+    if job.parts.relocations {
+        list_relocations(file, out, problems)?;
+    }
+    if job.parts.notes {
+        list_notes(file, out, problems)?;
+    }
+    if job.parts.versions {
+        list_versions(file, out, problems)?;
+    }
+    Ok(())
+}
+
+fn list_sections<E: EndianParse, W: Write>(
+    file: &ElfBytes<'_, E>,
+    out: &mut W,
+    problems: &mut Problems,
+) -> Result<(), Stop>
+    ensures { OnOk result (problems.new ≡ problems.old ++ sections_wrong (object_file E.little (view file.now))) }
+{
+    let place = Place {
+        part: Part::SectionNames,
+        item: Item::Whole,
+    };
+    let Some(table) = file.section_headers() else {
+        return Ok(());
+    };
+    let names = match problems.readable(place, name_table(file))? {
+        Some(names) => names,
+        None => None,
+    };
+    sections::list_heading(out)?;
+    list_records(table.iter(), &SectionRow { names }, out, problems)
+}
+
+fn list_segments<E: EndianParse, W: Write>(
+    file: &ElfBytes<'_, E>,
+    out: &mut W,
+) -> Result<(), Stop> {
+    if let Some(table) = file.segments() {
+        segments::list_segments(&table, out)?;
+    }
+    Ok(())
+}

@@ -1,0 +1,135 @@
+//! The relocations of a file.
+ghost use Rattle.std.specs.Prelude.{◌≡◌, ◌++◌, OnOk};
+ghost use Rattle.std.specs.Option.{option_map};
+ghost use Rattle.elf.specs.ElfBytes.{view};
+ghost use Rattle.elf.specs.ObjectFile.{object_file};
+ghost use Rattle.elf_records.specs.Number.{ok_map};
+ghost use Rattle.nugwier_commands.specs.Wrong.{linked_symbols, records_wrong, relocations_in, relocations_wrong};
+ghost use Rattle.nugwier_lines.specs.Names.{symbols_view};
+
+use crate::names::{name_of, readable_names};
+use elf::endian::EndianParse;
+use elf::section::SectionHeader;
+use elf::string_table::TerminatedStrings;
+use elf::{ElfBytes, ParseError, abi};
+use nugwier_lines::escape::Escaped;
+use nugwier_lines::problem::{Fault, Item, Part, Place, Problems, Stop};
+use nugwier_lines::relocations::{RelRow, RelaRow, Symbols, list_heading};
+use nugwier_lines::rows::{Row, list_records};
+use std::io::Write;
+
+/// Lists the relocations of each section that has them.
+pub(crate) fn list_relocations<E: EndianParse, W: Write>(
+    file: &ElfBytes<'_, E>,
+    out: &mut W,
+    problems: &mut Problems,
+) -> Result<(), Stop>
+    ensures { OnOk result (problems.new ≡ problems.old ++ relocations_wrong (object_file E.little (view file.now))) }
+{
+    let names = readable_names(file);
+    match file.section_headers() {
+        Some(sections) => {
+            list_records(
+                sections.iter(),
+                &RelocationSections { file, names },
+                out,
+                problems,
+            )
+        }
+        None => Ok(()),
+    }
+}
+
+// The relocations of a section, under a heading; nothing of a section of another type.
+#[derive(Drop)]
+struct RelocationSections<'f, 'data, E: EndianParse> {
+    file: &'f ElfBytes<'data, E>,
+    names: Option<TerminatedStrings<'data>>,
+}
+
+impl<'f, 'data, E: EndianParse> Row for RelocationSections<'f, 'data, E> {
+    type Item = SectionHeader;
+
+    ghost wrong = { λ row number section. relocations_in (object_file E.little (view row.file.now)) number section };
+
+    fn list<W: Write>(
+        &self,
+        number: u64,
+        section: &SectionHeader,
+        out: &mut W,
+        problems: &mut Problems,
+    ) -> Result<(), Stop> {
+        if section.sh_type != abi::SHT_REL && section.sh_type != abi::SHT_RELA {
+            return Ok(());
+        }
+        let name = Escaped(name_of(&self.names, section));
+        writeln!(out, "Relocations of section {number} ({name}):")?;
+        list_heading(out)?;
+        let place = Place {
+            part: Part::Section(number),
+            item: Item::Symbols,
+        };
+        let symbols = match problems.readable(place, linked_symbols(self.file, section.sh_link))? {
+            Some(symbols) => symbols,
+            None => None,
+        };
+        list_section(self.file, number, section, symbols, out, problems)
+    }
+}
+
+// The symbols of the section of this number. Section 0 is none; a section of another type has none.
+fn linked_symbols<'data, E: EndianParse>(
+    file: &ElfBytes<'data, E>,
+    number: u32,
+) -> Result<Option<Symbols<'data, E>>, ParseError>
+    ensures { ok_map (option_map symbols_view) result ≡ linked_symbols (object_file E.little (view file.now)) number }
+{
+    if number == 0 {
+        return Ok(None);
+    }
+    let Some(sections) = file.section_headers() else {
+        return Err(ParseError::BadOffset(number as u64));
+    };
+    let linked = sections.get(number as usize)?;
+    let found = match linked.sh_type {
+        abi::SHT_DYNSYM => file.dynamic_symbol_table()?,
+        abi::SHT_SYMTAB => file.symbol_table()?,
+        _ => None,
+    };
+    match found {
+        Some((table, strings)) => Ok(Some(Symbols {
+            table,
+            strings: TerminatedStrings::new(&strings),
+        })),
+        None => Ok(None),
+    }
+}
+
+// Lists the relocations of a section of either type.
+fn list_section<'data, E: EndianParse, W: Write>(
+    file: &ElfBytes<'data, E>,
+    number: u64,
+    section: &SectionHeader,
+    symbols: Option<Symbols<'data, E>>,
+    out: &mut W,
+    problems: &mut Problems,
+) -> Result<(), Stop>
+    ensures { OnOk result (problems.new ≡ problems.old
+        ++ records_wrong (object_file E.little (view file.now)) (option_map symbols_view symbols.entry) number section.now) }
+{
+    let part = Part::Section(number);
+    let place = Place {
+        part,
+        item: Item::Whole,
+    };
+    if section.sh_type == abi::SHT_REL {
+        return match file.section_data_as_rels(section) {
+            Ok(rels) => list_records(rels, &RelRow { part, symbols }, out, problems),
+            Err(error) => problems.add(place, Fault::Read(error)),
+        };
+    }
+    match file.section_data_as_relas(section) {
+        Ok(relas) => list_records(relas, &RelaRow { part, symbols }, out, problems),
+        Err(error) => problems.add(place, Fault::Read(error)),
+    }
+}

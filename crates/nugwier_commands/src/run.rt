@@ -1,0 +1,173 @@
+//! Runs the program, apart from the operating system.
+use crate::check::check;
+use crate::files::Files;
+use crate::help::{VERSION, help};
+use crate::identity::list_build_id;
+use crate::list::list;
+use crate::plan::list_plan;
+use crate::report::report;
+use crate::strings::list_needed;
+use crate::symbols::list_dynamic_symbols;
+use crate::words::{Command, Job, Request, WordError, parse_words};
+use elf::endian::AnyEndian;
+use elf::{ElfBytes, ParseError};
+use nugwier_lines::escape::Escaped;
+use nugwier_lines::problem::{Problems, Stop};
+use nugwier_lines::symbols::Form;
+use std::alloc::Global;
+use std::io;
+use std::io::Write;
+
+/// Does what the words, the arguments after the program's name, ask for. Writes listings to `out`, and flushes it.
+/// Tells on `err` what is wrong, and ignores an error of that write.
+///
+/// Returns the exit status: 0 if all was read; 1 if a file, or a part of it, is missing or cannot be read, the writer
+/// failed or an allocation failed; 2 if the words are wrong.
+pub fn run<F: Files, W: Write, V: Write>(
+    alloc: Global,
+    words: &[&str],
+    files: &F,
+    out: &mut W,
+    err: &mut V,
+) -> u8 {
+    match parse_words(alloc, words) {
+        Ok(Request::Help(command)) => ended(print(help(command), out), err),
+        Ok(Request::Version) => ended(print(VERSION, out), err),
+        Ok(Request::Run(job)) => {
+            let ran = run_job(alloc, &job, files, out, err);
+            ended(ran, err)
+        }
+        Err(error) => {
+            let _ = writeln!(err, "{error}");
+            match error {
+                WordError::Memory => 1,
+                _ => 2,
+            }
+        }
+    }
+}
+
+fn print<W: Write>(text: &str, out: &mut W) -> Result<bool, Stop> {
+    writeln!(out, "{text}")?;
+    out.flush()?;
+    Ok(true)
+}
+
+// The exit status of a run, by whether all was read. A writer whose reader has gone is no news; any other reason to
+// stop is told.
+fn ended<V: Write>(ran: Result<bool, Stop>, err: &mut V) -> u8 {
+    match ran {
+        Ok(true) => 0,
+        Ok(false) => 1,
+        Err(Stop::Memory) => {
+            let _ = writeln!(err, "nugwier: out of memory");
+            1
+        }
+        Err(Stop::Write(error)) => {
+            if error.kind() != io::ErrorKind::BrokenPipe {
+                let _ = writeln!(err, "nugwier: standard output: {error}");
+            }
+            1
+        }
+    }
+}
+
+// Lists each file, and returns whether all was read.
+fn run_job<F: Files, W: Write, V: Write>(
+    alloc: Global,
+    job: &Job<'_>,
+    files: &F,
+    out: &mut W,
+    err: &mut V,
+) -> Result<bool, Stop> {
+    let mut is_read = true;
+    for (place, path) in job.files.as_slice().iter().enumerate() {
+        if job.files.len() > 1 {
+            list_heading(place, *path, out)?;
+        }
+        is_read &= run_file(alloc, job, files, *path, out, err)?;
+    }
+    out.flush()?;
+    Ok(is_read)
+}
+
+// The heading of one of several files, after an empty line.
+fn list_heading<W: Write>(place: usize, path: &str, out: &mut W) -> io::Result<()> {
+    if place != 0 {
+        writeln!(out)?;
+    }
+    let path = Escaped(path.as_bytes());
+    writeln!(out, "{path}:")
+}
+
+// Lists a file, and returns whether all of it was read.
+fn run_file<F: Files, W: Write, V: Write>(
+    alloc: Global,
+    job: &Job<'_>,
+    files: &F,
+    path: &str,
+    out: &mut W,
+    err: &mut V,
+) -> Result<bool, Stop> {
+    match files.read(path) {
+        Ok(data) => run_bytes(alloc, job, path, data.as_slice(), out, err),
+        Err(error) => {
+            out.flush()?;
+            let path = Escaped(path.as_bytes());
+            let _ = writeln!(err, "nugwier: {path}: {error}");
+            Ok(false)
+        }
+    }
+}
+
+fn run_bytes<W: Write, V: Write>(
+    alloc: Global,
+    job: &Job<'_>,
+    path: &str,
+    data: &[u8],
+    out: &mut W,
+    err: &mut V,
+) -> Result<bool, Stop> {
+    let opened: Result<ElfBytes<'_, AnyEndian>, ParseError> = ElfBytes::minimal_parse(data);
+    let file = match opened {
+        Ok(file) => file,
+        Err(error) => {
+            out.flush()?;
+            let path = Escaped(path.as_bytes());
+            let _ = writeln!(err, "nugwier: {path}: {error}");
+            return Ok(false);
+        }
+    };
+    let mut problems = Problems::none(alloc);
+    run_command(alloc, job, &file, out, &mut problems)?;
+    if problems.is_empty() {
+        return Ok(true);
+    }
+    out.flush()?;
+    let _ = report(path, &file, problems.as_slice(), err);
+    Ok(false)
+}
+
+fn run_command<W: Write>(
+    alloc: Global,
+    job: &Job<'_>,
+    file: &ElfBytes<'_, AnyEndian>,
+    out: &mut W,
+    problems: &mut Problems,
+) -> Result<(), Stop> {
+    match job.command {
+        Command::List => list(alloc, job, file, out, problems),
+        Command::Symbols => {
+            let form = Form::Letter {
+                class: file.ehdr.class,
+                sections: file.section_headers(),
+            };
+            list_dynamic_symbols(alloc, file, form, out, problems)
+        }
+        Command::Exports => list_dynamic_symbols(alloc, file, Form::Export, out, problems),
+        Command::Needed => list_needed(alloc, file, out, problems),
+        Command::BuildId => list_build_id(file, out, problems),
+        Command::Plan => list_plan(alloc, file, out, problems),
+        Command::Check => check(alloc, file, out, problems),
+    }
+}

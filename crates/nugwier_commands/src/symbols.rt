@@ -1,0 +1,133 @@
+//! The symbols of a file.
+ghost use Rattle.std.specs.Prelude.{◌≡◌, ◌++◌, [], ◌∷◌, true, OnOk};
+ghost use Rattle.std.specs.Option.{option_map};
+ghost use Rattle.elf.specs.Answers.{symbols_view};
+ghost use Rattle.elf.specs.ElfBytes.{view};
+ghost use Rattle.elf.specs.ObjectFile.{object_file};
+ghost use Rattle.nugwier_commands.specs.Wrong.{dynamic_symbols_wrong, symbols_wrong, table_wrong, versioned_wrong, whole};
+ghost use Rattle.nugwier_lines.specs.Names.{is_listed};
+ghost use Rattle.nugwier_lines.specs.declared.problem.Part.TheVariants.{DynamicSymbols};
+
+use elf::endian::EndianParse;
+use elf::gnu_symver::{IndexedVersions, SymbolVersionTable};
+use elf::string_table::{StringTable, TerminatedStrings};
+use elf::symbol::SymbolTable;
+use elf::{ElfBytes, ParseError};
+use elf_tools::versions::indexed;
+use nugwier_lines::problem::{Fault, Item, Part, Place, Problems, Stop};
+use nugwier_lines::rows::list_records;
+use nugwier_lines::symbols::{Form, Names, SymbolRow, list_heading};
+use std::alloc::Global;
+use std::io::Write;
+use std::marker::PhantomData;
+
+/// A table of symbols, with the strings of their names.
+type Symbols<'data, E> = (SymbolTable<'data, E>, StringTable<'data>);
+
+// All of a part of the file.
+fn whole(part: Part) -> Place
+    ensures { result ≡ whole part }
+{
+    Place {
+        part,
+        item: Item::Whole,
+    }
+}
+
+/// Lists the symbols for dynamic linking, with their versions. It is wrong if there are none.
+pub(crate) fn list_dynamic_symbols<'data, E: EndianParse, W: Write>(
+    alloc: Global,
+    file: &ElfBytes<'data, E>,
+    form: Form<'data, E>,
+    out: &mut W,
+    problems: &mut Problems,
+) -> Result<(), Stop>
+    ensures { OnOk result (problems.new ≡ problems.old
+        ++ dynamic_symbols_wrong (whole DynamicSymbols ∷ []) (is_listed form.entry) (object_file E.little (view file.now))) }
+{
+    match file.dynamic_symbol_table() {
+        Ok(Some(symbols)) => list_versioned(alloc, file, symbols, form, out, problems),
+        Ok(None) => problems.add(whole(Part::DynamicSymbols), Fault::Missing),
+        Err(error) => problems.add(whole(Part::DynamicSymbols), Fault::Read(error)),
+    }
+}
+
+// Lists symbols with their versions.
+fn list_versioned<'data, E: EndianParse, W: Write>(
+    alloc: Global,
+    file: &ElfBytes<'data, E>,
+    symbols: Symbols<'data, E>,
+    form: Form<'data, E>,
+    out: &mut W,
+    problems: &mut Problems,
+) -> Result<(), Stop>
+    ensures { OnOk result (problems.new ≡ problems.old
+        ++ versioned_wrong (is_listed form.entry) (object_file E.little (view file.now)) (symbols_view symbols.entry)) }
+{
+    let versions = problems.readable(whole(Part::Versions), file.symbol_version_table())?;
+    let versions = match versions {
+        Some(versions) => versions,
+        None => None,
+    };
+    let versions = indexed(alloc, versions.as_ref())?;
+    list_rows(Part::DynamicSymbols, symbols, versions, form, out, problems)
+}
+
+fn list_rows<'a, 'data, E: EndianParse, W: Write>(
+    part: Part,
+    symbols: Symbols<'data, E>,
+    versions: Option<IndexedVersions<'a, 'data, E, Global>>,
+    form: Form<'data, E>,
+    out: &mut W,
+    problems: &mut Problems,
+) -> Result<(), Stop>
+    ensures { OnOk result (problems.new ≡ problems.old ++ table_wrong (is_listed form.entry) part (option_map (λ index. index) versions.entry) (symbols_view symbols.entry)) }
+{
+    let (table, strings) = symbols;
+    let names = Names {
+        part,
+        strings: TerminatedStrings::new(&strings),
+        versions,
+        order: PhantomData,
+    };
+    list_records(table.iter(), &SymbolRow { names, form }, out, problems)
+}
+
+/// Lists the symbols of the section of type `SHT_SYMTAB`, if there is one, under a heading.
+pub(crate) fn list_symbols<E: EndianParse, W: Write>(
+    file: &ElfBytes<'_, E>,
+    out: &mut W,
+    problems: &mut Problems,
+) -> Result<(), Stop>
+    ensures { OnOk result (problems.new ≡ problems.old
+        ++ symbols_wrong (object_file E.little (view file.now))) }
+{
+    match file.symbol_table() {
+        Ok(Some(symbols)) => {
+            list_heading("Symbols", out)?;
+            list_rows(Part::Symbols, symbols, None, Form::Fields, out, problems)
+        }
+        Ok(None) => Ok(()),
+        Err(error) => problems.add(whole(Part::Symbols), Fault::Read(error)),
+    }
+}
+
+/// Lists the symbols for dynamic linking, if there are any, under a heading.
+pub(crate) fn list_linked<E: EndianParse, W: Write>(
+    alloc: Global,
+    file: &ElfBytes<'_, E>,
+    out: &mut W,
+    problems: &mut Problems,
+) -> Result<(), Stop>
+    ensures { OnOk result (problems.new ≡ problems.old
+        ++ dynamic_symbols_wrong [] (λ i symbol. true) (object_file E.little (view file.now))) }
+{
+    match file.dynamic_symbol_table() {
+        Ok(Some(symbols)) => {
+            list_heading("Symbols for dynamic linking", out)?;
+            list_versioned(alloc, file, symbols, Form::Fields, out, problems)
+        }
+        Ok(None) => Ok(()),
+        Err(error) => problems.add(whole(Part::DynamicSymbols), Fault::Read(error)),
+    }
+}

@@ -1,0 +1,330 @@
+//! What the words of a command line ask for.
+ghost use Rattle.nugwier_commands.specs.declared.words.WordError.TheVariants.{Memory as IsMemory};
+ghost use Rattle.std.specs.Prelude.{◌≡◌};
+
+use nugwier_lines::escape::Escaped;
+use std::alloc::{AllocFailed, Global};
+use std::fmt;
+
+/// What is listed of each file.
+#[derive(Debug, Clone, Copy, PartialEq, Eq)]
+pub enum Command {
+    List,
+    Symbols,
+    Needed,
+    Exports,
+    BuildId,
+    Plan,
+    Check,
+}
+
+impl Command {
+    /// The word that asks for the command.
+    pub fn word(self) -> &'static str {
+        match self {
+            Command::List => "list",
+            Command::Symbols => "symbols",
+            Command::Needed => "needed",
+            Command::Exports => "exports",
+            Command::BuildId => "build-id",
+            Command::Plan => "plan",
+            Command::Check => "check",
+        }
+    }
+}
+
+/// The parts of a file that `list` lists.
+#[derive(Debug, Clone, Copy)]
+pub struct Parts {
+    pub header: bool,
+    pub sections: bool,
+    pub segments: bool,
+    pub symbols: bool,
+    pub dynamic_symbols: bool,
+    pub dynamic: bool,
+    pub relocations: bool,
+    pub notes: bool,
+    pub versions: bool,
+}
+
+impl Parts {
+    /// No part, or all.
+    pub fn each(is_listed: bool) -> Parts {
+        Parts {
+            header: is_listed,
+            sections: is_listed,
+            segments: is_listed,
+            symbols: is_listed,
+            dynamic_symbols: is_listed,
+            dynamic: is_listed,
+            relocations: is_listed,
+            notes: is_listed,
+            versions: is_listed,
+        }
+    }
+}
+
+/// How the content of a section is listed.
+#[derive(Debug, Clone, Copy)]
+pub enum Form {
+    Bytes,
+    Strings,
+}
+
+/// A section, by its name or its number.
+#[derive(Debug, Clone, Copy)]
+pub struct Wanted<'a> {
+    pub form: Form,
+    pub section: &'a str,
+}
+
+/// What a command line asks for of files.
+#[derive(Debug, Drop)]
+pub struct Job<'a> {
+    pub command: Command,
+    /// The parts for `list`.
+    pub parts: Parts,
+    /// The sections whose content `list` lists.
+    pub contents: Vec<Wanted<'a>>,
+    pub files: Vec<&'a str>,
+}
+
+/// What a command line asks for.
+#[derive(Debug, Drop)]
+pub enum Request<'a> {
+    /// How the program is called, or one of its commands.
+    Help(Option<Command>),
+    Version,
+    Run(Job<'a>),
+}
+
+/// Why words are no request.
+#[derive(Debug, Clone, Copy)]
+pub enum WordError<'a> {
+    NoCommand,
+    Command(&'a str),
+    Option(Command, &'a str),
+    /// The option needs one more word.
+    NoValue(Command, &'a str),
+    NoFile(Command),
+    Memory,
+}
+
+impl<'a, T: Drop> From<AllocFailed<T>> for WordError<'a> {
+    ghost from_gives = { λ _ error. error ≡ IsMemory };
+
+    fn from(_error: AllocFailed<T>) -> WordError<'a> {
+        WordError::Memory
+    }
+}
+
+impl fmt::Display for WordError<'_> {
+    fn fmt<W: fmt::Write>(&self, f: &mut fmt::Formatter<W>) -> fmt::Result {
+        match self {
+            WordError::NoCommand => write!(f, "nugwier: no command; see nugwier --help"),
+            WordError::Command(word) => {
+                let word = Escaped(word.as_bytes());
+                write!(f, "nugwier: unknown command '{word}'; see nugwier --help")
+            }
+            WordError::Option(command, word) => {
+                let word = Escaped(word.as_bytes());
+                let command = command.word();
+                write!(
+                    f,
+                    "nugwier {command}: unknown option '{word}'; see nugwier {command} --help"
+                )
+            }
+            WordError::NoValue(command, word) => {
+                let word = Escaped(word.as_bytes());
+                let command = command.word();
+                write!(
+                    f,
+                    "nugwier {command}: no section after '{word}'; see nugwier {command} --help"
+                )
+            }
+            WordError::NoFile(command) => {
+                let command = command.word();
+                write!(
+                    f,
+                    "nugwier {command}: no file; see nugwier {command} --help"
+                )
+            }
+            WordError::Memory => write!(f, "nugwier: out of memory"),
+        }
+    }
+}
+
+/// Returns what the words, the arguments after the program's name, ask for.
+///
+/// Errors, in order: `NoCommand` without words; `Command` if the first word is no command; then, of the first word
+/// that is wrong, `Option` or `NoValue`; `NoFile` if no word is a file. `Memory` if an allocation failed.
+pub fn parse_words<'a>(alloc: Global, words: &[&'a str]) -> Result<Request<'a>, WordError<'a>> {
+    let [first, rest @ ..] = words else {
+        return Err(WordError::NoCommand);
+    };
+    match *first {
+        "--help" => Ok(Request::Help(None)),
+        "--version" => Ok(Request::Version),
+        word => match parse_command(word) {
+            Some(command) => parse_rest(alloc, command, rest),
+            None => Err(WordError::Command(word)),
+        },
+    }
+}
+
+fn parse_command(word: &str) -> Option<Command> {
+    match word {
+        "list" => Some(Command::List),
+        "symbols" => Some(Command::Symbols),
+        "needed" => Some(Command::Needed),
+        "exports" => Some(Command::Exports),
+        "build-id" => Some(Command::BuildId),
+        "plan" => Some(Command::Plan),
+        "check" => Some(Command::Check),
+        _ => None,
+    }
+}
+
+// What a word after the command is.
+enum Word {
+    File,
+    Help,
+    // After this word all are files.
+    End,
+    Letters,
+}
+
+fn kind_of(word: &str, has_ended: bool) -> Word {
+    if has_ended || word == "-" || !word.starts_with('-') {
+        return Word::File;
+    }
+    match word {
+        "--help" => Word::Help,
+        "--" => Word::End,
+        _ => Word::Letters,
+    }
+}
+
+fn parse_rest<'a>(
+    alloc: Global,
+    command: Command,
+    words: &[&'a str],
+) -> Result<Request<'a>, WordError<'a>> {
+    let mut options = Options {
+        parts: Parts::each(false),
+        contents: Vec::new(alloc),
+        waiting: None,
+    };
+    let mut files = Vec::new(alloc);
+    let mut has_ended = false;
+    for word in words {
+        if options.takes(*word)? {
+            continue;
+        }
+        match kind_of(*word, has_ended) {
+            Word::File => files.push(*word)?,
+            Word::Help => return Ok(Request::Help(Some(command))),
+            Word::End => has_ended = true,
+            Word::Letters => options.add(command, *word)?,
+        }
+    }
+    finish(command, options, files)
+}
+
+fn finish<'a>(
+    command: Command,
+    options: Options<'a>,
+    files: Vec<&'a str>,
+) -> Result<Request<'a>, WordError<'a>> {
+    if let Some((_, word)) = options.waiting {
+        return Err(WordError::NoValue(command, word));
+    }
+    if files.is_empty() {
+        return Err(WordError::NoFile(command));
+    }
+    let parts = if options.is_empty() {
+        Parts::each(true)
+    } else {
+        options.parts
+    };
+    Ok(Request::Run(Job {
+        command,
+        parts,
+        contents: options.contents,
+        files,
+    }))
+}
+
+// The options of `list` so far. An option may wait for the word that names its section.
+#[derive(Drop)]
+struct Options<'a> {
+    parts: Parts,
+    contents: Vec<Wanted<'a>>,
+    waiting: Option<(Form, &'a str)>,
+}
+
+impl<'a> Options<'a> {
+    // Takes a word that an option waits for.
+    fn takes(&mut self, word: &'a str) -> Result<bool, WordError<'a>> {
+        match self.waiting {
+            Some((form, _)) => {
+                self.waiting = None;
+                self.contents.push(Wanted {
+                    form,
+                    section: word,
+                })?;
+                Ok(true)
+            }
+            None => Ok(false),
+        }
+    }
+
+    // Adds the options of a word, a letter each.
+    fn add(&mut self, command: Command, word: &'a str) -> Result<(), WordError<'a>> {
+        if command != Command::List {
+            return Err(WordError::Option(command, word));
+        }
+        for letter in word.as_bytes().iter().skip(1) {
+            if self.waiting.is_some() || !self.add_letter(*letter, word) {
+                return Err(WordError::Option(command, word));
+            }
+        }
+        Ok(())
+    }
+
+    // Adds an option, and returns whether it is one.
+    fn add_letter(&mut self, letter: u8, word: &'a str) -> bool {
+        match letter {
+            b'x' => self.waiting = Some((Form::Bytes, word)),
+            b'p' => self.waiting = Some((Form::Strings, word)),
+            b'a' => self.parts = Parts::each(true),
+            _ => return self.add_part(letter),
+        }
+        true
+    }
+
+    fn add_part(&mut self, letter: u8) -> bool {
+        let parts = &mut self.parts;
+        match letter {
+            b'h' => parts.header = true,
+            b'S' => parts.sections = true,
+            b'l' => parts.segments = true,
+            b's' => parts.symbols = true,
+            b'D' => parts.dynamic_symbols = true,
+            b'd' => parts.dynamic = true,
+            b'r' => parts.relocations = true,
+            b'n' => parts.notes = true,
+            b'V' => parts.versions = true,
+            _ => return false,
+        }
+        true
+    }
+
+    // Whether nothing is asked for.
+    fn is_empty(&self) -> bool {
+        let parts = &self.parts;
+        let listed = parts.header || parts.sections || parts.segments || parts.symbols;
+        let linked = parts.dynamic_symbols || parts.dynamic || parts.relocations;
+        !(listed || linked || parts.notes || parts.versions) && self.contents.is_empty()
+    }
+}

@@ -1,0 +1,245 @@
+//! What is wrong in a file, each with its place.
+ghost use Rattle.std.specs.Prelude.{◌≡◌, ◌++◌, ◌==◌, List, [], ◌∷◌, length, map, IfOk, OnOk};
+ghost use Rattle.std.specs.Result.{result_ok};
+ghost use Rattle.nugwier_lines.specs.Places.{at_if, is_error};
+ghost use Rattle.nugwier_lines.specs.declared.problem.Place.{Place};
+ghost use Rattle.nugwier_lines.specs.declared.problem.Stop.TheVariants.{Memory as IsMemory, Write as IsWrite};
+
+use crate::escape::Escaped;
+use elf_parts::parse::ParseError;
+use std::alloc::{AllocError, AllocFailed, Global};
+use std::marker::Model;
+use std::{fmt, io};
+use thiserror::Error;
+
+/// A part of a file. Sections and segments are counted from 0.
+#[derive(Debug, Clone, Copy)]
+pub enum Part {
+    /// The file as a whole.
+    File,
+    /// The names of the sections.
+    SectionNames,
+    Section(u64),
+    Segment(u64),
+    /// The symbols, of the first section of type `SHT_SYMTAB`.
+    Symbols,
+    /// The symbols for dynamic linking, of the first section of type `SHT_DYNSYM`.
+    DynamicSymbols,
+    /// The versions of the symbols for dynamic linking.
+    Versions,
+    /// The dynamic entries.
+    Dynamic,
+    /// The strings that dynamic entries name.
+    DynamicStrings,
+    BuildId,
+    /// The section that was asked for.
+    Wanted,
+    /// What a loader maps.
+    LoadPlan,
+}
+
+/// What of a part. Each kind of item is counted from 0.
+#[derive(Debug, Clone, Copy)]
+pub enum Item {
+    /// All of it.
+    Whole,
+    /// Its name.
+    Name,
+    /// The symbols that its relocations use.
+    Symbols,
+    SymbolName(u64),
+    SymbolVersion(u64),
+    /// The string that a dynamic entry names.
+    EntryName(u64),
+    /// The symbol of a relocation, or its name.
+    RelocationSymbol(u64),
+    /// The name of the version of this index; of index 0 the name of a file that versions are needed of.
+    VersionName(u64),
+}
+
+/// A place in a file.
+#[derive(Debug, Clone, Copy)]
+pub struct Place {
+    pub part: Part,
+    pub item: Item,
+}
+
+/// What is wrong at a place.
+#[derive(Debug, Drop, Error)]
+pub enum Fault {
+    /// It cannot be read.
+    #[error("{0}")]
+    Read(ParseError),
+    /// The file has none.
+    #[error("the file has none")]
+    Missing,
+    /// No entry gives the address of the strings.
+    #[error("no entry DT_STRTAB gives their address")]
+    NoAddress,
+    /// No entry gives the size of the strings.
+    #[error("no entry DT_STRSZ gives their size")]
+    NoSize,
+    /// No loaded segment has the strings, which begin at this address, in the file.
+    #[error("no segment of type PT_LOAD has them at 0x{0:x}")]
+    NotLoaded(u64),
+    /// What a checker says.
+    #[error("{0}")]
+    Check(String),
+}
+
+/// What is wrong, and where.
+#[derive(Debug, Drop)]
+pub struct Problem {
+    pub place: Place,
+    pub fault: Fault,
+}
+
+/// Why a listing stops.
+#[derive(Debug, Drop)]
+pub enum Stop {
+    /// The writer failed.
+    Write(io::Error),
+    /// An allocation failed.
+    Memory,
+}
+
+impl From<io::Error> for Stop {
+    ghost from_gives = { λ error stop. stop ≡ IsWrite error };
+
+    fn from(error: io::Error) -> Stop {
+        Stop::Write(error)
+    }
+}
+
+impl From<AllocError> for Stop {
+    ghost from_gives = { λ _ stop. stop ≡ IsMemory };
+
+    fn from(_error: AllocError) -> Stop {
+        Stop::Memory
+    }
+}
+
+impl<T: Drop> From<AllocFailed<T>> for Stop {
+    ghost from_gives = { λ _ stop. stop ≡ IsMemory };
+
+    fn from(_error: AllocFailed<T>) -> Stop {
+        Stop::Memory
+    }
+}
+
+/// What is wrong in a file, in the order in which it was found. Contracts see the places.
+#[derive(Debug, Drop)]
+pub struct Problems {
+    list: Vec<Problem>,
+}
+
+impl Model for Problems {
+    ghost Value = { List Place };
+
+    ghost view = { λ problems. map (λ problem. problem.place) problems.list.items };
+}
+
+impl Problems {
+    /// Nothing wrong was found yet.
+    pub fn none(alloc: Global) -> Problems
+        ensures { result ≡ [] }
+    {
+        Problems {
+            list: Vec::new(alloc),
+        }
+    }
+
+    /// Adds what is wrong at a place. The only error is a failed allocation.
+    pub fn add(&mut self, place: Place, fault: Fault) -> Result<(), Stop>
+        ensures { OnOk result (self.new ≡ self.old ++ place ∷ []) }
+    {
+        self.list.push(Problem { place, fault })?;
+        Ok(())
+    }
+
+    /// Returns what was read, or adds that it cannot be read. The only error is a failed allocation.
+    pub fn readable<T: Drop>(
+        &mut self,
+        place: Place,
+        read: Result<T, ParseError>,
+    ) -> Result<Option<T>, Stop>
+        ensures value { IfOk result (λ value. value ≡ result_ok read) }
+        ensures place { OnOk result (self.new ≡ self.old ++ at_if (is_error read) place) }
+    {
+        match read {
+            Ok(value) => Ok(Some(value)),
+            Err(error) => {
+                self.add(place, Fault::Read(error))?;
+                Ok(None)
+            }
+        }
+    }
+
+    /// Whether nothing is wrong.
+    pub fn is_empty(&self) -> bool
+        ensures { result ≡ (length self.now == 0) }
+    {
+        self.list.is_empty()
+    }
+
+    /// The problems, in order.
+    pub fn as_slice(&self) -> &[Problem]
+        ensures { map (λ problem. problem.place) result.now ≡ self.now }
+    {
+        self.list.as_slice()
+    }
+}
+
+/// A problem as text, with the number and the name of its section, if it has one.
+#[derive(Clone, Copy)]
+pub struct Told<'a> {
+    pub problem: &'a Problem,
+    pub section: Option<(u64, &'a [u8])>,
+}
+
+impl fmt::Display for Told<'_> {
+    fn fmt<W: fmt::Write>(&self, f: &mut fmt::Formatter<W>) -> fmt::Result {
+        let Place { part, item } = self.problem.place;
+        match self.section {
+            Some((number, name)) => {
+                let name = Escaped(name);
+                write!(f, "section {number} ({name})")?;
+            }
+            None => write_part(part, f)?,
+        }
+        write_item(item, f)?;
+        let fault = &self.problem.fault;
+        write!(f, "{fault}")
+    }
+}
+
+fn write_part<W: fmt::Write>(part: Part, f: &mut fmt::Formatter<W>) -> fmt::Result {
+    match part {
+        Part::File => f.write_str("file"),
+        Part::Wanted => f.write_str("section"),
+        Part::BuildId => f.write_str("build id"),
+        Part::LoadPlan => f.write_str("load plan"),
+        Part::SectionNames => f.write_str("names of the sections"),
+        Part::Section(number) => write!(f, "section {number}"),
+        Part::Segment(number) => write!(f, "segment {number}"),
+        Part::Symbols => f.write_str("symbols"),
+        Part::DynamicSymbols => f.write_str("dynamic symbols"),
+        Part::Versions => f.write_str("versions"),
+        Part::Dynamic => f.write_str("dynamic entries"),
+        Part::DynamicStrings => f.write_str("strings of the dynamic entries"),
+    }
+}
+
+fn write_item<W: fmt::Write>(item: Item, f: &mut fmt::Formatter<W>) -> fmt::Result {
+    match item {
+        Item::Whole => f.write_str(": "),
+        Item::Name => f.write_str(": name: "),
+        Item::Symbols => f.write_str(": symbols: "),
+        Item::SymbolName(number) => write!(f, ": name of symbol {number}: "),
+        Item::SymbolVersion(number) => write!(f, ": version of symbol {number}: "),
+        Item::EntryName(number) => write!(f, ": string of entry {number}: "),
+        Item::RelocationSymbol(number) => write!(f, ": symbol of relocation {number}: "),
+        Item::VersionName(0) => f.write_str(": name of a needed file: "),
+        Item::VersionName(index) => write!(f, ": name of version {index}: "),
+    }
+}

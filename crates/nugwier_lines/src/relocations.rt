@@ -1,0 +1,136 @@
+//! The rows of relocations.
+ghost use Rattle.std.specs.Prelude.{◌≡◌, ◌++◌, OnOk};
+ghost use Rattle.std.specs.Option.{option_map};
+ghost use Rattle.nugwier_lines.specs.Places.{is_error};
+ghost use Rattle.nugwier_lines.specs.Names.{is_symbol_bad, relocation_wrong, symbols_view};
+
+use crate::named::Name;
+use crate::problem::{Item, Part, Place, Problems, Stop};
+use crate::rows::Row;
+use elf_parts::endian::EndianParse;
+use elf_parts::parse::ParseError;
+use elf_parts::relocation::{Rel, Rela};
+use elf_parts::string_table::TerminatedStrings;
+use elf_parts::symbol::SymbolTable;
+use std::io;
+use std::io::Write;
+
+/// The symbols that relocations use, with their names.
+#[derive(Drop)]
+pub struct Symbols<'a, E: EndianParse> {
+    pub table: SymbolTable<'a, E>,
+    pub strings: TerminatedStrings<'a>,
+}
+
+impl<'a, E: EndianParse> Symbols<'a, E> {
+    // The name of a symbol.
+    fn name_of(&self, number: u32) -> Result<&'a [u8], ParseError>
+        ensures { is_error result ≡ is_symbol_bad (symbols_view self.now) number }
+    {
+        match self.table.get(number as usize) {
+            Ok(symbol) => self.strings.get_raw(symbol.st_name as usize),
+            Err(error) => Err(error),
+        }
+    }
+}
+
+// The name of the symbol of a relocation; no name if it uses none (symbol 0), or if there are no symbols. Adds a problem
+// if it cannot be read.
+fn symbol_name<'a, E: EndianParse>(
+    symbols: &Option<Symbols<'a, E>>,
+    part: Part,
+    number: u64,
+    symbol: u32,
+    problems: &mut Problems,
+) -> Result<Name<'a>, Stop>
+    ensures { OnOk result (problems.new ≡ problems.old ++ relocation_wrong part (option_map symbols_view symbols.now) number symbol) }
+{
+    let Some(symbols) = symbols else {
+        return Ok(Name(Some(&[])));
+    };
+    if symbol == 0 {
+        return Ok(Name(Some(&[])));
+    }
+    let place = Place {
+        part,
+        item: Item::RelocationSymbol(number),
+    };
+    let name = problems.readable(place, symbols.name_of(symbol))?;
+    Ok(Name(name))
+}
+
+/// The row of a relocation without an addend, with the name of its symbol, if there are symbols.
+#[derive(Drop)]
+pub struct RelRow<'a, E: EndianParse> {
+    /// The section of the relocations.
+    pub part: Part,
+    pub symbols: Option<Symbols<'a, E>>,
+}
+
+impl<E: EndianParse> Row for RelRow<'_, E> {
+    type Item = Rel;
+
+    ghost wrong = { λ row number relocation. relocation_wrong row.part (option_map symbols_view row.symbols)
+        number relocation.r_sym };
+
+    fn list<W: Write>(
+        &self,
+        number: u64,
+        relocation: &Rel,
+        out: &mut W,
+        problems: &mut Problems,
+    ) -> Result<(), Stop> {
+        let Rel {
+            r_offset,
+            r_sym,
+            r_type,
+        } = *relocation;
+        let name = symbol_name(&self.symbols, self.part, number, r_sym, problems)?;
+        writeln!(
+            out,
+            "{number:>6} {r_offset:016x} {r_type:>6} {r_sym:>6} {name}"
+        )?;
+        Ok(())
+    }
+}
+
+/// The row of a relocation with an addend, with the name of its symbol, if there are symbols.
+#[derive(Drop)]
+pub struct RelaRow<'a, E: EndianParse> {
+    /// The section of the relocations.
+    pub part: Part,
+    pub symbols: Option<Symbols<'a, E>>,
+}
+
+impl<E: EndianParse> Row for RelaRow<'_, E> {
+    type Item = Rela;
+
+    ghost wrong = { λ row number relocation. relocation_wrong row.part (option_map symbols_view row.symbols)
+        number relocation.r_sym };
+
+    fn list<W: Write>(
+        &self,
+        number: u64,
+        relocation: &Rela,
+        out: &mut W,
+        problems: &mut Problems,
+    ) -> Result<(), Stop> {
+        let Rela {
+            r_offset,
+            r_sym,
+            r_type,
+            r_addend,
+        } = *relocation;
+        let name = symbol_name(&self.symbols, self.part, number, r_sym, problems)?;
+        writeln!(
+            out,
+            "{number:>6} {r_offset:016x} {r_type:>6} {r_sym:>6} {name} {r_addend:+}"
+        )?;
+        Ok(())
+    }
+}
+
+/// The heading of the rows of relocations.
+pub fn list_heading<W: Write>(out: &mut W) -> io::Result<()> {
+    writeln!(out, "    nr offset             type symbol name, addend")
+}
