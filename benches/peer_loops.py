@@ -1,4 +1,6 @@
-"""The loops that benches/peers makes with our libraries and with the crates elf and object, and their goals."""
+"""The loops that benches/peers makes with our libraries and with the crates elf and object, and their goals.
+
+The Rust program reads with our library too, through bindings/rust and the library for C: its level is c."""
 import json
 import os
 import re
@@ -9,8 +11,20 @@ import made
 import measure
 
 # The levels of the Rust program, and how the table calls them.
-LEVELS = {"elf": "elf", "high": "object, high level", "low": "object, low level"}
-CRATE_OF_LEVEL = {"elf": "elf", "high": "object", "low": "object"}
+LEVELS = {"elf": "elf", "high": "object, high level", "low": "object, low level", "c": "ours through C"}
+CRATE_OF_LEVEL = {"elf": "elf", "high": "object", "low": "object", "c": "nugwier"}
+# The goals through C, by our word: the greatest ratio to a level. All records are fetched in chunks.
+GOALS_OF_C = {
+    "opening": (0.3, "high"),
+    "names": (0.75, "better"),
+    "relocations": (0.5, "high"),
+    "section": (0.6, "high"),
+    "no_section": (0.6, "high"),
+    "gnu": (0.9, "better"),
+    "no_gnu": (0.9, "better"),
+}
+BINDING = os.path.join(measure.TOP, "bindings", "rust")
+ARCHIVES = os.path.join(measure.TOP, "bindings", "c")
 # A turn has about this many items, and at least one pass. That of a count of instructions has fewer.
 ITEMS = 50_000
 COUNTED_ITEMS = 2_000
@@ -23,7 +37,8 @@ class Loop:
 
     def __init__(self, name, word, levels, items, at_most, of, their_word=None):
         self.name, self.word, self.items, self.at_most, self.of = name, word, items, at_most, of
-        self.their_words = {level: f"{level}.{their_word or word}" for level in levels.split()}
+        levels = levels.split() + ["c"]
+        self.their_words = {level: f"{level}.{their_word or word}" for level in levels}
 
 
 LOOPS = (
@@ -169,15 +184,18 @@ def row(loop, file, costs):
     cells += [shown(costs[level]) if level in costs else "" for level in LEVELS]
     better, of = reference(costs, "better"), reference(costs, loop.of)
     cells.append(f"{costs['ours'] / costs[better]:.2f} of {better}" if better else "")
-    if of:
-        ratio = costs["ours"] / costs[of]
-        cells.append(f"{ratio:.2f} of {of}, at most {loop.at_most}{'' if ratio <= loop.at_most else ': missed'}")
-    else:
-        cells.append("")
+    cells.append(goal(costs["ours"] / costs[of], of, loop.at_most) if of else "")
+    at_most, of = GOALS_OF_C.get(loop.word, (None, None))
+    of = reference(costs, of) if of and "c" in costs else None
+    cells.append(goal(costs["c"] / costs[of], of, at_most) if of else "")
     return cells
 
 
-HEADS = ["loop", "file", "items", "ours", *LEVELS.values(), "ratio", "goal"]
+def goal(ratio, of, at_most):
+    return f"{ratio:.2f} of {of}, at most {at_most}{'' if ratio <= at_most else ': missed'}"
+
+
+HEADS = ["loop", "file", "items", "ours", *LEVELS.values(), "ratio", "goal", "goal through C"]
 
 
 def build_rust(folder, elf, registry):
@@ -185,16 +203,24 @@ def build_rust(folder, elf, registry):
     if not shutil.which("cargo"):
         print("cargo is not there, so elf and object are left out\n")
         return None, []
-    crates = {"elf": elf, "object": registry}
+    is_built = os.path.exists(os.path.join(ARCHIVES, "libnugwier.a"))
+    crates = {"elf": elf, "object": registry, "nugwier": BINDING if is_built else None}
     if not elf:
         print("elf is left out: --elf names the folder of its sources\n")
     if not registry:
         print("object is left out: --registry names the folder that has its sources and those of what it uses\n")
+    if not is_built:
+        print("our library through C is left out: make -C bindings/c builds it\n")
     given = [crate for crate, where in crates.items() if where]
     if not given:
         return None, []
     program = os.path.join(folder, "rust")
     shutil.copytree(os.path.join(measure.HERE, "peers", "src"), os.path.join(program, "src"))
+    # bindings/rust has the names of the crate elf, so the loops are those of that crate.
+    with open(os.path.join(program, "src", "with_elf.rs")) as file:
+        loops = file.read().replace("use elf::", "use nugwier::").replace("the crate `elf`", "bindings/rust")
+    with open(os.path.join(program, "src", "with_nugwier.rs"), "w") as file:
+        file.write(loops)
     with open(os.path.join(measure.HERE, "peers", "Cargo.toml")) as file:
         lines = file.read().splitlines()
     with open(os.path.join(program, "Cargo.toml"), "w") as file:
@@ -202,6 +228,8 @@ def build_rust(folder, elf, registry):
             crate = line.split(" = ")[0]
             if crate == "elf" and elf:
                 line = f"elf = {{ path = {json.dumps(os.path.abspath(elf))}, optional = true }}"
+            if crate == "nugwier":
+                line = f"nugwier = {{ path = {json.dumps(BINDING)}, optional = true }}"
             if crate not in crates or crates[crate]:
                 file.write(line + "\n")
     command = ["cargo", "build", "--release", "--offline", "--features", ",".join(given)]
@@ -209,7 +237,7 @@ def build_rust(folder, elf, registry):
         path = json.dumps(os.path.abspath(registry))
         command += ["--config", 'source.crates-io.replace-with="registry"']
         command += ["--config", f"source.registry.directory={path}"]
-    environment = {**os.environ, "CARGO_TARGET_DIR": "target"}
+    environment = {**os.environ, "CARGO_TARGET_DIR": "target", "NUGWIER_LIB_DIR": ARCHIVES}
     built = subprocess.run(command, cwd=program, capture_output=True, text=True, env=environment)
     if built.returncode != 0:
         why = " ".join(built.stderr.split())[-300:]

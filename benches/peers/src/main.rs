@@ -1,4 +1,4 @@
-//! Times loops over a file with the crates `elf` and `object`.
+//! Times loops over a file with the crates `elf` and `object`, and with our library through C.
 //!
 //! `peers FILE THERE ABSENT TURNS WORD=PASSES..`: FILE is a 64-bit ELF file. THERE has the names of dynamic symbols, one a
 //! line, and ABSENT has names that no dynamic symbol has. Each WORD is a level and a loop, for example `elf.symbols`. In
@@ -11,6 +11,9 @@ use std::{env, fs};
 
 #[cfg(feature = "elf")]
 mod with_elf;
+// `benches/table peers` makes this file of `with_elf.rs`: our crate has the names of the crate `elf`.
+#[cfg(feature = "nugwier")]
+mod with_nugwier;
 #[cfg(feature = "object")]
 mod with_object;
 
@@ -54,6 +57,8 @@ fn opened<'input>(level: &str, input: &'input Input<'input>) -> Fallible<Box<dyn
     match level {
         #[cfg(feature = "elf")]
         "elf" => Ok(Box::new(with_elf::Elf::open(input)?)),
+        #[cfg(feature = "nugwier")]
+        "c" => Ok(Box::new(with_nugwier::Elf::open(input)?)),
         #[cfg(feature = "object")]
         "high" => Ok(Box::new(with_object::high::High::open(input)?)),
         #[cfg(feature = "object")]

@@ -1,5 +1,5 @@
 -- The symbols that relocations of a sound section name.
-use Rattle.std.proofs.Common.{◌≡◌, ℕ, zero, suc, ◌/◌, ◌<◌, ◌==◌, ◌||◌, Bool, true, false, if◌then◌else◌, List, length, Option, Some, None, Result, Ok, Err, refl, ap, sym, ◌∙◌, subst, inl, inr, rules, arith, tests}
+use Rattle.std.proofs.Common.{◌≡◌, ℕ, zero, suc, ◌/◌, ◌^◌, ◌<◌, ◌==◌, ◌||◌, Bool, true, false, if◌then◌else◌, List, length, Option, Some, None, Result, Ok, Err, refl, ap, sym, ◌∙◌, subst, inl, inr, rules, arith, tests}
 use Rattle.std.specs.Option.{IsSome, IsSomeAnd, option_map, option_and_then}
 use Rattle.std.specs.Result.{IsOkAnd, result_ok}
 use Rattle.std.proofs.Math.Dec.{eqb-suc-zero}
@@ -17,7 +17,7 @@ use Rattle.elf.specs.Data.{content}
 use Rattle.elf.specs.Headers.{entry_size, section_range}
 use Rattle.elf.specs.ObjectFile.{ObjectFile, table_of}
 use Rattle.elf_abi.specs.Values.{sht_dynsym, sht_symtab}
-use Rattle.elf_whole.specs.Relocations.{SoundRelocationTable, SoundRelocations, linked_symbols, symbols_counted, symbols_to_name}
+use Rattle.elf_whole.specs.Relocations.{SoundRelocationTable, SoundRelocations, has_other_info, linked_symbols, symbols_counted, symbols_to_name}
 use Rattle.elf_whole.specs.Sound.{SoundFile}
 use Rattle.elf_whole.specs.Symbols.{HoldsSymbols, SoundSymbols, holds_symbols}
 
@@ -68,12 +68,17 @@ count_same file false (Ok linked) n found e d =
     ∙ sym (symbols_length file linked found (m.1 ∙ ap Ok same))
 count_same file false (Err x) n found e d = cc
 
+-- the same with another r_info, where no symbols are shown
+count_shown : (file : ObjectFile) (other b : Bool) (at : Result SectionHeader ParseError) (n : ℕ) (found : Table × List ℕ) → (if other then Some (2 ^ 32) else (if b then Some 1 else option_and_then (symbols_counted file) (result_ok at))) ≡ Some n → (if other || b then Ok None else at >>= λ linked. ok_map Some (symbols_of file linked)) ≡ Ok (Some found) → n ≡ table_len symbol_reads found.0
+count_shown file true b at n found e d = cc
+count_shown file false b at n found e d = count_same file b at n found e d
+
 pub relocation_inside : {R : Type 0} (reads : RecordType R) (symbol_of : R → ℕ) (file : ObjectFile) (s : SectionHeader) (bytes : List ℕ) (i : ℕ) (r : R) (found : Table × List ℕ) → SoundRelocations reads symbol_of file s → content file s ≡ Ok bytes → table_get reads (table_of file bytes) i ≡ Ok r → linked_symbols file s ≡ Ok (Some found) → symbol_of r < table_len symbol_reads found.0
 relocation_inside reads symbol_of file s bytes i r found sound e there linked =
     let n = some_and (symbols_to_name file s) (λ symbols. IsOkAnd (content file s) (λ b. SoundRelocationTable reads symbol_of symbols (table_of file b))) sound.table in
     let table = at_ok (λ b. SoundRelocationTable reads symbol_of n.0 (table_of file b)) (content file s) bytes e n.2 in
     let below = table.named i r there in
-    omega (arith, below, count_same file (s.sh_link == 0) (file.section_at s.sh_link) n.0 found n.1 linked)
+    omega (arith, below, count_shown file (has_other_info file) (s.sh_link == 0) (file.section_at s.sh_link) n.0 found n.1 linked)
 
 -- ---- the section that is linked
 
@@ -94,18 +99,22 @@ linked_in file true at n none e = cc
 linked_in file false (Ok linked) n none e = (linked, refl, holds_type linked (holds_where_counted (holds_symbols linked) (linked.sh_size / size_by symbol_layout file.class) n e))
 linked_in file false (Err x) n none e = cc
 
-pub linked_there : {R : Type 0} (reads : RecordType R) (symbol_of : R → ℕ) (file : ObjectFile) (s : SectionHeader) → SoundRelocations reads symbol_of file s → (s.sh_link == 0) ≡ false → (linked : SectionHeader) × (file.section_at s.sh_link ≡ Ok linked) × HoldsSymbols linked
-linked_there reads symbol_of file s sound none =
+linked_plain : (file : ObjectFile) (other b : Bool) (at : Result SectionHeader ParseError) (n : ℕ) → other ≡ false → b ≡ false → (if other then Some (2 ^ 32) else (if b then Some 1 else option_and_then (symbols_counted file) (result_ok at))) ≡ Some n → (linked : SectionHeader) × (at ≡ Ok linked) × HoldsSymbols linked
+linked_plain file true b at n plain none e = cc
+linked_plain file false b at n plain none e = linked_in file b at n none e
+
+pub linked_there : {R : Type 0} (reads : RecordType R) (symbol_of : R → ℕ) (file : ObjectFile) (s : SectionHeader) → SoundRelocations reads symbol_of file s → has_other_info file ≡ false → (s.sh_link == 0) ≡ false → (linked : SectionHeader) × (file.section_at s.sh_link ≡ Ok linked) × HoldsSymbols linked
+linked_there reads symbol_of file s sound plain none =
     let n = some_and (symbols_to_name file s) (λ symbols. IsOkAnd (content file s) (λ b. SoundRelocationTable reads symbol_of symbols (table_of file b))) sound.table in
-    linked_in file (s.sh_link == 0) (file.section_at s.sh_link) n.0 none n.1
+    linked_plain file (has_other_info file) (s.sh_link == 0) (file.section_at s.sh_link) n.0 plain none n.1
 
 not_zero : (n : ℕ) → (n ≡ 0 → ⊥) → (n == 0) ≡ false
 not_zero zero h = absurd (h refl)
 not_zero (suc n) h = eqb-suc-zero n
 
 -- the section that is linked is sound
-pub linked_sound : {R : Type 0} (reads : RecordType R) (symbol_of : R → ℕ) (file : ObjectFile) (s linked : SectionHeader) → SoundFile file → SoundRelocations reads symbol_of file s → (s.sh_link ≡ 0 → ⊥) → file.section_at s.sh_link ≡ Ok linked → SoundSymbols file linked
-linked_sound reads symbol_of file s linked whole sound some here =
-    let link = linked_there reads symbol_of file s sound (not_zero s.sh_link some) in
+pub linked_sound : {R : Type 0} (reads : RecordType R) (symbol_of : R → ℕ) (file : ObjectFile) (s linked : SectionHeader) → SoundFile file → SoundRelocations reads symbol_of file s → has_other_info file ≡ false → (s.sh_link ≡ 0 → ⊥) → file.section_at s.sh_link ≡ Ok linked → SoundSymbols file linked
+linked_sound reads symbol_of file s linked whole sound plain some here =
+    let link = linked_there reads symbol_of file s sound plain (not_zero s.sh_link some) in
     let same = same_value (file.section_at s.sh_link) link.0 linked link.1 here in
     (whole.sections s.sh_link linked here).content.symbols (subst (λ (x : SectionHeader). HoldsSymbols x) same link.2)

@@ -1,10 +1,11 @@
--- When relocations are sound (gABI, chapter "Relocation"), and what their faults say. The symbol is that of the gABI's
--- r_info; files of 64-bit MIPS pack theirs otherwise.
-use Rattle.std.specs.Prelude.{◌≡◌, ◌≢◌, ℕ, ◌/◌, ◌%◌, ◌<◌, ◌≤◌, ◌==◌, if◌then◌else◌, List, length, Option, Some, None}
+-- When relocations are sound (gABI, chapter "Relocation"), and what their faults say.
+use Rattle.std.specs.Prelude.{◌≡◌, ◌≢◌, ℕ, ◌/◌, ◌%◌, ◌^◌, ◌<◌, ◌≤◌, ◌==◌, ◌&&◌, ◌||◌, Bool, false, if◌then◌else◌, List, length}
+use Rattle.std.specs.Prelude.{Option, Some, None}
 use Rattle.std.specs.Prelude.{Result, Ok}
 use Rattle.std.specs.Option.{IsSomeAnd, option_and_then}
 use Rattle.std.specs.Result.{IsOkAnd, result_ok}
-use Rattle.elf_records.specs.Number.{ok_map}
+use Rattle.elf_records.specs.Class.{address_bits}
+use Rattle.elf_records.specs.Number.{number_at, ok_map}
 use Rattle.elf_records.specs.Record.{◌>>=◌, RecordType, size_by}
 use Rattle.elf_records.specs.Relocation.{rela_reads}
 use Rattle.elf_records.specs.Symbol.{symbol_layout}
@@ -23,22 +24,45 @@ use Rattle.elf_whole.specs.Symbols.{holds_symbols}
 use Rattle.elf_whole.specs.declared.faults.RelocationsFault.{RelocationsFault}
 use Rattle.elf_whole.specs.declared.faults.RelocationsFault.TheVariants.{EntrySize, NoLink, NoSymbol, PartOfRelocation}
 
+-- ---- a machine with another r_info
+
+-- e_machine, two bytes at 18 of the file header in both classes
+abbrev pub machine : ObjectFile → Option ℕ
+machine file = result_ok (number_at file.little 2 file.bytes 18)
+
+-- MIPS, by e_machine
+abbrev pub is_mips : Option ℕ → Bool
+is_mips None = false
+is_mips (Some e_machine) = e_machine == 8
+
+-- In little-endian files of 64-bit MIPS r_info is not one number: its first four bytes are the symbol (64-bit ELF
+-- supplement for MIPS, "Relocation"). Of such a file the gABI's r_sym is no symbol, so what it names is neither checked
+-- nor shown.
+abbrev pub has_other_info : ObjectFile → Bool
+has_other_info file = file.little && (address_bits file.class == 64) && is_mips (machine file)
+
+-- ---- the symbols that can be named
+
 -- how many symbols a section has, if it holds symbols
 abbrev pub symbols_counted : ObjectFile → SectionHeader → Option ℕ
 symbols_counted file linked =
     if holds_symbols linked
     then Some (linked.sh_size / size_by symbol_layout file.class) else None
 
--- how many symbols the relocations of a section can name: those of the section that is linked, or if none is linked
--- symbol 0 alone, which is no symbol
-abbrev pub symbols_to_name : ObjectFile → SectionHeader → Option ℕ
-symbols_to_name file s =
+-- how many symbols the relocations of a section can name, if none have another r_info: those of the section that is
+-- linked, or if none is linked symbol 0 alone, which is no symbol
+abbrev pub symbols_linked : ObjectFile → SectionHeader → Option ℕ
+symbols_linked file s =
     if s.sh_link == 0 then Some 1 else option_and_then (symbols_counted file) (result_ok (file.section_at s.sh_link))
+
+-- how many they can name: any number of four bytes, if they have another r_info
+abbrev pub symbols_to_name : ObjectFile → SectionHeader → Option ℕ
+symbols_to_name file s = if has_other_info file then Some (2 ^ 32) else symbols_linked file s
 
 -- the symbols themselves, with their strings
 abbrev pub linked_symbols : ObjectFile → SectionHeader → Result (Option (Table × List ℕ)) ParseError
 linked_symbols file s =
-    if s.sh_link == 0 then Ok None
+    if has_other_info file || s.sh_link == 0 then Ok None
     else file.section_at s.sh_link >>= λ linked. ok_map Some (symbols_of file linked)
 
 -- relocation i, and the symbol that it names with its name, if symbols are linked

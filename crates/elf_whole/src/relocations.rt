@@ -7,11 +7,10 @@ ghost use Rattle.elf_records.specs.Table.{table_get, table_in, table_len, table_
 ghost use Rattle.elf_whole.specs.Members.{AllSound, IsFirstFault};
 ghost use Rattle.elf_whole.specs.Relocations.{IsTrueOfRelocations, IsTrueOfTable, NamesNone, SoundRelocationTable};
 ghost use Rattle.elf_whole.specs.Relocations.{SoundRelocations};
-ghost use Rattle.elf_whole.specs.Relocations.{symbols_counted, symbols_to_name};
+ghost use Rattle.elf_whole.specs.Relocations.{has_other_info, symbols_counted, symbols_linked, symbols_to_name};
 
 use crate::faults::RelocationsFault;
 use crate::hashes::holds_symbols;
-use elf::ElfBytes;
 use elf::endian::EndianParse;
 use elf::file::Class;
 use elf::headers::Headers;
@@ -20,6 +19,7 @@ use elf::parse::{ParseAt, ParsingTable};
 use elf::relocation::{Rel, Rela};
 use elf::section::SectionHeader;
 use elf::symbol::Symbol;
+use elf::{ElfBytes, abi};
 
 // A relocation, which names a symbol.
 pub(crate) trait Relocation: PlainRecord + Drop {
@@ -105,9 +105,31 @@ fn symbols_counted<E: EndianParse>(file: &ElfBytes<'_, E>, linked: &SectionHeade
     }
 }
 
-// How many symbols the relocations of a section can name.
-fn symbols_to_name<E: EndianParse>(file: &ElfBytes<'_, E>, shdr: &SectionHeader) -> Option<usize>
-    ensures { result ≡ symbols_to_name (object_file E.little (view file.now)) shdr.now }
+// Where the file header has the machine, in bytes.
+const MACHINE: usize = 18;
+
+// Whether relocations have another r_info than the gABI's.
+pub(crate) fn has_other_info<E: EndianParse>(file: &ElfBytes<'_, E>) -> bool
+    ensures { result ≡ has_other_info (object_file E.little (view file.now)) }
+{
+    if !file.ehdr.endianness.is_little() {
+        return false;
+    }
+    match file.ehdr.class {
+        Class::ELF32 => false,
+        Class::ELF64 => {
+            let mut offset = MACHINE;
+            match file.ehdr.endianness.parse_u16_at(&mut offset, file.data()) {
+                Ok(e_machine) => e_machine == abi::EM_MIPS,
+                Err(_) => false,
+            }
+        }
+    }
+}
+
+// How many symbols the relocations of a section can name, if they have the gABI's r_info.
+fn symbols_linked<E: EndianParse>(file: &ElfBytes<'_, E>, shdr: &SectionHeader) -> Option<usize>
+    ensures { result ≡ symbols_linked (object_file E.little (view file.now)) shdr.now }
 {
     if shdr.sh_link == 0 {
         return Some(1);
@@ -115,6 +137,17 @@ fn symbols_to_name<E: EndianParse>(file: &ElfBytes<'_, E>, shdr: &SectionHeader)
     match file.section_at(shdr.sh_link as usize) {
         Ok(linked) => symbols_counted(file, &linked),
         Err(_) => None,
+    }
+}
+
+// How many symbols the relocations of a section can name.
+fn symbols_to_name<E: EndianParse>(file: &ElfBytes<'_, E>, shdr: &SectionHeader) -> Option<usize>
+    ensures { result ≡ symbols_to_name (object_file E.little (view file.now)) shdr.now }
+{
+    if has_other_info(file) {
+        Some(1 << 32)
+    } else {
+        symbols_linked(file, shdr)
     }
 }
 

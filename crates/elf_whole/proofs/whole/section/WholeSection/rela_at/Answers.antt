@@ -6,7 +6,7 @@ use Rattle.elf.specs.ElfBytes.{view}
 use Rattle.elf.specs.ObjectFile.{object_file}
 use Rattle.elf_whole.specs.Whole.{whole_symbols}
 use Rattle.elf_whole.proofs.Linked.{relocation_inside}
-use Rattle.elf_whole.proofs.whole.section.WholeSection.rela.Goals as goal
+use Rattle.elf_whole.proofs.whole.section.WholeSection.rela_at.Goals as goal
 
 pub unwrap-found-requires : goal.unwrap-found-requires
 unwrap-found-requires g c =
