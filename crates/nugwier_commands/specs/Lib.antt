@@ -1,2 +1,6 @@
 -- the places at which a file is wrong
 pub mod Wrong
+-- the fault of a file that is not sound
+pub mod Check
+-- the addresses of which no symbol is known
+pub mod Addresses

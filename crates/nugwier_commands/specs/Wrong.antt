@@ -5,6 +5,7 @@ use Rattle.std.specs.Result.{result_ok}
 use Rattle.elf_abi.specs.Values.{pt_note, sht_dynsym, sht_note, sht_rel, sht_rela, sht_symtab}
 use Rattle.elf_parts.specs.gnu_symver.Table.{Versions}
 use Rattle.elf_records.specs.Dynamic.{dyn_reads}
+use Rattle.elf_records.specs.Number.{ok_map}
 use Rattle.elf_records.specs.Record.{◌>>=◌}
 use Rattle.elf_records.specs.Symbol.{symbol_reads}
 use Rattle.elf_records.specs.Table.{Table, table_items}
@@ -15,7 +16,7 @@ use Rattle.elf_records.specs.declared.segment.ProgramHeader.{ProgramHeader}
 use Rattle.elf_records.specs.declared.symbol.Symbol.{Symbol}
 use Rattle.elf.specs.Answers.{dynamic, dynamic_symbol_table, section_data_as_notes, section_data_as_relas}
 use Rattle.elf.specs.Answers.{section_data_as_rels, segment_data, segment_data_as_notes, symbol_table}
-use Rattle.elf.specs.Answers.{symbol_version_table}
+use Rattle.elf.specs.Answers.{symbol_version_table, symbols_of}
 use Rattle.elf.specs.Names.{name_table}
 use Rattle.elf.specs.ObjectFile.{ObjectFile}
 use Rattle.elf_tools.specs.Needed.{entries_in, or_error, string_part}
@@ -123,8 +124,7 @@ abbrev pub linked_symbols : ObjectFile → ℕ → Result (Option (Table × List
 linked_symbols file n =
     if n == 0 then Ok None
     else file.section_at n >>= λ s.
-    if s.sh_type == sht_dynsym then dynamic_symbol_table file
-    else if s.sh_type == sht_symtab then symbol_table file
+    if s.sh_type == sht_dynsym || s.sh_type == sht_symtab then ok_map Some (symbols_of file s)
     else Ok None
 
 -- the symbol of each, by the number that these give, or the section as a whole

@@ -8,10 +8,12 @@ use elf::{ElfBytes, ParseError};
 use nugwier_lines::dump::{list_bytes, list_strings};
 use nugwier_lines::escape::Escaped;
 use nugwier_lines::problem::{Fault, Item, Part, Place, Problems, Stop};
+use std::alloc::Global;
 use std::io::Write;
 
 /// Lists the content of a section, by its name or its number. It is wrong if there is no such section.
 pub(crate) fn list_content<E: EndianParse, W: Write>(
+    alloc: Global,
     file: &ElfBytes<'_, E>,
     wanted: &Wanted<'_>,
     out: &mut W,
@@ -21,10 +23,11 @@ pub(crate) fn list_content<E: EndianParse, W: Write>(
         Some((number, section)) => list_found(file, number, &section, wanted, out, problems),
         None => {
             let place = Place {
-                part: Part::Wanted,
+                part: Part::File,
                 item: Item::Whole,
             };
-            problems.add(place, Fault::Missing)
+            let name = Escaped(wanted.section.as_bytes());
+            problems.add(place, Fault::Check(format!(in alloc; "no section {name}")?))
         }
     }
 }

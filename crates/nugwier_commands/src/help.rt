@@ -15,7 +15,8 @@ usage: nugwier COMMAND [OPTION..] FILE..
   exports     the functions that a file defines for others, with their versions
   build-id    the build id
   plan        what a loader maps into memory, and where
-  check       what is wrong with the hash sections of a file
+  check       whether a file is sound, or its first fault
+  address     the symbols at addresses
 
   COMMAND --help    how the command is called
   --version         the version of nugwier
@@ -23,7 +24,8 @@ usage: nugwier COMMAND [OPTION..] FILE..
 FILE is a path, or - for standard input. Of several files each has a heading. What cannot be read is told on
 standard error with the file's name, and the rest is still listed.
 
-Exit status: 0 if all was read; 1 if a file, or a part of it, is missing or cannot be read; 2 if the words are wrong.";
+Exit status: 0 if all was read; 1 if a file, or a part of it, is missing, cannot be read or is wrong; 2 if the words are
+wrong.";
 
 const LIST: &str = "\
 usage: nugwier list [OPTION..] FILE..
@@ -38,7 +40,7 @@ Lists the parts of a file that the options name; without options, all of -a.
   -d           the dynamic entries, with the strings that they name
   -r           the relocations, with the names of their symbols
   -n           the notes
-  -V           the versions of the symbols for dynamic linking
+  -V           the versions that the file defines, and those that it needs of other files
   -a           all of these
   -x SECTION   the bytes of a section, by its name or its number
   -p SECTION   the strings of a section, by its name or its number
@@ -84,7 +86,16 @@ memory is 0. Tells why, if a file cannot be mapped so.";
 const CHECK: &str = "\
 usage: nugwier check FILE..
 
-Checks the hash sections of a file, by which symbols are looked up, and tells what is wrong with them.";
+Prints sound if all that the headers of a file declare can be read: the sections and their names, symbols, strings,
+relocations, hash tables, notes, dynamic entries, versions and segments. Otherwise prints FAULT, and tells the first
+fault on standard error.";
+
+const ADDRESS: &str = "\
+usage: nugwier address FILE ADDRESS..
+
+Prints, for each address, NAME+DISTANCE of the last symbol of a function or a variable that starts there or before, and
+says so if the address lies past its end. An address is in hexadecimal, with or without 0x. The symbols are those of
+list -s or, if the file has none, those for dynamic linking.";
 
 /// How the program, or one of its commands, is called.
 pub(crate) fn help(command: Option<Command>) -> &'static str {
@@ -97,5 +108,6 @@ pub(crate) fn help(command: Option<Command>) -> &'static str {
         Some(Command::BuildId) => BUILD_ID,
         Some(Command::Plan) => PLAN,
         Some(Command::Check) => CHECK,
+        Some(Command::Address) => ADDRESS,
     }
 }

@@ -2,6 +2,7 @@
 //! lists of each file (`run`). `run` gets files by a trait (`files::Files`).
 #![tactic(auto)]
 
+mod addresses;
 mod check;
 mod contents;
 pub mod files;

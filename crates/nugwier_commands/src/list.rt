@@ -33,7 +33,7 @@ pub(crate) fn list<E: EndianParse, W: Write>(
     list_headers(job, file, out, problems)?;
     list_tables(alloc, job, file, out, problems)?;
     for wanted in &job.contents {
-        list_content(file, wanted, out, problems)?;
+        list_content(alloc, file, wanted, out, problems)?;
     }
     Ok(())
 }

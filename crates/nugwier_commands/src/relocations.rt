@@ -1,6 +1,7 @@
 //! The relocations of a file.
 ghost use Rattle.std.specs.Prelude.{◌≡◌, ◌++◌, OnOk};
 ghost use Rattle.std.specs.Option.{option_map};
+ghost use Rattle.elf.specs.Answers.{symbols_of};
 ghost use Rattle.elf.specs.ElfBytes.{view};
 ghost use Rattle.elf.specs.ObjectFile.{object_file};
 ghost use Rattle.elf_records.specs.Number.{ok_map};
@@ -9,9 +10,12 @@ ghost use Rattle.nugwier_lines.specs.Names.{symbols_view};
 
 use crate::names::{name_of, readable_names};
 use elf::endian::EndianParse;
+use elf::headers::Headers;
 use elf::section::SectionHeader;
-use elf::string_table::TerminatedStrings;
+use elf::string_table::{StringTable, TerminatedStrings};
+use elf::symbol::SymbolTable;
 use elf::{ElfBytes, ParseError, abi};
+use elf_records::parse::get_bytes;
 use nugwier_lines::escape::Escaped;
 use nugwier_lines::problem::{Fault, Item, Part, Place, Problems, Stop};
 use nugwier_lines::relocations::{RelRow, RelaRow, Symbols, list_heading};
@@ -91,18 +95,38 @@ fn linked_symbols<'data, E: EndianParse>(
         return Err(ParseError::BadOffset(number as u64));
     };
     let linked = sections.get(number as usize)?;
-    let found = match linked.sh_type {
-        abi::SHT_DYNSYM => file.dynamic_symbol_table()?,
-        abi::SHT_SYMTAB => file.symbol_table()?,
-        _ => None,
-    };
-    match found {
-        Some((table, strings)) => Ok(Some(Symbols {
-            table,
-            strings: TerminatedStrings::new(&strings),
-        })),
-        None => Ok(None),
+    if linked.sh_type == abi::SHT_DYNSYM || linked.sh_type == abi::SHT_SYMTAB {
+        match symbols_of(file, &linked) {
+            Ok(symbols) => Ok(Some(symbols)),
+            Err(error) => Err(error),
+        }
+    } else {
+        Ok(None)
     }
+}
+
+// The symbols of a section, with the strings of the section that it links to.
+fn symbols_of<'data, E: EndianParse>(
+    file: &ElfBytes<'data, E>,
+    section: &SectionHeader,
+) -> Result<Symbols<'data, E>, ParseError>
+    ensures { ok_map symbols_view result ≡ symbols_of (object_file E.little (view file.now)) section.now }
+{
+    let (symbols, strings) = file.with_linked(section)?;
+    let symbols = get_bytes(
+        file.data(),
+        symbols.sh_offset as usize,
+        symbols.sh_size as usize,
+    )?;
+    let strings = get_bytes(
+        file.data(),
+        strings.sh_offset as usize,
+        strings.sh_size as usize,
+    )?;
+    Ok(Symbols {
+        table: SymbolTable::new(file.ehdr.endianness, file.ehdr.class, symbols),
+        strings: TerminatedStrings::new(&StringTable::new(strings)),
+    })
 }
 
 // Lists the relocations of a section of either type.

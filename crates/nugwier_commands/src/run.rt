@@ -1,4 +1,5 @@
 //! Runs the program, apart from the operating system.
+use crate::addresses::list_addresses;
 use crate::check::check;
 use crate::files::Files;
 use crate::help::{VERSION, help};
@@ -21,8 +22,8 @@ use std::io::Write;
 /// Does what the words, the arguments after the program's name, ask for. Writes listings to `out`, and flushes it.
 /// Tells on `err` what is wrong, and ignores an error of that write.
 ///
-/// Returns the exit status: 0 if all was read; 1 if a file, or a part of it, is missing or cannot be read, the writer
-/// failed or an allocation failed; 2 if the words are wrong.
+/// Returns the exit status: 0 if all was read; 1 if a file, or a part of it, is missing, cannot be read or is wrong, the
+/// writer failed or an allocation failed; 2 if the words are wrong.
 pub fn run<F: Files, W: Write, V: Write>(
     alloc: Global,
     words: &[&str],
@@ -169,5 +170,6 @@ fn run_command<W: Write>(
         Command::BuildId => list_build_id(file, out, problems),
         Command::Plan => list_plan(alloc, file, out, problems),
         Command::Check => check(alloc, file, out, problems),
+        Command::Address => list_addresses(alloc, file, job.addresses.as_slice(), out, problems),
     }
 }

@@ -16,6 +16,7 @@ pub enum Command {
     BuildId,
     Plan,
     Check,
+    Address,
 }
 
 impl Command {
@@ -29,6 +30,7 @@ impl Command {
             Command::BuildId => "build-id",
             Command::Plan => "plan",
             Command::Check => "check",
+            Command::Address => "address",
         }
     }
 }
@@ -87,6 +89,8 @@ pub struct Job<'a> {
     /// The sections whose content `list` lists.
     pub contents: Vec<Wanted<'a>>,
     pub files: Vec<&'a str>,
+    /// The addresses for `address`.
+    pub addresses: Vec<u64>,
 }
 
 /// What a command line asks for.
@@ -107,6 +111,9 @@ pub enum WordError<'a> {
     /// The option needs one more word.
     NoValue(Command, &'a str),
     NoFile(Command),
+    /// The word is no address in hexadecimal.
+    Address(&'a str),
+    NoAddress,
     Memory,
 }
 
@@ -149,6 +156,16 @@ impl fmt::Display for WordError<'_> {
                     "nugwier {command}: no file; see nugwier {command} --help"
                 )
             }
+            WordError::Address(word) => {
+                let word = Escaped(word.as_bytes());
+                write!(
+                    f,
+                    "nugwier address: '{word}' is no address; see nugwier address --help"
+                )
+            }
+            WordError::NoAddress => {
+                write!(f, "nugwier address: no address; see nugwier address --help")
+            }
             WordError::Memory => write!(f, "nugwier: out of memory"),
         }
     }
@@ -157,7 +174,8 @@ impl fmt::Display for WordError<'_> {
 /// Returns what the words, the arguments after the program's name, ask for.
 ///
 /// Errors, in order: `NoCommand` without words; `Command` if the first word is no command; then, of the first word
-/// that is wrong, `Option` or `NoValue`; `NoFile` if no word is a file. `Memory` if an allocation failed.
+/// that is wrong, `Option` or `NoValue`; `NoFile` if no word is a file; of `address`, `Address` for the first word after
+/// the file that is no address, and `NoAddress` if there is no such word. `Memory` if an allocation failed.
 pub fn parse_words<'a>(alloc: Global, words: &[&'a str]) -> Result<Request<'a>, WordError<'a>> {
     let [first, rest @ ..] = words else {
         return Err(WordError::NoCommand);
@@ -181,6 +199,7 @@ fn parse_command(word: &str) -> Option<Command> {
         "build-id" => Some(Command::BuildId),
         "plan" => Some(Command::Plan),
         "check" => Some(Command::Check),
+        "address" => Some(Command::Address),
         _ => None,
     }
 }
@@ -228,13 +247,14 @@ fn parse_rest<'a>(
             Word::Letters => options.add(command, *word)?,
         }
     }
-    finish(command, options, files)
+    finish(alloc, command, options, files)
 }
 
 fn finish<'a>(
+    alloc: Global,
     command: Command,
     options: Options<'a>,
-    files: Vec<&'a str>,
+    mut files: Vec<&'a str>,
 ) -> Result<Request<'a>, WordError<'a>> {
     if let Some((_, word)) = options.waiting {
         return Err(WordError::NoValue(command, word));
@@ -242,6 +262,11 @@ fn finish<'a>(
     if files.is_empty() {
         return Err(WordError::NoFile(command));
     }
+    let addresses = if command == Command::Address {
+        take_addresses(alloc, &mut files)?
+    } else {
+        Vec::new(alloc)
+    };
     let parts = if options.is_empty() {
         Parts::each(true)
     } else {
@@ -252,7 +277,33 @@ fn finish<'a>(
         parts,
         contents: options.contents,
         files,
+        addresses,
     }))
+}
+
+// Takes the words after the first one, which are addresses.
+fn take_addresses<'a>(alloc: Global, words: &mut Vec<&'a str>) -> Result<Vec<u64>, WordError<'a>> {
+    let mut addresses = Vec::new(alloc);
+    for word in words.as_slice().iter().skip(1) {
+        match parse_address(*word) {
+            Some(address) => addresses.push(address)?,
+            None => return Err(WordError::Address(*word)),
+        }
+    }
+    if addresses.is_empty() {
+        return Err(WordError::NoAddress);
+    }
+    words.truncate(1);
+    Ok(addresses)
+}
+
+// A number in hexadecimal, with or without `0x`.
+fn parse_address(word: &str) -> Option<u64> {
+    let digits = word.strip_prefix("0x").unwrap_or(word);
+    if digits.starts_with('+') {
+        return None;
+    }
+    u64::from_str_radix(digits, 16).ok()
 }
 
 // The options of `list` so far. An option may wait for the word that names its section.

@@ -15,7 +15,7 @@ use thiserror::Error;
 /// A part of a file. Sections and segments are counted from 0.
 #[derive(Debug, Clone, Copy)]
 pub enum Part {
-    /// The file as a whole.
+    /// The file as a whole. It has no text of its own, since the file's name stands before.
     File,
     /// The names of the sections.
     SectionNames,
@@ -32,8 +32,8 @@ pub enum Part {
     /// The strings that dynamic entries name.
     DynamicStrings,
     BuildId,
-    /// The section that was asked for.
-    Wanted,
+    /// What is at an address.
+    Address(u64),
     /// What a loader maps.
     LoadPlan,
 }
@@ -82,7 +82,10 @@ pub enum Fault {
     /// No loaded segment has the strings, which begin at this address, in the file.
     #[error("no segment of type PT_LOAD has them at 0x{0:x}")]
     NotLoaded(u64),
-    /// What a checker says.
+    /// No symbol has the address.
+    #[error("no symbol starts there or before it")]
+    NoSymbol,
+    /// Any other reason, as text.
     #[error("{0}")]
     Check(String),
 }
@@ -200,15 +203,16 @@ pub struct Told<'a> {
 impl fmt::Display for Told<'_> {
     fn fmt<W: fmt::Write>(&self, f: &mut fmt::Formatter<W>) -> fmt::Result {
         let Place { part, item } = self.problem.place;
-        match self.section {
-            Some((number, name)) => {
+        let fault = &self.problem.fault;
+        match (self.section, part) {
+            (Some((number, name)), _) => {
                 let name = Escaped(name);
                 write!(f, "section {number} ({name})")?;
             }
-            None => write_part(part, f)?,
+            (None, Part::File) => return write!(f, "{fault}"),
+            (None, part) => write_part(part, f)?,
         }
         write_item(item, f)?;
-        let fault = &self.problem.fault;
         write!(f, "{fault}")
     }
 }
@@ -216,7 +220,7 @@ impl fmt::Display for Told<'_> {
 fn write_part<W: fmt::Write>(part: Part, f: &mut fmt::Formatter<W>) -> fmt::Result {
     match part {
         Part::File => f.write_str("file"),
-        Part::Wanted => f.write_str("section"),
+        Part::Address(address) => write!(f, "address {address:#x}"),
         Part::BuildId => f.write_str("build id"),
         Part::LoadPlan => f.write_str("load plan"),
         Part::SectionNames => f.write_str("names of the sections"),

@@ -23,11 +23,11 @@ pub struct Symbols<'a, E: EndianParse> {
 }
 
 impl<'a, E: EndianParse> Symbols<'a, E> {
-    // The name of a symbol.
-    fn name_of(&self, number: u32) -> Result<&'a [u8], ParseError>
+    /// Returns the name of a symbol, by its number in the table.
+    pub fn name_of(&self, number: usize) -> Result<&'a [u8], ParseError>
         ensures { is_error result ≡ is_symbol_bad (symbols_view self.now) number }
     {
-        match self.table.get(number as usize) {
+        match self.table.get(number) {
             Ok(symbol) => self.strings.get_raw(symbol.st_name as usize),
             Err(error) => Err(error),
         }
@@ -55,7 +55,7 @@ fn symbol_name<'a, E: EndianParse>(
         part,
         item: Item::RelocationSymbol(number),
     };
-    let name = problems.readable(place, symbols.name_of(symbol))?;
+    let name = problems.readable(place, symbols.name_of(symbol as usize))?;
     Ok(Name(name))
 }
 

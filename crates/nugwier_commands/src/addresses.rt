@@ -1,0 +1,135 @@
+//! The symbols at addresses.
+ghost use Rattle.std.specs.Prelude.{◌≡◌, ◌++◌, List, OnOk};
+ghost use Rattle.std.specs.Option.{option_map};
+ghost use Rattle.elf.specs.Answers.{symbol_table, symbols_view};
+ghost use Rattle.elf.specs.ElfBytes.{view};
+ghost use Rattle.elf.specs.ObjectFile.{object_file};
+ghost use Rattle.elf_records.specs.Number.{ok_map};
+ghost use Rattle.nugwier_commands.specs.Addresses.{AddressesWrong, IsWrongBy, address_wrong, all_symbols};
+ghost use Rattle.nugwier_lines.specs.Names.{symbols_view as lines_view};
+ghost use Rattle.nugwier_lines.specs.declared.problem.Place.{Place};
+
+use elf::endian::EndianParse;
+use elf::string_table::{StringTable, TerminatedStrings};
+use elf::symbol::SymbolTable;
+use elf::{ElfBytes, ParseError};
+use elf_tools::addresses::{Addresses, Nearest};
+use nugwier_lines::named::Name;
+use nugwier_lines::problem::{Fault, Item, Part, Place, Problems, Stop};
+use nugwier_lines::relocations::Symbols;
+use nugwier_lines::rows::{Row, list_slice};
+use std::alloc::Global;
+use std::io::Write;
+
+/// Lists the symbol that starts at each address or before it. It is wrong if the file has no symbols, if none starts
+/// there or before, or if its name cannot be read.
+pub(crate) fn list_addresses<E: EndianParse, W: Write>(
+    alloc: Global,
+    file: &ElfBytes<'_, E>,
+    addresses: &[u64],
+    out: &mut W,
+    problems: &mut Problems,
+) -> Result<(), Stop>
+    ensures { let whole = object_file E.little (view file.now) in
+        OnOk result ((places : List Place) × AddressesWrong addresses.now places (all_symbols whole (symbol_table whole))
+        × (problems.new ≡ problems.old ++ places)) }
+{
+    let place = Place {
+        part: Part::Symbols,
+        item: Item::Whole,
+    };
+    match all_symbols(file) {
+        Ok(Some(symbols)) => list_found(alloc, symbols, addresses, out, problems),
+        Ok(None) => problems.add(place, Fault::Missing),
+        Err(error) => problems.add(place, Fault::Read(error)),
+    }
+}
+
+// The symbols of the section of type `SHT_SYMTAB`, or if there is none those for dynamic linking.
+fn all_symbols<'data, E: EndianParse>(
+    file: &ElfBytes<'data, E>,
+) -> Result<Option<(SymbolTable<'data, E>, StringTable<'data>)>, ParseError>
+    ensures { let whole = object_file E.little (view file.now) in
+        ok_map (option_map symbols_view) result ≡ all_symbols whole (symbol_table whole) }
+{
+    match file.symbol_table() {
+        Ok(Some(symbols)) => Ok(Some(symbols)),
+        Ok(None) => file.dynamic_symbol_table(),
+        Err(error) => Err(error),
+    }
+}
+
+fn list_found<'data, E: EndianParse, W: Write>(
+    alloc: Global,
+    symbols: (SymbolTable<'data, E>, StringTable<'data>),
+    addresses: &[u64],
+    out: &mut W,
+    problems: &mut Problems,
+) -> Result<(), Stop>
+    ensures { OnOk result ((places : List Place) × IsWrongBy (symbols_view symbols.entry) addresses.now places
+        × (problems.new ≡ problems.old ++ places)) }
+{
+    let (table, strings) = symbols;
+    let by_address = Addresses::new(alloc, &table)?;
+    let symbols = Symbols {
+        table,
+        strings: TerminatedStrings::new(&strings),
+    };
+    let row = AddressRow {
+        symbols,
+        by_address,
+    };
+    list_slice(addresses, &row, out, problems)
+}
+
+// The row of an address, with the name of the nearest symbol.
+#[derive(Drop)]
+struct AddressRow<'data, E: EndianParse> {
+    symbols: Symbols<'data, E>,
+    by_address: Addresses,
+}
+
+impl<'data, E: EndianParse> Row for AddressRow<'data, E> {
+    type Item = u64;
+
+    ghost wrong = { λ row number address. address_wrong row.by_address (lines_view row.symbols) address };
+
+    fn list<W: Write>(
+        &self,
+        _number: u64,
+        address: &u64,
+        out: &mut W,
+        problems: &mut Problems,
+    ) -> Result<(), Stop> {
+        let part = Part::Address(*address);
+        let Some(nearest) = self.by_address.find(*address) else {
+            let place = Place {
+                part,
+                item: Item::Whole,
+            };
+            return problems.add(place, Fault::NoSymbol);
+        };
+        let place = Place {
+            part,
+            item: Item::Name,
+        };
+        let name = problems.readable(place, self.symbols.name_of(nearest.symbol))?;
+        list_nearest(*address, Name(name), &nearest, out)
+    }
+}
+
+fn list_nearest<W: Write>(
+    address: u64,
+    name: Name<'_>,
+    nearest: &Nearest,
+    out: &mut W,
+) -> Result<(), Stop> {
+    let distance = nearest.distance;
+    let end = if nearest.is_inside {
+        ""
+    } else {
+        " past its end"
+    };
+    writeln!(out, "{address:#x} {name}+{distance:#x}{end}")?;
+    Ok(())
+}
