@@ -1,0 +1,5 @@
+pub mod Lines
+pub mod NamedSections
+pub mod SureLines
+pub mod SureFile
+pub mod Calls
