@@ -51,6 +51,7 @@ use Rattle.elf_whole.specs.Segments.{SoundSegment, has_no_bytes, segment_bytes}
 use Rattle.elf_whole.specs.Sound.{SoundFile}
 use Rattle.elf_whole.specs.Symbols.{holds_symbols}
 use Rattle.elf_whole_laws.proofs.NamedSections.{sections_named}
+use Rattle.elf_whole_laws.proofs.Single.{the_dynsym}
 use Rattle.elf_whole_laws.specs.Answers.{HasBytes, HasType, HoldsNotes, IsAnswered, IsFitting, IsHashSection, hash_type, sound_answer, sound_line}
 
 -- ---- answers of any kind
@@ -156,16 +157,21 @@ first_same kind file s (Ok linked) (Some first) e sound =
 first_same kind file s (Ok linked) None e sound = absurd (cc e)
 first_same kind file s (Err x) first e sound = absurd sound
 
-hash_same : (kind : HashKind) (file : ObjectFile) (s : SectionHeader) → IsHashSection kind file s → SoundHash kind file s → Same (ok_map (unless_none verdict_line) (checked_as kind file s)) (sound_answer kind file s)
-hash_same kind file s is sound = first_same kind file s (file.section_at s.sh_link) (first_section_of sht_dynsym file.sections) is.1 sound
+-- the section that is linked is the first of its type
+linked_first : (file : ObjectFile) (i : ℕ) (at : Result SectionHeader ParseError) → SoundFile file → slice_get file.sections i ≡ result_ok at → IsOkAnd at (λ linked. linked.sh_type ≡ sht_dynsym) → result_ok at ≡ first_section_of sht_dynsym file.sections
+linked_first file i (Ok linked) sound e is = sym (the_dynsym file sound.single i linked e is)
+linked_first file i (Err x) sound e is = absurd is
+
+hash_same : (kind : HashKind) (file : ObjectFile) (s : SectionHeader) → SoundFile file → slice_get file.sections s.sh_link ≡ result_ok (file.section_at s.sh_link) → IsHashSection kind file s → SoundHash kind file s → Same (ok_map (unless_none verdict_line) (checked_as kind file s)) (sound_answer kind file s)
+hash_same kind file s whole listed is sound = first_same kind file s (file.section_at s.sh_link) (first_section_of sht_dynsym file.sections) (linked_first file s.sh_link (file.section_at s.sh_link) whole listed is.1) sound
 
 hash_sound : (kind : HashKind) (file : ObjectFile) (s : SectionHeader) → s.sh_type ≡ hash_type kind → SoundSection file s → SoundHash kind file s
 hash_sound Sysv file s e sound = sound.content.sysv_hash e
 hash_sound Gnu file s e sound = sound.content.gnu_hash e
 
-hash_there : (kind : HashKind) (file : ObjectFile) (o : Option SectionHeader) → IfSome o (IsHashSection kind file) → ((s : SectionHeader) → o ≡ Some s → SoundSection file s) → Same (unless_absent (λ s. ok_map (unless_none verdict_line) (checked_as kind file s)) o) (unless_absent (sound_answer kind file) o)
-hash_there kind file None fit each = (refl, refl)
-hash_there kind file (Some s) fit each = hash_same kind file s fit (hash_sound kind file s fit.0 (each s refl))
+hash_there : (kind : HashKind) (file : ObjectFile) (o : Option SectionHeader) → SoundFile file → ((i : ℕ) → slice_get file.sections i ≡ result_ok (file.section_at i)) → IfSome o (IsHashSection kind file) → ((s : SectionHeader) → o ≡ Some s → SoundSection file s) → Same (unless_absent (λ s. ok_map (unless_none verdict_line) (checked_as kind file s)) o) (unless_absent (sound_answer kind file) o)
+hash_there kind file None whole listed fit each = (refl, refl)
+hash_there kind file (Some s) whole listed fit each = hash_same kind file s whole (listed s.sh_link) fit (hash_sound kind file s fit.0 (each s refl))
 
 -- ---- calls
 
@@ -244,7 +250,7 @@ module _ {E : Type 0} (header : FileHeader E) (file : ObjectFile) (sound : Sound
 
   hash_answered : (kind : HashKind) (i : ℕ) → IsFitting file (Hash kind i) → IsAnswered header file (Hash kind i)
   hash_answered kind i fit =
-      let r = hash_there kind file (slice_get file.sections i) fit (here i) in record { ok = r.0; same = r.1 }
+      let r = hash_there kind file (slice_get file.sections i) sound listed fit (here i) in record { ok = r.0; same = r.1 }
 
   sections_answered : IsAnswered header file Sections
   sections_answered = sections_named header file sound.names (λ i s e. (here i s e).name)

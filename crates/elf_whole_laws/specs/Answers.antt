@@ -1,8 +1,8 @@
 -- What the listing of a sound file answers: no call on a section of its type is refused, each name is a name, and each
 -- hash section is sound.
-use Rattle.std.specs.Prelude.{◌≡◌, ⊤, ℕ, false, List, codes, Option, Result, IfSome, IsOk, slice_get}
+use Rattle.std.specs.Prelude.{◌≡◌, ⊤, ℕ, false, List, [], ◌∷◌, ◌++◌, codes, Option, Result, Ok, IfSome, IsOk, slice_get}
 use Rattle.std.specs.Fmt.{decimal}
-use Rattle.std.specs.Result.{result_ok}
+use Rattle.std.specs.Result.{IsOkAnd}
 use Rattle.elf_abi.specs.Values.{pt_dynamic, pt_note, sht_dynsym, sht_gnu_hash, sht_hash, sht_note, sht_rel, sht_rela}
 use Rattle.elf_abi.specs.Values.{sht_strtab}
 use Rattle.elf_records.specs.Number.{ok_map}
@@ -12,7 +12,7 @@ use Rattle.elf_records.specs.declared.parse.ParseError.{ParseError}
 use Rattle.elf_records.specs.declared.section.SectionHeader.{SectionHeader}
 use Rattle.elf_records.specs.declared.segment.ProgramHeader.{ProgramHeader}
 use Rattle.elf.specs.Answers.{dynamic_symbol_table, symbol_table, symbol_version_table}
-use Rattle.elf.specs.Headers.{first_section_of, first_segment_of}
+use Rattle.elf.specs.Headers.{first_segment_of}
 use Rattle.elf.specs.Names.{name_table}
 use Rattle.elf.specs.ObjectFile.{ObjectFile}
 use Rattle.elf_check.specs.Object.{Object, indexed_count}
@@ -47,10 +47,10 @@ abbrev pub hash_type : HashKind → ℕ
 hash_type Sysv = sht_hash
 hash_type Gnu = sht_gnu_hash
 
--- a hash section of a kind, which is linked to the symbols of dynamic linking
+-- a hash section of a kind, which is linked to symbols for dynamic linking
 abbrev pub IsHashSection : HashKind → ObjectFile → SectionHeader → Type 0
 IsHashSection kind file s =
-    (s.sh_type ≡ hash_type kind) × (result_ok (file.section_at s.sh_link) ≡ first_section_of sht_dynsym file.sections)
+    (s.sh_type ≡ hash_type kind) × IsOkAnd (file.section_at s.sh_link) (λ linked. linked.sh_type ≡ sht_dynsym)
 
 -- the call is on a section or a segment of the type that it reads
 abbrev pub IsFitting : ObjectFile → Question → Type 0
@@ -97,3 +97,11 @@ sure_answer header file call = call_answer header file call
 pub record IsAnswered {E : Type 0} (header : FileHeader E) (file : ObjectFile) (call : Question) : Type 0 where
   pub ok : IsOk (call_answer header file call)
   pub same : call_answer header file call ≡ sure_answer header file call
+
+-- ---- lists of calls
+
+-- the joined texts of the calls, in order, if all have an answer
+abbrev pub sure_texts : {E : Type 0} → FileHeader E → ObjectFile → List Question → Result (List ℕ) ParseError
+sure_texts header file [] = Ok []
+sure_texts header file (call ∷ calls) =
+    sure_answer header file call >>= λ one. ok_map (λ others. one ++ others) (sure_texts header file calls)

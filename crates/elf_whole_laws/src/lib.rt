@@ -2,14 +2,16 @@
 //! that computes nothing; a caller uses the law by calling it.
 #![tactic(auto)]
 
-ghost use Rattle.std.specs.Prelude.{◌≡◌, ℕ, slice_get};
+ghost use Rattle.std.specs.Prelude.{◌≡◌, ℕ, List, Ok, slice_get};
+ghost use Rattle.std.specs.List.{AllByRecursion};
 ghost use Rattle.std.specs.Result.{result_ok};
 ghost use Rattle.elf.specs.ElfBytes.{view};
 ghost use Rattle.elf.specs.ObjectFile.{object_file};
 ghost use Rattle.elf_calls.specs.Question.{DynSyms, Question, Symbols, Versions};
+ghost use Rattle.elf_calls.specs.Text.{text};
 ghost use Rattle.elf_records.specs.declared.file.FileHeader.{FileHeader as IsFileHeader};
 ghost use Rattle.elf_whole.specs.Whole.{whole_view};
-ghost use Rattle.elf_whole_laws.specs.Answers.{IsAnswered, IsFitting};
+ghost use Rattle.elf_whole_laws.specs.Answers.{IsAnswered, IsFitting, sure_texts};
 
 use elf::ElfBytes;
 use elf::endian::EndianParse;
@@ -81,7 +83,7 @@ fn versions_are_answered<E: EndianParse>(file: &WholeFile<'_, '_, E>)
 /// its symbols.
 ///
 /// `IsFitting` says what a call is to name. A segment is to have bytes in the file; a hash section is to be linked to
-/// the symbols for dynamic linking, since the calls `sysv` and `gnu` check it for these.
+/// symbols for dynamic linking, since the calls `sysv` and `gnu` check it for these.
 pub fn calls_are_answered<E: EndianParse>(file: &WholeFile<'_, '_, E>)
     ensures { let whole = whole_view E.little file.now in
         (header : IsFileHeader E) (call : Question) → IsFitting whole call → IsAnswered header whole call }
@@ -90,4 +92,13 @@ pub fn calls_are_answered<E: EndianParse>(file: &WholeFile<'_, '_, E>)
     symbols_are_answered(file);
     dynamic_symbols_are_answered(file);
     versions_are_answered(file);
+}
+
+/// Of a file that was checked the text of a list of such calls is the joined text of their answers, in order.
+pub fn texts_are_answered<E: EndianParse>(file: &WholeFile<'_, '_, E>)
+    ensures { let whole = whole_view E.little file.now in
+        (header : IsFileHeader E) (calls : List Question) → AllByRecursion (IsFitting whole) calls →
+        sure_texts header whole calls ≡ Ok (text header whole calls) }
+{
+    calls_are_answered(file);
 }
