@@ -5,3 +5,6 @@ pub mod SureFile
 pub mod Single
 pub mod Calls
 pub mod Texts
+pub mod VersionsKnown
+pub mod FileVersions
+pub mod Bindings

@@ -4,3 +4,5 @@ pub mod Named
 pub mod Sure
 -- what the listing of a sound file answers
 pub mod Answers
+-- objects of a look-up that are made of sound files
+pub mod Bindings

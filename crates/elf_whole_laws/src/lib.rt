@@ -1,5 +1,5 @@
-//! Laws of the listing of a file that was checked: theorems for the proofs of callers. Each is the contract of a function
-//! that computes nothing; a caller uses the law by calling it.
+//! Laws of files that were checked: of their listing, and of look-ups over them. They are theorems for the proofs of
+//! callers. Each is the contract of a function that computes nothing; a caller uses the law by calling it.
 #![tactic(auto)]
 
 ghost use Rattle.std.specs.Prelude.{◌≡◌, ℕ, List, Ok, slice_get};
@@ -11,12 +11,16 @@ ghost use Rattle.elf_calls.specs.Question.{DynSyms, Question, Symbols, Versions}
 ghost use Rattle.elf_calls.specs.Text.{text};
 ghost use Rattle.elf_records.specs.declared.file.FileHeader.{FileHeader as IsFileHeader};
 ghost use Rattle.elf_whole.specs.Whole.{whole_view};
+ghost use Rattle.elf_binding.specs.VersionedView.{versioned_view};
+ghost use Rattle.elf_whole_laws.specs.Bindings.{AreOfSound, BindsAll};
 ghost use Rattle.elf_whole_laws.specs.Answers.{IsAnswered, IsFitting, sure_texts};
 
 use elf::ElfBytes;
 use elf::endian::EndianParse;
+use elf::gnu_symver::SymbolVersions;
 use elf::laws::lists::list_is_what_get_gives;
 use elf::section::SectionHeader;
+use elf_binding::VersionedObject;
 use elf_whole::WholeFile;
 
 // Section i of the list is the section of index i.
@@ -102,3 +106,9 @@ pub fn texts_are_answered<E: EndianParse>(file: &WholeFile<'_, '_, E>)
 {
     calls_are_answered(file);
 }
+
+/// What a reference binds to is known, if each object of a list is the hash table of a file that is sound with the
+/// versions of its symbols: `bind` over these objects returns no error, whatever the name and the version.
+pub fn references_bind<E: EndianParse, V: SymbolVersions<E>>(objects: &[VersionedObject<'_, E, V>])
+    ensures { AreOfSound (versioned_view V.versions) objects.now → BindsAll (versioned_view V.versions) objects.now }
+{}
