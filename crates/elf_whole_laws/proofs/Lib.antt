@@ -1,0 +1,10 @@
+pub mod Lines
+pub mod NamedSections
+pub mod SureLines
+pub mod SureFile
+pub mod Single
+pub mod Calls
+pub mod Texts
+pub mod VersionsKnown
+pub mod FileVersions
+pub mod Bindings

@@ -1,0 +1,114 @@
+//! Laws of files that were checked: of their listing, and of look-ups over them. They are theorems for the proofs of
+//! callers. Each is the contract of a function that computes nothing; a caller uses the law by calling it.
+#![tactic(auto)]
+
+ghost use Rattle.std.specs.Prelude.{◌≡◌, ℕ, List, Ok, slice_get};
+ghost use Rattle.std.specs.List.{AllByRecursion};
+ghost use Rattle.std.specs.Result.{result_ok};
+ghost use Rattle.elf.specs.ElfBytes.{view};
+ghost use Rattle.elf.specs.ObjectFile.{object_file};
+ghost use Rattle.elf_calls.specs.Question.{DynSyms, Question, Symbols, Versions};
+ghost use Rattle.elf_calls.specs.Text.{text};
+ghost use Rattle.elf_records.specs.declared.file.FileHeader.{FileHeader as IsFileHeader};
+ghost use Rattle.elf_whole.specs.Whole.{whole_view};
+ghost use Rattle.elf_binding.specs.VersionedView.{versioned_view};
+ghost use Rattle.elf_whole_laws.specs.Bindings.{AreOfSound, BindsAll};
+ghost use Rattle.elf_whole_laws.specs.Answers.{IsAnswered, IsFitting, sure_texts};
+
+use elf::ElfBytes;
+use elf::endian::EndianParse;
+use elf::gnu_symver::SymbolVersions;
+use elf::laws::lists::list_is_what_get_gives;
+use elf::section::SectionHeader;
+use elf_binding::VersionedObject;
+use elf_whole::WholeFile;
+
+// Section i of the list is the section of index i.
+fn sections_are_listed<E: EndianParse>(file: &ElfBytes<'_, E>)
+    ensures { let whole = object_file E.little (view file.now) in
+        (i : ℕ) → slice_get whole.sections i ≡ result_ok (whole.section_at i) }
+{
+    list_is_what_get_gives::<SectionHeader>();
+    match file.section_headers() {
+        Some(shdrs) => {
+            let _ = shdrs.len();
+        }
+        None => {}
+    }
+}
+
+// The call `symbols`.
+fn symbols_are_answered<E: EndianParse>(file: &WholeFile<'_, '_, E>)
+    ensures { (header : IsFileHeader E) → IsAnswered header (whole_view E.little file.now) Symbols }
+{
+    match file.symbols() {
+        Some(symbols) => {
+            let _ = symbols.iter();
+        }
+        None => {}
+    }
+}
+
+// The call `dynsyms`.
+fn dynamic_symbols_are_answered<E: EndianParse>(file: &WholeFile<'_, '_, E>)
+    ensures { (header : IsFileHeader E) → IsAnswered header (whole_view E.little file.now) DynSyms }
+{
+    match file.dynamic_symbols() {
+        Some(symbols) => {
+            let _ = symbols.iter();
+        }
+        None => {}
+    }
+}
+
+// The call `versions`.
+fn versions_are_answered<E: EndianParse>(file: &WholeFile<'_, '_, E>)
+    ensures { (header : IsFileHeader E) → IsAnswered header (whole_view E.little file.now) Versions }
+{
+    let _ = file.file();
+    match file.versions() {
+        Some(versions) => match file.dynamic_symbols() {
+            Some(symbols) => {
+                let _ = versions.len();
+                let _ = symbols.iter();
+            }
+            None => {}
+        },
+        None => {
+            let _ = file.dynamic_symbols();
+        }
+    }
+}
+
+/// Of a file that was checked every call of the listing has an answer, if the section or segment that it names is of
+/// the type that the call reads, or there is none: no such call writes `refused`. The answer is `sure_answer`: the lines
+/// of `sections`, `symbols` and `dynsyms` have their names and none says `badname`, those of `versions` have their names
+/// and none says `badneed`, `baddef` or `badname`, and of a hash section the line is `sound indexed=` with the number of
+/// its symbols.
+///
+/// `IsFitting` says what a call is to name. A segment is to have bytes in the file; a hash section is to be linked to
+/// symbols for dynamic linking, since the calls `sysv` and `gnu` check it for these.
+pub fn calls_are_answered<E: EndianParse>(file: &WholeFile<'_, '_, E>)
+    ensures { let whole = whole_view E.little file.now in
+        (header : IsFileHeader E) (call : Question) → IsFitting whole call → IsAnswered header whole call }
+{
+    sections_are_listed(file.file());
+    symbols_are_answered(file);
+    dynamic_symbols_are_answered(file);
+    versions_are_answered(file);
+}
+
+/// Of a file that was checked the text of a list of such calls is the joined text of their answers, in order.
+pub fn texts_are_answered<E: EndianParse>(file: &WholeFile<'_, '_, E>)
+    ensures { let whole = whole_view E.little file.now in
+        (header : IsFileHeader E) (calls : List Question) → AllByRecursion (IsFitting whole) calls →
+        sure_texts header whole calls ≡ Ok (text header whole calls) }
+{
+    calls_are_answered(file);
+}
+
+/// What a reference binds to is known, if each object of a list is the hash table of a file that is sound with the
+/// versions of its symbols: `bind` over these objects returns no error, whatever the name and the version.
+pub fn references_bind<E: EndianParse, V: SymbolVersions<E>>(objects: &[VersionedObject<'_, E, V>])
+    ensures { AreOfSound (versioned_view V.versions) objects.now → BindsAll (versioned_view V.versions) objects.now }
+{}
