@@ -4,7 +4,7 @@ _nugwier() {
     COMPREPLY=()
     if [ "$COMP_CWORD" -eq 1 ]; then
         mapfile -t COMPREPLY < <(compgen -W \
-            "list symbols needed exports build-id plan check --help --version" -- "$word")
+            "list symbols needed exports build-id plan check address --help --version" -- "$word")
         return
     fi
     if [ "${COMP_WORDS[1]}" = list ]; then

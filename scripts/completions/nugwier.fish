@@ -1,5 +1,5 @@
 # Completion of nugwier for fish: commands, options and files.
-set -l commands list symbols needed exports build-id plan check
+set -l commands list symbols needed exports build-id plan check address
 complete -c nugwier -n "not __fish_seen_subcommand_from $commands" -f
 complete -c nugwier -n "not __fish_seen_subcommand_from $commands" -a list -d "headers, tables and contents"
 complete -c nugwier -n "not __fish_seen_subcommand_from $commands" -a symbols -d "symbols for dynamic linking"
@@ -7,7 +7,8 @@ complete -c nugwier -n "not __fish_seen_subcommand_from $commands" -a needed -d 
 complete -c nugwier -n "not __fish_seen_subcommand_from $commands" -a exports -d "defined functions"
 complete -c nugwier -n "not __fish_seen_subcommand_from $commands" -a build-id -d "build id"
 complete -c nugwier -n "not __fish_seen_subcommand_from $commands" -a plan -d "what a loader maps"
-complete -c nugwier -n "not __fish_seen_subcommand_from $commands" -a check -d "what is wrong with a file"
+complete -c nugwier -n "not __fish_seen_subcommand_from $commands" -a check -d "whether a file is sound"
+complete -c nugwier -n "not __fish_seen_subcommand_from $commands" -a address -d "symbols at addresses"
 complete -c nugwier -n "not __fish_seen_subcommand_from $commands" -l version -d "the version"
 complete -c nugwier -l help -d "how it is called"
 complete -c nugwier -n "__fish_seen_subcommand_from $commands" -F

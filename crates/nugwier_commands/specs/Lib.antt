@@ -4,3 +4,5 @@ pub mod Wrong
 pub mod Check
 -- the addresses of which no symbol is known
 pub mod Addresses
+-- what a command finds wrong, and the exit status
+pub mod Status

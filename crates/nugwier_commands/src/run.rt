@@ -1,4 +1,10 @@
 //! Runs the program, apart from the operating system.
+ghost use Rattle.std.specs.Prelude.{◌≡◌, ◌==◌, List, [], length, IfOk, OnOk};
+ghost use Rattle.elf.specs.ElfBytes.{view};
+ghost use Rattle.elf.specs.ObjectFile.{object_file};
+ghost use Rattle.nugwier_commands.specs.Status.{IsWrongFor, ended_status};
+ghost use Rattle.nugwier_lines.specs.declared.problem.Place.{Place};
+
 use crate::addresses::list_addresses;
 use crate::check::check;
 use crate::files::Files;
@@ -10,7 +16,7 @@ use crate::report::report;
 use crate::strings::list_needed;
 use crate::symbols::list_dynamic_symbols;
 use crate::words::{Command, Job, Request, WordError, parse_words};
-use elf::endian::AnyEndian;
+use elf::endian::{AnyEndian, EndianParse};
 use elf::{ElfBytes, ParseError};
 use nugwier_lines::escape::Escaped;
 use nugwier_lines::problem::{Problems, Stop};
@@ -56,7 +62,9 @@ fn print<W: Write>(text: &str, out: &mut W) -> Result<bool, Stop> {
 
 // The exit status of a run, by whether all was read. A writer whose reader has gone is no news; any other reason to
 // stop is told.
-fn ended<V: Write>(ran: Result<bool, Stop>, err: &mut V) -> u8 {
+fn ended<V: Write>(ran: Result<bool, Stop>, err: &mut V) -> u8
+    ensures { result ≡ ended_status ran }
+{
     match ran {
         Ok(true) => 0,
         Ok(false) => 1,
@@ -139,23 +147,43 @@ fn run_bytes<W: Write, V: Write>(
             return Ok(false);
         }
     };
+    run_file_command(alloc, job, path, &file, out, err)
+}
+
+// Lists an opened file, and returns whether nothing is wrong.
+fn run_file_command<E: EndianParse, W: Write, V: Write>(
+    alloc: Global,
+    job: &Job<'_>,
+    path: &str,
+    file: &ElfBytes<'_, E>,
+    out: &mut W,
+    err: &mut V,
+) -> Result<bool, Stop>
+    ensures { IfOk result (λ is_read. (places : List Place)
+        × IsWrongFor job.now.command job.now.addresses.items (object_file E.little (view file.now)) [] places
+        × (is_read ≡ (length places == 0))) }
+{
     let mut problems = Problems::none(alloc);
-    run_command(alloc, job, &file, out, &mut problems)?;
+    run_command(alloc, job, file, out, &mut problems)?;
     if problems.is_empty() {
         return Ok(true);
     }
     out.flush()?;
-    let _ = report(path, &file, problems.as_slice(), err);
+    let _ = report(path, file, problems.as_slice(), err);
     Ok(false)
 }
 
-fn run_command<W: Write>(
+// Lists what a command asks for of a file.
+fn run_command<E: EndianParse, W: Write>(
     alloc: Global,
     job: &Job<'_>,
-    file: &ElfBytes<'_, AnyEndian>,
+    file: &ElfBytes<'_, E>,
     out: &mut W,
     problems: &mut Problems,
-) -> Result<(), Stop> {
+) -> Result<(), Stop>
+    ensures { OnOk result (IsWrongFor job.now.command job.now.addresses.items (object_file E.little (view file.now))
+        problems.old problems.new) }
+{
     match job.command {
         Command::List => list(alloc, job, file, out, problems),
         Command::Symbols => {
