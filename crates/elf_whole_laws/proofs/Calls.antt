@@ -158,14 +158,14 @@ first_same kind file s (Ok linked) None e sound = absurd (cc e)
 first_same kind file s (Err x) first e sound = absurd sound
 
 -- the section that is linked is the first of its type
-linked_first : (file : ObjectFile) (i : ℕ) (at : Result SectionHeader ParseError) → SoundFile file → slice_get file.sections i ≡ result_ok at → IsOkAnd at (λ linked. linked.sh_type ≡ sht_dynsym) → result_ok at ≡ first_section_of sht_dynsym file.sections
+pub linked_first : (file : ObjectFile) (i : ℕ) (at : Result SectionHeader ParseError) → SoundFile file → slice_get file.sections i ≡ result_ok at → IsOkAnd at (λ linked. linked.sh_type ≡ sht_dynsym) → result_ok at ≡ first_section_of sht_dynsym file.sections
 linked_first file i (Ok linked) sound e is = sym (the_dynsym file sound.single i linked e is)
 linked_first file i (Err x) sound e is = absurd is
 
 hash_same : (kind : HashKind) (file : ObjectFile) (s : SectionHeader) → SoundFile file → slice_get file.sections s.sh_link ≡ result_ok (file.section_at s.sh_link) → IsHashSection kind file s → SoundHash kind file s → Same (ok_map (unless_none verdict_line) (checked_as kind file s)) (sound_answer kind file s)
 hash_same kind file s whole listed is sound = first_same kind file s (file.section_at s.sh_link) (first_section_of sht_dynsym file.sections) (linked_first file s.sh_link (file.section_at s.sh_link) whole listed is.1) sound
 
-hash_sound : (kind : HashKind) (file : ObjectFile) (s : SectionHeader) → s.sh_type ≡ hash_type kind → SoundSection file s → SoundHash kind file s
+pub hash_sound : (kind : HashKind) (file : ObjectFile) (s : SectionHeader) → s.sh_type ≡ hash_type kind → SoundSection file s → SoundHash kind file s
 hash_sound Sysv file s e sound = sound.content.sysv_hash e
 hash_sound Gnu file s e sound = sound.content.gnu_hash e
 

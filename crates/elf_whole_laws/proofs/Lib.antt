@@ -8,3 +8,4 @@ pub mod Texts
 pub mod VersionsKnown
 pub mod FileVersions
 pub mod Bindings
+pub mod Objects

@@ -1,5 +1,12 @@
 -- Objects of a look-up with versions that are made of sound files.
-use Rattle.std.specs.Prelude.{◌≡◌, ℕ, List, Option, Some, Result, Ok, IsOk, slice_get}
+use Rattle.std.specs.Prelude.{◌≡◌, ⊤, ℕ, List, Option, Some, None, Result, Ok, Err, IfSome, IsOk, slice_get}
+use Rattle.elf_abi.specs.Values.{sht_gnu_hash, sht_hash}
+use Rattle.elf_records.specs.declared.section.SectionHeader.{SectionHeader}
+use Rattle.elf.specs.Headers.{first_section_of}
+use Rattle.elf_check.specs.declared.hashcheck.any.HashKind.{HashKind}
+use Rattle.elf_check.specs.declared.hashcheck.any.HashKind.TheVariants.{Gnu, Sysv}
+use Rattle.elf_binding.specs.declared.resolve.ObjectFault.{ObjectFault}
+use Rattle.elf_whole_laws.specs.Answers.{IsHashSection}
 use Rattle.elf_records.specs.declared.symbol.Symbol.{Symbol}
 use Rattle.elf.specs.ObjectFile.{ObjectFile}
 use Rattle.elf_binding.specs.Binding.{IsBinding, VersionedObject}
@@ -24,3 +31,23 @@ module _ {C : Type 0} (view : C → VersionedObject) (objects : List C) where
   BindsAll =
       (name : List ℕ) (wanted : Wanted) (result : Result (Option (ℕ × ℕ × Symbol)) BindingFault) →
       IsBinding view objects name wanted result → IsOk result
+
+-- ---- the object that a file is
+
+-- the hash section in which a look-up finds symbols, with its kind: a GNU section, or if there is none a SysV section
+abbrev pub looked_up : Option SectionHeader → Option SectionHeader → Option (HashKind × SectionHeader)
+looked_up (Some gnu) sysv = Some (Gnu, gnu)
+looked_up None (Some sysv) = Some (Sysv, sysv)
+looked_up None None = None
+
+-- it is linked to symbols for dynamic linking, if there is one
+abbrev pub LooksUpDynamic : ObjectFile → Type 0
+LooksUpDynamic file =
+    IfSome (looked_up (first_section_of sht_gnu_hash file.sections) (first_section_of sht_hash file.sections))
+    (λ chosen. IsHashSection chosen.0 file chosen.1)
+
+-- no error, and an object of a sound file, if there is one
+abbrev pub GivesSound : {C : Type 0} → (C → VersionedObject) → Result (Option C) ObjectFault → Type 0
+GivesSound view (Ok None) = ⊤
+GivesSound view (Ok (Some object)) = IsOfSound (view object)
+GivesSound view (Err fault) = ⊥

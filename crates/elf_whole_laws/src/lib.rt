@@ -1,5 +1,6 @@
 //! Laws of files that were checked: of their listing, and of look-ups over them. They are theorems for the proofs of
-//! callers. Each is the contract of a function that computes nothing; a caller uses the law by calling it.
+//! callers. Each is the contract of a function that computes nothing; a caller uses the law by calling it. The objects of
+//! such a look-up are made by `checked_object`.
 #![tactic(auto)]
 
 ghost use Rattle.std.specs.Prelude.{◌≡◌, ℕ, List, Ok, slice_get};
@@ -11,8 +12,10 @@ ghost use Rattle.elf_calls.specs.Question.{DynSyms, Question, Symbols, Versions}
 ghost use Rattle.elf_calls.specs.Text.{text};
 ghost use Rattle.elf_records.specs.declared.file.FileHeader.{FileHeader as IsFileHeader};
 ghost use Rattle.elf_whole.specs.Whole.{whole_view};
+ghost use Rattle.elf_parts.specs.gnu_symver.Table.{versions_view};
+ghost use Rattle.elf_binding.specs.BindingObjects.{GivesVersioned};
 ghost use Rattle.elf_binding.specs.VersionedView.{versioned_view};
-ghost use Rattle.elf_whole_laws.specs.Bindings.{AreOfSound, BindsAll};
+ghost use Rattle.elf_whole_laws.specs.Bindings.{AreOfSound, BindsAll, GivesSound, LooksUpDynamic};
 ghost use Rattle.elf_whole_laws.specs.Answers.{IsAnswered, IsFitting, sure_texts};
 
 use elf::ElfBytes;
@@ -20,7 +23,8 @@ use elf::endian::EndianParse;
 use elf::gnu_symver::SymbolVersions;
 use elf::laws::lists::list_is_what_get_gives;
 use elf::section::SectionHeader;
-use elf_binding::VersionedObject;
+use elf_binding::resolve::ObjectFault;
+use elf_binding::{VersionedObject, versioned_object};
 use elf_whole::WholeFile;
 
 // Section i of the list is the section of index i.
@@ -112,3 +116,16 @@ pub fn texts_are_answered<E: EndianParse>(file: &WholeFile<'_, '_, E>)
 pub fn references_bind<E: EndianParse, V: SymbolVersions<E>>(objects: &[VersionedObject<'_, E, V>])
     ensures { AreOfSound (versioned_view V.versions) objects.now → BindsAll (versioned_view V.versions) objects.now }
 {}
+
+/// Returns the object that a file that was checked is in a look-up, as `versioned_object` does, or `None` exactly if the
+/// file has no hash section. There is no error if that hash section is linked to symbols for dynamic linking
+/// (`LooksUpDynamic`), and `references_bind` is true of the object.
+pub fn checked_object<'data, E: EndianParse>(
+    file: &WholeFile<'_, 'data, E>,
+) -> Result<Option<VersionedObject<'data, E>>, ObjectFault>
+    ensures given { GivesVersioned (versioned_view versions_view) (whole_view E.little file.now) result }
+    ensures sound { LooksUpDynamic (whole_view E.little file.now) → GivesSound (versioned_view versions_view) result }
+{
+    sections_are_listed(file.file());
+    versioned_object(file.file())
+}
