@@ -38,7 +38,7 @@ def below(names, uses):
 class Item:
     """A function, type, trait, constant, or an `impl` of a trait with its ghost members."""
 
-    def __init__(self, kind, name, text, doc, derives, public, clauses=()):
+    def __init__(self, kind, name, text, doc, derives, public, clauses=(), error=""):
         self.kind = kind
         self.name = name
         self.text = text
@@ -46,6 +46,7 @@ class Item:
         self.derives = derives
         self.public = public
         self.clauses = list(clauses)
+        self.error = error
         self.members = []
         self.cited = {}
 
@@ -137,7 +138,7 @@ def function(text, at, start):
 def parse(text, inner=False):
     """Reads the items of a file, or of the block of an `impl` or a trait."""
     module = Module()
-    doc, derives = [], []
+    doc, derives, error = [], [], ""
     at = blank(text, 0)
     while at < len(text):
         if text.startswith("//", at):
@@ -152,6 +153,8 @@ def parse(text, inner=False):
         if text[at] == "#":
             end = block_end(text, text.index("[", at))
             derives += re.findall(r"[\w:]+", "".join(re.findall(r"derive(?:_where)?\(([^)]*)\)", text[at:end])))
+            if text.startswith("#[error(", at):
+                error = dedent(text, at, end) + "\n"
             at = blank(text, end)
             continue
         start = at
@@ -173,7 +176,7 @@ def parse(text, inner=False):
         elif word in ("struct", "enum"):
             end = until(text, head.end(), "{;")
             end = block_end(text, end) if text[end] == "{" else end + 1
-            item = Item(word, name, dedent(text, start, end), doc, derives, public)
+            item = Item(word, name, dedent(text, start, end), doc, derives, public, error=error)
         elif word in ("trait", "impl"):
             brace = until(text, head.end(), "{")
             end = block_end(text, brace)
@@ -200,7 +203,7 @@ def parse(text, inner=False):
             item = Item(word, name, dedent(text, start, end), doc, derives, public)
         if item:
             module.items.append(item)
-        doc, derives = [], []
+        doc, derives, error = [], [], ""
         at = blank(text, end)
     return module
 
@@ -385,6 +388,7 @@ class Entry:
         self.text = text or item.text
         self.doc = item.doc
         self.derives = item.derives
+        self.error = item.error
         self.clauses = item.clauses
         self.constant = constant
         words = set(WORD.findall(self.text))
