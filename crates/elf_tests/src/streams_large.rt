@@ -45,7 +45,7 @@ fn a_range_of_more_than_a_mebibyte_is_read(rt: HostRuntime) -> Result<(), Fail> 
     let file = large_file(rt.alloc(), LARGE)?;
     let mut stream = InMemory::open_stream(rt.alloc(), MemSource::new(&file))?;
     let (bytes, header) = stream.section_data(&BYTES)?;
-    assert!(rt; bytes == &file[52..] && header.is_none());
+    assert!(rt; file.get(52..) == Some(bytes) && header.is_none());
     Ok(())
 }
 
@@ -84,22 +84,30 @@ fn many_ranges_are_cached(rt: HostRuntime) -> Result<(), Fail> {
             ..BYTES
         };
         let (bytes, _) = stream.section_data(&shdr)?;
-        assert!(rt; bytes == &file[sh_offset as usize..sh_offset as usize + 1]);
+        let start = sh_offset as usize;
+        assert!(rt; file.get(start..start + 1) == Some(bytes));
     }
     assert!(rt; meter.taken() == (0, 0));
     Ok(())
 }
 
-/// A 32-bit file of this many section headers, whose number is sh_size of the first one.
+/// A 32-bit file of `COUNT` section headers, a number that is sh_size of the first one. sh_name of each is its index.
 fn many_headers(alloc: Global) -> Result<Vec<u8>, AllocError> {
-    let mut file = large_file(alloc, 0)?;
-    file[32] = 52;
-    file[46] = 40;
+    let mut file = Vec::with_capacity(alloc, 52 + 40 * COUNT as usize)?;
+    file.extend_from_slice(&[0x7f, 0x45, 0x4c, 0x46, 1, 1, 1])?;
+    file.resize(32, 0)?;
+    // e_shoff, and e_shentsize at 46.
+    file.push(52)?;
+    file.resize(46, 0)?;
+    file.push(40)?;
+    file.resize(52, 0)?;
     for i in 0..COUNT {
+        let size = if i == 0 { COUNT } else { 0 };
         file.extend_from_slice(&i.to_le_bytes())?;
-        file.resize(52 + 40 * (i as usize + 1), 0)?;
+        file.extend_from_slice(&[0; 16])?;
+        file.extend_from_slice(&size.to_le_bytes())?;
+        file.extend_from_slice(&[0; 16])?;
     }
-    file[72..76].copy_from_slice(&COUNT.to_le_bytes());
     Ok(file)
 }
 
