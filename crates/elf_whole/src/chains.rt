@@ -30,12 +30,12 @@ pub(crate) trait Extent: Linked + Drop {
     // How many bytes it takes.
     ghost extent: { Self → ℕ };
 
-    /// How many bytes this record takes, with the auxiliary records that it declares.
+    /// How many bytes the auxiliary records that this record declares take.
     fn extent(&self) -> u64
         ensures { result ≡ extent self.now };
 }
 
-// Whether these linked records, each with its auxiliary records, take at most `limit` bytes.
+// Whether the auxiliary records of these linked records take at most `limit` bytes.
 pub(crate) fn do_fit<E: EndianParse, R: Extent>(links: Links<'_, E, R>, limit: u64) -> bool
     ensures { IsTrue result ↔ (total_extent R.extent (links_left R.reads.record_at R.next_distance links.entry) ≤
         limit) }

@@ -144,7 +144,7 @@ pub enum VersionsFault {
     #[error("no needs, or no strings for them")]
     NeedsUnreadable,
     /// The needs declare more versions than the section has bytes for.
-    #[error("more needs and versions than the section has bytes for")]
+    #[error("more versions of needs than the section has bytes for")]
     NeedsTooLong,
     /// The needs.
     #[error("needs: {0}")]
@@ -153,7 +153,7 @@ pub enum VersionsFault {
     #[error("no definitions, or no strings for them")]
     DefinitionsUnreadable,
     /// The definitions declare more names than the section has bytes for.
-    #[error("more definitions and names than the section has bytes for")]
+    #[error("more names of definitions than the section has bytes for")]
     DefinitionsTooLong,
     /// The definitions.
     #[error("definitions: {0}")]

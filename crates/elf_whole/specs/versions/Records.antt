@@ -41,12 +41,12 @@ pub record SoundNeed (strings : List ℕ) (t : Table) (link : ℕ × VerNeed) : 
 abbrev pub need_links : Table → ℕ → List (ℕ × VerNeed)
 need_links t count = links_in (record_by ver_need_layout) (λ x. x.vn_next) t count 0
 
--- how many bytes a need takes with its versions
+-- how many bytes the versions of a need take
 abbrev pub need_extent : VerNeed → ℕ
-need_extent need = 16 + need.vn_cnt * 16
+need_extent need = need.vn_cnt * 16
 
--- exactly as many needs as the section declares, each of which is sound; they and their versions do not take more bytes
--- than there are
+-- exactly as many needs as the section declares, each of which is sound; their versions do not take more bytes than
+-- there are. So a check of them all is linear. A few may lie in the same bytes, as linkers write it.
 pub record SoundNeeds (strings : List ℕ) (t : Table) (count : ℕ) : Type 0 where
   pub fit : total_extent need_extent (need_links t count) ≤ length t.bytes
   pub chain : SoundChain (λ x. x.vn_next) (SoundNeed strings t) count (need_links t count)
@@ -68,12 +68,12 @@ pub record SoundDef (strings : List ℕ) (t : Table) (link : ℕ × VerDef) : Ty
 abbrev pub def_links : Table → ℕ → List (ℕ × VerDef)
 def_links t count = links_in (record_by ver_def_layout) (λ x. x.vd_next) t count 0
 
--- how many bytes a definition takes with its names
+-- how many bytes the names of a definition take
 abbrev pub def_extent : VerDef → ℕ
-def_extent definition = 20 + definition.vd_cnt * 8
+def_extent definition = definition.vd_cnt * 8
 
--- exactly as many definitions as the section declares, each of which is sound; they and their names do not take more
--- bytes than there are
+-- exactly as many definitions as the section declares, each of which is sound; their names do not take more bytes than
+-- there are
 pub record SoundDefs (strings : List ℕ) (t : Table) (count : ℕ) : Type 0 where
   pub fit : total_extent def_extent (def_links t count) ≤ length t.bytes
   pub chain : SoundChain (λ x. x.vd_next) (SoundDef strings t) count (def_links t count)

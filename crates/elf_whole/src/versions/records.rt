@@ -52,7 +52,7 @@ impl Extent for VerNeed {
     ghost extent = { need_extent };
 
     fn extent(&self) -> u64 {
-        16 + self.vn_cnt as u64 * 16
+        self.vn_cnt as u64 * 16
     }
 }
 
@@ -62,7 +62,7 @@ impl Extent for VerDef {
     ghost extent = { def_extent };
 
     fn extent(&self) -> u64 {
-        20 + self.vd_cnt as u64 * 8
+        self.vd_cnt as u64 * 8
     }
 }
 
