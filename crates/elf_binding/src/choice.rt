@@ -82,19 +82,10 @@ impl<'data, E: EndianParse, V: SymbolVersions<E>> VersionedObject<'data, E, V> {
 }
 
 /// Returns the first object in the list with a definition of the name that serves the reference: its place, counted
-/// from 0, with the index and the symbol that its `find` returns. Returns `None` exactly if no object has one. Objects
-/// come from `versioned_object`, in the order of the search; what an undefined symbol requests is `reference`.
+/// from 0, with the index and the symbol that its `find` returns. Returns `None` exactly if no object has one.
 ///
 /// The error is that of the first object whose `find` returns an error, if no object before it has a definition
 /// that serves.
-///
-/// ```rust
-/// if let Some(object) = versioned_object(&file)?
-///     && let Some((object, index, _)) = bind(&[object], b"malloc", &Wanted::Any)?
-/// {
-///     println!(rt; "object {object}, symbol {index}")?;
-/// }
-/// ```
 pub fn bind<E: EndianParse, V: SymbolVersions<E>>(
     objects: &[VersionedObject<'_, E, V>],
     name: &[u8],

@@ -39,9 +39,9 @@ fn has_place(symbol: &Symbol) -> bool
             || symbol.st_symtype() == abi::STT_TLS)
 }
 
-/// Returns whether references of other files can bind to the symbol. It must be defined; its value must not be 0,
-/// unless it is absolute or thread-local; its type must be NOTYPE, OBJECT, FUNC, COMMON, TLS or GNU_IFUNC; its binding
-/// must be global, weak or unique; and its visibility must not be internal or hidden.
+/// Whether references of other files can bind to the symbol. It must be defined; its value must not be 0, unless it
+/// is absolute or thread-local; its type must be NOTYPE, OBJECT, FUNC, COMMON, TLS or GNU_IFUNC; its binding must
+/// be global, weak or unique; and its visibility must not be internal or hidden.
 pub fn is_definition(symbol: &Symbol) -> bool
     ensures { result ≡ is_definition symbol.now }
 {

@@ -207,9 +207,9 @@ pub struct NoteIterator<'data, E: EndianParse> {
 }
 
 impl<'data, E: EndianParse> NoteIterator<'data, E> {
-    /// Returns the notes of the data, at most one for each byte. The descriptor of a note, and the next note, begin at
-    /// multiples of `align`, counted in bytes from the start of the data. If `align` is 0, there are no notes. Both
-    /// classes have the same notes.
+    /// The notes of the data, at most one for each byte. The descriptor of a note, and the next
+    /// note, begin at multiples of `align`, counted in bytes from the start of the data. If `align` is 0, there are
+    /// no notes. Both classes have the same notes.
     #[tactic(auto, using(crate::proofs::NoteLists::notes_few))]
     pub fn new(endian: E, _class: Class, align: usize, data: &'data [u8]) -> Self
         ensures items { notes_left result ≡ notes_in (E.little endian) align «data».now }

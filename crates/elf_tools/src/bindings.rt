@@ -32,7 +32,7 @@ pub enum Bound {
     Missing,
 }
 
-/// Returns whether another file has to define the symbol.
+/// Whether another file has to define the symbol.
 pub fn is_reference(symbol: &Symbol) -> bool
     ensures { result ≡ is_reference symbol.now }
 {

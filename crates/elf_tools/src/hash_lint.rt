@@ -34,14 +34,6 @@ fn kind_lint<E: EndianParse>(
 /// Errors, in order: `Read` if the bytes of the section cannot be read; `Read` if the dynamic symbols cannot be read;
 /// `NoSymbols` if there are none; `Read` if `new` of the table returns an error; `Faulty` with a fault that is true of
 /// the section.
-///
-/// ```rust
-/// if let Some(section) = file.section_header_by_name(".gnu.hash")?
-///     && let Some(verdict) = lint(&file, &section)
-/// {
-///     println!(rt; "sound, {} indexed symbols", verdict?)?;
-/// }
-/// ```
 pub fn lint<E: EndianParse>(
     file: &ElfBytes<'_, E>,
     section: &SectionHeader,

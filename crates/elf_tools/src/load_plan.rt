@@ -190,15 +190,6 @@ fn first_overlap(alloc: Global, all: &[Mapping]) -> Result<Option<usize>, AllocE
 /// it has more bytes in the file than in memory, `OutsideFile` if its bytes do not lie in the file, and `AddressSpace`
 /// if it ends past the last address of the file's class; `Overlap` with the first mapping that shares an address with
 /// an earlier one. A file without segments has an empty plan, and no error.
-///
-/// The segments are taken as declared: nothing is known of pages, `p_align` is ignored, and any order of addresses is
-/// accepted. So a loader, which maps whole pages, may refuse a file that has a plan.
-///
-/// ```rust
-/// for mapping in &load_plan(rt.alloc(), &file)? {
-///     println!(rt; "{} bytes at {:#x}", mapping.memory_size, mapping.address)?;
-/// }
-/// ```
 pub fn load_plan<E: EndianParse>(
     alloc: Global,
     file: &ElfBytes<'_, E>,

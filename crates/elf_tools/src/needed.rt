@@ -293,14 +293,6 @@ fn names_by<E: EndianParse, S: StreamSource, A: Allocator + Copy>(
 /// cannot be read; `Name` if the string of an entry cannot be read: of the soname, then of the needed libraries in
 /// order, of `DT_RUNPATH` and of `DT_RPATH`. `Memory` if an allocation failed, which is possible only if the file has
 /// dynamic entries.
-///
-/// ```rust
-/// if let Some(names) = dynamic_names(rt.alloc(), &mut stream)? {
-///     for name in &names.needed {
-///         println!(rt; "{}", from_utf8(names.bytes(name))?)?;
-///     }
-/// }
-/// ```
 pub fn dynamic_names<E: EndianParse, S: StreamSource, A: Allocator + Copy>(
     alloc: Global,
     stream: &mut ElfStream<E, S, A>,

@@ -87,16 +87,6 @@ fn needed<'a, E: EndianParse, V: SymbolVersions<E>>(
 ///
 /// The error is `Unreadable` if the version index or a name cannot be read (of a need also the name of its file), if
 /// the definition has no names, or if no definition and no need has the version index.
-///
-/// ```rust
-/// if let Some(versions) = file.symbol_version_table()? {
-///     match version_of_symbol(&versions, 1)? {
-///         Some(SymbolVersion::Needed { file, name }) => println!(rt; "needs {name} of {file}")?,
-///         Some(SymbolVersion::Defined { name, .. }) => println!(rt; "is defined with {name}")?,
-///         None => println!(rt; "has no version")?,
-///     }
-/// }
-/// ```
 pub fn version_of_symbol<'a, E: EndianParse, V: SymbolVersions<E>>(
     versions: &'a V,
     symbol: usize,

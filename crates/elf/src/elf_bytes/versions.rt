@@ -134,12 +134,6 @@ impl<'data, E: EndianParse> ElfBytes<'data, E> {
     /// if the range of the indexes does not lie in the file; the same for the range of the needs; that of
     /// `ParsingTable::get` for the section header that their `sh_link` names; that of the range of their strings; the
     /// last three for the definitions.
-    ///
-    /// ```rust
-    /// if let Some(versions) = file.symbol_version_table()? {
-    ///     println!(rt; "versions of {} symbols", versions.indexes().len())?;
-    /// }
-    /// ```
     pub fn symbol_version_table(&self) -> Result<Option<SymbolVersionTable<'data, E>>, ParseError>
         ensures { ok_map (option_map versions_view) result
             ≡ symbol_version_table (object_file E.little (view self.now)) }

@@ -58,13 +58,6 @@ fn section_table<'data, E: EndianParse>(
 /// Errors, in order: `Read` if the bytes of the section cannot be read; `Read` if the dynamic symbols cannot be
 /// read; `NoSymbols` if there are none; `Read` if `new` of the table returns an error; `Faulty` with a fault that
 /// is true of the section.
-///
-/// ```rust
-/// match object_table(&file)? {
-///     Some(table) => println!(rt; "{} indexed symbols", table.indexed())?,
-///     None => println!(rt; "no hash section")?,
-/// }
-/// ```
 pub fn object_table<'data, E: EndianParse>(
     file: &ElfBytes<'data, E>,
 ) -> Result<Option<AnyChecked<'data, E>>, ObjectFault>
@@ -80,17 +73,8 @@ pub fn object_table<'data, E: EndianParse>(
 }
 
 #[tactic(auto, using(std::proofs::lemmas::Grind::elements))]
-/// Returns the place of the first object in the list that has the name, counted from 0, with the index and the symbol
-/// that its `find` returns. Returns `None` exactly if no object has the name. The objects are the tables that
-/// `object_table` returns for the files, in the order of the search.
-///
-/// ```rust
-/// if let Some(table) = object_table(&file)?
-///     && let Some((object, index, _)) = resolve(&[table], b"malloc")
-/// {
-///     println!(rt; "object {object}, symbol {index}")?;
-/// }
-/// ```
+/// Returns the place of the first object in the list that has the name, counted from 0, with the index and the
+/// symbol that its `find` returns. Returns `None` exactly if no object has the name.
 pub fn resolve<E: EndianParse>(
     objects: &[AnyChecked<'_, E>],
     name: &[u8],

@@ -42,17 +42,8 @@ impl<'data, E: EndianParse> HashSection<CheckedSysvHash<'data, E>, CheckedGnuHas
     ghost use Rattle.elf_check.specs.NamedSymbols.{AreAllNamed, named_left};
     ghost use Rattle.elf_check.specs.Object.{Indexed, IsFound, indexed_count};
 
-    /// Returns the index and the symbol of a name: of a GNU section the least such index, of a SysV section the first
-    /// along its chain. Returns `None` exactly if no indexed symbol has the name. The table comes from `check_any` or,
-    /// for a file, from `elf_binding::resolve::object_table`.
-    ///
-    /// ```rust
-    /// if let Some(table) = object_table(&file)?
-    ///     && let Some((index, symbol)) = table.find(b"malloc")
-    /// {
-    ///     println!(rt; "symbol {index}, value {:#x}", symbol.st_value)?;
-    /// }
-    /// ```
+    /// Returns the index and the symbol of a name: of a GNU section the least such index, of a SysV section the
+    /// first along its chain. Returns `None` exactly if no indexed symbol has the name.
     pub fn find(&self, name: &[u8]) -> Option<(usize, Symbol)>
         ensures { IsFound (object_view self.now) name.now result }
     {
@@ -62,16 +53,8 @@ impl<'data, E: EndianParse> HashSection<CheckedSysvHash<'data, E>, CheckedGnuHas
         }
     }
 
-    /// Returns an iterator over all indexed symbols with a name, each once with its index: of a GNU section in the
-    /// order of their indexes, of a SysV section in the order of their chain. The first is the one that `find` returns.
-    ///
-    /// ```rust
-    /// if let Some(table) = object_table(&file)? {
-    ///     for (index, symbol) in table.find_all(b"malloc") {
-    ///         println!(rt; "symbol {index}, value {:#x}", symbol.st_value)?;
-    ///     }
-    /// }
-    /// ```
+    /// All indexed symbols with a name, each once with its index: of a GNU section in the order of their indexes,
+    /// of a SysV section in the order of their chain. The first is the one that `find` returns.
     pub fn find_all<'a>(&self, name: &'a [u8]) -> NamedSymbols<'a, 'data, E>
         ensures { AreAllNamed (object_view self.now) name.now (named_left result) }
     {
@@ -81,7 +64,7 @@ impl<'data, E: EndianParse> HashSection<CheckedSysvHash<'data, E>, CheckedGnuHas
         }
     }
 
-    /// Returns the number of symbols that the section indexes.
+    /// The number of symbols that the section indexes.
     pub fn indexed(&self) -> usize
         ensures count { result ≡ indexed_count (object_view self.now) }
         ensures members { IsNumberOf result (Indexed (object_view self.now)) }
@@ -93,23 +76,8 @@ impl<'data, E: EndianParse> HashSection<CheckedSysvHash<'data, E>, CheckedGnuHas
     }
 }
 
-/// Checks the bytes of a hash section of either kind as `check_sysv` or `check_gnu` does. The symbols are those of the
-/// section that `sh_link` of the hash section names, with their strings: usually those of `dynamic_symbol_table`.
-/// Returns the checked table exactly if the section is sound for these symbols, and otherwise a fault that is true of
-/// it. Returns an error exactly if `new` of the table does, and that error.
-///
-/// ```rust
-/// if let Some(section) = file.section_header_by_name(".gnu.hash")?
-///     && let Some((symbols, names)) = file.dynamic_symbol_table()?
-/// {
-///     let (kind, ehdr) = (HashKind::Gnu, &file.ehdr);
-///     let (bytes, _) = file.section_data(&section)?;
-///     match check_any(kind, ehdr.endianness, ehdr.class, bytes, symbols, names)? {
-///         Checked::Sound(table) => println!(rt; "sound, {} symbols", table.indexed())?,
-///         Checked::Faulty(fault) => println!(rt; "{fault:?}")?,
-///     }
-/// }
-/// ```
+/// Checks a section of either kind as `check_sysv` or `check_gnu` does. Returns an error exactly if `new` of the
+/// table does, and that error.
 pub fn check_any<'data, E: EndianParse>(
     kind: HashKind,
     endian: E,

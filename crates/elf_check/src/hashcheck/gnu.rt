@@ -61,8 +61,8 @@ impl<'data, E: EndianParse> CheckedGnuHash<'data, E> {
         FollowingIndexes::new(links, chains, Some(index), left)
     }
 
-    /// Returns an iterator over all indexed symbols with a name, each once with its index, in the order of their
-    /// indexes. The first is the one that `find` returns.
+    /// All indexed symbols with a name, each once with its index, in the order of their indexes. The first is the
+    /// one that `find` returns.
     pub fn find_all<'a>(&self, name: &'a [u8]) -> NamedSymbols<'a, 'data, E>
         ensures { AreAllNamed (Object.ByGnu (checked_gnu_view self.now)) name.now (named_left result) }
     {
@@ -70,7 +70,7 @@ impl<'data, E: EndianParse> CheckedGnuHash<'data, E> {
         NamedSymbols::new(walk, self.symtab, self.strtab, name)
     }
 
-    /// Returns the number of symbols that the section indexes: one for each chain word.
+    /// The number of symbols that the section indexes: one for each chain word.
     pub fn indexed(&self) -> usize
         ensures count { result ≡ gnu_indexed self.now }
         ensures words { result ≡ word_count (checked_gnu_view self.now).table.chains }

@@ -24,7 +24,7 @@ impl Reads {
         Reads { count: 0 }
     }
 
-    /// Returns the number of symbols that were read.
+    /// The number of symbols that were read.
     pub fn count(&self) -> u64
         ensures { result ≡ read_count self.now }
     {

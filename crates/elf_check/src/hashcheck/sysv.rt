@@ -58,8 +58,8 @@ impl<'data, E: EndianParse> CheckedSysvHash<'data, E> {
         }
     }
 
-    /// Returns an iterator over all indexed symbols with a name, each once with its index, in the order of their chain.
-    /// The first is the one that `find` returns.
+    /// All indexed symbols with a name, each once with its index, in the order of their chain. The first is the one
+    /// that `find` returns.
     pub fn find_all<'a>(&self, name: &'a [u8]) -> NamedSymbols<'a, 'data, E>
         ensures { AreAllNamed (Object.BySysv (checked_sysv_view self.now)) name.now (named_left result) }
     {
@@ -67,7 +67,7 @@ impl<'data, E: EndianParse> CheckedSysvHash<'data, E> {
         NamedSymbols::new(walk, self.symtab, self.strtab, name)
     }
 
-    /// Returns the number of symbols that the section indexes: the sum of the lengths of its chains.
+    /// The number of symbols that the section indexes: the sum of the lengths of its chains.
     pub fn indexed(&self) -> usize
         ensures count { result ≡ sysv_indexed self.now }
         ensures lengths { let table = (checked_sysv_view self.now).table in

@@ -25,7 +25,7 @@ pub type VerNeedAuxIterator<'data, E> = AuxIterator<'data, E, VerNeedAux>;
 pub type VerDefAuxIterator<'data, E> = AuxIterator<'data, E, VerDefAux>;
 
 impl<'data, E: EndianParse, A: Linked> AuxIterator<'data, E, A> {
-    /// Returns the entries that are linked from the one at `starting_offset`, in bytes: at most `count`, and at most as
+    /// The entries that are linked from the one at `starting_offset`, in bytes: at most `count`, and at most as
     /// many as the data have bytes.
     #[tactic(auto, using(crate::proofs::LinkedRecords::map_bounds))]
     pub fn new(
@@ -83,7 +83,7 @@ pub type VerNeedIterator<'data, E> = EntryIterator<'data, E, VerNeed>;
 pub type VerDefIterator<'data, E> = EntryIterator<'data, E, VerDef>;
 
 impl<'data, E: EndianParse, V: VersionEntry> EntryIterator<'data, E, V> {
-    /// Returns the entries that are linked from the one at `starting_offset`, in bytes: at most `count`, and at most as
+    /// The entries that are linked from the one at `starting_offset`, in bytes: at most `count`, and at most as
     /// many as the data have bytes.
     #[tactic(auto, using(crate::proofs::LinkedRecords::map_bounds))]
     pub fn new(

@@ -235,19 +235,11 @@ impl<'data, E: EndianParse> SymbolVersionTable<'data, E> {
         self.indexes.get(symbol)
     }
 
-    /// Returns the version that a symbol, counted from 0 among the dynamic symbols, needs of another file. Returns
-    /// `None` if there are no needs, whatever the symbol's version index is, or if no needed version has this index.
+    /// Returns the version that a symbol, counted from 0, needs of another file. Returns `None` if there are no
+    /// needs, whatever the symbol's version index is, or if no needed version has this index.
     ///
     /// Errors, in order: that of `get_index`; that of `StringTable::get` for the name of the file; the same for the
     /// name of the version.
-    ///
-    /// ```rust
-    /// if let Some(versions) = file.symbol_version_table()?
-    ///     && let Some(version) = versions.get_requirement(1)?
-    /// {
-    ///     println!(rt; "symbol 1 needs {} of {}", version.name, version.file)?;
-    /// }
-    /// ```
     pub fn get_requirement(
         &self,
         symbol: usize,
@@ -265,18 +257,9 @@ impl<'data, E: EndianParse> SymbolVersionTable<'data, E> {
         Ok(Some(read_requirement(strings, needed, index.is_hidden())?))
     }
 
-    /// Returns the version with which a symbol, counted from 0 among the dynamic symbols, is defined. Returns `None` if
-    /// there are no definitions, whatever the symbol's version index is, or if no definition has this index. The only
-    /// error is that of `get_index`: the names, fewer than 2^16, are read by the iterator in the result.
-    ///
-    /// ```rust
-    /// if let Some(versions) = file.symbol_version_table()?
-    ///     && let Some(mut version) = versions.get_definition(1)?
-    ///     && let Some(name) = version.names.next()
-    /// {
-    ///     println!(rt; "symbol 1 is defined with {}", name?)?;
-    /// }
-    /// ```
+    /// Returns the version with which a symbol, counted from 0, is defined. Returns `None` if there are no
+    /// definitions, whatever the symbol's version index is, or if no definition has this index. The only error is
+    /// that of `get_index`: the names, fewer than 2^16, are read by the iterator in the result.
     pub fn get_definition(
         &self,
         symbol: usize,

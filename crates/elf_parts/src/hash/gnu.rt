@@ -121,11 +121,7 @@ fn hash_head(eight: &[u8; 8], count: usize) -> u32
     hash_eight(STARTS[count], &behind_zeros.to_le_bytes())
 }
 
-/// Returns the hash of a name, given without its 0 byte, in a GNU hash section: 32 bits.
-///
-/// ```rust
-/// println!(rt; "{:#x}", gnu_hash(b"printf"))?; // 0x156b2bb8
-/// ```
+/// Returns the hash of a name in a GNU hash section, 32 bits.
 #[tactic(auto, unfolding(crate::specs::Hash::gnu_hash_of))]
 pub fn gnu_hash(name: &[u8]) -> u32
     ensures { result ≡ gnu_hash_of name.now }
@@ -370,23 +366,12 @@ impl<'data, E: EndianParse> GnuHashTable<'data, E> {
     }
 
     /// Returns the index and the symbol of a name, the first in the run of its bucket. Returns `None` if there are no
-    /// buckets or bloom words, or if the bloom word or the run has no such name. `symtab` has the symbols of the
-    /// section that `sh_link` of the hash section names, and `strtab` their strings: usually both come from
-    /// `dynamic_symbol_table`.
+    /// buckets or bloom words, or if the bloom word or the run has no such name.
     ///
     /// The error is that of the first read on the way that fails: `ParsingTable::get` for the bloom word, only if the
     /// caller raised `hdr.nbloom`; `ParsingTable::get` for a symbol whose chain word fits the hash;
     /// `StringTable::get_raw` for its name. It is `IntegerOverflow` if the second bloom bit is needed and the shift is
     /// 32 or more.
-    ///
-    /// ```rust
-    /// if let Some(table) = file.find_common_data()?.gnu_hash
-    ///     && let Some((symbols, names)) = file.dynamic_symbol_table()?
-    ///     && let Some((index, symbol)) = table.find(b"malloc", &symbols, &names)?
-    /// {
-    ///     println!(rt; "symbol {index}, value {:#x}", symbol.st_value)?;
-    /// }
-    /// ```
     // Inlined with its parts. A result has some hundred bytes, since `ParseError` can hold an `io::Error`: a call would
     // fill and copy that room for each look-up.
     #[tactic(auto, unfolding(crate::specs::GnuFind::gnu_find))]

@@ -85,7 +85,7 @@ impl<'a> From<&'a ParseError> for LibraryFault<'a> {
 }
 
 impl<E: EndianParse> Library<E> {
-    /// Returns the hash section, if there is one, or the error of reading it.
+    /// The hash section, if there is one, or the error of reading it.
     fn hash_section(&self) -> Result<Option<(HashKind, &[u8])>, &ParseError>
         ensures { part_result (option_map shown_hash) result ≡ library_hash self.now }
     {

@@ -82,13 +82,6 @@ impl<'a, 'data, E: EndianParse, A: Allocator + Copy> IndexedVersions<'a, 'data, 
     /// Builds both tables: goes over the version indexes, over the needs and over the definitions once. Each table has
     /// a place for each version index up to the greatest that a symbol has. If an allocation fails, the error is
     /// `AllocError`. Nothing is allocated if there are no version indexes, or neither needs nor definitions.
-    ///
-    /// ```rust
-    /// if let Some(table) = file.symbol_version_table()? {
-    ///     let versions = IndexedVersions::new(rt.alloc(), &table)?;
-    ///     println!(rt; "{}", versions.get_requirement(1)?.is_some())?;
-    /// }
-    /// ```
     pub fn new(alloc: A, versions: &'a SymbolVersionTable<'data, E>) -> Result<Self, AllocError>
         ensures versions { IfOk result (λ indexed. indexed ≡ versions_view versions.now) }
         ensures no_entries { IsNone (versions_view versions.now).needs →
