@@ -3,7 +3,7 @@ ghost use Rattle.std.specs.Prelude.{◌≡◌};
 ghost use Rattle.std.specs.Option.{option_map};
 ghost use Rattle.elf_records.specs.Number.{ok_map};
 ghost use Rattle.elf_records.specs.Table.{table_view};
-ghost use Rattle.elf_reading.specs.Opening.{opened};
+ghost use Rattle.elf_reading.specs.Opening.{opened_file};
 ghost use Rattle.elf.specs.ElfBytes.{view};
 
 use elf_parts::endian::EndianParse;
@@ -58,7 +58,7 @@ impl<'data, E: EndianParse> ElfBytes<'data, E> {
     /// println!(rt; "machine {}", file.ehdr.e_machine)?;
     /// ```
     pub fn minimal_parse(data: &'data [u8]) -> Result<Self, ParseError>
-        ensures { ok_map view result ≡ opened E.little E.of_byte «data».now }
+        ensures { ok_map view result ≡ opened_file E.little E.of_byte «data».now }
     {
         let found = open(data)?;
         Ok(ElfBytes {

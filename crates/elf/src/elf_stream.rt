@@ -3,7 +3,7 @@ ghost use Rattle.std.specs.Prelude.{◌≡◌, ℕ, ◌≤◌, ◌+◌, ◌^◌,
 ghost use Rattle.std.specs.Prelude.{IfSome, Ok, IsOk, length, take, drop, [], ◌∷◌};
 ghost use Rattle.elf_records.specs.Number.{bytes_at, ok_map};
 ghost use Rattle.elf.specs.Ranges.{range_of_section, range_of_segment};
-ghost use Rattle.elf_reading.specs.Opening.{opened};
+ghost use Rattle.elf_reading.specs.Opening.{opened_file};
 ghost use Rattle.elf.specs.ElfStream.{IsFor, IsOfFile, Keeps, IsCached, IsOpening};
 ghost use Rattle.elf_reading.specs.Refusals.{IsAnswer};
 ghost use Rattle.elf_reading.specs.Opening.{headers_of};
@@ -65,11 +65,11 @@ pub struct ElfStream<E: EndianParse, S: StreamSource, A: Allocator + Copy> {
 
 impl<E: EndianParse, S: StreamSource, A: Allocator + Copy> Model for ElfStream<E, S, A> {
     ghost use Rattle.std.specs.Prelude.{map};
-    ghost use Rattle.elf.specs.ElfStream.{Seen};
+    ghost use Rattle.elf.specs.ElfStream.{StreamView};
     ghost use Rattle.elf.specs.inner.Opened.{IsOpened};
     ghost use Rattle.elf_reading.specs.Cache.{range_of};
 
-    ghost Value = { Seen E };
+    ghost Value = { StreamView E };
 
     ghost view = { λ s. record {
       content = S.content s.source;
@@ -107,7 +107,7 @@ impl<E: EndianParse, S: StreamSource, A: Allocator + Copy> ElfStream<E, S, A> {
         ensures content { IfOk result (λ s. (s.content ≡ S.content reader) × (s.can_fail ≡ S.can_fail reader)) }
         ensures cached { IfOk result (λ s. s.cached ≡ []) }
         ensures opening { IfSome (S.content reader) (λ bytes. IsOpening
-            (ok_map headers_of (opened E.little E.of_byte bytes)) (S.can_fail reader) (S.failures reader) result) }
+            (ok_map headers_of (opened_file E.little E.of_byte bytes)) (S.can_fail reader) (S.failures reader) result) }
     {
         let found = open_source(alloc, &mut reader)?;
         Ok(ElfStream {

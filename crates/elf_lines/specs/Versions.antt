@@ -6,7 +6,7 @@ use Rattle.std.specs.Str.{is_utf8}
 use denote.Ref.{Bor}
 use Rattle.elf_parts.specs.gnu_symver.Table.{Definition, Requirement, Versions, definition, requirement}
 use Rattle.elf_records.specs.declared.parse.ParseError.{ParseError}
-use Rattle.elf_lines.specs.Pieces.{◌⧺◌, newline, escaped, hex}
+use Rattle.elf_lines.specs.Pieces.{◌⧺◌, newline, escaped_text, hex}
 use Rattle.elf_lines.specs.Counted.{end_line}
 
 -- a raw name that can be read, and that is text
@@ -29,7 +29,7 @@ version_fields hash flags hidden =
 
 abbrev pub needed_texts : List ℕ → List ℕ → ℕ → ℕ → Bool → List ℕ
 needed_texts file name hash flags hidden =
-    codes "need file=" ⧺ escaped file ⧺ codes " name=" ⧺ escaped name ⧺ version_fields hash flags hidden
+    codes "need file=" ⧺ escaped_text file ⧺ codes " name=" ⧺ escaped_text name ⧺ version_fields hash flags hidden
 
 abbrev pub needed_field : Requirement → Option (List ℕ) → Option (List ℕ) → List ℕ
 needed_field needed (Some file) (Some name) = needed_texts file name needed.hash needed.flags needed.hidden
@@ -44,7 +44,7 @@ need_field (Err e) = codes "badneed"
 -- ---- what a symbol is defined with
 
 abbrev pub version_name : Option (List ℕ) → List ℕ
-version_name (Some name) = codes " name=" ⧺ escaped name
+version_name (Some name) = codes " name=" ⧺ escaped_text name
 version_name None = codes " badname"
 
 abbrev pub version_names : List (Result (List ℕ) ParseError) → List ℕ

@@ -4,8 +4,8 @@ ghost use Rattle.std.specs.Prelude.{Option, Some, is_none};
 ghost use Rattle.std.specs.List.{flat_map};
 ghost use Rattle.std.specs.Fmt.{decimal, digits, digit_glyph, signed_decimal};
 ghost use Rattle.std.specs.Io.KnownBytes.{Appends};
-ghost use Rattle.elf_lines.specs.Pieces.{◌⧺◌, escape, escaped, hex, hex_of, hex_pair, is_plain};
-ghost use Rattle.elf_lines.specs.Adding.{Adds, waiting};
+ghost use Rattle.elf_lines.specs.Pieces.{◌⧺◌, escape, escaped_text, hex, hex_of, hex_pair, is_plain};
+ghost use Rattle.elf_lines.specs.Adding.{Adds, waiting_text};
 
 mod pairs;
 
@@ -33,7 +33,7 @@ pub struct LineBuffer {
 impl Model for LineBuffer {
     ghost Value = { Option (List ℕ) };
 
-    ghost view = { λ b. waiting b.failure (take b.used b.bytes) };
+    ghost view = { λ b. waiting_text b.failure (take b.used b.bytes) };
 
     ghost invariant = { λ b. b.used ≤ 1024 };
 }
@@ -175,9 +175,9 @@ impl LineBuffer {
 
     /// Adds a label and a text, escaped.
     #[inline(always)]
-    pub fn escaped<W: Write>(&mut self, label: &str, text: &[u8], out: &mut W)
+    pub fn escaped_text<W: Write>(&mut self, label: &str, text: &[u8], out: &mut W)
         ensures { Adds (W.contents out.old) self.old (W.contents out.new) self.new
-            (label.now ⧺ escaped text.now) }
+            (label.now ⧺ escaped_text text.now) }
     {
         self.put(label.as_bytes(), out);
         self.put_text(text, out);
@@ -185,7 +185,7 @@ impl LineBuffer {
 
     #[inline(never)]
     fn put_text<W: Write>(&mut self, text: &[u8], out: &mut W)
-        ensures { Adds (W.contents out.old) self.old (W.contents out.new) self.new (escaped text.now) }
+        ensures { Adds (W.contents out.old) self.old (W.contents out.new) self.new (escaped_text text.now) }
     {
         if are_plain(text) {
             self.put(text, out);
@@ -197,7 +197,7 @@ impl LineBuffer {
     /// Adds a plain byte as it is, each other byte as `\x` and two digits.
     #[inline(never)]
     fn put_escaped<W: Write>(&mut self, text: &[u8], out: &mut W)
-        ensures { Adds (W.contents out.old) self.old (W.contents out.new) self.new (escaped text.now) }
+        ensures { Adds (W.contents out.old) self.old (W.contents out.new) self.new (escaped_text text.now) }
     {
         for byte in text {
             if is_plain(*byte) {
@@ -311,7 +311,7 @@ fn fill_decimal(n: u64, room: &mut [u8; MAX_DIGITS]) -> usize
 /// Whether no byte of a text needs an escape. The last block may overlap the one before it. Blocks of a known length
 /// take fewer instructions than bytes.
 fn are_plain(bytes: &[u8]) -> bool
-    ensures { result ≡ true → escaped bytes.now ≡ bytes.now }
+    ensures { result ≡ true → escaped_text bytes.now ≡ bytes.now }
 {
     let Some(last) = bytes.last_chunk::<16>() else {
         return is_short_plain(bytes);
@@ -324,7 +324,7 @@ fn are_plain(bytes: &[u8]) -> bool
 #[inline(always)]
 fn is_short_plain(bytes: &[u8]) -> bool
     requires { length bytes.now < 16 }
-    ensures { result ≡ true → escaped bytes.now ≡ bytes.now }
+    ensures { result ≡ true → escaped_text bytes.now ≡ bytes.now }
 {
     let (Some(first), Some(last)) = (bytes.first_chunk::<8>(), bytes.last_chunk::<8>()) else {
         return are_few_plain(bytes);
@@ -336,7 +336,7 @@ fn is_short_plain(bytes: &[u8]) -> bool
 #[inline(always)]
 fn are_few_plain(bytes: &[u8]) -> bool
     requires { length bytes.now < 8 }
-    ensures { result ≡ true → escaped bytes.now ≡ bytes.now }
+    ensures { result ≡ true → escaped_text bytes.now ≡ bytes.now }
 {
     let (Some(first), Some(last)) = (bytes.first_chunk::<4>(), bytes.last_chunk::<4>()) else {
         return is_block_plain(bytes);
@@ -345,7 +345,7 @@ fn are_few_plain(bytes: &[u8]) -> bool
 }
 
 fn are_blocks_plain<const N: usize>(blocks: &[[u8; N]]) -> bool
-    ensures { result ≡ true → flat_map escaped blocks.now ≡ flat_map (λ block. block) blocks.now }
+    ensures { result ≡ true → flat_map escaped_text blocks.now ≡ flat_map (λ block. block) blocks.now }
 {
     for block in blocks {
         if !is_block_plain(block) {
@@ -359,7 +359,7 @@ fn are_blocks_plain<const N: usize>(blocks: &[[u8; N]]) -> bool
 #[tactic(auto, using(crate::proofs::Escaping::plain_waits, std::proofs::lemmas::Grind::common_steps))]
 #[inline(always)]
 fn is_block_plain(bytes: &[u8]) -> bool
-    ensures { result ≡ true → escaped bytes.now ≡ bytes.now }
+    ensures { result ≡ true → escaped_text bytes.now ≡ bytes.now }
 {
     let mut plain = true;
     for byte in bytes {

@@ -38,7 +38,7 @@ pub fn add_name_in<W: Write>(
         (codes " " ⧺ name_read (string_at names.now offset)) }
 {
     match names.get_raw(offset as usize) {
-        Ok(name) => lines.escaped(" name=", name, out),
+        Ok(name) => lines.escaped_text(" name=", name, out),
         Err(_) => lines.word(" badname", out),
     }
 }

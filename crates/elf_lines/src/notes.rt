@@ -65,7 +65,7 @@ fn add_other<W: Write>(note: &NoteAny<'_>, lines: &mut LineBuffer, out: &mut W)
         (content_line (Other note.now.n_type note.now.name.now note.now.desc.now)) }
 {
     lines.decimal("note type=", note.n_type, out);
-    lines.escaped(" name=", note.name, out);
+    lines.escaped_text(" name=", note.name, out);
     lines.bytes(" desc=", note.desc, out);
     lines.word("\n", out);
 }

@@ -23,13 +23,13 @@ string_at bytes o =
     (StringTableMissingNul o)
 
 -- where the bytes stop being UTF-8, and how many bytes are invalid there, if they are not just cut short
-abbrev pub IsFirstFault : List ℕ → Fault → Type 0
-IsFirstFault bytes fault =
+abbrev pub IsFirstTextFault : List ℕ → Fault → Type 0
+IsFirstTextFault bytes fault =
     (valid_up_to fault ≡ utf8_valid_len bytes) × (error_len fault ≡ utf8_error_len (drop (valid_up_to fault) bytes))
 
 -- these bytes as text, or the error
 abbrev pub GivesText : Result (List ℕ) ParseError → Result (Bor (List ℕ)) ParseError → Type 0
 GivesText (Ok bytes) result =
     MatchResult result (λ text. (text.now ≡ bytes) × IsUtf8 bytes)
-    (λ e. (IsUtf8 bytes → ⊥) × ((fault : Fault) × (e ≡ Utf8Error fault) × IsFirstFault bytes fault))
+    (λ e. (IsUtf8 bytes → ⊥) × ((fault : Fault) × (e ≡ Utf8Error fault) × IsFirstTextFault bytes fault))
 GivesText (Err e) result = result ≡ Err e

@@ -15,8 +15,8 @@ use crate::file::Class;
 use std::alloc::AllocError;
 use thiserror::Error;
 
+mod integers;
 mod table;
-mod words;
 
 pub use table::{ParsingIterator, ParsingTable, read_record};
 

@@ -16,7 +16,7 @@ use Rattle.elf_records.specs.declared.dynamic.Dyn.{Dyn}
 use Rattle.elf_records.specs.declared.parse.ParseError.{ParseError}
 use Rattle.elf_records.specs.declared.segment.ProgramHeader.{ProgramHeader}
 use Rattle.elf.specs.Answers.{dynamic, segment_data}
-use Rattle.elf.specs.ElfStream.{Keeps, Seen}
+use Rattle.elf.specs.ElfStream.{Keeps, StreamView}
 use Rattle.elf_reading.specs.Refusals.{IsRefused, kind}
 use Rattle.elf.specs.ObjectFile.{ObjectFile}
 use Rattle.elf_tools.specs.declared.needed.Name.{Name}
@@ -155,7 +155,7 @@ IsNamesAnswer shown answer can_fail before now (Err (Read e)) =
 IsNamesAnswer shown answer can_fail before now (Err e) = (now ≡ before) × (answer ≡ Err e)
 
 -- the same file, no cached range lost, and where the content is known its answer
-pub record GivesNames {E T Y : Type 0} (shown : T → Y) (answer : List ℕ → Result Y NamesError) (old new : Seen E)
+pub record GivesNames {E T Y : Type 0} (shown : T → Y) (answer : List ℕ → Result Y NamesError) (old new : StreamView E)
     (r : Result T NamesError) : Type 0 where
   pub keeps : Keeps old new
   pub answers : IfSome old.content (λ bytes.

@@ -2,7 +2,7 @@
 ghost use Rattle.std.specs.Prelude.{◌≡◌, ◌≤◌, ◌<◌, ℕ, IfOk, length, slice_index_or, take};
 ghost use Rattle.elf_records.specs.Symbol.{symbol_reads};
 ghost use Rattle.elf_records.specs.Table.{table_items, table_view};
-ghost use Rattle.elf_tools.specs.Addresses.{IsByAddress, has_address, located, located_symbols, nearest, nearest_of};
+ghost use Rattle.elf_tools.specs.Addresses.{IsByAddress, has_address, location, located_symbols, nearest, nearest_of};
 ghost use Rattle.elf_tools.specs.Addresses.{starts_before};
 ghost use Rattle.elf_tools.specs.declared.addresses.Located.{Located};
 
@@ -66,7 +66,7 @@ pub fn has_address(symbol: &Symbol) -> bool
 
 impl Located {
     fn new(symbol: usize, found: &Symbol) -> Self
-        ensures { result ≡ located (symbol, found.now) }
+        ensures { result ≡ location (symbol, found.now) }
     {
         Located {
             symbol,

@@ -13,7 +13,7 @@ use Rattle.elf_records.specs.declared.parse.ParseError.{ParseError}
 use Rattle.elf_records.specs.declared.section.SectionHeader.{SectionHeader}
 use Rattle.elf_records.specs.declared.symbol.Symbol.{Symbol}
 use Rattle.elf_parts.specs.Hash.{symbol_at}
-use Rattle.elf_check.specs.Object.{IsSound, IsTrueOf as IsTrueOfObject}
+use Rattle.elf_check.specs.Object.{IsSound, IsTrueOfObject}
 use Rattle.elf_check.specs.declared.hashcheck.any.HashKind.{HashKind}
 use Rattle.elf_check.specs.declared.hashcheck.any.HashKind.TheVariants.{Gnu, Sysv}
 use Rattle.elf.specs.Answers.{symbols_in, symbols_of, with_linked}
@@ -22,14 +22,14 @@ use Rattle.elf.specs.Names.{name_table}
 use Rattle.elf.specs.ObjectFile.{ObjectFile, table_of}
 use Rattle.elf.specs.Versions.{linked_strings}
 use Rattle.elf_whole.specs.Dynamic.{IsTrueOfDynamic, IsTrueOfEntries, SoundDynamic, SoundEntries, before_null, has_its_string}
-use Rattle.elf_whole.specs.Faults.{IsTrueOf}
+use Rattle.elf_whole.specs.Faults.{IsTrueOfFile}
 use Rattle.elf_whole.specs.Hashes.{IsTrueOfHash, SoundHash, hash_object}
 use Rattle.elf_whole.specs.Members.{AllSound, IsFirstFault}
 use Rattle.elf_whole.specs.Notes.{IsNoNote, NotesFill}
 use Rattle.elf_whole.specs.Relocations.{IsTrueOfRelocations, IsTrueOfTable, NamesNone, SoundRelocationTable, SoundRelocations, symbols_to_name}
 use Rattle.elf_whole.specs.Sections.{IsPlain, IsTrueOfContent, IsTrueOfSection, SoundContent, SoundSection, section_name}
 use Rattle.elf_whole.specs.Sound.{SoundFile}
-use Rattle.elf_whole.specs.Strings.{EndsInNul}
+use Rattle.elf_whole.specs.Strings.{IsEmptyOrEndsWithNul}
 use Rattle.elf_whole.specs.Symbols.{IsTrueOfSymbol, IsTrueOfSymbols, SoundSymbol, SoundSymbolTable, SoundSymbols, holds_symbols, shn_loreserve}
 use Rattle.elf_whole.specs.declared.faults.DynamicFault.{DynamicFault}
 use Rattle.elf_whole.specs.declared.faults.DynamicFault.TheVariants.{NoNull, NoString, NoStrings, PartOfEntry}
@@ -186,7 +186,7 @@ true_symbols file s (At i fault) t sound =
 
 true_content : (file : ObjectFile) (s : SectionHeader) (fault : SectionFault) → IsTrueOfContent file s fault → SoundContent file s → ⊥
 true_content file s NoLastNul t sound =
-    both_and EndsInNul (λ bytes. ¬ EndsInNul bytes) (content file s) (sound.strings t.0) t.1 (λ bytes e ends not. not ends)
+    both_and IsEmptyOrEndsWithNul (λ bytes. ¬ IsEmptyOrEndsWithNul bytes) (content file s) (sound.strings t.0) t.1 (λ bytes e ends not. not ends)
 true_content file s (Symbols fault) t sound = true_symbols file s fault t.1 (sound.symbols t.0)
 true_content file s (Relocations fault) (inl t) sound =
     true_relocations rel_reads (λ r. r.r_sym) file s fault t.1 (sound.rels t.0)
@@ -213,7 +213,7 @@ true_section file s (Hash fault) t sound = true_content file s (Hash fault) t.co
 true_section file s (Dynamic fault) t sound = true_content file s (Dynamic fault) t.content sound.content
 true_section file s (NoNote offset) t sound = true_content file s (NoNote offset) t.content sound.content
 
-pub true_fault : (file : ObjectFile) (fault : FileFault) → IsTrueOf file fault → SoundFile file → ⊥
+pub true_fault : (file : ObjectFile) (fault : FileFault) → IsTrueOfFile file fault → SoundFile file → ⊥
 true_fault file NoNames t sound = ok_not_err (name_table file) sound.names t
 true_fault file (Repeated sh_type) t sound =
     let none = sound.single in

@@ -15,7 +15,7 @@ use Rattle.elf_parts.specs.gnu_symver.Records.{version_index_layout, version_ind
 use Rattle.elf_parts.specs.gnu_symver.Table.{Definitions, Needs, Versions, index_of}
 use Rattle.elf_parts.specs.declared.gnu_symver.records.VersionIndex.{VersionIndex}
 use Rattle.elf_whole.specs.Chains.{IsTrueOfChain, SoundChain, total_extent}
-use Rattle.elf_whole.specs.versions.Indexes.{IsFirstUnknown, SoundIndexes, SoundVersionTable, TextDefinitions, TextNeeds, symbol_version, version_with_index}
+use Rattle.elf_whole.specs.versions.Indexes.{IsFirstUnknown, SoundIndexes, SoundVersionTable, TextDefinitions, TextNeeds, checked_version, version_with_index}
 use Rattle.elf_whole.specs.versions.Records.{SoundDef, SoundDefs, SoundNeed, SoundNeeds, def_extent, def_links, need_extent, need_links}
 use Rattle.elf_whole.specs.declared.faults.ChainFault.{ChainFault}
 use Rattle.elf_whole.proofs.ChainSteps.{true_chain}

@@ -4,7 +4,7 @@ use Rattle.std.specs.Result.{IsOkAnd}
 use Rattle.elf_records.specs.Record.{◌>>=◌}
 use Rattle.elf_records.specs.declared.parse.ParseError.{ParseError}
 use Rattle.elf_records.specs.declared.section.SectionHeader.{SectionHeader}
-use Rattle.elf_check.specs.Object.{IsSound, IsTrueOf as IsTrueOfObject, Object, object_in}
+use Rattle.elf_check.specs.Object.{IsSound, IsTrueOfObject, Object, object_in}
 use Rattle.elf_check.specs.declared.hashcheck.any.HashKind.{HashKind}
 use Rattle.elf.specs.Answers.{symbols_of}
 use Rattle.elf.specs.Data.{content}

@@ -21,7 +21,7 @@ use Rattle.elf_whole.specs.Dynamic.{IsTrueOfDynamic, SoundDynamic}
 use Rattle.elf_whole.specs.Hashes.{IsTrueOfHash, SoundHash}
 use Rattle.elf_whole.specs.Notes.{IsNoNote, SoundNotes}
 use Rattle.elf_whole.specs.Relocations.{IsTrueOfRelocations, SoundRelocations}
-use Rattle.elf_whole.specs.Strings.{EndsInNul}
+use Rattle.elf_whole.specs.Strings.{IsEmptyOrEndsWithNul}
 use Rattle.elf_whole.specs.Symbols.{HoldsSymbols, IsTrueOfSymbols, SoundSymbols}
 use Rattle.elf_whole.specs.declared.faults.SectionFault.{SectionFault}
 use Rattle.elf_whole.specs.declared.faults.SectionFault.TheVariants.{Compressed, Dynamic, Hash, NoBytes, NoLastNul}
@@ -71,7 +71,7 @@ IsPlain s = IsTrue (is_structural s) → IsTrue (not (is_compressed s))
 -- ---- the content of a section
 
 abbrev pub SoundStrings : ObjectFile → SectionHeader → Type 0
-SoundStrings file s = IsOkAnd (content file s) EndsInNul
+SoundStrings file s = IsOkAnd (content file s) IsEmptyOrEndsWithNul
 
 -- the content is sound by the type of the section
 pub record SoundContent (file : ObjectFile) (s : SectionHeader) : Type 0 where
@@ -95,7 +95,8 @@ pub record SoundSection (file : ObjectFile) (s : SectionHeader) : Type 0 where
 -- ---- faults, each with the facts that are checked before it
 
 abbrev pub IsTrueOfContent : ObjectFile → SectionHeader → SectionFault → Type 0
-IsTrueOfContent file s NoLastNul = (s.sh_type ≡ sht_strtab) × IsOkAnd (content file s) (λ bytes. ¬ EndsInNul bytes)
+IsTrueOfContent file s NoLastNul = (s.sh_type ≡ sht_strtab)
+    × IsOkAnd (content file s) (λ bytes. ¬ IsEmptyOrEndsWithNul bytes)
 IsTrueOfContent file s (Symbols fault) = HoldsSymbols s × IsTrueOfSymbols file s fault
 IsTrueOfContent file s (Relocations fault) =
     ((s.sh_type ≡ sht_rel) × IsTrueOfRelocations rel_reads (λ r. r.r_sym) file s fault)

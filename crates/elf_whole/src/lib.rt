@@ -17,6 +17,6 @@ mod versions;
 mod whole;
 
 pub use whole::{
-    SymbolVersion, WholeDefinition, WholeDynamic, WholeFile, WholeNames, WholeSection,
-    WholeSymbols, WholeSymbolsIter, WholeVersions, check_file, check_file_in,
+    WholeDefinition, WholeDynamic, WholeFile, WholeNames, WholeSection, WholeSymbols,
+    WholeSymbolsIter, WholeVersion, WholeVersions, check_file, check_file_in,
 };

@@ -12,7 +12,7 @@ ghost use Rattle.elf.specs.ObjectFile.{object_file};
 ghost use Rattle.elf.specs.Answers.{dynamic_symbol_table, symbol_table, symbol_version_table, symbols_view};
 ghost use Rattle.elf_whole.specs.Sound.{SoundFile};
 ghost use Rattle.elf_whole.specs.Symbols.{SoundSymbolTable};
-ghost use Rattle.elf_whole.specs.inner.SoundProps.{IsNamed, IsNamed-prop, SoundFile-prop};
+ghost use Rattle.elf_whole.specs.inner.SoundProps.{HasNameTable, HasNameTable-prop, SoundFile-prop};
 
 use crate::listed::sections_are_listed;
 use crate::segments::WholeSegments;
@@ -38,7 +38,7 @@ pub use iter::WholeSymbolsIter;
 pub use names::WholeNames;
 pub use section::WholeSection;
 pub use symbols::WholeSymbols;
-pub use versions::{SymbolVersion, WholeDefinition, WholeVersions};
+pub use versions::{WholeDefinition, WholeVersion, WholeVersions};
 
 /// A file whose parts can all be read.
 #[derive(Debug, Drop)]
@@ -48,8 +48,9 @@ pub struct WholeFile<'a, 'data, E: EndianParse> {
     sections: usize,
     ghost sound: { SoundFile (object_file E.little (view file.now)) } by { SoundFile-prop (object_file E.little (view
         file.now)) },
-    ghost named: { IsNamed (object_file E.little (view file.now)) (option_map strings_view names) } by { IsNamed-prop
-        (object_file E.little (view file.now)) (option_map strings_view names) },
+    ghost named: { HasNameTable (object_file E.little (view file.now))
+        (option_map strings_view names) } by { HasNameTable-prop
+            (object_file E.little (view file.now)) (option_map strings_view names) },
     ghost counted: { sections ≡ length (object_file E.little (view file.now)).sections },
 }
 

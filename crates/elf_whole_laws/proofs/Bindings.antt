@@ -25,13 +25,13 @@ use Rattle.elf.specs.Answers.{dynamic_symbol_table, symbol_version_table}
 use Rattle.elf.specs.Data.{section_data}
 use Rattle.elf.specs.Headers.{first_section_of}
 use Rattle.elf.specs.ObjectFile.{ObjectFile}
-use Rattle.elf_check.specs.NamedSymbols.{AreAllNamed, IsNamed}
+use Rattle.elf_check.specs.NamedSymbols.{AreAllNamed, IsIndexedWithName}
 use Rattle.elf_check.specs.Object.{ByGnu, BySysv, IsSound, Object, object_in}
-use Rattle.elf_check.specs.WithSymbols.{named, with_symbols}
+use Rattle.elf_check.specs.WithSymbols.{symbol_and_name, with_symbols}
 use Rattle.elf_check.specs.declared.hashcheck.any.HashKind.{HashKind}
 use Rattle.elf_check.specs.declared.hashcheck.any.HashKind.TheVariants.{Gnu, Sysv}
 use Rattle.elf_binding.specs.Binding.{IsChosen, IsOrElse, VersionedObject, first_serving, is_base, is_definition, serves_exactly, serves_version, unreadable, version_index_of, version_of, version_view}
-use Rattle.elf_binding.specs.ObjectTable.{needed, object_by, object_of, read}
+use Rattle.elf_binding.specs.ObjectTable.{or_no_symbols, object_by, object_of, or_fault}
 use Rattle.elf_binding.specs.declared.Unreadable.{Unreadable}
 use Rattle.elf_binding.specs.declared.Wanted.{Wanted}
 use Rattle.elf_binding.specs.declared.Wanted.TheVariants.{Any, Compatible, Only}
@@ -71,15 +71,15 @@ HasSymbols r object = (symbols : Table × List ℕ) × (r ≡ Ok (Some symbols))
 abbrev IsTable : Object → Object → Type 0
 IsTable object table = IsSound table × (object ≡ table)
 
-read_object : (q : Result Object ParseError) (object : Object) → IsOkAnd (read q) (IsTable object) → q ≡ Ok object
+read_object : (q : Result Object ParseError) (object : Object) → IsOkAnd (or_fault q) (IsTable object) → q ≡ Ok object
 read_object (Ok table) object h = ap (λ (x : Object). Ok x) (sym h.1)
 read_object (Err e) object h = absurd h
 
 abbrev parts_of : Result (List ℕ × Option CompressionHeader) ParseError → Result (Option (Table × List ℕ)) ParseError → Result (List ℕ × (Table × List ℕ)) ObjectFault
-parts_of d r = read d >>= λ found. read r >>= needed >>= λ symbols. Ok (found.0, symbols)
+parts_of d r = or_fault d >>= λ found. or_fault r >>= or_no_symbols >>= λ symbols. Ok (found.0, symbols)
 
 in_section : (kind : HashKind) (little : Bool) (class : Class) (object : Object) (d : Result (List ℕ × Option CompressionHeader) ParseError) (r : Result (Option (Table × List ℕ)) ParseError) →
-    IsOkAnd (parts_of d r >>= λ parts. read (object_in kind little class parts.0 parts.1.0 parts.1.1)) (IsTable object) → HasSymbols r object
+    IsOkAnd (parts_of d r >>= λ parts. or_fault (object_in kind little class parts.0 parts.1.0 parts.1.1)) (IsTable object) → HasSymbols r object
 in_section kind little class object (Ok found) (Ok (Some symbols)) h =
     (symbols, refl, in_symbols kind little class found.0 symbols.0 symbols.1 object (read_object (object_in kind little class found.0 symbols.0 symbols.1) object h))
 in_section kind little class object (Ok found) (Ok None) h = absurd h
@@ -100,11 +100,11 @@ first_ok : {A B E : Type 0} (r : Result A E) (f : A → Result B E) (x : B) → 
 first_ok (Ok y) f x e = refl
 first_ok (Err d) f x e = absurd (cc e)
 
-there : (symbols : Table) (strings : List ℕ) (i : ℕ) (x : Symbol × List ℕ) → named symbols strings i ≡ Some x → IsOk (symbol_at symbols i)
-unfolding named named_symbol
+there : (symbols : Table) (strings : List ℕ) (i : ℕ) (x : Symbol × List ℕ) → symbol_and_name symbols strings i ≡ Some x → IsOk (symbol_at symbols i)
+unfolding symbol_and_name named_symbol
 there symbols strings i x e = first_ok (symbol_at symbols i) (λ symbol. string_at strings symbol.st_name >>= λ name. Ok (symbol, name)) x e
 
-named_there : (object : Object) (name : List ℕ) (one : ℕ × Symbol) → IsNamed object name one → IsOk (symbol_at (object_symbols object) one.0)
+named_there : (object : Object) (name : List ℕ) (one : ℕ × Symbol) → IsIndexedWithName object name one → IsOk (symbol_at (object_symbols object) one.0)
 unfolding object_symbols
 named_there (BySysv s) name one h = there s.symbols s.strings one.0 (one.1, name) h.1
 named_there (ByGnu s) name one h = there s.symbols s.strings one.0 (one.1, name) h.1
@@ -175,7 +175,7 @@ abbrev KnownIn : Option Versions → ℕ → Type 0
 KnownIn None i = Unit {0}
 KnownIn (Some v) i = Known v i
 
-chosen_known : (symbols : Object) (versions : Option Versions) (name : List ℕ) (wanted : Wanted) (result : Result (Option (ℕ × Symbol)) Unreadable) → ((one : ℕ × Symbol) → IsNamed symbols name one → KnownIn versions one.0) → IsChosen (record { symbols = symbols; versions = versions }) name wanted result → IsOk result
+chosen_known : (symbols : Object) (versions : Option Versions) (name : List ℕ) (wanted : Wanted) (result : Result (Option (ℕ × Symbol)) Unreadable) → ((one : ℕ × Symbol) → IsIndexedWithName symbols name one → KnownIn versions one.0) → IsChosen (record { symbols = symbols; versions = versions }) name wanted result → IsOk result
 chosen_known symbols None name (Compatible w) result each h = first_known (λ i. Ok true) h.0 result h.2 (λ one inside. refl)
 chosen_known symbols None name (Only w) result each h = first_known (λ i. Ok true) h.0 result h.2 (λ one inside. refl)
 chosen_known symbols None name Any result each h =

@@ -7,7 +7,7 @@ ghost use Rattle.nugwier_lines.specs.Versions.{version_wrong};
 use crate::named::{Name, Named};
 use crate::problem::{Item, Part, Place, Problems, Stop};
 use crate::rows::Row;
-use crate::versions::{Suffix, version_of};
+use crate::versions::{Suffix, shown_version};
 use elf_abi::{abi, to_str};
 use elf_parts::endian::EndianParse;
 use elf_parts::file::Class;
@@ -62,7 +62,7 @@ impl<'a, E: EndianParse, V: SymbolVersions<E> + Drop> Names<'a, E, V> {
             part: self.part,
             item: Item::SymbolVersion(number),
         };
-        let read = version_of::<E, V>(versions, number as usize, symbol);
+        let read = shown_version::<E, V>(versions, number as usize, symbol);
         match problems.readable(place, read)? {
             Some(version) => Ok(Suffix(version)),
             None => Ok(Suffix(None)),

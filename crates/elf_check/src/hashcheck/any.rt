@@ -4,7 +4,7 @@ ghost use Rattle.elf_records.specs.StringTable.{strings_view};
 ghost use Rattle.elf_records.specs.Table.{table_view};
 ghost use Rattle.elf_check.specs.CheckedTable.{object_view};
 ghost use Rattle.elf_check.specs.Indexed.{IsNumberOf};
-ghost use Rattle.elf_check.specs.Object.{IsSound, IsTrueOf, object_in};
+ghost use Rattle.elf_check.specs.Object.{IsSound, IsTrueOfObject, object_in};
 ghost use Rattle.elf_check.specs.Verdict.{GivesVerdict};
 
 use crate::hashcheck::{
@@ -120,7 +120,7 @@ pub fn check_any<'data, E: EndianParse>(
 ) -> Result<Checked<AnyChecked<'data, E>>, ParseError>
     ensures { let object = object_in kind (E.little endian) class section.now
         (table_view symtab.entry) (strings_view strtab.entry) in
-        GivesVerdict object_view IsSound IsTrueOf object result }
+        GivesVerdict object_view IsSound IsTrueOfObject object result }
 {
     match kind {
         HashKind::Sysv => match check_sysv(endian, class, section, symtab, strtab) {

@@ -12,7 +12,7 @@ ghost use Rattle.elf_check.specs.inner.SoundProps.{SoundSysv-prop, SysvReads, Sy
 mod check;
 
 use crate::hashcheck::named::{Following, FollowingIndexes, NamedSymbols};
-use crate::hashcheck::words::word_count;
+use crate::hashcheck::table_words::word_count;
 pub use check::{check_sysv, check_sysv_counted};
 use elf_parts::endian::EndianParse;
 use elf_parts::hash::SysVHashTable;

@@ -68,8 +68,8 @@ pub record Requirement : Type 0 where
   pub hidden : Bool
 
 -- what is stored of a needed version; the name of its file is at this offset
-abbrev pub kept : ℕ → VerNeedAux → Needed
-kept file version = record {
+abbrev pub needed_entry : ℕ → VerNeedAux → Needed
+needed_entry file version = record {
   file = file;
   name = version.vna_name;
   hash = version.vna_hash;
@@ -77,7 +77,7 @@ kept file version = record {
 }
 
 abbrev pub needed_of : VerNeed × VerNeedAux → Needed
-needed_of pair = kept pair.0.vn_file pair.1
+needed_of pair = needed_entry pair.0.vn_file pair.1
 
 abbrev pub requirement_of : List ℕ → Bool → Needed → Requirement
 requirement_of strings hidden needed = record {

@@ -5,7 +5,7 @@ ghost use Rattle.std.specs.Option.{option_map};
 ghost use Rattle.elf_records.specs.Number.{ok_map};
 ghost use Rattle.elf_records.specs.StringTable.{strings_view};
 ghost use Rattle.elf_parts.specs.gnu_symver.Table.{defined_version, definition, definition_by, definition_view};
-ghost use Rattle.elf_parts.specs.gnu_symver.Table.{definitions_view, index_of, kept};
+ghost use Rattle.elf_parts.specs.gnu_symver.Table.{definitions_view, index_of, needed_entry};
 ghost use Rattle.elf_parts.specs.gnu_symver.Table.{names_left, needed_version, needs_view, raw_names, requirement};
 ghost use Rattle.elf_parts.specs.gnu_symver.Table.{requirement_of};
 ghost use Rattle.elf_parts.specs.gnu_symver.Lists.{aux_view, ver_def_aux_left, ver_def_view, ver_defs_left};
@@ -152,8 +152,8 @@ pub struct Needed {
 }
 
 // What is stored of a version. `file` is the offset of the name of its file.
-fn kept(file: u32, version: &VerNeedAux) -> Needed
-    ensures { result ≡ kept file version.now }
+fn needed_entry(file: u32, version: &VerNeedAux) -> Needed
+    ensures { result ≡ needed_entry file version.now }
 {
     Needed {
         file,
@@ -261,7 +261,7 @@ impl<'data, E: EndianParse> SymbolVersionTable<'data, E> {
         let Some((need, version)) = first_needed(needs, index.index()) else {
             return Ok(None);
         };
-        let needed = kept(need.vn_file, &version);
+        let needed = needed_entry(need.vn_file, &version);
         Ok(Some(read_requirement(strings, needed, index.is_hidden())?))
     }
 

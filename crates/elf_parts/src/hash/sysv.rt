@@ -1,6 +1,6 @@
 //! SysV hash sections (gABI, chapter "Hash Table").
 ghost use Rattle.std.specs.Prelude.{◌≡◌, ◌%◌, ◌^◌};
-ghost use Rattle.elf_parts.specs.Hash.{folded, sysv_hash_of, word_count};
+ghost use Rattle.elf_parts.specs.Hash.{hash_fold, sysv_hash_of, word_count};
 ghost use Rattle.elf_records.specs.Number.{ok_map};
 ghost use Rattle.elf_records.specs.StringTable.{strings_view};
 ghost use Rattle.elf_parts.specs.SysvFind.{find_along, sysv_find, sysv_section, sysv_view};
@@ -50,7 +50,7 @@ impl ParseAt for SysVHashHeader {
 // XORs the top four bits in at bit 4. They stay at the top as well: the next step shifts them out.
 #[tactic(auto, using(crate::proofs::Hashing::fold_steps))]
 fn fold_top(hash: u32) -> u32
-    ensures { result % 2 ^ 28 ≡ folded hash }
+    ensures { result % 2 ^ 28 ≡ hash_fold hash }
 {
     hash ^ ((hash >> 24) & 0xf0)
 }

@@ -7,7 +7,7 @@ use Rattle.elf_records.specs.Segment.{program_header_reads}
 use Rattle.elf_records.specs.Table.{items_left}
 use Rattle.elf_records.specs.declared.parse.table.ParsingIterator.{ParsingIterator}
 use Rattle.elf.specs.ObjectFile.{ObjectFile, object_file}
-use Rattle.elf_reading.specs.Opening.{View}
+use Rattle.elf_reading.specs.Opening.{FileView}
 use Rattle.elf_whole.specs.SegmentsBytes.{AllRead}
 use Rattle.elf_whole.specs.Segments.{EndsWithNul, SoundDynamicSegment, SoundSegment, SoundSegments, SoundTypes}
 
@@ -35,17 +35,17 @@ AllRead-prop file segments = hlevel (Coded-set, codes)
 
 -- ---- what the structs store, of a file that was opened
 
-abbrev pub SoundView : {E : Type 0} → (E → Bool) → View E → Type 0
+abbrev pub SoundView : {E : Type 0} → (E → Bool) → FileView E → Type 0
 SoundView little v = SoundSegments (object_file little v)
 
-pub SoundView-prop : {E : Type 0} (little : E → Bool) (v : View E) → IsProp (SoundView little v)
+pub SoundView-prop : {E : Type 0} (little : E → Bool) (v : FileView E) → IsProp (SoundView little v)
 SoundView-prop little v = SoundSegments-prop (object_file little v)
 
 -- the bytes of each segment can be read that an iterator has left to yield
-abbrev pub ReadsLeft : {E : Type 0} → (E → Bool) → View E → ParsingIterator E ProgramHeader → Type 0
+abbrev pub ReadsLeft : {E : Type 0} → (E → Bool) → FileView E → ParsingIterator E ProgramHeader → Type 0
 ReadsLeft little v headers = AllRead (object_file little v) (items_left program_header_reads headers)
 
 pub ReadsLeft-prop :
-    {E : Type 0} (little : E → Bool) (v : View E) (headers : ParsingIterator E ProgramHeader) →
+    {E : Type 0} (little : E → Bool) (v : FileView E) (headers : ParsingIterator E ProgramHeader) →
     IsProp (ReadsLeft little v headers)
 ReadsLeft-prop little v headers = AllRead-prop (object_file little v) (items_left program_header_reads headers)

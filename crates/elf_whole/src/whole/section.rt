@@ -17,7 +17,7 @@ ghost use Rattle.elf_whole.specs.Notes.{SoundNotes};
 ghost use Rattle.elf_whole.specs.Sections.{SoundSection, section_name};
 ghost use Rattle.elf_whole.specs.Sound.{SoundFile};
 ghost use Rattle.elf_whole.specs.Symbols.{HoldsSymbols};
-ghost use Rattle.elf_whole.specs.inner.SoundProps.{IsNamed, IsNamed-prop, SoundFile-prop, SoundSection-prop};
+ghost use Rattle.elf_whole.specs.inner.SoundProps.{HasNameTable, HasNameTable-prop, SoundFile-prop, SoundSection-prop};
 
 use super::symbols::WholeSymbols;
 use crate::hashes::symbols_of;
@@ -42,8 +42,9 @@ pub struct WholeSection<'a, 'data, E: EndianParse> {
         file.now)) },
     ghost sound: { SoundSection (object_file E.little (view file.now)) header } by { SoundSection-prop (object_file
         E.little (view file.now)) header },
-    ghost named: { IsNamed (object_file E.little (view file.now)) (option_map strings_view names) } by { IsNamed-prop
-        (object_file E.little (view file.now)) (option_map strings_view names) },
+    ghost named: { HasNameTable (object_file E.little (view file.now))
+        (option_map strings_view names) } by { HasNameTable-prop
+            (object_file E.little (view file.now)) (option_map strings_view names) },
     ghost counted: { sections ≡ length (object_file E.little (view file.now)).sections },
 }
 
@@ -59,7 +60,7 @@ impl<'a, 'data, E: EndianParse> WholeSection<'a, 'data, E> {
     ) -> Self
         requires whole { SoundFile (object_file E.little (view file.now)) }
         requires sound { SoundSection (object_file E.little (view file.now)) header }
-        requires named { IsNamed (object_file E.little (view file.now)) (option_map strings_view names) }
+        requires named { HasNameTable (object_file E.little (view file.now)) (option_map strings_view names) }
         requires counted { sections ≡ length (object_file E.little (view file.now)).sections }
         ensures same { section_file E.little result ≡ object_file E.little (view file.now) }
         ensures header { section_header result ≡ header }

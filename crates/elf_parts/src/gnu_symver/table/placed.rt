@@ -12,7 +12,7 @@ ghost use Rattle.elf_parts.specs.gnu_symver.Table.{GivesRequirement, HasFewNames
 use super::walked::{STRETCHES, Stretch, put_versions};
 use super::{
     Needed, SymbolDefinition, SymbolRequirement, SymbolVersionTable, VerDefIterator,
-    VerNeedIterator, VersionIndex, first_defined, first_needed, kept, read_definition,
+    VerNeedIterator, VersionIndex, first_defined, first_needed, needed_entry, read_definition,
     read_requirement,
 };
 use crate::endian::EndianParse;
@@ -156,7 +156,7 @@ fn find_needed<E: EndianParse>(
     // An empty place says that no need has the index, and takes no walk.
     prove!(slots.len() <= index as usize);
     let (need, version) = first_needed(needs, index)?;
-    Some(kept(need.vn_file, &version))
+    Some(needed_entry(need.vn_file, &version))
 }
 
 // An iterator that yields the first definition with an index before any other with that index, if there is one.

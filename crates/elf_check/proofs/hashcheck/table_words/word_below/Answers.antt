@@ -1,7 +1,7 @@
 use Rattle.std.proofs.Common.{sym}
 use Rattle.elf_records.specs.Table.{table_view}
 use Rattle.elf_check.proofs.Reading.{word_there}
-use Rattle.elf_check.proofs.hashcheck.words.word_below.Goals as goal
+use Rattle.elf_check.proofs.hashcheck.table_words.word_below.Goals as goal
 
 pub returns-in-None-clause-value : goal.returns-in-None-clause-value
 returns-in-None-clause-value g c =

@@ -2,7 +2,7 @@ use Rattle.std.proofs.Common.{◌≢◌, arith, sym}
 use Rattle.elf_parts.specs.gnu_symver.Records.{version_index}
 use Rattle.elf_whole.specs.versions.Views.{whole_versions}
 use Rattle.elf_whole.proofs.Looked.{some_defined}
-use Rattle.elf_whole.proofs.whole.versions.WholeVersions.version_of.Goals as goal
+use Rattle.elf_whole.proofs.whole.versions.WholeVersions.get.Goals as goal
 
 pub defined-requires-clause-some : goal.defined-requires-clause-some
 defined-requires-clause-some g c =
