@@ -3,10 +3,11 @@
 use Rattle.std.specs.Prelude.{◌≡◌, ℕ, ◌<◌, if◌then◌else◌, ◌==◌, ◌&&◌, ◌||◌, not, nat_lt, Bool, bit_and}
 use Rattle.std.specs.Prelude.{List, [], ◌∷◌, length, slice_get, Option, Some, None, ok_or, Result, Ok, Err}
 use Rattle.std.specs.Option.{IsSomeAnd, option_map}
-use Rattle.std.specs.Str.{bytes_eq, is_utf8}
+use Rattle.std.specs.Str.{bytes_eq}
 use Rattle.elf_abi.specs.Values.{shn_abs, shn_undef, stb_global, stb_gnu_unique, stb_weak, stt_common, stt_func}
 use Rattle.elf_abi.specs.Values.{stt_gnu_ifunc, stt_notype, stt_object, stt_tls, stv_hidden, stv_internal, ver_flg_base}
 use Rattle.elf_records.specs.Record.{◌>>=◌}
+use Rattle.elf_records.specs.StringTable.{text_of}
 use Rattle.elf_records.specs.Symbol.{symbol_binding, symbol_type, symbol_visibility}
 use Rattle.elf_parts.specs.gnu_symver.Table.{Definition, Requirement, Versions, definition, index_of, requirement}
 use Rattle.elf_parts.specs.gnu_symver.Records.{version_index, version_is_hidden}
@@ -58,11 +59,6 @@ version_view version = record { name = version.name.now; hash = version.hash }
 -- the version of symbol i cannot be read
 abbrev pub unreadable : ℕ → Unreadable
 unreadable i = record { symbol = i }
-
--- the bytes, if they can be read and are text
-abbrev pub text_of : Result (List ℕ) ParseError → Option (List ℕ)
-text_of (Ok bytes) = if is_utf8 bytes then Some bytes else None
-text_of (Err e) = None
 
 abbrev pub named_version : ℕ → List ℕ → NamedVersion
 named_version hash name = record { name = name; hash = hash }

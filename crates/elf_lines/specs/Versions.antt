@@ -2,17 +2,12 @@
 use Rattle.std.specs.Prelude.{ℕ, zero, suc, Bool, if◌then◌else◌, List, [], codes, Option, Some, None, Result, Ok, Err}
 use Rattle.std.specs.Fmt.{decimal}
 use Rattle.std.specs.List.{flat_map}
-use Rattle.std.specs.Str.{is_utf8}
 use denote.Ref.{Bor}
 use Rattle.elf_parts.specs.gnu_symver.Table.{Definition, Requirement, Versions, definition, requirement}
+use Rattle.elf_records.specs.StringTable.{text_of}
 use Rattle.elf_records.specs.declared.parse.ParseError.{ParseError}
 use Rattle.elf_lines.specs.Pieces.{◌⧺◌, newline, escaped_text, hex}
 use Rattle.elf_lines.specs.Counted.{end_line}
-
--- a raw name that can be read, and that is text
-abbrev pub text_of : Result (List ℕ) ParseError → Option (List ℕ)
-text_of (Ok name) = if is_utf8 name then Some name else None
-text_of (Err e) = None
 
 -- what a text that was read shows, if it was not refused
 abbrev pub text_shown : Result (Bor (List ℕ)) ParseError → Option (List ℕ)

@@ -4,11 +4,11 @@ use Rattle.std.specs.Prelude.{IsUtf8, ok_or}
 use Rattle.std.specs.Option.{option_map}
 use Rattle.std.specs.Str.{is_utf8}
 use Rattle.std.proofs.lemmas.Str.{IsUtf8-from_is_utf8, is_utf8-from_IsUtf8}
-use Rattle.elf_records.specs.StringTable.{GivesText}
+use Rattle.elf_records.specs.StringTable.{GivesText, text_of}
 use Rattle.elf_parts.specs.gnu_symver.Table.{GivesRequirement, RefusesText, Requirement}
 use Rattle.elf_records.specs.declared.parse.ParseError.{ParseError}
 use Rattle.elf_parts.specs.declared.gnu_symver.table.SymbolRequirement.{SymbolRequirement}
-use Rattle.elf_binding.specs.Binding.{text_of, unreadable}
+use Rattle.elf_binding.specs.Binding.{unreadable}
 use Rattle.elf_tools.specs.SymbolVersions.{WrittenVersion, defined_by_name, need_version, needed_by_names}
 use denote.Ref.{Bor}
 

@@ -11,7 +11,8 @@ use Rattle.elf_records.specs.declared.symbol.Symbol.{Symbol}
 use Rattle.elf_parts.specs.gnu_symver.Records.{version_index}
 use Rattle.elf_parts.specs.gnu_symver.Table.{Definition, Requirement, Versions, definition, requirement}
 use Rattle.elf_parts.specs.declared.gnu_symver.records.VersionIndex.{VersionIndex}
-use Rattle.elf_binding.specs.Binding.{text_of, unreadable, version_index_of}
+use Rattle.elf_records.specs.StringTable.{text_of}
+use Rattle.elf_binding.specs.Binding.{unreadable, version_index_of}
 use Rattle.elf_binding.specs.declared.Unreadable.{Unreadable}
 use Rattle.elf_tools.specs.declared.symbol_versions.SymbolVersion.{SymbolVersion}
 use Rattle.elf_tools.specs.declared.symbol_versions.SymbolVersion.TheVariants as code

@@ -26,7 +26,8 @@ use Rattle.elf_calls.specs.Question.{Versions as VersionsCall}
 use Rattle.elf_calls.specs.Text.{symbol_count, unless_none}
 use Rattle.elf_lines.specs.Counted.{end_line}
 use Rattle.elf_lines.specs.Pieces.{◌⧺◌, escaped_text, newline}
-use Rattle.elf_lines.specs.Versions.{def_field, need_field, needed_field, text_of, version_fields, version_line, version_lines, version_name, version_names, versions_listed}
+use Rattle.elf_records.specs.StringTable.{text_of}
+use Rattle.elf_lines.specs.Versions.{def_field, need_field, needed_field, version_fields, version_line, version_lines, version_name, version_names, versions_listed}
 use Rattle.elf_whole_laws.specs.Answers.{IsAnswered}
 use Rattle.elf_whole_laws.specs.Sure.{name_bytes, sure_def, sure_line, sure_lines, sure_listed, sure_names, sure_need}
 

@@ -298,10 +298,7 @@ pub fn open_source<E: EndianParse, S: StreamSource, A: Allocator + Copy>(
         (ok_map headers_of (opened_file E.little E.of_byte bytes)) (S.can_fail source.old) (S.failures source.old)
         (S.failures source.new) result) }
 {
-    let len = match source.seek_end() {
-        Ok(len) => len,
-        Err(e) => return Err(ParseError::IOError(e)),
-    };
+    let len = source.seek_end()?;
     let ehdr = read_ehdr(source, len)?;
     let sections = locate_shdrs(source, len, &ehdr)?;
     let segments = locate_phdrs(source, len, &ehdr)?;

@@ -2,7 +2,7 @@ use Rattle.std.proofs.Common.{◌≡◌, ℕ, ◌+◌, ◌*◌, ◌/◌, ◌%◌
 use Rattle.std.proofs.lemmas.List.{drop-drop, take-take}
 use Rattle.elf_parts.specs.Hash.{gnu_hash_from, gnu_hash_of}
 use Rattle.elf_parts.proofs.Hashing.{block_at, in_two}
-use Rattle.elf_parts.proofs.hash.gnu.gnu_hash.Goals as goal
+use Rattle.elf_parts.proofs.hash.gnu.eight.gnu_hash.Goals as goal
 
 pub loop-block-init : goal.loop-block-init
 unfolding gnu_hash_of

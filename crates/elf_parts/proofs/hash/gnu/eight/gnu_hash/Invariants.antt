@@ -1,6 +1,6 @@
 use Rattle.std.proofs.Common.{◌≡◌, ◌+◌, ◌*◌, ◌%◌, drop, length}
 use Rattle.elf_parts.specs.Hash.{gnu_hash_from, gnu_hash_of}
-use Rattle.elf_parts.proofs.hash.gnu.gnu_hash.Given as goal
+use Rattle.elf_parts.proofs.hash.gnu.eight.gnu_hash.Given as goal
 
 -- the hash so far, continued over the bytes that are left, is that of the name
 abbrev pub invariant-loop-block : goal.invariant-loop-block

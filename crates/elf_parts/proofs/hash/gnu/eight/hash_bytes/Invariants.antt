@@ -1,6 +1,6 @@
 use Rattle.std.proofs.Common.{◌≡◌, drop}
 use Rattle.elf_parts.specs.Hash.{gnu_hash_from}
-use Rattle.elf_parts.proofs.hash.gnu.hash_bytes.Given as goal
+use Rattle.elf_parts.proofs.hash.gnu.eight.hash_bytes.Given as goal
 
 -- the hash so far, gone on with the bytes that are left, is that of all
 abbrev pub invariant-loop-byte : goal.invariant-loop-byte
