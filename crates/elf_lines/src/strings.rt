@@ -39,5 +39,5 @@ fn add_string<W: Write>(offset: usize, string: &[u8], lines: &mut LineBuffer, ou
 {
     lines.decimal("string ", offset as u64, out);
     lines.escaped_text(" name=", string, out);
-    lines.word("\n", out);
+    lines.text("\n", out);
 }

@@ -2,7 +2,7 @@ use Rattle.std.proofs.Common.{◌≡◌, ℕ, ◌-◌, ◌*◌, ◌/◌, List, l
 use Rattle.std.specs.List.{flat_map}
 use Rattle.elf_lines.specs.Pieces.{escaped_text}
 use Rattle.elf_lines.proofs.Blocks.{plain_and_rest, plain_from}
-use Rattle.elf_lines.proofs.line_buffer.are_plain.Goals as goal
+use Rattle.elf_lines.proofs.line_buffer.plain.are_plain.Goals as goal
 
 pub returns-then-are_blocks_plain : goal.returns-then-are_blocks_plain
 returns-then-are_blocks_plain c = λ plain.

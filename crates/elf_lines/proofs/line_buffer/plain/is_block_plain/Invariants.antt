@@ -1,7 +1,7 @@
 use Rattle.std.proofs.Common.{◌≡◌, ◌++◌, drop, true}
 use Rattle.std.specs.Prelude.{slice_range}
 use Rattle.elf_lines.specs.Pieces.{escaped_text}
-use Rattle.elf_lines.proofs.line_buffer.is_block_plain.Given as goal
+use Rattle.elf_lines.proofs.line_buffer.plain.is_block_plain.Given as goal
 
 -- if the bytes so far are plain, they and then the escaped text of the others are the escaped text of all
 abbrev pub invariant-loop-byte : goal.invariant-loop-byte

@@ -1,7 +1,7 @@
 use Rattle.std.proofs.Common.{◌≡◌, List, ℕ, ◌++◌, drop, take}
 use Rattle.std.specs.List.{flat_map}
 use Rattle.elf_lines.specs.Pieces.{escaped_text}
-use Rattle.elf_lines.proofs.line_buffer.are_blocks_plain.Given as goal
+use Rattle.elf_lines.proofs.line_buffer.plain.are_blocks_plain.Given as goal
 
 -- the blocks so far, and then the escaped text of the others, are the escaped text of all
 abbrev pub invariant-loop-block : goal.invariant-loop-block
