@@ -13,12 +13,12 @@ _nugwier() {
         esac
         case $word in
             -*)
-                mapfile -t COMPREPLY < <(compgen -W "-h -S -l -s -D -d -r -n -V -a -x -p --help" -- "$word")
+                mapfile -t COMPREPLY < <(compgen -W "-h -S -l -s -D -d -r -n -V -a -x -p --json --help" -- "$word")
                 return
                 ;;
         esac
     elif [ "${word#-}" != "$word" ]; then
-        mapfile -t COMPREPLY < <(compgen -W "--help" -- "$word")
+        mapfile -t COMPREPLY < <(compgen -W "--json --help" -- "$word")
         return
     fi
     mapfile -t COMPREPLY < <(compgen -f -- "$word")

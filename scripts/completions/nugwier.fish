@@ -11,6 +11,7 @@ complete -c nugwier -n "not __fish_seen_subcommand_from $commands" -a check -d "
 complete -c nugwier -n "not __fish_seen_subcommand_from $commands" -a address -d "symbols at addresses"
 complete -c nugwier -n "not __fish_seen_subcommand_from $commands" -l version -d "the version"
 complete -c nugwier -l help -d "how it is called"
+complete -c nugwier -n "__fish_seen_subcommand_from $commands" -l json -d "objects of JSON"
 complete -c nugwier -n "__fish_seen_subcommand_from $commands" -F
 complete -c nugwier -n "__fish_seen_subcommand_from list" -s h -d "file header"
 complete -c nugwier -n "__fish_seen_subcommand_from list" -s S -d sections

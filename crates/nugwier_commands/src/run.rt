@@ -19,6 +19,7 @@ use crate::words::{Command, Job, Request, WordError, parse_words};
 use elf::endian::{AnyEndian, EndianParse};
 use elf::{ElfBytes, ParseError};
 use nugwier_lines::escape::Escaped;
+use nugwier_lines::json::Format;
 use nugwier_lines::problem::{Problems, Stop};
 use nugwier_lines::symbols::Form;
 use std::alloc::Global;
@@ -91,7 +92,7 @@ fn run_job<F: Files, W: Write, V: Write>(
 ) -> Result<bool, Stop> {
     let mut is_read = true;
     for (place, path) in job.files.as_slice().iter().enumerate() {
-        if job.files.len() > 1 {
+        if job.files.len() > 1 && !job.is_json {
             list_heading(place, *path, out)?;
         }
         is_read &= run_file(alloc, job, files, *path, out, err)?;
@@ -164,7 +165,7 @@ fn run_file_command<E: EndianParse, W: Write, V: Write>(
         × (is_read ≡ (length places == 0))) }
 {
     let mut problems = Problems::none(alloc);
-    run_command(alloc, job, file, out, &mut problems)?;
+    run_command(alloc, job, format_of(job, path), file, out, &mut problems)?;
     if problems.is_empty() {
         return Ok(true);
     }
@@ -173,10 +174,19 @@ fn run_file_command<E: EndianParse, W: Write, V: Write>(
     Ok(false)
 }
 
+fn format_of<'a>(job: &Job<'_>, path: &'a str) -> Format<'a> {
+    if job.is_json {
+        Format::Json(path)
+    } else {
+        Format::Text
+    }
+}
+
 // Lists what a command asks for of a file.
 fn run_command<E: EndianParse, W: Write>(
     alloc: Global,
     job: &Job<'_>,
+    format: Format<'_>,
     file: &ElfBytes<'_, E>,
     out: &mut W,
     problems: &mut Problems,
@@ -185,19 +195,24 @@ fn run_command<E: EndianParse, W: Write>(
         problems.old problems.new) }
 {
     match job.command {
-        Command::List => list(alloc, job, file, out, problems),
+        Command::List => list(alloc, job, format, file, out, problems),
         Command::Symbols => {
             let form = Form::Letter {
                 class: file.ehdr.class,
                 sections: file.section_headers(),
             };
-            list_dynamic_symbols(alloc, file, form, out, problems)
+            list_dynamic_symbols(alloc, format, file, form, out, problems)
         }
-        Command::Exports => list_dynamic_symbols(alloc, file, Form::Export, out, problems),
-        Command::Needed => list_needed(alloc, file, out, problems),
-        Command::BuildId => list_build_id(file, out, problems),
-        Command::Plan => list_plan(alloc, file, out, problems),
-        Command::Check => check(alloc, file, out, problems),
-        Command::Address => list_addresses(alloc, file, job.addresses.as_slice(), out, problems),
+        Command::Exports => {
+            list_dynamic_symbols(alloc, format, file, Form::Export, out, problems)
+        }
+        Command::Needed => list_needed(alloc, format, file, out, problems),
+        Command::BuildId => list_build_id(format, file, out, problems),
+        Command::Plan => list_plan(alloc, format, file, out, problems),
+        Command::Check => check(alloc, format, file, out, problems),
+        Command::Address => {
+            let addresses = job.addresses.as_slice();
+            list_addresses(alloc, format, file, addresses, out, problems)
+        }
     }
 }

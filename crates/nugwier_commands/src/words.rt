@@ -91,6 +91,8 @@ pub struct Job<'a> {
     pub files: Vec<&'a str>,
     /// The addresses for `address`.
     pub addresses: Vec<u64>,
+    /// Whether records are listed as objects of JSON.
+    pub is_json: bool,
 }
 
 /// What a command line asks for.
@@ -208,6 +210,7 @@ fn parse_command(word: &str) -> Option<Command> {
 enum Word {
     File,
     Help,
+    Json,
     // After this word all are files.
     End,
     Letters,
@@ -219,6 +222,7 @@ fn kind_of(word: &str, has_ended: bool) -> Word {
     }
     match word {
         "--help" => Word::Help,
+        "--json" => Word::Json,
         "--" => Word::End,
         _ => Word::Letters,
     }
@@ -233,6 +237,7 @@ fn parse_rest<'a>(
         parts: Parts::each(false),
         contents: Vec::new(alloc),
         waiting: None,
+        is_json: false,
     };
     let mut files = Vec::new(alloc);
     let mut has_ended = false;
@@ -243,6 +248,7 @@ fn parse_rest<'a>(
         match kind_of(*word, has_ended) {
             Word::File => files.push(*word)?,
             Word::Help => return Ok(Request::Help(Some(command))),
+            Word::Json => options.is_json = true,
             Word::End => has_ended = true,
             Word::Letters => options.add(command, *word)?,
         }
@@ -278,6 +284,7 @@ fn finish<'a>(
         contents: options.contents,
         files,
         addresses,
+        is_json: options.is_json,
     }))
 }
 
@@ -306,12 +313,13 @@ fn parse_address(word: &str) -> Option<u64> {
     u64::from_str_radix(digits, 16).ok()
 }
 
-// The options of `list` so far. An option may wait for the word that names its section.
+// The options so far, all but one of them for `list`. An option may wait for the word that names its section.
 #[derive(Drop)]
 struct Options<'a> {
     parts: Parts,
     contents: Vec<Wanted<'a>>,
     waiting: Option<(Form, &'a str)>,
+    is_json: bool,
 }
 
 impl<'a> Options<'a> {
