@@ -3,7 +3,7 @@ use Rattle.elf_records.specs.Table.{table_get}
 use Rattle.elf_c.specs.Filled.{IsFilled}
 use Rattle.elf_c.specs.Tables.{table_of_c}
 use Rattle.elf_c.proofs.Filling.{filled_more, rest_more}
-use Rattle.elf_c.proofs.table.fill.Goals as goal
+use Rattle.elf_c.proofs.table.fill_rest.Goals as goal
 
 pub loop-count-preserved : goal.loop-count-preserved
 loop-count-preserved g c =
@@ -17,5 +17,5 @@ loop-count-preserved g c =
     let same : c.show.result ≡ shown c.in-Ok.record = c.show.ensures in
     let P : g.row.R-Seen.Denot → Type 0 = λ v. IsFilled reads shown t c.args.first (n + 1) (slice_set xs n v) in
     let more : IsFilled reads shown t c.args.first (n + 1) (slice_set xs n c.show.result) =
-    subst P (sym same) (filled_more reads shown t c.args.first n xs c.in-Ok.record within c.loop-count.invariant.1 read) in
-    (search rules, more, rest_more n xs c.args.places.now c.show.result c.loop-count.invariant.2)
+    subst P (sym same) (filled_more reads shown t c.args.first n xs c.in-Ok.record within c.loop-count.invariant.2 read) in
+    (search rules, search rules, more, rest_more n xs c.args.places.now c.show.result c.loop-count.invariant.3)
