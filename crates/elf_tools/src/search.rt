@@ -126,7 +126,7 @@ fn parts<'a>(
 }
 
 // A name in a folder.
-fn joined(alloc: Global, folder: &[u8], name: &[u8]) -> Result<Vec<u8>, AllocError>
+pub(crate) fn joined(alloc: Global, folder: &[u8], name: &[u8]) -> Result<Vec<u8>, AllocError>
     ensures { IfOk result (λ path. path.items ≡ joined name.now folder.now) }
 {
     let mut path = Vec::new(alloc);
