@@ -153,7 +153,7 @@ fn tell_missing<V: Write>(objects: &[Object], path: &str, err: &mut V) -> io::Re
             Some(file) => {
                 if let Err(error) = &file.names {
                     let file = Escaped(&file.path);
-                    writeln!(err, "nugwier: {path}: {file}: {error}")?;
+                    writeln!(err, "nugwier: {path}: names of {file}: {error}")?;
                 }
             }
             None => {
