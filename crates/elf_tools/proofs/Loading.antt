@@ -1,5 +1,5 @@
 -- The names of objects, the search for a name, and the loaders of an object, one step at a time.
-use Rattle.std.proofs.Common.{◌≡◌, ℕ, zero, suc, ◌+◌, ◌-◌, ◌<◌, ◌≤◌, ◌==◌, Bool, true, false, ◌||◌, cond, List, [], ◌∷◌, ◌++◌, length, map, Option, Some, None, IfSome, Ordering, Less, Equal, Greater, is_eq, nat_cmp, Vec, refl, sym, ap, ◌∙◌, subst, append_assoc, append-nil, arith}
+use Rattle.std.proofs.Common.{◌≡◌, ℕ, zero, suc, ◌+◌, ◌-◌, ◌<◌, ◌≤◌, ◌==◌, Bool, true, false, ◌||◌, cond, List, [], ◌∷◌, ◌++◌, length, map, Option, Some, None, Result, Ok, Err, IfSome, OnOk, Ordering, Less, Equal, Greater, is_eq, nat_cmp, Vec, refl, sym, ap, ◌∙◌, subst, append_assoc, append-nil, arith}
 use Rattle.std.specs.BTreeSet.{insert_key}
 use Rattle.std.specs.BTreeMap.{is_at}
 use Rattle.std.specs.Cmp.Lexicographic.{slice_cmp}
@@ -13,7 +13,9 @@ use Rattle.std.proofs.lemmas.Map.Text.{is_eq-slice_cmp}
 use Rattle.std.proofs.lemmas.Slice.Eq.{bytes_eq-Decides}
 use Rattle.elf_tools.specs.Tree.{Entry, Found, add, first_fitting, fitting, is_loaded, is_loaded_file, loader_at, loader_places, names_of, need, need_all, or_next}
 use Rattle.elf_tools.specs.Search.{candidates_of}
+use Rattle.elf_tools.specs.inner.LoadedNames.{AreNamesOf}
 use Rattle.elf_tools.specs.declared.tree.Kind.{Kind}
+use Rattle.elf_tools.specs.declared.tree.names.LoadedNames.{LoadedNames}
 
 -- ---- what is known
 
@@ -133,3 +135,12 @@ next_loader (suc n) objects at some is =
     let same : suc n - 1 ≡ n = omega arith in
     ap (λ b. cond b [] (loader_at objects at ∷ loader_places n objects (loader_at objects at))) is
     ∙ ap (λ k. loader_at objects at ∷ loader_places k objects (loader_at objects at)) (sym same)
+
+-- ---- the set of names with one object more
+
+pub names_after : {T E : Type 0} (r : Result T E) (old new : LoadedNames) (objects before after : List Entry) (e : Entry)
+    → OnOk r (after ≡ before ++ e ∷ []) → OnOk r ((all : List Entry) → AreNamesOf old all → AreNamesOf new (all ++ e ∷ []))
+    → AreNamesOf old (objects ++ before) → OnOk r (AreNamesOf new (objects ++ after))
+names_after (Ok x) old new objects before after e same more names =
+    subst (λ l. AreNamesOf new l) (append_assoc objects before (e ∷ []) ∙ ap (λ l. objects ++ l) (sym same)) (more (objects ++ before) names)
+names_after (Err x) old new objects before after e same more names = tt

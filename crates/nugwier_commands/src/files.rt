@@ -1,6 +1,5 @@
 //! How the program reads the files that its words name, and the libraries that these need.
 pub use elf_tools::tree::Libraries;
-
 use std::io;
 
 /// Files by their paths.

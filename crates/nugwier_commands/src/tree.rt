@@ -158,7 +158,10 @@ fn tell_missing<V: Write>(objects: &[Object], path: &str, err: &mut V) -> io::Re
             }
             None => {
                 let loader = Escaped(path_at(objects, object.loader));
-                writeln!(err, "nugwier: {path}: {name}, which {loader} needs, is not found")?;
+                writeln!(
+                    err,
+                    "nugwier: {path}: {name}, which {loader} needs, is not found"
+                )?;
             }
         }
     }

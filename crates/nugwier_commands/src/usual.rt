@@ -1,8 +1,8 @@
 //! The folders in which the dynamic linker of glibc looks for libraries that no search path names.
 use elf::abi;
+use elf::endian::AnyEndian;
 use elf::file::Class;
 use elf_tools::tree::Kind;
-use elf::endian::AnyEndian;
 use std::alloc::{AllocError, Global};
 
 const X86_64: [&str; 6] = [

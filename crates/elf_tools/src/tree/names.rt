@@ -53,9 +53,7 @@ impl LoadedNames {
             ≡ (bytes_eq name added.now || has_name self.old name)) }
     {
         let key = Vec::from_slice(alloc, added)?;
-        match self.set.insert(key) {
-            Ok(_) => Ok(()),
-            Err(_) => Err(AllocError),
-        }
+        self.set.insert(key)?;
+        Ok(())
     }
 }
