@@ -11,5 +11,6 @@ pub mod LibraryRanges
 pub mod SymbolVersions
 pub mod Addresses
 pub mod Search
+pub mod Tree
 pub mod Known
 pub mod inner

@@ -135,6 +135,14 @@ names_by file entries = string_part file.segments entries >>= λ part. names_of_
 abbrev pub names : ObjectFile → Result (Option Named) NamesError
 names file = entries_of file >>= λ entries. if_found (names_by file) entries
 
+-- ---- over a file in memory
+
+-- the answer, or an allocation failed
+abbrev pub IsAnswered : {T Y : Type 0} → (T → Y) → Result Y NamesError → Result T NamesError → Type 0
+IsAnswered shown answer (Ok x) = answer ≡ Ok (shown x)
+IsAnswered shown answer (Err Memory) = Unit {0}
+IsAnswered shown answer (Err e) = answer ≡ Err e
+
 -- ---- over a stream
 
 -- the answer is that something cannot be read

@@ -5,8 +5,10 @@ ghost use Rattle.std.specs.Option.{option_map};
 ghost use Rattle.elf_records.specs.Dynamic.{has_tag};
 ghost use Rattle.elf_records.specs.Number.{ok_map};
 ghost use Rattle.elf_records.specs.Table.{table_view};
+ghost use Rattle.elf.specs.ElfBytes.{view};
+ghost use Rattle.elf.specs.ObjectFile.{object_file};
 ghost use Rattle.elf.specs.StreamFile.{stream_file};
-ghost use Rattle.elf_tools.specs.Needed.{GivesNames, IsGiven};
+ghost use Rattle.elf_tools.specs.Needed.{GivesNames, IsAnswered, IsGiven};
 ghost use Rattle.elf_tools.specs.Needed.{all_names, entries_in, entries_of, first_entry, first_name};
 ghost use Rattle.elf_tools.specs.Needed.{holds, name_bytes, name_of, names, names_by, names_in, names_of_part};
 ghost use Rattle.elf_tools.specs.Needed.{names_view, part_of, string_part};
@@ -16,7 +18,7 @@ use elf::dynamic::{Dyn, DynamicTable};
 use elf::endian::EndianParse;
 use elf::segment::ProgramHeader;
 use elf::string_table::{StringTable, TerminatedStrings};
-use elf::{ElfStream, ParseError, StreamSource, abi};
+use elf::{ElfBytes, ElfStream, ParseError, StreamSource, abi};
 use std::alloc::{AllocError, AllocFailed, Allocator, Global};
 use thiserror::Error;
 
@@ -309,4 +311,54 @@ pub fn dynamic_names<E: EndianParse, S: StreamSource, A: Allocator + Copy>(
         return Ok(None);
     };
     names_by(alloc, stream, entries.as_slice()).map(Some)
+}
+
+// The segments of a file in memory, copied.
+fn segments_of<E: EndianParse>(
+    alloc: Global,
+    file: &ElfBytes<'_, E>,
+) -> Result<Vec<ProgramHeader>, AllocError>
+    ensures { IfOk result (λ segments. segments.items ≡ (object_file E.little (view file.now)).segments) }
+{
+    match file.segments() {
+        Some(segments) => segments.iter().collect(alloc),
+        None => Ok(Vec::new(alloc)),
+    }
+}
+
+// The names that the entries of a file in memory give.
+fn names_in_memory<E: EndianParse>(
+    alloc: Global,
+    file: &ElfBytes<'_, E>,
+    entries: &[Dyn],
+) -> Result<Names, NamesError>
+    ensures { IsAnswered names_view (names_by (object_file E.little (view file.now)) entries.now) result }
+{
+    let segments = segments_of(alloc, file)?;
+    let part = match string_part(segments.as_slice(), entries) {
+        Ok(part) => part,
+        Err(error) => return Err(error),
+    };
+    match file.segment_data(&part) {
+        Ok(bytes) => names_in(alloc, bytes, entries),
+        Err(error) => Err(NamesError::Read(error)),
+    }
+}
+
+/// Returns of a file in memory what `dynamic_names` returns of a stream, with the same errors in the same order.
+pub fn dynamic_names_of<E: EndianParse>(
+    alloc: Global,
+    file: &ElfBytes<'_, E>,
+) -> Result<Option<Names>, NamesError>
+    ensures { IsAnswered (option_map names_view) (names (object_file E.little (view file.now))) result }
+{
+    let entries = match file.dynamic() {
+        Ok(Some(table)) => entries_in(alloc, &table)?,
+        Ok(None) => return Ok(None),
+        Err(error) => return Err(NamesError::Read(error)),
+    };
+    match names_in_memory(alloc, file, entries.as_slice()) {
+        Ok(names) => Ok(Some(names)),
+        Err(error) => Err(error),
+    }
 }

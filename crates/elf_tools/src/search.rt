@@ -128,7 +128,7 @@ fn parts<'a>(
 }
 
 // A name in a folder.
-fn joined_path(alloc: Global, folder: &[u8], name: &[u8]) -> Result<Vec<u8>, AllocError>
+pub(crate) fn joined_path(alloc: Global, folder: &[u8], name: &[u8]) -> Result<Vec<u8>, AllocError>
     ensures { IfOk result (λ path. path.items ≡ joined_path name.now folder.now) }
 {
     let mut path = Vec::new(alloc);

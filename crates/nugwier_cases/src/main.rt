@@ -2,9 +2,11 @@
 //! the program. Prints the line, what is listed, what is told on standard error, and the exit status.
 #![tactic(auto)]
 
-use nugwier_commands::files::Files;
+use nugwier_commands::files::{Files, Libraries};
 use nugwier_commands::run::run;
+use std::alloc::AllocError;
 use std::io::Write;
+use std::str::from_utf8;
 use std::{fs, io};
 
 /// The files beside the program.
@@ -16,6 +18,24 @@ struct CaseFiles<'a> {
 impl Files for CaseFiles<'_> {
     fn read(&self, path: &str) -> io::Result<Vec<u8>> {
         fs::read(self.rt, path)
+    }
+}
+
+impl Libraries for CaseFiles<'_> {
+    ghost contents = { λ _. None };
+
+    // Only files beside the program are read, so that those of the machine do not count.
+    fn read_library(&self, path: &[u8]) -> Result<Option<Vec<u8>>, AllocError> {
+        let Ok(path) = from_utf8(path) else {
+            return Ok(None);
+        };
+        if path.starts_with('/') {
+            return Ok(None);
+        }
+        match fs::read(self.rt, path) {
+            Ok(data) => Ok(Some(data)),
+            Err(_) => Ok(None),
+        }
     }
 }
 

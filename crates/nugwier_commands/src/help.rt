@@ -17,6 +17,7 @@ usage: nugwier COMMAND [OPTION..] FILE..
   plan        what a loader maps into memory, and where
   check       whether a file is sound, or its first fault
   address     the symbols at addresses
+  tree        the libraries that a program loads, and the files that are found for them
 
   COMMAND --help    how the command is called
   COMMAND --json    an object of JSON for each record, one a line, in place of lines for people
@@ -99,6 +100,19 @@ Prints, for each address, NAME+DISTANCE of the last symbol of a function or a va
 says so if the address lies past its end. An address is in hexadecimal, with or without 0x. The symbols are those of
 list -s or, if the file has none, those for dynamic linking.";
 
+const TREE: &str = "\
+usage: nugwier tree [--search FOLDER].. FILE..
+
+Prints the program, and below it each library that it loads: the name by which it is needed, and the path of the file
+that is found, or 'not found'. A library stands below the one that needs it first. Nothing is run.
+
+  --search FOLDER   looks for libraries in this folder, as if LD_LIBRARY_PATH named it
+
+Libraries are looked for as the dynamic linker does: in the folders of DT_RPATH of the object that needs them and of its
+loaders, those of --search, those of DT_RUNPATH of the object, and the usual ones of its machine, such as
+/lib/x86_64-linux-gnu, /lib64 and /usr/lib. $ORIGIN is the folder of the object's path. LD_LIBRARY_PATH, ld.so.conf and
+the cache of the dynamic linker are not read.";
+
 /// How the program, or one of its commands, is called.
 pub(crate) fn help(command: Option<Command>) -> &'static str {
     match command {
@@ -111,5 +125,6 @@ pub(crate) fn help(command: Option<Command>) -> &'static str {
         Some(Command::Plan) => PLAN,
         Some(Command::Check) => CHECK,
         Some(Command::Address) => ADDRESS,
+        Some(Command::Tree) => TREE,
     }
 }

@@ -17,5 +17,7 @@ mod report;
 pub mod run;
 mod strings;
 mod symbols;
+mod tree;
+mod usual;
 mod version_lists;
 pub mod words;

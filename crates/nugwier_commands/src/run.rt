@@ -15,6 +15,7 @@ use crate::plan::list_plan;
 use crate::report::report;
 use crate::strings::list_needed;
 use crate::symbols::list_dynamic_symbols;
+use crate::tree::run_tree;
 use crate::words::{Command, Job, Request, WordError, parse_words};
 use elf::endian::{AnyEndian, EndianParse};
 use elf::{ElfBytes, ParseError};
@@ -120,7 +121,13 @@ fn run_file<F: Files, W: Write, V: Write>(
     err: &mut V,
 ) -> Result<bool, Stop> {
     match files.read(path) {
-        Ok(data) => run_bytes(alloc, job, path, data.as_slice(), out, err),
+        Ok(data) => match job.command {
+            Command::Tree => {
+                let searches = job.searches.as_slice();
+                run_tree(alloc, searches, files, path, data, out, err)
+            }
+            _ => run_bytes(alloc, job, path, data.as_slice(), out, err),
+        },
         Err(error) => {
             out.flush()?;
             let path = Escaped(path.as_bytes());
@@ -214,5 +221,7 @@ fn run_command<E: EndianParse, W: Write>(
             let addresses = job.addresses.as_slice();
             list_addresses(alloc, format, file, addresses, out, problems)
         }
+        // It reads other files too, so `run_tree` lists it.
+        Command::Tree => Ok(()),
     }
 }
