@@ -93,7 +93,7 @@ fn need_version<'a, E: EndianParse, V: SymbolVersions<E>>(
 ///
 /// ```rust
 /// if let Some(versions) = file.symbol_version_table()? {
-///     match version_of_symbol(&versions, 1)? {
+///     match symbol_version(&versions, 1)? {
 ///         Some(SymbolVersion::Needed { file, name }) => println!(rt; "needs {name} of {file}")?,
 ///         Some(SymbolVersion::Defined { name, .. }) => println!(rt; "is defined with {name}")?,
 ///         None => println!(rt; "has no version")?,
