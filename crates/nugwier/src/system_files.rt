@@ -1,4 +1,5 @@
 //! The files of the operating system.
+use elf::FileSource;
 use nugwier_commands::files::{Files, Libraries};
 use std::alloc::AllocError;
 use std::fs::File;
@@ -20,6 +21,17 @@ impl<'a> SystemFiles<'a> {
 }
 
 impl Files for SystemFiles<'_> {
+    type Source = FileSource;
+
+    // Only a regular file is read by parts: a pipe is read once, from its start.
+    fn open(&self, path: &str) -> Option<FileSource> {
+        if path == "-" || !fs::metadata(self.rt, path).ok()?.is_file() {
+            return None;
+        }
+        let file = File::open(self.rt, path).ok()?;
+        Some(FileSource::new(file))
+    }
+
     // Standard input is read through its own handle, since the system may not allow opening it again.
     fn read(&self, path: &str) -> io::Result<Vec<u8>> {
         match path {

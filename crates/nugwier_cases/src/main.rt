@@ -2,9 +2,11 @@
 //! the program. Prints the line, what is listed, what is told on standard error, and the exit status.
 #![tactic(auto)]
 
+use elf::FileSource;
 use nugwier_commands::files::{Files, Libraries};
 use nugwier_commands::run::run;
 use std::alloc::AllocError;
+use std::fs::File;
 use std::io::Write;
 use std::str::from_utf8;
 use std::{fs, io};
@@ -16,6 +18,13 @@ struct CaseFiles<'a> {
 }
 
 impl Files for CaseFiles<'_> {
+    type Source = FileSource;
+
+    fn open(&self, path: &str) -> Option<FileSource> {
+        let file = File::open(self.rt, path).ok()?;
+        Some(FileSource::new(file))
+    }
+
     fn read(&self, path: &str) -> io::Result<Vec<u8>> {
         fs::read(self.rt, path)
     }

@@ -168,4 +168,4 @@ segment_notes_wrong file = numbered_places (one_segment_wrong file) 0 file.segme
 abbrev pub notes_wrong : ObjectFile → List Place
 notes_wrong file =
     if file.declares_sections then numbered_places
-        (section_notes_wrong file) 0 file.sections else segment_notes_wrong file
+    (section_notes_wrong file) 0 file.sections else segment_notes_wrong file

@@ -3,6 +3,7 @@
 #![tactic(auto)]
 
 mod addresses;
+mod by_parts;
 mod check;
 mod contents;
 pub mod files;

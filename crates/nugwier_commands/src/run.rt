@@ -6,6 +6,7 @@ ghost use Rattle.nugwier_commands.specs.Status.{IsWrongFor, ended_status};
 ghost use Rattle.nugwier_lines.specs.declared.problem.Place.{Place};
 
 use crate::addresses::list_addresses;
+use crate::by_parts::{list_by_parts, wants_only_headers};
 use crate::check::check;
 use crate::files::Files;
 use crate::help::{VERSION, help};
@@ -120,6 +121,12 @@ fn run_file<F: Files, W: Write, V: Write>(
     out: &mut W,
     err: &mut V,
 ) -> Result<bool, Stop> {
+    if wants_only_headers(job) {
+        let format = format_of(job, path);
+        if list_by_parts(alloc, job, format, files.open(path), out)? {
+            return Ok(true);
+        }
+    }
     match files.read(path) {
         Ok(data) => match job.command {
             Command::Tree => {

@@ -80,16 +80,16 @@ pub fn write_object<W: Write>(
     let mut lines = LineBuffer::empty();
     add_front(path, kind, &mut lines, out);
     add_members(members, &mut lines, out);
-    lines.word("}\n", out);
+    lines.text("}\n", out);
     lines.end(out)
 }
 
 fn add_front<W: Write>(path: &str, kind: &str, lines: &mut LineBuffer, out: &mut W)
     ensures { Adds (W.contents out.old) lines.old (W.contents out.new) lines.new (front path.now kind.now) }
 {
-    lines.word("{\"file\":", out);
+    lines.text("{\"file\":", out);
     add_string(path, lines, out);
-    lines.word(",\"record\":", out);
+    lines.text(",\"record\":", out);
     add_string(kind, lines, out);
 }
 
@@ -110,13 +110,13 @@ fn add_member<W: Write>(key: &str, value: Value<'_>, lines: &mut LineBuffer, out
         Value::Flag(true) => add_plain(key, "true", lines, out),
         Value::Flag(false) => add_plain(key, "false", lines, out),
         Value::Number(number) => {
-            lines.word(",\"", out);
-            lines.word(key, out);
+            lines.text(",\"", out);
+            lines.text(key, out);
             lines.decimal("\":", number, out);
         }
         Value::Signed(number) => {
-            lines.word(",\"", out);
-            lines.word(key, out);
+            lines.text(",\"", out);
+            lines.text(key, out);
             lines.signed("\":", number, out);
         }
         Value::Word(word) => add_word(key, word, lines, out),
@@ -131,10 +131,10 @@ fn add_member<W: Write>(key: &str, value: Value<'_>, lines: &mut LineBuffer, out
 fn add_plain<W: Write>(key: &str, word: &str, lines: &mut LineBuffer, out: &mut W)
     ensures { Adds (W.contents out.old) lines.old (W.contents out.new) lines.new (pair key.now word.now) }
 {
-    lines.word(",\"", out);
-    lines.word(key, out);
-    lines.word("\":", out);
-    lines.word(word, out);
+    lines.text(",\"", out);
+    lines.text(key, out);
+    lines.text("\":", out);
+    lines.text(word, out);
 }
 
 // Adds a member whose value is a name, if there is one.
@@ -155,11 +155,11 @@ fn add_letter<W: Write>(key: &str, character: Option<char>, lines: &mut LineBuff
 {
     match character {
         Some(character) => {
-            lines.word(",\"", out);
-            lines.word(key, out);
-            lines.word("\":\"", out);
+            lines.text(",\"", out);
+            lines.text(key, out);
+            lines.text("\":\"", out);
             add_character(character, lines, out);
-            lines.word("\"", out);
+            lines.text("\"", out);
         }
         None => add_plain(key, "null", lines, out),
     }
@@ -169,9 +169,9 @@ fn add_letter<W: Write>(key: &str, character: Option<char>, lines: &mut LineBuff
 fn add_named_string<W: Write>(key: &str, text: &str, lines: &mut LineBuffer, out: &mut W)
     ensures { Adds (W.contents out.old) lines.old (W.contents out.new) lines.new (pair key.now (json_string text.now)) }
 {
-    lines.word(",\"", out);
-    lines.word(key, out);
-    lines.word("\":", out);
+    lines.text(",\"", out);
+    lines.text(key, out);
+    lines.text("\":", out);
     add_string(text, lines, out);
 }
 
@@ -189,10 +189,10 @@ fn add_text<W: Write>(key: &str, bytes: &[u8], lines: &mut LineBuffer, out: &mut
 fn add_bytes<W: Write>(key: &str, bytes: &[u8], lines: &mut LineBuffer, out: &mut W)
     ensures { Adds (W.contents out.old) lines.old (W.contents out.new) lines.new (bytes_member key.now bytes.now) }
 {
-    lines.word(",\"", out);
-    lines.word(key, out);
+    lines.text(",\"", out);
+    lines.text(key, out);
     lines.bytes("_hex\":\"", bytes, out);
-    lines.word("\"", out);
+    lines.text("\"", out);
 }
 
 // Adds a string.
@@ -200,9 +200,9 @@ fn add_bytes<W: Write>(key: &str, bytes: &[u8], lines: &mut LineBuffer, out: &mu
 fn add_string<W: Write>(text: &str, lines: &mut LineBuffer, out: &mut W)
     ensures { Adds (W.contents out.old) lines.old (W.contents out.new) lines.new (json_string text.now) }
 {
-    lines.word("\"", out);
+    lines.text("\"", out);
     add_characters(text, lines, out);
-    lines.word("\"", out);
+    lines.text("\"", out);
 }
 
 // Adds the characters of a text.
@@ -221,7 +221,7 @@ fn add_character<W: Write>(character: char, lines: &mut LineBuffer, out: &mut W)
 {
     if stands_for_itself(character) {
         let mut room = [0; 4];
-        lines.word(character.encode_utf8(&mut room), out);
+        lines.text(character.encode_utf8(&mut room), out);
     } else {
         add_escape(character, lines, out);
     }
@@ -241,8 +241,8 @@ fn add_escape<W: Write>(character: char, lines: &mut LineBuffer, out: &mut W)
     ensures { Adds (W.contents out.old) lines.old (W.contents out.new) lines.new (escape character) }
 {
     match character {
-        '"' => lines.word("\\\"", out),
-        '\\' => lines.word("\\\\", out),
+        '"' => lines.text("\\\"", out),
+        '\\' => lines.text("\\\\", out),
         _ => {
             let code = character as u32;
             let bytes = [(code / 256 % 256) as u8, (code % 256) as u8];

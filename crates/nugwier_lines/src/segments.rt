@@ -23,12 +23,34 @@ pub fn list_segments<E: EndianParse, W: Write>(
 ) -> io::Result<()> {
     list_heading(format, out)?;
     for (number, segment) in segments.iter().enumerate() {
-        match format {
-            Format::Text => list_segment(number, &segment, out)?,
-            Format::Json(path) => write_segment(path, number as u64, &segment, out)?,
-        }
+        list_row(format, number, &segment, out)?;
     }
     Ok(())
+}
+
+/// Lists the segments of a slice, as `list_segments` does those of a table.
+pub fn list_slice<W: Write>(
+    format: Format<'_>,
+    segments: &[ProgramHeader],
+    out: &mut W,
+) -> io::Result<()> {
+    list_heading(format, out)?;
+    for (number, segment) in segments.iter().enumerate() {
+        list_row(format, number, segment, out)?;
+    }
+    Ok(())
+}
+
+fn list_row<W: Write>(
+    format: Format<'_>,
+    number: usize,
+    segment: &ProgramHeader,
+    out: &mut W,
+) -> io::Result<()> {
+    match format {
+        Format::Text => list_segment(number, segment, out),
+        Format::Json(path) => write_segment(path, number as u64, segment, out),
+    }
 }
 
 fn list_heading<W: Write>(format: Format<'_>, out: &mut W) -> io::Result<()> {

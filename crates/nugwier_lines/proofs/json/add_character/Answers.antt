@@ -7,7 +7,7 @@ pub returns-then-stands_for_itself : goal.returns-then-stands_for_itself
 returns-then-stands_for_itself g c =
     let contents = g.W.Write.contents in
     let same = c.encode_utf8.ensures.value ∙ spelled_itself c.args.character (sym c.stands_for_itself.ensures ∙ c.if-stands_for_itself.true) in
-    subst (λ (text : List ℕ). Adds (contents c.args.out.now) c.args.lines.now (contents c.word.new.out) c.word.new.self text) same c.word.ensures
+    subst (λ (text : List ℕ). Adds (contents c.args.out.now) c.args.lines.now (contents c.text.new.out) c.text.new.self text) same c.text.ensures
 
 pub returns-else-stands_for_itself : goal.returns-else-stands_for_itself
 returns-else-stands_for_itself g c =
