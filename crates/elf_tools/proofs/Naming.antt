@@ -10,8 +10,9 @@ use Rattle.elf_records.specs.declared.parse.ParseError.{ParseError}
 use Rattle.elf.specs.ElfStream.{Keeps, Leaves, StreamView}
 use Rattle.elf_reading.specs.Refusals.{IsAnswer}
 use Rattle.elf_reading.specs.Refusals.{IsRefused, Kind, kind}
+use Rattle.elf.specs.Headers.{if_found}
 use Rattle.elf.specs.StreamFile.{stream_file}
-use Rattle.elf_tools.specs.Needed.{IsGiven, IsNamesAnswer, IsUnreadable, GivesNames, entries_of, if_some, names, names_by, names_view, or_error}
+use Rattle.elf_tools.specs.Needed.{IsGiven, IsNamesAnswer, IsUnreadable, GivesNames, entries_of, names, names_by, names_view, or_error}
 use Rattle.elf_tools.specs.declared.needed.Names.{Names}
 use Rattle.elf_tools.specs.declared.needed.NamesError.{NamesError}
 use Rattle.elf_tools.specs.declared.needed.NamesError.TheVariants.{Memory, Name, NoAddress, NoSize, NotLoaded, Read}
@@ -82,7 +83,7 @@ known_later : {E T : Type 0} (little : E → Bool) (old middle : StreamView E) (
 known_later little old middle now None shown x entries e keeps is h k = tt
 known_later little old middle now (Some bytes) shown x entries e keeps is h k =
     let file = stream_file little old bytes in
-    let whole = ap (λ r. r >>= λ es. if_some (names_by file) es) (h.1 ∙ ap Ok is) in
+    let whole = ap (λ r. r >>= λ es. if_found (names_by file) es) (h.1 ∙ ap Ok is) in
     let there = subst (λ f. IsNamesAnswer names_view (names_by f entries) middle.can_fail middle.failures now (Err e)) (same_file little old middle bytes keeps) k in
     let here = subst (λ b. IsNamesAnswer names_view (names_by file entries) b middle.failures now (Err e)) keeps.can_fail there in
     known_whole names_view (option_map names_view) (names file) (names_by file entries) old.can_fail old.failures middle.failures now e whole h.0 here
@@ -106,7 +107,7 @@ some_not_none : {Y : Type 0} (r : Result Y NamesError) → ok_map Some r ≢ Ok 
 some_not_none (Ok y) e = cc e
 some_not_none (Err error) e = cc e
 
-still_some : {X Y : Type 0} (entries : Result (Option X) NamesError) (answer : X → Result Y NamesError) → entries ≢ Ok None → (entries >>= λ es. if_some answer es) ≢ Ok None
+still_some : {X Y : Type 0} (entries : Result (Option X) NamesError) (answer : X → Result Y NamesError) → entries ≢ Ok None → (entries >>= λ es. if_found answer es) ≢ Ok None
 still_some (Ok None) answer some e = some refl
 still_some (Ok (Some x)) answer some e = some_not_none (answer x) e
 still_some (Err error) answer some e = cc e

@@ -10,7 +10,7 @@ use Rattle.elf_records.specs.declared.file.Class.{Class}
 use Rattle.elf_records.specs.declared.parse.ParseError.{ParseError}
 use Rattle.elf_records.specs.declared.section.SectionHeader.{SectionHeader}
 use Rattle.elf_parts.specs.gnu_symver.Lists.{ver_defs, ver_needs}
-use Rattle.elf_parts.specs.gnu_symver.Table.{Definitions, Needs, Versions}
+use Rattle.elf_parts.specs.gnu_symver.Table.{Definitions, Entries, Needs, Versions}
 use Rattle.elf.specs.Answers.{dynamic_symbol_table, symbol_version_table}
 use Rattle.elf.specs.Data.{section_data}
 use Rattle.elf_reading.specs.Opening.{StreamHeaders, headers_of}
@@ -47,17 +47,19 @@ hash_in kept = (kept.kind, kept.section.items)
 abbrev pub symbols_in : Bool → Class → SymbolBytes → Table × List ℕ
 symbols_in little class kept = (table_in little class kept.symbols.items, kept.strings.items)
 
-abbrev pub needs_in : Bool → Class → EntryBytes → Needs
-needs_in little class kept = record {
-  list = ver_needs (table_in little class kept.entries.items) kept.count 0;
+-- the entries of a section with their strings, by the list of the entries from an offset on
+abbrev pub stored_entries : {V A : Type 0} → (Table → ℕ → ℕ → List (V × List A)) → Bool → Class → EntryBytes →
+    Entries V A
+stored_entries entries little class kept = record {
+  list = entries (table_in little class kept.entries.items) kept.count 0;
   strings = kept.strings.items;
 }
 
+abbrev pub needs_in : Bool → Class → EntryBytes → Needs
+needs_in little class kept = stored_entries ver_needs little class kept
+
 abbrev pub definitions_in : Bool → Class → EntryBytes → Definitions
-definitions_in little class kept = record {
-  list = ver_defs (table_in little class kept.entries.items) kept.count 0;
-  strings = kept.strings.items;
-}
+definitions_in little class kept = stored_entries ver_defs little class kept
 
 abbrev pub versions_in : Bool → Class → VersionBytes → Versions
 versions_in little class kept = record {

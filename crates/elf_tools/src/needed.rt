@@ -191,10 +191,7 @@ fn first_name(
     ensures { ok_map (option_map (name_bytes strings.now)) result ≡ first_name strings.now tag entries.now }
 {
     match first_entry(entries, tag) {
-        Some(entry) => match name_of(strings, entry) {
-            Ok(name) => Ok(Some(name)),
-            Err(error) => Err(error),
-        },
+        Some(entry) => name_of(strings, entry).map(Some),
         None => Ok(None),
     }
 }
@@ -279,10 +276,8 @@ fn names_by<E: EndianParse, S: StreamSource, A: Allocator + Copy>(
     ensures { GivesNames names_view (λ bytes. names_by (stream_file E.little stream.old bytes) entries.now)
         stream.old stream.new result }
 {
-    match string_part(stream.segments().as_slice(), entries) {
-        Ok(part) => names_of_part(alloc, stream, entries, &part),
-        Err(error) => Err(error),
-    }
+    let part = string_part(stream.segments().as_slice(), entries)?;
+    names_of_part(alloc, stream, entries, &part)
 }
 
 /// Returns the soname of a file, the libraries that it needs and its search paths, or `None` if it has no dynamic
