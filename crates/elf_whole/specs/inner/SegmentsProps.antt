@@ -1,6 +1,6 @@
 -- That the segments of a file are sound is true in one way only: so a struct can store it.
-use Rattle.std.specs.Prelude.{ℕ, Bool, List, Option, Some, None, IfSome}
-use Rattle.std.specs.Coded.{Coded-set, Unit-prop, codes, le_prop}
+use Rattle.std.specs.Prelude.{ℕ, Bool, List}
+use Rattle.std.specs.Coded.{Coded-set, codes, le_prop}
 use Rattle.std.specs.Result.{IsOkAnd-prop}
 use Rattle.elf_records.specs.declared.segment.ProgramHeader.{ProgramHeader}
 use Rattle.elf_records.specs.Segment.{program_header_reads}
@@ -10,10 +10,7 @@ use Rattle.elf.specs.ObjectFile.{ObjectFile, object_file}
 use Rattle.elf_reading.specs.Opening.{FileView}
 use Rattle.elf_whole.specs.SegmentsBytes.{AllRead}
 use Rattle.elf_whole.specs.Segments.{EndsWithNul, SoundDynamicSegment, SoundSegment, SoundSegments, SoundTypes}
-
-IfSome-prop : {A : Type 0} (P : A → Type 0) → ((x : A) → IsProp (P x)) → (o : Option A) → IsProp (IfSome o P)
-IfSome-prop P p None = Unit-prop
-IfSome-prop P p (Some x) = p x
+use Rattle.elf_whole.specs.inner.VersionProps.{IfSome-prop}
 
 EndsWithNul-prop : (bytes : List ℕ) → IsProp (EndsWithNul bytes)
 EndsWithNul-prop bytes = hlevel (Coded-set, codes)
