@@ -131,7 +131,16 @@ fn run_file<F: Files, W: Write, V: Write>(
         Ok(data) => match job.command {
             Command::Tree => {
                 let searches = job.searches.as_slice();
-                run_tree(alloc, searches, files, path, data, out, err)
+                run_tree(
+                    alloc,
+                    searches,
+                    format_of(job, path),
+                    files,
+                    path,
+                    data,
+                    out,
+                    err,
+                )
             }
             _ => run_bytes(alloc, job, path, data.as_slice(), out, err),
         },

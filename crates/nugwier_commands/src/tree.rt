@@ -9,6 +9,7 @@ use crate::usual::usual_folders;
 use elf_tools::search::Surroundings;
 use elf_tools::tree::{LoadedFile, Object, OpenError, load_order};
 use nugwier_lines::escape::Escaped;
+use nugwier_lines::json::{Format, Value, write_object};
 use nugwier_lines::problem::Stop;
 use std::alloc::{AllocError, Global};
 use std::io;
@@ -19,6 +20,7 @@ use std::io::Write;
 pub(crate) fn run_tree<L: Libraries, W: Write, V: Write>(
     alloc: Global,
     searches: &[&str],
+    format: Format<'_>,
     libraries: &L,
     path: &str,
     data: Vec<u8>,
@@ -36,7 +38,7 @@ pub(crate) fn run_tree<L: Libraries, W: Write, V: Write>(
         }
     };
     let objects = objects(alloc, searches, libraries, program)?;
-    list_objects(alloc, &objects, out)?;
+    list_objects(alloc, format, &objects, out)?;
     out.flush()?;
     let _ = tell_missing(&objects, path, err);
     Ok(are_complete(&objects))
@@ -94,7 +96,12 @@ struct Listed {
 }
 
 // Lists each object below the one that needed it first.
-fn list_objects<W: Write>(alloc: Global, objects: &[Object], out: &mut W) -> Result<(), Stop> {
+fn list_objects<W: Write>(
+    alloc: Global,
+    format: Format<'_>,
+    objects: &[Object],
+    out: &mut W,
+) -> Result<(), Stop> {
     let mut waiting = Vec::new(alloc);
     waiting.push(Listed { place: 0, depth: 0 })?;
     for _ in 0..objects.len() {
@@ -102,7 +109,10 @@ fn list_objects<W: Write>(alloc: Global, objects: &[Object], out: &mut W) -> Res
             return Ok(());
         };
         if let Some(object) = objects.get(next.place) {
-            list_object(object, next.depth, out)?;
+            match format {
+                Format::Text => list_object(object, next.depth, out)?,
+                Format::Json(path) => write_library(path, objects, object, next.depth, out)?,
+            }
         }
         add_needed(objects, next, &mut waiting)?;
     }
@@ -142,6 +152,26 @@ fn list_object<W: Write>(object: &Object, depth: usize, out: &mut W) -> io::Resu
         }
         None => writeln!(out, "{name} => not found"),
     }
+}
+
+fn write_library<W: Write>(
+    path: &str,
+    objects: &[Object],
+    object: &Object,
+    depth: usize,
+    out: &mut W,
+) -> io::Result<()> {
+    let found = match &object.file {
+        Some(file) => Some(file.path.as_slice()),
+        None => None,
+    };
+    let members = [
+        ("depth", Value::Number(depth as u64)),
+        ("name", Value::Text(Some(&object.name))),
+        ("path", Value::Text(found)),
+        ("loader", Value::Text(Some(path_at(objects, object.loader)))),
+    ];
+    write_object(path, "object", &members, out)
 }
 
 // Tells which libraries are missing, and of which the names are not known.
