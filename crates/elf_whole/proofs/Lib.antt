@@ -15,3 +15,7 @@ pub mod SegmentsVerdicts
 pub mod SegmentsFound
 pub mod SegmentsPaths
 pub mod Verdicts
+pub mod TrueSubjects
+pub mod Adding
+pub mod SoundSubjects
+pub mod FirstOfAll

@@ -1,5 +1,5 @@
 -- A fault that is true of a file means that the file is not sound.
-use Rattle.std.proofs.Common.{◌≡◌, ◌≢◌, ℕ, ◌%◌, ◌<◌, ◌≤◌, List, length, Option, Some, None, Result, Ok, Err, MatchOption, IsTrue, refl, ap, ◌∙◌, subst, inl, inr, arith}
+use Rattle.std.proofs.Common.{◌≡◌, ◌≢◌, ℕ, ◌%◌, ◌<◌, List, length, Option, Some, None, Result, Ok, Err, MatchOption, IsTrue, refl, ap, ◌∙◌, subst, inl, inr, arith}
 use Rattle.std.specs.Option.{IsSomeAnd}
 use Rattle.std.specs.Result.{IsErr, IsOk, IsOkAnd, result_ok}
 use Rattle.elf_abi.specs.Values.{sht_strtab}
@@ -53,7 +53,7 @@ use Rattle.elf_whole.proofs.VersionFaults.{true_versions}
 
 -- ---- results
 
-ok_not_err : {A E : Type 0} (r : Result A E) → IsOk r → IsErr r → ⊥
+pub ok_not_err : {A E : Type 0} (r : Result A E) → IsOk r → IsErr r → ⊥
 ok_not_err (Ok x) ok err = cc
 ok_not_err (Err e) ok err = cc
 
@@ -69,7 +69,7 @@ value_and : {A E : Type 0} (P : A → Type 0) (r : Result A E) → IsOkAnd r P �
 value_and P (Ok x) p none = none x refl p
 value_and P (Err e) p none = p
 
-weaker : {A E : Type 0} (P Q : A → Type 0) (r : Result A E) → ((x : A) → P x → Q x) → IsOkAnd r P → IsOkAnd r Q
+pub weaker : {A E : Type 0} (P Q : A → Type 0) (r : Result A E) → ((x : A) → P x → Q x) → IsOkAnd r P → IsOkAnd r Q
 weaker P Q (Ok x) f p = f x p
 weaker P Q (Err e) f p = p
 
@@ -184,7 +184,7 @@ true_symbols file s (At i fault) t sound =
     both_and (λ (f : Table × List ℕ). SoundSymbolTable n f.0 f.1) (λ found. IsFirstFault (symbol_at found.0) (SoundSymbol n found.1) (IsTrueOfSymbol n found.1) i fault) (symbols_of file s) sound.symbols t
     (λ found e all first. no_first (symbol_at found.0) (SoundSymbol n found.1) (IsTrueOfSymbol n found.1) i fault (λ x. true_symbol n found.1 x fault) first all)
 
-true_content : (file : ObjectFile) (s : SectionHeader) (fault : SectionFault) → IsTrueOfContent file s fault → SoundContent file s → ⊥
+pub true_content : (file : ObjectFile) (s : SectionHeader) (fault : SectionFault) → IsTrueOfContent file s fault → SoundContent file s → ⊥
 true_content file s NoLastNul t sound =
     both_and IsEmptyOrEndsWithNul (λ bytes. ¬ IsEmptyOrEndsWithNul bytes) (content file s) (sound.strings t.0) t.1 (λ bytes e ends not. not ends)
 true_content file s (Symbols fault) t sound = true_symbols file s fault t.1 (sound.symbols t.0)
@@ -202,7 +202,7 @@ true_content file s NoSectionName t sound = t
 true_content file s NoBytes t sound = t
 true_content file s Compressed t sound = t
 
-true_section : (file : ObjectFile) (s : SectionHeader) (fault : SectionFault) → IsTrueOfSection file s fault → SoundSection file s → ⊥
+pub true_section : (file : ObjectFile) (s : SectionHeader) (fault : SectionFault) → IsTrueOfSection file s fault → SoundSection file s → ⊥
 true_section file s NoSectionName t sound = ok_not_err (section_name file s) sound.name t
 true_section file s NoBytes t sound = ok_not_err (section_data file s) sound.bytes t.1
 true_section file s Compressed t sound = t.2 sound.plain

@@ -22,6 +22,8 @@ pub mod SegmentsWhole
 pub mod Sound
 pub mod Faults
 pub mod Verdict
+-- all faults of a file
+pub mod AllFaults
 -- the views of a file that was checked, and of its parts
 pub mod Whole
 pub mod DynamicViews

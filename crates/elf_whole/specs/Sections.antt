@@ -92,6 +92,12 @@ pub record SoundSection (file : ObjectFile) (s : SectionHeader) : Type 0 where
   pub plain : IsPlain s
   pub content : SoundContent file s
 
+-- the same of a section whose name is not checked
+pub record SoundUnnamed (file : ObjectFile) (s : SectionHeader) : Type 0 where
+  pub bytes : IsOk (section_data file s)
+  pub plain : IsPlain s
+  pub content : SoundContent file s
+
 -- ---- faults, each with the facts that are checked before it
 
 abbrev pub IsTrueOfContent : ObjectFile → SectionHeader → SectionFault → Type 0
@@ -123,3 +129,10 @@ IsTrueOfSection file s NoName = IsErr (section_name file s)
 IsTrueOfSection file s NoBytes = IsOk (section_name file s) × IsErr (section_data file s)
 IsTrueOfSection file s Compressed = IsOk (section_name file s) × IsOk (section_data file s) × (¬ IsPlain s)
 IsTrueOfSection file s fault = IsTrueOfPlain file s fault
+
+-- of a section whose name is not checked
+abbrev pub IsTrueOfUnnamed : ObjectFile → SectionHeader → SectionFault → Type 0
+IsTrueOfUnnamed file s NoName = ⊥
+IsTrueOfUnnamed file s NoBytes = IsErr (section_data file s)
+IsTrueOfUnnamed file s Compressed = IsOk (section_data file s) × (¬ IsPlain s)
+IsTrueOfUnnamed file s fault = IsOk (section_data file s) × IsPlain s × IsTrueOfContent file s fault

@@ -2,3 +2,4 @@ pub mod VersionProps
 pub mod DynamicProps
 pub mod SegmentsProps
 pub mod SoundProps
+pub mod Adding

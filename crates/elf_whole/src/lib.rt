@@ -1,6 +1,7 @@
 //! The check of a whole file. A file that was checked is read without errors.
 #![tactic(auto)]
 
+mod all;
 mod chains;
 mod dynamic;
 pub mod faults;
@@ -16,6 +17,7 @@ mod types;
 mod versions;
 mod whole;
 
+pub use all::{all_faults, all_faults_in};
 pub use whole::{
     WholeDefinition, WholeDynamic, WholeFile, WholeNames, WholeSection, WholeSymbols,
     WholeSymbolsIter, WholeVersion, WholeVersions, check_file, check_file_in,

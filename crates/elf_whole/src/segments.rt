@@ -13,6 +13,7 @@ use elf::segment::SegmentTable;
 use loads::first_overlap;
 use types::types_fault;
 
+mod all;
 mod dynamic;
 mod each;
 mod faults;
@@ -22,6 +23,7 @@ mod table;
 mod types;
 mod whole;
 
+pub(crate) use all::add_segments;
 pub use faults::{SegmentFault, SegmentsFault};
 pub use iter::WholeSegmentsIter;
 pub use whole::WholeSegments;
