@@ -6,12 +6,17 @@ pub mod Entries
 pub mod Tables
 pub mod Named
 pub mod Linked
+pub mod Relocated
+pub mod Terminated
 pub mod Dynamics
 pub mod Firsts
+pub mod NamedSections
 pub mod VersionFaults
 pub mod SoundVersions
 pub mod SegmentsListed
 pub mod SegmentsVerdicts
 pub mod SegmentsFound
+pub mod BuildIds
+pub mod LookUps
 pub mod SegmentsPaths
 pub mod Verdicts

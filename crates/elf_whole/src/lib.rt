@@ -16,7 +16,9 @@ mod types;
 mod versions;
 mod whole;
 
+pub use relocations::Relocation;
 pub use whole::{
-    SymbolVersion, WholeDefinition, WholeDynamic, WholeFile, WholeNames, WholeSection,
-    WholeSymbols, WholeSymbolsIter, WholeVersions, check_file, check_file_in,
+    SymbolVersion, WholeDefinition, WholeDynamic, WholeFile, WholeNames, WholeRelocations,
+    WholeSection, WholeSections, WholeStrings, WholeSymbols, WholeSymbolsIter, WholeVersions,
+    check_file, check_file_in,
 };

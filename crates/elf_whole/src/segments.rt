@@ -25,6 +25,7 @@ mod whole;
 pub use faults::{SegmentFault, SegmentsFault};
 pub use iter::WholeSegmentsIter;
 pub use whole::WholeSegments;
+pub(crate) use whole::notes_of;
 
 // What the segments of a table lack.
 fn table_fault<E: EndianParse>(
