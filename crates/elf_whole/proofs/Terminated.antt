@@ -1,11 +1,11 @@
 -- Strings of bytes whose last byte is 0.
-use Rattle.std.proofs.Common.{◌≡◌, ◌↔◌, ℕ, ◌+◌, ◌-◌, ◌<◌, ◌≤◌, ◌==◌, not, Bool, List, length, drop, get_or, Option, Some, None, Result, Ok, Err, ap, sym, ◌∙◌, subst, inl, inr, arith, get_or-drop, length-drop}
+use Rattle.std.proofs.Common.{◌≡◌, ℕ, ◌+◌, ◌-◌, ◌<◌, ◌≤◌, ◌==◌, not, Bool, List, length, drop, get_or, None, ap, ◌∙◌, inl, inr, arith, get_or-drop, length-drop}
 use Rattle.std.proofs.lemmas.List.{drop_all}
 use Rattle.std.proofs.lemmas.Bool.{cases_lt}
 use Rattle.std.proofs.lemmas.List.Sums.{prefix_len_passes}
-use Rattle.std.proofs.lemmas.Option.{get_or_from_slice_get, slice_get-get_or, slice_get_within}
+use Rattle.std.proofs.lemmas.Option.{slice_get-get_or}
 use Rattle.std.proofs.lemmas.Bool.Decides.{nat_tests}
-use Rattle.std.specs.List.{prefix_len, slice_get}
+use Rattle.std.specs.List.{prefix_len}
 use Rattle.std.specs.Result.{IsOk, result_ok}
 use Rattle.elf_records.specs.StringTable.{string_at}
 use Rattle.elf_whole.specs.Strings.{EndsInNul}

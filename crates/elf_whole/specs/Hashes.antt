@@ -1,5 +1,5 @@
 -- When a hash section is sound (gABI, chapter "Hash Table"; GNU hash sections), and what its faults say.
-use Rattle.std.specs.Prelude.{◌≡◌, ◌==◌, if◌then◌else◌, List, Option, Some, None, Result, Ok, IsErr, IsTrue}
+use Rattle.std.specs.Prelude.{◌≡◌, ◌==◌, if◌then◌else◌, Option, Some, None, Result, Ok, IsErr, IsTrue}
 use Rattle.std.specs.Option.{IsSomeAnd, option_or}
 use Rattle.std.specs.Result.{IsOkAnd}
 use Rattle.elf_abi.specs.Values.{sht_gnu_hash, sht_hash}

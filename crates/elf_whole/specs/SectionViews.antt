@@ -1,5 +1,5 @@
 -- The view of the sections of a file that was checked.
-use Rattle.std.specs.Prelude.{ℕ, Bool, List, drop, map}
+use Rattle.std.specs.Prelude.{Bool, List, drop, map}
 use Rattle.std.specs.declared.cmp.PartialEq.{Ghosts as PartialEqGhosts}
 use Rattle.std.specs.declared.default.Default.{Ghosts as DefaultGhosts}
 use Rattle.elf_records.specs.declared.endian.EndianParse.{Ghosts as EndianGhosts}

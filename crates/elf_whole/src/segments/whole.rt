@@ -116,8 +116,8 @@ impl<'a, 'data, E: EndianParse> WholeSegments<'a, 'data, E> {
         WholeSegmentsIter::new(self.file, program_headers(self.file))
     }
 
-    /// Returns the notes of the segment of an index, which has the type `PT_NOTE`, or `None` exactly if there is no such
-    /// segment or it has another type. Notes aligned to 2 or more bytes fill their segment.
+    /// Returns the notes of the segment of an index, which has the type `PT_NOTE`, or `None` exactly if there is no
+    /// such segment or it has another type. Notes aligned to 2 or more bytes fill their segment.
     pub fn notes(&self, index: usize) -> Option<NoteIterator<'data, E>>
         ensures { let file = segments_file E.little self.now in option_map notes_left result
             ≡ option_and_then (notes_of file.little) (slice_get (with_bytes file file.segments) index) }

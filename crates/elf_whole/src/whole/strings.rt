@@ -45,8 +45,8 @@ impl<'data> WholeStrings<'data> {
         self.bytes().len()
     }
 
-    /// Returns the bytes of the string at an offset, in bytes, without the 0 byte that ends it, or `None` exactly if the
-    /// offset is not below `len`.
+    /// Returns the bytes of the string at an offset, in bytes, without the 0 byte that ends it, or `None` exactly if
+    /// the offset is not below `len`.
     pub fn get(&self, offset: usize) -> Option<&'data [u8]>
         ensures value { option_map (λ string. string.now) result
             ≡ result_ok (string_at (whole_strings self.now) offset) }

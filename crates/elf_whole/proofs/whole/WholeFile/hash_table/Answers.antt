@@ -1,8 +1,5 @@
-use Rattle.std.proofs.Common.{◌≡◌, Some, sym, ap, ◌∙◌}
-use Rattle.std.specs.List.{find}
+use Rattle.std.proofs.Common.{sym}
 use Rattle.elf_abi.specs.Values.{sht_gnu_hash, sht_hash}
-use Rattle.elf_reading.specs.Versions.{is_of_type}
-use Rattle.elf_check.specs.declared.hashcheck.any.HashKind.TheVariants.{Gnu, Sysv}
 use Rattle.elf_whole.specs.Whole.{section_file, section_header, whole_view}
 use Rattle.elf_whole.proofs.Firsts.{first_type}
 use Rattle.elf_whole.proofs.LookUps.{by_gnu, by_sysv}

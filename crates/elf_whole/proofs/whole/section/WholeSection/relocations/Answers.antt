@@ -1,7 +1,6 @@
-use Rattle.std.proofs.Common.{◌≡◌, ℕ, ◌<◌, ◌^◌, List, length, Option, Some, ap, sym, ◌∙◌, subst}
+use Rattle.std.proofs.Common.{◌≡◌, ◌<◌, ◌^◌, length, Some, ap, sym, ◌∙◌, subst}
 use Rattle.elf_records.specs.Number.{ok_map}
 use Rattle.elf_records.specs.Table.{Table, table_items, table_view}
-use Rattle.elf_records.specs.declared.symbol.Symbol.{Symbol}
 use Rattle.elf.specs.ElfBytes.{view}
 use Rattle.elf.specs.ObjectFile.{object_file, table_of}
 use Rattle.elf_whole.specs.RelocationLists.{AllHaveSymbols, with_symbols}
