@@ -18,7 +18,9 @@ mod versions;
 mod whole;
 
 pub use all::{all_faults, all_faults_in};
+pub use relocations::Relocation;
 pub use whole::{
-    WholeDefinition, WholeDynamic, WholeFile, WholeNames, WholeSection, WholeSymbols,
-    WholeSymbolsIter, WholeVersion, WholeVersions, check_file, check_file_in,
+    WholeDefinition, WholeDynamic, WholeFile, WholeNames, WholeRelocations, WholeSection,
+    WholeSections, WholeStrings, WholeSymbols, WholeSymbolsIter, WholeVersion, WholeVersions,
+    check_file, check_file_in,
 };

@@ -27,6 +27,7 @@ pub(crate) use all::add_segments;
 pub use faults::{SegmentFault, SegmentsFault};
 pub use iter::WholeSegmentsIter;
 pub use whole::WholeSegments;
+pub(crate) use whole::notes_of;
 
 // What the segments of a table lack.
 fn table_fault<E: EndianParse>(

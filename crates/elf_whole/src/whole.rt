@@ -22,13 +22,18 @@ use elf::string_table::StringTable;
 use elf::symbol::SymbolTable;
 use elf::{ElfBytes, abi};
 
+mod build_id;
 mod check;
 mod dynamic;
 mod dynamic_section;
+mod hash_section;
 mod iter;
 mod names;
-mod relocation;
+mod relocations;
+mod relocations_section;
 mod section;
+mod sections;
+mod strings;
 mod symbols;
 mod versions;
 
@@ -36,11 +41,22 @@ pub use check::{check_file, check_file_in};
 pub use dynamic::WholeDynamic;
 pub use iter::WholeSymbolsIter;
 pub use names::WholeNames;
+pub use relocations::WholeRelocations;
 pub use section::WholeSection;
+pub use sections::WholeSections;
+pub use strings::WholeStrings;
 pub use symbols::WholeSymbols;
 pub use versions::{WholeDefinition, WholeVersion, WholeVersions};
 
-/// A file whose parts can all be read.
+/// A file whose parts can all be read. It has what `ElfBytes` has, and returns no errors:
+///
+/// - sections: `sections`, `section`, `section_by_name`, `first_section_of`, and of each `WholeSection::header`, `name`
+///   and `data`;
+/// - what a section holds, by its type: `WholeSection::strings`, `symbols`, `rels`, `relas`, `notes`, `dynamic` and
+///   `hash_table`, each `None` for other types;
+/// - the symbols, dynamic entries, versions and the hash table of a file: `symbols`, `dynamic_symbols`, `dynamic`,
+///   `versions`, `hash_table`;
+/// - segments: `segments`, and of these `WholeSegments::get`, `iter`, `notes`, `dynamic` and `interpreter`.
 #[derive(Debug, Drop)]
 pub struct WholeFile<'a, 'data, E: EndianParse> {
     file: &'a ElfBytes<'data, E>,
