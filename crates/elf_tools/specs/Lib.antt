@@ -4,6 +4,8 @@ pub mod LoadPlan
 pub mod HashLint
 pub mod Resolver
 pub mod Bindings
+pub mod SymbolUses
+pub mod SymbolBindings
 pub mod Needed
 pub mod Readings
 pub mod Library

@@ -9,9 +9,10 @@ use Rattle.elf_binding.specs.declared.resolve.ObjectFault.{ObjectFault}
 use Rattle.elf_whole_laws.specs.Answers.{IsHashSection}
 use Rattle.elf_records.specs.declared.symbol.Symbol.{Symbol}
 use Rattle.elf.specs.ObjectFile.{ObjectFile}
-use Rattle.elf_binding.specs.Binding.{IsBinding, VersionedObject}
+use Rattle.elf_binding.specs.Binding.{IsBindingFor, VersionedObject}
 use Rattle.elf_binding.specs.BindingObjects.{GivesVersioned}
 use Rattle.elf_binding.specs.declared.BindingFault.{BindingFault}
+use Rattle.elf_binding.specs.declared.ReferenceKind.{ReferenceKind}
 use Rattle.elf_binding.specs.declared.Wanted.{Wanted}
 use Rattle.elf_whole.specs.Sound.{SoundFile}
 
@@ -29,8 +30,9 @@ module _ {C : Type 0} (view : C → VersionedObject) (objects : List C) where
   -- whatever is asked, what a reference binds to is known
   abbrev pub BindsAll : Type 0
   BindsAll =
-      (name : List ℕ) (wanted : Wanted) (result : Result (Option (ℕ × ℕ × Symbol)) BindingFault) →
-      IsBinding view objects name wanted result → IsOk result
+      (kind : ReferenceKind) (name : List ℕ) (wanted : Wanted)
+      (result : Result (Option (ℕ × ℕ × Symbol)) BindingFault) →
+      IsBindingFor view objects name wanted kind result → IsOk result
 
 -- ---- the object that a file is
 
