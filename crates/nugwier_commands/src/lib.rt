@@ -3,6 +3,7 @@
 #![tactic(auto)]
 
 mod addresses;
+mod bindings;
 mod check;
 mod contents;
 pub mod files;

@@ -6,6 +6,7 @@ ghost use Rattle.nugwier_commands.specs.Status.{IsWrongFor, ended_status};
 ghost use Rattle.nugwier_lines.specs.declared.problem.Place.{Place};
 
 use crate::addresses::list_addresses;
+use crate::bindings::run_bindings;
 use crate::check::check;
 use crate::files::Files;
 use crate::help::{VERSION, help};
@@ -125,6 +126,10 @@ fn run_file<F: Files, W: Write, V: Write>(
                 let searches = job.searches.as_slice();
                 run_tree(alloc, searches, files, path, data, out, err)
             }
+            Command::Bindings => {
+                let searches = job.searches.as_slice();
+                run_bindings(alloc, searches, files, path, data, out, err)
+            }
             _ => run_bytes(alloc, job, path, data.as_slice(), out, err),
         },
         Err(error) => {
@@ -206,7 +211,7 @@ fn run_command<E: EndianParse, W: Write>(
         Command::Plan => list_plan(alloc, file, out, problems),
         Command::Check => check(alloc, file, out, problems),
         Command::Address => list_addresses(alloc, file, job.addresses.as_slice(), out, problems),
-        // It reads other files too, so `run_tree` lists it.
-        Command::Tree => Ok(()),
+        // They read other files too, so `run_tree` and `run_bindings` list them.
+        Command::Tree | Command::Bindings => Ok(()),
     }
 }

@@ -18,6 +18,7 @@ pub enum Command {
     Check,
     Address,
     Tree,
+    Bindings,
 }
 
 impl Command {
@@ -33,7 +34,13 @@ impl Command {
             Command::Check => "check",
             Command::Address => "address",
             Command::Tree => "tree",
+            Command::Bindings => "bindings",
         }
+    }
+
+    // Whether libraries are searched for.
+    fn finds_libraries(self) -> bool {
+        matches!(self, Command::Tree | Command::Bindings)
     }
 }
 
@@ -210,6 +217,7 @@ fn parse_command(word: &str) -> Option<Command> {
         "check" => Some(Command::Check),
         "address" => Some(Command::Address),
         "tree" => Some(Command::Tree),
+        "bindings" => Some(Command::Bindings),
         _ => None,
     }
 }
@@ -357,7 +365,7 @@ impl<'a> Options<'a> {
 
     // Adds the options of a word: of `list` a letter each.
     fn add(&mut self, command: Command, word: &'a str) -> Result<(), WordError<'a>> {
-        if command == Command::Tree && word == "--search" {
+        if command.finds_libraries() && word == "--search" {
             self.waiting = Some((Waiting::Folder, word));
             return Ok(());
         }
