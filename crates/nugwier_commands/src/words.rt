@@ -18,6 +18,7 @@ pub enum Command {
     Check,
     Address,
     Tree,
+    Bindings,
 }
 
 impl Command {
@@ -33,7 +34,13 @@ impl Command {
             Command::Check => "check",
             Command::Address => "address",
             Command::Tree => "tree",
+            Command::Bindings => "bindings",
         }
+    }
+
+    // Whether libraries are searched for.
+    fn finds_libraries(self) -> bool {
+        matches!(self, Command::Tree | Command::Bindings)
     }
 }
 
@@ -212,6 +219,7 @@ fn parse_command(word: &str) -> Option<Command> {
         "check" => Some(Command::Check),
         "address" => Some(Command::Address),
         "tree" => Some(Command::Tree),
+        "bindings" => Some(Command::Bindings),
         _ => None,
     }
 }
@@ -259,7 +267,7 @@ fn parse_rest<'a>(
         match kind_of(*word, has_ended) {
             Word::File => files.push(*word)?,
             Word::Help => return Ok(Request::Help(Some(command))),
-            Word::Json => options.is_json = true,
+            Word::Json => options.add_json(command, *word)?,
             Word::End => has_ended = true,
             Word::Letters => options.add(command, *word)?,
         }
@@ -365,7 +373,7 @@ impl<'a> Options<'a> {
 
     // Adds the options of a word: of `list` a letter each.
     fn add(&mut self, command: Command, word: &'a str) -> Result<(), WordError<'a>> {
-        if command == Command::Tree && word == "--search" {
+        if command.finds_libraries() && word == "--search" {
             self.waiting = Some((Waiting::Folder, word));
             return Ok(());
         }
@@ -377,6 +385,14 @@ impl<'a> Options<'a> {
                 return Err(WordError::Option(command, word));
             }
         }
+        Ok(())
+    }
+
+    fn add_json(&mut self, command: Command, word: &'a str) -> Result<(), WordError<'a>> {
+        if command == Command::Bindings {
+            return Err(WordError::Option(command, word));
+        }
+        self.is_json = true;
         Ok(())
     }
 

@@ -5,6 +5,7 @@
 //! listed. The only errors are those of the writer and of an allocation (`Stop`).
 #![tactic(auto)]
 
+pub mod bindings;
 pub mod dump;
 pub mod dynamic;
 pub mod escape;
