@@ -1,4 +1,6 @@
 //! The files of the operating system.
+ghost use Rattle.std.specs.Prelude.{None};
+
 use elf::FileSource;
 use nugwier_commands::files::{Files, Libraries};
 use std::alloc::AllocError;

@@ -2,6 +2,8 @@
 //! the program. Prints the line, what is listed, what is told on standard error, and the exit status.
 #![tactic(auto)]
 
+ghost use Rattle.std.specs.Prelude.{None};
+
 use elf::FileSource;
 use nugwier_commands::files::{Files, Libraries};
 use nugwier_commands::run::run;

@@ -89,7 +89,12 @@ fn library_path(alloc: Global, searches: &[&str]) -> Result<Vec<u8>, AllocError>
 pub(crate) fn are_complete(objects: &[Object]) -> bool
     ensures { result ≡ list_all is_complete (map entry_view objects.now) }
 {
-    objects.iter().all(|object| is_complete(object))
+    for object in objects {
+        if !is_complete(object) {
+            return false;
+        }
+    }
+    true
 }
 
 fn is_complete(object: &Object) -> bool
