@@ -3,9 +3,9 @@
 //!
 //! `load_order` returns the objects in the order in which the dynamic linker loads them: the program, then the libraries
 //! that it needs, then those that the first of these needs, and so on. Each library is searched for at the paths of
-//! [`search::candidates`](crate::search::candidates), with what this says of the linker's cache. The first file there is
-//! loaded that is an ELF file of the program's class, byte order and machine; others are passed over, even those at which
-//! the dynamic linker stops. A file is known by its path, so another path to it is another file.
+//! `search::candidates`, with what this says of the linker's cache. The first file there is loaded that is an ELF file of
+//! the program's class, byte order and machine; others are passed over, even those at which the dynamic linker stops. A
+//! file is known by its path, so another path to it is another file.
 ghost use Rattle.std.specs.Prelude.{◌≡◌, ◌<◌, ◌++◌, ◌∷◌, [], ℕ, List, Some, None, if◌then◌else◌, ◌==◌, length, map};
 ghost use Rattle.std.specs.Prelude.{IfOk, IfSome, OnOk, unwrap_or};
 ghost use Rattle.std.specs.Option.{option_map};
