@@ -34,7 +34,7 @@ use Rattle.elf_whole.specs.Sound.{SoundFile}
 use Rattle.elf_whole.specs.Symbols.{holds_symbols}
 use Rattle.elf_whole_laws.proofs.Calls.{hash_sound, linked_first}
 use Rattle.elf_whole_laws.specs.Answers.{IsHashSection}
-use Rattle.elf_whole_laws.specs.Bindings.{GivesSound, LooksUpDynamic, look_up_section}
+use Rattle.elf_whole_laws.specs.Bindings.{GivesSound, LooksUpDynamic, kind_and_section}
 
 abbrev Data : Type 0
 Data = Result (List ℕ × Option CompressionHeader) ParseError
@@ -90,7 +90,7 @@ module _ (file : ObjectFile) (sound : SoundFile file) (listed : (i : ℕ) → sl
   no_fault (Ok object) NoSymbols fine h = h
   no_fault (Err first) fault fine h = fine
 
-  by_sections : (gnu sysv : Option SectionHeader) (fault : ObjectFault) → ((s : SectionHeader) → gnu ≡ Some s → SoundSection file s) → ((s : SectionHeader) → sysv ≡ Some s → SoundSection file s) → IfSome (look_up_section gnu sysv) (λ chosen. IsHashSection chosen.0 file chosen.1) → IsSomeAnd (object_by file gnu sysv) (λ object. IsFaultOf object fault) → ⊥
+  by_sections : (gnu sysv : Option SectionHeader) (fault : ObjectFault) → ((s : SectionHeader) → gnu ≡ Some s → SoundSection file s) → ((s : SectionHeader) → sysv ≡ Some s → SoundSection file s) → IfSome (kind_and_section gnu sysv) (λ chosen. IsHashSection chosen.0 file chosen.1) → IsSomeAnd (object_by file gnu sysv) (λ object. IsFaultOf object fault) → ⊥
   by_sections (Some s) sysv fault g y fit h = no_fault (section_object Gnu file s) fault (object_sound Gnu s (g s refl) fit) h
   by_sections None (Some s) fault g y fit h = no_fault (section_object Sysv file s) fault (object_sound Sysv s (y s refl) fit) h
   by_sections None None fault g y fit h = h

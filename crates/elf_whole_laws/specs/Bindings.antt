@@ -37,15 +37,15 @@ module _ {C : Type 0} (view : C → VersionedObject) (objects : List C) where
 -- ---- the object that a file is
 
 -- the hash section in which a look-up finds symbols, with its kind: a GNU section, or if there is none a SysV section
-abbrev pub look_up_section : Option SectionHeader → Option SectionHeader → Option (HashKind × SectionHeader)
-look_up_section (Some gnu) sysv = Some (Gnu, gnu)
-look_up_section None (Some sysv) = Some (Sysv, sysv)
-look_up_section None None = None
+abbrev pub kind_and_section : Option SectionHeader → Option SectionHeader → Option (HashKind × SectionHeader)
+kind_and_section (Some gnu) sysv = Some (Gnu, gnu)
+kind_and_section None (Some sysv) = Some (Sysv, sysv)
+kind_and_section None None = None
 
 -- it is linked to symbols for dynamic linking, if there is one
 abbrev pub LooksUpDynamic : ObjectFile → Type 0
 LooksUpDynamic file =
-    IfSome (look_up_section (first_section_of sht_gnu_hash file.sections) (first_section_of sht_hash file.sections))
+    IfSome (kind_and_section (first_section_of sht_gnu_hash file.sections) (first_section_of sht_hash file.sections))
     (λ chosen. IsHashSection chosen.0 file chosen.1)
 
 -- no error, and an object of a sound file, if there is one
