@@ -307,10 +307,15 @@ pub fn dynamic_names<E: EndianParse, S: StreamSource, A: Allocator + Copy>(
     ensures memory { result ≡ Err NamesError.Memory → IfSome stream.old.content (λ bytes.
         names (stream_file E.little stream.old bytes) ≢ Ok None) }
 {
-    let Some(entries) = entries_of(alloc, stream)? else {
-        return Ok(None);
+    let entries = match entries_of(alloc, stream) {
+        Ok(Some(entries)) => entries,
+        Ok(None) => return Ok(None),
+        Err(error) => return Err(error),
     };
-    names_by(alloc, stream, entries.as_slice()).map(Some)
+    match names_by(alloc, stream, entries.as_slice()) {
+        Ok(names) => Ok(Some(names)),
+        Err(error) => Err(error),
+    }
 }
 
 // The segments of a file in memory, copied.
