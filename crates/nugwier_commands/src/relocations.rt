@@ -21,6 +21,7 @@ use nugwier_lines::json::Format;
 use nugwier_lines::problem::{Fault, Item, Part, Place, Problems, Stop};
 use nugwier_lines::relocations::{RelRow, RelaRow, Symbols, list_heading};
 use nugwier_lines::rows::{Row, list_records};
+use std::io;
 use std::io::Write;
 
 /// Lists the relocations of each section that has them.
@@ -73,10 +74,7 @@ impl<'p, 'f, 'data, E: EndianParse> Row for RelocationSections<'p, 'f, 'data, E>
         if section.sh_type != abi::SHT_REL && section.sh_type != abi::SHT_RELA {
             return Ok(());
         }
-        if self.format.is_text() {
-            let name = Escaped(name_of(&self.names, section));
-            writeln!(out, "Relocations of section {number} ({name}):")?;
-        }
+        list_title(self.format, &self.names, number, section, out)?;
         list_heading(self.format, out)?;
         let place = Place {
             part: Part::Section(number),
@@ -144,6 +142,20 @@ fn symbols_of<'data, E: EndianParse>(
         table: SymbolTable::new(file.ehdr.endianness, file.ehdr.class, symbols),
         strings: TerminatedStrings::new(&StringTable::new(strings)),
     })
+}
+
+fn list_title<W: Write>(
+    format: Format<'_>,
+    names: &Option<TerminatedStrings<'_>>,
+    number: u64,
+    section: &SectionHeader,
+    out: &mut W,
+) -> io::Result<()> {
+    if !format.is_text() {
+        return Ok(());
+    }
+    let name = Escaped(name_of(names, section));
+    writeln!(out, "Relocations of section {number} ({name}):")
 }
 
 // Lists the relocations of a section of either type.

@@ -172,10 +172,10 @@ fn list_object<W: Write>(object: &Object, depth: usize, out: &mut W) -> io::Resu
     }
 }
 
-fn write_library<W: Write>(
+fn write_library<'a, W: Write>(
     path: &str,
-    objects: &[Object],
-    object: &Object,
+    objects: &'a [Object],
+    object: &'a Object,
     depth: usize,
     out: &mut W,
 ) -> io::Result<()> {
