@@ -18,7 +18,6 @@ usage: nugwier COMMAND [OPTION..] FILE..
   check       whether a file is sound, or its first fault
   address     the symbols at addresses
   tree        the libraries that a program loads, and the files that are found for them
-  bindings    what the symbols of a program and of its libraries bind to
 
   COMMAND --help    how the command is called
   COMMAND --json    an object of JSON for each record, one a line, in place of lines for people
@@ -114,21 +113,6 @@ loaders, those of --search, those of DT_RUNPATH of the object, and the usual one
 /lib/x86_64-linux-gnu, /lib64 and /usr/lib. $ORIGIN is the folder of the object's path. LD_LIBRARY_PATH, ld.so.conf and
 the cache of the dynamic linker are not read.";
 
-const BINDINGS: &str = "\
-usage: nugwier bindings [--search FOLDER].. FILE..
-
-Prints what the symbols of a program and of the libraries that it loads bind to, as the dynamic linker binds them.
-Nothing is run. The libraries are those of tree, with the same option. Under the path of each file there is a line for
-each symbol that another file has to define, and for each that is copied into the program:
-
-  NAME@VERSION => PATH: NAME@@VERSION   the file that has the symbol, with the version there
-  NAME@VERSION => weak                  no file has it, and it may be missing
-  NAME@VERSION => missing               no file has it
-  NAME@VERSION => unknown               a version that decides it cannot be read
-
-If the calls of a function go elsewhere than to its address, the address has a second line, with (address) at its end.
-What is missing or unknown is told on standard error, too.";
-
 /// How the program, or one of its commands, is called.
 pub(crate) fn help(command: Option<Command>) -> &'static str {
     match command {
@@ -142,6 +126,5 @@ pub(crate) fn help(command: Option<Command>) -> &'static str {
         Some(Command::Check) => CHECK,
         Some(Command::Address) => ADDRESS,
         Some(Command::Tree) => TREE,
-        Some(Command::Bindings) => BINDINGS,
     }
 }

@@ -3,7 +3,6 @@
 #![tactic(auto)]
 
 mod addresses;
-mod bindings;
 mod by_parts;
 mod check;
 mod contents;

@@ -6,7 +6,6 @@ ghost use Rattle.nugwier_commands.specs.Status.{IsWrongFor, ended_status};
 ghost use Rattle.nugwier_lines.specs.declared.problem.Place.{Place};
 
 use crate::addresses::list_addresses;
-use crate::bindings::run_bindings;
 use crate::by_parts::{list_by_parts, wants_only_headers};
 use crate::check::check;
 use crate::files::Files;
@@ -143,10 +142,6 @@ fn run_file<F: Files, W: Write, V: Write>(
                     err,
                 )
             }
-            Command::Bindings => {
-                let searches = job.searches.as_slice();
-                run_bindings(alloc, searches, files, path, data, out, err)
-            }
             _ => run_bytes(alloc, job, path, data.as_slice(), out, err),
         },
         Err(error) => {
@@ -242,7 +237,7 @@ fn run_command<E: EndianParse, W: Write>(
             let addresses = job.addresses.as_slice();
             list_addresses(alloc, format, file, addresses, out, problems)
         }
-        // They read other files too, so `run_tree` and `run_bindings` list them.
-        Command::Tree | Command::Bindings => Ok(()),
+        // It reads other files too, so `run_tree` lists it.
+        Command::Tree => Ok(()),
     }
 }

@@ -18,7 +18,6 @@ pub enum Command {
     Check,
     Address,
     Tree,
-    Bindings,
 }
 
 impl Command {
@@ -34,13 +33,7 @@ impl Command {
             Command::Check => "check",
             Command::Address => "address",
             Command::Tree => "tree",
-            Command::Bindings => "bindings",
         }
-    }
-
-    // Whether libraries are searched for.
-    fn finds_libraries(self) -> bool {
-        matches!(self, Command::Tree | Command::Bindings)
     }
 }
 
@@ -219,7 +212,6 @@ fn parse_command(word: &str) -> Option<Command> {
         "check" => Some(Command::Check),
         "address" => Some(Command::Address),
         "tree" => Some(Command::Tree),
-        "bindings" => Some(Command::Bindings),
         _ => None,
     }
 }
@@ -267,7 +259,7 @@ fn parse_rest<'a>(
         match kind_of(*word, has_ended) {
             Word::File => files.push(*word)?,
             Word::Help => return Ok(Request::Help(Some(command))),
-            Word::Json => options.add_json(command, *word)?,
+            Word::Json => options.is_json = true,
             Word::End => has_ended = true,
             Word::Letters => options.add(command, *word)?,
         }
@@ -373,7 +365,7 @@ impl<'a> Options<'a> {
 
     // Adds the options of a word: of `list` a letter each.
     fn add(&mut self, command: Command, word: &'a str) -> Result<(), WordError<'a>> {
-        if command.finds_libraries() && word == "--search" {
+        if command == Command::Tree && word == "--search" {
             self.waiting = Some((Waiting::Folder, word));
             return Ok(());
         }
@@ -385,14 +377,6 @@ impl<'a> Options<'a> {
                 return Err(WordError::Option(command, word));
             }
         }
-        Ok(())
-    }
-
-    fn add_json(&mut self, command: Command, word: &'a str) -> Result<(), WordError<'a>> {
-        if command == Command::Bindings {
-            return Err(WordError::Option(command, word));
-        }
-        self.is_json = true;
         Ok(())
     }
 
