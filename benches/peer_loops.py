@@ -1,6 +1,6 @@
 """The loops that benches/peers makes with our libraries and with the crates elf and object, and their goals.
 
-The Rust program reads with our library too, through bindings/rust and the library for C: its level is c."""
+The Rust program reads with our library too, through bindings/rust and the library for C: its levels are c and bulk."""
 import json
 import os
 import re
@@ -11,17 +11,24 @@ import made
 import measure
 
 # The levels of the Rust program, and how the table calls them.
-LEVELS = {"elf": "elf", "high": "object, high level", "low": "object, low level", "c": "ours through C"}
-CRATE_OF_LEVEL = {"elf": "elf", "high": "object", "low": "object", "c": "nugwier"}
-# The goals through C, by our word: the greatest ratio to a level. All records are fetched in chunks.
+LEVELS = {
+    "elf": "elf",
+    "high": "object, high level",
+    "low": "object, low level",
+    "c": "ours through C",
+    "bulk": "ours through C, names in bulk",
+}
+CRATE_OF_LEVEL = {"elf": "elf", "high": "object", "low": "object", "c": "nugwier", "bulk": "nugwier"}
+# The goals through C, by our word: the level of ours, and the greatest ratio to another level. All records are fetched
+# in chunks; at the level bulk a call fetches their names too.
 GOALS_OF_C = {
-    "opening": (0.3, "high"),
-    "names": (0.75, "better"),
-    "relocations": (0.5, "high"),
-    "section": (0.6, "high"),
-    "no_section": (0.6, "high"),
-    "gnu": (0.9, "better"),
-    "no_gnu": (0.9, "better"),
+    "opening": [("c", 0.3, "high")],
+    "names": [("c", 1.0, "better"), ("bulk", 0.75, "better")],
+    "relocations": [("c", 0.5, "high")],
+    "section": [("c", 0.6, "high")],
+    "no_section": [("c", 0.6, "high")],
+    "gnu": [("c", 0.9, "better")],
+    "no_gnu": [("c", 0.9, "better")],
 }
 BINDING = os.path.join(measure.TOP, "bindings", "rust")
 ARCHIVES = os.path.join(measure.TOP, "bindings", "c")
@@ -44,7 +51,7 @@ class Loop:
 LOOPS = (
     Loop("opening", "opening", "elf high low", "files", 0.5, "high"),
     Loop("symbols", "symbols", "elf high low", "symbols", 1.2, "high"),
-    Loop("symbols with names, as bytes", "names", "elf high low", "symbols", 0.9, "better"),
+    Loop("symbols with names, as bytes", "names", "elf high low bulk", "symbols", 0.9, "better"),
     Loop("symbols with names, as text", "texts", "elf high", "symbols", 0.9, "better"),
     Loop("relocations with addends", "relocations", "elf high low", "relocations", 1.2, "high"),
     Loop("notes", "notes", "elf low", "notes", 0.5, "elf"),
@@ -185,10 +192,15 @@ def row(loop, file, costs):
     better, of = reference(costs, "better"), reference(costs, loop.of)
     cells.append(f"{costs['ours'] / costs[better]:.2f} of {better}" if better else "")
     cells.append(goal(costs["ours"] / costs[of], of, loop.at_most) if of else "")
-    at_most, of = GOALS_OF_C.get(loop.word, (None, None))
-    of = reference(costs, of) if of and "c" in costs else None
-    cells.append(goal(costs["c"] / costs[of], of, at_most) if of else "")
+    cells.append("; ".join(goals_of_c(loop, costs)))
     return cells
+
+
+def goals_of_c(loop, costs):
+    for level, at_most, of in GOALS_OF_C.get(loop.word, []):
+        of = reference(costs, of)
+        if of and level in costs:
+            yield goal(costs[level] / costs[of], of, at_most)
 
 
 def goal(ratio, of, at_most):

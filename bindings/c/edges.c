@@ -121,6 +121,17 @@ static void read_all(const uint8_t *bytes, size_t length)
             if (!nugwier_string(table.strings, table.strings_len, one.name, &name).code)
                 touch(name.bytes, name.bytes_len);
         }
+        struct nugwier_named_symbol named[16];
+        size_t many = nugwier_named_symbols(&table.symbols, table.strings, table.strings_len, 0, named, 16);
+        expect(many <= got, "there are more symbols with names than symbols");
+        for (size_t i = 0; i < got; i++) {
+            struct nugwier_bytes name = {0};
+            bool has_name = !nugwier_string(table.strings, table.strings_len, symbols[i].name, &name).code;
+            if (i == many) expect(!has_name, "a symbol with a name is not among those with names");
+            if (i >= many) break;
+            expect(memcmp(&named[i].symbol, &symbols[i], sizeof symbols[i]) == 0, "a named symbol is another one");
+            expect(named[i].name == name.bytes && named[i].name_len == name.bytes_len, "a symbol has another name");
+        }
     }
     if (!nugwier_dynamic_table(&file, &dynamics).code && dynamics.found) {
         struct nugwier_dynamic entries[8];
@@ -129,7 +140,7 @@ static void read_all(const uint8_t *bytes, size_t length)
     nugwier_section_names(&file, &names);
     nugwier_section_by_name(&file, (const uint8_t *)".dynstr", 7, &found, &section);
     nugwier_section_by_name(&file, (const uint8_t *)"\xff\xfe", 2, &found, &section);
-    expect(!found, "a name that is not UTF-8 was found");
+    expect(!found, "a section of a name that no section has");
     for (size_t i = 0; i < 64 && !nugwier_section(&file, i, &section).code; i++) read_section(&file, &section, &table);
     for (size_t i = 0; i < 32 && !nugwier_segment(&file, i, &segment).code; i++) {
         struct nugwier_bytes part = {0};
@@ -163,6 +174,15 @@ static void nothing(void)
     expect(nugwier_symbol(&table, SIZE_MAX, &symbol).code == NUGWIER_BAD_OFFSET, "symbol SIZE_MAX of an empty table");
     expect(nugwier_symbols(&table, 0, NULL, 0) == 0, "no symbols into no places");
     expect(nugwier_symbol_count(&table) == 0, "an empty table has symbols");
+    struct nugwier_named_symbol named;
+    expect(nugwier_named_symbols(&table, NULL, 0, 0, &named, 1) == 0, "a named symbol of an empty table");
+    expect(nugwier_named_symbols(&table, NULL, 0, SIZE_MAX, NULL, 0) == 0, "no named symbols into no places");
+    struct nugwier_symbol places[2] = {{0}, {0}};
+    struct nugwier_table two = {true, true, (const uint8_t *)"0123456789abcdef01234567", 24};
+    expect(nugwier_symbols(&two, 0, places, 2) == 1, "one of two symbols");
+    expect(nugwier_symbols(&two, 1, places, 2) == 0, "a symbol after the last one");
+    expect(nugwier_symbols(&two, SIZE_MAX, places, 2) == 0, "symbol SIZE_MAX of a table");
+    expect(nugwier_symbols(&two, SIZE_MAX / 24 + 1, places, 2) == 0, "a symbol whose offset does not fit");
     expect(nugwier_string(NULL, 0, 0, &string).code == NUGWIER_BAD_OFFSET, "a string of no bytes");
     expect(nugwier_string((const uint8_t *)"", 1, 0, &string).code == 0 && string.bytes_len == 0, "the empty string");
     expect(nugwier_note(&notes, &offset, &note).code != 0 && offset == 0, "a note of no bytes");

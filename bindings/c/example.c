@@ -32,21 +32,23 @@ static int fail(const char *what, struct nugwier_status status)
 
 static int list_symbols(const struct nugwier_symbol_table *table)
 {
-    static struct nugwier_symbol places[1024];
+    static struct nugwier_named_symbol places[256];
     size_t first = 0, got;
-    while ((got = nugwier_symbols(&table->symbols, first, places, 1024)) > 0) {
+    while ((got = nugwier_named_symbols(&table->symbols, table->strings, table->strings_len, first, places, 256)) > 0) {
         for (size_t i = 0; i < got; i++) {
-            const struct nugwier_symbol *one = &places[i];
-            struct nugwier_bytes name = {0};
-            struct nugwier_status status = nugwier_string(table->strings, table->strings_len, one->name, &name);
-            if (status.code) return fail("name of a symbol", status);
+            const struct nugwier_symbol *one = &places[i].symbol;
             printf("%zu %016" PRIx64 " %" PRIu64 " %d %d %d %d %.*s\n", first + i, one->value, one->size,
-                   one->info & 15, one->info >> 4, one->other & 3, one->shndx, (int)name.bytes_len,
-                   (const char *)name.bytes);
+                   one->info & 15, one->info >> 4, one->other & 3, one->shndx, (int)places[i].name_len,
+                   (const char *)places[i].name);
         }
         first += got;
     }
-    return 0;
+    if (first == nugwier_symbol_count(&table->symbols)) return 0;
+    struct nugwier_symbol symbol = {0};
+    struct nugwier_bytes name = {0};
+    struct nugwier_status status = nugwier_symbol(&table->symbols, first, &symbol);
+    if (!status.code) status = nugwier_string(table->strings, table->strings_len, symbol.name, &name);
+    return fail("symbol or its name", status);
 }
 
 static int list_sections(const struct nugwier_file *file)

@@ -82,6 +82,13 @@ struct nugwier_symbol {
     uint64_t size;
 };
 
+/* A symbol with its name. */
+struct nugwier_named_symbol {
+    struct nugwier_symbol symbol;
+    const uint8_t *name;
+    size_t name_len;
+};
+
 struct nugwier_section {
     uint32_t name;
     uint32_t kind;
@@ -143,6 +150,11 @@ size_t nugwier_rels(const struct nugwier_table *table, size_t first, struct nugw
 size_t nugwier_relas(const struct nugwier_table *table, size_t first, struct nugwier_rela *relas, size_t relas_len);
 size_t nugwier_dynamics(const struct nugwier_table *table, size_t first, struct nugwier_dynamic *dynamics,
                         size_t dynamics_len);
+
+/* The symbols of a table with their names, the first of them number `first`: returns how many were written, up to the
+ * first that cannot be read or whose name cannot be found in `strings`, and no more than there are places. */
+size_t nugwier_named_symbols(const struct nugwier_table *table, const uint8_t *strings, size_t strings_len,
+                             size_t first, struct nugwier_named_symbol *symbols, size_t symbols_len);
 
 /* How many records fit into a table. */
 size_t nugwier_symbol_count(const struct nugwier_table *table);
@@ -260,7 +272,7 @@ struct nugwier_status nugwier_symbol_table(const struct nugwier_file *file, bool
 struct nugwier_status nugwier_dynamic_table(const struct nugwier_file *file, struct nugwier_dynamic_table *dynamics);
 struct nugwier_status nugwier_section_names(const struct nugwier_file *file, struct nugwier_section_names *names);
 
-/* The first section with a name. If there is none, `found` is false and `section` stays as it is. */
+/* The first section whose name has these bytes. If there is none, `found` is false and `section` stays as it is. */
 struct nugwier_status nugwier_section_by_name(const struct nugwier_file *file, const uint8_t *name, size_t name_len,
                                               bool *found, struct nugwier_section *section);
 

@@ -4,7 +4,7 @@ _nugwier() {
     COMPREPLY=()
     if [ "$COMP_CWORD" -eq 1 ]; then
         mapfile -t COMPREPLY < <(compgen -W \
-            "list symbols needed exports build-id plan check address --help --version" -- "$word")
+            "list symbols needed exports build-id plan check address tree --help --version" -- "$word")
         return
     fi
     if [ "${COMP_WORDS[1]}" = list ]; then
@@ -13,12 +13,18 @@ _nugwier() {
         esac
         case $word in
             -*)
-                mapfile -t COMPREPLY < <(compgen -W "-h -S -l -s -D -d -r -n -V -a -x -p --help" -- "$word")
+                mapfile -t COMPREPLY < <(compgen -W "-h -S -l -s -D -d -r -n -V -a -x -p --json --help" -- "$word")
                 return
                 ;;
         esac
+    elif [ "${COMP_WORDS[1]}" = tree ] && [ "$before" = --search ]; then
+        mapfile -t COMPREPLY < <(compgen -d -- "$word")
+        return
+    elif [ "${COMP_WORDS[1]}" = tree ] && [ "${word#-}" != "$word" ]; then
+        mapfile -t COMPREPLY < <(compgen -W "--search --help" -- "$word")
+        return
     elif [ "${word#-}" != "$word" ]; then
-        mapfile -t COMPREPLY < <(compgen -W "--help" -- "$word")
+        mapfile -t COMPREPLY < <(compgen -W "--json --help" -- "$word")
         return
     fi
     mapfile -t COMPREPLY < <(compgen -f -- "$word")

@@ -1,5 +1,5 @@
 # Completion of nugwier for fish: commands, options and files.
-set -l commands list symbols needed exports build-id plan check address
+set -l commands list symbols needed exports build-id plan check address tree
 complete -c nugwier -n "not __fish_seen_subcommand_from $commands" -f
 complete -c nugwier -n "not __fish_seen_subcommand_from $commands" -a list -d "headers, tables and contents"
 complete -c nugwier -n "not __fish_seen_subcommand_from $commands" -a symbols -d "symbols for dynamic linking"
@@ -9,8 +9,10 @@ complete -c nugwier -n "not __fish_seen_subcommand_from $commands" -a build-id -
 complete -c nugwier -n "not __fish_seen_subcommand_from $commands" -a plan -d "what a loader maps"
 complete -c nugwier -n "not __fish_seen_subcommand_from $commands" -a check -d "whether a file is sound"
 complete -c nugwier -n "not __fish_seen_subcommand_from $commands" -a address -d "symbols at addresses"
+complete -c nugwier -n "not __fish_seen_subcommand_from $commands" -a tree -d "libraries that a program loads"
 complete -c nugwier -n "not __fish_seen_subcommand_from $commands" -l version -d "the version"
 complete -c nugwier -l help -d "how it is called"
+complete -c nugwier -n "__fish_seen_subcommand_from $commands" -l json -d "objects of JSON"
 complete -c nugwier -n "__fish_seen_subcommand_from $commands" -F
 complete -c nugwier -n "__fish_seen_subcommand_from list" -s h -d "file header"
 complete -c nugwier -n "__fish_seen_subcommand_from list" -s S -d sections
@@ -24,3 +26,4 @@ complete -c nugwier -n "__fish_seen_subcommand_from list" -s V -d versions
 complete -c nugwier -n "__fish_seen_subcommand_from list" -s a -d all
 complete -c nugwier -n "__fish_seen_subcommand_from list" -s x -x -d "bytes of a section"
 complete -c nugwier -n "__fish_seen_subcommand_from list" -s p -x -d "strings of a section"
+complete -c nugwier -n "__fish_seen_subcommand_from tree" -l search -x -a "(__fish_complete_directories)" -d "folder of libraries"

@@ -9,6 +9,8 @@ use std::hint::black_box;
 use std::time::Instant;
 use std::{env, fs};
 
+#[cfg(feature = "nugwier")]
+mod in_bulk;
 #[cfg(feature = "elf")]
 mod with_elf;
 // `benches/table peers` makes this file of `with_elf.rs`: our crate has the names of the crate `elf`.
@@ -59,6 +61,8 @@ fn opened<'input>(level: &str, input: &'input Input<'input>) -> Fallible<Box<dyn
         "elf" => Ok(Box::new(with_elf::Elf::open(input)?)),
         #[cfg(feature = "nugwier")]
         "c" => Ok(Box::new(with_nugwier::Elf::open(input)?)),
+        #[cfg(feature = "nugwier")]
+        "bulk" => Ok(Box::new(in_bulk::InBulk::open(input)?)),
         #[cfg(feature = "object")]
         "high" => Ok(Box::new(with_object::high::High::open(input)?)),
         #[cfg(feature = "object")]

@@ -1,7 +1,7 @@
 //! Dynamic entries.
 use crate::ffi;
 use crate::file::Class;
-use crate::parse::{checked, sealed, ParseAt, ParseError, ParsingTable};
+use crate::parse::{sealed, ParseAt, ParsingTable};
 
 /// A table of dynamic entries.
 pub type DynamicTable<'data, E> = ParsingTable<'data, E, Dyn>;
@@ -26,13 +26,22 @@ impl Dyn {
 }
 
 impl sealed::Record for Dyn {
-    fn read(table: &ffi::Table<'_>, index: usize) -> Result<Self, ParseError> {
-        let mut found = ffi::Dynamic::default();
-        checked(ffi::dynamic(table, index, &mut found))?;
-        Ok(Dyn {
-            d_tag: found.tag,
-            d_un: found.value,
-        })
+    type Raw = ffi::Dynamic;
+
+    #[inline]
+    fn of(raw: &ffi::Dynamic) -> Self {
+        Dyn {
+            d_tag: raw.tag,
+            d_un: raw.value,
+        }
+    }
+
+    fn get(table: &ffi::Table<'_>, index: usize, place: &mut ffi::Dynamic) -> ffi::Status {
+        ffi::dynamic(table, index, place)
+    }
+
+    fn fill(table: &ffi::Table<'_>, first: usize, places: &mut [ffi::Dynamic]) -> usize {
+        ffi::dynamics(table, first, places)
     }
 }
 

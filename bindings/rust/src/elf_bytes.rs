@@ -8,6 +8,7 @@ use crate::file::FileHeader;
 use crate::gnu_symver::SymbolVersionTable;
 use crate::hash::{GnuHashTable, SysVHashTable};
 use crate::note::NoteIterator;
+use crate::parse::sealed::Record;
 use crate::parse::{checked, ParseAt, ParseError, ParsingTable};
 use crate::relocation::{RelIterator, RelaIterator};
 use crate::section::{SectionHeader, SectionHeaderTable};

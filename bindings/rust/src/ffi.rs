@@ -139,6 +139,13 @@ pub struct Symbol {
 
 #[repr(C)]
 #[derive(Clone, Copy, Debug, Default)]
+pub struct NamedSymbol<'a> {
+    pub symbol: Symbol,
+    pub name: Bytes<'a>,
+}
+
+#[repr(C)]
+#[derive(Clone, Copy, Debug, Default)]
 pub struct Rel {
     pub offset: u64,
     pub symbol: u32,
@@ -366,6 +373,40 @@ extern "C" {
     fn nugwier_rel(table: &Table<'_>, index: usize, rel: &mut Rel) -> Status;
     fn nugwier_rela(table: &Table<'_>, index: usize, rela: &mut Rela) -> Status;
     fn nugwier_dynamic(table: &Table<'_>, index: usize, dynamic: &mut Dynamic) -> Status;
+    fn nugwier_symbols(
+        table: &Table<'_>,
+        first: usize,
+        symbols: *mut Symbol,
+        symbols_len: usize,
+    ) -> usize;
+    fn nugwier_named_symbols(
+        table: &Table<'_>,
+        strings: *const u8,
+        strings_len: usize,
+        first: usize,
+        symbols: *mut NamedSymbol<'_>,
+        symbols_len: usize,
+    ) -> usize;
+    fn nugwier_sections(
+        table: &Table<'_>,
+        first: usize,
+        sections: *mut Section,
+        sections_len: usize,
+    ) -> usize;
+    fn nugwier_segments(
+        table: &Table<'_>,
+        first: usize,
+        segments: *mut Segment,
+        segments_len: usize,
+    ) -> usize;
+    fn nugwier_rels(table: &Table<'_>, first: usize, rels: *mut Rel, rels_len: usize) -> usize;
+    fn nugwier_relas(table: &Table<'_>, first: usize, relas: *mut Rela, relas_len: usize) -> usize;
+    fn nugwier_dynamics(
+        table: &Table<'_>,
+        first: usize,
+        dynamics: *mut Dynamic,
+        dynamics_len: usize,
+    ) -> usize;
     fn nugwier_symbol_count(table: &Table<'_>) -> usize;
     fn nugwier_section_count(table: &Table<'_>) -> usize;
     fn nugwier_segment_count(table: &Table<'_>) -> usize;
@@ -613,6 +654,47 @@ pub fn rela(table: &Table<'_>, index: usize, rela: &mut Rela) -> Status {
 pub fn dynamic(table: &Table<'_>, index: usize, dynamic: &mut Dynamic) -> Status {
     // SAFETY: the export accepts all values of these types, and writes values of these types.
     unsafe { nugwier_dynamic(table, index, dynamic) }
+}
+
+pub fn symbols(table: &Table<'_>, first: usize, places: &mut [Symbol]) -> usize {
+    // SAFETY: the export accepts all values of these types, and writes values of these types into the places.
+    unsafe { nugwier_symbols(table, first, places.as_mut_ptr(), places.len()) }
+}
+
+pub fn named_symbols<'a>(
+    table: &Table<'_>,
+    strings: Bytes<'a>,
+    first: usize,
+    places: &mut [NamedSymbol<'a>],
+) -> usize {
+    let (at, len) = (places.as_mut_ptr(), places.len());
+    // SAFETY: the export accepts all values of these types, and writes values of these types into the places.
+    unsafe { nugwier_named_symbols(table, strings.at, strings.len, first, at, len) }
+}
+
+pub fn sections(table: &Table<'_>, first: usize, places: &mut [Section]) -> usize {
+    // SAFETY: the export accepts all values of these types, and writes values of these types into the places.
+    unsafe { nugwier_sections(table, first, places.as_mut_ptr(), places.len()) }
+}
+
+pub fn segments(table: &Table<'_>, first: usize, places: &mut [Segment]) -> usize {
+    // SAFETY: the export accepts all values of these types, and writes values of these types into the places.
+    unsafe { nugwier_segments(table, first, places.as_mut_ptr(), places.len()) }
+}
+
+pub fn rels(table: &Table<'_>, first: usize, places: &mut [Rel]) -> usize {
+    // SAFETY: the export accepts all values of these types, and writes values of these types into the places.
+    unsafe { nugwier_rels(table, first, places.as_mut_ptr(), places.len()) }
+}
+
+pub fn relas(table: &Table<'_>, first: usize, places: &mut [Rela]) -> usize {
+    // SAFETY: the export accepts all values of these types, and writes values of these types into the places.
+    unsafe { nugwier_relas(table, first, places.as_mut_ptr(), places.len()) }
+}
+
+pub fn dynamics(table: &Table<'_>, first: usize, places: &mut [Dynamic]) -> usize {
+    // SAFETY: the export accepts all values of these types, and writes values of these types into the places.
+    unsafe { nugwier_dynamics(table, first, places.as_mut_ptr(), places.len()) }
 }
 
 pub fn symbol_count(table: &Table<'_>) -> usize {

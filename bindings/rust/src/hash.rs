@@ -2,6 +2,7 @@
 use crate::endian::EndianParse;
 use crate::ffi;
 use crate::file::Class;
+use crate::parse::sealed::Record;
 use crate::parse::{checked, ParseError};
 use crate::string_table::StringTable;
 use crate::symbol::{Symbol, SymbolTable};

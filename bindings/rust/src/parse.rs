@@ -155,12 +155,21 @@ pub trait ParseAt: Sized + sealed::Record {
 }
 
 pub(crate) mod sealed {
-    use super::ParseError;
     use crate::ffi;
+    use std::fmt::Debug;
 
     pub trait Record: Sized {
-        /// The record of an index of a table.
-        fn read(table: &ffi::Table<'_>, index: usize) -> Result<Self, ParseError>;
+        /// The struct of C.
+        type Raw: Copy + Debug + Default;
+
+        /// The record that the struct of C shows.
+        fn of(raw: &Self::Raw) -> Self;
+
+        /// Reads the record of an index of a table.
+        fn get(table: &ffi::Table<'_>, index: usize, place: &mut Self::Raw) -> ffi::Status;
+
+        /// Fills places with the records of a table, the first of them number `first`, and returns how many these are.
+        fn fill(table: &ffi::Table<'_>, first: usize, places: &mut [Self::Raw]) -> usize;
     }
 }
 
@@ -210,8 +219,12 @@ impl<'data, E: EndianParse, P: ParseAt> ParsingTable<'data, E, P> {
     /// The records in order, up to the first that cannot be read.
     pub fn iter(&self) -> ParsingIterator<'data, E, P> {
         ParsingIterator {
-            table: *self,
-            index: 0,
+            table: self.table,
+            next: 0,
+            chunk: [P::Raw::default(); CHUNK],
+            taken: 0,
+            fetched: 0,
+            kind: PhantomData,
         }
     }
 
@@ -226,7 +239,9 @@ impl<'data, E: EndianParse, P: ParseAt> ParsingTable<'data, E, P> {
 
     /// The record of an index, counted from 0.
     pub fn get(&self, index: usize) -> Result<P, ParseError> {
-        P::read(&self.table, index)
+        let mut found = P::Raw::default();
+        checked(P::get(&self.table, index, &mut found))?;
+        Ok(P::of(&found))
     }
 }
 
@@ -239,11 +254,28 @@ impl<'data, E: EndianParse, P: ParseAt> IntoIterator for ParsingTable<'data, E, 
     }
 }
 
-/// The records of a table in order, up to the first that cannot be read.
-#[derive(Debug)]
+/// How many records an iterator fetches at once.
+const CHUNK: usize = 32;
+
+/// The records of a table in order, up to the first that cannot be read. They are fetched some at a time.
 pub struct ParsingIterator<'data, E: EndianParse, P: ParseAt> {
-    table: ParsingTable<'data, E, P>,
-    index: usize,
+    table: ffi::Table<'data>,
+    /// The number of the first record that is not fetched yet.
+    next: usize,
+    chunk: [P::Raw; CHUNK],
+    /// How many records of the chunk were taken, and how many were fetched.
+    taken: usize,
+    fetched: usize,
+    kind: PhantomData<(E, P)>,
+}
+
+impl<E: EndianParse, P: ParseAt> fmt::Debug for ParsingIterator<'_, E, P> {
+    fn fmt(&self, f: &mut fmt::Formatter<'_>) -> fmt::Result {
+        f.debug_struct("ParsingIterator")
+            .field("table", &self.table)
+            .field("index", &(self.next - (self.fetched - self.taken)))
+            .finish()
+    }
 }
 
 impl<'data, E: EndianParse, P: ParseAt> ParsingIterator<'data, E, P> {
@@ -259,9 +291,18 @@ impl<'data, E: EndianParse, P: ParseAt> ParsingIterator<'data, E, P> {
 impl<E: EndianParse, P: ParseAt> Iterator for ParsingIterator<'_, E, P> {
     type Item = P;
 
+    #[inline]
     fn next(&mut self) -> Option<P> {
-        let record = self.table.get(self.index).ok()?;
-        self.index += 1;
-        Some(record)
+        if self.taken == self.fetched {
+            self.taken = 0;
+            self.fetched = P::fill(&self.table, self.next, &mut self.chunk);
+            self.next += self.fetched;
+            if self.fetched == 0 {
+                return None;
+            }
+        }
+        let raw = self.chunk.get(self.taken)?;
+        self.taken += 1;
+        Some(P::of(raw))
     }
 }

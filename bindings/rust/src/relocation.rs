@@ -1,7 +1,7 @@
 //! Relocations.
 use crate::ffi;
 use crate::file::Class;
-use crate::parse::{checked, sealed, ParseAt, ParseError, ParsingIterator};
+use crate::parse::{sealed, ParseAt, ParsingIterator};
 
 /// An iterator over relocations.
 pub type RelIterator<'data, E> = ParsingIterator<'data, E, Rel>;
@@ -27,14 +27,23 @@ pub struct Rela {
 }
 
 impl sealed::Record for Rel {
-    fn read(table: &ffi::Table<'_>, index: usize) -> Result<Self, ParseError> {
-        let mut found = ffi::Rel::default();
-        checked(ffi::rel(table, index, &mut found))?;
-        Ok(Rel {
-            r_offset: found.offset,
-            r_sym: found.symbol,
-            r_type: found.kind,
-        })
+    type Raw = ffi::Rel;
+
+    #[inline]
+    fn of(raw: &ffi::Rel) -> Self {
+        Rel {
+            r_offset: raw.offset,
+            r_sym: raw.symbol,
+            r_type: raw.kind,
+        }
+    }
+
+    fn get(table: &ffi::Table<'_>, index: usize, place: &mut ffi::Rel) -> ffi::Status {
+        ffi::rel(table, index, place)
+    }
+
+    fn fill(table: &ffi::Table<'_>, first: usize, places: &mut [ffi::Rel]) -> usize {
+        ffi::rels(table, first, places)
     }
 }
 
@@ -48,15 +57,24 @@ impl ParseAt for Rel {
 }
 
 impl sealed::Record for Rela {
-    fn read(table: &ffi::Table<'_>, index: usize) -> Result<Self, ParseError> {
-        let mut found = ffi::Rela::default();
-        checked(ffi::rela(table, index, &mut found))?;
-        Ok(Rela {
-            r_offset: found.offset,
-            r_sym: found.symbol,
-            r_type: found.kind,
-            r_addend: found.addend,
-        })
+    type Raw = ffi::Rela;
+
+    #[inline]
+    fn of(raw: &ffi::Rela) -> Self {
+        Rela {
+            r_offset: raw.offset,
+            r_sym: raw.symbol,
+            r_type: raw.kind,
+            r_addend: raw.addend,
+        }
+    }
+
+    fn get(table: &ffi::Table<'_>, index: usize, place: &mut ffi::Rela) -> ffi::Status {
+        ffi::rela(table, index, place)
+    }
+
+    fn fill(table: &ffi::Table<'_>, first: usize, places: &mut [ffi::Rela]) -> usize {
+        ffi::relas(table, first, places)
     }
 }
 

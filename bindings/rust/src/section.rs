@@ -1,7 +1,7 @@
 //! Section headers.
 use crate::ffi;
 use crate::file::Class;
-use crate::parse::{checked, sealed, ParseAt, ParseError, ParsingTable};
+use crate::parse::{sealed, ParseAt, ParsingTable};
 
 /// A table of section headers.
 pub type SectionHeaderTable<'data, E> = ParsingTable<'data, E, SectionHeader>;
@@ -22,21 +22,6 @@ pub struct SectionHeader {
 }
 
 impl SectionHeader {
-    pub(crate) fn of(raw: &ffi::Section) -> Self {
-        SectionHeader {
-            sh_name: raw.name,
-            sh_type: raw.kind,
-            sh_flags: raw.flags,
-            sh_addr: raw.addr,
-            sh_offset: raw.offset,
-            sh_size: raw.size,
-            sh_link: raw.link,
-            sh_info: raw.info,
-            sh_addralign: raw.addralign,
-            sh_entsize: raw.entsize,
-        }
-    }
-
     pub(crate) fn raw(&self) -> ffi::Section {
         ffi::Section {
             name: self.sh_name,
@@ -54,16 +39,36 @@ impl SectionHeader {
 }
 
 impl sealed::Record for SectionHeader {
-    fn read(table: &ffi::Table<'_>, index: usize) -> Result<Self, ParseError> {
+    type Raw = ffi::Section;
+
+    #[inline]
+    fn of(raw: &ffi::Section) -> Self {
+        SectionHeader {
+            sh_name: raw.name,
+            sh_type: raw.kind,
+            sh_flags: raw.flags,
+            sh_addr: raw.addr,
+            sh_offset: raw.offset,
+            sh_size: raw.size,
+            sh_link: raw.link,
+            sh_info: raw.info,
+            sh_addralign: raw.addralign,
+            sh_entsize: raw.entsize,
+        }
+    }
+
+    fn get(table: &ffi::Table<'_>, index: usize, place: &mut ffi::Section) -> ffi::Status {
         // the read of a header is one of a file: of one that has only this table
         let file = ffi::File {
             has_sections: true,
             sections: *table,
             ..Default::default()
         };
-        let mut found = ffi::Section::default();
-        checked(ffi::section(&file, index, &mut found))?;
-        Ok(SectionHeader::of(&found))
+        ffi::section(&file, index, place)
+    }
+
+    fn fill(table: &ffi::Table<'_>, first: usize, places: &mut [ffi::Section]) -> usize {
+        ffi::sections(table, first, places)
     }
 }
 

@@ -1,7 +1,7 @@
 //! Program headers.
 use crate::ffi;
 use crate::file::Class;
-use crate::parse::{checked, sealed, ParseAt, ParseError, ParsingTable};
+use crate::parse::{sealed, ParseAt, ParsingTable};
 
 /// A table of program headers.
 pub type SegmentTable<'data, E> = ParsingTable<'data, E, ProgramHeader>;
@@ -20,19 +20,6 @@ pub struct ProgramHeader {
 }
 
 impl ProgramHeader {
-    pub(crate) fn of(raw: &ffi::Segment) -> Self {
-        ProgramHeader {
-            p_type: raw.kind,
-            p_offset: raw.offset,
-            p_vaddr: raw.vaddr,
-            p_paddr: raw.paddr,
-            p_filesz: raw.filesz,
-            p_memsz: raw.memsz,
-            p_flags: raw.flags,
-            p_align: raw.align,
-        }
-    }
-
     pub(crate) fn raw(&self) -> ffi::Segment {
         ffi::Segment {
             kind: self.p_type,
@@ -48,16 +35,34 @@ impl ProgramHeader {
 }
 
 impl sealed::Record for ProgramHeader {
-    fn read(table: &ffi::Table<'_>, index: usize) -> Result<Self, ParseError> {
+    type Raw = ffi::Segment;
+
+    #[inline]
+    fn of(raw: &ffi::Segment) -> Self {
+        ProgramHeader {
+            p_type: raw.kind,
+            p_offset: raw.offset,
+            p_vaddr: raw.vaddr,
+            p_paddr: raw.paddr,
+            p_filesz: raw.filesz,
+            p_memsz: raw.memsz,
+            p_flags: raw.flags,
+            p_align: raw.align,
+        }
+    }
+
+    fn get(table: &ffi::Table<'_>, index: usize, place: &mut ffi::Segment) -> ffi::Status {
         // the read of a header is one of a file: of one that has only this table
         let file = ffi::File {
             has_segments: true,
             segments: *table,
             ..Default::default()
         };
-        let mut found = ffi::Segment::default();
-        checked(ffi::segment(&file, index, &mut found))?;
-        Ok(ProgramHeader::of(&found))
+        ffi::segment(&file, index, place)
+    }
+
+    fn fill(table: &ffi::Table<'_>, first: usize, places: &mut [ffi::Segment]) -> usize {
+        ffi::segments(table, first, places)
     }
 }
 

@@ -1,7 +1,10 @@
 //! Symbols.
+use crate::endian::EndianParse;
 use crate::ffi;
 use crate::file::Class;
-use crate::parse::{checked, sealed, ParseAt, ParseError, ParsingTable};
+use crate::parse::sealed::Record;
+use crate::parse::{sealed, ParseAt, ParsingTable};
+use crate::string_table::StringTable;
 
 /// A table of symbols.
 pub type SymbolTable<'data, E> = ParsingTable<'data, E, Symbol>;
@@ -18,17 +21,6 @@ pub struct Symbol {
 }
 
 impl Symbol {
-    pub(crate) fn of(raw: &ffi::Symbol) -> Self {
-        Symbol {
-            st_name: raw.name,
-            st_shndx: raw.shndx,
-            st_info: raw.info,
-            st_other: raw.other,
-            st_value: raw.value,
-            st_size: raw.size,
-        }
-    }
-
     /// Whether the symbol is defined elsewhere.
     pub fn is_undefined(&self) -> bool {
         self.st_shndx == crate::abi::SHN_UNDEF
@@ -51,10 +43,26 @@ impl Symbol {
 }
 
 impl sealed::Record for Symbol {
-    fn read(table: &ffi::Table<'_>, index: usize) -> Result<Self, ParseError> {
-        let mut found = ffi::Symbol::default();
-        checked(ffi::symbol(table, index, &mut found))?;
-        Ok(Symbol::of(&found))
+    type Raw = ffi::Symbol;
+
+    #[inline]
+    fn of(raw: &ffi::Symbol) -> Self {
+        Symbol {
+            st_name: raw.name,
+            st_shndx: raw.shndx,
+            st_info: raw.info,
+            st_other: raw.other,
+            st_value: raw.value,
+            st_size: raw.size,
+        }
+    }
+
+    fn get(table: &ffi::Table<'_>, index: usize, place: &mut ffi::Symbol) -> ffi::Status {
+        ffi::symbol(table, index, place)
+    }
+
+    fn fill(table: &ffi::Table<'_>, first: usize, places: &mut [ffi::Symbol]) -> usize {
+        ffi::symbols(table, first, places)
     }
 }
 
@@ -64,5 +72,56 @@ impl ParseAt for Symbol {
             Class::ELF32 => 16,
             Class::ELF64 => 24,
         }
+    }
+}
+
+impl<'data, E: EndianParse> ParsingTable<'data, E, Symbol> {
+    /// The symbols with the bytes of their names, up to the first that cannot be read or has no name. The crate `elf`
+    /// has no such method: its callers read each name by `StringTable::get_raw`.
+    pub fn named(&self, strings: &StringTable<'data>) -> NamedSymbols<'data> {
+        NamedSymbols {
+            table: *self.raw(),
+            strings: strings.bytes(),
+            next: 0,
+            chunk: [ffi::NamedSymbol::default(); CHUNK],
+            taken: 0,
+            fetched: 0,
+        }
+    }
+}
+
+/// How many symbols are fetched at once.
+const CHUNK: usize = 32;
+
+/// Symbols with the bytes of their names. They are fetched some at a time.
+#[derive(Debug)]
+pub struct NamedSymbols<'data> {
+    table: ffi::Table<'data>,
+    strings: ffi::Bytes<'data>,
+    /// The number of the first symbol that is not fetched yet.
+    next: usize,
+    chunk: [ffi::NamedSymbol<'data>; CHUNK],
+    /// How many symbols of the chunk were taken, and how many were fetched.
+    taken: usize,
+    fetched: usize,
+}
+
+impl<'data> Iterator for NamedSymbols<'data> {
+    type Item = (Symbol, &'data [u8]);
+
+    #[inline]
+    fn next(&mut self) -> Option<(Symbol, &'data [u8])> {
+        if self.taken == self.fetched {
+            self.taken = 0;
+            self.fetched =
+                ffi::named_symbols(&self.table, self.strings, self.next, &mut self.chunk);
+            self.next += self.fetched;
+            if self.fetched == 0 {
+                return None;
+            }
+        }
+        let raw = self.chunk.get(self.taken)?;
+        self.taken += 1;
+        Some((Symbol::of(&raw.symbol), raw.name.get()))
     }
 }

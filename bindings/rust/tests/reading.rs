@@ -57,6 +57,47 @@ fn symbols_are_found_by_their_names() {
 }
 
 #[test]
+fn named_symbols_are_those_of_the_walk() {
+    let bytes = own_file();
+    let file = ElfBytes::<AnyEndian>::minimal_parse(&bytes).unwrap();
+    for (symbols, strings) in [file.symbol_table(), file.dynamic_symbol_table()]
+        .into_iter()
+        .filter_map(Result::unwrap)
+    {
+        let mut named = symbols.named(&strings);
+        for symbol in symbols.iter() {
+            let name = strings.get_raw(symbol.st_name as usize).unwrap();
+            assert_eq!(named.next().unwrap(), (symbol, name));
+        }
+        assert!(named.next().is_none());
+        assert!(named.next().is_none());
+        assert_eq!(symbols.iter().count(), symbols.len());
+    }
+}
+
+#[test]
+fn common_data_are_those_of_the_other_methods() {
+    let bytes = own_file();
+    let file = ElfBytes::<AnyEndian>::minimal_parse(&bytes).unwrap();
+    let common = file.find_common_data().unwrap();
+    let (dynsyms, strings) = file.dynamic_symbol_table().unwrap().unwrap();
+    assert!(common.dynsyms.unwrap().iter().eq(dynsyms.iter()));
+    assert_eq!(
+        common.dynsyms_strs.unwrap().get_raw(1).unwrap(),
+        strings.get_raw(1).unwrap()
+    );
+    assert!(common
+        .dynamic
+        .unwrap()
+        .iter()
+        .eq(file.dynamic().unwrap().unwrap().iter()));
+    assert_eq!(
+        common.symtab.map(|symbols| symbols.len()),
+        file.symbol_table().unwrap().map(|found| found.0.len())
+    );
+}
+
+#[test]
 fn versions_and_notes_are_read() {
     let bytes = own_file();
     let file = ElfBytes::<AnyEndian>::minimal_parse(&bytes).unwrap();

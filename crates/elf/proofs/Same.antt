@@ -20,17 +20,17 @@ use Rattle.elf.specs.Headers.{entry_size, first_section_of, if_found}
 use Rattle.elf.specs.StreamFile.{listed_at, listed_file, stream_file}
 use Rattle.elf.specs.Names.{name_index, name_section, name_table}
 use Rattle.elf.specs.ObjectFile.{ObjectFile, object_file, table_of}
-use Rattle.elf_reading.specs.Opening.{header_at_front, opened, section_count, section_table, segment_table, table_bytes}
+use Rattle.elf_reading.specs.Opening.{header_at_front, opened_file, section_count, section_table, segment_table, table_bytes}
 use Rattle.elf.specs.Data.{section_data}
 use Rattle.elf.specs.Headers.{section_at, section_range}
 use Rattle.elf.specs.Readers.{AreAlike, Method, SameAnswers, answer}
 use Rattle.elf.specs.Readers.{Dynamic, DynamicSymbolTable, SectionData, SectionDataAsNotes, SectionDataAsRelas, SectionDataAsRels, SectionDataAsStrtab, SectionHeaderByName, SectionHeadersWithStrtab, SegmentData, SegmentDataAsNotes, SymbolTable, SymbolVersionTable}
-use Rattle.elf.specs.ElfStream.{Seen}
+use Rattle.elf.specs.ElfStream.{StreamView}
 use Rattle.elf_reading.specs.Opening.{headers_of}
 use Rattle.elf.specs.Versions.{linked_strings, version_definitions, version_indexes, version_needs, versions_of}
 use Rattle.elf_reading.specs.Versions.{version_sections}
 use Rattle.elf.specs.ElfBytes.{with_header}
-use Rattle.elf_reading.specs.Opening.{View, section_list}
+use Rattle.elf_reading.specs.Opening.{FileView, section_list}
 use Rattle.elf_reading.specs.declared.versions.VersionSections.{VersionSections}
 use Rattle.elf.proofs.Alike.{alike_first, alike_found, alike_if, alike_later, alike_map}
 
@@ -172,14 +172,14 @@ module _ {E : Type 0} (little : E → Bool) where
       table_short h bytes p.0 t (Some t) refl p.2
 
   -- what is known of a file that is opened
-  pub record Opened (bytes : List ℕ) (v : View E) : Type 0 where
+  pub record Opened (bytes : List ℕ) (v : FileView E) : Type 0 where
     pub same : v.bytes ≡ bytes
     pub short : (t : Table) → v.sections ≡ Some t → length t.bytes < 2 ^ 64
 
-  pub opened_is : (of_byte : ℕ → Option E) (bytes : List ℕ) (v : View E) → opened little of_byte bytes ≡ Ok v → Opened bytes v
+  pub opened_is : (of_byte : ℕ → Option E) (bytes : List ℕ) (v : FileView E) → opened_file little of_byte bytes ≡ Ok v → Opened bytes v
   opened_is of_byte bytes v read =
-      let made : FileHeader E → Option Table → Option Table → Result (View E) ParseError = λ h sections segments. Ok (record { ehdr = h; bytes = bytes; sections = sections; segments = segments }) in
-      let behind_sections : FileHeader E → Option Table → Result (View E) ParseError = λ h sections. segment_table little h bytes >>= made h sections in
+      let made : FileHeader E → Option Table → Option Table → Result (FileView E) ParseError = λ h sections segments. Ok (record { ehdr = h; bytes = bytes; sections = sections; segments = segments }) in
+      let behind_sections : FileHeader E → Option Table → Result (FileView E) ParseError = λ h sections. segment_table little h bytes >>= made h sections in
       let a = bind-ok (header_at_front little of_byte bytes) (λ h. section_table little h bytes >>= behind_sections h) v read in
       let b = bind-ok (section_table little a.0 bytes) (behind_sections a.0) v a.2 in
       let c = bind-ok (segment_table little a.0 bytes) (made a.0 b.0) v b.2 in
@@ -200,8 +200,8 @@ module _ (law : (t : Table) (i : ℕ) → length t.bytes < 2 ^ 64 → slice_get 
   at_alike (Some t) short i = sym (ok_of_or (slice_get (section_list (Some t)) i) _ ∙ law t i (short t refl))
 
   pub list_answers :
-      {E : Type 0} (little : E → Bool) (of_byte : ℕ → Option E) (bytes : List ℕ) (v : View E) (h : FileHeader E) (s : Seen E) →
-      opened little of_byte bytes ≡ Ok v → s.headers ≡ headers_of (with_header v h) →
+      {E : Type 0} (little : E → Bool) (of_byte : ℕ → Option E) (bytes : List ℕ) (v : FileView E) (h : FileHeader E) (s : StreamView E) →
+      opened_file little of_byte bytes ≡ Ok v → s.headers ≡ headers_of (with_header v h) →
       SameAnswers (object_file little (with_header v h)) (stream_file little s bytes)
   list_answers little of_byte bytes v h s read shown =
       let known = opened_is little of_byte bytes v read in

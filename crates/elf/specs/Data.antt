@@ -14,8 +14,8 @@ use Rattle.elf.specs.Headers.{section_range}
 use Rattle.elf_reading.specs.Leading.{at_front}
 
 -- a compression header at the front of some bytes, and what follows it
-abbrev pub compressed : ObjectFile → List ℕ → Result (List ℕ × CompressionHeader) ParseError
-compressed file part =
+abbrev pub compressed_data : ObjectFile → List ℕ → Result (List ℕ × CompressionHeader) ParseError
+compressed_data file part =
     let header = record_by compression_header_layout file.little file.class in
     at_front (size_by compression_header_layout file.class) header part
 
@@ -26,7 +26,7 @@ section_data file s =
     if s.sh_type == sht_nobits then Ok ([], None)
     else section_range file.bytes s >>= λ part.
     if bit_and s.sh_flags shf_compressed == 0 then Ok (part, None)
-    else ok_map (λ found. (found.0, Some found.1)) (compressed file part)
+    else ok_map (λ found. (found.0, Some found.1)) (compressed_data file part)
 
 -- the bytes in which strings or records of a section are looked for
 abbrev pub content : ObjectFile → SectionHeader → Result (List ℕ) ParseError

@@ -4,15 +4,15 @@ use Rattle.std.specs.Prelude.{Option, Result, Ok, Err, IfSome, OnOk, IfErr, IsOk
 use Rattle.elf_records.specs.Number.{bytes_at}
 use Rattle.elf_records.specs.declared.file.FileHeader.{FileHeader}
 use Rattle.elf_records.specs.declared.parse.ParseError.{ParseError}
-use Rattle.elf_reading.specs.Opening.{opened}
+use Rattle.elf_reading.specs.Opening.{opened_file}
 use Rattle.elf.specs.ElfBytes.{with_header}
-use Rattle.elf_reading.specs.Opening.{StreamHeaders, View, headers_of}
+use Rattle.elf_reading.specs.Opening.{StreamHeaders, FileView, headers_of}
 use Rattle.elf_reading.specs.Cache.{is_cached}
 use Rattle.elf_reading.specs.Refusals.{AllocationFailure, IsAnswer, Kind, MayRefuse, Refusal, SourceFailure, kind}
 
 -- a stream: the content of its source, if known, whether the source can fail and how often it did; its headers; and the
 -- ranges of the source that are cached, each by its start and its end
-pub record Seen (E : Type 0) : Type 0 where
+pub record StreamView (E : Type 0) : Type 0 where
   pub content : Option (List ℕ)
   pub can_fail : Bool
   pub failures : ℕ
@@ -23,18 +23,19 @@ pub record Seen (E : Type 0) : Type 0 where
 
 -- the stream is of the file that these bytes hold: its tables are those that the opening gives, whatever header is
 -- in it now
-abbrev pub IsOfFile : {E : Type 0} → (E → Bool) → (ℕ → Option E) → List ℕ → Seen E → Type 0
+abbrev pub IsOfFile : {E : Type 0} → (E → Bool) → (ℕ → Option E) → List ℕ → StreamView E → Type 0
 IsOfFile {E} little of_byte bytes s =
-    (v : View E) × (opened little of_byte bytes ≡ Ok v) × (s.headers ≡ headers_of (with_header v s.headers.ehdr))
+    (v : FileView E) × (opened_file little of_byte bytes ≡ Ok v)
+    × (s.headers ≡ headers_of (with_header v s.headers.ehdr))
 
 -- ---- which ranges are cached
 
 -- the bytes from start to end lie within one of the cached ranges
-abbrev pub IsCached : {E : Type 0} → Seen E → ℕ → ℕ → Type 0
+abbrev pub IsCached : {E : Type 0} → StreamView E → ℕ → ℕ → Type 0
 IsCached s start end = IsTrue (is_cached s.cached start end)
 
 -- each of these ranges, given by its start and its size, is cached
-abbrev pub AreCached : {E : Type 0} → Seen E → List (ℕ × ℕ) → Type 0
+abbrev pub AreCached : {E : Type 0} → StreamView E → List (ℕ × ℕ) → Type 0
 AreCached s [] = Unit {0}
 AreCached s (r ∷ rs) = IsCached s r.0 (r.0 + r.1) × AreCached s rs
 
@@ -43,7 +44,7 @@ abbrev pub IsRequested : List (ℕ × ℕ) → ℕ → ℕ → Type 0
 IsRequested requested start end = IsTrue (is_cached (map (λ r. (r.0, r.0 + r.1)) requested) start end)
 
 -- the same file, and no range that was cached is lost
-pub record Keeps {E : Type 0} (old new : Seen E) : Type 0 where
+pub record Keeps {E : Type 0} (old new : StreamView E) : Type 0 where
   pub content : new.content ≡ old.content
   pub can_fail : new.can_fail ≡ old.can_fail
   pub headers : new.headers ≡ old.headers
@@ -52,7 +53,7 @@ pub record Keeps {E : Type 0} (old new : Seen E) : Type 0 where
 -- ---- what a call leaves
 
 -- the ranges up to the first that is not cached lie in the bytes: the source and memory are needed for that one
-abbrev pub IsNeeded : {E : Type 0} → List ℕ → Seen E → List (ℕ × ℕ) → Type 0
+abbrev pub IsNeeded : {E : Type 0} → List ℕ → StreamView E → List (ℕ × ℕ) → Type 0
 IsNeeded bytes s [] = ⊥
 IsNeeded bytes s (r ∷ rs) = IsOk (bytes_at r.1 bytes r.0) × (IsCached s r.0 (r.0 + r.1) → IsNeeded bytes s rs)
 
@@ -68,7 +69,7 @@ IsFor need Refusal = Unit {0}
 -- and memory are not touched: the stream is as it was, and an error is the content's. Else they are used only for a
 -- range that lies in the content.
 pub record Leaves {E T Y : Type 0} (requested : List (ℕ × ℕ)) (shown : T → Y)
-    (answer : List ℕ → Result Y ParseError) (old new : Seen E) (r : Result T ParseError) : Type 0 where
+    (answer : List ℕ → Result Y ParseError) (old new : StreamView E) (r : Result T ParseError) : Type 0 where
   pub keeps : Keeps old new
   pub loaded : OnOk r (AreCached new requested)
   pub only : (start end : ℕ) → IsCached new start end → IsCached old start end ⊎ IsRequested requested start end
@@ -81,6 +82,6 @@ pub record Leaves {E T Y : Type 0} (requested : List (ℕ × ℕ)) (shown : T �
 
 -- a stream with the headers that the content gives, over a source that did not fail; or an error
 abbrev pub IsOpening :
-    {E : Type 0} → Result (StreamHeaders E) ParseError → Bool → ℕ → Result (Seen E) ParseError → Type 0
+    {E : Type 0} → Result (StreamHeaders E) ParseError → Bool → ℕ → Result (StreamView E) ParseError → Type 0
 IsOpening answer can_fail before (Ok s) = (s.failures ≡ before) × (answer ≡ Ok s.headers)
 IsOpening answer can_fail before (Err e) = MayRefuse can_fail (IsOk answer) (IsErr answer) (kind e)

@@ -24,10 +24,10 @@ section_range bytes s = bytes_at s.sh_size bytes s.sh_offset
 
 -- ---- the first and the last of a type
 
--- what is answered of a header, if there is one
-abbrev pub if_found : {A B : Type 0} → (A → Result B ParseError) → Option A → Result (Option B) ParseError
+-- the result of a value that was looked for, if there is one
+abbrev pub if_found : {A B E : Type 0} → (A → Result B E) → Option A → Result (Option B) E
 if_found answer None = Ok None
-if_found answer (Some header) = ok_map Some (answer header)
+if_found answer (Some x) = ok_map Some (answer x)
 
 -- the first section of a type
 abbrev pub first_section_of : ℕ → List SectionHeader → Option SectionHeader

@@ -9,7 +9,7 @@ use Rattle.elf.specs.contracts.elf_stream.ElfStream.{the_row}
 use Rattle.elf.specs.Ranges.{headers_alone}
 use Rattle.elf.specs.StreamFile.{stream_file}
 use Rattle.elf.specs.ObjectFile.{ObjectFile}
-use Rattle.elf.specs.ElfStream.{Leaves, Seen}
+use Rattle.elf.specs.ElfStream.{Leaves, StreamView}
 
 -- the ghost members of a type of byte orders, with its supertraits
 abbrev pub Order : Type 0 → Type 1
@@ -26,7 +26,7 @@ Order E = record {
 -- over its file
 abbrev pub Lends :
     (E S A : RattleType) → Order E.Denot → source.Ghosts S.Denot → allocator.Ghosts A.Denot →
-    MutBor (Seen E.Denot) → (ObjectFile → List (ℕ × ℕ)) →
+    MutBor (StreamView E.Denot) → (ObjectFile → List (ℕ × ℕ)) →
     {T Y : Type 0} → (T → Y) → (ObjectFile → Result Y ParseError) → Result T ParseError → Fml
 Lends E S A order source alloc stream requested shown answer r =
     Rests (the_row E S A (record { little = order.little; of_byte = order.of_byte })

@@ -8,7 +8,7 @@ use Rattle.elf_records.specs.declared.parse.ParseError.{ParseError}
 use Rattle.elf_records.specs.declared.section.SectionHeader.{SectionHeader}
 use Rattle.elf_records.specs.declared.segment.ProgramHeader.{ProgramHeader}
 use Rattle.elf.specs.Headers.{section_at}
-use Rattle.elf_reading.specs.Opening.{View, section_list, segment_list}
+use Rattle.elf_reading.specs.Opening.{FileView, section_list, segment_list}
 
 pub record ObjectFile : Type 0 where
   -- of the file header as it is now: whether its order is little, its class, and e_shstrndx
@@ -23,7 +23,7 @@ pub record ObjectFile : Type 0 where
   pub segments : List ProgramHeader
 
 -- what a file that was opened is to its answers
-abbrev pub object_file : {E : Type 0} → (E → Bool) → View E → ObjectFile
+abbrev pub object_file : {E : Type 0} → (E → Bool) → FileView E → ObjectFile
 object_file little v = record {
   little = little v.ehdr.endianness;
   class = v.ehdr.class;

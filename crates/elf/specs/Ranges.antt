@@ -14,7 +14,7 @@ use Rattle.elf.specs.Headers.{entry_size, first_section_of, first_segment_of, if
 use Rattle.elf.specs.StreamFile.{stream_file}
 use Rattle.elf.specs.Names.{name_section}
 use Rattle.elf.specs.ObjectFile.{ObjectFile}
-use Rattle.elf.specs.ElfStream.{Seen}
+use Rattle.elf.specs.ElfStream.{StreamView}
 use Rattle.elf_reading.specs.Versions.{version_sections}
 use Rattle.elf_reading.specs.declared.versions.VersionSections.{VersionSections}
 
@@ -43,7 +43,7 @@ segment_notes_ranges p = if p.p_type == pt_note then segment_ranges p else []
 -- ---- of calls that choose their headers, which takes the headers alone and no byte of the file
 
 -- a stream over no bytes
-abbrev pub headers_alone : {E : Type 0} → (E → Bool) → Seen E → ObjectFile
+abbrev pub headers_alone : {E : Type 0} → (E → Bool) → StreamView E → ObjectFile
 headers_alone little s = stream_file little s []
 
 -- the ranges for a header that there may not be

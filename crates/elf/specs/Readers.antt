@@ -25,10 +25,10 @@ use Rattle.elf.specs.Data as contents
 use Rattle.elf.specs.Ranges.{dynamic_ranges, headers_alone, names_ranges, section_ranges, segment_ranges}
 use Rattle.elf.specs.Ranges.{segment_notes_ranges, symbols_ranges, typed_section_ranges, versions_ranges}
 use Rattle.elf.specs.StreamFile.{stream_file}
-use Rattle.elf.specs.ElfStream.{Leaves, Seen}
+use Rattle.elf.specs.ElfStream.{Leaves, StreamView}
 use Rattle.elf_reading.specs.Refusals.{Kind, kind}
 use Rattle.elf.specs.ElfBytes.{with_header}
-use Rattle.elf_reading.specs.Opening.{View}
+use Rattle.elf_reading.specs.Opening.{FileView}
 
 -- ---- the methods
 
@@ -81,20 +81,20 @@ answer Dynamic file = methods.dynamic file
 answer SymbolVersionTable file = methods.symbol_version_table file
 
 -- the ranges that a call requests of a stream
-abbrev pub requested : Method → ObjectFile → List (ℕ × ℕ)
-requested SectionHeadersWithStrtab file = names_ranges file
-requested (SectionHeaderByName name) file = names_ranges file
-requested (SectionData s) file = section_ranges s
-requested (SectionDataAsStrtab s) file = typed_section_ranges sht_strtab s
-requested (SectionDataAsRels s) file = typed_section_ranges sht_rel s
-requested (SectionDataAsRelas s) file = typed_section_ranges sht_rela s
-requested (SectionDataAsNotes s) file = typed_section_ranges sht_note s
-requested (SegmentData p) file = segment_ranges p
-requested (SegmentDataAsNotes p) file = segment_notes_ranges p
-requested SymbolTable file = symbols_ranges sht_symtab file
-requested DynamicSymbolTable file = symbols_ranges sht_dynsym file
-requested Dynamic file = dynamic_ranges file
-requested SymbolVersionTable file = versions_ranges file
+abbrev pub requested_ranges : Method → ObjectFile → List (ℕ × ℕ)
+requested_ranges SectionHeadersWithStrtab file = names_ranges file
+requested_ranges (SectionHeaderByName name) file = names_ranges file
+requested_ranges (SectionData s) file = section_ranges s
+requested_ranges (SectionDataAsStrtab s) file = typed_section_ranges sht_strtab s
+requested_ranges (SectionDataAsRels s) file = typed_section_ranges sht_rel s
+requested_ranges (SectionDataAsRelas s) file = typed_section_ranges sht_rela s
+requested_ranges (SectionDataAsNotes s) file = typed_section_ranges sht_note s
+requested_ranges (SegmentData p) file = segment_ranges p
+requested_ranges (SegmentDataAsNotes p) file = segment_notes_ranges p
+requested_ranges SymbolTable file = symbols_ranges sht_symtab file
+requested_ranges DynamicSymbolTable file = symbols_ranges sht_dynsym file
+requested_ranges Dynamic file = dynamic_ranges file
+requested_ranges SymbolVersionTable file = versions_ranges file
 
 -- ---- two object files
 
@@ -116,14 +116,14 @@ pub record Call (E : Type 0) : Type 0 where
   pub header : FileHeader E
   pub method : Method
   pub result : Result (Shown method) ParseError
-  pub new : Seen E
+  pub new : StreamView E
 
 -- the calls are made in order, each with its header put into `ehdr`, and each does what its contract says
-abbrev pub AreMade : {E : Type 0} → (E → Bool) → Seen E → List (Call E) → Type 0
+abbrev pub AreMade : {E : Type 0} → (E → Bool) → StreamView E → List (Call E) → Type 0
 AreMade little s [] = Unit {0}
 AreMade little s (call ∷ calls) =
     let old = record s { headers = record s.headers { ehdr = call.header } } in
-    Leaves (requested call.method (headers_alone little old)) (λ x. x)
+    Leaves (requested_ranges call.method (headers_alone little old)) (λ x. x)
     (λ bytes. answer call.method (stream_file little old bytes)) old call.new call.result
     × AreMade little call.new calls
 
@@ -134,5 +134,5 @@ IsSame other (Ok x) = other ≡ Ok x
 IsSame other (Err e) = kind e ≡ Kind.Refusal → IsErr other
 
 -- what `ElfBytes` answers to the call, over the file that was opened, with the header of the call
-abbrev pub IsAnsweredAlike : {E : Type 0} → (E → Bool) → View E → Call E → Type 0
+abbrev pub IsAnsweredAlike : {E : Type 0} → (E → Bool) → FileView E → Call E → Type 0
 IsAnsweredAlike little v call = IsSame (answer call.method (object_file little (with_header v call.header))) call.result

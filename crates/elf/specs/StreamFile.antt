@@ -4,7 +4,7 @@ use Rattle.elf_records.specs.declared.parse.ParseError.{ParseError}
 use Rattle.elf_records.specs.declared.parse.ParseError.TheVariants.{BadOffset}
 use Rattle.elf_records.specs.declared.section.SectionHeader.{SectionHeader}
 use Rattle.elf.specs.ObjectFile.{ObjectFile}
-use Rattle.elf.specs.ElfStream.{Seen}
+use Rattle.elf.specs.ElfStream.{StreamView}
 use Rattle.elf_reading.specs.Opening.{StreamHeaders}
 
 -- member i of the list, or that there is none
@@ -25,5 +25,5 @@ listed_file little h bytes = record {
 }
 
 -- what a stream is to its answers, over these bytes
-abbrev pub stream_file : {E : Type 0} → (E → Bool) → Seen E → List ℕ → ObjectFile
+abbrev pub stream_file : {E : Type 0} → (E → Bool) → StreamView E → List ℕ → ObjectFile
 stream_file little s bytes = listed_file little s.headers bytes

@@ -5,7 +5,7 @@ use Rattle.elf_records.specs.Number.{ok_map}
 use Rattle.elf_records.specs.Record.{◌>>=◌, size_by}
 use Rattle.elf_parts.specs.gnu_symver.Lists.{ver_defs, ver_needs}
 use Rattle.elf_parts.specs.gnu_symver.Records.{version_index_layout}
-use Rattle.elf_parts.specs.gnu_symver.Table.{Definitions, Needs, Versions}
+use Rattle.elf_parts.specs.gnu_symver.Table.{Definitions, Entries, Needs, Versions}
 use Rattle.elf_records.specs.Table.{Table}
 use Rattle.elf_records.specs.declared.parse.ParseError.{ParseError}
 use Rattle.elf_records.specs.declared.section.SectionHeader.{SectionHeader}
@@ -23,17 +23,20 @@ version_indexes file s =
 abbrev pub linked_strings : ObjectFile → SectionHeader → Result (List ℕ) ParseError
 linked_strings file s = file.section_at s.sh_link >>= section_range file.bytes
 
--- the needs of a section, sh_info at most
-abbrev pub version_needs : ObjectFile → SectionHeader → Result Needs ParseError
-version_needs file s =
-    section_range file.bytes s >>= λ needs. linked_strings file s >>= λ strings.
-    Ok (record { list = ver_needs (table_of file needs) s.sh_info 0; strings = strings })
+-- the entries of a section, sh_info at most, by the list of the entries from an offset on
+abbrev pub version_entries : {V A : Type 0} → (Table → ℕ → ℕ → List (V × List A)) → ObjectFile → SectionHeader →
+    Result (Entries V A) ParseError
+version_entries entries file s =
+    section_range file.bytes s >>= λ part. linked_strings file s >>= λ strings.
+    Ok (record { list = entries (table_of file part) s.sh_info 0; strings = strings })
 
--- the definitions of a section, sh_info at most
+-- the needs of a section
+abbrev pub version_needs : ObjectFile → SectionHeader → Result Needs ParseError
+version_needs file s = version_entries ver_needs file s
+
+-- the definitions of a section
 abbrev pub version_definitions : ObjectFile → SectionHeader → Result Definitions ParseError
-version_definitions file s =
-    section_range file.bytes s >>= λ definitions. linked_strings file s >>= λ strings.
-    Ok (record { list = ver_defs (table_of file definitions) s.sh_info 0; strings = strings })
+version_definitions file s = version_entries ver_defs file s
 
 -- the versions by the indexes of a section, with the needs and the definitions, if there are any
 abbrev pub versions_of : ObjectFile → VersionSections → SectionHeader → Result Versions ParseError

@@ -3,7 +3,7 @@ ghost use Rattle.std.specs.Prelude.{◌≡◌};
 ghost use Rattle.std.specs.Option.{option_map};
 ghost use Rattle.elf_records.specs.Number.{ok_map};
 ghost use Rattle.elf_records.specs.Table.{table_view};
-ghost use Rattle.elf_reading.specs.Opening.{opened};
+ghost use Rattle.elf_reading.specs.Opening.{opened_file};
 ghost use Rattle.elf.specs.ElfBytes.{view};
 
 use elf_parts::endian::EndianParse;
@@ -28,7 +28,9 @@ pub use common::CommonElfData;
 /// none of it and allocates no memory.
 ///
 /// `ehdr` may be changed: the methods use its current class, byte order and `e_shstrndx`. The two tables remain those
-/// that were found when the file was opened.
+/// that were found when the file was opened. A method that takes a section header or a program header reads the range
+/// that this header states. The header usually comes from one of the two tables, but one that the caller made is read
+/// in the same way.
 #[derive(Debug, Drop)]
 pub struct ElfBytes<'data, E: EndianParse> {
     pub ehdr: FileHeader<E>,
@@ -38,8 +40,8 @@ pub struct ElfBytes<'data, E: EndianParse> {
 }
 
 impl<'data, E: EndianParse> ElfBytes<'data, E> {
-    /// Opens a file: reads its header and finds its two tables (gABI, chapters "ELF Header", "Sections" and "Program
-    /// Header"). A table whose offset is 0 is not declared.
+    /// Opens a file, given all of its bytes: reads its header and finds its two tables (gABI, chapters "ELF Header",
+    /// "Sections" and "Program Header"). A table whose offset is 0 is not declared.
     ///
     /// The error is that of the first step that fails. The steps are the identification, the tail of the file header,
     /// the section headers and the program headers.
@@ -50,8 +52,13 @@ impl<'data, E: EndianParse> ElfBytes<'data, E> {
     /// Errors of a table, in order: that of the first section header at `e_shoff`, if it holds the count (`e_shnum` is
     /// 0, `e_phnum` is `PN_XNUM`); `BadEntsize((found, expected))`; `IntegerOverflow` if the end of the table does not
     /// fit 64 bits; `SliceReadError((start, end))` if the table does not lie in the data.
+    ///
+    /// ```rust
+    /// let file = ElfBytes::<AnyEndian>::minimal_parse(bytes)?;
+    /// println!(rt; "machine {}", file.ehdr.e_machine)?;
+    /// ```
     pub fn minimal_parse(data: &'data [u8]) -> Result<Self, ParseError>
-        ensures { ok_map view result ≡ opened E.little E.of_byte «data».now }
+        ensures { ok_map view result ≡ opened_file E.little E.of_byte «data».now }
     {
         let found = open(data)?;
         Ok(ElfBytes {
@@ -94,6 +101,14 @@ impl<'data, E: EndianParse> ElfBytes<'data, E> {
     }
 
     /// Returns the program headers, or `None` if the file declares none.
+    ///
+    /// ```rust
+    /// if let Some(segments) = file.segments() {
+    ///     for segment in segments {
+    ///         println!(rt; "{} bytes at {:#x}", segment.p_memsz, segment.p_vaddr)?;
+    ///     }
+    /// }
+    /// ```
     pub fn segments(&self) -> Option<SegmentTable<'data, E>>
         ensures { option_map table_view result ≡ (view self.now).segments }
     {
@@ -101,6 +116,14 @@ impl<'data, E: EndianParse> ElfBytes<'data, E> {
     }
 
     /// Returns the section headers, or `None` if the file declares none.
+    ///
+    /// ```rust
+    /// if let Some(sections) = file.section_headers() {
+    ///     for section in sections {
+    ///         println!(rt; "type {}, {} bytes", section.sh_type, section.sh_size)?;
+    ///     }
+    /// }
+    /// ```
     pub fn section_headers(&self) -> Option<SectionHeaderTable<'data, E>>
         ensures { option_map table_view result ≡ (view self.now).sections }
     {

@@ -3,7 +3,7 @@ ghost use Rattle.std.specs.Prelude.{◌≡◌, ℕ, ◌≤◌, ◌+◌, ◌^◌,
 ghost use Rattle.std.specs.Prelude.{IfSome, Ok, IsOk, length, take, drop, [], ◌∷◌};
 ghost use Rattle.elf_records.specs.Number.{bytes_at, ok_map};
 ghost use Rattle.elf.specs.Ranges.{range_of_section, range_of_segment};
-ghost use Rattle.elf_reading.specs.Opening.{opened};
+ghost use Rattle.elf_reading.specs.Opening.{opened_file};
 ghost use Rattle.elf.specs.ElfStream.{IsFor, IsOfFile, Keeps, IsCached, IsOpening};
 ghost use Rattle.elf_reading.specs.Refusals.{IsAnswer};
 ghost use Rattle.elf_reading.specs.Opening.{headers_of};
@@ -35,7 +35,8 @@ mod versions;
 /// headers. What later calls read is cached.
 ///
 /// `ehdr` may be changed: the methods use its current class, byte order and `e_shstrndx`. The section and program
-/// headers remain those that were read when the file was opened.
+/// headers remain those that were read when the file was opened. A method that takes a header reads the range that this
+/// header states, even if the caller made the header.
 ///
 /// A call requests the ranges of the sections or segments that it needs. A range that does not lie within a cached one
 /// is read and cached, and the result borrows from the cache. A call caches nothing else. A range stays cached as long
@@ -64,11 +65,11 @@ pub struct ElfStream<E: EndianParse, S: StreamSource, A: Allocator + Copy> {
 
 impl<E: EndianParse, S: StreamSource, A: Allocator + Copy> Model for ElfStream<E, S, A> {
     ghost use Rattle.std.specs.Prelude.{map};
-    ghost use Rattle.elf.specs.ElfStream.{Seen};
+    ghost use Rattle.elf.specs.ElfStream.{StreamView};
     ghost use Rattle.elf.specs.inner.Opened.{IsOpened};
     ghost use Rattle.elf_reading.specs.Cache.{range_of};
 
-    ghost Value = { Seen E };
+    ghost Value = { StreamView E };
 
     ghost view = { λ s. record {
       content = S.content s.source;
@@ -89,18 +90,24 @@ impl<E: EndianParse, S: StreamSource, A: Allocator + Copy> Model for ElfStream<E
 
 impl<E: EndianParse, S: StreamSource, A: Allocator + Copy> ElfStream<E, S, A> {
     /// Opens a file: reads its header and the two tables that it declares (gABI, chapters "ELF Header", "Sections" and
-    /// "Program Header"). Caches no other bytes. Allocates memory for the two tables only, and only if both lie in the
-    /// source.
+    /// "Program Header"). The source is a `FileSource`, a `MemSource` over bytes, or another `StreamSource`. Caches no
+    /// other bytes. Allocates memory for the two tables only, and only if both lie in the source.
     ///
     /// If the content of the source is known, the tables are those that `ElfBytes::minimal_parse` finds in it. Returns
     /// an error if that returns one. Otherwise the error is `IOError`, only if the source can fail, or `OutOfMemory`
     /// (tested, not proved: only if an allocation failed); of a file that `minimal_parse` does not open it is never
     /// `OutOfMemory`. The source is dropped with any error.
+    ///
+    /// ```rust
+    /// let source = FileSource::new(File::open(rt, "/bin/sh")?);
+    /// let stream = ElfStream::<AnyEndian, _, _>::open_stream(rt.alloc(), source)?;
+    /// println!(rt; "{} sections", stream.section_headers().len())?;
+    /// ```
     pub fn open_stream(alloc: A, mut reader: S) -> Result<Self, ParseError>
         ensures content { IfOk result (λ s. (s.content ≡ S.content reader) × (s.can_fail ≡ S.can_fail reader)) }
         ensures cached { IfOk result (λ s. s.cached ≡ []) }
         ensures opening { IfSome (S.content reader) (λ bytes. IsOpening
-            (ok_map headers_of (opened E.little E.of_byte bytes)) (S.can_fail reader) (S.failures reader) result) }
+            (ok_map headers_of (opened_file E.little E.of_byte bytes)) (S.can_fail reader) (S.failures reader) result) }
     {
         let found = open_source(alloc, &mut reader)?;
         Ok(ElfStream {

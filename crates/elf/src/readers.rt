@@ -3,12 +3,12 @@ ghost use Rattle.std.specs.Prelude.{◌≡◌, ℕ, List, All, IfSome, Ok, Some}
 ghost use Rattle.elf.specs.Readers.{AreMade, Call, IsAnsweredAlike};
 ghost use Rattle.elf.specs.StreamFile.{stream_file};
 ghost use Rattle.elf.specs.ObjectFile.{object_file};
-ghost use Rattle.elf_reading.specs.Opening.{opened};
+ghost use Rattle.elf_reading.specs.Opening.{opened_file};
 ghost use Rattle.elf.specs.Readers.{SameAnswers};
-ghost use Rattle.elf.specs.ElfStream.{Seen};
+ghost use Rattle.elf.specs.ElfStream.{StreamView};
 ghost use Rattle.elf_reading.specs.Opening.{headers_of};
 ghost use Rattle.elf.specs.ElfBytes.{with_header};
-ghost use Rattle.elf_reading.specs.Opening.{View};
+ghost use Rattle.elf_reading.specs.Opening.{FileView};
 ghost use Rattle.elf_records.specs.declared.file.FileHeader.{FileHeader};
 
 use crate::elf_stream::ElfStream;
@@ -22,8 +22,8 @@ use std::alloc::Allocator;
 /// `ElfBytes`, or in lists, as for an `ElfStream`: the same value, or an error from both. This holds for every header
 /// in `ehdr`, if it is the same in both.
 pub fn list_answers_as_table<E: EndianParse>()
-    ensures { (bytes : List ℕ) (v : View E) (header : FileHeader E) (s : Seen E) →
-        opened E.little E.of_byte bytes ≡ Ok v → s.headers ≡ headers_of (with_header v header) →
+    ensures { (bytes : List ℕ) (v : FileView E) (header : FileHeader E) (s : StreamView E) →
+        opened_file E.little E.of_byte bytes ≡ Ok v → s.headers ≡ headers_of (with_header v header) →
         SameAnswers (object_file E.little (with_header v header)) (stream_file E.little s bytes) }
 {
     list_is_what_get_gives::<SectionHeader>();
@@ -34,8 +34,8 @@ pub fn list_answers_as_table<E: EndianParse>()
 /// header is put into `ehdr` before the call: the same value, or an error from both. If the stream alone returns an
 /// error, that is `IOError` or `OutOfMemory`.
 pub fn calls_answer_alike<E: EndianParse>()
-    ensures { (bytes : List ℕ) (v : View E) (s : Seen E) (calls : List (Call E)) →
-        opened E.little E.of_byte bytes ≡ Ok v → s.content ≡ Some bytes →
+    ensures { (bytes : List ℕ) (v : FileView E) (s : StreamView E) (calls : List (Call E)) →
+        opened_file E.little E.of_byte bytes ≡ Ok v → s.content ≡ Some bytes →
         s.headers ≡ headers_of (with_header v s.headers.ehdr) → AreMade E.little s calls →
         All (IsAnsweredAlike E.little v) calls }
 {
@@ -47,7 +47,7 @@ pub fn calls_answer_alike<E: EndianParse>()
 pub fn stream_answers_as_bytes<E: EndianParse, S: StreamSource, A: Allocator + Copy>(
     stream: &ElfStream<E, S, A>,
 )
-    ensures { IfSome stream.now.content (λ bytes. (v : View E) × (opened E.little E.of_byte bytes ≡ Ok v)
+    ensures { IfSome stream.now.content (λ bytes. (v : FileView E) × (opened_file E.little E.of_byte bytes ≡ Ok v)
         × SameAnswers (object_file E.little (with_header v stream.now.headers.ehdr))
         (stream_file E.little stream.now bytes)) }
 {

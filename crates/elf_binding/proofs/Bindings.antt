@@ -4,11 +4,11 @@ use Rattle.std.specs.Prelude.{IsUtf8, ok_or}
 use Rattle.std.specs.Option.{option_map}
 use Rattle.std.specs.Str.{is_utf8}
 use Rattle.std.proofs.lemmas.Str.{IsUtf8-from_is_utf8, is_utf8-from_IsUtf8}
-use Rattle.elf_records.specs.StringTable.{GivesText}
+use Rattle.elf_records.specs.StringTable.{GivesText, text_of}
 use Rattle.elf_parts.specs.gnu_symver.Table.{GivesRequirement, RefusesText, Requirement}
 use Rattle.elf_records.specs.declared.parse.ParseError.{ParseError}
 use Rattle.elf_parts.specs.declared.gnu_symver.table.SymbolRequirement.{SymbolRequirement}
-use Rattle.elf_binding.specs.Binding.{first_name, named_version, needed_as, needed_by, text_of, unreadable}
+use Rattle.elf_binding.specs.Binding.{first_name, named_version, needed_as, needed_by, unreadable}
 use denote.Ref.{Bor}
 
 no_text : (name : List ℕ) (b : Bool) → is_utf8 name ≡ b → (IsUtf8 name → ⊥) → (if b then Some name else None) ≡ None

@@ -1,12 +1,13 @@
 -- Which symbol of which object a reference binds to, where symbols have versions: the rules of GNU symbol versioning
 -- (LSB, "Symbol Versioning"), and where they say nothing, what the dynamic linker of the GNU C library does.
 use Rattle.std.specs.Prelude.{◌≡◌, ℕ, ◌<◌, if◌then◌else◌, ◌==◌, ◌&&◌, ◌||◌, not, nat_lt, Bool, bit_and}
-use Rattle.std.specs.Prelude.{List, [], ◌∷◌, length, slice_get, Option, Some, None, ok_or, Result, Ok, Err}
+use Rattle.std.specs.Prelude.{List, [], ◌∷◌, length, slice_get, Option, Some, None, ok_or, Result, Ok, Err, MatchBool}
 use Rattle.std.specs.Option.{IsSomeAnd, option_map}
-use Rattle.std.specs.Str.{bytes_eq, is_utf8}
+use Rattle.std.specs.Str.{bytes_eq}
 use Rattle.elf_abi.specs.Values.{shn_abs, shn_undef, stb_global, stb_gnu_unique, stb_weak, stt_common, stt_func}
 use Rattle.elf_abi.specs.Values.{stt_gnu_ifunc, stt_notype, stt_object, stt_tls, stv_hidden, stv_internal, ver_flg_base}
 use Rattle.elf_records.specs.Record.{◌>>=◌}
+use Rattle.elf_records.specs.StringTable.{text_of}
 use Rattle.elf_records.specs.Symbol.{symbol_binding, symbol_type, symbol_visibility}
 use Rattle.elf_parts.specs.gnu_symver.Table.{Definition, Requirement, Versions, definition, index_of, requirement}
 use Rattle.elf_parts.specs.gnu_symver.Records.{version_index, version_is_hidden}
@@ -16,6 +17,8 @@ use Rattle.elf_records.specs.declared.symbol.Symbol.{Symbol}
 use Rattle.elf_check.specs.NamedSymbols.{AreAllNamed}
 use Rattle.elf_check.specs.Object.{Object}
 use Rattle.elf_binding.specs.declared.BindingFault.{BindingFault}
+use Rattle.elf_binding.specs.declared.ReferenceKind.{ReferenceKind}
+use Rattle.elf_binding.specs.declared.ReferenceKind.TheVariants.{Address, Copied, JumpSlot}
 use Rattle.elf_binding.specs.declared.Rule.{Rule}
 use Rattle.elf_binding.specs.declared.Rule.TheVariants.{Versioned, Exact, Base, Shown}
 use Rattle.elf_binding.specs.declared.Unreadable.{Unreadable}
@@ -45,6 +48,27 @@ has_place s =
 abbrev pub is_definition : Symbol → Bool
 is_definition s = has_place s && has_definition_type s && is_global s
 
+-- No section of the file defines the function, but its symbol has a value: in a program at a fixed address that of its
+-- entry in the procedure linkage table. There the whole process finds the function, so that its address is the same in
+-- each file (the supplements of the processors to the System V ABI, chapter "Dynamic Linking", "Function Addresses").
+abbrev pub has_linkage_entry : Symbol → Bool
+has_linkage_entry s = s.st_shndx == shn_undef && not (s.st_value == 0) && not (symbol_type s == stt_tls)
+
+abbrev pub is_linkage_entry : Symbol → Bool
+is_linkage_entry s = has_linkage_entry s && has_definition_type s && is_global s
+
+-- the entry jumps through a jump slot, which so must not lead back to it; other references find the entry
+abbrev pub is_definition_for : ReferenceKind → Symbol → Bool
+is_definition_for JumpSlot s = is_definition s
+is_definition_for Address s = is_definition s || is_linkage_entry s
+is_definition_for Copied s = is_definition s || is_linkage_entry s
+
+-- a copy is made into the program, the first object, so it is not one of what the program has
+abbrev pub passes_over : ReferenceKind → ℕ → Bool
+passes_over JumpSlot place = Bool.false
+passes_over Address place = Bool.false
+passes_over Copied place = place == 0
+
 -- ---- the version of a symbol in its file
 
 -- a version: its name and the hash of the name, as the file states it
@@ -58,11 +82,6 @@ version_view version = record { name = version.name.now; hash = version.hash }
 -- the version of symbol i cannot be read
 abbrev pub unreadable : ℕ → Unreadable
 unreadable i = record { symbol = i }
-
--- the bytes, if they can be read and are text
-abbrev pub text_of : Result (List ℕ) ParseError → Option (List ℕ)
-text_of (Ok bytes) = if is_utf8 bytes then Some bytes else None
-text_of (Err e) = None
 
 abbrev pub named_version : ℕ → List ℕ → NamedVersion
 named_version hash name = record { name = name; hash = hash }
@@ -142,13 +161,13 @@ serves_in None rule i = Ok Bool.true
 -- ---- what a reference binds to in one object
 
 -- the first of these symbols that is a definition and serves; refused where that cannot be known of an earlier one
-abbrev pub first_serving : (ℕ → Result Bool Unreadable) → List (ℕ × Symbol) →
+abbrev pub first_serving : ReferenceKind → (ℕ → Result Bool Unreadable) → List (ℕ × Symbol) →
     Result (Option (ℕ × Symbol)) Unreadable
-first_serving serving [] = Ok None
-first_serving serving (one ∷ others) =
-    if is_definition one.1
-    then (serving one.0 >>= λ yes. if yes then Ok (Some one) else first_serving serving others)
-    else first_serving serving others
+first_serving kind serving [] = Ok None
+first_serving kind serving (one ∷ others) =
+    if is_definition_for kind one.1
+    then (serving one.0 >>= λ yes. if yes then Ok (Some one) else first_serving kind serving others)
+    else first_serving kind serving others
 
 -- an object whose symbols may have versions
 pub record VersionedObject : Type 0 where
@@ -156,10 +175,11 @@ pub record VersionedObject : Type 0 where
   pub versions : Option Versions
 
 -- among all symbols of the name that the object's table indexes, in the order of its look-up
-abbrev pub IsFirstServing : VersionedObject → List ℕ → Rule → Result (Option (ℕ × Symbol)) Unreadable → Type 0
-IsFirstServing object name rule result =
+abbrev pub IsFirstServing : ReferenceKind → VersionedObject → List ℕ → Rule →
+    Result (Option (ℕ × Symbol)) Unreadable → Type 0
+IsFirstServing kind object name rule result =
     (named : List (ℕ × Symbol)) × AreAllNamed object.symbols name named
-    × (result ≡ first_serving (serves_in object.versions rule) named)
+    × (result ≡ first_serving kind (serves_in object.versions rule) named)
 
 -- what the first search found, or else what the second finds
 abbrev pub IsOrElse : {A E : Type 0} → (Result (Option A) E → Type 0) → Result (Option A) E → Result (Option A) E →
@@ -169,27 +189,50 @@ IsOrElse IsSecond result (Ok (Some found)) = result ≡ Ok (Some found)
 IsOrElse IsSecond result (Err e) = result ≡ Err e
 
 -- a reference without a version takes a base definition, or else the first that is not hidden
-abbrev pub IsChosen : VersionedObject → List ℕ → Wanted → Result (Option (ℕ × Symbol)) Unreadable → Type 0
-IsChosen object name (Compatible wanted) result = IsFirstServing object name (Versioned wanted) result
-IsChosen object name (Only wanted) result = IsFirstServing object name (Exact wanted) result
-IsChosen object name Any result =
+abbrev pub IsChosenFor : ReferenceKind → VersionedObject → List ℕ → Wanted →
+    Result (Option (ℕ × Symbol)) Unreadable → Type 0
+IsChosenFor kind object name (Compatible wanted) result = IsFirstServing kind object name (Versioned wanted) result
+IsChosenFor kind object name (Only wanted) result = IsFirstServing kind object name (Exact wanted) result
+IsChosenFor kind object name Any result =
     (base : Result (Option (ℕ × Symbol)) Unreadable)
-    × IsFirstServing object name Base base × IsOrElse (IsFirstServing object name Shown) result base
+    × IsFirstServing kind object name Base base × IsOrElse (IsFirstServing kind object name Shown) result base
+
+-- of definitions alone
+abbrev pub IsChosen : VersionedObject → List ℕ → Wanted → Result (Option (ℕ × Symbol)) Unreadable → Type 0
+IsChosen object name wanted result = IsChosenFor JumpSlot object name wanted result
+
+-- what the object at a place has for a reference: its choice, or nothing if it is passed over
+abbrev pub IsFoundAt : ReferenceKind → ℕ → VersionedObject → List ℕ → Wanted →
+    Result (Option (ℕ × Symbol)) Unreadable → Type 0
+IsFoundAt kind place object name wanted result =
+    MatchBool (passes_over kind place) (result ≡ Ok None) (IsChosenFor kind object name wanted result)
 
 -- ---- what it binds to in a list of objects
+
+-- of places in order, each of which has a result: the first that has a symbol, and that symbol; or that none has one; or
+-- the first of which that cannot be known
+module _ (At : ℕ → Result (Option (ℕ × Symbol)) Unreadable → Type 0) (count : ℕ) where
+  abbrev pub NoneBefore : ℕ → Type 0
+  NoneBefore place = (k : ℕ) → k < place → At k (Ok None)
+
+  abbrev pub IsFirst : Result (Option (ℕ × ℕ × Symbol)) BindingFault → Type 0
+  IsFirst (Ok None) = NoneBefore count
+  IsFirst (Ok (Some found)) = At found.0 (Ok (Some (found.1, found.2))) × NoneBefore found.0
+  IsFirst (Err fault) = At fault.object (Err (unreadable fault.symbol)) × NoneBefore fault.object
 
 module _ {C : Type 0} (view : C → VersionedObject) (objects : List C) (name : List ℕ) (wanted : Wanted) where
   -- the choice in the object at a place
   abbrev pub ChosenAt : ℕ → Result (Option (ℕ × Symbol)) Unreadable → Type 0
   ChosenAt place result = IsSomeAnd (slice_get objects place) (λ object. IsChosen (view object) name wanted result)
 
-  -- no object before a place has a symbol that serves
-  abbrev pub NoneServesBefore : ℕ → Type 0
-  NoneServesBefore place = (k : ℕ) → k < place → ChosenAt k (Ok None)
-
-  -- the first object with a symbol that serves, and that symbol; or that no object has one; or the first object of
-  -- which that cannot be known
+  -- the first object with a symbol that serves; or that no object has one; or the first of which that cannot be known
   abbrev pub IsBinding : Result (Option (ℕ × ℕ × Symbol)) BindingFault → Type 0
-  IsBinding (Ok None) = NoneServesBefore (length objects)
-  IsBinding (Ok (Some found)) = ChosenAt found.0 (Ok (Some (found.1, found.2))) × NoneServesBefore found.0
-  IsBinding (Err fault) = ChosenAt fault.object (Err (unreadable fault.symbol)) × NoneServesBefore fault.object
+  IsBinding result = IsFirst ChosenAt (length objects) result
+
+  -- for a reference of a kind
+  abbrev pub FoundAt : ReferenceKind → ℕ → Result (Option (ℕ × Symbol)) Unreadable → Type 0
+  FoundAt kind place result =
+      IsSomeAnd (slice_get objects place) (λ object. IsFoundAt kind place (view object) name wanted result)
+
+  abbrev pub IsBindingFor : ReferenceKind → Result (Option (ℕ × ℕ × Symbol)) BindingFault → Type 0
+  IsBindingFor kind result = IsFirst (FoundAt kind) (length objects) result

@@ -2,6 +2,8 @@
 pub mod Resolve
 -- which object a file is
 pub mod ObjectTable
+-- how a relocation refers to a symbol
+pub mod ReferenceKinds
 -- an object with the versions of its symbols, and what a reference binds to
 pub mod VersionedView
 pub mod Binding

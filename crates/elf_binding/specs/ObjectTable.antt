@@ -14,7 +14,7 @@ use Rattle.elf.specs.Answers.{dynamic_symbol_table, symbols_view}
 use Rattle.elf.specs.Data.{section_data}
 use Rattle.elf.specs.Headers.{first_section_of}
 use Rattle.elf.specs.ObjectFile.{ObjectFile}
-use Rattle.elf_check.specs.Object.{IsSound, IsTrueOf, Object, object_in}
+use Rattle.elf_check.specs.Object.{IsSound, IsTrueOfObject, Object, object_in}
 use Rattle.elf_check.specs.declared.hashcheck.any.HashKind.{HashKind}
 use Rattle.elf_check.specs.declared.hashcheck.any.HashKind.TheVariants.{Gnu, Sysv}
 use Rattle.elf_binding.specs.declared.resolve.ObjectFault.{ObjectFault}
@@ -22,20 +22,20 @@ use Rattle.elf_binding.specs.declared.resolve.ObjectFault.TheVariants.{Faulty, N
 use denote.Ref.{Bor}
 
 -- the error of a reader is a fault
-abbrev pub read : {A : Type 0} → Result A ParseError → Result A ObjectFault
-read (Ok x) = Ok x
-read (Err e) = Err (Read e)
+abbrev pub or_fault : {A : Type 0} → Result A ParseError → Result A ObjectFault
+or_fault (Ok x) = Ok x
+or_fault (Err e) = Err (Read e)
 
 -- symbols that there have to be
-abbrev pub needed : {A : Type 0} → Option A → Result A ObjectFault
-needed (Some x) = Ok x
-needed None = Err NoSymbols
+abbrev pub or_no_symbols : {A : Type 0} → Option A → Result A ObjectFault
+or_no_symbols (Some x) = Ok x
+or_no_symbols None = Err NoSymbols
 
 -- the bytes of a section, and the symbols of dynamic linking with their strings
 abbrev pub section_parts : ObjectFile → SectionHeader → Result (List ℕ × (Table × List ℕ)) ObjectFault
 section_parts file s =
-    read (section_data file s) >>= λ found.
-    read (dynamic_symbol_table file) >>= needed >>= λ symbols. Ok (found.0, symbols)
+    or_fault (section_data file s) >>= λ found.
+    or_fault (dynamic_symbol_table file) >>= or_no_symbols >>= λ symbols. Ok (found.0, symbols)
 
 -- the view of these parts, as borrows
 abbrev pub parts_view : {E : Type 0} → Bor (List ℕ) × (ParsingTable E Symbol × StringTable) → List ℕ × (Table × List ℕ)
@@ -45,7 +45,7 @@ parts_view parts = (parts.0.now, symbols_view parts.1)
 abbrev pub section_object : HashKind → ObjectFile → SectionHeader → Result Object ObjectFault
 section_object kind file s =
     section_parts file s >>= λ parts.
-    read (object_in kind file.little file.class parts.0 parts.1.0 parts.1.1)
+    or_fault (object_in kind file.little file.class parts.0 parts.1.0 parts.1.1)
 
 -- by a GNU section, or if there is none by a SysV section, if there is one
 abbrev pub object_by : ObjectFile → Option SectionHeader → Option SectionHeader → Option (Result Object ObjectFault)
@@ -60,7 +60,7 @@ object_of file = object_by file (first_section_of sht_gnu_hash file.sections) (f
 -- the fault of an object that gives no checked table: of a section that there is, a fault that is true of it
 abbrev pub IsFaultOf : Result Object ObjectFault → ObjectFault → Type 0
 IsFaultOf (Err first) fault = fault ≡ first
-IsFaultOf (Ok object) (Faulty fault) = (¬ IsSound object) × IsTrueOf object fault
+IsFaultOf (Ok object) (Faulty fault) = (¬ IsSound object) × IsTrueOfObject object fault
 IsFaultOf (Ok object) (Read e) = ⊥
 IsFaultOf (Ok object) NoSymbols = ⊥
 

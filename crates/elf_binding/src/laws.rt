@@ -3,7 +3,7 @@
 ghost use Rattle.std.specs.Prelude.{◌≡◌, ◌↔◌, IsTrue};
 ghost use Rattle.elf_records.specs.Clones.{ClonesExactly};
 
-use crate::{BindingFault, Unreadable, Version, Wanted};
+use crate::{BindingFault, ReferenceKind, Unreadable, Version, Wanted};
 
 /// Two versions that cannot be read are equal exactly if their symbols are.
 pub fn equal_unreadables(a: &Unreadable, b: &Unreadable)
@@ -15,10 +15,11 @@ pub fn equal_binding_faults(a: &BindingFault, b: &BindingFault)
     ensures { IsTrue (⟦<BindingFault as PartialEq>⟧.eq a.now b.now) ↔ (a.now ≡ b.now) }
 {}
 
-/// The clone of a version, of what a reference requests or of a fault is the same value, and cloning it cannot fail.
+/// The clone of a version, of what a reference requests, of its kind or of a fault is the same value, and cloning it cannot fail.
 pub fn clones()
     ensures version { ClonesExactly ⟦<Version<'static> as Clone>⟧.is_clone ⟦<Version<'static> as Clone>⟧.is_infallible }
     ensures wanted { ClonesExactly ⟦<Wanted<'static> as Clone>⟧.is_clone ⟦<Wanted<'static> as Clone>⟧.is_infallible }
+    ensures kind { ClonesExactly ⟦<ReferenceKind as Clone>⟧.is_clone ⟦<ReferenceKind as Clone>⟧.is_infallible }
     ensures unreadable { ClonesExactly ⟦<Unreadable as Clone>⟧.is_clone ⟦<Unreadable as Clone>⟧.is_infallible }
     ensures fault { ClonesExactly ⟦<BindingFault as Clone>⟧.is_clone ⟦<BindingFault as Clone>⟧.is_infallible }
 {}

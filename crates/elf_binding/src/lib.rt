@@ -1,6 +1,7 @@
 //! Looks up names in an ordered list of objects, as a dynamic linker does. `resolve` finds the first object that has a
 //! name. `bind` finds the symbol to which a reference binds if symbols have versions: the first definition that serves
-//! the reference (GNU symbol versioning).
+//! the reference (GNU symbol versioning). `bind_for` does so for references that are no calls, too: these may bind to
+//! the undefined symbols with values of a program at a fixed address.
 //!
 //! An object is given by its checked hash table (`elf_check`), and for `bind` also by the versions of its symbols.
 //! Nothing is allocated.
@@ -8,16 +9,18 @@
 
 mod choice;
 mod definitions;
+mod kinds;
 pub mod laws;
 mod objects;
 pub mod resolve;
 mod versions;
 
-pub use choice::bind;
-pub use definitions::is_definition;
+pub use choice::{bind, bind_for};
+pub use definitions::{is_definition, is_definition_for};
 use elf::endian::EndianParse;
 use elf::gnu_symver::SymbolVersionTable;
 use elf_check::hashcheck::AnyChecked;
+pub use kinds::reference_kind;
 pub use objects::{reference, versioned_object};
 use thiserror::Error;
 pub use versions::version_of;
@@ -38,6 +41,18 @@ pub enum Wanted<'a> {
     Compatible(Version<'a>),
     /// A definition of this version only, as `dlvsym` requests it.
     Only(Version<'a>),
+}
+
+/// How a file refers to a symbol, by the type of a relocation (`reference_kind`).
+#[derive(Debug, Clone, Copy)]
+pub enum ReferenceKind {
+    /// By a jump slot of the procedure linkage table, for calls. Only definitions serve it. It is also the kind of a
+    /// reference whose relocations are not known.
+    JumpSlot,
+    /// By any other relocation. An undefined symbol with a value serves it too.
+    Address,
+    /// By a relocation that copies a variable into the program. It is not searched for in the program.
+    Copied,
 }
 
 // When a definition of an object with versions serves.

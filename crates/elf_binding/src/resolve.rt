@@ -11,7 +11,7 @@ mod objects;
 use elf::parse::ParseError;
 use elf_check::hashcheck::HashFault;
 pub use elf_check::hashcheck::{AnyChecked, HashSection};
-pub use objects::{object_table, resolve};
+pub use objects::{object_table, resolve, section_table};
 use thiserror::Error;
 
 /// Why a file with a hash section has no checked table.

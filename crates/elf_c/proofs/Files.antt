@@ -13,7 +13,7 @@ use Rattle.elf_records.specs.declared.file.Class.TheVariants.{ELF32, ELF64}
 use Rattle.elf_records.specs.declared.file.FileHeader.{FileHeader}
 use Rattle.elf_records.specs.declared.parse.ParseError.{ParseError}
 use Rattle.elf_records.specs.inner.RecordLaws.{bind-ok}
-use Rattle.elf_reading.specs.Opening.{View, header_at_front, section_count, section_table, segment_count, segment_table, table_bytes}
+use Rattle.elf_reading.specs.Opening.{FileView, header_at_front, section_count, section_table, segment_count, segment_table, table_bytes}
 use Rattle.elf_c.specs.File.{file_view, header_in, header_shown, opened_in, table_if}
 use Rattle.elf_c.specs.inner.OwnTables.{HasOwnTables, IsOwn, bytes_if}
 use Rattle.elf_c.specs.Tables.{class_in, is_64, order_in}
@@ -77,11 +77,11 @@ own_if : (h : FileHeader AnyEndian) (o : Option Table) →
 own_if h None law = tt
 own_if h (Some t) law = law t refl
 
-pub own_tables : (bytes : List ℕ) (v : View AnyEndian) → Ok v ≡ opened_in bytes → HasOwnTables v
+pub own_tables : (bytes : List ℕ) (v : FileView AnyEndian) → Ok v ≡ opened_in bytes → HasOwnTables v
 own_tables bytes v read =
-    let made : FileHeader AnyEndian → Option Table → Option Table → Result (View AnyEndian) ParseError =
+    let made : FileHeader AnyEndian → Option Table → Option Table → Result (FileView AnyEndian) ParseError =
     λ h sections segments. Ok (record { ehdr = h; bytes = bytes; sections = sections; segments = segments }) in
-    let after : FileHeader AnyEndian → Option Table → Result (View AnyEndian) ParseError =
+    let after : FileHeader AnyEndian → Option Table → Result (FileView AnyEndian) ParseError =
     λ h sections. segment_table any_is_little h bytes >>= made h sections in
     let a = bind-ok (header_at_front any_is_little any_of_byte bytes)
     (λ h. section_table any_is_little h bytes >>= after h) v (sym read) in
@@ -107,7 +107,7 @@ table_shown_is h None declared t own some order class bytes = rw some refl
 table_shown_is h (Some x) declared t own some order class bytes =
     rw some (rw order (rw class (rw bytes (rw (class_in_is_64 h.class) (ap Some (sym own))))))
 
-pub shown_is : (f : NugwierFile) (v : View AnyEndian) → HasOwnTables v → f.header ≡ header_shown v.ehdr →
+pub shown_is : (f : NugwierFile) (v : FileView AnyEndian) → HasOwnTables v → f.header ≡ header_shown v.ehdr →
     f.bytes.now ≡ v.bytes → f.has_sections ≡ is_some v.sections → f.has_segments ≡ is_some v.segments →
     f.sections.little ≡ any_is_little v.ehdr.endianness → f.sections.is_64 ≡ is_64 v.ehdr.class →
     f.sections.bytes.now ≡ bytes_if v.sections → f.segments.little ≡ any_is_little v.ehdr.endianness →
@@ -118,7 +118,7 @@ shown_is f v own header bytes has_sections has_segments s_order s_class s_bytes 
     let p = table_shown_is v.ehdr v.segments f.has_segments f.segments own.1 has_segments p_order p_class p_bytes in
     let S = table_if f.has_sections f.sections in
     let P = table_if f.has_segments f.segments in
-    let make : FileHeader AnyEndian → List ℕ → Option Table → Option Table → View AnyEndian =
+    let make : FileHeader AnyEndian → List ℕ → Option Table → Option Table → FileView AnyEndian =
     λ ehdr bytes sections segments.
     record { ehdr = ehdr; bytes = bytes; sections = sections; segments = segments } in
     ap (λ (x : FileHeader AnyEndian). make x f.bytes.now S P) h

@@ -1,5 +1,5 @@
 -- A slice that is filled from its front with the records of a table.
-use Rattle.std.proofs.Common.{inl, inr, drop-drop, [], ◌∷◌, zero, suc, ◌≡◌, ℕ, ◌+◌, ◌<◌, List, Option, Result, Ok, Some, length, slice_get, slice_set, drop, sym, subst, ◌∙◌, ap, arith, refl}
+use Rattle.std.proofs.Common.{inl, inr, drop-drop, [], ◌∷◌, zero, suc, ◌≡◌, ℕ, ◌+◌, ◌-◌, ◌<◌, ◌≤◌, List, Option, Result, Ok, Some, length, slice_get, slice_set, drop, sym, subst, ◌∙◌, ap, arith, refl}
 use Rattle.std.proofs.lemmas.Bool.{cases_eq}
 use Rattle.std.proofs.lemmas.List.{drop-set-lt}
 use Rattle.elf_records.specs.Record.{RecordType}
@@ -43,3 +43,26 @@ pub rest_more : {X : Type 0} (n : ℕ) (xs ys : List X) (v : X) → drop n xs �
     drop (n + 1) (slice_set xs n v) ≡ drop (n + 1) ys
 rest_more n xs ys v same =
     drop-set-lt (n + 1) xs n v (omega arith) ∙ sym (drop-drop 1 n xs) ∙ ap (λ l. drop 1 l) same ∙ drop-drop 1 n ys
+
+-- one place more, by what holds of each
+pub more_places : {X : Type 0} (P : ℕ → Option X → Type 0) (n : ℕ) (xs : List X) (v : X) → n < length xs →
+    ((k : ℕ) → k < n → P k (slice_get xs k)) → P n (Some v) →
+    (k : ℕ) → k < n + 1 → P k (slice_get (slice_set xs n v) k)
+more_places {X = X} P n xs v within filled here k before =
+    elim (cases_eq k n) [
+      | inl same ↦
+          let Q : ℕ → Type 0 = λ j. P j (slice_get (slice_set xs n v) j) in
+          subst Q (sym same) (subst (P n) (sym (slice_get-set_same xs n v within)) here)
+      | inr other ↦
+          let less : k < n = omega (arith, before, other) in
+          subst (P k) (sym (slice_get-set_other xs n k v less within)) (filled k less)
+    ]
+
+-- what is after two fillings, the second of which goes on where the first ended, is as it was
+pub rest_both : {X : Type 0} (m n : ℕ) (xs ys zs : List X) → m ≤ n → drop m ys ≡ drop m zs → drop n xs ≡ drop n ys →
+    drop n xs ≡ drop n zs
+rest_both {X = X} m n xs ys zs low front back =
+    let end : m + (n - m) ≡ n = omega (arith, low) in
+    let from : (l : List X) → drop (n - m) (drop m l) ≡ drop n l =
+    λ l. drop-drop (n - m) m l ∙ ap (λ (k : ℕ). drop k l) end in
+    back ∙ sym (from ys) ∙ ap (λ (l : List X). drop (n - m) l) front ∙ from zs

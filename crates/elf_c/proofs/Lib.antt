@@ -1,4 +1,7 @@
 pub mod Filling
+pub mod OwnBytes
+pub mod NamedFilling
+pub mod Positions
 pub mod Least
 pub mod Definitions
 pub mod Files

@@ -8,7 +8,7 @@ use Rattle.elf_records.specs.declared.file.FileHeader.{FileHeader}
 use Rattle.elf_records.specs.declared.parse.ParseError.{ParseError}
 use Rattle.elf_records.specs.declared.parse.ParseError.TheVariants.{BadOffset}
 use Rattle.elf_records.specs.declared.segment.ProgramHeader.{ProgramHeader}
-use Rattle.elf_reading.specs.Opening.{View, opened}
+use Rattle.elf_reading.specs.Opening.{FileView, opened_file}
 use Rattle.elf.specs.ObjectFile.{ObjectFile, object_file}
 use Rattle.elf_c.specs.Tables.{class_in, is_64, order_in, table_of_c}
 use Rattle.elf_c.specs.declared.file.NugwierFile.{NugwierFile}
@@ -64,7 +64,7 @@ table_if true t = Some (table_of_c t)
 table_if false t = None
 
 -- the opened file whose parts a handle holds
-abbrev pub file_view : NugwierFile → View AnyEndian
+abbrev pub file_view : NugwierFile → FileView AnyEndian
 file_view f = record {
   ehdr = header_in f.header;
   bytes = f.bytes.now;
@@ -77,8 +77,8 @@ abbrev pub file_of_c : NugwierFile → ObjectFile
 file_of_c f = object_file any_is_little (file_view f)
 
 -- the file that bytes hold
-abbrev pub opened_in : List ℕ → Result (View AnyEndian) ParseError
-opened_in bytes = opened any_is_little any_of_byte bytes
+abbrev pub opened_in : List ℕ → Result (FileView AnyEndian) ParseError
+opened_in bytes = opened_file any_is_little any_of_byte bytes
 
 -- program header i of a table, or the error; where no table is declared there is none
 abbrev pub segment_at : Option Table → ℕ → Result ProgramHeader ParseError

@@ -6,15 +6,14 @@ pub mod Tables
 pub mod Filled
 -- the structs of the records
 pub mod Records
+-- symbols with their names
+pub mod Named
 -- look-ups by hash sections
 pub mod Find
 -- hash sections that are checked
 pub mod Sound
 -- notes
 pub mod Notes
--- files that C holds open
--- the bytes of sections and segments
--- symbols, dynamic entries and the names of sections
 -- the versions of symbols
 pub mod Versions
 -- the names of values
@@ -23,7 +22,9 @@ pub mod Names
 pub mod File
 -- the bytes of sections and segments
 pub mod Data
--- symbols, dynamic entries and the names of sections
+-- symbols and dynamic entries
 pub mod Symbols
+-- the names of sections
+pub mod SectionNames
 -- what only implementations cite
 pub mod inner

@@ -4,7 +4,6 @@ use Rattle.elf_abi.specs.Values.{sht_dynsym, sht_symtab}
 use Rattle.elf_records.specs.Table.{Table}
 use Rattle.elf_c.specs.Tables.{table_of_c}
 use Rattle.elf_c.specs.declared.symbols.NugwierDynamicTable.{NugwierDynamicTable}
-use Rattle.elf_c.specs.declared.symbols.NugwierSectionNames.{NugwierSectionNames}
 use Rattle.elf_c.specs.declared.symbols.NugwierSymbolTable.{NugwierSymbolTable}
 use Rattle.elf_c.specs.declared.table.NugwierTable.{NugwierTable}
 use denote.Ref.{Bor}
@@ -17,16 +16,11 @@ symbols_type dynamic = if dynamic then sht_dynsym else sht_symtab
 abbrev pub pair_view : NugwierTable × Bor (List ℕ) → Table × List ℕ
 pair_view found = (table_of_c found.0, found.1.now)
 
+abbrev pub symbols_pair : NugwierSymbolTable → Table × List ℕ
+symbols_pair s = (table_of_c s.symbols, s.strings.now)
+
 abbrev pub symbols_view_of_c : NugwierSymbolTable → Option (Table × List ℕ)
-symbols_view_of_c s = if s.found then Some (table_of_c s.symbols, s.strings.now) else None
+symbols_view_of_c s = if s.found then Some (symbols_pair s) else None
 
 abbrev pub dynamic_view : NugwierDynamicTable → Option Table
 dynamic_view d = if d.found then Some (table_of_c d.entries) else None
-
-abbrev pub names_view : NugwierSectionNames → Option (List ℕ)
-names_view n = if n.found then Some n.strings.now else None
-
--- the value, or this one if there is none
-abbrev pub some_or : {A : Type 0} → A → Option A → A
-some_or other None = other
-some_or other (Some x) = x

@@ -25,7 +25,7 @@ pub struct NugwierFound {
 }
 
 // What was found, as C sees it.
-fn found_shown(found: &Option<(usize, Symbol)>) -> NugwierFound
+pub(crate) fn found_shown(found: &Option<(usize, Symbol)>) -> NugwierFound
     ensures { result ≡ found_shown found.now }
 {
     match found {

@@ -5,9 +5,11 @@
 pub mod data;
 pub mod file;
 pub mod find;
+pub mod named;
 pub mod names;
 pub mod notes;
 pub mod records;
+pub mod section_names;
 pub mod status;
 pub mod strings;
 pub mod symbols;

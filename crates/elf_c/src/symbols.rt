@@ -1,21 +1,18 @@
-//! The tables of a file that its headers lead to: symbols, dynamic entries, and the names of its sections.
-ghost use Rattle.std.specs.Prelude.{◌≡◌, IsUtf8, false, is_some};
+//! The tables of a file that its headers lead to: symbols and dynamic entries.
+ghost use Rattle.std.specs.Prelude.{◌≡◌};
 ghost use Rattle.std.specs.Option.{option_map};
 ghost use Rattle.elf_records.specs.Number.{ok_map};
-ghost use Rattle.elf.specs.Answers.{dynamic, first_symbols, section_dynamic, section_header_by_name, segment_dynamic};
+ghost use Rattle.elf.specs.Answers.{dynamic, first_symbols, section_dynamic, segment_dynamic};
 ghost use Rattle.elf.specs.Headers.{section_range};
-ghost use Rattle.elf.specs.Names.{name_table};
 ghost use Rattle.elf_c.specs.File.{file_of_c};
-ghost use Rattle.elf_c.specs.Records.{section_shown};
-ghost use Rattle.elf_c.specs.Status.{IsWritten, done, status_of, written};
-ghost use Rattle.elf_c.specs.Symbols.{dynamic_view, names_view, pair_view, some_or, symbols_type, symbols_view_of_c};
+ghost use Rattle.elf_c.specs.Status.{IsWritten, status_of};
+ghost use Rattle.elf_c.specs.Symbols.{dynamic_view, pair_view, symbols_type, symbols_view_of_c};
 ghost use Rattle.elf_c.specs.Tables.{table_of_c};
 
 use crate::data::table_in;
 use crate::file::{NugwierFile, file_in};
-use crate::records::NugwierSection;
 use crate::status::{NugwierStatus, done, refused};
-use crate::table::{ForC, NugwierTable};
+use crate::table::NugwierTable;
 use elf::headers::Headers;
 use elf::{ParseError, abi};
 use elf_parts::dynamic::Dyn;
@@ -23,7 +20,6 @@ use elf_parts::parse::ParseAt;
 use elf_parts::section::SectionHeader;
 use elf_parts::segment::ProgramHeader;
 use elf_records::parse::get_bytes;
-use std::str::from_utf8;
 
 /// The symbols of a file with their strings, if it has any.
 #[repr(C)]
@@ -40,14 +36,6 @@ pub struct NugwierSymbolTable<'data> {
 pub struct NugwierDynamicTable<'data> {
     pub found: bool,
     pub entries: NugwierTable<'data>,
-}
-
-/// The strings with the names of the sections of a file, if it has any.
-#[repr(C)]
-#[derive(Drop)]
-pub struct NugwierSectionNames<'data> {
-    pub found: bool,
-    pub strings: &'data [u8],
 }
 
 // The type of a section of symbols.
@@ -116,7 +104,7 @@ pub extern "C" fn nugwier_symbol_table<'data>(
 }
 
 // The dynamic entries of a section.
-fn section_dynamic<'data>(
+pub(crate) fn section_dynamic<'data>(
     file: &NugwierFile<'data>,
     shdr: &SectionHeader,
 ) -> Result<NugwierTable<'data>, ParseError>
@@ -129,7 +117,7 @@ fn section_dynamic<'data>(
 }
 
 // The dynamic entries of a segment.
-fn segment_dynamic<'data>(
+pub(crate) fn segment_dynamic<'data>(
     file: &NugwierFile<'data>,
     phdr: &ProgramHeader,
 ) -> Result<NugwierTable<'data>, ParseError>
@@ -178,78 +166,6 @@ pub extern "C" fn nugwier_dynamic_table<'data>(
         }
         Ok(None) => {
             dynamics.found = false;
-            done()
-        }
-        Err(error) => refused(&error),
-    }
-}
-
-// The strings with the names of the sections.
-#[tactic(auto, unfolding(elf::specs::Names::name_table))]
-fn names_in<'data>(file: &NugwierFile<'data>) -> Result<Option<&'data [u8]>, ParseError>
-    ensures { ok_map (option_map (λ bytes. bytes.now)) result ≡ name_table (file_of_c file.now) }
-{
-    match file_in(file).name_section()? {
-        Some(shdr) => section_range(file, &shdr).map(Some),
-        None => Ok(None),
-    }
-}
-
-/// Finds the strings with the names of the sections of a file. If there are none, `found` is false, and nothing else is
-/// written. An error leaves `names` as it is; the errors are those of `ElfBytes::section_headers_with_strtab`.
-#[unsafe(no_mangle)]
-pub extern "C" fn nugwier_section_names<'data>(
-    file: &NugwierFile<'data>,
-    names: &mut NugwierSectionNames<'data>,
-) -> NugwierStatus
-    ensures status { result ≡ status_of (name_table (file_of_c file.now)) }
-    ensures names { IsWritten names_view names.new names.old (name_table (file_of_c file.now)) }
-{
-    match names_in(file) {
-        Ok(Some(strings)) => {
-            *names = NugwierSectionNames {
-                found: true,
-                strings,
-            };
-            done()
-        }
-        Ok(None) => {
-            names.found = false;
-            done()
-        }
-        Err(error) => refused(&error),
-    }
-}
-
-/// Finds the first section of a file with a name. `found` says whether there is one; if there is none, `section` stays
-/// as it is. An error leaves both as they are; the errors are those of `ElfBytes::section_header_by_name`. A name that
-/// is not UTF-8 is that of no section.
-#[unsafe(no_mangle)]
-pub extern "C" fn nugwier_section_by_name(
-    file: &NugwierFile<'_>,
-    name: &[u8],
-    found: &mut bool,
-    section: &mut NugwierSection,
-) -> NugwierStatus
-    ensures status { IsUtf8 name.now → result ≡ status_of (section_header_by_name (file_of_c file.now) name.now) }
-    ensures found { IsUtf8 name.now → found.new
-        ≡ written is_some found.old (section_header_by_name (file_of_c file.now) name.now) }
-    ensures section { IsUtf8 name.now → section.new ≡ written (some_or section.old) section.old
-        (ok_map (option_map section_shown) (section_header_by_name (file_of_c file.now) name.now)) }
-    ensures other { (IsUtf8 name.now → ⊥) → (result ≡ done) × (found.new ≡ false) × (section.new ≡ section.old) }
-{
-    let Ok(text) = from_utf8(name) else {
-        *found = false;
-        return done();
-    };
-    match file_in(file).section_header_by_name(text) {
-        Ok(Some(header)) => {
-            *found = true;
-            *section = header.show();
-            done()
-        }
-        Ok(None) => {
-            *found = false;
             done()
         }
         Err(error) => refused(&error),

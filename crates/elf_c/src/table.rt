@@ -1,12 +1,12 @@
 //! Tables of records: their bytes, with their byte order and class.
-ghost use Rattle.std.specs.Prelude.{◌≡◌, ◌+◌, ◌<◌, ◌≤◌, ◌^◌, ◌⊎◌, IsErr, drop, length};
+ghost use Rattle.std.specs.Prelude.{◌≡◌, ◌+◌, ◌*◌, ◌<◌, ◌≤◌, ◌^◌, ◌⊎◌, IfSome, IsErr, drop, length, true};
 ghost use Rattle.elf_records.specs.Table.{table_get, table_in, table_len, table_view};
 ghost use Rattle.elf_c.specs.Filled.{IsFilled};
 ghost use Rattle.elf_c.specs.Status.{status_of, written};
 ghost use Rattle.elf_c.specs.Tables.{class_in, is_64, order_in, table_of_c};
 
 use crate::status::{NugwierStatus, done, refused};
-use elf_parts::endian::AnyEndian;
+use elf_parts::endian::{AnyEndian, BigEndian, EndianParse, LittleEndian};
 use elf_parts::file::Class;
 use elf_parts::parse::{ParseAt, ParsingTable};
 
@@ -92,9 +92,106 @@ pub(crate) fn get<R: ForC>(
     }
 }
 
-// Fills places with the records of a table starting at `first`, and returns how many these are: up to the first that
-// cannot be read, and no more than there are places.
-pub(crate) fn fill<R: ForC>(table: &NugwierTable<'_>, first: usize, places: &mut [R::Seen]) -> usize
+// The bytes of a table from record `first` on, of records with this size.
+pub(crate) fn bytes_from(bytes: &[u8], first: usize, size: usize) -> Option<&[u8]>
+    ensures within { IfSome result (λ left. first * size ≤ length bytes.now) }
+    ensures left { IfSome result (λ left. left.now ≡ drop (first * size) bytes.now) }
+    ensures short { length bytes.now < 2 ^ 64 }
+{
+    let len = bytes.len();
+    let start = first.checked_mul(size)?;
+    if start > len {
+        return None;
+    }
+    Some(&bytes[start..])
+}
+
+// Fills places with the records of a table starting at `first`, as far as each can be read from its own bytes. It may
+// stop early. Inlined, so the compiler knows the byte order and the size of a record: the bounds are checked once a
+// record.
+#[inline(always)]
+fn fill_quickly<R: ForC, E: EndianParse>(
+    endian: E,
+    class: Class,
+    bytes: &[u8],
+    first: usize,
+    places: &mut [R::Seen],
+) -> usize
+    requires { R.reads.local ≡ true }
+    ensures count { result ≤ length places.new }
+    ensures read { IsFilled R.reads R.shown (table_in (E.little endian) class bytes.now) first result places.new }
+    ensures rest { drop result places.new ≡ drop result places.old }
+{
+    let size = R::size_for(class);
+    let Some(mut left) = bytes_from(bytes, first, size) else {
+        return 0;
+    };
+    let mut count = 0;
+    while count < places.len() {
+        let Some((own, after)) = left.split_at_checked(size) else {
+            return count;
+        };
+        let mut start = 0;
+        let Ok(record) = R::parse_at(endian, class, &mut start, own) else {
+            return count;
+        };
+        places[count] = record.show();
+        left = after;
+        count += 1;
+    }
+    count
+}
+
+// The same for a table in either byte order. In each arm the class, and so the size of a record, is known to the
+// compiler.
+#[inline(always)]
+fn fill_in_order<R: ForC, E: EndianParse>(
+    endian: E,
+    table: &NugwierTable<'_>,
+    first: usize,
+    places: &mut [R::Seen],
+) -> usize
+    requires order { E.little endian ≡ table.now.little }
+    requires local { R.reads.local ≡ true }
+    ensures count { result ≤ length places.new }
+    ensures read { IsFilled R.reads R.shown (table_of_c table.now) first result places.new }
+    ensures rest { drop result places.new ≡ drop result places.old }
+{
+    if table.is_64 {
+        fill_quickly::<R, E>(endian, Class::ELF64, table.bytes, first, places)
+    } else {
+        fill_quickly::<R, E>(endian, Class::ELF32, table.bytes, first, places)
+    }
+}
+
+// Fills the front of the places; `fill_rest` fills what is left.
+#[inline(always)]
+fn fill_front<R: ForC>(table: &NugwierTable<'_>, first: usize, places: &mut [R::Seen]) -> usize
+    ensures count { result ≤ length places.new }
+    ensures read { IsFilled R.reads R.shown (table_of_c table.now) first result places.new }
+    ensures rest { drop result places.new ≡ drop result places.old }
+{
+    if !R::is_local() {
+        return 0;
+    }
+    if table.little {
+        fill_in_order::<R, LittleEndian>(LittleEndian, table, first, places)
+    } else {
+        fill_in_order::<R, BigEndian>(BigEndian, table, first, places)
+    }
+}
+
+// Fills the places from number `start` on, and returns how many are filled then: up to the first record that cannot be
+// read, and no more than there are places.
+fn fill_rest<R: ForC>(
+    table: &NugwierTable<'_>,
+    first: usize,
+    start: usize,
+    places: &mut [R::Seen],
+) -> usize
+    requires within { start ≤ length places.old }
+    requires front { IsFilled R.reads R.shown (table_of_c table.now) first start places.old }
+    ensures from { start ≤ result }
     ensures count { result ≤ length places.new }
     ensures read { IsFilled R.reads R.shown (table_of_c table.now) first result places.new }
     ensures rest { drop result places.new ≡ drop result places.old }
@@ -102,7 +199,7 @@ pub(crate) fn fill<R: ForC>(table: &NugwierTable<'_>, first: usize, places: &mut
         IsErr (table_get R.reads (table_of_c table.now) (first + result)) ⊎ (2 ^ 64 ≤ first + result) }
 {
     let records = records_in::<R>(table);
-    let mut count = 0;
+    let mut count = start;
     while count < places.len() {
         let Some(index) = first.checked_add(count) else {
             return count;
@@ -114,4 +211,22 @@ pub(crate) fn fill<R: ForC>(table: &NugwierTable<'_>, first: usize, places: &mut
         count += 1;
     }
     count
+}
+
+// Fills places with the records of a table starting at `first`, and returns how many these are: up to the first that
+// cannot be read, and no more than there are places.
+#[tactic(auto, using(crate::proofs::Filling::rest_both))]
+#[inline(always)]
+pub(crate) fn fill<R: ForC>(table: &NugwierTable<'_>, first: usize, places: &mut [R::Seen]) -> usize
+    ensures count { result ≤ length places.new }
+    ensures read { IsFilled R.reads R.shown (table_of_c table.now) first result places.new }
+    ensures rest { drop result places.new ≡ drop result places.old }
+    ensures all { result < length places.new →
+        IsErr (table_get R.reads (table_of_c table.now) (first + result)) ⊎ (2 ^ 64 ≤ first + result) }
+{
+    let front = fill_front::<R>(table, first, places);
+    if front == places.len() {
+        return front;
+    }
+    fill_rest::<R>(table, first, front, places)
 }

@@ -18,9 +18,9 @@ use Rattle.elf.specs.StreamFile.{stream_file}
 use Rattle.elf.specs.ObjectFile.{ObjectFile, object_file}
 use Rattle.elf.specs.Readers.{AreAlike, SameAnswers}
 use Rattle.elf.specs.Readers as readers
-use Rattle.elf.specs.ElfStream.{Seen}
+use Rattle.elf.specs.ElfStream.{StreamView}
 use Rattle.elf_reading.specs.Opening.{headers_of}
-use Rattle.elf_reading.specs.Opening.{View}
+use Rattle.elf_reading.specs.Opening.{FileView}
 use Rattle.elf.proofs.Alike.{alike_first, alike_later, alike_map}
 use Rattle.elf_check.specs.Object.{object_in}
 use Rattle.elf_check.specs.declared.hashcheck.any.HashKind.{HashKind}
@@ -118,7 +118,7 @@ module _ {E : Type 0} (h : FileHeader E) (one other : ObjectFile) (little : one.
 
 -- ---- of a file, and of a stream that shows its headers
 
-pub text_of_both : {E : Type 0} (little : E → Bool) (bytes : List ℕ) (v : View E) (s : Seen E) (calls : List Question) → s.headers ≡ headers_of v
+pub text_of_both : {E : Type 0} (little : E → Bool) (bytes : List ℕ) (v : FileView E) (s : StreamView E) (calls : List Question) → s.headers ≡ headers_of v
     → SameAnswers (object_file little v) (stream_file little s bytes) → text v.ehdr (object_file little v) calls ≡ text s.headers.ehdr (stream_file little s bytes) calls
 text_of_both {E} little bytes v s calls shown same =
     let header : s.headers.ehdr ≡ v.ehdr = ap (λ h. h.ehdr) shown in

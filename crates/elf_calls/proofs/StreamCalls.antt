@@ -5,7 +5,7 @@ use Rattle.std.specs.Io.KnownBytes.{Appends}
 use Rattle.elf.specs.Ranges.{headers_alone, if_there}
 use Rattle.elf.specs.StreamFile.{stream_file}
 use Rattle.elf.specs.ObjectFile.{ObjectFile}
-use Rattle.elf.specs.ElfStream.{AreCached, IsFor, IsNeeded, Keeps, Leaves, Seen}
+use Rattle.elf.specs.ElfStream.{AreCached, IsFor, IsNeeded, Keeps, Leaves, StreamView}
 use Rattle.elf_reading.specs.Refusals.{IsAnswer}
 use Rattle.elf.specs.inner.Loads.{AreThere}
 use Rattle.elf.proofs.stream.Steps.{needed_back, needed_front, only_then, only_wider}
@@ -26,10 +26,10 @@ use Rattle.elf_calls.specs.inner.CallSteps.{Gives, IsWritten, LeadsTo, TriedCall
 
 -- ---- a stream that keeps its file
 
-pub same_file : {E : Type 0} (little : E → Bool) (old new : Seen E) (bytes : List ℕ) → Keeps old new → stream_file little new bytes ≡ stream_file little old bytes
+pub same_file : {E : Type 0} (little : E → Bool) (old new : StreamView E) (bytes : List ℕ) → Keeps old new → stream_file little new bytes ≡ stream_file little old bytes
 same_file little old new bytes keeps = rw keeps.headers refl
 
-pub keeps_then : {E : Type 0} (old middle new : Seen E) → Keeps old middle → Keeps middle new → Keeps old new
+pub keeps_then : {E : Type 0} (old middle new : StreamView E) → Keeps old middle → Keeps middle new → Keeps old new
 keeps_then old middle new a b = record {
   content = b.content ∙ a.content;
   can_fail = b.can_fail ∙ a.can_fail;
@@ -37,19 +37,19 @@ keeps_then old middle new a b = record {
   cached = λ start end h. b.cached start end (a.cached start end h);
 }
 
-pub still_cached : {E : Type 0} (old new : Seen E) (rs : List (ℕ × ℕ)) → Keeps old new → AreCached old rs → AreCached new rs
+pub still_cached : {E : Type 0} (old new : StreamView E) (rs : List (ℕ × ℕ)) → Keeps old new → AreCached old rs → AreCached new rs
 still_cached old new [] keeps h = tt
 still_cached old new (r ∷ rs) keeps h = (keeps.cached r.0 (r.0 + r.1) h.0, still_cached old new rs keeps h.1)
 
-pub cached_front : {E : Type 0} (s : Seen E) (rs qs : List (ℕ × ℕ)) → AreCached s (rs ++ qs) → AreCached s rs
+pub cached_front : {E : Type 0} (s : StreamView E) (rs qs : List (ℕ × ℕ)) → AreCached s (rs ++ qs) → AreCached s rs
 cached_front s [] qs h = tt
 cached_front s (r ∷ rs) qs h = (h.0, cached_front s rs qs h.1)
 
-pub cached_both : {E : Type 0} (s : Seen E) (rs qs : List (ℕ × ℕ)) → AreCached s rs → AreCached s qs → AreCached s (rs ++ qs)
+pub cached_both : {E : Type 0} (s : StreamView E) (rs qs : List (ℕ × ℕ)) → AreCached s rs → AreCached s qs → AreCached s (rs ++ qs)
 cached_both s [] qs h k = k
 cached_both s (r ∷ rs) qs h k = (h.0, cached_both s rs qs h.1 k)
 
-pub cached_back : {E : Type 0} (s : Seen E) (rs qs : List (ℕ × ℕ)) → AreCached s (rs ++ qs) → AreCached s qs
+pub cached_back : {E : Type 0} (s : StreamView E) (rs qs : List (ℕ × ℕ)) → AreCached s (rs ++ qs) → AreCached s qs
 cached_back s [] qs h = h
 cached_back s (r ∷ rs) qs h = cached_back s rs qs h.1
 
@@ -137,7 +137,7 @@ takes_so : {T : Type 0} (r : Result T ParseError) (a b : Type 0) → (a → b) �
 takes_so (Ok x) a b so h = tt
 takes_so (Err e) a b so h = use_so (kind e) ⊥ ⊥ a b (λ x. x) so h
 
-module _ {E T : Type 0} (old new : Seen E) where
+module _ {E T : Type 0} (old new : StreamView E) where
   pub uses_of : {Y : Type 0} (requested : List (ℕ × ℕ)) (takes : Type 0) (copies : List ℕ → Type 0) (shown : T → Y) (answer : List ℕ → Result Y ParseError) (r : Result T ParseError) → Leaves requested shown answer old new r → Uses requested takes copies old new r
   uses_of requested takes copies shown answer r h = record {
     only = h.only;
@@ -175,12 +175,12 @@ module _ {E T : Type 0} (old new : Seen E) where
     needed = needed_so old.content (λ bytes. IsNeeded bytes new requested) (λ bytes. IsNeeded bytes new requested) copies others r (everywhere old.content (λ bytes. IsNeeded bytes new requested → IsNeeded bytes new requested) (λ bytes n. n)) there h.needed;
   }
 
-behind_there : {E : Type 0} (known : Option (List ℕ)) (new : Seen E) (rs qs : List (ℕ × ℕ)) → IfSome known (λ bytes. AreThere bytes rs) → IfSome known (λ bytes. IsNeeded bytes new qs → IsNeeded bytes new (rs ++ qs))
+behind_there : {E : Type 0} (known : Option (List ℕ)) (new : StreamView E) (rs qs : List (ℕ × ℕ)) → IfSome known (λ bytes. AreThere bytes rs) → IfSome known (λ bytes. IsNeeded bytes new qs → IsNeeded bytes new (rs ++ qs))
 behind_there None new rs qs h = tt
 behind_there (Some bytes) new rs qs h = needed_back bytes new rs qs h
 
 -- of one call after another, whose ranges lie in the content
-pub uses_then : {E T U : Type 0} (old middle new : Seen E) (rs qs : List (ℕ × ℕ)) (takes : Type 0) (copies others : List ℕ → Type 0) (first : Result T ParseError) (r : Result U ParseError) → Keeps old middle → IfSome old.content (λ bytes. AreThere bytes rs)
+pub uses_then : {E T U : Type 0} (old middle new : StreamView E) (rs qs : List (ℕ × ℕ)) (takes : Type 0) (copies others : List ℕ → Type 0) (first : Result T ParseError) (r : Result U ParseError) → Keeps old middle → IfSome old.content (λ bytes. AreThere bytes rs)
     → ((bytes : List ℕ) → others bytes → copies bytes) → Uses rs takes copies old middle first → Uses qs takes others middle new r → Uses (rs ++ qs) takes copies old new r
 uses_then old middle new rs qs takes copies others first r keeps there so a b = record {
   only = only_then old middle new rs qs a.only b.only;
@@ -193,7 +193,7 @@ uses_then old middle new rs qs takes copies others first r keeps there so a b = 
 }
 
 -- the call has no answer where a method of the stream that it calls has none
-module _ {E : Type 0} (little : E → Bool) (call : Question) (old new : Seen E) where
+module _ {E : Type 0} (little : E → Bool) (call : Question) (old new : StreamView E) where
   abbrev takes : Type 0
   takes = ¬ TakesNoMemory call
 
@@ -266,13 +266,13 @@ known_answer : {T Y : Type 0} (known : Option (List ℕ)) (shown : T → Y) (ans
 known_answer None shown answer x before now can_fail h = tt
 known_answer (Some bytes) shown answer x before now can_fail h = h.1
 
-pub gives_of : {E T Y : Type 0} (old new : Seen E) (requested : List (ℕ × ℕ)) (copies : List ℕ → Type 0) (shown : T → Y) (answer : List ℕ → Result Y ParseError) (r : Result T ParseError) → Leaves requested shown answer old new r → Gives requested copies shown answer old new r
+pub gives_of : {E T Y : Type 0} (old new : StreamView E) (requested : List (ℕ × ℕ)) (copies : List ℕ → Type 0) (shown : T → Y) (answer : List ℕ → Result Y ParseError) (r : Result T ParseError) → Leaves requested shown answer old new r → Gives requested copies shown answer old new r
 gives_of old new requested copies shown answer r h = record { keeps = h.keeps; loaded = h.loaded; answers = h.answers; uses = uses_of old new requested ⊤ copies shown answer r h }
 
-pub gives_same : {E T Y : Type 0} (old new : Seen E) (shown : T → Y) (answer : List ℕ → Result Y ParseError) (whole : Result T ParseError) (x : T) → whole ≡ Ok x → IfSome old.content (λ bytes. IsAnswer shown (answer bytes) old.can_fail old.failures new.failures whole) → IfSome old.content (λ _. new.failures ≡ old.failures)
+pub gives_same : {E T Y : Type 0} (old new : StreamView E) (shown : T → Y) (answer : List ℕ → Result Y ParseError) (whole : Result T ParseError) (x : T) → whole ≡ Ok x → IfSome old.content (λ bytes. IsAnswer shown (answer bytes) old.can_fail old.failures new.failures whole) → IfSome old.content (λ _. new.failures ≡ old.failures)
 gives_same old new shown answer whole x is h = known_same old.content shown answer x old.failures new.failures old.can_fail (subst (λ w. IfSome old.content (λ bytes. IsAnswer shown (answer bytes) old.can_fail old.failures new.failures w)) is h)
 
-pub gives_answer : {E T Y : Type 0} (old new : Seen E) (shown : T → Y) (answer : List ℕ → Result Y ParseError) (whole : Result T ParseError) (x : T) → whole ≡ Ok x → IfSome old.content (λ bytes. IsAnswer shown (answer bytes) old.can_fail old.failures new.failures whole) → IfSome old.content (λ bytes. answer bytes ≡ Ok (shown x))
+pub gives_answer : {E T Y : Type 0} (old new : StreamView E) (shown : T → Y) (answer : List ℕ → Result Y ParseError) (whole : Result T ParseError) (x : T) → whole ≡ Ok x → IfSome old.content (λ bytes. IsAnswer shown (answer bytes) old.can_fail old.failures new.failures whole) → IfSome old.content (λ bytes. answer bytes ≡ Ok (shown x))
 gives_answer old new shown answer whole x is h = known_answer old.content shown answer x old.failures new.failures old.can_fail (subst (λ w. IfSome old.content (λ bytes. IsAnswer shown (answer bytes) old.can_fail old.failures new.failures w)) is h)
 
 known_there : {T Y : Type 0} (known : Option (List ℕ)) (shown : T → Y) (answer : List ℕ → Result Y ParseError) (x : T) (rs : List (ℕ × ℕ)) → ((bytes : List ℕ) → IsOk (answer bytes) → AreThere bytes rs) → IfSome known (λ bytes. answer bytes ≡ Ok (shown x)) → IfSome known (λ bytes. AreThere bytes rs)
@@ -280,11 +280,11 @@ known_there None shown answer x rs needs h = tt
 known_there (Some bytes) shown answer x rs needs h = needs bytes (ap is_ok h)
 
 -- the ranges that an answer needs lie in the content
-pub gives_there : {E T Y : Type 0} (old new : Seen E) (rs : List (ℕ × ℕ)) (shown : T → Y) (answer : List ℕ → Result Y ParseError) (whole : Result T ParseError) (x : T) → ((bytes : List ℕ) → IsOk (answer bytes) → AreThere bytes rs)
+pub gives_there : {E T Y : Type 0} (old new : StreamView E) (rs : List (ℕ × ℕ)) (shown : T → Y) (answer : List ℕ → Result Y ParseError) (whole : Result T ParseError) (x : T) → ((bytes : List ℕ) → IsOk (answer bytes) → AreThere bytes rs)
     → whole ≡ Ok x → IfSome old.content (λ bytes. IsAnswer shown (answer bytes) old.can_fail old.failures new.failures whole) → IfSome old.content (λ bytes. AreThere bytes rs)
 gives_there old new rs shown answer whole x needs is h = known_there old.content shown answer x rs needs (gives_answer old new shown answer whole x is h)
 
-module _ {E : Type 0} (little : E → Bool) (call : Question) (old new : Seen E) where
+module _ {E : Type 0} (little : E → Bool) (call : Question) (old new : StreamView E) where
   pub call_written : {T Y X : Type 0} (shown : T → Y) (answer : List ℕ → Result Y ParseError) (whole : Result T ParseError) (x : T) (written : List ℕ) (before after : Option (List ℕ)) (w : Result (Unit {0}) X)
       → IfSome old.content (λ bytes. answer bytes ≡ Ok (shown x) → stream_answer little old bytes call ≡ Ok written)
       → Keeps old new → IfSome old.content (λ bytes. IsAnswer shown (answer bytes) old.can_fail old.failures new.failures whole)
@@ -347,7 +347,7 @@ refused_ran X (Some bytes) answer old middle new before now can_fail e r h leads
     ran_by (kind e) (answer bytes) old new before now can_fail r h.1 (subst (λ o. LeadsTo (kind e) o new r) h.0 leads)
 
 -- its ranges are cached, in words of the stream that it leaves
-pub loaded_there : {E : Type 0} (little : E → Bool) (call : Question) (old new : Seen E) → Keeps old new → AreCached new (call_ranges little old call) → AreCached new (call_ranges little new call)
+pub loaded_there : {E : Type 0} (little : E → Bool) (call : Question) (old new : StreamView E) → Keeps old new → AreCached new (call_ranges little old call) → AreCached new (call_ranges little new call)
 loaded_there little call old new keeps cached = subst (λ file. AreCached new (ranges_of file call)) (sym (same_file little old new [] keeps)) cached
 
 loaded_known : (known : Option (List ℕ)) (answered : List ℕ → Type 0) (cached : Type 0) (r : Result (Unit {0}) Stop) → cached → OnOk r (IfSome known (λ bytes. answered bytes → cached))
@@ -373,11 +373,11 @@ tried_refusal : (X : Type 0) (known : Option (List ℕ)) (answer : List ℕ → 
 tried_refusal X None answer old new before now can_fail e h = tt
 tried_refusal X (Some bytes) answer old new before now can_fail e h = h.1
 
-pub same_answer : {E : Type 0} (little : E → Bool) (call : Question) (old new : Seen E) (bytes : List ℕ) → Keeps old new → stream_answer little new bytes call ≡ stream_answer little old bytes call
+pub same_answer : {E : Type 0} (little : E → Bool) (call : Question) (old new : StreamView E) (bytes : List ℕ) → Keeps old new → stream_answer little new bytes call ≡ stream_answer little old bytes call
 same_answer little call old new bytes keeps =
     ap (λ h. call_answer h (stream_file little new bytes) call) (ap (λ h. h.ehdr) keeps.headers) ∙ ap (λ file. call_answer old.headers.ehdr file call) (same_file little old new bytes keeps)
 
-module _ {E : Type 0} (little : E → Bool) (call : Question) (old new : Seen E) where
+module _ {E : Type 0} (little : E → Bool) (call : Question) (old new : StreamView E) where
   abbrev answer : List ℕ → Result (List ℕ) ParseError
   answer bytes = stream_answer little old bytes call
 
@@ -415,7 +415,7 @@ module _ {E : Type 0} (little : E → Bool) (call : Question) (old new : Seen E)
 
 -- ---- one call of a stream after another
 
-later_answers : {E T Y : Type 0} (little : E → Bool) (old middle new : Seen E) (shown : T → Y) (answer : ObjectFile → Result Y ParseError) (r : Result T ParseError) (known : Option (List ℕ)) → Keeps old middle → IfSome known (λ _. middle.failures ≡ old.failures)
+later_answers : {E T Y : Type 0} (little : E → Bool) (old middle new : StreamView E) (shown : T → Y) (answer : ObjectFile → Result Y ParseError) (r : Result T ParseError) (known : Option (List ℕ)) → Keeps old middle → IfSome known (λ _. middle.failures ≡ old.failures)
     → IfSome known (λ bytes. IsAnswer shown (answer (stream_file little middle bytes)) middle.can_fail middle.failures new.failures r) → IfSome known (λ bytes. IsAnswer shown (answer (stream_file little old bytes)) old.can_fail old.failures new.failures r)
 later_answers little old middle new shown answer r None keeps same h = tt
 later_answers little old middle new shown answer r (Some bytes) keeps same h =
@@ -424,12 +424,12 @@ later_answers little old middle new shown answer r (Some bytes) keeps same h =
     (subst (λ can_fail. IsAnswer shown (answer (stream_file little middle bytes)) can_fail middle.failures new.failures r) keeps.can_fail h))
 
 -- what a call leaves after another one, whose ranges may have been loaded before
-pub record LeavesBehind {E T Y : Type 0} (requested : List (ℕ × ℕ)) (shown : T → Y) (answer : List ℕ → Result Y ParseError) (old new : Seen E) (r : Result T ParseError) : Type 0 where
+pub record LeavesBehind {E T Y : Type 0} (requested : List (ℕ × ℕ)) (shown : T → Y) (answer : List ℕ → Result Y ParseError) (old new : StreamView E) (r : Result T ParseError) : Type 0 where
   pub keeps : Keeps old new
   pub loaded : OnOk r (AreCached new requested)
   pub answers : IfSome old.content (λ bytes. IsAnswer shown (answer bytes) old.can_fail old.failures new.failures r)
 
-module _ {E T Y : Type 0} (little : E → Bool) (old middle new : Seen E) (requested : ObjectFile → List (ℕ × ℕ)) (shown : T → Y) (answer : ObjectFile → Result Y ParseError) (r : Result T ParseError) (keeps : Keeps old middle) (h : Leaves (requested (headers_alone little middle)) shown (λ bytes. answer (stream_file little middle bytes)) middle new r) where
+module _ {E T Y : Type 0} (little : E → Bool) (old middle new : StreamView E) (requested : ObjectFile → List (ℕ × ℕ)) (shown : T → Y) (answer : ObjectFile → Result Y ParseError) (r : Result T ParseError) (keeps : Keeps old middle) (h : Leaves (requested (headers_alone little middle)) shown (λ bytes. answer (stream_file little middle bytes)) middle new r) where
   pub leaves_later : IfSome old.content (λ _. middle.failures ≡ old.failures) → LeavesBehind (requested (headers_alone little old)) shown (λ bytes. answer (stream_file little old bytes)) old new r
   leaves_later same = record {
     keeps = keeps_then old middle new keeps h.keeps;
@@ -454,12 +454,12 @@ made_answers : {T Y U Z : Type 0} (known : Option (List ℕ)) (shown : T → Y) 
 made_answers None shown answer shows made before now can_fail e same h = tt
 made_answers (Some bytes) shown answer shows made before now can_fail e same h = refused_by (kind e) (IsErr (answer bytes)) (IsErr (made bytes)) before now can_fail (err_same (made bytes) (answer bytes) (same bytes)) h
 
-made_accepted : {E Y Z : Type 0} (T U : Type 0) (known : Option (List ℕ)) (old : Seen E) (requested : List (ℕ × ℕ)) (answer : List ℕ → Result Y ParseError) (made : List ℕ → Result Z ParseError) (e : ParseError) → ((bytes : List ℕ) → is_ok (made bytes) ≡ is_ok (answer bytes))
+made_accepted : {E Y Z : Type 0} (T U : Type 0) (known : Option (List ℕ)) (old : StreamView E) (requested : List (ℕ × ℕ)) (answer : List ℕ → Result Y ParseError) (made : List ℕ → Result Z ParseError) (e : ParseError) → ((bytes : List ℕ) → is_ok (made bytes) ≡ is_ok (answer bytes))
     → IfSome known (λ bytes. IsOk (answer bytes) → AreCached old requested → IsOk {T = T} (Err e)) → IfSome known (λ bytes. IsOk (made bytes) → AreCached old requested → IsOk {T = U} (Err e))
 made_accepted T U None old requested answer made e same h = tt
 made_accepted T U (Some bytes) old requested answer made e same h = λ ok cached. h (sym (same bytes) ∙ ok) cached
 
-pub leaves_made : {E T Y U Z : Type 0} (old new : Seen E) (requested : List (ℕ × ℕ)) (shown : T → Y) (answer : List ℕ → Result Y ParseError) (shows : U → Z) (made : List ℕ → Result Z ParseError) (whole : Result T ParseError) (e : ParseError) → ((bytes : List ℕ) → is_ok (made bytes) ≡ is_ok (answer bytes))
+pub leaves_made : {E T Y U Z : Type 0} (old new : StreamView E) (requested : List (ℕ × ℕ)) (shown : T → Y) (answer : List ℕ → Result Y ParseError) (shows : U → Z) (made : List ℕ → Result Z ParseError) (whole : Result T ParseError) (e : ParseError) → ((bytes : List ℕ) → is_ok (made bytes) ≡ is_ok (answer bytes))
     → whole ≡ Err e → Leaves requested shown answer old new whole → Leaves requested shows made old new (Err e)
 leaves_made {E} {T} {Y} {U} {Z} old new requested shown answer shows made whole e same is leaves =
     let refused : Leaves requested shown answer old new (Err e) = subst (λ w. Leaves requested shown answer old new w) is leaves in
@@ -479,7 +479,7 @@ answers_refused None shown answer shows made before now can_fail e so h = tt
 answers_refused (Some bytes) shown answer shows made before now can_fail e so h = refused_by (kind e) (IsErr (answer bytes)) (IsErr (made bytes)) before now can_fail (so bytes) h
 
 -- what is made of an answer is refused where the answer is
-pub answer_refused : {E T Y U Z : Type 0} (old new : Seen E) (requested : List (ℕ × ℕ)) (copies : List ℕ → Type 0) (shown : T → Y) (answer : List ℕ → Result Y ParseError) (shows : U → Z) (made : List ℕ → Result Z ParseError) (whole : Result T ParseError) (e : ParseError) → ((bytes : List ℕ) → IsErr (answer bytes) → IsErr (made bytes))
+pub answer_refused : {E T Y U Z : Type 0} (old new : StreamView E) (requested : List (ℕ × ℕ)) (copies : List ℕ → Type 0) (shown : T → Y) (answer : List ℕ → Result Y ParseError) (shows : U → Z) (made : List ℕ → Result Z ParseError) (whole : Result T ParseError) (e : ParseError) → ((bytes : List ℕ) → IsErr (answer bytes) → IsErr (made bytes))
     → whole ≡ Err e → Keeps old new → IfSome old.content (λ bytes. IsAnswer shown (answer bytes) old.can_fail old.failures new.failures whole) → Uses requested ⊤ copies old new whole → Gives requested copies shows made old new (Err e)
 answer_refused old new requested copies shown answer shows made whole e so is keeps answers uses =
     let here = subst (λ w. IfSome old.content (λ bytes. IsAnswer shown (answer bytes) old.can_fail old.failures new.failures w)) is answers in
@@ -510,7 +510,7 @@ both_known count line (Err e) b n y counted is = cc counted
 
 -- ---- of a section, and of a segment, that is there
 
-module _ {E T Y X : Type 0} (little : E → Bool) (call : Question) (old new : Seen E) (shown : T → Y) (line : Y → List ℕ) where
+module _ {E T Y X : Type 0} (little : E → Bool) (call : Question) (old new : StreamView E) (shown : T → Y) (line : Y → List ℕ) where
   pub section_refused : (ranges : SectionHeader → List (ℕ × ℕ)) (i : ℕ) (s : SectionHeader) (answer : ObjectFile → SectionHeader → Result Y ParseError) (whole : Result T ParseError) (e : ParseError) (before : Option (List ℕ))
       → ((bytes : List ℕ) → stream_answer little old bytes call ≡ unless_absent (λ s. ok_map line (answer (stream_file little old bytes) s)) (slice_get old.headers.sections i))
       → call_ranges little old call ≡ if_there ranges (slice_get old.headers.sections i)

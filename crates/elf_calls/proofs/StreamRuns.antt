@@ -7,7 +7,7 @@ use Rattle.std.specs.Io.KnownBytes.{Appends, Keeps as KeepsBytes}
 use Rattle.elf.specs.Ranges.{headers_alone}
 use Rattle.elf.specs.StreamFile.{stream_file}
 use Rattle.elf.specs.ObjectFile.{ObjectFile}
-use Rattle.elf.specs.ElfStream.{AreCached, IsCached, IsRequested, Keeps, Seen}
+use Rattle.elf.specs.ElfStream.{AreCached, IsCached, IsRequested, Keeps, StreamView}
 use Rattle.elf.proofs.stream.Steps.{requested_back, requested_front}
 use Rattle.elf_records.specs.declared.parse.ParseError.{ParseError}
 use Rattle.elf_reading.specs.Refusals.{IsRefused, kind}
@@ -24,22 +24,22 @@ use Rattle.elf_calls.proofs.StreamCalls.{cached_back, cached_front, loaded_there
 use Rattle.elf_calls.specs.Run.{IfFaultAt, IsFaultless, Ran, run_ranges}
 use Rattle.elf_calls.specs.inner.RunSteps.{stopped_after}
 
-same_ranges : {E : Type 0} (little : E → Bool) (old middle : Seen E) (call : Question) → Keeps old middle → call_ranges little middle call ≡ call_ranges little old call
+same_ranges : {E : Type 0} (little : E → Bool) (old middle : StreamView E) (call : Question) → Keeps old middle → call_ranges little middle call ≡ call_ranges little old call
 same_ranges little old middle call keeps = ap (λ file. ranges_of file call) (same_file little old middle [] keeps)
 
-ranges_later : {E : Type 0} (little : E → Bool) (old middle : Seen E) (call : Question) → Keeps old middle → AreCached middle (call_ranges little old call) → AreCached middle (call_ranges little middle call)
+ranges_later : {E : Type 0} (little : E → Bool) (old middle : StreamView E) (call : Question) → Keeps old middle → AreCached middle (call_ranges little old call) → AreCached middle (call_ranges little middle call)
 ranges_later little old middle call keeps h = subst (λ rs. AreCached middle rs) (sym (same_ranges little old middle call keeps)) h
 
-hand_later : {E : Type 0} (little : E → Bool) (old middle : Seen E) (call : Question) → Keeps old middle → IsAtHand little old call → IsAtHand little middle call
+hand_later : {E : Type 0} (little : E → Bool) (old middle : StreamView E) (call : Question) → Keeps old middle → IsAtHand little old call → IsAtHand little middle call
 hand_later little old middle call keeps h = (h.0, ranges_later little old middle call keeps (still_cached old middle (ranges_of (headers_alone little old) call) keeps h.1))
 
-loaded_later : {E : Type 0} (little : E → Bool) (old new : Seen E) (bytes : List ℕ) (call : Question) → Keeps old new → IsLoaded little old bytes call → IsLoaded little new bytes call
+loaded_later : {E : Type 0} (little : E → Bool) (old new : StreamView E) (bytes : List ℕ) (call : Question) → Keeps old new → IsLoaded little old bytes call → IsLoaded little new bytes call
 loaded_later little old new bytes call keeps loaded = λ ready.
     let cached = loaded (subst IsOk (same_answer little call old new bytes keeps) ready) in
     loaded_there little call old new keeps (still_cached old new (call_ranges little old call) keeps cached)
 
 -- the calls so far are loaded, and then one more is
-all_loaded : {E : Type 0} (little : E → Bool) (middle new : Seen E) (known : Option (List ℕ)) (calls : List Call) (i : ℕ) (d : Call) → Keeps middle new → i < length calls
+all_loaded : {E : Type 0} (little : E → Bool) (middle new : StreamView E) (known : Option (List ℕ)) (calls : List Call) (i : ℕ) (d : Call) → Keeps middle new → i < length calls
     → IfSome known (λ bytes. All (λ call. IsLoaded little middle bytes (question call)) (take i calls)) → IfSome known (λ bytes. IsLoaded little new bytes (question (get_or calls i d)))
     → IfSome known (λ bytes. All (λ call. IsLoaded little new bytes (question call)) (take (i + 1) calls))
 all_loaded little middle new None calls i d keeps within all one = tt
@@ -47,7 +47,7 @@ all_loaded little middle new (Some bytes) calls i d keeps within all one =
     let later = All-weaker (λ call. IsLoaded little middle bytes (question call)) (λ call. IsLoaded little new bytes (question call)) (λ call. loaded_later little middle new bytes (question call) keeps) (take i calls) all in
     All-more (λ call. IsLoaded little new bytes (question call)) calls i d within later one
 
-pub more_loaded : {E : Type 0} (little : E → Bool) (middle new : Seen E) (known : Option (List ℕ)) (calls : List Call) (i : ℕ) (d : Call) (r : Result (Unit {0}) Stop) (x : Unit {0}) → Keeps middle new → i < length calls → r ≡ Ok x
+pub more_loaded : {E : Type 0} (little : E → Bool) (middle new : StreamView E) (known : Option (List ℕ)) (calls : List Call) (i : ℕ) (d : Call) (r : Result (Unit {0}) Stop) (x : Unit {0}) → Keeps middle new → i < length calls → r ≡ Ok x
     → IfSome known (λ bytes. All (λ call. IsLoaded little middle bytes (question call)) (take i calls)) → OnOk r (IfSome known (λ bytes. IsLoaded little new bytes (question (get_or calls i d))))
     → IfSome known (λ bytes. All (λ call. IsLoaded little new bytes (question call)) (take (i + 1) calls))
 more_loaded little middle new known calls i d r x keeps within is all one =
@@ -65,7 +65,7 @@ kept_appends (Some xs) None w bytes h kept = absurd h
 kept_appends (Some xs) (Some ys) None bytes h kept = kept
 kept_appends (Some xs) (Some ys) (Some zs) bytes h kept = kept ∙ h
 
-known_more : {E : Type 0} (little : E → Bool) (old middle : Seen E) (known : Option (List ℕ)) (calls : List Call) (i : ℕ) (d : Call) (now : ℕ) (u v w z : Option (List ℕ)) (x : Unit {0}) → Keeps old middle → i < length calls → KeepsBytes w z
+known_more : {E : Type 0} (little : E → Bool) (old middle : StreamView E) (known : Option (List ℕ)) (calls : List Call) (i : ℕ) (d : Call) (now : ℕ) (u v w z : Option (List ℕ)) (x : Unit {0}) → Keeps old middle → i < length calls → KeepsBytes w z
     → IfSome known (λ bytes. Appends u v (text old.headers.ehdr (stream_file little old bytes) (map question (take i calls))) × (middle.failures ≡ old.failures))
     → IfSome known (λ bytes. RanOne (stream_answer little middle bytes (question (get_or calls i d))) v w middle.can_fail middle.failures now (Ok x))
     → IfSome known (λ bytes. Appends u z (text old.headers.ehdr (stream_file little old bytes) (map question (take (i + 1) calls))) × (now ≡ old.failures))
@@ -78,14 +78,14 @@ known_more little old middle (Some bytes) calls i d now u v w z x keeps within k
     let whole = ap (λ cs. text old.headers.ehdr (stream_file little old bytes) (map question cs)) (take_more calls i d within) ∙ text_more old.headers.ehdr (stream_file little old bytes) (take i calls) (get_or calls i d) in
     (kept_appends u w z (text old.headers.ehdr (stream_file little old bytes) (map question (take (i + 1) calls))) (subst (λ t. Appends u w t) (sym whole) both) kept, one.0 ∙ all.1)
 
-pub more_written : {E : Type 0} (little : E → Bool) (old middle : Seen E) (known : Option (List ℕ)) (calls : List Call) (i : ℕ) (d : Call) (now : ℕ) (u v w z : Option (List ℕ)) (r : Result (Unit {0}) Stop) (x : Unit {0}) → Keeps old middle → i < length calls → KeepsBytes w z → r ≡ Ok x
+pub more_written : {E : Type 0} (little : E → Bool) (old middle : StreamView E) (known : Option (List ℕ)) (calls : List Call) (i : ℕ) (d : Call) (now : ℕ) (u v w z : Option (List ℕ)) (r : Result (Unit {0}) Stop) (x : Unit {0}) → Keeps old middle → i < length calls → KeepsBytes w z → r ≡ Ok x
     → IfSome known (λ bytes. Appends u v (text old.headers.ehdr (stream_file little old bytes) (map question (take i calls))) × (middle.failures ≡ old.failures))
     → IfSome known (λ bytes. RanOne (stream_answer little middle bytes (question (get_or calls i d))) v w middle.can_fail middle.failures now r)
     → IfSome known (λ bytes. Appends u z (text old.headers.ehdr (stream_file little old bytes) (map question (take (i + 1) calls))) × (now ≡ old.failures))
 more_written little old middle known calls i d now u v w z r x keeps within kept is all one =
     known_more little old middle known calls i d now u v w z x keeps within kept all (subst (λ o. IfSome known (λ bytes. RanOne (stream_answer little middle bytes (question (get_or calls i d))) v w middle.can_fail middle.failures now o)) is one)
 
-stopped_by : {E : Type 0} (little : E → Bool) (old middle : Seen E) (known : Option (List ℕ)) (calls : List Call) (i : ℕ) (d : Call) (now : ℕ) (u v w : Option (List ℕ)) (s : Stop) → Keeps old middle → i < length calls
+stopped_by : {E : Type 0} (little : E → Bool) (old middle : StreamView E) (known : Option (List ℕ)) (calls : List Call) (i : ℕ) (d : Call) (now : ℕ) (u v w : Option (List ℕ)) (s : Stop) → Keeps old middle → i < length calls
     → IfSome known (λ bytes. Appends u v (text old.headers.ehdr (stream_file little old bytes) (map question (take i calls))) × (middle.failures ≡ old.failures))
     → IfSome known (λ bytes. RanOne (stream_answer little middle bytes (question (get_or calls i d))) v w middle.can_fail middle.failures now (Err s))
     → IfSome known (λ bytes. Ran (λ calls. text old.headers.ehdr (stream_file little old bytes) (map question calls)) calls u w old.can_fail old.failures now (Err (stopped_after i s)))
@@ -96,7 +96,7 @@ stopped_by little old middle (Some bytes) calls i d now u v w (stop.Fault e) kee
 stopped_by little old middle (Some bytes) calls i d now u v w (stop.Write e) keeps within all one = (within, one ∙ all.1)
 
 -- a call that stopped the run after i others
-pub stopped : {E : Type 0} (little : E → Bool) (old middle : Seen E) (known : Option (List ℕ)) (calls : List Call) (i : ℕ) (d : Call) (now : ℕ) (u v w : Option (List ℕ)) (r : Result (Unit {0}) Stop) (s : Stop) → Keeps old middle → i < length calls → r ≡ Err s
+pub stopped : {E : Type 0} (little : E → Bool) (old middle : StreamView E) (known : Option (List ℕ)) (calls : List Call) (i : ℕ) (d : Call) (now : ℕ) (u v w : Option (List ℕ)) (r : Result (Unit {0}) Stop) (s : Stop) → Keeps old middle → i < length calls → r ≡ Err s
     → IfSome known (λ bytes. Appends u v (text old.headers.ehdr (stream_file little old bytes) (map question (take i calls))) × (middle.failures ≡ old.failures))
     → IfSome known (λ bytes. RanOne (stream_answer little middle bytes (question (get_or calls i d))) v w middle.can_fail middle.failures now r)
     → IfSome known (λ bytes. Ran (λ calls. text old.headers.ehdr (stream_file little old bytes) (map question calls)) calls u w old.can_fail old.failures now (Err (stopped_after i s)))
@@ -108,7 +108,7 @@ still_faultless i (stop.Fault e) h = absurd h
 still_faultless i (stop.Write e) h = tt
 
 -- a call of the list that is at hand makes no fault
-pub faulted : {E : Type 0} (little : E → Bool) (old middle : Seen E) (calls : List Call) (i : ℕ) (d : Call) (r : Result (Unit {0}) Stop) (s : Stop) → Keeps old middle → i < length calls → r ≡ Err s
+pub faulted : {E : Type 0} (little : E → Bool) (old middle : StreamView E) (calls : List Call) (i : ℕ) (d : Call) (r : Result (Unit {0}) Stop) (s : Stop) → Keeps old middle → i < length calls → r ≡ Err s
     → (IsAtHand little middle (question (get_or calls i d)) → IsFaultlessCall r) → All (λ call. IsAtHand little old (question call)) calls → IsFaultless (Err (stopped_after i s))
 faulted little old middle calls i d r s keeps within is h all =
     let here : IsAtHand little old (question (get_or calls i d)) = All-get_or (λ call. IsAtHand little old (question call)) calls i d within all in
@@ -116,7 +116,7 @@ faulted little old middle calls i d r s keeps within is h all =
 
 -- ---- what is used, and what is cached
 
-module _ {E : Type 0} (little : E → Bool) (s : Seen E) where
+module _ {E : Type 0} (little : E → Bool) (s : StreamView E) where
   abbrev all : List Call → List (ℕ × ℕ)
   all calls = run_ranges little s (map question calls)
 
@@ -142,14 +142,14 @@ fault_at calls i d (stop.Fault e) P within h = subst (λ o. IfSome o (λ call. P
 fault_at calls i d (stop.Write e) P within h = tt
 
 -- the calls so far cached nothing else
-pub record HasUsed {E : Type 0} (little : E → Bool) (calls : List Call) (old new : Seen E) : Type 0 where
+pub record HasUsed {E : Type 0} (little : E → Bool) (calls : List Call) (old new : StreamView E) : Type 0 where
   pub only : (start end : ℕ) → IsCached new start end → IsCached old start end ⊎ IsRequested (run_ranges little old (map question calls)) start end
   pub untouched : AreCached old (run_ranges little old (map question calls)) → new ≡ old
 
-pub none_used : {E : Type 0} (little : E → Bool) (calls : List Call) (old : Seen E) → HasUsed little calls old old
+pub none_used : {E : Type 0} (little : E → Bool) (calls : List Call) (old : StreamView E) → HasUsed little calls old old
 none_used little calls old = record { only = λ start end h. inl h; untouched = λ _. refl }
 
-module _ {E : Type 0} (little : E → Bool) (old middle new : Seen E) (calls : List Call) (i : ℕ) (d : Call) (keeps : Keeps old middle) (within : i < length calls) (used : HasUsed little calls old middle) where
+module _ {E : Type 0} (little : E → Bool) (old middle new : StreamView E) (calls : List Call) (i : ℕ) (d : Call) (keeps : Keeps old middle) (within : i < length calls) (used : HasUsed little calls old middle) where
   abbrev here : Question
   here = question (get_or calls i d)
 

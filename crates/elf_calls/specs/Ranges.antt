@@ -5,7 +5,7 @@ use Rattle.elf.specs.Data.{section_data}
 use Rattle.elf.specs.Ranges.{dynamic_ranges, headers_alone, if_there, names_ranges, section_ranges, segment_ranges}
 use Rattle.elf.specs.Ranges.{segment_notes_ranges, symbols_ranges, typed_section_ranges, versions_ranges}
 use Rattle.elf.specs.ObjectFile.{ObjectFile}
-use Rattle.elf.specs.ElfStream.{Seen}
+use Rattle.elf.specs.ElfStream.{StreamView}
 use Rattle.elf_records.specs.declared.section.SectionHeader.{SectionHeader}
 use Rattle.elf_calls.specs.Question.{Question, Header, Sections, Segments, Name, Data, Strings, Rels, Relas}
 use Rattle.elf_calls.specs.Question.{Notes, Seg, SegNotes, Symbols, DynSyms, Dynamic, Versions, Hash}
@@ -34,7 +34,7 @@ ranges_of file Versions = symbols_ranges sht_dynsym file ++ versions_ranges file
 ranges_of file (Hash kind i) = if_there (checked_ranges file) (slice_get file.sections i)
 
 -- those of a call of a stream, by a type of byte orders and which of them are little
-abbrev pub call_ranges : {E : Type 0} → (E → Bool) → Seen E → Question → List (ℕ × ℕ)
+abbrev pub call_ranges : {E : Type 0} → (E → Bool) → StreamView E → Question → List (ℕ × ℕ)
 call_ranges little s call = ranges_of (headers_alone little s) call
 
 -- the call takes no memory beyond that of its ranges: `sysv` and `gnu` take a copy of a section

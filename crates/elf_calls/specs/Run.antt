@@ -3,7 +3,7 @@ use Rattle.std.specs.Prelude.{◌≡◌, ℕ, ◌<◌, Bool, List, length, take,
 use Rattle.std.specs.List.{flat_map}
 use Rattle.std.specs.Io.KnownBytes.{Appends}
 use Rattle.elf_reading.specs.Refusals.{IsRefused, kind}
-use Rattle.elf.specs.ElfStream.{Seen}
+use Rattle.elf.specs.ElfStream.{StreamView}
 use Rattle.elf_records.specs.declared.parse.ParseError.{ParseError}
 use Rattle.elf_calls.specs.Question.{Question}
 use Rattle.elf_calls.specs.Ranges.{call_ranges}
@@ -36,7 +36,7 @@ IsFaultless (Err (Write done e)) = Unit {0}
 -- ---- what a run uses
 
 -- the ranges that its calls request, one call after the other
-abbrev pub run_ranges : {E : Type 0} → (E → Bool) → Seen E → List Question → List (ℕ × ℕ)
+abbrev pub run_ranges : {E : Type 0} → (E → Bool) → StreamView E → List Question → List (ℕ × ℕ)
 run_ranges little s calls = flat_map (call_ranges little s) calls
 
 -- of a fault, and of the call at which it came

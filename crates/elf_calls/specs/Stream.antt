@@ -2,7 +2,7 @@
 use Rattle.std.specs.Prelude.{◌≡◌, ◌⊎◌, ℕ, Bool, List, Option, Result, Ok, Err, IfSome, IsOk, OnOk}
 use Rattle.std.specs.Io.KnownBytes.{Appends, Keeps as KeepsBytes}
 use Rattle.elf.specs.StreamFile.{stream_file}
-use Rattle.elf.specs.ElfStream.{AreCached, IsCached, IsNeeded, IsRequested, Keeps, Seen}
+use Rattle.elf.specs.ElfStream.{AreCached, IsCached, IsNeeded, IsRequested, Keeps, StreamView}
 use Rattle.elf_reading.specs.Refusals.{IsRefused, Kind, SourceFailure, AllocationFailure, Refusal, kind}
 use Rattle.elf_records.specs.declared.parse.ParseError.{ParseError}
 use Rattle.elf_calls.specs.Question.{Question}
@@ -12,15 +12,15 @@ use Rattle.elf_calls.specs.declared.stream.Stop.{Stop}
 use Rattle.elf_calls.specs.declared.stream.Stop.TheVariants as stop
 
 -- what a stream answers to a call over a content, by a type of byte orders and which of them are little
-abbrev pub stream_answer : {E : Type 0} → (E → Bool) → Seen E → List ℕ → Question → Result (List ℕ) ParseError
+abbrev pub stream_answer : {E : Type 0} → (E → Bool) → StreamView E → List ℕ → Question → Result (List ℕ) ParseError
 stream_answer little s bytes call = call_answer s.headers.ehdr (stream_file little s bytes) call
 
 -- where the call is answered its ranges are cached
-abbrev pub IsLoaded : {E : Type 0} → (E → Bool) → Seen E → List ℕ → Question → Type 0
+abbrev pub IsLoaded : {E : Type 0} → (E → Bool) → StreamView E → List ℕ → Question → Type 0
 IsLoaded little s bytes call = IsOk (stream_answer little s bytes call) → AreCached s (call_ranges little s call)
 
 -- what the call requests is cached, and it takes no memory
-abbrev pub IsAtHand : {E : Type 0} → (E → Bool) → Seen E → Question → Type 0
+abbrev pub IsAtHand : {E : Type 0} → (E → Bool) → StreamView E → Question → Type 0
 IsAtHand little s call = TakesNoMemory call × AreCached s (call_ranges little s call)
 
 -- there was no fault
@@ -46,7 +46,7 @@ IsUse source memory AllocationFailure = memory
 IsUse source memory Refusal = Unit {0}
 
 -- both are needed for a requested range that lies in the content and was not cached, and memory for a copy too
-abbrev pub MayUse : {E : Type 0} → (E → Bool) → Seen E → Seen E → List ℕ → Question → Kind → Type 0
+abbrev pub MayUse : {E : Type 0} → (E → Bool) → StreamView E → StreamView E → List ℕ → Question → Kind → Type 0
 MayUse little old new bytes call =
     let range = IsNeeded bytes new (call_ranges little old call) in
     IsUse range (range ⊎ Copies (stream_file little old bytes) call)
@@ -60,7 +60,7 @@ IfFault (Err (stop.Write e)) P = Unit {0}
 -- The same file, and the text of the call. No range is cached that was not cached before and does not lie within a
 -- requested one. If the requested ranges were cached before, the stream is as it was, and a fault is that of a copy;
 -- there is none if the call takes no memory. After an Ok the ranges of a call that is answered are cached.
-pub record RanCall {E : Type 0} (little : E → Bool) (call : Question) (old new : Seen E)
+pub record RanCall {E : Type 0} (little : E → Bool) (call : Question) (old new : StreamView E)
     (before after : Option (List ℕ)) (r : Result (Unit {0}) Stop) : Type 0 where
   pub keeps : Keeps old new
   pub ran : IfSome old.content (λ bytes.

@@ -3,8 +3,8 @@ ghost use Rattle.std.specs.Prelude.{◌≡◌, ◌≢◌, ◌⊎◌, ℕ, All, L
 ghost use Rattle.std.specs.Io.KnownBytes.{Appends};
 ghost use Rattle.elf.specs.StreamFile.{stream_file};
 ghost use Rattle.elf.specs.ObjectFile.{object_file};
-ghost use Rattle.elf_reading.specs.Opening.{opened};
-ghost use Rattle.elf.specs.ElfStream.{AreCached, IsCached, IsRequested, Keeps, Seen};
+ghost use Rattle.elf_reading.specs.Opening.{opened_file};
+ghost use Rattle.elf.specs.ElfStream.{AreCached, IsCached, IsRequested, Keeps, StreamView};
 ghost use Rattle.elf_reading.specs.Refusals.{kind};
 ghost use Rattle.elf_calls.specs.Question.{question};
 ghost use Rattle.elf_calls.specs.Ranges.{TakesNoMemory};
@@ -50,12 +50,12 @@ pub fn run_bytes<E: EndianParse, W: Write>(
     calls: &[Call<'_>],
     out: &mut W,
 ) -> Result<(), RunError>
-    ensures ok { OnOk result (IfOk (opened E.little E.of_byte «data».now) (λ file.
+    ensures ok { OnOk result (IfOk (opened_file E.little E.of_byte «data».now) (λ file.
         Appends (W.contents out.old) (W.contents out.new)
         (text file.ehdr (object_file E.little file) (map question calls.now)))) }
-    ensures refused { IfErr (opened E.little E.of_byte «data».now) (λ e. result ≡ Err (RunError.Open e)) }
+    ensures refused { IfErr (opened_file E.little E.of_byte «data».now) (λ e. result ≡ Err (RunError.Open e)) }
     ensures open { (e : ParseError) → result ≡ Err (RunError.Open e) →
-        (opened E.little E.of_byte «data».now ≡ Err e) × (out.new ≡ out.old) }
+        (opened_file E.little E.of_byte «data».now ≡ Err e) × (out.new ≡ out.old) }
     ensures no_fault { (done : ℕ) (e : ParseError) → result ≢ Err (RunError.Fault done e) }
     ensures stopped { StopsWithin (length calls.now) result }
 {
@@ -72,12 +72,12 @@ pub fn run_bytes_with_memory<E: EndianParse, A: Allocator + Copy, W: Write>(
     calls: &[Call<'_>],
     out: &mut W,
 ) -> Result<(), RunError>
-    ensures ok { OnOk result (IfOk (opened E.little E.of_byte «data».now) (λ file.
+    ensures ok { OnOk result (IfOk (opened_file E.little E.of_byte «data».now) (λ file.
         Appends (W.contents out.old) (W.contents out.new)
         (text file.ehdr (object_file E.little file) (map question calls.now)))) }
-    ensures refused { IfErr (opened E.little E.of_byte «data».now) (λ e. result ≡ Err (RunError.Open e)) }
+    ensures refused { IfErr (opened_file E.little E.of_byte «data».now) (λ e. result ≡ Err (RunError.Open e)) }
     ensures open { (e : ParseError) → result ≡ Err (RunError.Open e) →
-        (opened E.little E.of_byte «data».now ≡ Err e) × (out.new ≡ out.old) }
+        (opened_file E.little E.of_byte «data».now ≡ Err e) × (out.new ≡ out.old) }
     ensures no_fault { (done : ℕ) (e : ParseError) → result ≢ Err (RunError.Fault done e) }
     ensures stopped { StopsWithin (length calls.now) result }
 {
@@ -91,12 +91,12 @@ fn run_bytes_in<E: EndianParse, R: Room, W: Write>(
     room: &R,
     out: &mut W,
 ) -> Result<(), RunError>
-    ensures ok { OnOk result (IfOk (opened E.little E.of_byte «data».now) (λ file.
+    ensures ok { OnOk result (IfOk (opened_file E.little E.of_byte «data».now) (λ file.
         Appends (W.contents out.old) (W.contents out.new)
         (text file.ehdr (object_file E.little file) (map question calls.now)))) }
-    ensures refused { IfErr (opened E.little E.of_byte «data».now) (λ e. result ≡ Err (RunError.Open e)) }
+    ensures refused { IfErr (opened_file E.little E.of_byte «data».now) (λ e. result ≡ Err (RunError.Open e)) }
     ensures open { (e : ParseError) → result ≡ Err (RunError.Open e) →
-        (opened E.little E.of_byte «data».now ≡ Err e) × (out.new ≡ out.old) }
+        (opened_file E.little E.of_byte «data».now ≡ Err e) × (out.new ≡ out.old) }
     ensures no_fault { (done : ℕ) (e : ParseError) → result ≢ Err (RunError.Fault done e) }
     ensures stopped { StopsWithin (length calls.now) result }
 {
@@ -176,7 +176,7 @@ fn stopped_after(done: usize, stop: Stop) -> RunError
 /// are after `run_stream` returned `Ok`. Then the calls that have a result and allocate nothing need neither the source
 /// nor memory: run again over the stream, they do not return `Fault`.
 pub fn loaded_calls_are_at_hand<E: EndianParse>()
-    ensures { (s : Seen E) (bytes : List ℕ) (calls : List Call) →
+    ensures { (s : StreamView E) (bytes : List ℕ) (calls : List Call) →
         All (λ call. IsLoaded E.little s bytes (question call)) calls →
         All (λ call. TakesNoMemory (question call) × IsOk (stream_answer E.little s bytes (question call))) calls →
         All (λ call. IsAtHand E.little s (question call)) calls }

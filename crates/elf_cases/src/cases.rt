@@ -1,8 +1,8 @@
 //! What the program `elfshow` answers to words of a command line.
 ghost use Rattle.std.specs.Prelude.{None, true};
 
+use crate::row_words::Words;
 use crate::rows::RowError;
-use crate::words::Words;
 use elf::FileSource;
 use elfshow::file_system::{FileSystem, MemFile};
 use elfshow::show::show;

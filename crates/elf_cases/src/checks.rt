@@ -1,6 +1,6 @@
 //! What the checkers say of hash sections.
+use crate::row_words::Words;
 use crate::shown::show_refusal;
-use crate::words::Words;
 use elf::ParseError;
 use elf::endian::AnyEndian;
 use elf::file::Class;

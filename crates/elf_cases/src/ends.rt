@@ -1,7 +1,7 @@
 //! How many items iterators give, and that they stay ended.
 ghost use Rattle.std.specs.Iterator.{IsFinite};
 
-use crate::words::Words;
+use crate::row_words::Words;
 use elf::dynamic::Dyn;
 use elf::endian::AnyEndian;
 use elf::file::Class;

@@ -1,8 +1,8 @@
 //! File headers, and files that are opened.
 use crate::methods::{Given, show_method};
 use crate::records::show_items;
+use crate::row_words::{Words, field_of};
 use crate::shown::{show, show_refusal};
-use crate::words::{Words, field_of};
 use elf::ElfBytes;
 use elf::endian::{AnyEndian, BigEndian, EndianParse, LittleEndian};
 use elf::file::{Class, FileHeader, parse_ident};

@@ -1,6 +1,6 @@
 //! Hashes of names, and hash sections.
+use crate::row_words::{Words, field_of};
 use crate::shown::{show, show_refusal};
-use crate::words::{Words, field_of};
 use elf::endian::AnyEndian;
 use elf::file::Class;
 use elf::hash::{GnuHashHeader, GnuHashTable, SysVHashTable, gnu_hash, sysv_hash};

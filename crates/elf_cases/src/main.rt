@@ -23,16 +23,16 @@ mod names;
 mod notes;
 mod numbers;
 mod records;
+mod row_words;
 mod rows;
 mod shown;
 mod sources;
 mod strings;
 mod versions;
-mod words;
 
+use row_words::Words;
 use rows::RowError;
 use std::{env, fs, io};
-use words::Words;
 
 fn main(rt: HostRuntime) -> Result<(), RowError> {
     let words: Vec<String> = env::args(&rt)?.skip(1).collect(rt.alloc())?;

@@ -2,8 +2,8 @@
 use crate::common::{show_common, show_common_dynamic};
 use crate::notes::show_each;
 use crate::records::show_items;
+use crate::row_words::Words;
 use crate::shown::{show, show_lines, show_refusal};
-use crate::words::Words;
 use elf::endian::EndianParse;
 use elf::note::NoteIterator;
 use elf::parse::{ParseAt, ParsingIterator, ParsingTable};

@@ -1,5 +1,5 @@
 //! The names of values.
-use crate::words::Words;
+use crate::row_words::Words;
 use elf::to_str;
 use std::alloc::{AllocError, Global};
 use std::io;

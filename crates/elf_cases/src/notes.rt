@@ -1,6 +1,6 @@
 //! Notes.
+use crate::row_words::Words;
 use crate::shown::show;
-use crate::words::Words;
 use elf::endian::EndianParse;
 use elf::note::{Note, NoteIterator};
 use std::io;

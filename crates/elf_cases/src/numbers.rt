@@ -1,6 +1,6 @@
 //! Numbers, and the orders of their bytes.
+use crate::row_words::Words;
 use crate::shown::{show, show_refusal};
-use crate::words::Words;
 use elf::endian::{AnyEndian, BigEndian, EndianParse, LittleEndian};
 use std::fmt::Debug;
 use std::io;

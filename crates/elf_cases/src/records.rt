@@ -1,6 +1,6 @@
 //! Records, and tables of them.
+use crate::row_words::Words;
 use crate::shown::{show, show_lines, show_refusal};
-use crate::words::Words;
 use elf::ParseError;
 use elf::compression::CompressionHeader;
 use elf::dynamic::Dyn;

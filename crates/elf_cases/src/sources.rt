@@ -1,5 +1,5 @@
 //! Files beside the program, as sources.
-use crate::words::Words;
+use crate::row_words::Words;
 use elf::{FileSource, StreamSource};
 use std::fs::File;
 use std::{fs, io};

@@ -1,6 +1,6 @@
 //! Tables of strings.
+use crate::row_words::Words;
 use crate::shown::show;
-use crate::words::Words;
 use elf::string_table::StringTable;
 use std::io;
 

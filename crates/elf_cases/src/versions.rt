@@ -1,8 +1,8 @@
 //! Records of symbol versions, and the versions of symbols.
 ghost use Rattle.std.specs.Iterator.{IsFinite};
 
+use crate::row_words::Words;
 use crate::shown::{show, show_refusal};
-use crate::words::Words;
 use elf::ParseError;
 use elf::endian::{AnyEndian, EndianParse};
 use elf::file::Class;

@@ -9,12 +9,12 @@ use Rattle.elf_parts.specs.Hash.{ReadsBelowCount, gnu_hash_of, sysv_hash_of, wor
 use Rattle.elf_parts.specs.GnuFind.{GnuTable}
 use Rattle.elf_parts.specs.SysvFind.{SysvTable}
 use Rattle.elf_check.specs.Indexed.{HasName, IsFirstNamed, IsLeastNamed, ScanGnu}
-use Rattle.elf_check.specs.NamedSymbols.{AreAllNamed, IsNamed, Precedes, chain_from, first_of, index_behind}
-use Rattle.elf_check.specs.NamedSymbols.{indexes_from, kept_named, run_from, symbol_named, unless_last, unless_zero}
+use Rattle.elf_check.specs.NamedSymbols.{AreAllNamed, IsIndexedWithName, Precedes, chain_from, first_of, index_behind}
+use Rattle.elf_check.specs.NamedSymbols.{indexes_from, symbols_with_name, run_from, symbol_named, unless_last, unless_zero}
 use Rattle.elf_check.specs.Object.{ByGnu, BySysv, Object}
 use Rattle.elf_check.specs.SoundGnu.{SoundGnu}
 use Rattle.elf_check.specs.SoundSysv.{EndsAt, SoundSysv, Visits, chain_word, value}
-use Rattle.elf_check.specs.WithSymbols.{WithSymbols, named, word}
+use Rattle.elf_check.specs.WithSymbols.{WithSymbols, symbol_and_name, word}
 use Rattle.elf_check.specs.declared.hashcheck.named.Following.TheVariants.{Chain, Run}
 use Rattle.elf_check.specs.inner.SoundProps.{GnuReads}
 use Rattle.elf_check.proofs.GnuScan.{NoEnd, indexed, odd_or_even}
@@ -41,9 +41,9 @@ Apart one other = one.0 ≢ other.0
 abbrev Before : Object → ℕ × Symbol → ℕ × Symbol → Type 0
 Before object one other = Precedes object one.0 other.0
 
-module _ (object : Object) (name : List ℕ) (nothing : (one : ℕ × Symbol) → IsNamed object name one → ⊥) where
+module _ (object : Object) (name : List ℕ) (nothing : (one : ℕ × Symbol) → IsIndexedWithName object name one → ⊥) where
   -- nothing has the name
-  none_all : (one : ℕ × Symbol) → (Contains [] one → IsNamed object name one) × (IsNamed object name one → Contains [] one)
+  none_all : (one : ℕ × Symbol) → (Contains [] one → IsIndexedWithName object name one) × (IsIndexedWithName object name one → Contains [] one)
   none_all one = (λ c. absurd (in_from_contains [] one c), λ h. absurd (nothing one h))
 
 -- ---- GNU
@@ -122,9 +122,9 @@ module _ (s : WithSymbols GnuTable) (name : List ℕ) where
       ]
 
   pub gnu_all : SoundGnu s → GnuReads s.table → (found : Option (ℕ × Symbol)) → IsLeastNamed s name found →
-      AreAllNamed (ByGnu s) name (kept_named s.symbols s.strings name (run_from s.table found))
+      AreAllNamed (ByGnu s) name (symbols_with_name s.symbols s.strings name (run_from s.table found))
   gnu_all sound can None least = record {
-    all = none_all (ByGnu s) name (λ one h. least one.0 (h.0, has (named s.symbols s.strings one.0) one.1 name h.1));
+    all = none_all (ByGnu s) name (λ one h. least one.0 (h.0, has (symbol_and_name s.symbols s.strings one.0) one.1 name h.1));
     once = pairs_all Apart [] tt;
     order = pairs_all (Before (ByGnu s)) [] tt;
     first = least;
@@ -133,7 +133,7 @@ module _ (s : WithSymbols GnuTable) (name : List ℕ) where
       let first = s.table.hdr.table_start_idx in
       let f = symbol_named s.symbols s.strings name in
       let kept = keeps s.symbols s.strings name in
-      let here = indexed s name sound can.1 found.0 (least.0, has (named s.symbols s.strings found.0) found.1 name least.1) in
+      let here = indexed s name sound can.1 found.0 (least.0, has (symbol_and_name s.symbols s.strings found.0) found.1 name least.1) in
       let here_bucket = some_and (word s.table.buckets (gnu_hash_of name % word_count s.table.buckets)) _ here.run.1 in
       let is = run_from s.table (Some found) in
       let place : found.0 - first ≡ here.place = omega (arith, here.index) in
@@ -143,11 +143,11 @@ module _ (s : WithSymbols GnuTable) (name : List ℕ) where
       record {
         all = λ one. (
           λ c.
-              let k = in_kept f kept is one (in_from_contains (kept_named s.symbols s.strings name is) one c) in
+              let k = in_kept f kept is one (in_from_contains (symbols_with_name s.symbols s.strings name is) one c) in
               let r = ran.inside one.0 k.0 in
               ((omega (arith, r.3), omega (arith, r.2, r.3)), has_name s.symbols s.strings name one.0 one k.1),
           λ h.
-              let scan : ScanGnu s name one.0 = (h.0, has (named s.symbols s.strings one.0) one.1 name h.1) in
+              let scan : ScanGnu s name one.0 = (h.0, has (symbol_and_name s.symbols s.strings one.0) one.1 name h.1) in
               let there = indexed s name sound can.1 one.0 scan in
               let there_bucket = some_and (word s.table.buckets (gnu_hash_of name % word_count s.table.buckets)) _ there.run.1 in
               let same : here_bucket.0 ≡ there_bucket.0 = cc (here_bucket.1, there_bucket.1) in
@@ -155,10 +155,10 @@ module _ (s : WithSymbols GnuTable) (name : List ℕ) where
               let no_end : NoEnd s name here.place there.place = λ i v low high e. there_bucket.2.2 i v (omega (arith, same, here_bucket.2.1, low)) high e in
               let In_here : ℕ → Type 0 = λ i. In i is in
               let there_in = subst In_here (sym there.index) (ran.back there.place from there.inside no_end) in
-              contains_from_in (kept_named s.symbols s.strings name is) one (kept_in f kept is one (is_named s.symbols s.strings name one h.1) there_in),
+              contains_from_in (symbols_with_name s.symbols s.strings name is) one (kept_in f kept is one (is_named s.symbols s.strings name one h.1) there_in),
         );
-        once = pairs_all Apart (kept_named s.symbols s.strings name is) (pairs_kept f kept (λ i j. i ≢ j) is ran.once);
-        order = pairs_all (Before (ByGnu s)) (kept_named s.symbols s.strings name is) (pairs_kept f kept (λ i j. i < j) is ran.order);
+        once = pairs_all Apart (symbols_with_name s.symbols s.strings name is) (pairs_kept f kept (λ i j. i ≢ j) is ran.once);
+        order = pairs_all (Before (ByGnu s)) (symbols_with_name s.symbols s.strings name is) (pairs_kept f kept (λ i j. i < j) is ran.order);
         first =
             let step = walk_step behind_run (word_count s.table.chains - (found.0 - first)) found.0 (omega (arith, place, here.inside)) in
             let head = first_kept (symbol_named s.symbols s.strings) name is _ found step (is_named s.symbols s.strings name found least.1) in
@@ -232,19 +232,19 @@ module _ (s : WithSymbols SysvTable) (bucket last : ℕ) (ends : EndsAt s bucket
 module _ (s : WithSymbols SysvTable) (name : List ℕ) where
   -- a symbol of the name lies in the chain of the name's bucket
   own_bucket : SoundSysv s → (bucket j index : ℕ) (symbol : Symbol) → bucket < word_count s.table.buckets → Visits s.table bucket j index →
-      named s.symbols s.strings index ≡ Some (symbol, name) → bucket ≡ sysv_hash_of name % word_count s.table.buckets
+      symbol_and_name s.symbols s.strings index ≡ Some (symbol, name) → bucket ≡ sysv_hash_of name % word_count s.table.buckets
   own_bucket sound bucket j index symbol below visits e =
       let ends = sound bucket below in
       let v = value_before s bucket ends.0 ends.1 j (before_end s bucket ends.0 ends.1 j visits.2) in
       let same : v.index ≡ index = cc (v.is, visits.1) in
-      let found : Some v.found ≡ Some (symbol, name) = sym v.named ∙ ap (named s.symbols s.strings) same ∙ e in
+      let found : Some v.found ≡ Some (symbol, name) = sym v.named ∙ ap (symbol_and_name s.symbols s.strings) same ∙ e in
       let pair : v.found ≡ (symbol, name) = cc in
       sym v.hash ∙ ap (λ (p : Symbol × List ℕ). sysv_hash_of p.1 % word_count s.table.buckets) pair
 
   pub sysv_all : SoundSysv s → (found : Option (ℕ × Symbol)) → IsFirstNamed s name found →
-      AreAllNamed (BySysv s) name (kept_named s.symbols s.strings name (chain_from s.table found))
+      AreAllNamed (BySysv s) name (symbols_with_name s.symbols s.strings name (chain_from s.table found))
   sysv_all sound None first = record {
-    all = none_all (BySysv s) name (λ one h. first one.0 (h.0, has (named s.symbols s.strings one.0) one.1 name h.1));
+    all = none_all (BySysv s) name (λ one h. first one.0 (h.0, has (symbol_and_name s.symbols s.strings one.0) one.1 name h.1));
     once = pairs_all Apart [] tt;
     order = pairs_all (Before (BySysv s)) [] tt;
     first = first;
@@ -266,7 +266,7 @@ module _ (s : WithSymbols SysvTable) (name : List ℕ) where
       record {
         all = λ one. (
           λ c.
-              let k = in_kept f kept is one (in_from_contains (kept_named s.symbols s.strings name is) one c) in
+              let k = in_kept f kept is one (in_from_contains (symbols_with_name s.symbols s.strings name is) one c) in
               let r = walked.inside one.0 k.0 in
               ((bucket, r.0, is_first.0, visits_before s bucket ends.0 ends.1 r.0 r.2 one.0 r.3), has_name s.symbols s.strings name one.0 one k.1),
           λ h.
@@ -279,14 +279,14 @@ module _ (s : WithSymbols SysvTable) (name : List ℕ) where
               let under = before_end s bucket ends.0 ends.1 at.1 visits.2 in
               let H : Option ℕ → Type 0 = λ o. IsSomeAnd o (HasName s name) in
               let from : j ≤ at.1 = elim (cases_lt at.1 j) [
-                | inl early ↦ absurd (is_first.2 at.1 early (subst H (sym visits.1) (has (named s.symbols s.strings one.0) one.1 name h.1)))
+                | inl early ↦ absurd (is_first.2 at.1 early (subst H (sym visits.1) (has (symbol_and_name s.symbols s.strings one.0) one.1 name h.1)))
                 | inr late ↦ late
               ] in
-              contains_from_in (kept_named s.symbols s.strings name is) one
+              contains_from_in (symbols_with_name s.symbols s.strings name is) one
               (kept_in f kept is one (is_named s.symbols s.strings name one h.1) (walked.back at.1 one.0 from under visits.1)),
         );
-        once = pairs_all Apart (kept_named s.symbols s.strings name is) (pairs_kept f kept (λ i k. i ≢ k) is walked.once);
-        order = pairs_all (Before (BySysv s)) (kept_named s.symbols s.strings name is) (pairs_kept f kept (Precedes (BySysv s)) is walked.order);
+        once = pairs_all Apart (symbols_with_name s.symbols s.strings name is) (pairs_kept f kept (λ i k. i ≢ k) is walked.once);
+        order = pairs_all (Before (BySysv s)) (symbols_with_name s.symbols s.strings name is) (pairs_kept f kept (Precedes (BySysv s)) is walked.order);
         first =
             let step = walk_step (behind_chain s bucket ends.0 ends.1) (word_count s.table.chains) found.0 (omega (arith, inside, ends.1.0)) in
             let head = first_kept (symbol_named s.symbols s.strings) name is _ found step (is_named s.symbols s.strings name found first.0) in

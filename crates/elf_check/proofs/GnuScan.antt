@@ -13,14 +13,14 @@ use Rattle.elf_parts.specs.GnuFind.{GnuTable, bloom_of, bloom_word, find_in_buck
 use Rattle.elf_parts.proofs.Runs.{run_found, run_ended, run_limit, run_next}
 use Rattle.elf_check.specs.Indexed.{IsLeastNamed, ScanGnu}
 use Rattle.elf_check.specs.SoundGnu.{HasBothBits, InRun, SoundGnu}
-use Rattle.elf_check.specs.WithSymbols.{WithSymbols, bloom, named, word}
+use Rattle.elf_check.specs.WithSymbols.{WithSymbols, bloom, symbol_and_name, word}
 use Rattle.elf_check.specs.inner.SoundProps.{GnuReads}
 use Rattle.elf_check.proofs.Reading.{word_some, named_some, named_ok, some_and, word_below, bloom_some, ok_value}
 
 module _ (s : WithSymbols GnuTable) (name : List ℕ) where
   -- the symbol of chain word j has the name
   abbrev pub NamedAt : ℕ → Type 0
-  NamedAt j = IsSomeAnd (named s.symbols s.strings (s.table.hdr.table_start_idx + j)) (λ found. found.1 ≡ name)
+  NamedAt j = IsSomeAnd (symbol_and_name s.symbols s.strings (s.table.hdr.table_start_idx + j)) (λ found. found.1 ≡ name)
 
   -- no chain word from k up to j, j not included, ends a run
   abbrev pub NoEnd : ℕ → ℕ → Type 0
@@ -35,7 +35,7 @@ module _ (s : WithSymbols GnuTable) (name : List ℕ) where
     pub index : found.0 ≡ s.table.hdr.table_start_idx + place
     pub from : k ≤ place
     pub inside : place < word_count s.table.chains
-    pub symbol : named s.symbols s.strings found.0 ≡ Some (found.1, name)
+    pub symbol : symbol_and_name s.symbols s.strings found.0 ≡ Some (found.1, name)
     pub first : (m : ℕ) → k ≤ m → m < place → NamedAt m → ⊥
 
   abbrev pub RunAnswer : ℕ → Option (ℕ × Symbol) → Type 0
@@ -56,8 +56,8 @@ module _ (s : WithSymbols GnuTable) (name : List ℕ) where
 
   not_named : (j : ℕ) (found : Symbol × List ℕ) → named_symbol s.symbols s.strings (s.table.hdr.table_start_idx + j) ≡ Ok found → bytes_eq found.1 name ≡ false → NamedAt j → ⊥
   not_named j found read other has =
-      let x = some_and (named s.symbols s.strings (s.table.hdr.table_start_idx + j)) _ has in
-      let e : named s.symbols s.strings (s.table.hdr.table_start_idx + j) ≡ Some found = named_some s.symbols s.strings _ found read in
+      let x = some_and (symbol_and_name s.symbols s.strings (s.table.hdr.table_start_idx + j)) _ has in
+      let e : symbol_and_name s.symbols s.strings (s.table.hdr.table_start_idx + j) ≡ Some found = named_some s.symbols s.strings _ found read in
       let same : found.1 ≡ name = cc (x.1, x.2, e) in
       false≢true (sym other ∙ (bytes_eq-Decides found.1 name).1 same)
 
@@ -147,7 +147,7 @@ module _ (s : WithSymbols GnuTable) (name : List ℕ) where
   }
   run_from sound reads (suc limit) k all =
       let w = word_below s.table.chains k reads (omega arith) in
-      let here = some_and (named s.symbols s.strings (s.table.hdr.table_start_idx + k)) _ (sound.1 k w.0 (word_some s.table.chains k w.0 w.1)) in
+      let here = some_and (symbol_and_name s.symbols s.strings (s.table.hdr.table_start_idx + k)) _ (sound.1 k w.0 (word_some s.table.chains k w.0 w.1)) in
       one_place limit k w.0 here.0 w.1 (named_ok s.symbols s.strings _ here.0 here.1) here.2.0 (omega arith) (run_from sound reads limit (k + 1) (omega arith))
 
   -- ---- the whole look-up
@@ -167,10 +167,10 @@ module _ (s : WithSymbols GnuTable) (name : List ℕ) where
       let index : i ≡ s.table.hdr.table_start_idx + place = omega (arith, scan.0.0) in
       let inside : place < word_count s.table.chains = omega (arith, scan.0.0, scan.0.1) in
       let w = word_below s.table.chains place reads inside in
-      let here = some_and (named s.symbols s.strings (s.table.hdr.table_start_idx + place)) _ (sound.1 place w.0 (word_some s.table.chains place w.0 w.1)) in
-      let P : ℕ → Type 0 = λ n. IsSomeAnd (named s.symbols s.strings n) (λ found. found.1 ≡ name) in
+      let here = some_and (symbol_and_name s.symbols s.strings (s.table.hdr.table_start_idx + place)) _ (sound.1 place w.0 (word_some s.table.chains place w.0 w.1)) in
+      let P : ℕ → Type 0 = λ n. IsSomeAnd (symbol_and_name s.symbols s.strings n) (λ found. found.1 ≡ name) in
       let has : NamedAt place = subst P index scan.1 in
-      let x = some_and (named s.symbols s.strings (s.table.hdr.table_start_idx + place)) _ has in
+      let x = some_and (symbol_and_name s.symbols s.strings (s.table.hdr.table_start_idx + place)) _ has in
       let same : here.0.1 ≡ name = cc (x.1, x.2, here.1) in
       let Bits : List ℕ → Type 0 = λ n. HasBothBits s.table (gnu_hash_of n) in
       let Runs : List ℕ → Type 0 = λ n. InRun s.table place (gnu_hash_of n) in

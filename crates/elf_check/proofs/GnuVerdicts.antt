@@ -5,7 +5,7 @@ use Rattle.elf_parts.specs.GnuFind.{GnuTable}
 use Rattle.elf_parts.specs.Hash.{gnu_hash_of}
 use Rattle.elf_check.specs.Faults.{IsTrueOfGnu, NameIs}
 use Rattle.elf_check.specs.SoundGnu.{HasBothBits, InRun, SoundGnu}
-use Rattle.elf_check.specs.WithSymbols.{WithSymbols, named, word}
+use Rattle.elf_check.specs.WithSymbols.{WithSymbols, symbol_and_name, word}
 use Rattle.elf_check.specs.declared.hashcheck.HashFault.{HashFault}
 use Rattle.elf_check.specs.declared.hashcheck.HashFault.TheVariants.{Endless, NoBloomBit, NotInRun, PastChains}
 use Rattle.elf_check.specs.declared.hashcheck.HashFault.TheVariants.{ShiftTooLarge, Unreadable, WrongBucket, WrongHash}
@@ -15,20 +15,20 @@ module _ (s : WithSymbols GnuTable) where
   -- the parts of a sound word's symbol
   pub record Parts (index k w : ℕ) : Type 0 where
     pub found : Symbol × List ℕ
-    pub is : named s.symbols s.strings index ≡ Some found
+    pub is : symbol_and_name s.symbols s.strings index ≡ Some found
     pub hash : w / 2 ≡ gnu_hash_of found.1 / 2
     pub bits : HasBothBits s.table (gnu_hash_of found.1)
     pub run : InRun s.table k (gnu_hash_of found.1)
 
   parts_at : SoundGnu s → (index k w : ℕ) → index ≡ s.table.hdr.table_start_idx + k → word s.table.chains k ≡ Some w → Parts index k w
   parts_at sound index k w e chain =
-      let x = some_and (named s.symbols s.strings (s.table.hdr.table_start_idx + k)) _ (sound.1 k w chain) in
-      record { found = x.0; is = ap (λ n. named s.symbols s.strings n) e ∙ x.1; hash = x.2.0; bits = x.2.1; run = x.2.2 }
+      let x = some_and (symbol_and_name s.symbols s.strings (s.table.hdr.table_start_idx + k)) _ (sound.1 k w chain) in
+      record { found = x.0; is = ap (λ n. symbol_and_name s.symbols s.strings n) e ∙ x.1; hash = x.2.0; bits = x.2.1; run = x.2.2 }
 
   -- the name that a fault reads is the name of the symbol
-  same_name : (index : ℕ) (found : Symbol × List ℕ) (Has : List ℕ → Type 0) → named s.symbols s.strings index ≡ Some found → NameIs s index Has → Has found.1
+  same_name : (index : ℕ) (found : Symbol × List ℕ) (Has : List ℕ → Type 0) → symbol_and_name s.symbols s.strings index ≡ Some found → NameIs s index Has → Has found.1
   same_name index found Has e h =
-      let x = some_and (named s.symbols s.strings index) _ h in
+      let x = some_and (symbol_and_name s.symbols s.strings index) _ h in
       let same : x.0.1 ≡ found.1 = cc (x.1, e) in
       subst Has same x.2
 

@@ -9,7 +9,7 @@ use Rattle.std.proofs.lemmas.Slice.Eq.{bytes_eq-Decides}
 use Rattle.elf_records.specs.Table.{Table}
 use Rattle.elf_records.specs.declared.symbol.Symbol.{Symbol}
 use Rattle.elf_check.specs.NamedSymbols.{indexes_from, symbol_named, where_named}
-use Rattle.elf_check.specs.WithSymbols.{named}
+use Rattle.elf_check.specs.WithSymbols.{symbol_and_name}
 
 -- ---- membership and order, by recursion
 
@@ -83,8 +83,8 @@ module _ {B : Type 0} (f : ℕ → Option (ℕ × B)) (keeps : (i : ℕ) (one : 
 -- ---- the symbols of a name
 
 module _ (symbols : Table) (strings name : List ℕ) where
-  keeps_by : (i : ℕ) (one : ℕ × Symbol) (o : Option (Symbol × List ℕ)) → named symbols strings i ≡ o → where_named name i o ≡ Some one →
-      (one.0 ≡ i) × (named symbols strings i ≡ Some (one.1, name))
+  keeps_by : (i : ℕ) (one : ℕ × Symbol) (o : Option (Symbol × List ℕ)) → symbol_and_name symbols strings i ≡ o → where_named name i o ≡ Some one →
+      (one.0 ≡ i) × (symbol_and_name symbols strings i ≡ Some (one.1, name))
   keeps_by i one None read e = cc
   keeps_by i one (Some found) read e = elim (cases_Bool (bytes_eq found.1 name)) [
     | inl same ↦
@@ -96,14 +96,14 @@ module _ (symbols : Table) (strings name : List ℕ) where
   ]
 
   pub keeps : (i : ℕ) (one : ℕ × Symbol) → symbol_named symbols strings name i ≡ Some one → one.0 ≡ i
-  keeps i one e = (keeps_by i one (named symbols strings i) refl e).0
+  keeps i one e = (keeps_by i one (symbol_and_name symbols strings i) refl e).0
 
-  pub has_name : (i : ℕ) (one : ℕ × Symbol) → symbol_named symbols strings name i ≡ Some one → named symbols strings one.0 ≡ Some (one.1, name)
+  pub has_name : (i : ℕ) (one : ℕ × Symbol) → symbol_named symbols strings name i ≡ Some one → symbol_and_name symbols strings one.0 ≡ Some (one.1, name)
   has_name i one e =
-      let k = keeps_by i one (named symbols strings i) refl e in
-      ap (named symbols strings) k.0 ∙ k.1
+      let k = keeps_by i one (symbol_and_name symbols strings i) refl e in
+      ap (symbol_and_name symbols strings) k.0 ∙ k.1
 
-  pub is_named : (one : ℕ × Symbol) → named symbols strings one.0 ≡ Some (one.1, name) → symbol_named symbols strings name one.0 ≡ Some one
+  pub is_named : (one : ℕ × Symbol) → symbol_and_name symbols strings one.0 ≡ Some (one.1, name) → symbol_named symbols strings name one.0 ≡ Some one
   is_named one e =
       let same : bytes_eq name name ≡ true = (bytes_eq-Decides name name).1 refl in
       rw (e, same) refl

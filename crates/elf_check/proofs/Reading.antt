@@ -6,7 +6,7 @@ use Rattle.elf_records.specs.Table.{Table}
 use Rattle.elf_records.specs.declared.symbol.Symbol.{Symbol}
 use Rattle.elf_parts.specs.GnuFind.{bloom_word}
 use Rattle.elf_parts.specs.Hash.{ReadsBelowCount, named_symbol, word_at, word_count}
-use Rattle.elf_check.specs.WithSymbols.{bloom, named, word}
+use Rattle.elf_check.specs.WithSymbols.{bloom, symbol_and_name, word}
 
 -- ---- results as options
 
@@ -22,12 +22,12 @@ pub word_some : (words : Table) (i w : ℕ) → word_at words i ≡ Ok w → wor
 unfolding word
 word_some words i w e = ap result_ok e
 
-pub named_some : (symbols : Table) (strings : List ℕ) (i : ℕ) (found : Symbol × List ℕ) → named_symbol symbols strings i ≡ Ok found → named symbols strings i ≡ Some found
-unfolding named
+pub named_some : (symbols : Table) (strings : List ℕ) (i : ℕ) (found : Symbol × List ℕ) → named_symbol symbols strings i ≡ Ok found → symbol_and_name symbols strings i ≡ Some found
+unfolding symbol_and_name
 named_some symbols strings i found e = ap result_ok e
 
-pub named_ok : (symbols : Table) (strings : List ℕ) (i : ℕ) (found : Symbol × List ℕ) → named symbols strings i ≡ Some found → named_symbol symbols strings i ≡ Ok found
-unfolding named
+pub named_ok : (symbols : Table) (strings : List ℕ) (i : ℕ) (found : Symbol × List ℕ) → symbol_and_name symbols strings i ≡ Some found → named_symbol symbols strings i ≡ Ok found
+unfolding symbol_and_name
 named_ok symbols strings i found e = ok_from_some (named_symbol symbols strings i) found e
 
 -- what a fact of an option says

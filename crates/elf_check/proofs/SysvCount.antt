@@ -15,7 +15,7 @@ use Rattle.elf_parts.specs.Hash.{sysv_hash_of, word_count}
 use Rattle.elf_parts.specs.SysvFind.{SysvTable}
 use Rattle.elf_check.specs.Indexed.{IndexedBelow, IsNumberOf, chain_lengths, first_zero, is_zero}
 use Rattle.elf_check.specs.SoundSysv.{EndsAt, Visits, chain_word, value}
-use Rattle.elf_check.specs.WithSymbols.{WithSymbols, named}
+use Rattle.elf_check.specs.WithSymbols.{WithSymbols, symbol_and_name}
 use Rattle.elf_check.proofs.Intervals.{listing, length-listing, get_or-listing}
 use Rattle.elf_check.proofs.SysvScan.{before_end, value_before, visits_before}
 
@@ -140,7 +140,7 @@ module _ (s : WithSymbols SysvTable) where
       let x = value_before s b other.0 other.1 j inside in
       let y = value_before s bucket last ends k below in
       let same : x.index ≡ y.index = cc (x.is, visits.1, y.is, e) in
-      let there : named s.symbols s.strings y.index ≡ Some x.found = ap (named s.symbols s.strings) (sym same) ∙ x.named in
+      let there : symbol_and_name s.symbols s.strings y.index ≡ Some x.found = ap (symbol_and_name s.symbols s.strings) (sym same) ∙ x.named in
       let found_same : x.found ≡ y.found = cc (there, y.named) in
       let bucket_same : b ≡ bucket = sym x.hash ∙ ap (λ (f : Symbol × List ℕ). sysv_hash_of f.1 % word_count s.table.buckets) found_same ∙ y.hash in
       omega (arith, less, bucket_same)

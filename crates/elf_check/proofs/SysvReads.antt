@@ -8,7 +8,7 @@ use Rattle.elf_parts.specs.SysvFind.{SysvTable}
 use Rattle.elf_check.specs.Faults.{IsTrueOfSysv, Reaches}
 use Rattle.elf_check.specs.Reads.{BelongBefore, IsCountAt}
 use Rattle.elf_check.specs.SoundSysv.{Belongs, EndsAt, value}
-use Rattle.elf_check.specs.WithSymbols.{WithSymbols, named}
+use Rattle.elf_check.specs.WithSymbols.{WithSymbols, symbol_and_name}
 use Rattle.elf_check.specs.declared.hashcheck.HashFault.{HashFault}
 use Rattle.elf_check.specs.declared.hashcheck.HashFault.TheVariants.{Endless, NoBloomBit, NotInRun, PastChains, ShiftTooLarge, Unreadable, WrongBucket, WrongHash}
 use Rattle.elf_check.proofs.Reading.{some_and}
@@ -84,17 +84,17 @@ module _ (s : WithSymbols SysvTable) where
   past bucket b j index reaches far at =
       strange_at bucket j index at (not_zero b index reaches) (λ belongs. omega (arith, belongs.0, far))
 
-  unreadable : (bucket b j index : ℕ) → Reaches s b index → named s.symbols s.strings index ≡ None → value s.table bucket j ≡ Some index → Strange bucket j
+  unreadable : (bucket b j index : ℕ) → Reaches s b index → symbol_and_name s.symbols s.strings index ≡ None → value s.table bucket j ≡ Some index → Strange bucket j
   unreadable bucket b j index reaches none at =
       strange_at bucket j index at (not_zero b index reaches) (λ belongs.
-      let x = some_and (named s.symbols s.strings index) _ belongs.1 in
+      let x = some_and (symbol_and_name s.symbols s.strings index) _ belongs.1 in
       cc (x.1, none))
 
   wrong : (bucket b j index : ℕ) → b ≡ bucket → IsTrueOfSysv s (WrongBucket b index) → value s.table bucket j ≡ Some index → Strange bucket j
   wrong bucket b j index e h at =
       strange_at bucket j index at (not_zero b index h.0) (λ belongs.
-      let x = some_and (named s.symbols s.strings index) _ belongs.1 in
-      let y = some_and (named s.symbols s.strings index) _ h.1 in
+      let x = some_and (symbol_and_name s.symbols s.strings index) _ belongs.1 in
+      let y = some_and (symbol_and_name s.symbols s.strings index) _ h.1 in
       let same : y.0 ≡ x.0 = cc (x.1, y.1) in
       y.2 (ap (λ (f : Symbol × List ℕ). sysv_hash_of f.1 % word_count s.table.buckets) same ∙ x.2 ∙ sym e))
 

@@ -11,7 +11,7 @@ use Rattle.elf_parts.specs.SysvFind.{SysvTable, find_along, sysv_find}
 use Rattle.elf_parts.proofs.Walks.{along_found, along_next, along_ended, with_another, with_name}
 use Rattle.elf_check.specs.Indexed.{HasName, IsFirstNamed, ScanSysv}
 use Rattle.elf_check.specs.SoundSysv.{Belongs, EndsAt, SoundSysv, Visits, chain_word, value}
-use Rattle.elf_check.specs.WithSymbols.{WithSymbols, named}
+use Rattle.elf_check.specs.WithSymbols.{WithSymbols, symbol_and_name}
 use Rattle.elf_check.specs.inner.SoundProps.{SysvReads}
 use Rattle.elf_check.proofs.Reading.{word_some, named_ok, some_and, word_below}
 
@@ -23,13 +23,13 @@ module _ (s : WithSymbols SysvTable) (bucket last : ℕ) (ends : EndsAt s bucket
     pub positive : 0 < index
     pub inside : index < word_count s.table.chains
     pub found : Symbol × List ℕ
-    pub named : named s.symbols s.strings index ≡ Some found
+    pub named : symbol_and_name s.symbols s.strings index ≡ Some found
     pub hash : sysv_hash_of found.1 % word_count s.table.buckets ≡ bucket
 
   pub value_before : (i : ℕ) → i < last → Value i
   value_before i below =
       let x = some_and (value s.table bucket i) _ (ends.2 i below) in
-      let n = some_and (named s.symbols s.strings x.0) _ x.2.1.1 in
+      let n = some_and (symbol_and_name s.symbols s.strings x.0) _ x.2.1.1 in
       record { index = x.0; is = x.1; positive = x.2.0; inside = x.2.1.0; found = n.0; named = n.1; hash = n.2 }
 
   -- a value up to which there is no 0 comes before the end
@@ -50,7 +50,7 @@ module _ (s : WithSymbols SysvTable) (name : List ℕ) (bucket last : ℕ) (ends
     pub from : i ≤ place
     pub inside : place < last
     pub is : value s.table bucket place ≡ Some found.0
-    pub symbol : named s.symbols s.strings found.0 ≡ Some (found.1, name)
+    pub symbol : symbol_and_name s.symbols s.strings found.0 ≡ Some (found.1, name)
     pub first : (m : ℕ) → i ≤ m → m < place → IsSomeAnd (value s.table bucket m) (HasName s name) → ⊥
 
   abbrev pub WalkAnswer : ℕ → Option (ℕ × Symbol) → Type 0
@@ -63,12 +63,12 @@ module _ (s : WithSymbols SysvTable) (name : List ℕ) (bucket last : ℕ) (ends
     pub answer : WalkAnswer i found
 
   -- a value of another name
-  other_name : (i index : ℕ) (found : Symbol × List ℕ) → value s.table bucket i ≡ Some index → named s.symbols s.strings index ≡ Some found → bytes_eq found.1 name ≡ false → IsSomeAnd (value s.table bucket i) (HasName s name) → ⊥
+  other_name : (i index : ℕ) (found : Symbol × List ℕ) → value s.table bucket i ≡ Some index → symbol_and_name s.symbols s.strings index ≡ Some found → bytes_eq found.1 name ≡ false → IsSomeAnd (value s.table bucket i) (HasName s name) → ⊥
   other_name i index found e d other has =
       let x = some_and (value s.table bucket i) _ has in
       let same : x.0 ≡ index = cc (x.1, e) in
-      let y = some_and (named s.symbols s.strings x.0) _ x.2 in
-      let there : named s.symbols s.strings x.0 ≡ Some found = ap (λ n. named s.symbols s.strings n) same ∙ d in
+      let y = some_and (symbol_and_name s.symbols s.strings x.0) _ x.2 in
+      let there : symbol_and_name s.symbols s.strings x.0 ≡ Some found = ap (λ n. symbol_and_name s.symbols s.strings n) same ∙ d in
       let name_same : found.1 ≡ name = cc (y.1, y.2, there) in
       false≢true (sym other ∙ (bytes_eq-Decides found.1 name).1 name_same)
 
@@ -169,8 +169,8 @@ module _ (s : WithSymbols SysvTable) (name : List ℕ) where
       let inside = before_end s bucket ends.0 ends.1 place visits.2 in
       let v = value_before s bucket ends.0 ends.1 place inside in
       let same : v.index ≡ i = cc (v.is, visits.1) in
-      let n = some_and (named s.symbols s.strings i) _ has in
-      let there : named s.symbols s.strings i ≡ Some v.found = ap (named s.symbols s.strings) (sym same) ∙ v.named in
+      let n = some_and (symbol_and_name s.symbols s.strings i) _ has in
+      let there : symbol_and_name s.symbols s.strings i ≡ Some v.found = ap (symbol_and_name s.symbols s.strings) (sym same) ∙ v.named in
       let name_same : v.found.1 ≡ name = cc (n.1, n.2, there) in
       let own : bucket ≡ sysv_hash_of name % word_count s.table.buckets = sym v.hash ∙ ap (λ x. sysv_hash_of x % word_count s.table.buckets) name_same in
       let P : Option ℕ → Type 0 = λ x. IsSomeAnd x (HasName s name) in

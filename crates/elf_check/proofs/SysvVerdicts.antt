@@ -6,7 +6,7 @@ use Rattle.elf_parts.specs.Hash.{word_count}
 use Rattle.elf_parts.specs.SysvFind.{SysvTable}
 use Rattle.elf_check.specs.Faults.{IsTrueOfSysv, Reaches}
 use Rattle.elf_check.specs.SoundSysv.{SoundSysv, value}
-use Rattle.elf_check.specs.WithSymbols.{WithSymbols, named}
+use Rattle.elf_check.specs.WithSymbols.{WithSymbols, symbol_and_name}
 use Rattle.elf_check.specs.declared.hashcheck.HashFault.{HashFault}
 use Rattle.elf_check.specs.declared.hashcheck.HashFault.TheVariants.{Endless, NoBloomBit, NotInRun, PastChains}
 use Rattle.elf_check.specs.declared.hashcheck.HashFault.TheVariants.{ShiftTooLarge, Unreadable, WrongBucket, WrongHash}
@@ -18,7 +18,7 @@ module _ (s : WithSymbols SysvTable) where
   pub record Reached (bucket index : ℕ) : Type 0 where
     pub inside : index < word_count s.table.chains
     pub found : Symbol × List ℕ
-    pub is : named s.symbols s.strings index ≡ Some found
+    pub is : symbol_and_name s.symbols s.strings index ≡ Some found
     pub hash : sysv_hash_of found.1 % word_count s.table.buckets ≡ bucket
 
   reached : SoundSysv s → (bucket index : ℕ) → Reaches s bucket index → Reached bucket index
@@ -26,7 +26,7 @@ module _ (s : WithSymbols SysvTable) where
       let ends = sound bucket below in
       let v = value_before s bucket ends.0 ends.1 j (before_end s bucket ends.0 ends.1 j visits.2) in
       let same : v.index ≡ index = cc (v.is, visits.1) in
-      record { inside = omega (arith, v.inside, same); found = v.found; is = ap (named s.symbols s.strings) (sym same) ∙ v.named; hash = v.hash }
+      record { inside = omega (arith, v.inside, same); found = v.found; is = ap (symbol_and_name s.symbols s.strings) (sym same) ∙ v.named; hash = v.hash }
 
   pub true_fault : SoundSysv s → (fault : HashFault) → IsTrueOfSysv s fault → ⊥
   true_fault sound (Endless bucket) h =
@@ -37,7 +37,7 @@ module _ (s : WithSymbols SysvTable) where
   true_fault sound (Unreadable index) h = let r = reached sound h.0.0 index h.0.1 in cc (r.is, h.1)
   true_fault sound (WrongBucket bucket index) h =
       let r = reached sound bucket index h.0 in
-      let x = some_and (named s.symbols s.strings index) _ h.1 in
+      let x = some_and (symbol_and_name s.symbols s.strings index) _ h.1 in
       let same : x.0 ≡ r.found = cc (x.1, r.is) in
       x.2 (ap (λ (f : Symbol × List ℕ). sysv_hash_of f.1 % word_count s.table.buckets) same ∙ r.hash)
   true_fault sound ShiftTooLarge h = h

@@ -6,7 +6,7 @@ use Rattle.elf_parts.specs.Hash.{gnu_hash_of, sysv_hash_of, word_count}
 use Rattle.elf_parts.specs.SysvFind.{SysvTable}
 use Rattle.elf_check.specs.SoundGnu.{HasBothBits, InRun}
 use Rattle.elf_check.specs.SoundSysv.{Visits, value}
-use Rattle.elf_check.specs.WithSymbols.{WithSymbols, named, word}
+use Rattle.elf_check.specs.WithSymbols.{WithSymbols, symbol_and_name, word}
 use Rattle.elf_check.specs.declared.hashcheck.HashFault.{HashFault}
 use Rattle.elf_check.specs.declared.hashcheck.HashFault.TheVariants.{Endless, NoBloomBit, NotInRun, PastChains}
 use Rattle.elf_check.specs.declared.hashcheck.HashFault.TheVariants.{ShiftTooLarge, Unreadable, WrongBucket, WrongHash}
@@ -22,9 +22,9 @@ module _ (s : WithSymbols SysvTable) where
       × ((j : ℕ) → j ≤ word_count s.table.chains → IsSomeAnd (value s.table bucket j) (λ index. index ≢ 0))
   IsTrueOfSysv (PastChains bucket index) = Reaches bucket index × (word_count s.table.chains ≤ index)
   IsTrueOfSysv (Unreadable index) =
-      ((bucket : ℕ) × Reaches bucket index) × (named s.symbols s.strings index ≡ None)
+      ((bucket : ℕ) × Reaches bucket index) × (symbol_and_name s.symbols s.strings index ≡ None)
   IsTrueOfSysv (WrongBucket bucket index) =
-      Reaches bucket index × IsSomeAnd (named s.symbols s.strings index) (λ found.
+      Reaches bucket index × IsSomeAnd (symbol_and_name s.symbols s.strings index) (λ found.
       sysv_hash_of found.1 % word_count s.table.buckets ≢ bucket)
   IsTrueOfSysv ShiftTooLarge = ⊥
   IsTrueOfSysv (WrongHash index) = ⊥
@@ -40,12 +40,12 @@ module _ (s : WithSymbols GnuTable) where
 
   -- the name of an index can be read, and is such
   abbrev pub NameIs : ℕ → (List ℕ → Type 0) → Type 0
-  NameIs index Such = IsSomeAnd (named s.symbols s.strings index) (λ found. Such found.1)
+  NameIs index Such = IsSomeAnd (symbol_and_name s.symbols s.strings index) (λ found. Such found.1)
 
   -- the first requirement that a chain word does not meet: a name, the hash, the bits, the run
   abbrev pub IsTrueOfGnu : HashFault → Type 0
   IsTrueOfGnu ShiftTooLarge = 32 ≤ s.table.hdr.nshift
-  IsTrueOfGnu (Unreadable index) = WordLacks index (λ k w. named s.symbols s.strings index ≡ None)
+  IsTrueOfGnu (Unreadable index) = WordLacks index (λ k w. symbol_and_name s.symbols s.strings index ≡ None)
   IsTrueOfGnu (WrongHash index) =
       WordLacks index (λ k w. NameIs index (λ name. ¬ (w / 2 ≡ gnu_hash_of name / 2)))
   IsTrueOfGnu (NoBloomBit index) =

@@ -9,11 +9,11 @@ use Rattle.elf_parts.specs.Hash.{word_count}
 use Rattle.elf_parts.specs.SysvFind.{SysvTable}
 use Rattle.elf_records.specs.declared.symbol.Symbol.{Symbol}
 use Rattle.elf_check.specs.SoundSysv.{Visits, value}
-use Rattle.elf_check.specs.WithSymbols.{WithSymbols, named}
+use Rattle.elf_check.specs.WithSymbols.{WithSymbols, symbol_and_name}
 
 -- the symbol of an index has the name
 abbrev pub HasName : {T : Type 0} → WithSymbols T → List ℕ → ℕ → Type 0
-HasName s name index = IsSomeAnd (named s.symbols s.strings index) (λ found. found.1 ≡ name)
+HasName s name index = IsSomeAnd (symbol_and_name s.symbols s.strings index) (λ found. found.1 ≡ name)
 
 -- ---- GNU: one symbol for each chain word
 
@@ -28,7 +28,7 @@ module _ (s : WithSymbols GnuTable) where
   abbrev pub IsLeastNamed : List ℕ → Option (ℕ × Symbol) → Type 0
   IsLeastNamed name None = (i : ℕ) → ScanGnu name i → ⊥
   IsLeastNamed name (Some found) =
-      IndexedGnu s.table found.0 × (named s.symbols s.strings found.0 ≡ Some (found.1, name))
+      IndexedGnu s.table found.0 × (symbol_and_name s.symbols s.strings found.0 ≡ Some (found.1, name))
       × ((i : ℕ) → ScanGnu name i → found.0 ≤ i)
 
 -- ---- SysV: the values of the chains before their 0
@@ -55,7 +55,7 @@ module _ (s : WithSymbols SysvTable) where
   abbrev pub IsFirstNamed : List ℕ → Option (ℕ × Symbol) → Type 0
   IsFirstNamed name None = (i : ℕ) → ScanSysv name i → ⊥
   IsFirstNamed name (Some found) =
-      (named s.symbols s.strings found.0 ≡ Some (found.1, name))
+      (symbol_and_name s.symbols s.strings found.0 ≡ Some (found.1, name))
       × ((bucket : ℕ) × (j : ℕ) × IsFirst name bucket j found.0)
 
 -- ---- how many they are

@@ -10,7 +10,7 @@ use Rattle.elf_records.specs.Table.{Table, table_view}
 use Rattle.elf_records.specs.declared.symbol.Symbol.{Symbol}
 use Rattle.elf_check.specs.Object.{ByGnu, BySysv, Indexed, IsFound, Object}
 use Rattle.elf_check.specs.SoundSysv.{Visits}
-use Rattle.elf_check.specs.WithSymbols.{named, word}
+use Rattle.elf_check.specs.WithSymbols.{symbol_and_name, word}
 use Rattle.elf_check.specs.declared.hashcheck.named.Following.{Following}
 use Rattle.elf_check.specs.declared.hashcheck.named.Following.TheVariants.{Chain, Run}
 use Rattle.elf_check.specs.declared.hashcheck.named.NamedSymbols.{NamedSymbols}
@@ -19,9 +19,11 @@ use Rattle.elf_check.specs.declared.hashcheck.named.FollowingIndexes.{FollowingI
 -- ---- which symbols these are
 
 -- the object indexes a symbol by this index, it is this one, and it has the name
-abbrev pub IsNamed : Object → List ℕ → ℕ × Symbol → Type 0
-IsNamed (BySysv s) name one = Indexed (BySysv s) one.0 × (named s.symbols s.strings one.0 ≡ Some (one.1, name))
-IsNamed (ByGnu s) name one = Indexed (ByGnu s) one.0 × (named s.symbols s.strings one.0 ≡ Some (one.1, name))
+abbrev pub IsIndexedWithName : Object → List ℕ → ℕ × Symbol → Type 0
+IsIndexedWithName (BySysv s) name one = Indexed (BySysv s) one.0
+    × (symbol_and_name s.symbols s.strings one.0 ≡ Some (one.1, name))
+IsIndexedWithName (ByGnu s) name one = Indexed (ByGnu s) one.0
+    × (symbol_and_name s.symbols s.strings one.0 ≡ Some (one.1, name))
 
 -- an index comes before another: in the same chain, or in the order of the indexes
 abbrev pub Precedes : Object → ℕ → ℕ → Type 0
@@ -36,7 +38,7 @@ first_of (x ∷ xs) = Some x
 
 -- exactly the symbols of the name, each once and in order, and the first one is what a look-up finds
 pub record AreAllNamed (object : Object) (name : List ℕ) (found : List (ℕ × Symbol)) : Type 0 where
-  pub all : (one : ℕ × Symbol) → Contains found one ↔ IsNamed object name one
+  pub all : (one : ℕ × Symbol) → Contains found one ↔ IsIndexedWithName object name one
   pub once : AllPairs (λ one other. one.0 ≢ other.0) found
   pub order : AllPairs (λ one other. Precedes object one.0 other.0) found
   pub first : IsFound object name (first_of found)
@@ -69,11 +71,11 @@ where_named name index (Some found) = if bytes_eq found.1 name then Some (index,
 where_named name index None = None
 
 abbrev pub symbol_named : Table → List ℕ → List ℕ → ℕ → Option (ℕ × Symbol)
-symbol_named symbols strings name index = where_named name index (named symbols strings index)
+symbol_named symbols strings name index = where_named name index (symbol_and_name symbols strings index)
 
 -- those of these indexes whose symbols have the name
-abbrev pub kept_named : Table → List ℕ → List ℕ → List ℕ → List (ℕ × Symbol)
-kept_named symbols strings name indexes = filter_map (symbol_named symbols strings name) indexes
+abbrev pub symbols_with_name : Table → List ℕ → List ℕ → List ℕ → List (ℕ × Symbol)
+symbols_with_name symbols strings name indexes = filter_map (symbol_named symbols strings name) indexes
 
 -- the indexes from the one on that a look-up found, up to the end of its chain, or of its run
 abbrev pub chain_from : SysvTable → Option (ℕ × Symbol) → List ℕ
@@ -90,4 +92,4 @@ abbrev pub indexes_left : {E : Type 0} → FollowingIndexes E → List ℕ
 indexes_left s = indexes_from (index_behind (table_view s.chains) s.links) s.left s.next
 
 abbrev pub named_left : {E : Type 0} → NamedSymbols E → List (ℕ × Symbol)
-named_left s = kept_named (table_view s.symtab) s.strings s.name.now (indexes_left s.walk)
+named_left s = symbols_with_name (table_view s.symtab) s.strings s.name.now (indexes_left s.walk)

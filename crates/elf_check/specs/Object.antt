@@ -52,9 +52,9 @@ abbrev pub IsSound : Object → Type 0
 IsSound (BySysv s) = SoundSysv s
 IsSound (ByGnu s) = SoundGnu s
 
-abbrev pub IsTrueOf : Object → HashFault → Type 0
-IsTrueOf (BySysv s) = IsTrueOfSysv s
-IsTrueOf (ByGnu s) = IsTrueOfGnu s
+abbrev pub IsTrueOfObject : Object → HashFault → Type 0
+IsTrueOfObject (BySysv s) = IsTrueOfSysv s
+IsTrueOfObject (ByGnu s) = IsTrueOfGnu s
 
 -- some indexed symbol has the name
 abbrev pub Has : List ℕ → Object → Type 0

@@ -13,8 +13,8 @@ use Rattle.elf_check.specs.declared.hashcheck.HashFault.TheVariants.{ShiftTooLar
 use Rattle.elf_check.specs.declared.hashcheck.reads.Reads.{Reads}
 
 -- a count after n more
-abbrev pub counted : ℕ → ℕ → ℕ
-counted count n = min (count + n) (2 ^ 64 - 1)
+abbrev pub count_after : ℕ → ℕ → ℕ
+count_after count n = min (count + n) (2 ^ 64 - 1)
 
 -- how many symbols were read
 abbrev pub read_count : Reads → ℕ
@@ -68,4 +68,4 @@ module _ (s : WithSymbols SysvTable) where
   abbrev pub IsCountAt : HashFault → ℕ → ℕ → Type 0
   IsCountAt fault old new =
       (bucket : ℕ) × (j : ℕ) × ((b : ℕ) → b < bucket → (k : ℕ) × EndsAt s b k) × BelongBefore bucket j
-      × IsFaultAt bucket j fault × (new ≡ counted old (chain_lengths s.table bucket + j + symbols_of fault))
+      × IsFaultAt bucket j fault × (new ≡ count_after old (chain_lengths s.table bucket + j + symbols_of fault))

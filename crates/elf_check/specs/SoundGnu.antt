@@ -5,7 +5,7 @@ use Rattle.std.specs.Option.{IsSomeAnd}
 use Rattle.elf_records.specs.Class.{address_bits}
 use Rattle.elf_parts.specs.GnuFind.{GnuTable}
 use Rattle.elf_parts.specs.Hash.{gnu_hash_of, word_count}
-use Rattle.elf_check.specs.WithSymbols.{WithSymbols, bloom, named, word}
+use Rattle.elf_check.specs.WithSymbols.{WithSymbols, bloom, symbol_and_name, word}
 
 module _ (t : GnuTable) where
   -- both bits of a hash are set in its bloom word
@@ -31,7 +31,7 @@ module _ (s : WithSymbols GnuTable) where
   -- the name of chain word k can be read, and the word is its hash apart from bit 0, whose bloom bits are set and
   -- in whose run the word lies
   abbrev pub SoundWord : ℕ → ℕ → Type 0
-  SoundWord k w = IsSomeAnd (named s.symbols s.strings (s.table.hdr.table_start_idx + k)) (λ found.
+  SoundWord k w = IsSomeAnd (symbol_and_name s.symbols s.strings (s.table.hdr.table_start_idx + k)) (λ found.
       (w / 2 ≡ gnu_hash_of found.1 / 2) × HasBothBits s.table (gnu_hash_of found.1)
       × InRun s.table k (gnu_hash_of found.1))
 

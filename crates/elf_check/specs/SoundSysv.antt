@@ -4,7 +4,7 @@ use Rattle.std.specs.Option.{IsSomeAnd}
 use Rattle.elf_parts.specs.Hash.{sysv_hash_of, word_count}
 use Rattle.elf_parts.specs.SysvFind.{SysvTable}
 use Rattle.elf_records.specs.Table.{Table}
-use Rattle.elf_check.specs.WithSymbols.{WithSymbols, named, word}
+use Rattle.elf_check.specs.WithSymbols.{WithSymbols, symbol_and_name, word}
 
 -- the chain word at a value
 abbrev pub chain_word : Table → Option ℕ → Option ℕ
@@ -28,7 +28,7 @@ module _ (s : WithSymbols SysvTable) where
   abbrev pub Belongs : ℕ → ℕ → Type 0
   Belongs bucket index =
       (index < word_count s.table.chains)
-      × IsSomeAnd (named s.symbols s.strings index) (λ found.
+      × IsSomeAnd (symbol_and_name s.symbols s.strings index) (λ found.
       sysv_hash_of found.1 % word_count s.table.buckets ≡ bucket)
 
   -- the first 0 of a bucket's chain is value j, j is at most the number of chain words, and every value before it

@@ -25,12 +25,12 @@ unfoldable pub bloom : Table → ℕ → Option ℕ
 bloom words i = result_ok (bloom_word words i)
 
 -- symbol i and its name, where both can be read
-unfoldable pub named : Table → List ℕ → ℕ → Option (Symbol × List ℕ)
-named symbols strings i = result_ok (named_symbol symbols strings i)
+unfoldable pub symbol_and_name : Table → List ℕ → ℕ → Option (Symbol × List ℕ)
+symbol_and_name symbols strings i = result_ok (named_symbol symbols strings i)
 
 -- the name of symbol i, where both can be read
 abbrev pub name_at : Table → List ℕ → ℕ → Option (List ℕ)
-name_at symbols strings i = option_map (λ (found : Symbol × List ℕ). found.1) (named symbols strings i)
+name_at symbols strings i = option_map (λ (found : Symbol × List ℕ). found.1) (symbol_and_name symbols strings i)
 
 -- a hash table, the symbols that it is for, and the bytes of their names
 pub record WithSymbols (T : Type 0) : Type 0 where

@@ -9,7 +9,7 @@ pub mod laws;
 mod named;
 mod reads;
 mod sysv;
-mod words;
+mod table_words;
 
 pub use any::{AnyChecked, HashKind, HashSection, check_any};
 pub use gnu::{CheckedGnuHash, check_gnu, check_gnu_counted};

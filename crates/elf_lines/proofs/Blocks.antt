@@ -4,7 +4,7 @@ use Rattle.std.proofs.lemmas.Grind.{flat_map-append}
 use Rattle.std.proofs.lemmas.List.{take-append-drop, drop-drop}
 use Rattle.std.specs.List.{flat_map}
 use Rattle.std.specs.Simd.{first_chunks}
-use Rattle.elf_lines.specs.Pieces.{escape, escaped, escaped_byte, hex_of, hex_pair, is_plain}
+use Rattle.elf_lines.specs.Pieces.{escape, escaped_text, escaped_byte, hex_of, hex_pair, is_plain}
 use Rattle.std.specs.Prelude.{if◌then◌else◌}
 
 -- the bytes of k blocks, and then those after them
@@ -40,35 +40,35 @@ longer_byte : (t : Bool) (b : ℕ) (rest xs : List ℕ) → length xs ≤ length
 longer_byte true b rest xs l = omega (arith, l)
 longer_byte false b rest xs l = omega (arith, l)
 
-longer : (xs : List ℕ) → length xs ≤ length (escaped xs)
+longer : (xs : List ℕ) → length xs ≤ length (escaped_text xs)
 longer [] = omega arith
-longer (x ∷ xs) = longer_byte (is_plain x) x (escaped xs) xs (longer xs)
+longer (x ∷ xs) = longer_byte (is_plain x) x (escaped_text xs) xs (longer xs)
 
 -- what is plain is plain after its first byte, and after its first k
-plain_tail : (t : Bool) (b : ℕ) (xs : List ℕ) → (if t then b ∷ [] else escape b) ++ escaped xs ≡ b ∷ xs → escaped xs ≡ xs
+plain_tail : (t : Bool) (b : ℕ) (xs : List ℕ) → (if t then b ∷ [] else escape b) ++ escaped_text xs ≡ b ∷ xs → escaped_text xs ≡ xs
 plain_tail true b xs e = ap (drop 1) e
 plain_tail false b xs e = absurd (omega (arith, ap length e, longer xs))
 
-plain_behind : (k : ℕ) (xs : List ℕ) → escaped xs ≡ xs → escaped (drop k xs) ≡ drop k xs
+plain_behind : (k : ℕ) (xs : List ℕ) → escaped_text xs ≡ xs → escaped_text (drop k xs) ≡ drop k xs
 plain_behind zero xs e = e
 plain_behind (suc k) [] e = refl
 plain_behind (suc k) (x ∷ xs) e = plain_behind k xs (plain_tail (is_plain x) x xs e)
 
 -- what is plain from k on is so from m on
-pub plain_from : (k m : ℕ) (xs : List ℕ) → k ≤ m → escaped (drop k xs) ≡ drop k xs → escaped (drop m xs) ≡ drop m xs
+pub plain_from : (k m : ℕ) (xs : List ℕ) → k ≤ m → escaped_text (drop k xs) ≡ drop k xs → escaped_text (drop m xs) ≡ drop m xs
 plain_from k m xs low plain =
     let same : drop (m - k) (drop k xs) ≡ drop m xs = drop-drop (m - k) k xs ∙ ap (λ (n : ℕ). drop n xs) (omega (arith, low)) in
-    subst (λ (ys : List ℕ). escaped ys ≡ ys) same (plain_behind (m - k) (drop k xs) plain)
+    subst (λ (ys : List ℕ). escaped_text ys ≡ ys) same (plain_behind (m - k) (drop k xs) plain)
 
 -- what is plain up to m and from k on
-pub plain_ends : (k m : ℕ) (xs : List ℕ) → k ≤ m → escaped (take m xs) ≡ take m xs → escaped (drop k xs) ≡ drop k xs → escaped xs ≡ xs
+pub plain_ends : (k m : ℕ) (xs : List ℕ) → k ≤ m → escaped_text (take m xs) ≡ take m xs → escaped_text (drop k xs) ≡ drop k xs → escaped_text xs ≡ xs
 plain_ends k m xs low first last =
-    ap escaped (sym (take-append-drop m xs)) ∙ flat_map-append escaped_byte (take m xs) (drop m xs)
-    ∙ ap (λ (t : List ℕ). t ++ escaped (drop m xs)) first ∙ ap (λ (t : List ℕ). take m xs ++ t) (plain_from k m xs low last) ∙ take-append-drop m xs
+    ap escaped_text (sym (take-append-drop m xs)) ∙ flat_map-append escaped_byte (take m xs) (drop m xs)
+    ∙ ap (λ (t : List ℕ). t ++ escaped_text (drop m xs)) first ∙ ap (λ (t : List ℕ). take m xs ++ t) (plain_from k m xs low last) ∙ take-append-drop m xs
 
 -- bytes are plain if k blocks are, and those after them
 pub plain_and_rest : (n k : ℕ) (xs : List ℕ)
-    → flat_map escaped (first_chunks n k xs) ≡ flat_map (λ (block : List ℕ). block) (first_chunks n k xs) → escaped (drop (k * n) xs) ≡ drop (k * n) xs → escaped xs ≡ xs
+    → flat_map escaped_text (first_chunks n k xs) ≡ flat_map (λ (block : List ℕ). block) (first_chunks n k xs) → escaped_text (drop (k * n) xs) ≡ drop (k * n) xs → escaped_text xs ≡ xs
 plain_and_rest n k xs first second =
-    sym (blocks_and_rest escaped_byte n k xs) ∙ ap (λ (t : List ℕ). t ++ escaped (drop (k * n) xs)) first
+    sym (blocks_and_rest escaped_byte n k xs) ∙ ap (λ (t : List ℕ). t ++ escaped_text (drop (k * n) xs)) first
     ∙ ap (λ (t : List ℕ). flat_map (λ (block : List ℕ). block) (first_chunks n k xs) ++ t) second ∙ bytes_and_rest n k xs

@@ -2,7 +2,7 @@
 use Rattle.std.proofs.Common.{◌≡◌, ℕ, ◌+◌, ◌-◌, ◌<◌, ◌≤◌, true, List, [], ◌∷◌, ◌++◌, length, get_or, take, drop, refl, sym, ap, ◌∙◌, append_assoc, arith, length-drop}
 use Rattle.std.specs.Prelude.{slice_range}
 use Rattle.std.proofs.lemmas.List.{take_more, drop_more, get_or-drop}
-use Rattle.elf_lines.specs.Pieces.{escaped, escaped_byte, is_plain}
+use Rattle.elf_lines.specs.Pieces.{escaped_text, escaped_byte, is_plain}
 
 -- one more byte waits
 waiting_more : (xs : List ℕ) (start i : ℕ) → start ≤ i → i < length xs → slice_range xs start (i + 1) ≡ slice_range xs start i ++ get_or xs i 0 ∷ []
@@ -19,9 +19,9 @@ plain_is b h = rw h refl
 
 -- a plain byte waits with those before it
 pub plain_waits : (xs : List ℕ) (start i : ℕ) → start ≤ i → i < length xs → is_plain (get_or xs i 0) ≡ true
-    → slice_range xs start i ++ escaped (drop i xs) ≡ slice_range xs start (i + 1) ++ escaped (drop (i + 1) xs)
+    → slice_range xs start i ++ escaped_text (drop i xs) ≡ slice_range xs start (i + 1) ++ escaped_text (drop (i + 1) xs)
 plain_waits xs start i low high plain =
-    ap (λ ys. slice_range xs start i ++ escaped ys) (drop_more xs i 0 high)
-    ∙ ap (λ ys. slice_range xs start i ++ (ys ++ escaped (drop (i + 1) xs))) (plain_is _ plain)
-    ∙ sym (append_assoc (slice_range xs start i) (get_or xs i 0 ∷ []) (escaped (drop (i + 1) xs)))
-    ∙ ap (λ ys. ys ++ escaped (drop (i + 1) xs)) (sym (waiting_more xs start i low high))
+    ap (λ ys. slice_range xs start i ++ escaped_text ys) (drop_more xs i 0 high)
+    ∙ ap (λ ys. slice_range xs start i ++ (ys ++ escaped_text (drop (i + 1) xs))) (plain_is _ plain)
+    ∙ sym (append_assoc (slice_range xs start i) (get_or xs i 0 ∷ []) (escaped_text (drop (i + 1) xs)))
+    ∙ ap (λ ys. ys ++ escaped_text (drop (i + 1) xs)) (sym (waiting_more xs start i low high))

@@ -8,7 +8,7 @@ use Rattle.std.proofs.lemmas.List.Quantifiers.{position-Some}
 use Rattle.elf_records.specs.StringTable.{string_at}
 use Rattle.elf_records.specs.declared.parse.ParseError.{ParseError}
 use Rattle.elf_records.specs.declared.parse.ParseError.TheVariants.{BadOffset, StringTableMissingNul}
-use Rattle.elf_lines.specs.Counted.{end_line, numbered}
+use Rattle.elf_lines.specs.Counted.{end_line, numbered_lines}
 use Rattle.elf_lines.specs.Strings.{string_line, strings_from}
 
 -- what two tests let through
@@ -48,7 +48,7 @@ strings_ended (suc limit) bytes o e h = rw h refl
 abbrev pub text_left : List ℕ → ℕ → ℕ → List ℕ
 text_left bytes count o =
     let left = strings_from (length bytes - count) bytes o in
-    numbered string_line count left ++ end_line (count + length left)
+    numbered_lines string_line count left ++ end_line (count + length left)
 
 pub text_step : (bytes : List ℕ) (count o : ℕ) (string : List ℕ) → count < length bytes → string_at bytes o ≡ Ok string → text_left bytes count o ≡ string_line 0 (o, string) ++ text_left bytes (count + 1) (o + length string + 1)
 text_step bytes count o string some h =
@@ -56,11 +56,11 @@ text_step bytes count o string some h =
     let less : length bytes - count - 1 ≡ length bytes - (count + 1) = omega arith in
     let next = strings_from (length bytes - (count + 1)) bytes (o + length string + 1) in
     let number : count + suc (length next) ≡ count + 1 + length next = omega arith in
-    ap (λ (left : List (ℕ × List ℕ)). numbered string_line count left ++ end_line (count + length left)) (read ∙ ap (λ n. (o, string) ∷ strings_from n bytes (o + length string + 1)) less)
-    ∙ append_assoc (string_line 0 (o, string)) (numbered string_line (count + 1) next) (end_line (count + suc (length next)))
-    ∙ ap (λ n. string_line 0 (o, string) ++ (numbered string_line (count + 1) next ++ end_line n)) number
+    ap (λ (left : List (ℕ × List ℕ)). numbered_lines string_line count left ++ end_line (count + length left)) (read ∙ ap (λ n. (o, string) ∷ strings_from n bytes (o + length string + 1)) less)
+    ∙ append_assoc (string_line 0 (o, string)) (numbered_lines string_line (count + 1) next) (end_line (count + suc (length next)))
+    ∙ ap (λ n. string_line 0 (o, string) ++ (numbered_lines string_line (count + 1) next ++ end_line n)) number
 
 pub text_end : (bytes : List ℕ) (count o : ℕ) (e : ParseError) → string_at bytes o ≡ Err e → text_left bytes count o ≡ end_line count
 text_end bytes count o e h =
     let number : count + 0 ≡ count = omega arith in
-    ap (λ (left : List (ℕ × List ℕ)). numbered string_line count left ++ end_line (count + length left)) (strings_ended (length bytes - count) bytes o e h) ∙ ap end_line number
+    ap (λ (left : List (ℕ × List ℕ)). numbered_lines string_line count left ++ end_line (count + length left)) (strings_ended (length bytes - count) bytes o e h) ∙ ap end_line number

@@ -3,11 +3,11 @@ use Rattle.std.proofs.Common.{◌≡◌, ℕ, Bool, true, false, List, Option, S
 use Rattle.std.specs.Prelude.{codes, IsUtf8}
 use Rattle.std.specs.Str.{is_utf8}
 use Rattle.std.proofs.lemmas.Str.{IsUtf8-from_is_utf8, is_utf8-from_IsUtf8}
-use Rattle.elf_records.specs.StringTable.{GivesText}
+use Rattle.elf_records.specs.StringTable.{GivesText, text_of}
 use Rattle.elf_parts.specs.gnu_symver.Table.{GivesRequirement, GivesTexts, RefusesText, Requirement}
 use Rattle.elf_records.specs.declared.parse.ParseError.{ParseError}
 use Rattle.elf_parts.specs.declared.gnu_symver.table.SymbolRequirement.{SymbolRequirement}
-use Rattle.elf_lines.specs.Versions.{need_field, needed_field, needed_texts, text_of, text_shown}
+use Rattle.elf_lines.specs.Versions.{need_field, needed_field, needed_texts, text_shown}
 use denote.Ref.{Bor}
 
 no_text : (name : List ℕ) (b : Bool) → is_utf8 name ≡ b → (IsUtf8 name → ⊥) → (if b then Some name else None) ≡ None

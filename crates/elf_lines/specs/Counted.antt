@@ -4,13 +4,13 @@ use Rattle.std.specs.Fmt.{decimal}
 use Rattle.elf_lines.specs.Pieces.{◌⧺◌, newline}
 
 -- the lines of items that are numbered from k
-abbrev pub numbered : {X : Type 0} → (ℕ → X → List ℕ) → ℕ → List X → List ℕ
-numbered line k [] = []
-numbered line k (x ∷ xs) = line k x ⧺ numbered line (k + 1) xs
+abbrev pub numbered_lines : {X : Type 0} → (ℕ → X → List ℕ) → ℕ → List X → List ℕ
+numbered_lines line k [] = []
+numbered_lines line k (x ∷ xs) = line k x ⧺ numbered_lines line (k + 1) xs
 
 abbrev pub end_line : ℕ → List ℕ
 end_line count = codes "end " ⧺ decimal count ⧺ newline
 
 -- the lines of items that are numbered from 0, and how many they are
 abbrev pub counted_lines : {X : Type 0} → (ℕ → X → List ℕ) → List X → List ℕ
-counted_lines line xs = numbered line 0 xs ⧺ end_line (length xs)
+counted_lines line xs = numbered_lines line 0 xs ⧺ end_line (length xs)

@@ -2,10 +2,10 @@
 use Rattle.std.specs.Prelude.{ℕ, List, codes, Option, Some, None, Result, Ok, Err}
 use Rattle.elf_records.specs.StringTable.{string_at}
 use Rattle.elf_records.specs.declared.parse.ParseError.{ParseError}
-use Rattle.elf_lines.specs.Pieces.{◌⧺◌, escaped}
+use Rattle.elf_lines.specs.Pieces.{◌⧺◌, escaped_text}
 
 abbrev pub name_read : Result (List ℕ) ParseError → List ℕ
-name_read (Ok name) = codes "name=" ⧺ escaped name
+name_read (Ok name) = codes "name=" ⧺ escaped_text name
 name_read (Err e) = codes "badname"
 
 -- the raw name at an offset of the strings, if there are strings

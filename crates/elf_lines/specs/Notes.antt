@@ -2,7 +2,7 @@
 use Rattle.std.specs.Prelude.{ℕ, List, codes}
 use Rattle.std.specs.Fmt.{decimal}
 use Rattle.elf_parts.specs.Note.{NoteContent, AbiTag, BuildId, Other}
-use Rattle.elf_lines.specs.Pieces.{◌⧺◌, newline, escaped, hex_of}
+use Rattle.elf_lines.specs.Pieces.{◌⧺◌, newline, escaped_text, hex_of}
 
 abbrev pub content_line : NoteContent → List ℕ
 content_line (AbiTag tag) =
@@ -10,7 +10,8 @@ content_line (AbiTag tag) =
     ⧺ codes " minor=" ⧺ decimal tag.minor ⧺ codes " subminor=" ⧺ decimal tag.subminor ⧺ newline
 content_line (BuildId id) = codes "buildid hex=" ⧺ hex_of id ⧺ newline
 content_line (Other n_type name descriptor) =
-    codes "note type=" ⧺ decimal n_type ⧺ codes " name=" ⧺ escaped name ⧺ codes " desc=" ⧺ hex_of descriptor ⧺ newline
+    codes "note type=" ⧺ decimal n_type ⧺ codes " name=" ⧺ escaped_text name ⧺ codes " desc=" ⧺ hex_of descriptor
+    ⧺ newline
 
 abbrev pub note_line : ℕ → NoteContent → List ℕ
 note_line k content = content_line content

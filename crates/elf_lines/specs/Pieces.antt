@@ -32,8 +32,8 @@ abbrev pub escaped_byte : ℕ → List ℕ
 escaped_byte b = if is_plain b then b ∷ [] else escape b
 
 -- a plain byte as itself, each other byte as `\x` and two digits
-abbrev pub escaped : List ℕ → List ℕ
-escaped bytes = flat_map escaped_byte bytes
+abbrev pub escaped_text : List ℕ → List ℕ
+escaped_text bytes = flat_map escaped_byte bytes
 
 -- two lower-case digits for each byte, nothing between them
 abbrev pub hex_of : List ℕ → List ℕ

@@ -3,7 +3,7 @@ use Rattle.std.specs.Prelude.{ℕ, zero, suc, ◌+◌, List, [], ◌∷◌, leng
 use Rattle.std.specs.Fmt.{decimal}
 use Rattle.elf_records.specs.StringTable.{string_at}
 use Rattle.elf_records.specs.declared.parse.ParseError.{ParseError}
-use Rattle.elf_lines.specs.Pieces.{◌⧺◌, newline, escaped}
+use Rattle.elf_lines.specs.Pieces.{◌⧺◌, newline, escaped_text}
 
 -- a string at o, if it can be read, and those after it
 abbrev pub before_strings : ℕ → Result (List ℕ) ParseError → List (ℕ × List ℕ) → List (ℕ × List ℕ)
@@ -27,4 +27,4 @@ strings_of bytes = strings_from (length bytes) bytes 0
 
 -- the line of a string has its offset in place of its number
 abbrev pub string_line : ℕ → ℕ × List ℕ → List ℕ
-string_line k (o, string) = codes "string " ⧺ decimal o ⧺ codes " name=" ⧺ escaped string ⧺ newline
+string_line k (o, string) = codes "string " ⧺ decimal o ⧺ codes " name=" ⧺ escaped_text string ⧺ newline

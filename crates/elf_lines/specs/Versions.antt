@@ -2,17 +2,12 @@
 use Rattle.std.specs.Prelude.{ℕ, zero, suc, Bool, if◌then◌else◌, List, [], codes, Option, Some, None, Result, Ok, Err}
 use Rattle.std.specs.Fmt.{decimal}
 use Rattle.std.specs.List.{flat_map}
-use Rattle.std.specs.Str.{is_utf8}
 use denote.Ref.{Bor}
 use Rattle.elf_parts.specs.gnu_symver.Table.{Definition, Requirement, Versions, definition, requirement}
+use Rattle.elf_records.specs.StringTable.{text_of}
 use Rattle.elf_records.specs.declared.parse.ParseError.{ParseError}
-use Rattle.elf_lines.specs.Pieces.{◌⧺◌, newline, escaped, hex}
+use Rattle.elf_lines.specs.Pieces.{◌⧺◌, newline, escaped_text, hex}
 use Rattle.elf_lines.specs.Counted.{end_line}
-
--- a raw name that can be read, and that is text
-abbrev pub text_of : Result (List ℕ) ParseError → Option (List ℕ)
-text_of (Ok name) = if is_utf8 name then Some name else None
-text_of (Err e) = None
 
 -- what a text that was read shows, if it was not refused
 abbrev pub text_shown : Result (Bor (List ℕ)) ParseError → Option (List ℕ)
@@ -29,7 +24,7 @@ version_fields hash flags hidden =
 
 abbrev pub needed_texts : List ℕ → List ℕ → ℕ → ℕ → Bool → List ℕ
 needed_texts file name hash flags hidden =
-    codes "need file=" ⧺ escaped file ⧺ codes " name=" ⧺ escaped name ⧺ version_fields hash flags hidden
+    codes "need file=" ⧺ escaped_text file ⧺ codes " name=" ⧺ escaped_text name ⧺ version_fields hash flags hidden
 
 abbrev pub needed_field : Requirement → Option (List ℕ) → Option (List ℕ) → List ℕ
 needed_field needed (Some file) (Some name) = needed_texts file name needed.hash needed.flags needed.hidden
@@ -44,7 +39,7 @@ need_field (Err e) = codes "badneed"
 -- ---- what a symbol is defined with
 
 abbrev pub version_name : Option (List ℕ) → List ℕ
-version_name (Some name) = codes " name=" ⧺ escaped name
+version_name (Some name) = codes " name=" ⧺ escaped_text name
 version_name None = codes " badname"
 
 abbrev pub version_names : List (Result (List ℕ) ParseError) → List ℕ

@@ -22,7 +22,7 @@ pub fn write_section_data<W: Write>(
     let mut lines = LineBuffer::empty();
     add_data_fields(bytes, &mut lines, out);
     add_compression_fields(header, &mut lines, out);
-    lines.word("\n", out);
+    lines.text("\n", out);
     lines.end(out)
 }
 
@@ -32,7 +32,7 @@ pub fn write_segment_data<W: Write>(bytes: &[u8], out: &mut W) -> io::Result<()>
 {
     let mut lines = LineBuffer::empty();
     add_data_fields(bytes, &mut lines, out);
-    lines.word("\n", out);
+    lines.text("\n", out);
     lines.end(out)
 }
 

@@ -20,6 +20,6 @@ impl Line for DynLine {
         lines.decimal("dyn ", k, out);
         lines.signed(" tag=", entry.d_tag, out);
         lines.hex(" value=", entry.d_val(), out);
-        lines.word("\n", out);
+        lines.text("\n", out);
     }
 }

@@ -20,11 +20,11 @@ pub fn write_header<E: EndianParse, W: Write>(ehdr: &FileHeader<E>, out: &mut W)
         (header_line (E.little ehdr.now.endianness) ehdr.now)) }
 {
     let mut lines = LineBuffer::empty();
-    lines.word("header ", out);
+    lines.text("header ", out);
     add_ident_fields(ehdr, &mut lines, out);
     add_file_fields(ehdr, &mut lines, out);
     add_size_fields(ehdr, &mut lines, out);
-    lines.word("\n", out);
+    lines.text("\n", out);
     lines.end(out)
 }
 
@@ -46,8 +46,8 @@ fn add_ident_fields<E: EndianParse, W: Write>(
         ..
     } = *ehdr;
     lines.decimal("class=", class_bits(class) as u64, out);
-    lines.word(" order=", out);
-    lines.word(order_name(endianness.is_little()), out);
+    lines.text(" order=", out);
+    lines.text(order_name(endianness.is_little()), out);
     add_ident_versions(version, osabi, abiversion, lines, out);
 }
 

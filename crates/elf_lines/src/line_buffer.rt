@@ -1,15 +1,17 @@
 //! The buffer that lines are put together in, and the pieces of a line.
-ghost use Rattle.std.specs.Prelude.{◌≡◌, ◌*◌, ◌<◌, ◌≤◌, ℕ, List, [], drop, false, true, length, take, OnOk};
+ghost use Rattle.std.specs.Prelude.{◌≡◌, ◌*◌, ◌<◌, ◌≤◌, ℕ, List, [], drop, false, take, OnOk};
 ghost use Rattle.std.specs.Prelude.{Option, Some, is_none};
 ghost use Rattle.std.specs.List.{flat_map};
 ghost use Rattle.std.specs.Fmt.{decimal, digits, digit_glyph, signed_decimal};
 ghost use Rattle.std.specs.Io.KnownBytes.{Appends};
-ghost use Rattle.elf_lines.specs.Pieces.{◌⧺◌, escape, escaped, hex, hex_of, hex_pair, is_plain};
-ghost use Rattle.elf_lines.specs.Adding.{Adds, waiting};
+ghost use Rattle.elf_lines.specs.Pieces.{◌⧺◌, escape, escaped_text, hex, hex_of, hex_pair};
+ghost use Rattle.elf_lines.specs.Adding.{Adds, waiting_text};
 
 mod pairs;
+mod plain;
 
 use crate::line_buffer::pairs::{BLOCK, fill_pairs, pairs_of_block};
+use crate::line_buffer::plain::{are_plain, is_plain};
 use std::io;
 use std::io::Write;
 use std::marker::Model;
@@ -33,7 +35,7 @@ pub struct LineBuffer {
 impl Model for LineBuffer {
     ghost Value = { Option (List ℕ) };
 
-    ghost view = { λ b. waiting b.failure (take b.used b.bytes) };
+    ghost view = { λ b. waiting_text b.failure (take b.used b.bytes) };
 
     ghost invariant = { λ b. b.used ≤ 1024 };
 }
@@ -94,12 +96,12 @@ impl LineBuffer {
         self.used = 0;
     }
 
-    /// Adds a label.
+    /// Adds a text.
     #[inline(always)]
-    pub fn word<W: Write>(&mut self, label: &str, out: &mut W)
-        ensures { Adds (W.contents out.old) self.old (W.contents out.new) self.new label.now }
+    pub fn text<W: Write>(&mut self, text: &str, out: &mut W)
+        ensures { Adds (W.contents out.old) self.old (W.contents out.new) self.new text.now }
     {
-        self.put(label.as_bytes(), out);
+        self.put(text.as_bytes(), out);
     }
 
     /// Adds a label and a number in decimal.
@@ -175,9 +177,9 @@ impl LineBuffer {
 
     /// Adds a label and a text, escaped.
     #[inline(always)]
-    pub fn escaped<W: Write>(&mut self, label: &str, text: &[u8], out: &mut W)
+    pub fn escaped_text<W: Write>(&mut self, label: &str, text: &[u8], out: &mut W)
         ensures { Adds (W.contents out.old) self.old (W.contents out.new) self.new
-            (label.now ⧺ escaped text.now) }
+            (label.now ⧺ escaped_text text.now) }
     {
         self.put(label.as_bytes(), out);
         self.put_text(text, out);
@@ -185,7 +187,7 @@ impl LineBuffer {
 
     #[inline(never)]
     fn put_text<W: Write>(&mut self, text: &[u8], out: &mut W)
-        ensures { Adds (W.contents out.old) self.old (W.contents out.new) self.new (escaped text.now) }
+        ensures { Adds (W.contents out.old) self.old (W.contents out.new) self.new (escaped_text text.now) }
     {
         if are_plain(text) {
             self.put(text, out);
@@ -197,7 +199,7 @@ impl LineBuffer {
     /// Adds a plain byte as it is, each other byte as `\x` and two digits.
     #[inline(never)]
     fn put_escaped<W: Write>(&mut self, text: &[u8], out: &mut W)
-        ensures { Adds (W.contents out.old) self.old (W.contents out.new) self.new (escaped text.now) }
+        ensures { Adds (W.contents out.old) self.old (W.contents out.new) self.new (escaped_text text.now) }
     {
         for byte in text {
             if is_plain(*byte) {
@@ -308,80 +310,12 @@ fn fill_decimal(n: u64, room: &mut [u8; MAX_DIGITS]) -> usize
     2 * pairs
 }
 
-/// Whether no byte of a text needs an escape. The last block may overlap the one before it. Blocks of a known length
-/// take fewer instructions than bytes.
-fn are_plain(bytes: &[u8]) -> bool
-    ensures { result ≡ true → escaped bytes.now ≡ bytes.now }
-{
-    let Some(last) = bytes.last_chunk::<16>() else {
-        return is_short_plain(bytes);
-    };
-    let (blocks, _) = bytes.as_chunks();
-    are_blocks_plain::<16>(blocks) && is_block_plain(last)
-}
-
-// The same of a text of fewer than 16 bytes: of its first and its last 8.
-#[inline(always)]
-fn is_short_plain(bytes: &[u8]) -> bool
-    requires { length bytes.now < 16 }
-    ensures { result ≡ true → escaped bytes.now ≡ bytes.now }
-{
-    let (Some(first), Some(last)) = (bytes.first_chunk::<8>(), bytes.last_chunk::<8>()) else {
-        return are_few_plain(bytes);
-    };
-    is_block_plain(first) && is_block_plain(last)
-}
-
-// The same of fewer than 8 bytes: of the first and the last 4.
-#[inline(always)]
-fn are_few_plain(bytes: &[u8]) -> bool
-    requires { length bytes.now < 8 }
-    ensures { result ≡ true → escaped bytes.now ≡ bytes.now }
-{
-    let (Some(first), Some(last)) = (bytes.first_chunk::<4>(), bytes.last_chunk::<4>()) else {
-        return is_block_plain(bytes);
-    };
-    is_block_plain(first) && is_block_plain(last)
-}
-
-fn are_blocks_plain<const N: usize>(blocks: &[[u8; N]]) -> bool
-    ensures { result ≡ true → flat_map escaped blocks.now ≡ flat_map (λ block. block) blocks.now }
-{
-    for block in blocks {
-        if !is_block_plain(block) {
-            return false;
-        }
-    }
-    true
-}
-
-// Looks at each byte, whatever those before it are, so that a block of a known length takes no branches.
-#[tactic(auto, using(crate::proofs::Escaping::plain_waits, std::proofs::lemmas::Grind::common_steps))]
-#[inline(always)]
-fn is_block_plain(bytes: &[u8]) -> bool
-    ensures { result ≡ true → escaped bytes.now ≡ bytes.now }
-{
-    let mut plain = true;
-    for byte in bytes {
-        if !is_plain(*byte) {
-            plain = false;
-        }
-    }
-    plain
-}
-
 /// The escape of a byte that is not plain.
 fn escape(byte: u8) -> [u8; 4]
     ensures { result ≡ escape byte }
 {
     let [high, low] = hex_digits(byte);
     [b'\\', b'x', high, low]
-}
-
-fn is_plain(byte: u8) -> bool
-    ensures { result ≡ is_plain byte }
-{
-    (0x21..=0x7e).contains(&byte) && byte != b'\\'
 }
 
 fn hex_digits(byte: u8) -> [u8; 2]

@@ -23,7 +23,7 @@ pub fn add_name<W: Write>(
 {
     match names {
         Some(names) => add_name_in(names, offset, lines, out),
-        None => lines.word(" noname", out),
+        None => lines.text(" noname", out),
     }
 }
 
@@ -38,7 +38,7 @@ pub fn add_name_in<W: Write>(
         (codes " " ⧺ name_read (string_at names.now offset)) }
 {
     match names.get_raw(offset as usize) {
-        Ok(name) => lines.escaped(" name=", name, out),
-        Err(_) => lines.word(" badname", out),
+        Ok(name) => lines.escaped_text(" name=", name, out),
+        Err(_) => lines.text(" badname", out),
     }
 }

@@ -49,7 +49,7 @@ fn add_abi_tag<W: Write>(tag: &NoteGnuAbiTag, lines: &mut LineBuffer, out: &mut 
     lines.decimal(" major=", major as u64, out);
     lines.decimal(" minor=", minor as u64, out);
     lines.decimal(" subminor=", subminor as u64, out);
-    lines.word("\n", out);
+    lines.text("\n", out);
 }
 
 fn add_build_id<W: Write>(id: &[u8], lines: &mut LineBuffer, out: &mut W)
@@ -57,7 +57,7 @@ fn add_build_id<W: Write>(id: &[u8], lines: &mut LineBuffer, out: &mut W)
         (content_line (BuildId id.now)) }
 {
     lines.bytes("buildid hex=", id, out);
-    lines.word("\n", out);
+    lines.text("\n", out);
 }
 
 fn add_other<W: Write>(note: &NoteAny<'_>, lines: &mut LineBuffer, out: &mut W)
@@ -65,9 +65,9 @@ fn add_other<W: Write>(note: &NoteAny<'_>, lines: &mut LineBuffer, out: &mut W)
         (content_line (Other note.now.n_type note.now.name.now note.now.desc.now)) }
 {
     lines.decimal("note type=", note.n_type, out);
-    lines.escaped(" name=", note.name, out);
+    lines.escaped_text(" name=", note.name, out);
     lines.bytes(" desc=", note.desc, out);
-    lines.word("\n", out);
+    lines.text("\n", out);
 }
 
 /// Writes the lines of notes, and their number.

@@ -28,7 +28,7 @@ impl Line for RelLine {
         } = *rel;
         lines.decimal("rel ", k, out);
         add_relocation_fields(r_offset, r_sym, r_type, lines, out);
-        lines.word("\n", out);
+        lines.text("\n", out);
     }
 }
 
@@ -51,7 +51,7 @@ impl Line for RelaLine {
         lines.decimal("rela ", k, out);
         add_relocation_fields(r_offset, r_sym, r_type, lines, out);
         lines.signed(" addend=", r_addend, out);
-        lines.word("\n", out);
+        lines.text("\n", out);
     }
 }
 

@@ -34,9 +34,9 @@ impl Line for SectionLine<'_> {
     ) {
         lines.decimal("section ", k, out);
         add_name(&self.names, section.sh_name, lines, out);
-        lines.word(" ", out);
+        lines.text(" ", out);
         add_section_fields(section, lines, out);
-        lines.word("\n", out);
+        lines.text("\n", out);
     }
 }
 
@@ -101,8 +101,8 @@ pub fn write_found<W: Write>(section: &SectionHeader, out: &mut W) -> io::Result
     ensures { OnOk result (Appends (W.contents out.old) (W.contents out.new) (found_line section.now)) }
 {
     let mut lines = LineBuffer::empty();
-    lines.word("found ", out);
+    lines.text("found ", out);
     add_section_fields(section, &mut lines, out);
-    lines.word("\n", out);
+    lines.text("\n", out);
     lines.end(out)
 }

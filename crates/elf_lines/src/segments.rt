@@ -27,7 +27,7 @@ impl Line for SegmentLine {
         lines.decimal("segment ", k, out);
         add_segment_places(segment, lines, out);
         add_segment_sizes(segment, lines, out);
-        lines.word("\n", out);
+        lines.text("\n", out);
     }
 }
 

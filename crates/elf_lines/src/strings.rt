@@ -38,6 +38,6 @@ fn add_string<W: Write>(offset: usize, string: &[u8], lines: &mut LineBuffer, ou
         (string_line 0 (offset, string.now)) }
 {
     lines.decimal("string ", offset as u64, out);
-    lines.escaped(" name=", string, out);
-    lines.word("\n", out);
+    lines.escaped_text(" name=", string, out);
+    lines.text("\n", out);
 }

@@ -25,7 +25,7 @@ impl Line for SymbolLine<'_> {
         lines.decimal("symbol ", k, out);
         add_name_in(&self.strings, symbol.st_name, lines, out);
         add_symbol_fields(symbol, lines, out);
-        lines.word("\n", out);
+        lines.text("\n", out);
     }
 }
 

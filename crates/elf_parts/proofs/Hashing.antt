@@ -6,22 +6,22 @@ use Rattle.std.specs.Simd.{first_chunks}
 use Rattle.std.proofs.lemmas.Grind.{and_numeral}
 use Rattle.std.proofs.lemmas.List.{drop-drop}
 use Rattle.std.proofs.lemmas.Nat.{and_block, and_mask, and_shr, le_bytes_8}
-use Rattle.elf_parts.specs.Hash.{folded, gnu_hash_from}
+use Rattle.elf_parts.specs.Hash.{hash_fold, gnu_hash_from}
 
 wraps : (h b : ℕ) → ((h * 16) % 2 ^ 32 + b) % 2 ^ 32 ≡ (16 * (h % 2 ^ 28) + b) % 2 ^ 32
 wraps h b = omega arith
 
 -- the top four bits of a hash do not matter for the next one
-pub folded_step : (h b : ℕ) → folded (((h * 16) % 2 ^ 32 + b) % 2 ^ 32) ≡ folded ((16 * (h % 2 ^ 28) + b) % 2 ^ 32)
-folded_step h b = ap folded (wraps h b)
+pub hash_fold_step : (h b : ℕ) → hash_fold (((h * 16) % 2 ^ 32 + b) % 2 ^ 32) ≡ hash_fold ((16 * (h % 2 ^ 28) + b) % 2 ^ 32)
+hash_fold_step h b = ap hash_fold (wraps h b)
 
 -- the top four bits are taken off last
-pub fold_top : (h : ℕ) → bit_xor h (bit_and (h / 2 ^ 24) 0xf0) % 2 ^ 28 ≡ folded h
+pub fold_top : (h : ℕ) → bit_xor h (bit_and (h / 2 ^ 24) 0xf0) % 2 ^ 28 ≡ hash_fold h
 fold_top h = rw (and_shr h 0xf0000000 24) (sym (and_mask (bit_xor h (bit_and (h / 2 ^ 24) 0xf0)) 28))
 
 pub ruleset fold_steps = (fold_top)
 
-pub ruleset hash_steps = (folded_step)
+pub ruleset hash_steps = (hash_fold_step)
 
 -- ---- GNU's hash, eight bytes at once. Their word has lanes: pairs of bytes in 16 bits, fours in 32.
 

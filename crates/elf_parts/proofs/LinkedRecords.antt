@@ -8,7 +8,7 @@ use Rattle.elf_records.specs.declared.file.Class.{Class}
 use Rattle.elf_records.specs.declared.parse.ParseError.{ParseError}
 use Rattle.elf_records.specs.Record.{RecordType}
 use Rattle.elf_records.specs.Table.{Table}
-use Rattle.elf_parts.specs.Link.{AreLinked, AreLongest, from_next, linked, links}
+use Rattle.elf_parts.specs.Link.{AreLinked, AreLongest, from_next, links_from, links}
 use Rattle.elf_parts.specs.gnu_symver.Links.{front_then, links_in, next_start}
 
 module _ {A : Type 0} (record_at : Bool → Class → List ℕ → ℕ → Result A ParseError) (next : A → ℕ) where
@@ -44,7 +44,7 @@ module _ {A : Type 0} (record_at : Bool → Class → List ℕ → ℕ → Resul
 module _ {A : Type 0} (reads : RecordType A) (next : A → ℕ) where
   past : (t : Table) (n o : ℕ) (r : Result A ParseError) → length t.bytes ≤ o →
       reads.record_at t.little t.class t.bytes o ≡ r →
-      linked (λ o x. next_start o (next x)) o r (links_in reads.record_at next t n) ≡ []
+      links_from (λ o x. next_start o (next x)) o r (links_in reads.record_at next t n) ≡ []
   past t n o (Ok x) end e =
       let some = reads.some_size t.class in
       let inside = reads.within t.little t.class t.bytes o x e in
@@ -77,7 +77,7 @@ module _ {A : Type 0} (reads : RecordType A) (next : A → ℕ) where
 
   step_few : (t : Table) (n o : ℕ) (r : Result A ParseError) → reads.record_at t.little t.class t.bytes o ≡ r →
       ((p : ℕ) → length (links_in reads.record_at next t n p) ≤ length t.bytes - p) →
-      length (linked (λ o x. next_start o (next x)) o r (links_in reads.record_at next t n)) ≤ length t.bytes - o
+      length (links_from (λ o x. next_start o (next x)) o r (links_in reads.record_at next t n)) ≤ length t.bytes - o
   step_few t n o (Ok x) e behind =
       let some = reads.some_size t.class in
       let inside = reads.within t.little t.class t.bytes o x e in
@@ -104,7 +104,7 @@ module _ {A : Type 0} (reads : RecordType A) (next : A → ℕ) where
 module _ {A : Type 0} (gives : ℕ → Result A ParseError) (follow : ℕ → A → Option ℕ) where
   some_linked : (o : ℕ) (r : Result A ParseError) (behind : ℕ → List (ℕ × A)) → gives o ≡ r →
       ((x : A) → AreLinked gives follow (follow o x) (from_next (follow o x) behind)) →
-      AreLinked gives follow (Some o) (linked follow o r behind)
+      AreLinked gives follow (Some o) (links_from follow o r behind)
   some_linked o (Ok x) behind e rest = (refl, e, rest x)
   some_linked o (Err d) behind e rest = tt
 
@@ -119,7 +119,7 @@ module _ {A : Type 0} (gives : ℕ → Result A ParseError) (follow : ℕ → A 
   none_bounded n (Some o) list h = h o
 
   one_bounded : (n o : ℕ) (r : Result A ParseError) (behind : ℕ → List (ℕ × A)) → ((p : ℕ) → length (behind p) ≤ n) →
-      length (linked follow o r behind) ≤ suc n
+      length (links_from follow o r behind) ≤ suc n
   one_bounded n o (Ok x) behind h = let b = none_bounded n (follow o x) behind h in omega arith
   one_bounded n o (Err d) behind h = omega arith
 

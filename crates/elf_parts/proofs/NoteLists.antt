@@ -8,9 +8,9 @@ use Rattle.elf_records.specs.Record.{◌>>=◌, record_by}
 use Rattle.elf_records.specs.inner.RecordLaws.{bind-ok}
 use Rattle.elf_records.specs.declared.file.Class.TheVariants.{ELF32}
 use Rattle.elf_records.specs.declared.parse.ParseError.{ParseError}
-use Rattle.elf_parts.specs.Link.{AreLinked, linked, links}
+use Rattle.elf_parts.specs.Link.{AreLinked, links_from, links}
 use Rattle.elf_parts.proofs.LinkedRecords.{links_bounded, longest}
-use Rattle.elf_parts.specs.Note.{AreAllNotes, NoteContent, aligned, content_of, note_at, note_header_layout}
+use Rattle.elf_parts.specs.Note.{AreAllNotes, NoteContent, aligned_offset, content_of, note_at, note_header_layout}
 use Rattle.elf_parts.specs.Note.{note_header_reads, note_links}
 use Rattle.elf_parts.specs.declared.note.NoteHeader.{NoteHeader}
 
@@ -22,13 +22,13 @@ module _ {A : Type 0} (gives : ℕ → Result (A × ℕ) ParseError) (size : ℕ
   follow o p = Some p.1
 
   past : (o : ℕ) (r : Result (A × ℕ) ParseError) (behind : ℕ → List (ℕ × (A × ℕ))) → size ≤ o → gives o ≡ r →
-      linked (λ _ p. Some p.1) o r behind ≡ []
+      links_from (λ _ p. Some p.1) o r behind ≡ []
   past o (Ok p) behind end e = let inside = law o p e in absurd (omega (arith, inside.0))
   past o (Err d) behind end e = refl
 
   same_behind : (o m n : ℕ) (r : Result (A × ℕ) ParseError) → gives o ≡ r →
       ((p : A × ℕ) → gives o ≡ Ok p → links gives (λ _ p. Some p.1) m p.1 ≡ links gives (λ _ p. Some p.1) n p.1) →
-      linked (λ _ p. Some p.1) o r (links gives (λ _ p. Some p.1) m) ≡ linked (λ _ p. Some p.1) o r
+      links_from (λ _ p. Some p.1) o r (links gives (λ _ p. Some p.1) m) ≡ links_from (λ _ p. Some p.1) o r
       (links gives (λ _ p. Some p.1) n)
   same_behind o m n (Ok p) e same = ap (λ xs. (o, p) ∷ xs) (same p e)
   same_behind o m n (Err d) e same = refl
@@ -64,9 +64,9 @@ refused gives (suc n) o e h = rw h refl
 
 -- ---- a note lies in the data, and the next one after it
 
-aligned_behind : (align o p : ℕ) → aligned align o ≡ Ok p → o ≤ p
-unfolding aligned
-aligned_behind align o p e = grind (arith, common_steps)
+aligned_offset_behind : (align o p : ℕ) → aligned_offset align o ≡ Ok p → o ≤ p
+unfolding aligned_offset
+aligned_offset_behind align o p e = grind (arith, common_steps)
 
 pub note_lies : (little : Bool) (align : ℕ) (bytes : List ℕ) (o : ℕ) (p : NoteContent × ℕ) →
     note_at little align bytes o ≡ Ok p → (o < length bytes) × (o < p.1)
@@ -75,11 +75,11 @@ note_lies little align bytes o p e =
     let with_next : NoteHeader → List ℕ → List ℕ → ℕ → Result (NoteContent × ℕ) ParseError =
     λ h name desc next. content_of little h.n_type name desc >>= λ note. Ok (note, next) in
     let with_desc : NoteHeader → List ℕ → ℕ → List ℕ → Result (NoteContent × ℕ) ParseError =
-    λ h name start desc. aligned align (start + h.n_descsz) >>= λ next. with_next h name desc next in
+    λ h name start desc. aligned_offset align (start + h.n_descsz) >>= λ next. with_next h name desc next in
     let with_start : NoteHeader → List ℕ → ℕ → Result (NoteContent × ℕ) ParseError =
     λ h name start. bytes_at h.n_descsz bytes start >>= λ desc. with_desc h name start desc in
     let with_name : NoteHeader → List ℕ → Result (NoteContent × ℕ) ParseError =
-    λ h name. aligned align (o + 12 + h.n_namesz) >>= λ start. with_start h name start in
+    λ h name. aligned_offset align (o + 12 + h.n_namesz) >>= λ start. with_start h name start in
     let with_header : NoteHeader → Result (NoteContent × ℕ) ParseError =
     λ h. bytes_at h.n_namesz bytes (o + 12) >>= λ name. with_name h name in
     let a =
@@ -87,15 +87,15 @@ note_lies little align bytes o p e =
     in
     let h = a.0 in
     let b = bind-ok {A = List ℕ} {B = NoteContent × ℕ} (bytes_at h.n_namesz bytes (o + 12)) (with_name h) p a.2 in
-    let c = bind-ok {A = ℕ} {B = NoteContent × ℕ} (aligned align (o + 12 + h.n_namesz)) (with_start h b.0) p b.2 in
+    let c = bind-ok {A = ℕ} {B = NoteContent × ℕ} (aligned_offset align (o + 12 + h.n_namesz)) (with_start h b.0) p b.2 in
     let d = bind-ok {A = List ℕ} {B = NoteContent × ℕ} (bytes_at h.n_descsz bytes c.0) (with_desc h b.0 c.0) p c.2 in
-    let f = bind-ok {A = ℕ} {B = NoteContent × ℕ} (aligned align (c.0 + h.n_descsz)) (with_next h b.0 d.0) p d.2 in
+    let f = bind-ok {A = ℕ} {B = NoteContent × ℕ} (aligned_offset align (c.0 + h.n_descsz)) (with_next h b.0 d.0) p d.2 in
     let k =
     bind-ok {A = NoteContent} {B = NoteContent × ℕ} (content_of little h.n_type b.0 d.0) (λ note. Ok (note, f.0)) p
     f.2 in
     let same : p.1 ≡ f.0 = cc k.2 in
-    let first = aligned_behind align (o + 12 + h.n_namesz) c.0 c.1 in
-    let second = aligned_behind align (c.0 + h.n_descsz) f.0 f.1 in
+    let first = aligned_offset_behind align (o + 12 + h.n_namesz) c.0 c.1 in
+    let second = aligned_offset_behind align (c.0 + h.n_descsz) f.0 f.1 in
     let inside = note_header_reads.within little ELF32 bytes o h a.1 in
     let fits : o + 12 ≤ length bytes = inside.0 in
     (omega (arith, fits), omega (arith, first, second, same))

@@ -3,7 +3,7 @@ use Rattle.std.proofs.Common.{◌≡◌, ℕ, ◌==◌, Some, None, Option, List
 use Rattle.std.specs.Option.{MatchOption, option_map, option_or, unwrap_or}
 use Rattle.std.proofs.lemmas.Grind.{common_steps}
 use Rattle.elf_parts.proofs.Versions.{needed_behind, needed_here}
-use Rattle.elf_parts.specs.gnu_symver.Table.{defined_version, kept, needed_of, needed_version, version_with}
+use Rattle.elf_parts.specs.gnu_symver.Table.{defined_version, needed_entry, needed_of, needed_version, version_with}
 use Rattle.elf_parts.specs.declared.gnu_symver.records.VerDef.{VerDef}
 use Rattle.elf_parts.specs.declared.gnu_symver.records.VerDefAux.{VerDefAux}
 use Rattle.elf_parts.specs.declared.gnu_symver.records.VerNeed.{VerNeed}
@@ -14,13 +14,13 @@ use Rattle.elf_parts.specs.declared.gnu_symver.table.Needed.{Needed}
 -- it, is what it was before
 pub needed_front : (k : ℕ) (old new : Option Needed) (need : VerNeed × List VerNeedAux)
     (needs : List (VerNeed × List VerNeedAux)) →
-    new ≡ option_or old (option_map (kept need.0.vn_file) (version_with k need.1)) →
+    new ≡ option_or old (option_map (needed_entry need.0.vn_file) (version_with k need.1)) →
     option_or new (option_map needed_of (needed_version k needs))
     ≡ option_or old (option_map needed_of (needed_version k (need ∷ needs)))
 needed_front k old new need needs e = by old (version_with k need.1) refl e
   where
     by : (o : Option Needed) (found : Option VerNeedAux) → version_with k need.1 ≡ found →
-        new ≡ option_or o (option_map (kept need.0.vn_file) found) →
+        new ≡ option_or o (option_map (needed_entry need.0.vn_file) found) →
         option_or new (option_map needed_of (needed_version k needs))
         ≡ option_or o (option_map needed_of (needed_version k (need ∷ needs)))
     by (Some x) found is same = ap (λ n. option_or n (option_map needed_of (needed_version k needs))) same

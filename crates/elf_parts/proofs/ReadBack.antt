@@ -10,7 +10,7 @@ use Rattle.std.proofs.lemmas.Nat.{div_below, pow-add}
 use Rattle.std.proofs.Math.Nat.{mod-add-div, pow-suc, mul_assoc}
 use Rattle.std.proofs.Math.IntN.{+ℤ-neg_ℤ_cancel}
 use Rattle.elf_records.specs.Number.{number, little_number, big_number, signed_number}
-use Rattle.elf_records.specs.Record.{Field, accepted, numbers_at, size_of}
+use Rattle.elf_records.specs.Record.{Field, field_value, numbers_at, size_of}
 use Rattle.elf_parts.specs.Written.{digits_256, bytes_of, complement, FitsSigned, Member, Unsigned, Signed, Parts, width_of, number_of, FitsMember, Fits, struct_bytes}
 use Rattle.elf_records.specs.inner.RecordLaws.{and_true, number_at-from}
 
@@ -142,9 +142,9 @@ here_of place f fs m ms e =
     let d = and_true version rest c.1 in
     record { at = eqb-true f.place place a.0; wide = eqb-true f.width (width_of m) b.0; member = c.0; version = d.0; behind = d.1 }
 
-accepted-version : (version : Option ℕ) (n : ℕ) → is_version version n ≡ true → accepted version n ≡ Ok n
-accepted-version None n is = refl
-accepted-version (Some version) n is = grind (arith, common_steps)
+field_value-version : (version : Option ℕ) (n : ℕ) → is_version version n ≡ true → field_value version n ≡ Ok n
+field_value-version None n is = refl
+field_value-version (Some version) n is = grind (arith, common_steps)
 
 -- the bytes after a front of known length
 pub behind_front : (front here rest : List ℕ) (o w : ℕ) → length front ≡ o → length here ≡ w →
@@ -178,7 +178,7 @@ numbers_from little (f ∷ fs) (m ∷ ms) bytes front behind o place struct fit 
     sym (ap (number little) (ap (λ (xs : List ℕ). take f.width (drop (o + f.place) xs)) split ∙ behind_front front here (rest ++ behind) (o + f.place) f.width (omega (arith, at, place_at)) long) ∙ number_bytes_of little (width_of m) n (number_of-lt m first.member fit.0)) in
     let read = number_at-from little f.width bytes (o + f.place) n (omega (arith, at, place_at, long, l1, l3, small2)) (omega (arith, at, place_at, long, l1, l2, l4)) spelled in
     let again = numbers_from little fs ms bytes (front ++ here) behind o (place + f.width) first.behind fit.1 (omega (arith, at, l1, long)) small2 split2 in
-    rw (read, accepted-version f.version n first.version, again) refl
+    rw (read, field_value-version f.version n first.version, again) refl
 
 size_from : (little : Bool) (place : ℕ) (fs : List Field) (ms : List Member) → is_struct_of place fs ms ≡ true →
     max place (size_of fs) ≡ place + length (struct_bytes little ms)

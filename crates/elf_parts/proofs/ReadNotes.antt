@@ -9,7 +9,7 @@ use Rattle.std.proofs.lemmas.List.{append-nil}
 use Rattle.std.proofs.lemmas.Grind.{common_steps}
 use Rattle.elf_records.specs.declared.file.Class.TheVariants.{ELF32}
 use Rattle.elf_records.specs.declared.parse.ParseError.{ParseError}
-use Rattle.elf_parts.specs.Note.{NoteContent, AbiTag, BuildId, Other, abi_tag_layout, aligned, content_of, is_gnu, note_at, note_header_layout, note_links, notes_from, notes_in}
+use Rattle.elf_parts.specs.Note.{NoteContent, AbiTag, BuildId, Other, abi_tag_layout, aligned_offset, content_of, is_gnu, note_at, note_header_layout, note_links, notes_from, notes_in}
 use Rattle.elf_records.specs.Number.{bytes_at, ok_map}
 use Rattle.elf_records.specs.Record.{record_by}
 use Rattle.elf_parts.specs.Structs.{abi_tag_struct, gnu_name, note_parts, padding, note_bytes, note_end, notes_bytes, NoteFits, NotesFit}
@@ -32,9 +32,9 @@ length-zeros : (n : ℕ) → length {A = ℕ} (repeat n (0 ∷ [])) ≡ n
 length-zeros zero = refl
 length-zeros (suc n) = omega (arith, length-zeros n)
 
-aligned-ok : (align o : ℕ) → 0 < align → next_multiple_of o align < 2 ^ 64 → aligned align o ≡ Ok (next_multiple_of o align)
-unfolding aligned
-aligned-ok align o some small = grind (arith, common_steps)
+aligned_offset-ok : (align o : ℕ) → 0 < align → next_multiple_of o align < 2 ^ 64 → aligned_offset align o ≡ Ok (next_multiple_of o align)
+unfolding aligned_offset
+aligned_offset-ok align o some small = grind (arith, common_steps)
 
 -- the header of a note of these parts
 abbrev header_of : ℕ × List ℕ × List ℕ → List Member
@@ -84,11 +84,11 @@ note_read_back little align parts note before behind some fits content small =
     let named : bytes_at (length name) bytes (o + 12) ≡ Ok name =
     bytes_at-from (length name) bytes (o + 12) (omega (arith, xs, et, small)) (omega (arith, l1, l2, l3, l4, h12))
     ∙ ap Ok (ap (λ (all : List ℕ). take (length name) (drop (o + 12) all)) (split_1 before h name p descriptor q behind) ∙ behind_front (before ++ h) name (p ++ (descriptor ++ (q ++ behind))) (o + 12) (length name) (omega (arith, l1, h12)) refl) in
-    let first = aligned-ok align x some (omega (arith, et, small)) in
+    let first = aligned_offset-ok align x some (omega (arith, et, small)) in
     let described : bytes_at (length descriptor) bytes s ≡ Ok descriptor =
     bytes_at-from (length descriptor) bytes s (omega (arith, et, small)) (omega (arith, l1, l2, l3, l4, l5, h12, lp, xs))
     ∙ ap Ok (ap (λ (all : List ℕ). take (length descriptor) (drop s all)) (split_2 before h name p descriptor q behind) ∙ behind_front (((before ++ h) ++ name) ++ p) descriptor (q ++ behind) s (length descriptor) (omega (arith, l1, l2, l3, h12, lp, xs)) refl) in
-    let second = aligned-ok align e some small in
+    let second = aligned_offset-ok align e some small in
     rw (header, named, first, described, second, content) refl
 
 -- ---- what a note says

@@ -9,7 +9,7 @@ use Rattle.elf_records.specs.Record.{record_by}
 use Rattle.elf_parts.specs.gnu_symver.Links.{front_then, links_in, records_of}
 use Rattle.elf_parts.specs.gnu_symver.Records.{ver_need_aux_layout}
 use Rattle.elf_parts.proofs.LinkedRecords.{links_none}
-use Rattle.elf_parts.specs.gnu_symver.Table.{kept, version_with}
+use Rattle.elf_parts.specs.gnu_symver.Table.{needed_entry, version_with}
 use Rattle.elf_parts.specs.declared.gnu_symver.records.VerNeedAux.{VerNeedAux}
 use Rattle.elf_parts.specs.declared.gnu_symver.table.Needed.{Needed}
 
@@ -47,7 +47,7 @@ pub nothing_left : (slots : List (Option Needed)) (file : ℕ) (t : Table) (k n 
     held_or_left slots file t k n o ≡ slot slots k
 nothing_left slots file t k n o e =
     ap (λ m. held_or_left slots file t k m o) e
-    ∙ ap (λ xs. option_or (slot slots k) (option_map (kept file) (version_with k (records_of xs)))) (links_none _ _ t o)
+    ∙ ap (λ xs. option_or (slot slots k) (option_map (needed_entry file) (version_with k (records_of xs)))) (links_none _ _ t o)
     ∙ by (slot slots k)
   where
     by : (held : Option Needed) → option_or held None ≡ held

@@ -17,13 +17,13 @@ use Rattle.elf_records.specs.declared.symbol.Symbol.{Symbol}
 -- ---- the hashes, on 32-bit words that wrap
 
 -- the top four bits are taken off, and XORed in at bit 4
-abbrev pub folded : ℕ → ℕ
-folded h = bit_and (bit_xor h (bit_and h 0xf0000000 / 2 ^ 24)) 0x0fffffff
+abbrev pub hash_fold : ℕ → ℕ
+hash_fold h = bit_and (bit_xor h (bit_and h 0xf0000000 / 2 ^ 24)) 0x0fffffff
 
 -- gABI's function, from a hash on
 abbrev pub sysv_hash_from : ℕ → List ℕ → ℕ
 sysv_hash_from h [] = h
-sysv_hash_from h (byte ∷ bytes) = sysv_hash_from (folded ((16 * h + byte) % 2 ^ 32)) bytes
+sysv_hash_from h (byte ∷ bytes) = sysv_hash_from (hash_fold ((16 * h + byte) % 2 ^ 32)) bytes
 
 unfoldable pub sysv_hash_of : List ℕ → ℕ
 sysv_hash_of name = sysv_hash_from 0 name

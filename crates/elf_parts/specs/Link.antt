@@ -11,15 +11,15 @@ from_next None list = []
 -- ---- `gives` reads at an offset, and `follow` gives the offset of the next one, if there is one
 
 -- a record and those after it, if it was read
-abbrev pub linked : {A : Type 0} → (ℕ → A → Option ℕ) → ℕ → Result A ParseError → (ℕ → List (ℕ × A)) → List (ℕ × A)
-linked follow o (Ok x) behind = (o, x) ∷ from_next (follow o x) behind
-linked follow o (Err e) behind = []
+abbrev pub links_from : {A : Type 0} → (ℕ → A → Option ℕ) → ℕ → Result A ParseError → (ℕ → List (ℕ × A)) → List (ℕ × A)
+links_from follow o (Ok x) behind = (o, x) ∷ from_next (follow o x) behind
+links_from follow o (Err e) behind = []
 
 -- the records with the offsets where they begin: the first at `start`, each next one where the one before it says, up
 -- to one that has no next one or that cannot be read, and no more than the count
 abbrev pub links : {A : Type 0} → (ℕ → Result A ParseError) → (ℕ → A → Option ℕ) → ℕ → ℕ → List (ℕ × A)
 links gives follow zero start = []
-links gives follow (suc count) start = linked follow start (gives start) (links gives follow count)
+links gives follow (suc count) start = links_from follow start (gives start) (links gives follow count)
 
 -- what the list has to be, said without a count of steps: the first record begins at the place, each is the one that
 -- is read there, and those after it begin where it says

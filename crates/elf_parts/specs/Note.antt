@@ -88,8 +88,8 @@ content_of little n_type name descriptor =
 -- ---- where a note lies
 
 -- the least multiple of the alignment that is not below o; an error if there is none, or none of 64 bits
-unfoldable pub aligned : ℕ → ℕ → Result ℕ ParseError
-aligned align o =
+unfoldable pub aligned_offset : ℕ → ℕ → Result ℕ ParseError
+aligned_offset align o =
     if align == 0 || nat_le (2 ^ 64) (next_multiple_of o align) then Err IntegerOverflow
     else Ok (next_multiple_of o align)
 
@@ -104,9 +104,9 @@ unfoldable pub note_at : Bool → ℕ → List ℕ → ℕ → Result (NoteConte
 note_at little align bytes o =
     record_by note_header_layout little ELF32 bytes o >>= λ header.
     bytes_at header.n_namesz bytes (o + 12) >>= λ name.
-    aligned align (o + 12 + header.n_namesz) >>= λ start.
+    aligned_offset align (o + 12 + header.n_namesz) >>= λ start.
     bytes_at header.n_descsz bytes start >>= λ descriptor.
-    aligned align (start + header.n_descsz) >>= λ next.
+    aligned_offset align (start + header.n_descsz) >>= λ next.
     content_of little header.n_type name descriptor >>= λ note.
     Ok (note, next)
 

@@ -7,8 +7,8 @@ mod records;
 mod table;
 
 pub use lists::{
-    AuxIterator, EntryIterator, VerDefAuxIterator, VerDefIterator, VerNeedAuxIterator,
-    VerNeedIterator,
+    AuxIterator, EntriesWithStrings, EntryIterator, VerDefAuxIterator, VerDefIterator,
+    VerNeedAuxIterator, VerNeedIterator,
 };
 pub use records::{VerDef, VerDefAux, VerNeed, VerNeedAux, VersionIndex, VersionIndexTable};
 pub use table::{

@@ -1,7 +1,8 @@
 //! Notes (gABI, chapter "Program Header", "Note Section").
 ghost use Rattle.std.specs.Prelude.{◌≡◌, ◌≤◌, ◌<◌, ◌^◌, ◌+◌, length, OnOk};
 ghost use Rattle.std.specs.Iterator.{YieldsFirstBy, item_count};
-ghost use Rattle.elf_parts.specs.Note.{aligned, content_of, is_gnu, note_and_next_view, note_at, note_view, notes_in};
+ghost use Rattle.elf_parts.specs.Note.{aligned_offset, content_of, is_gnu, note_and_next_view, note_at, note_view};
+ghost use Rattle.elf_parts.specs.Note.{notes_in};
 ghost use Rattle.elf_parts.specs.Note.{notes_left, GivesNameText};
 ghost use Rattle.elf_records.specs.Number.{ok_map};
 
@@ -122,10 +123,10 @@ impl ParseAt for NoteGnuAbiTag {
 }
 
 // The next multiple of the alignment.
-#[tactic(auto, unfolding(crate::specs::Note::aligned))]
+#[tactic(auto, unfolding(crate::specs::Note::aligned_offset))]
 #[inline(always)]
-fn aligned(align: usize, offset: usize) -> Result<usize, ParseError>
-    ensures { result ≡ aligned align offset }
+fn aligned_offset(align: usize, offset: usize) -> Result<usize, ParseError>
+    ensures { result ≡ aligned_offset align offset }
 {
     // Nearly all files have 4 or 8. A division by a known number takes fewer instructions, and needs no remainder.
     let next = match align {
@@ -189,9 +190,9 @@ pub fn note_at<'data>(
     let mut offset = start;
     let header = read_record::<NoteHeader>(little, Class::ELF32, &mut offset, data)?;
     let name = next_bytes(&mut offset, header.n_namesz as usize, data)?;
-    offset = aligned(align, offset)?;
+    offset = aligned_offset(align, offset)?;
     let descriptor = next_bytes(&mut offset, header.n_descsz as usize, data)?;
-    let next = aligned(align, offset)?;
+    let next = aligned_offset(align, offset)?;
     let note = interpret(little, header.n_type as u64, name, descriptor)?;
     Ok((note, next))
 }
@@ -207,9 +208,9 @@ pub struct NoteIterator<'data, E: EndianParse> {
 }
 
 impl<'data, E: EndianParse> NoteIterator<'data, E> {
-    /// The notes of the data, at most one for each byte. The descriptor of a note, and the next
-    /// note, begin at multiples of `align`, counted in bytes from the start of the data. If `align` is 0, there are
-    /// no notes. Both classes have the same notes.
+    /// Returns the notes of the data, at most one for each byte. The descriptor of a note, and the next note, begin at
+    /// multiples of `align`, counted in bytes from the start of the data. If `align` is 0, there are no notes. Both
+    /// classes have the same notes.
     #[tactic(auto, using(crate::proofs::NoteLists::notes_few))]
     pub fn new(endian: E, _class: Class, align: usize, data: &'data [u8]) -> Self
         ensures items { notes_left result ≡ notes_in (E.little endian) align «data».now }

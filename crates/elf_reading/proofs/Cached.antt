@@ -19,7 +19,7 @@ use Rattle.std.proofs.lemmas.List.Elements.{All-cons, All-head, All-tail, All-fi
 use Rattle.std.proofs.lemmas.List.Kept.{AllPairs-cons, AllPairs-filter}
 use Rattle.std.proofs.lemmas.Map.Views.{any-filter_same}
 use Rattle.std.proofs.lemmas.List.{get_or_append_left, get_or_push, length_push}
-use Rattle.elf_reading.specs.Cache.{Piece, AreSpread, IsBefore, IsPut, IsOf, IsSound, covers, is_within, piece_of, range_of}
+use Rattle.elf_reading.specs.Cache.{Piece, AreSpread, IsBefore, IsPut, IsOf, IsSoundCache, covers, is_within, piece_of, range_of}
 use Rattle.elf_reading.specs.Cache.{is_cached}
 
 pairs_head : {X : Type 0} (R : X → X → Type 0) (x : X) (xs : List X) → AllPairs R (x ∷ xs) → All (R x) xs
@@ -383,8 +383,8 @@ only_from p ps qs from start end h =
 
 -- ---- what a load leaves
 
-pub sound_into : (known : Option (List ℕ)) (len : ℕ) (ps qs : List Piece) (start end : ℕ) (p : Piece) → IsSound known len ps → IsPut p ps qs → start ≤ end → end ≤ len
-    → p.start ≡ start → length p.bytes ≡ end - start → IfSome known (λ bytes. p.bytes ≡ take (end - start) (drop start bytes)) → IsSound known len qs
+pub sound_into : (known : Option (List ℕ)) (len : ℕ) (ps qs : List Piece) (start end : ℕ) (p : Piece) → IsSoundCache known len ps → IsPut p ps qs → start ≤ end → end ≤ len
+    → p.start ≡ start → length p.bytes ≡ end - start → IfSome known (λ bytes. p.bytes ≡ take (end - start) (drop start bytes)) → IsSoundCache known len qs
 sound_into None len ps qs start end p sound put ordered within from long same = record { len = tt; parts = tt }
 sound_into (Some bytes) len ps qs start end p sound put ordered within from long same =
     let all = sound.len in record {
@@ -395,10 +395,10 @@ sound_into (Some bytes) len ps qs start end p sound put ordered within from long
       }) sound.parts) (put.from i d lt);
     }
 
-pub sound_put : (known : Option (List ℕ)) (len : ℕ) (ps qs : List Piece) (start end : ℕ) (p : Piece) (r : Result (Unit {0}) ParseError) → IsSound known len ps → OnOk r (IsPut p ps qs) → IfErr r (λ e. (e ≡ OutOfMemory) × (qs ≡ ps))
-    → start ≤ end → end ≤ len → p.start ≡ start → length p.bytes ≡ end - start → IfSome known (λ bytes. p.bytes ≡ take (end - start) (drop start bytes)) → IsSound known len qs
+pub sound_put : (known : Option (List ℕ)) (len : ℕ) (ps qs : List Piece) (start end : ℕ) (p : Piece) (r : Result (Unit {0}) ParseError) → IsSoundCache known len ps → OnOk r (IsPut p ps qs) → IfErr r (λ e. (e ≡ OutOfMemory) × (qs ≡ ps))
+    → start ≤ end → end ≤ len → p.start ≡ start → length p.bytes ≡ end - start → IfSome known (λ bytes. p.bytes ≡ take (end - start) (drop start bytes)) → IsSoundCache known len qs
 sound_put known len ps qs start end p (Ok x) sound put refused = sound_into known len ps qs start end p sound put
-sound_put known len ps qs start end p (Err e) sound put refused = λ _ _ _ _ _. subst (IsSound known len) (sym refused.1) sound
+sound_put known len ps qs start end p (Err e) sound put refused = λ _ _ _ _ _. subst (IsSoundCache known len) (sym refused.1) sound
 
 pub cached_put : (ps qs : List Piece) (p : Piece) (r : Result (Unit {0}) ParseError) → OnOk r (IsPut p ps qs) → IfErr r (λ e. (e ≡ OutOfMemory) × (qs ≡ ps))
     → (start end : ℕ) → IsTrue (is_cached (map range_of ps) start end) → IsTrue (is_cached (map range_of qs) start end)

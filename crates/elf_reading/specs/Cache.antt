@@ -32,7 +32,7 @@ pub record IsOf (bytes : List ℕ) (p : Piece) : Type 0 where
   pub same : p.bytes ≡ take (length p.bytes) (drop p.start bytes)
 
 -- each part has the content's bytes, and the length is the content's, if it is known
-pub record IsSound (content : Option (List ℕ)) (size : ℕ) (pieces : List Piece) : Type 0 where
+pub record IsSoundCache (content : Option (List ℕ)) (size : ℕ) (pieces : List Piece) : Type 0 where
   pub len : IfSome content (λ bytes. size ≡ length bytes)
   pub parts : IfSome content (λ bytes. All (IsOf bytes) pieces)
 

@@ -21,7 +21,7 @@ use Rattle.elf_reading.specs.declared.opening.source.SourceHeaders.{SourceHeader
 -- ---- the view of an opened file
 
 -- its header as it is now, its bytes, and the two tables that it declares
-pub record View (E : Type 0) : Type 0 where
+pub record FileView (E : Type 0) : Type 0 where
   pub ehdr : FileHeader E
   pub bytes : List ℕ
   pub sections : Option Table
@@ -48,7 +48,7 @@ pub record StreamHeaders (E : Type 0) : Type 0 where
   pub segments : List ProgramHeader
 
 -- the headers of a file that was opened
-abbrev pub headers_of : {E : Type 0} → View E → StreamHeaders E
+abbrev pub headers_of : {E : Type 0} → FileView E → StreamHeaders E
 headers_of v = record {
   ehdr = v.ehdr;
   declares_sections = is_some v.sections;
@@ -105,15 +105,15 @@ module _ {E : Type 0} (little : E → Bool) where
       Ok (Some (table_in (little h.endianness) h.class part))
 
   -- the file that the bytes hold, or why they hold none
-  abbrev pub opened : (ℕ → Option E) → List ℕ → Result (View E) ParseError
-  opened of_byte bytes =
+  abbrev pub opened_file : (ℕ → Option E) → List ℕ → Result (FileView E) ParseError
+  opened_file of_byte bytes =
       header_at_front of_byte bytes >>= λ h.
       section_table h bytes >>= λ sections.
       segment_table h bytes >>= λ segments.
       Ok (record { ehdr = h; bytes = bytes; sections = sections; segments = segments })
 
 -- the header and the two tables that were found in these bytes
-abbrev pub opened_view : {E : Type 0} → List ℕ → Opened E → View E
+abbrev pub opened_view : {E : Type 0} → List ℕ → Opened E → FileView E
 opened_view bytes found = record {
   ehdr = found.ehdr;
   bytes = bytes;

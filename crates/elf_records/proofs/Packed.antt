@@ -3,7 +3,7 @@ use Rattle.std.proofs.Common.{◌≡◌, ℕ, ◌+◌, Bool, true, List, [], ◌
 use Rattle.std.proofs.lemmas.Grind.{common_steps}
 use Rattle.elf_records.specs.declared.parse.ParseError.{ParseError}
 use Rattle.elf_records.specs.Number.{number_at}
-use Rattle.elf_records.specs.Record.{Field, size_of, accepted, numbers_at, after_field, numbers_end}
+use Rattle.elf_records.specs.Record.{Field, size_of, field_value, numbers_at, after_field, numbers_end}
 use Rattle.elf_records.specs.inner.Running.{numbers_from, next_offset, offset_from}
 use Rattle.elf_records.specs.inner.RecordLaws.{and_true}
 
@@ -30,7 +30,7 @@ numbers_at-packed little fs bytes o p = packed_at little fs bytes o 0 o (omega a
 
 after_field-from : (o at : ℕ) (f : Field) (r : Result ℕ ParseError) (next : ℕ) → at ≡ o + f.place → after_field o f r next ≡ next_offset at f r next
 after_field-from o at f (Err d) next e = sym e
-after_field-from o at f (Ok x) next e = ap (λ (n : ℕ). cond (is_ok (accepted f.version x)) next (n + f.width)) (sym e)
+after_field-from o at f (Ok x) next e = ap (λ (n : ℕ). cond (is_ok (field_value f.version x)) next (n + f.width)) (sym e)
 
 packed_offset : (little : Bool) (size : ℕ) (fs : List Field) (bytes : List ℕ) (o place at : ℕ) → at ≡ o + place → size ≡ max place (size_of fs) → is_packed place fs ≡ true → numbers_end little size fs bytes o ≡ offset_from little fs bytes at
 unfolding numbers_end

@@ -6,7 +6,7 @@ use Rattle.elf_records.specs.declared.parse.ParseError.{ParseError}
 use Rattle.elf_records.specs.declared.file.Class.{Class}
 use Rattle.elf_records.specs.declared.file.Class.TheVariants.{ELF32, ELF64}
 use Rattle.elf_records.specs.Number.{number_at, ok_map}
-use Rattle.elf_records.specs.Record.{◌>>=◌, Field, accepted, numbers_at, numbers_end, size_of}
+use Rattle.elf_records.specs.Record.{◌>>=◌, Field, field_value, numbers_at, numbers_end, size_of}
 use Rattle.elf_records.specs.File.{tail_fields}
 use Rattle.elf_records.specs.Section.{section_header_fields}
 use Rattle.elf_records.specs.inner.Running.{numbers_from, next_offset, offset_from, width_of}
@@ -25,20 +25,20 @@ abbrev pub joined : Result (List ℕ) ParseError → Result (List ℕ) ParseErro
 joined p q = p >>= λ ns. ok_map (λ ms. ns ++ ms) q
 
 -- a number before the one part is before both
-accepted_first :
+value_first :
     (a : Result ℕ ParseError) (p q : Result (List ℕ) ParseError) →
     (a >>= λ n. joined p q >>= λ ns. Ok (n ∷ ns)) ≡ joined (a >>= λ n. p >>= λ ns. Ok (n ∷ ns)) q
-accepted_first (Err e) p q = refl
-accepted_first (Ok n) (Err e) q = refl
-accepted_first (Ok n) (Ok ns) (Err e) = refl
-accepted_first (Ok n) (Ok ns) (Ok ms) = refl
+value_first (Err e) p q = refl
+value_first (Ok n) (Err e) q = refl
+value_first (Ok n) (Ok ns) (Err e) = refl
+value_first (Ok n) (Ok ns) (Ok ms) = refl
 
 first_joined :
     (r : Result ℕ ParseError) (f : Field) (p q : Result (List ℕ) ParseError) →
-    (r >>= λ x. accepted f.version x >>= λ n. joined p q >>= λ ns. Ok (n ∷ ns))
-    ≡ joined (r >>= λ x. accepted f.version x >>= λ n. p >>= λ ns. Ok (n ∷ ns)) q
+    (r >>= λ x. field_value f.version x >>= λ n. joined p q >>= λ ns. Ok (n ∷ ns))
+    ≡ joined (r >>= λ x. field_value f.version x >>= λ n. p >>= λ ns. Ok (n ∷ ns)) q
 first_joined (Err e) f p q = refl
-first_joined (Ok x) f p q = accepted_first (accepted f.version x) p q
+first_joined (Ok x) f p q = value_first (field_value f.version x) p q
 
 numbers_from-append :
     (little : Bool) (fs gs : List Field) (bytes : List ℕ) (o at : ℕ) → at ≡ o + width_of fs →
@@ -50,7 +50,7 @@ numbers_from-append little (f ∷ fs) gs bytes o at e =
     let rest = numbers_from-append little fs gs bytes (o + f.width) at (omega arith) in
     ap
     (λ (behind : Result (List ℕ) ParseError).
-    number_at little f.width bytes o >>= λ x. accepted f.version x >>= λ n. behind >>= λ ns. Ok (n ∷ ns))
+    number_at little f.width bytes o >>= λ x. field_value f.version x >>= λ n. behind >>= λ ns. Ok (n ∷ ns))
     rest
     ∙ first_joined (number_at little f.width bytes o) f (numbers_from little fs bytes (o + f.width))
     (numbers_from little gs bytes at)
@@ -62,20 +62,20 @@ abbrev pub end_of_two : Result (List ℕ) ParseError → ℕ → ℕ → ℕ
 end_of_two (Err e) first second = first
 end_of_two (Ok ns) first second = second
 
-accepted_end :
+value_end :
     (w : ℕ) (a : Result ℕ ParseError) (r : Result (List ℕ) ParseError) (p q : ℕ) →
     (if is_ok a then end_of_two r p q else w)
     ≡ end_of_two (a >>= λ n. r >>= λ ns. Ok (n ∷ ns)) (if is_ok a then p else w) q
-accepted_end w (Err e) r p q = refl
-accepted_end w (Ok n) (Err e) p q = refl
-accepted_end w (Ok n) (Ok ns) p q = refl
+value_end w (Err e) r p q = refl
+value_end w (Ok n) (Err e) p q = refl
+value_end w (Ok n) (Ok ns) p q = refl
 
 first_end :
     (o : ℕ) (f : Field) (r : Result ℕ ParseError) (p : Result (List ℕ) ParseError) (first second : ℕ) →
     next_offset o f r (end_of_two p first second)
-    ≡ end_of_two (r >>= λ x. accepted f.version x >>= λ n. p >>= λ ns. Ok (n ∷ ns)) (next_offset o f r first) second
+    ≡ end_of_two (r >>= λ x. field_value f.version x >>= λ n. p >>= λ ns. Ok (n ∷ ns)) (next_offset o f r first) second
 first_end o f (Err e) p first second = refl
-first_end o f (Ok x) p first second = accepted_end (o + f.width) (accepted f.version x) p first second
+first_end o f (Ok x) p first second = value_end (o + f.width) (field_value f.version x) p first second
 
 offset_from-append :
     (little : Bool) (fs gs : List Field) (bytes : List ℕ) (o at : ℕ) → at ≡ o + width_of fs →

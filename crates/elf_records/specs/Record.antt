@@ -30,22 +30,22 @@ abbrev pub ◌>>=◌ : {A B E : Type 0} → Result A E → (A → Result B E) �
 (Err e) >>= f = Err e
 
 -- the number, if it is the version that it has to be
-abbrev pub accepted : Option ℕ → ℕ → Result ℕ ParseError
-accepted None n = Ok n
-accepted (Some version) n = if n == version then Ok n else Err (UnsupportedVersion (n, version))
+abbrev pub field_value : Option ℕ → ℕ → Result ℕ ParseError
+field_value None n = Ok n
+field_value (Some version) n = if n == version then Ok n else Err (UnsupportedVersion (n, version))
 
 -- the numbers of the record at o, or the error of the first field that is refused
 unfoldable pub numbers_at : Bool → List Field → List ℕ → ℕ → Result (List ℕ) ParseError
 numbers_at little [] bytes o = Ok []
 numbers_at little (f ∷ fs) bytes o =
-    number_at little f.width bytes (o + f.place) >>= λ x. accepted f.version x >>= λ n.
+    number_at little f.width bytes (o + f.place) >>= λ x. field_value f.version x >>= λ n.
     numbers_at little fs bytes o >>= λ ns. Ok (n ∷ ns)
 
 -- where the read of a field leaves an offset, `next` being where the fields after it leave it: at a field that
 -- cannot be read, after a version that is not accepted
 abbrev pub after_field : ℕ → Field → Result ℕ ParseError → ℕ → ℕ
 after_field o f (Err e) next = o + f.place
-after_field o f (Ok x) next = if is_ok (accepted f.version x) then next else o + f.place + f.width
+after_field o f (Ok x) next = if is_ok (field_value f.version x) then next else o + f.place + f.width
 
 -- where the read of a record leaves an offset o: after the record, or where the first field that is refused leaves it
 unfoldable pub numbers_end : Bool → ℕ → List Field → List ℕ → ℕ → ℕ

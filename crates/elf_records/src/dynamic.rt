@@ -35,14 +35,14 @@ pub struct Dyn {
 }
 
 impl Dyn {
-    /// The number of the entry, if its tag says that it is a value.
+    /// Returns the number of the entry, if its tag says that it is a value.
     pub fn d_val(&self) -> u64
         ensures { result ≡ d_un_view self.now }
     {
         self.d_un
     }
 
-    /// The number of the entry, if its tag says that it is an address. It is the same number as `d_val`.
+    /// Returns the number of the entry, if its tag says that it is an address. It is the same number as `d_val`.
     pub fn d_ptr(&self) -> u64
         ensures { result ≡ d_un_view self.now }
     {

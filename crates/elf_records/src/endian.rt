@@ -136,11 +136,11 @@ pub trait EndianParse: Clone + Copy + Default + PartialEq + Eq {
     fn from_ei_data(ei_data: u8) -> Result<Self, ParseError>
         ensures { result ≡ ok_or (of_byte ei_data) (ParseError.UnsupportedElfEndianness ei_data) };
 
-    /// Whether the lowest byte of a number comes first.
+    /// Returns whether the lowest byte of a number comes first.
     fn is_little(self) -> bool
         ensures { result ≡ little self };
 
-    /// Whether the highest byte of a number comes first.
+    /// Returns whether the highest byte of a number comes first.
     fn is_big(self) -> bool
         ensures { result ≡ not (little self) }
     {

@@ -171,27 +171,28 @@ impl<E: EndianParse> FileHeader<E> {
     {
         let (endianness, class, osabi, abiversion) = ident;
         let mut offset = 0;
-        let kind = parse_kind(endianness, &mut offset, data)?;
-        let places = parse_places(endianness, class, &mut offset, data)?;
-        let counts = parse_counts(endianness, class, &mut offset, data)?;
+        let (e_type, e_machine, version) = parse_kind(endianness, &mut offset, data)?;
+        let (e_entry, e_phoff, e_shoff) = parse_places(endianness, class, &mut offset, data)?;
+        let (e_flags, e_ehsize, e_phentsize, e_phnum, e_shentsize, e_shnum, e_shstrndx) =
+            parse_counts(endianness, class, &mut offset, data)?;
         Ok(FileHeader {
             class,
             endianness,
-            version: kind.2,
+            version,
             osabi,
             abiversion,
-            e_type: kind.0,
-            e_machine: kind.1,
-            e_entry: places.0,
-            e_phoff: places.1,
-            e_shoff: places.2,
-            e_flags: counts.0,
-            e_ehsize: counts.1,
-            e_phentsize: counts.2,
-            e_phnum: counts.3,
-            e_shentsize: counts.4,
-            e_shnum: counts.5,
-            e_shstrndx: counts.6,
+            e_type,
+            e_machine,
+            e_entry,
+            e_phoff,
+            e_shoff,
+            e_flags,
+            e_ehsize,
+            e_phentsize,
+            e_phnum,
+            e_shentsize,
+            e_shnum,
+            e_shstrndx,
         })
     }
 }

@@ -15,8 +15,8 @@ use crate::file::Class;
 use std::alloc::AllocError;
 use thiserror::Error;
 
+mod integers;
 mod table;
-mod words;
 
 pub use table::{ParsingIterator, ParsingTable, read_record};
 
@@ -146,13 +146,13 @@ pub trait ParseAt: Sized {
         ensures value { result ≡ reads.record_at (E.little endian) class «data».now offset.old }
         ensures moved { offset.new ≡ reads.offset_after (E.little endian) class «data».now offset.old };
 
-    /// The size of a record in bytes.
+    /// Returns the size of a record in bytes.
     fn size_for(class: Class) -> usize
         ensures { result ≡ reads.size class };
 
-    /// Whether the bytes of a record alone decide whether it can be read, wherever they lie. The tables read such a
-    /// record from a slice of its own bytes, with one check of the bounds for all its fields. A record with a field
-    /// table may return `true`; `false` is right for every record.
+    /// Returns whether the bytes of a record alone decide whether it can be read, wherever they lie. The tables read
+    /// such a record from a slice of its own bytes, with one check of the bounds for all its fields. A record with a
+    /// field table may return `true`; `false` is right for every record.
     fn is_local() -> bool
         ensures { result ≡ true → reads.local ≡ true }
     {

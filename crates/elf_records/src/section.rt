@@ -71,19 +71,23 @@ impl ParseAt for SectionHeader {
         offset: &mut usize,
         data: &[u8],
     ) -> Result<Self, ParseError> {
-        let front = parse_front(endian, class, offset, data)?;
-        let back = parse_back(endian, class, offset, data)?;
+        let (sh_name, sh_type, sh_flags, sh_addr, sh_offset) = parse_front(
+            endian, class, offset, data,
+        )?;
+        let (sh_size, sh_link, sh_info, sh_addralign, sh_entsize) = parse_back(
+            endian, class, offset, data,
+        )?;
         Ok(SectionHeader {
-            sh_name: front.0,
-            sh_type: front.1,
-            sh_flags: front.2,
-            sh_addr: front.3,
-            sh_offset: front.4,
-            sh_size: back.0,
-            sh_link: back.1,
-            sh_info: back.2,
-            sh_addralign: back.3,
-            sh_entsize: back.4,
+            sh_name,
+            sh_type,
+            sh_flags,
+            sh_addr,
+            sh_offset,
+            sh_size,
+            sh_link,
+            sh_info,
+            sh_addralign,
+            sh_entsize,
         })
     }
 

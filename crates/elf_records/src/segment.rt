@@ -68,16 +68,21 @@ impl ParseAt for ProgramHeader {
         match class {
             Class::ELF32 => {
                 let p_type = endian.parse_u32_at(offset, data)?;
-                let extent = parse_extent(endian, Class::ELF32, offset, data)?;
+                let (p_offset, p_vaddr, p_paddr, p_filesz, p_memsz) = parse_extent(
+                    endian,
+                    Class::ELF32,
+                    offset,
+                    data,
+                )?;
                 let p_flags = endian.parse_u32_at(offset, data)?;
                 let p_align = endian.parse_u32_at(offset, data)? as u64;
                 Ok(ProgramHeader {
                     p_type,
-                    p_offset: extent.0,
-                    p_vaddr: extent.1,
-                    p_paddr: extent.2,
-                    p_filesz: extent.3,
-                    p_memsz: extent.4,
+                    p_offset,
+                    p_vaddr,
+                    p_paddr,
+                    p_filesz,
+                    p_memsz,
                     p_flags,
                     p_align,
                 })
@@ -85,15 +90,20 @@ impl ParseAt for ProgramHeader {
             Class::ELF64 => {
                 let p_type = endian.parse_u32_at(offset, data)?;
                 let p_flags = endian.parse_u32_at(offset, data)?;
-                let extent = parse_extent(endian, Class::ELF64, offset, data)?;
+                let (p_offset, p_vaddr, p_paddr, p_filesz, p_memsz) = parse_extent(
+                    endian,
+                    Class::ELF64,
+                    offset,
+                    data,
+                )?;
                 let p_align = endian.parse_u64_at(offset, data)?;
                 Ok(ProgramHeader {
                     p_type,
-                    p_offset: extent.0,
-                    p_vaddr: extent.1,
-                    p_paddr: extent.2,
-                    p_filesz: extent.3,
-                    p_memsz: extent.4,
+                    p_offset,
+                    p_vaddr,
+                    p_paddr,
+                    p_filesz,
+                    p_memsz,
                     p_flags,
                     p_align,
                 })

@@ -95,7 +95,7 @@ pub struct StringTable<'data> {
 }
 
 impl<'data> StringTable<'data> {
-    /// The table whose strings lie in the data.
+    /// Returns the table whose strings lie in the data.
     pub fn new(data: &'data [u8]) -> Self
         ensures { strings_view result ≡ «data».now }
     {
@@ -129,10 +129,15 @@ impl<'data> StringTable<'data> {
         Ok(start.split_at(end).0)
     }
 
-    /// Returns the string at `offset`, in bytes, as text.
+    /// Returns the string at `offset`, in bytes, as text. A field such as `sh_name` or `st_name` has the offset.
     ///
     /// Errors, in order: those of `get_raw`; `Utf8Error`, with the first fault, if the bytes of the string are not
     /// UTF-8.
+    ///
+    /// ```rust
+    /// let names = StringTable::new(b"\0main\0exit\0");
+    /// println!(rt; "{}", names.get(6)?)?; // exit
+    /// ```
     pub fn get(&self, offset: usize) -> Result<&'data str, ParseError>
         ensures { GivesText (string_at (strings_view self.now) offset) result }
     {
@@ -211,7 +216,7 @@ impl<'data> Model for TerminatedStrings<'data> {
 }
 
 impl<'data> TerminatedStrings<'data> {
-    /// The strings of a table. If its last byte is not 0, the last 0 byte is looked for from the end.
+    /// Returns the strings of a table. If its last byte is not 0, the last 0 byte is looked for from the end.
     #[inline(always)]
     pub fn new(table: &StringTable<'data>) -> Self
         ensures { result ≡ strings_view table.now }
@@ -237,8 +242,8 @@ impl<'data> TerminatedStrings<'data> {
         self.table.get_raw(offset)
     }
 
-    /// Whether the string at `offset`, in bytes, is this name. The error is that of `StringTable::get_raw`. The time
-    /// grows with the length of the name alone.
+    /// Returns whether the string at `offset`, in bytes, is this name. The error is that of `StringTable::get_raw`. The
+    /// time grows with the length of the name alone.
     #[tactic(auto, unfolding(crate::specs::StringTable::string_at))]
     #[inline(always)]
     pub fn is(&self, offset: usize, name: &[u8]) -> Result<bool, ParseError>

@@ -49,28 +49,28 @@ pub struct Symbol {
 }
 
 impl Symbol {
-    /// Whether the symbol is undefined: `st_shndx` is `SHN_UNDEF` (0).
+    /// Returns whether the symbol is undefined: `st_shndx` is `SHN_UNDEF` (0).
     pub fn is_undefined(&self) -> bool
         ensures { result ≡ (self.now.st_shndx == shn_undef) }
     {
         self.st_shndx == abi::SHN_UNDEF
     }
 
-    /// The type (`STT_*`): the lower four bits of `st_info`.
+    /// Returns the type (`STT_*`): the lower four bits of `st_info`.
     pub fn st_symtype(&self) -> u8
         ensures { result ≡ symbol_type self.now }
     {
         self.st_info & 0xf
     }
 
-    /// The binding (`STB_*`): the upper four bits of `st_info`.
+    /// Returns the binding (`STB_*`): the upper four bits of `st_info`.
     pub fn st_bind(&self) -> u8
         ensures { result ≡ symbol_binding self.now }
     {
         self.st_info >> 4
     }
 
-    /// The visibility (`STV_*`): the lowest two bits of `st_other`.
+    /// Returns the visibility (`STV_*`): the lowest two bits of `st_other`.
     pub fn st_vis(&self) -> u8
         ensures { result ≡ symbol_visibility self.now }
     {

@@ -2,7 +2,8 @@
 use elf::endian::LittleEndian;
 use elf::file::Class;
 use elf::gnu_symver::{
-    IndexedVersions, SymbolRequirement, SymbolVersionTable, VerNeedIterator, VersionIndexTable,
+    IndexedVersions, SymbolRequirement, SymbolVersionTable, SymbolVersions, VerNeedIterator,
+    VersionIndexTable,
 };
 use elf::string_table::StringTable;
 use elf::{ElfBytes, ElfStream, MemSource};

@@ -1,21 +1,21 @@
 -- The first of the bytes whose sequences are replaced.
 use Rattle.std.proofs.Common.{◌≡◌, ℕ, zero, suc, ◌+◌, ◌-◌, ◌<◌, true, false, ◌==◌, List, [], ◌∷◌, ◌++◌, length, refl, sym, ap, ◌∙◌, arith, get_or, drop}
 use Rattle.std.specs.Prelude.{cond, take}
-use Rattle.elf_tools.specs.Search.{expanded_after, sequence_length}
+use Rattle.elf_tools.specs.Search.{expansion_after, sequence_length}
 
 module _ (folder : List ℕ) where
-  pub skips_first : (bytes : List ℕ) (skip : ℕ) → 0 < length bytes → 0 < skip → expanded_after folder skip bytes ≡ expanded_after folder (skip - 1) (drop 1 bytes)
+  pub skips_first : (bytes : List ℕ) (skip : ℕ) → 0 < length bytes → 0 < skip → expansion_after folder skip bytes ≡ expansion_after folder (skip - 1) (drop 1 bytes)
   skips_first [] skip some left = absurd (omega (arith, some))
   skips_first (b ∷ bytes) zero some left = absurd (omega (arith, left))
-  skips_first (b ∷ bytes) (suc n) some left = let same : suc n - 1 ≡ n = omega arith in ap (λ k. expanded_after folder k bytes) (sym same)
+  skips_first (b ∷ bytes) (suc n) some left = let same : suc n - 1 ≡ n = omega arith in ap (λ k. expansion_after folder k bytes) (sym same)
 
-  pub keeps_first : (bytes : List ℕ) (d : ℕ) → 0 < length bytes → (sequence_length bytes == 0) ≡ true → expanded_after folder 0 bytes ≡ get_or bytes 0 d ∷ expanded_after folder 0 (drop 1 bytes)
+  pub keeps_first : (bytes : List ℕ) (d : ℕ) → 0 < length bytes → (sequence_length bytes == 0) ≡ true → expansion_after folder 0 bytes ≡ get_or bytes 0 d ∷ expansion_after folder 0 (drop 1 bytes)
   keeps_first [] d some none = absurd (omega (arith, some))
-  keeps_first (b ∷ bytes) d some none = ap (λ t. cond t (b ∷ expanded_after folder 0 bytes) (folder ++ expanded_after folder (sequence_length (b ∷ bytes) - 1) bytes)) none
+  keeps_first (b ∷ bytes) d some none = ap (λ t. cond t (b ∷ expansion_after folder 0 bytes) (folder ++ expansion_after folder (sequence_length (b ∷ bytes) - 1) bytes)) none
 
-  pub replaces_first : (bytes : List ℕ) → 0 < length bytes → (sequence_length bytes == 0) ≡ false → expanded_after folder 0 bytes ≡ folder ++ expanded_after folder (sequence_length bytes - 1) (drop 1 bytes)
+  pub replaces_first : (bytes : List ℕ) → 0 < length bytes → (sequence_length bytes == 0) ≡ false → expansion_after folder 0 bytes ≡ folder ++ expansion_after folder (sequence_length bytes - 1) (drop 1 bytes)
   replaces_first [] some none = absurd (omega (arith, some))
-  replaces_first (b ∷ bytes) some none = ap (λ t. cond t (b ∷ expanded_after folder 0 bytes) (folder ++ expanded_after folder (sequence_length (b ∷ bytes) - 1) bytes)) none
+  replaces_first (b ∷ bytes) some none = ap (λ t. cond t (b ∷ expansion_after folder 0 bytes) (folder ++ expansion_after folder (sequence_length (b ∷ bytes) - 1) bytes)) none
 
 dropped : {X : Type 0} (xs : List X) (n : ℕ) → drop 1 (drop n xs) ≡ drop (suc n) xs
 dropped [] zero = refl

@@ -5,4 +5,5 @@ pub mod Libraries
 mod Apart
 mod Places
 mod Expanding
+mod Loading
 pub mod SymbolVersions

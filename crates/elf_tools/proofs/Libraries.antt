@@ -11,30 +11,30 @@ use Rattle.elf_records.specs.declared.parse.ParseError.{ParseError}
 use Rattle.elf_records.specs.declared.section.SectionHeader.{SectionHeader}
 use Rattle.elf.specs.Answers.{dynamic_symbol_table, symbol_version_table}
 use Rattle.elf.specs.Data.{section_data}
-use Rattle.elf.specs.ElfStream.{IsOpening, Keeps, Seen}
+use Rattle.elf.specs.ElfStream.{IsOpening, Keeps, StreamView}
 use Rattle.elf_reading.specs.Opening.{StreamHeaders, headers_of}
-use Rattle.elf_reading.specs.Opening.{opened}
+use Rattle.elf_reading.specs.Opening.{opened_file}
 use Rattle.elf.specs.Headers.{first_section_of}
 use Rattle.elf.specs.ObjectFile.{ObjectFile}
 use Rattle.elf.specs.StreamFile.{listed_file, stream_file}
 use Rattle.elf_check.specs.Object.{object_in}
-use Rattle.elf_binding.specs.ObjectTable.{needed, object_by, object_of, read}
+use Rattle.elf_binding.specs.ObjectTable.{or_no_symbols, object_by, object_of, or_fault}
 use Rattle.elf_check.specs.declared.hashcheck.any.HashKind.{HashKind}
 use Rattle.elf_check.specs.declared.hashcheck.any.HashKind.TheVariants.{Gnu, Sysv}
 use Rattle.elf_binding.specs.declared.resolve.ObjectFault.{ObjectFault}
-use Rattle.elf_tools.specs.Library.{IsLibraryOf, IsOpened, hash_by, hash_in, library_hash, hash_section, object_from, library_object}
+use Rattle.elf_tools.specs.Library.{IsLibraryOf, IsOpenedLibrary, hash_by, hash_in, library_hash, hash_section, object_from, library_object}
 use Rattle.elf_tools.specs.Library.{symbols_in, versions_in, library_versions}
-use Rattle.elf_tools.specs.Readings.{IsRead, Reads}
+use Rattle.elf_tools.specs.Readings.{IsRead, ReadsFile}
 use Rattle.elf_tools.specs.declared.bindings.library.Library.{Library}
 use Rattle.elf_tools.proofs.Readings.{reads_behind}
 
 -- ---- consecutive readings
 
-pub reads_of_file : {E T Y : Type 0} (little : E → Bool) (old middle new : Seen E) (r : Result T ParseError) (shown : Bool → Class → T → Y) (answer : ObjectFile → Result Y ParseError) → Keeps old middle
-    → Reads middle new r (shown (little middle.headers.ehdr.endianness) middle.headers.ehdr.class) (λ bytes. answer (stream_file little middle bytes))
-    → Reads old new r (shown (little old.headers.ehdr.endianness) old.headers.ehdr.class) (λ bytes. answer (stream_file little old bytes))
+pub reads_of_file : {E T Y : Type 0} (little : E → Bool) (old middle new : StreamView E) (r : Result T ParseError) (shown : Bool → Class → T → Y) (answer : ObjectFile → Result Y ParseError) → Keeps old middle
+    → ReadsFile middle new r (shown (little middle.headers.ehdr.endianness) middle.headers.ehdr.class) (λ bytes. answer (stream_file little middle bytes))
+    → ReadsFile old new r (shown (little old.headers.ehdr.endianness) old.headers.ehdr.class) (λ bytes. answer (stream_file little old bytes))
 reads_of_file {E} {T} {Y} little old middle new r shown answer keeps reads =
-    let Such : StreamHeaders E → Type 0 = λ h. Reads middle new r (shown (little h.ehdr.endianness) h.ehdr.class) (λ bytes. answer (listed_file little h bytes)) in
+    let Such : StreamHeaders E → Type 0 = λ h. ReadsFile middle new r (shown (little h.ehdr.endianness) h.ehdr.class) (λ bytes. answer (listed_file little h bytes)) in
     reads_behind old middle new r (shown (little old.headers.ehdr.endianness) old.headers.ehdr.class) (λ bytes. answer (stream_file little old bytes)) keeps
     (subst Such keeps.headers reads)
 
@@ -46,10 +46,10 @@ all_known (Some bytes) P Q R S so p q r = so bytes p q r
 
 -- the bytes of a section, and the symbols with their strings
 abbrev parts_of : Result (List ℕ × Option CompressionHeader) ParseError → Result (Option (Table × List ℕ)) ParseError → Result (List ℕ × (Table × List ℕ)) ObjectFault
-parts_of found symbols = read found >>= λ part. read symbols >>= needed >>= λ s. Ok (part.0, s)
+parts_of found symbols = or_fault found >>= λ part. or_fault symbols >>= or_no_symbols >>= λ s. Ok (part.0, s)
 
 by_parts : (kind : HashKind) (file : ObjectFile) (found : Result (List ℕ × Option CompressionHeader) ParseError) (symbols : Result (Option (Table × List ℕ)) ParseError)
-    → Some (parts_of found symbols >>= λ parts. read (object_in kind file.little file.class parts.0 parts.1.0 parts.1.1))
+    → Some (parts_of found symbols >>= λ parts. or_fault (object_in kind file.little file.class parts.0 parts.1.0 parts.1.1))
     ≡ object_from file.little file.class (ok_map Some (ok_map (λ (part : List ℕ × Option CompressionHeader). (kind, part.0)) found)) symbols
 by_parts kind file (Ok part) (Ok (Some found)) = refl
 by_parts kind file (Ok part) (Ok None) = refl
@@ -84,10 +84,10 @@ module _ {E : Type 0} (little : E → Bool) (can_fail : Bool) (file : ObjectFile
       subst (λ l. IsIt l library.class) is.order (subst (λ k. IsIt file.little k) is.class here)
 
 -- the library of a stream that was opened
-pub opened_known : {E : Type 0} (little : E → Bool) (of_byte : ℕ → Option E) (can_fail : Bool) (before : ℕ) (known : Option (List ℕ)) (s : Seen E) (library : Library E) → s.content ≡ known → s.can_fail ≡ can_fail
-    → IfSome known (λ bytes. IsOpening (ok_map headers_of (opened little of_byte bytes)) can_fail before (Ok s))
+pub opened_known : {E : Type 0} (little : E → Bool) (of_byte : ℕ → Option E) (can_fail : Bool) (before : ℕ) (known : Option (List ℕ)) (s : StreamView E) (library : Library E) → s.content ≡ known → s.can_fail ≡ can_fail
+    → IfSome known (λ bytes. IsOpening (ok_map headers_of (opened_file little of_byte bytes)) can_fail before (Ok s))
     → IfSome s.content (λ bytes. IsLibraryOf little s.can_fail (stream_file little s bytes) library)
-    → IfSome known (λ bytes. IsOpened little of_byte can_fail bytes (Ok library))
+    → IfSome known (λ bytes. IsOpenedLibrary little of_byte can_fail bytes (Ok library))
 opened_known little of_byte can_fail before None s library is same opening parts = tt
 opened_known little of_byte can_fail before (Some bytes) s library is same opening parts =
     let here = subst (λ (known : Option (List ℕ)). IfSome known (λ content. IsLibraryOf little s.can_fail (stream_file little s content) library)) is parts in

@@ -7,11 +7,12 @@ use Rattle.elf_records.specs.Number.{ok_map}
 use Rattle.elf_records.specs.Record.{◌>>=◌}
 use Rattle.elf_records.specs.declared.dynamic.Dyn.{Dyn}
 use Rattle.elf_records.specs.declared.parse.ParseError.{ParseError}
-use Rattle.elf.specs.ElfStream.{Keeps, Leaves, Seen}
+use Rattle.elf.specs.ElfStream.{Keeps, Leaves, StreamView}
 use Rattle.elf_reading.specs.Refusals.{IsAnswer}
 use Rattle.elf_reading.specs.Refusals.{IsRefused, Kind, kind}
+use Rattle.elf.specs.Headers.{if_found}
 use Rattle.elf.specs.StreamFile.{stream_file}
-use Rattle.elf_tools.specs.Needed.{IsGiven, IsNamesAnswer, IsUnreadable, GivesNames, entries_of, if_some, names, names_by, names_view, or_error}
+use Rattle.elf_tools.specs.Needed.{IsGiven, IsNamesAnswer, IsUnreadable, GivesNames, entries_of, names, names_by, names_view, or_error}
 use Rattle.elf_tools.specs.declared.needed.Names.{Names}
 use Rattle.elf_tools.specs.declared.needed.NamesError.{NamesError}
 use Rattle.elf_tools.specs.declared.needed.NamesError.TheVariants.{Memory, Name, NoAddress, NoSize, NotLoaded, Read}
@@ -41,7 +42,7 @@ known_made (Some bytes) shown answer can_fail before now x shows made (Err NoSiz
 known_made (Some bytes) shown answer can_fail before now x shows made (Err (NotLoaded a)) h g = (h.0, ap (λ r. or_error Read r >>= made) h.1 ∙ g)
 known_made (Some bytes) shown answer can_fail before now x shows made (Err (Name e)) h g = (h.0, ap (λ r. or_error Read r >>= made) h.1 ∙ g)
 
-pub tells_made : {E T Y U Z : Type 0} (old new : Seen E) (requested : List (ℕ × ℕ)) (shown : T → Y) (answer : List ℕ → Result Y ParseError) (r : Result T ParseError) (x : T) (shows : U → Z) (made : Y → Result Z NamesError) (given : Result U NamesError)
+pub tells_made : {E T Y U Z : Type 0} (old new : StreamView E) (requested : List (ℕ × ℕ)) (shown : T → Y) (answer : List ℕ → Result Y ParseError) (r : Result T ParseError) (x : T) (shows : U → Z) (made : Y → Result Z NamesError) (given : Result U NamesError)
     → Leaves requested shown answer old new r → r ≡ Ok x → IsGiven shows (made (shown x)) given
     → GivesNames shows (λ bytes. or_error Read (answer bytes) >>= made) old new given
 tells_made old new requested shown answer r x shows made given leaves is g =
@@ -75,19 +76,19 @@ known_whole shows shown whole inner can_fail before middle now NoSize is same h 
 known_whole shows shown whole inner can_fail before middle now (NotLoaded a) is same h = (h.0 ∙ same, is ∙ ap (ok_map Some) h.1)
 known_whole shows shown whole inner can_fail before middle now (Name e) is same h = (h.0 ∙ same, is ∙ ap (ok_map Some) h.1)
 
-known_later : {E T : Type 0} (little : E → Bool) (old middle : Seen E) (now : ℕ) (known : Option (List ℕ)) (shown : T → Option (List Dyn)) (x : T) (entries : List Dyn) (e : NamesError) → Keeps old middle → shown x ≡ Some entries
+known_later : {E T : Type 0} (little : E → Bool) (old middle : StreamView E) (now : ℕ) (known : Option (List ℕ)) (shown : T → Option (List Dyn)) (x : T) (entries : List Dyn) (e : NamesError) → Keeps old middle → shown x ≡ Some entries
     → IfSome known (λ bytes. IsNamesAnswer shown (entries_of (stream_file little old bytes)) old.can_fail old.failures middle.failures (Ok x))
     → IfSome known (λ bytes. IsNamesAnswer names_view (names_by (stream_file little middle bytes) entries) middle.can_fail middle.failures now (Err e))
     → IfSome known (λ bytes. IsNamesAnswer (option_map names_view) (names (stream_file little old bytes)) old.can_fail old.failures now (Err e))
 known_later little old middle now None shown x entries e keeps is h k = tt
 known_later little old middle now (Some bytes) shown x entries e keeps is h k =
     let file = stream_file little old bytes in
-    let whole = ap (λ r. r >>= λ es. if_some (names_by file) es) (h.1 ∙ ap Ok is) in
+    let whole = ap (λ r. r >>= λ es. if_found (names_by file) es) (h.1 ∙ ap Ok is) in
     let there = subst (λ f. IsNamesAnswer names_view (names_by f entries) middle.can_fail middle.failures now (Err e)) (same_file little old middle bytes keeps) k in
     let here = subst (λ b. IsNamesAnswer names_view (names_by file entries) b middle.failures now (Err e)) keeps.can_fail there in
     known_whole names_view (option_map names_view) (names file) (names_by file entries) old.can_fail old.failures middle.failures now e whole h.0 here
 
-pub tells_later : {E T : Type 0} (little : E → Bool) (old middle new : Seen E) (shown : T → Option (List Dyn)) (first : Result T NamesError) (x : T) (entries : List Dyn) (later : Result Names NamesError) (e : NamesError) → first ≡ Ok x → shown x ≡ Some entries → later ≡ Err e
+pub tells_later : {E T : Type 0} (little : E → Bool) (old middle new : StreamView E) (shown : T → Option (List Dyn)) (first : Result T NamesError) (x : T) (entries : List Dyn) (later : Result Names NamesError) (e : NamesError) → first ≡ Ok x → shown x ≡ Some entries → later ≡ Err e
     → GivesNames shown (λ bytes. entries_of (stream_file little old bytes)) old middle first
     → GivesNames names_view (λ bytes. names_by (stream_file little middle bytes) entries) middle new later
     → GivesNames (option_map names_view) (λ bytes. names (stream_file little old bytes)) old new (Err e)
@@ -106,12 +107,12 @@ some_not_none : {Y : Type 0} (r : Result Y NamesError) → ok_map Some r ≢ Ok 
 some_not_none (Ok y) e = cc e
 some_not_none (Err error) e = cc e
 
-still_some : {X Y : Type 0} (entries : Result (Option X) NamesError) (answer : X → Result Y NamesError) → entries ≢ Ok None → (entries >>= λ es. if_some answer es) ≢ Ok None
+still_some : {X Y : Type 0} (entries : Result (Option X) NamesError) (answer : X → Result Y NamesError) → entries ≢ Ok None → (entries >>= λ es. if_found answer es) ≢ Ok None
 still_some (Ok None) answer some e = some refl
 still_some (Ok (Some x)) answer some e = some_not_none (answer x) e
 still_some (Err error) answer some e = cc e
 
-pub known_some : {E : Type 0} (little : E → Bool) (old : Seen E) (known : Option (List ℕ)) → IfSome known (λ bytes. entries_of (stream_file little old bytes) ≢ Ok None) → IfSome known (λ bytes. names (stream_file little old bytes) ≢ Ok None)
+pub known_some : {E : Type 0} (little : E → Bool) (old : StreamView E) (known : Option (List ℕ)) → IfSome known (λ bytes. entries_of (stream_file little old bytes) ≢ Ok None) → IfSome known (λ bytes. names (stream_file little old bytes) ≢ Ok None)
 known_some little old None some = tt
 known_some little old (Some bytes) some =
     let file = stream_file little old bytes in
@@ -120,14 +121,14 @@ known_some little old (Some bytes) some =
 entries_some : {T X : Type 0} (answer : Result (Option X) NamesError) (shown : T → Option X) (x : T) (one : X) → answer ≡ Ok (shown x) → shown x ≡ Some one → answer ≢ Ok None
 entries_some answer shown x one is some none = cc (is, some, none)
 
-each_some : {E T : Type 0} (little : E → Bool) (old : Seen E) (now : ℕ) (shown : T → Option (List Dyn)) (x : T) (entries : List Dyn) (known : Option (List ℕ)) → shown x ≡ Some entries
+each_some : {E T : Type 0} (little : E → Bool) (old : StreamView E) (now : ℕ) (shown : T → Option (List Dyn)) (x : T) (entries : List Dyn) (known : Option (List ℕ)) → shown x ≡ Some entries
     → IfSome known (λ bytes. IsNamesAnswer shown (entries_of (stream_file little old bytes)) old.can_fail old.failures now (Ok x))
     → IfSome known (λ bytes. entries_of (stream_file little old bytes) ≢ Ok None)
 each_some little old now shown x entries None some h = tt
 each_some little old now shown x entries (Some bytes) some h = entries_some (entries_of (stream_file little old bytes)) shown x entries h.1 some
 
 -- after entries that were found
-pub known_entries : {E T : Type 0} (little : E → Bool) (old middle : Seen E) (shown : T → Option (List Dyn)) (first : Result T NamesError) (x : T) (entries : List Dyn) → first ≡ Ok x → shown x ≡ Some entries
+pub known_entries : {E T : Type 0} (little : E → Bool) (old middle : StreamView E) (shown : T → Option (List Dyn)) (first : Result T NamesError) (x : T) (entries : List Dyn) → first ≡ Ok x → shown x ≡ Some entries
     → GivesNames shown (λ bytes. entries_of (stream_file little old bytes)) old middle first
     → IfSome old.content (λ bytes. names (stream_file little old bytes) ≢ Ok None)
 known_entries little old middle shown first x entries is some given =

@@ -9,7 +9,7 @@ use Rattle.elf_records.specs.declared.parse.ParseError.{ParseError}
 use Rattle.elf_records.specs.declared.parse.ParseError.TheVariants.{BadEntsize}
 use Rattle.elf_records.specs.declared.section.SectionHeader.{SectionHeader}
 use Rattle.elf.specs.Answers.{symbol_version_table}
-use Rattle.elf.specs.ElfStream.{AreCached, IsRequested, Keeps, Seen}
+use Rattle.elf.specs.ElfStream.{AreCached, IsRequested, Keeps, StreamView}
 use Rattle.elf_reading.specs.Refusals.{MayRefuse}
 use Rattle.elf_reading.specs.Refusals.{Kind, kind}
 use Rattle.elf.specs.Headers.{entry_size, if_found}
@@ -23,14 +23,14 @@ use Rattle.elf.specs.ObjectFile.{ObjectFile}
 use Rattle.elf.specs.StreamFile.{stream_file}
 use Rattle.elf.specs.Versions.{version_definitions, version_indexes, version_needs, versions_of}
 use Rattle.elf_reading.specs.Versions.{version_sections}
-use Rattle.elf_tools.specs.Readings.{IsRead, Reads, Uses}
+use Rattle.elf_tools.specs.Readings.{IsRead, ReadsFile, Uses}
 
 -- ---- a stream that keeps its file
 
-pub same_file : {E : Type 0} (little : E → Bool) (old new : Seen E) (bytes : List ℕ) → Keeps old new → stream_file little new bytes ≡ stream_file little old bytes
+pub same_file : {E : Type 0} (little : E → Bool) (old new : StreamView E) (bytes : List ℕ) → Keeps old new → stream_file little new bytes ≡ stream_file little old bytes
 same_file little old new bytes keeps = rw keeps.headers refl
 
-pub keeps_then : {E : Type 0} (old middle new : Seen E) → Keeps old middle → Keeps middle new → Keeps old new
+pub keeps_then : {E : Type 0} (old middle new : StreamView E) → Keeps old middle → Keeps middle new → Keeps old new
 keeps_then old middle new a b = record {
   content = b.content ∙ a.content;
   can_fail = b.can_fail ∙ a.can_fail;
@@ -39,8 +39,8 @@ keeps_then old middle new a b = record {
 }
 
 -- a reading after calls that kept the file
-pub reads_behind : {E T Y : Type 0} (old middle new : Seen E) (r : Result T ParseError) (shown : T → Y) (answer : List ℕ → Result Y ParseError) → Keeps old middle → Reads middle new r shown answer
-    → Reads old new r shown answer
+pub reads_behind : {E T Y : Type 0} (old middle new : StreamView E) (r : Result T ParseError) (shown : T → Y) (answer : List ℕ → Result Y ParseError) → Keeps old middle → ReadsFile middle new r shown answer
+    → ReadsFile old new r shown answer
 reads_behind old middle new r shown answer keeps reads =
     let there = subst (λ (known : Option (List ℕ)). IfSome known (λ bytes. IsRead shown middle.can_fail (answer bytes) r)) keeps.content reads.given in
     let same = subst (λ (can_fail : Bool). IfSome old.content (λ bytes. IsRead shown can_fail (answer bytes) r)) keeps.can_fail there in
@@ -58,8 +58,8 @@ stopped_known : {T Y U Z : Type 0} (known : Option (List ℕ)) (shown : T → Y)
 stopped_known None shown answer other whole can_fail e so h = tt
 stopped_known (Some bytes) shown answer other whole can_fail e so h = may_refuse (kind e) (IsErr (answer bytes)) (IsErr (whole bytes)) can_fail (so bytes) h
 
-pub stopped : {E T Y U Z : Type 0} (old new : Seen E) (e : ParseError) (shown : T → Y) (answer : List ℕ → Result Y ParseError) (other : U → Z) (whole : List ℕ → Result Z ParseError)
-    → ((bytes : List ℕ) → IsErr (answer bytes) → IsErr (whole bytes)) → Reads old new (Err e) shown answer → Reads old new (Err e) other whole
+pub stopped : {E T Y U Z : Type 0} (old new : StreamView E) (e : ParseError) (shown : T → Y) (answer : List ℕ → Result Y ParseError) (other : U → Z) (whole : List ℕ → Result Z ParseError)
+    → ((bytes : List ℕ) → IsErr (answer bytes) → IsErr (whole bytes)) → ReadsFile old new (Err e) shown answer → ReadsFile old new (Err e) other whole
 stopped old new e shown answer other whole so reads = record { keeps = reads.keeps; given = stopped_known old.content shown answer other whole old.can_fail e so reads.given }
 
 -- ---- versions need their needs and their definitions
@@ -120,24 +120,24 @@ one_later : {P Q : Type 0} (rs qs : List (ℕ × ℕ)) (start end : ℕ) → (P 
 one_later rs qs start end so (inl before) = wider rs qs start end (so before)
 one_later rs qs start end so (inr there) = inr (requested_back rs qs start end there)
 
-cached_front : {E : Type 0} (s : Seen E) (rs qs : List (ℕ × ℕ)) → AreCached s (rs ++ qs) → AreCached s rs
+cached_front : {E : Type 0} (s : StreamView E) (rs qs : List (ℕ × ℕ)) → AreCached s (rs ++ qs) → AreCached s rs
 cached_front s [] qs h = tt
 cached_front s (r ∷ rs) qs h = (h.0, cached_front s rs qs h.1)
 
-cached_back : {E : Type 0} (s : Seen E) (rs qs : List (ℕ × ℕ)) → AreCached s (rs ++ qs) → AreCached s qs
+cached_back : {E : Type 0} (s : StreamView E) (rs qs : List (ℕ × ℕ)) → AreCached s (rs ++ qs) → AreCached s qs
 cached_back s [] qs h = h
 cached_back s (r ∷ rs) qs h = cached_back s rs qs h.1
 
-pub uses_none : {E : Type 0} (s : Seen E) (rs : List (ℕ × ℕ)) → Uses rs s s
+pub uses_none : {E : Type 0} (s : StreamView E) (rs : List (ℕ × ℕ)) → Uses rs s s
 uses_none s rs = record { only = λ start end h. inl h; untouched = λ h. refl }
 
-pub uses_front : {E : Type 0} (old new : Seen E) (rs qs : List (ℕ × ℕ)) → Uses rs old new → Uses (rs ++ qs) old new
+pub uses_front : {E : Type 0} (old new : StreamView E) (rs qs : List (ℕ × ℕ)) → Uses rs old new → Uses (rs ++ qs) old new
 uses_front old new rs qs h = record {
   only = λ start end cached. wider rs qs start end (h.only start end cached);
   untouched = λ cached. h.untouched (cached_front old rs qs cached);
 }
 
-pub uses_then : {E : Type 0} (old middle new : Seen E) (rs qs : List (ℕ × ℕ)) → Uses rs old middle → Uses qs middle new → Uses (rs ++ qs) old new
+pub uses_then : {E : Type 0} (old middle new : StreamView E) (rs qs : List (ℕ × ℕ)) → Uses rs old middle → Uses qs middle new → Uses (rs ++ qs) old new
 uses_then old middle new rs qs a b = record {
   only = λ start end cached. one_later rs qs start end (a.only start end) (b.only start end cached);
   untouched = λ cached.
@@ -146,7 +146,7 @@ uses_then old middle new rs qs a b = record {
 }
 
 -- the ranges are taken of headers, which a call keeps
-pub uses_by_headers : {E : Type 0} (little : E → Bool) (old middle new : Seen E) (ranges : ObjectFile → List (ℕ × ℕ)) → Keeps old middle → Uses (ranges (headers_alone little middle)) middle new → Uses (ranges (headers_alone little old)) middle new
+pub uses_by_headers : {E : Type 0} (little : E → Bool) (old middle new : StreamView E) (ranges : ObjectFile → List (ℕ × ℕ)) → Keeps old middle → Uses (ranges (headers_alone little middle)) middle new → Uses (ranges (headers_alone little old)) middle new
 uses_by_headers little old middle new ranges keeps h = subst (λ file. Uses (ranges file) middle new) (same_file little old middle [] keeps) h
 
 by_test : (b : Bool) (requested : List (ℕ × ℕ)) (x m n : ℕ) (e f : ParseError) → Ok x ≡ cond b (Ok m) (Err e) → unless_refused {A = ℕ} requested (cond b (Ok n) (Err f)) ≡ requested
@@ -157,7 +157,7 @@ sized_right : (requested : List (ℕ × ℕ)) (size x : ℕ) (s : SectionHeader)
 sized_right requested size x s e h = by_test (s.sh_entsize == size) requested x s.sh_entsize size e (BadEntsize (s.sh_entsize, size)) h
 
 -- the version indexes, the needs and the definitions, one after the other
-pub versions_used : {E : Type 0} (little : E → Bool) (old one two three : Seen E) (chosen : VersionSections) (s : SectionHeader) (size : ℕ)
+pub versions_used : {E : Type 0} (little : E → Bool) (old one two three : StreamView E) (chosen : VersionSections) (s : SectionHeader) (size : ℕ)
     → chosen ≡ version_sections old.headers.sections → chosen.indexes ≡ Some s → Ok size ≡ cond (s.sh_entsize == size_by version_index_layout old.headers.ehdr.class) (Ok s.sh_entsize) (Err (BadEntsize (s.sh_entsize, size_by version_index_layout old.headers.ehdr.class))) → Keeps old one → Keeps one two
     → Uses (whole_section s) old one → Uses (if_there (entries_ranges (headers_alone little one)) chosen.needs) one two → Uses (if_there (entries_ranges (headers_alone little two)) chosen.definitions) two three
     → Uses (versions_read (headers_alone little old)) old three

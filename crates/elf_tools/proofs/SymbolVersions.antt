@@ -4,12 +4,12 @@ use Rattle.std.specs.Prelude.{IsUtf8, ok_or}
 use Rattle.std.specs.Option.{option_map}
 use Rattle.std.specs.Str.{is_utf8}
 use Rattle.std.proofs.lemmas.Str.{IsUtf8-from_is_utf8, is_utf8-from_IsUtf8}
-use Rattle.elf_records.specs.StringTable.{GivesText}
+use Rattle.elf_records.specs.StringTable.{GivesText, text_of}
 use Rattle.elf_parts.specs.gnu_symver.Table.{GivesRequirement, RefusesText, Requirement}
 use Rattle.elf_records.specs.declared.parse.ParseError.{ParseError}
 use Rattle.elf_parts.specs.declared.gnu_symver.table.SymbolRequirement.{SymbolRequirement}
-use Rattle.elf_binding.specs.Binding.{text_of, unreadable}
-use Rattle.elf_tools.specs.SymbolVersions.{WrittenVersion, defined_by_name, needed, needed_by_names}
+use Rattle.elf_binding.specs.Binding.{unreadable}
+use Rattle.elf_tools.specs.SymbolVersions.{WrittenVersion, defined_by_name, need_version, needed_by_names}
 use denote.Ref.{Bor}
 
 no_text : (name : List ℕ) (b : Bool) → is_utf8 name ≡ b → (IsUtf8 name → ⊥) → (if b then Some name else None) ≡ None
@@ -49,23 +49,23 @@ no_name i (Some file) name e = rw e refl
 no_name i None name e = refl
 
 pub needed_given : (i : ℕ) (need : Result (Option Requirement) ParseError) (found : SymbolRequirement) → GivesRequirement need (Ok (Some found)) →
-    needed i need ≡ Ok (Some (WrittenVersion.Needed found.file.now found.name.now))
+    need_version i need ≡ Ok (Some (WrittenVersion.Needed found.file.now found.name.now))
 needed_given i (Err e) found gives = cc
 needed_given i (Ok None) found gives = cc
 needed_given i (Ok (Some r)) found gives =
     rw (text_given r.file found.file gives.0, text_given r.name found.name gives.1) refl
 
-pub needed_none : (i : ℕ) (need : Result (Option Requirement) ParseError) → GivesRequirement need (Ok None) → needed i need ≡ Err (unreadable i)
+pub needed_none : (i : ℕ) (need : Result (Option Requirement) ParseError) → GivesRequirement need (Ok None) → need_version i need ≡ Err (unreadable i)
 needed_none i (Err e) gives = cc
 needed_none i (Ok None) gives = refl
 needed_none i (Ok (Some r)) gives = absurd gives
 
-refused_by : (i : ℕ) (r : Requirement) (e : ParseError) → RefusesText r.file r.name e → needed i (Ok (Some r)) ≡ Err (unreadable i)
+refused_by : (i : ℕ) (r : Requirement) (e : ParseError) → RefusesText r.file r.name e → need_version i (Ok (Some r)) ≡ Err (unreadable i)
 refused_by i r e (inl first) = no_file i (text_of r.name) (text_of r.file) (text_refused r.file e first)
 refused_by i r e (inr second) = no_name i (text_of r.file) (text_of r.name) (text_refused r.name e second.2)
 
 pub needed_refused : (i : ℕ) (need : Result (Option Requirement) ParseError) (e : ParseError) → GivesRequirement need (Err e) →
-    needed i need ≡ Err (unreadable i)
+    need_version i need ≡ Err (unreadable i)
 needed_refused i (Err d) e gives = refl
 needed_refused i (Ok None) e gives = cc
 needed_refused i (Ok (Some r)) e gives = refused_by i r e gives

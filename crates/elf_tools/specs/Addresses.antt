@@ -27,12 +27,12 @@ has_address s =
     is_code_or_data s && not (s.st_shndx == shn_undef) && not (s.st_shndx == shn_abs) && not (s.st_shndx == shn_common)
 
 -- a symbol with its index
-abbrev pub located : ℕ × Symbol → Located
-located one = record { symbol = one.0; address = one.1.st_value; size = one.1.st_size }
+abbrev pub location : ℕ × Symbol → Located
+location one = record { symbol = one.0; address = one.1.st_value; size = one.1.st_size }
 
 -- those of a table, in its order
 abbrev pub located_symbols : List Symbol → List Located
-located_symbols symbols = map located (filter (λ one. has_address one.1) (enumerate_from 0 symbols))
+located_symbols symbols = map location (filter (λ one. has_address one.1) (enumerate_from 0 symbols))
 
 -- ---- in the order of their addresses
 

@@ -4,6 +4,8 @@ pub mod LoadPlan
 pub mod HashLint
 pub mod Resolver
 pub mod Bindings
+pub mod SymbolUses
+pub mod SymbolBindings
 pub mod Needed
 pub mod Readings
 pub mod Library
@@ -11,5 +13,6 @@ pub mod LibraryRanges
 pub mod SymbolVersions
 pub mod Addresses
 pub mod Search
+pub mod Tree
 pub mod Known
 pub mod inner

@@ -10,19 +10,19 @@ use Rattle.elf_records.specs.declared.file.Class.{Class}
 use Rattle.elf_records.specs.declared.parse.ParseError.{ParseError}
 use Rattle.elf_records.specs.declared.section.SectionHeader.{SectionHeader}
 use Rattle.elf_parts.specs.gnu_symver.Lists.{ver_defs, ver_needs}
-use Rattle.elf_parts.specs.gnu_symver.Table.{Definitions, Needs, Versions}
+use Rattle.elf_parts.specs.gnu_symver.Table.{Definitions, Entries, Needs, Versions}
 use Rattle.elf.specs.Answers.{dynamic_symbol_table, symbol_version_table}
 use Rattle.elf.specs.Data.{section_data}
 use Rattle.elf_reading.specs.Opening.{StreamHeaders, headers_of}
 use Rattle.elf_reading.specs.Refusals.{MayRefuse}
 use Rattle.elf_reading.specs.Refusals.{kind}
 use Rattle.elf.specs.Headers.{first_section_of}
-use Rattle.elf_reading.specs.Opening.{opened}
+use Rattle.elf_reading.specs.Opening.{opened_file}
 use Rattle.elf.specs.StreamFile.{listed_file}
 use Rattle.elf.specs.ObjectFile.{ObjectFile}
 use Rattle.elf_binding.specs.Binding.{VersionedObject}
 use Rattle.elf_check.specs.Object.{IsSound, Object, object_in}
-use Rattle.elf_binding.specs.ObjectTable.{IsFaultOf, needed, read}
+use Rattle.elf_binding.specs.ObjectTable.{IsFaultOf, or_no_symbols, or_fault}
 use Rattle.elf_check.specs.declared.hashcheck.any.HashKind.{HashKind}
 use Rattle.elf_check.specs.declared.hashcheck.any.HashKind.TheVariants.{Gnu, Sysv}
 use Rattle.elf_binding.specs.declared.resolve.ObjectFault.{ObjectFault}
@@ -47,17 +47,19 @@ hash_in kept = (kept.kind, kept.section.items)
 abbrev pub symbols_in : Bool → Class → SymbolBytes → Table × List ℕ
 symbols_in little class kept = (table_in little class kept.symbols.items, kept.strings.items)
 
-abbrev pub needs_in : Bool → Class → EntryBytes → Needs
-needs_in little class kept = record {
-  list = ver_needs (table_in little class kept.entries.items) kept.count 0;
+-- the entries of a section with their strings, by the list of the entries from an offset on
+abbrev pub stored_entries : {V A : Type 0} → (Table → ℕ → ℕ → List (V × List A)) → Bool → Class → EntryBytes →
+    Entries V A
+stored_entries entries little class kept = record {
+  list = entries (table_in little class kept.entries.items) kept.count 0;
   strings = kept.strings.items;
 }
 
+abbrev pub needs_in : Bool → Class → EntryBytes → Needs
+needs_in little class kept = stored_entries ver_needs little class kept
+
 abbrev pub definitions_in : Bool → Class → EntryBytes → Definitions
-definitions_in little class kept = record {
-  list = ver_defs (table_in little class kept.entries.items) kept.count 0;
-  strings = kept.strings.items;
-}
+definitions_in little class kept = stored_entries ver_defs little class kept
 
 abbrev pub versions_in : Bool → Class → VersionBytes → Versions
 versions_in little class kept = record {
@@ -95,13 +97,13 @@ pub record IsLibraryOf {E : Type 0} (little : E → Bool) (can_fail : Bool) (fil
       library.versions
 
 -- the library of the file that these bytes hold, if it can be opened
-abbrev pub IsOpened :
+abbrev pub IsOpenedLibrary :
     {E : Type 0} → (E → Bool) → (ℕ → Option E) → Bool → List ℕ → Result (Library E) ParseError → Type 0
-IsOpened {E} little of_byte can_fail bytes (Ok library) =
-    (h : StreamHeaders E) × (ok_map headers_of (opened little of_byte bytes) ≡ Ok h)
+IsOpenedLibrary {E} little of_byte can_fail bytes (Ok library) =
+    (h : StreamHeaders E) × (ok_map headers_of (opened_file little of_byte bytes) ≡ Ok h)
     × IsLibraryOf little can_fail (listed_file little h bytes) library
-IsOpened {E} little of_byte can_fail bytes (Err e) =
-    MayRefuse can_fail (IsOk (opened little of_byte bytes)) (IsErr (opened little of_byte bytes)) (kind e)
+IsOpenedLibrary {E} little of_byte can_fail bytes (Err e) =
+    MayRefuse can_fail (IsOk (opened_file little of_byte bytes)) (IsErr (opened_file little of_byte bytes)) (kind e)
 
 -- ---- which object it is
 
@@ -123,7 +125,8 @@ abbrev pub object_from : Bool → Class → Result (Option (HashKind × List ℕ
     Result (Option (Table × List ℕ)) ParseError → Option (Result Object ObjectFault)
 object_from little class (Ok None) symbols = None
 object_from little class (Ok (Some hash)) symbols =
-    Some (read symbols >>= needed >>= λ found. read (object_in hash.0 little class hash.1 found.0 found.1))
+    Some (or_fault symbols >>= or_no_symbols
+    >>= λ found. or_fault (object_in hash.0 little class hash.1 found.0 found.1))
 object_from little class (Err e) symbols = Some (Err (Read e))
 
 abbrev pub library_object : {E : Type 0} → (E → Bool) → Library E → Option (Result Object ObjectFault)

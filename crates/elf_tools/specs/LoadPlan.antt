@@ -75,12 +75,12 @@ IsFirstOverlap all k = IsSomeAnd (slice_get all k) (λ m. overlaps_earlier all k
 
 -- what an error says of the mappings: what is wrong with the first that is not loadable, in this order; overlaps are
 -- checked if all are
-abbrev pub IsTrueOf : Class → ℕ → List Mapping → PlanError → Type 0
-IsTrueOf class count all (FileSize k) = IsFirstFaulty class count all (λ m. fits m ≡ false) k
-IsTrueOf class count all (OutsideFile k) =
+abbrev pub IsTrueOfPlan : Class → ℕ → List Mapping → PlanError → Type 0
+IsTrueOfPlan class count all (FileSize k) = IsFirstFaulty class count all (λ m. fits m ≡ false) k
+IsTrueOfPlan class count all (OutsideFile k) =
     IsFirstFaulty class count all (λ m. (fits m ≡ true) × (lies_in count m ≡ false)) k
-IsTrueOf class count all (AddressSpace k) =
+IsTrueOfPlan class count all (AddressSpace k) =
     IsFirstFaulty class count all (λ m.
     (fits m ≡ true) × (lies_in count m ≡ true) × (is_addressed class m ≡ false)) k
-IsTrueOf class count all (Overlap k) = LoadableBefore class count all (length all) × IsFirstOverlap all k
-IsTrueOf class count all Memory = Unit {0}
+IsTrueOfPlan class count all (Overlap k) = LoadableBefore class count all (length all) × IsFirstOverlap all k
+IsTrueOfPlan class count all Memory = Unit {0}

@@ -16,8 +16,9 @@ use Rattle.elf_records.specs.declared.dynamic.Dyn.{Dyn}
 use Rattle.elf_records.specs.declared.parse.ParseError.{ParseError}
 use Rattle.elf_records.specs.declared.segment.ProgramHeader.{ProgramHeader}
 use Rattle.elf.specs.Answers.{dynamic, segment_data}
-use Rattle.elf.specs.ElfStream.{Keeps, Seen}
+use Rattle.elf.specs.ElfStream.{Keeps, StreamView}
 use Rattle.elf_reading.specs.Refusals.{IsRefused, kind}
+use Rattle.elf.specs.Headers.{if_found}
 use Rattle.elf.specs.ObjectFile.{ObjectFile}
 use Rattle.elf_tools.specs.declared.needed.Name.{Name}
 use Rattle.elf_tools.specs.declared.needed.Names.{Names}
@@ -29,11 +30,6 @@ use Rattle.elf_tools.specs.declared.needed.NamesError.TheVariants.{Name as Unnam
 abbrev pub or_error : {A : Type 0} → (ParseError → NamesError) → Result A ParseError → Result A NamesError
 or_error to (Ok x) = Ok x
 or_error to (Err e) = Err (to e)
-
--- what is answered of a value, if there is one
-abbrev pub if_some : {A B : Type 0} → (A → Result B NamesError) → Option A → Result (Option B) NamesError
-if_some answer None = Ok None
-if_some answer (Some x) = ok_map Some (answer x)
 
 -- ---- the entries
 
@@ -75,7 +71,7 @@ name_of strings entry = or_error Unnamed (string_at strings (d_un_view entry))
 
 -- the name of the first entry with a tag
 abbrev pub first_name : List ℕ → ℤ → List Dyn → Result (Option (List ℕ)) NamesError
-first_name strings tag entries = if_some (name_of strings) (first_entry tag entries)
+first_name strings tag entries = if_found (name_of strings) (first_entry tag entries)
 
 -- the names of entries, in order, or why the first that cannot be read is refused
 abbrev pub names_of_all : List ℕ → List Dyn → Result (List (List ℕ)) NamesError
@@ -137,7 +133,15 @@ names_by file entries = string_part file.segments entries >>= λ part. names_of_
 
 -- its names, if it has dynamic entries
 abbrev pub names : ObjectFile → Result (Option Named) NamesError
-names file = entries_of file >>= λ entries. if_some (names_by file) entries
+names file = entries_of file >>= λ entries. if_found (names_by file) entries
+
+-- ---- over a file in memory
+
+-- the answer, or an allocation failed
+abbrev pub IsAnswered : {T Y : Type 0} → (T → Y) → Result Y NamesError → Result T NamesError → Type 0
+IsAnswered shown answer (Ok x) = answer ≡ Ok (shown x)
+IsAnswered shown answer (Err Memory) = Unit {0}
+IsAnswered shown answer (Err e) = answer ≡ Err e
 
 -- ---- over a stream
 
@@ -155,7 +159,7 @@ IsNamesAnswer shown answer can_fail before now (Err (Read e)) =
 IsNamesAnswer shown answer can_fail before now (Err e) = (now ≡ before) × (answer ≡ Err e)
 
 -- the same file, no cached range lost, and where the content is known its answer
-pub record GivesNames {E T Y : Type 0} (shown : T → Y) (answer : List ℕ → Result Y NamesError) (old new : Seen E)
+pub record GivesNames {E T Y : Type 0} (shown : T → Y) (answer : List ℕ → Result Y NamesError) (old new : StreamView E)
     (r : Result T NamesError) : Type 0 where
   pub keeps : Keeps old new
   pub answers : IfSome old.content (λ bytes.

@@ -1,7 +1,7 @@
 -- What a reading of a stream gives and leaves.
 use Rattle.std.specs.Prelude.{◌≡◌, ◌⊎◌, Bool, ⊤, ℕ, List, Result, Ok, Err, IfSome, IsErr}
 use Rattle.elf_records.specs.declared.parse.ParseError.{ParseError}
-use Rattle.elf.specs.ElfStream.{AreCached, IsCached, IsRequested, Keeps, Seen}
+use Rattle.elf.specs.ElfStream.{AreCached, IsCached, IsRequested, Keeps, StreamView}
 use Rattle.elf_reading.specs.Refusals.{MayRefuse}
 use Rattle.elf_reading.specs.Refusals.{kind}
 
@@ -11,13 +11,13 @@ IsRead shown can_fail answer (Ok x) = answer ≡ Ok (shown x)
 IsRead shown can_fail answer (Err e) = MayRefuse can_fail ⊤ (IsErr answer) (kind e)
 
 -- the stream is still of its file, and what was read is what its content answers
-pub record Reads {E T Y : Type 0} (old new : Seen E) (r : Result T ParseError) (shown : T → Y)
+pub record ReadsFile {E T Y : Type 0} (old new : StreamView E) (r : Result T ParseError) (shown : T → Y)
     (answer : List ℕ → Result Y ParseError) : Type 0 where
   pub keeps : Keeps old new
   pub given : IfSome old.content (λ bytes. IsRead shown old.can_fail (answer bytes) r)
 
 -- what a reading used: no range is cached that was not cached before and does not lie within one of these; if they were
 -- cached before, the stream is as it was
-pub record Uses {E : Type 0} (requested : List (ℕ × ℕ)) (old new : Seen E) : Type 0 where
+pub record Uses {E : Type 0} (requested : List (ℕ × ℕ)) (old new : StreamView E) : Type 0 where
   pub only : (start end : ℕ) → IsCached new start end → IsCached old start end ⊎ IsRequested requested start end
   pub untouched : AreCached old requested → new ≡ old

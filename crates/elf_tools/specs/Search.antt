@@ -29,15 +29,15 @@ sequence_length bytes =
     else 0
 
 -- the bytes with the folder in the place of each sequence, without the first ones, as many as the number says
-abbrev pub expanded_after : List ℕ → ℕ → List ℕ → List ℕ
-expanded_after folder skip [] = []
-expanded_after folder zero (b ∷ bytes) =
-    if sequence_length (b ∷ bytes) == 0 then b ∷ expanded_after folder 0 bytes
-    else folder ++ expanded_after folder (sequence_length (b ∷ bytes) - 1) bytes
-expanded_after folder (suc n) (b ∷ bytes) = expanded_after folder n bytes
+abbrev pub expansion_after : List ℕ → ℕ → List ℕ → List ℕ
+expansion_after folder skip [] = []
+expansion_after folder zero (b ∷ bytes) =
+    if sequence_length (b ∷ bytes) == 0 then b ∷ expansion_after folder 0 bytes
+    else folder ++ expansion_after folder (sequence_length (b ∷ bytes) - 1) bytes
+expansion_after folder (suc n) (b ∷ bytes) = expansion_after folder n bytes
 
-abbrev pub expanded : List ℕ → List ℕ → List ℕ
-expanded folder bytes = expanded_after folder 0 bytes
+abbrev pub expansion : List ℕ → List ℕ → List ℕ
+expansion folder bytes = expansion_after folder 0 bytes
 
 -- ---- the folders of a search path
 
@@ -49,7 +49,7 @@ separates ColonsAndSemicolons b = b == 58 || b == 59
 -- an empty path has no folders
 abbrev pub folders_in : Separators → List ℕ → List ℕ → List (List ℕ)
 folders_in separators folder path =
-    if length path == 0 then [] else map (expanded folder) (slice_split (separates separators) path)
+    if length path == 0 then [] else map (expansion folder) (slice_split (separates separators) path)
 
 abbrev pub folders_if : Separators → List ℕ → Option (List ℕ) → List (List ℕ)
 folders_if separators folder None = []
@@ -93,16 +93,16 @@ folders object loaders others =
 -- ---- the paths
 
 -- a name in a folder; an empty folder is the current one
-abbrev pub joined : List ℕ → List ℕ → List ℕ
-joined name folder = (if length folder == 0 then codes "." else folder) ++ codes "/" ++ name
+abbrev pub joined_path : List ℕ → List ℕ → List ℕ
+joined_path name folder = (if length folder == 0 then codes "." else folder) ++ codes "/" ++ name
 
 -- a name with a slash is a path; another one is searched for in each folder
 abbrev pub candidates_of : List ℕ → List (List ℕ) → List (List ℕ)
 candidates_of name folders =
-    if list_any (λ b. b == 47) name then name ∷ [] else map (joined name) folders
+    if list_any (λ b. b == 47) name then name ∷ [] else map (joined_path name) folders
 
 abbrev pub candidates : Object → List Object → Others → List ℕ → List (List ℕ)
-candidates object loaders others name = candidates_of (expanded object.folder name) (folders object loaders others)
+candidates object loaders others name = candidates_of (expansion object.folder name) (folders object loaders others)
 
 -- ---- the view of the structs
 

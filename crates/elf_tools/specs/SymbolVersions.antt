@@ -11,7 +11,8 @@ use Rattle.elf_records.specs.declared.symbol.Symbol.{Symbol}
 use Rattle.elf_parts.specs.gnu_symver.Records.{version_index}
 use Rattle.elf_parts.specs.gnu_symver.Table.{Definition, Requirement, Versions, definition, requirement}
 use Rattle.elf_parts.specs.declared.gnu_symver.records.VersionIndex.{VersionIndex}
-use Rattle.elf_binding.specs.Binding.{text_of, unreadable, version_index_of}
+use Rattle.elf_records.specs.StringTable.{text_of}
+use Rattle.elf_binding.specs.Binding.{unreadable, version_index_of}
 use Rattle.elf_binding.specs.declared.Unreadable.{Unreadable}
 use Rattle.elf_tools.specs.declared.symbol_versions.SymbolVersion.{SymbolVersion}
 use Rattle.elf_tools.specs.declared.symbol_versions.SymbolVersion.TheVariants as code
@@ -23,9 +24,9 @@ pub data WrittenVersion : Type 0 where
   Needed : List ℕ → List ℕ → WrittenVersion
   Defined : List ℕ → Bool → WrittenVersion
 
-abbrev pub version_view : SymbolVersion → WrittenVersion
-version_view (code.Needed file name) = WrittenVersion.Needed file.now name.now
-version_view (code.Defined name is_default) = WrittenVersion.Defined name.now is_default
+abbrev pub symbol_version_view : SymbolVersion → WrittenVersion
+symbol_version_view (code.Needed file name) = WrittenVersion.Needed file.now name.now
+symbol_version_view (code.Defined name is_default) = WrittenVersion.Defined name.now is_default
 
 -- ---- of a definition
 
@@ -36,8 +37,8 @@ defined_by_name i hidden (name ∷ others) =
     ok_or (option_map (λ text. Some (WrittenVersion.Defined text (not hidden))) (text_of name)) (unreadable i)
 
 -- what is defined for the file itself (VER_FLG_BASE) is no version
-abbrev pub defined : ℕ → Definition → Result (Option WrittenVersion) Unreadable
-defined i d = if bit_and d.flags ver_flg_base == 0 then defined_by_name i d.hidden d.names else Ok None
+abbrev pub definition_version : ℕ → Definition → Result (Option WrittenVersion) Unreadable
+definition_version i d = if bit_and d.flags ver_flg_base == 0 then defined_by_name i d.hidden d.names else Ok None
 
 -- ---- of a need
 
@@ -47,34 +48,34 @@ needed_by_names i (Some file) None = Err (unreadable i)
 needed_by_names i None name = Err (unreadable i)
 
 -- a version index that no definition and no need has names nothing
-abbrev pub needed : ℕ → Result (Option Requirement) ParseError → Result (Option WrittenVersion) Unreadable
-needed i (Ok (Some r)) = needed_by_names i (text_of r.file) (text_of r.name)
-needed i (Ok None) = Err (unreadable i)
-needed i (Err e) = Err (unreadable i)
+abbrev pub need_version : ℕ → Result (Option Requirement) ParseError → Result (Option WrittenVersion) Unreadable
+need_version i (Ok (Some r)) = needed_by_names i (text_of r.file) (text_of r.name)
+need_version i (Ok None) = Err (unreadable i)
+need_version i (Err e) = Err (unreadable i)
 
 -- ---- of a symbol
 
 -- by the definition with its version index, or if there is none by the need with it. A symbol that is defined may have
 -- its version among the needs: it is the copy of one of another file.
-abbrev pub version_by : ℕ → Result (Option Definition) ParseError → Result (Option Requirement) ParseError →
+abbrev pub symbol_version_by : ℕ → Result (Option Definition) ParseError → Result (Option Requirement) ParseError →
     Result (Option WrittenVersion) Unreadable
-version_by i (Ok (Some d)) need = defined i d
-version_by i (Ok None) need = needed i need
-version_by i (Err e) need = Err (unreadable i)
+symbol_version_by i (Ok (Some d)) need = definition_version i d
+symbol_version_by i (Ok None) need = need_version i need
+symbol_version_by i (Err e) need = Err (unreadable i)
 
 -- the version indexes 0 (VER_NDX_LOCAL) and 1 (VER_NDX_GLOBAL) say that a symbol has no version
-abbrev pub version_with : Versions → ℕ → VersionIndex → Result (Option WrittenVersion) Unreadable
-version_with versions i index =
+abbrev pub symbol_version_with : Versions → ℕ → VersionIndex → Result (Option WrittenVersion) Unreadable
+symbol_version_with versions i index =
     if nat_lt (version_index index) 2 then Ok None
-    else version_by i (definition versions i) (requirement versions i)
+    else symbol_version_by i (definition versions i) (requirement versions i)
 
-abbrev pub version_of_symbol : Versions → ℕ → Result (Option WrittenVersion) Unreadable
-version_of_symbol versions i = version_index_of versions i >>= version_with versions i
+abbrev pub symbol_version : Versions → ℕ → Result (Option WrittenVersion) Unreadable
+symbol_version versions i = version_index_of versions i >>= symbol_version_with versions i
 
 -- a file without versions has symbols without versions
-abbrev pub version_in : Option Versions → ℕ → Result (Option WrittenVersion) Unreadable
-version_in (Some versions) i = version_of_symbol versions i
-version_in None i = Ok None
+abbrev pub symbol_version_in : Option Versions → ℕ → Result (Option WrittenVersion) Unreadable
+symbol_version_in (Some versions) i = symbol_version versions i
+symbol_version_in None i = Ok None
 
 -- ---- of all symbols
 
@@ -82,10 +83,10 @@ abbrev pub SymbolWithVersion : Type 0
 SymbolWithVersion = Symbol × Result (Option WrittenVersion) Unreadable
 
 abbrev pub symbol_view : VersionedSymbol → SymbolWithVersion
-symbol_view one = (one.symbol, ok_map (option_map version_view) one.version)
+symbol_view one = (one.symbol, ok_map (option_map symbol_version_view) one.version)
 
 abbrev pub with_version : Option Versions → ℕ × Symbol → SymbolWithVersion
-with_version versions one = (one.1, version_in versions one.0)
+with_version versions one = (one.1, symbol_version_in versions one.0)
 
 -- each symbol with its version, in order
 abbrev pub versioned_symbols : Option Versions → List Symbol → List SymbolWithVersion

@@ -2,7 +2,7 @@
 ghost use Rattle.std.specs.Prelude.{◌≡◌, ◌≤◌, ◌<◌, ℕ, IfOk, length, slice_index_or, take};
 ghost use Rattle.elf_records.specs.Symbol.{symbol_reads};
 ghost use Rattle.elf_records.specs.Table.{table_items, table_view};
-ghost use Rattle.elf_tools.specs.Addresses.{IsByAddress, has_address, located, located_symbols, nearest, nearest_of};
+ghost use Rattle.elf_tools.specs.Addresses.{IsByAddress, has_address, location, located_symbols, nearest, nearest_of};
 ghost use Rattle.elf_tools.specs.Addresses.{starts_before};
 ghost use Rattle.elf_tools.specs.declared.addresses.Located.{Located};
 
@@ -50,8 +50,8 @@ impl Model for Addresses {
     ghost invariant = { λ s. IsNonDecreasingBy (λ (one : Located). one.address) s.symbols.items };
 }
 
-/// Whether the symbol has an address: it is an object (`STT_OBJECT`), a function (`STT_FUNC`) or a function that is
-/// chosen when the file is loaded (`STT_GNU_IFUNC`), and a section of the file defines it. An absolute symbol
+/// Returns whether the symbol has an address: it is an object (`STT_OBJECT`), a function (`STT_FUNC`) or a function
+/// that is chosen when the file is loaded (`STT_GNU_IFUNC`), and a section of the file defines it. An absolute symbol
 /// (`SHN_ABS`) has a value that is no address, and that of a common one (`SHN_COMMON`) is an alignment.
 pub fn has_address(symbol: &Symbol) -> bool
     ensures { result ≡ has_address symbol.now }
@@ -66,7 +66,7 @@ pub fn has_address(symbol: &Symbol) -> bool
 
 impl Located {
     fn new(symbol: usize, found: &Symbol) -> Self
-        ensures { result ≡ located (symbol, found.now) }
+        ensures { result ≡ location (symbol, found.now) }
     {
         Located {
             symbol,
@@ -141,6 +141,15 @@ impl Addresses {
     /// and whether its size reaches past the address. Of several symbols with one address this is the one that comes
     /// last in the table; a table has its local symbols first, so a global one is preferred. Returns `None` if each
     /// symbol starts after the address. The time grows with the logarithm of the number of symbols.
+    ///
+    /// ```rust
+    /// if let Some((symbols, _)) = file.dynamic_symbol_table()? {
+    ///     let addresses = Addresses::new(rt.alloc(), &symbols)?;
+    ///     if let Some(nearest) = addresses.find(file.ehdr.e_entry) {
+    ///         println!(rt; "symbol {} and {} bytes", nearest.symbol, nearest.distance)?;
+    ///     }
+    /// }
+    /// ```
     pub fn find(&self, address: u64) -> Option<Nearest>
         ensures { result ≡ nearest address self.now }
     {

@@ -9,8 +9,10 @@ ghost use Rattle.elf_check.specs.CheckedTable.{object_view};
 ghost use Rattle.elf_binding.specs.VersionedView.{versioned_view};
 ghost use Rattle.elf_tools.specs.Bindings.{IsBound, is_reference};
 
+pub mod kinds;
 pub mod library;
 pub mod reading;
+pub mod uses;
 
 use crate::versions::indexed;
 use elf::abi;
@@ -32,7 +34,7 @@ pub enum Bound {
     Missing,
 }
 
-/// Whether another file has to define the symbol.
+/// Returns whether another file has to define the symbol.
 pub fn is_reference(symbol: &Symbol) -> bool
     ensures { result ≡ is_reference symbol.now }
 {

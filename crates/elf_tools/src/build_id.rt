@@ -61,9 +61,17 @@ fn sections_id<'data, E: EndianParse>(
     Ok(None)
 }
 
-/// Returns the first build id among the notes of the segments of type `PT_NOTE` or, if these have none, of the sections
-/// of type `SHT_NOTE`. Returns `None` if there is none. The error is that of `segment_data_as_notes` or
+/// Returns the bytes of the first build id among the notes of the segments of type `PT_NOTE` or, if these have none, of
+/// the sections of type `SHT_NOTE`. Returns `None` if there is none. The error is that of `segment_data_as_notes` or
 /// `section_data_as_notes` for the first segment or section before the build id that cannot be read.
+///
+/// ```rust
+/// if let Some(id) = build_id(&file)? {
+///     for byte in id {
+///         print!(rt; "{byte:02x}")?;
+///     }
+/// }
+/// ```
 pub fn build_id<'data, E: EndianParse>(
     file: &ElfBytes<'data, E>,
 ) -> Result<Option<&'data [u8]>, ParseError>

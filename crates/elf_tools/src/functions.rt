@@ -28,14 +28,23 @@ fn is_function(symbol: &Symbol) -> bool
     symtype == abi::STT_FUNC || symtype == abi::STT_GNU_IFUNC
 }
 
-/// Whether the symbol is a function that this file defines and other files can call.
+/// Returns whether the symbol is a function that this file defines and other files can call.
 pub fn is_defined_function(symbol: &Symbol) -> bool
     ensures { result ≡ is_defined_function symbol.now }
 {
     !symbol.is_undefined() && symbol.st_bind() != abi::STB_LOCAL && is_function(symbol)
 }
 
-/// Returns all such symbols of a table, in order, each with its index. The only error is a failed allocation.
+/// Returns the symbols of a table that are functions by `is_defined_function`, in order, each with its index. Those
+/// that other files can call are among the dynamic symbols. The only error is a failed allocation.
+///
+/// ```rust
+/// if let Some((symbols, names)) = file.dynamic_symbol_table()? {
+///     for (_, function) in &functions(rt.alloc(), &symbols)? {
+///         println!(rt; "{}", names.get(function.st_name as usize)?)?;
+///     }
+/// }
+/// ```
 pub fn functions<E: EndianParse>(
     alloc: Global,
     symbols: &SymbolTable<'_, E>,

@@ -7,8 +7,8 @@ ghost use Rattle.elf_tools.specs.HashLint.{GivesLint, IsLint, hash_object};
 use elf::endian::EndianParse;
 use elf::section::SectionHeader;
 use elf::{ElfBytes, abi};
-use elf_binding::resolve::ObjectFault;
-use elf_check::hashcheck::{Checked, HashKind, check_any};
+use elf_binding::resolve::{ObjectFault, section_table};
+use elf_check::hashcheck::HashKind;
 
 fn kind_lint<E: EndianParse>(
     file: &ElfBytes<'_, E>,
@@ -17,15 +17,8 @@ fn kind_lint<E: EndianParse>(
 ) -> Result<usize, ObjectFault>
     ensures { IsLint (section_object kind (object_file E.little (view file.now)) section.now) result }
 {
-    let (bytes, _) = file.section_data(section)?;
-    let Some((symbols, strings)) = file.dynamic_symbol_table()? else {
-        return Err(ObjectFault::NoSymbols);
-    };
-    let ehdr = &file.ehdr;
-    match check_any(kind, ehdr.endianness, ehdr.class, bytes, symbols, strings)? {
-        Checked::Sound(table) => Ok(table.indexed()),
-        Checked::Faulty(fault) => Err(ObjectFault::Faulty(fault)),
-    }
+    let table = section_table(file, kind, section)?;
+    Ok(table.indexed())
 }
 
 /// Checks a hash section over the dynamic symbols of its file. Returns the number of symbols that it indexes, or `None`
@@ -34,6 +27,14 @@ fn kind_lint<E: EndianParse>(
 /// Errors, in order: `Read` if the bytes of the section cannot be read; `Read` if the dynamic symbols cannot be read;
 /// `NoSymbols` if there are none; `Read` if `new` of the table returns an error; `Faulty` with a fault that is true of
 /// the section.
+///
+/// ```rust
+/// if let Some(section) = file.section_header_by_name(".gnu.hash")?
+///     && let Some(verdict) = lint(&file, &section)
+/// {
+///     println!(rt; "sound, {} indexed symbols", verdict?)?;
+/// }
+/// ```
 pub fn lint<E: EndianParse>(
     file: &ElfBytes<'_, E>,
     section: &SectionHeader,

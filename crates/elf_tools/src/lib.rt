@@ -1,7 +1,7 @@
-//! Ten callers of the library, each in a module of its own, with the contract that its user needs: `build_id`,
-//! `functions`, `load_plan`, `hash_lint`, `resolver`, `bindings`, `needed`, `symbol_versions`, `addresses` and `search`.
-//! The program `elf_cases` prints the results of the first seven. `laws` has theorems for their callers, and `worked` the
-//! definitions of the last three at known values.
+//! Eleven callers of the library, each in a module of its own, with the contract that its user needs: `build_id`,
+//! `functions`, `load_plan`, `hash_lint`, `resolver`, `bindings`, `needed`, `symbol_versions`, `addresses`, `search` and
+//! `tree`. The program `elf_cases` prints the results of the first seven. `laws` has theorems for their callers, and
+//! `worked` the definitions of `symbol_versions`, `addresses` and `search` at known values.
 #![tactic(auto)]
 
 pub mod addresses;
@@ -15,5 +15,6 @@ pub mod needed;
 pub mod resolver;
 pub mod search;
 pub mod symbol_versions;
+pub mod tree;
 pub mod versions;
 pub mod worked;

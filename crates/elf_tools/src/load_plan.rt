@@ -3,7 +3,7 @@ ghost use Rattle.std.specs.Prelude.{◌≡◌, ◌||◌, [], false, IfErr, IfOk,
 ghost use Rattle.std.specs.List.{list_any};
 ghost use Rattle.elf.specs.ElfBytes.{view};
 ghost use Rattle.elf_reading.specs.Opening.{segment_list};
-ghost use Rattle.elf_tools.specs.LoadPlan.{ApartBefore, IsFirstOverlap, IsPlan, IsTrueOf, LoadableBefore};
+ghost use Rattle.elf_tools.specs.LoadPlan.{ApartBefore, IsFirstOverlap, IsPlan, IsTrueOfPlan, LoadableBefore};
 ghost use Rattle.elf_tools.specs.LoadPlan.{fits, is_addressed, lies_in, mapping_of, mappings, meets, overlap};
 ghost use Rattle.elf_tools.specs.inner.Apart.{AreApart};
 ghost use Rattle.elf_tools.specs.declared.load_plan.Mapping.{Mapping};
@@ -116,7 +116,7 @@ fn mappings<E: EndianParse>(
 // What is wrong with the first mapping that is not loadable, in a file of this class and length.
 fn first_fault(class: Class, len: usize, all: &[Mapping]) -> Option<PlanError>
     ensures fault { MatchOption result (LoadableBefore class len all.now (length all.now))
-        (IsTrueOf class len all.now) }
+        (IsTrueOfPlan class len all.now) }
     ensures none { all.now ≡ [] → IsNone result }
 {
     for (place, mapping) in all.iter().enumerate() {
@@ -190,6 +190,15 @@ fn first_overlap(alloc: Global, all: &[Mapping]) -> Result<Option<usize>, AllocE
 /// it has more bytes in the file than in memory, `OutsideFile` if its bytes do not lie in the file, and `AddressSpace`
 /// if it ends past the last address of the file's class; `Overlap` with the first mapping that shares an address with
 /// an earlier one. A file without segments has an empty plan, and no error.
+///
+/// The segments are taken as declared: nothing is known of pages, `p_align` is ignored, and any order of addresses is
+/// accepted. So a loader, which maps whole pages, may refuse a file that has a plan.
+///
+/// ```rust
+/// for mapping in &load_plan(rt.alloc(), &file)? {
+///     println!(rt; "{} bytes at {:#x}", mapping.memory_size, mapping.address)?;
+/// }
+/// ```
 pub fn load_plan<E: EndianParse>(
     alloc: Global,
     file: &ElfBytes<'_, E>,
@@ -197,7 +206,7 @@ pub fn load_plan<E: EndianParse>(
     ensures plan { let all = mappings (segment_list (view file.now).segments) in
         IfOk result (λ plan. (plan.items ≡ all) × IsPlan file.now.ehdr.class (length (view file.now).bytes) all) }
     ensures refused { let all = mappings (segment_list (view file.now).segments) in
-        IfErr result (IsTrueOf file.now.ehdr.class (length (view file.now).bytes) all) }
+        IfErr result (IsTrueOfPlan file.now.ehdr.class (length (view file.now).bytes) all) }
     ensures none { IsNone (view file.now).segments → IsOk result }
 {
     let plan = mappings(alloc, file)?;

@@ -5,8 +5,10 @@ ghost use Rattle.std.specs.Option.{option_map};
 ghost use Rattle.elf_records.specs.Dynamic.{has_tag};
 ghost use Rattle.elf_records.specs.Number.{ok_map};
 ghost use Rattle.elf_records.specs.Table.{table_view};
+ghost use Rattle.elf.specs.ElfBytes.{view};
+ghost use Rattle.elf.specs.ObjectFile.{object_file};
 ghost use Rattle.elf.specs.StreamFile.{stream_file};
-ghost use Rattle.elf_tools.specs.Needed.{GivesNames, IsGiven};
+ghost use Rattle.elf_tools.specs.Needed.{GivesNames, IsAnswered, IsGiven};
 ghost use Rattle.elf_tools.specs.Needed.{all_names, entries_in, entries_of, first_entry, first_name};
 ghost use Rattle.elf_tools.specs.Needed.{holds, name_bytes, name_of, names, names_by, names_in, names_of_part};
 ghost use Rattle.elf_tools.specs.Needed.{names_view, part_of, string_part};
@@ -16,7 +18,7 @@ use elf::dynamic::{Dyn, DynamicTable};
 use elf::endian::EndianParse;
 use elf::segment::ProgramHeader;
 use elf::string_table::{StringTable, TerminatedStrings};
-use elf::{ElfStream, ParseError, StreamSource, abi};
+use elf::{ElfBytes, ElfStream, ParseError, StreamSource, abi};
 use std::alloc::{AllocError, AllocFailed, Allocator, Global};
 use thiserror::Error;
 
@@ -191,10 +193,7 @@ fn first_name(
     ensures { ok_map (option_map (name_bytes strings.now)) result ≡ first_name strings.now tag entries.now }
 {
     match first_entry(entries, tag) {
-        Some(entry) => match name_of(strings, entry) {
-            Ok(name) => Ok(Some(name)),
-            Err(error) => Err(error),
-        },
+        Some(entry) => name_of(strings, entry).map(Some),
         None => Ok(None),
     }
 }
@@ -279,10 +278,8 @@ fn names_by<E: EndianParse, S: StreamSource, A: Allocator + Copy>(
     ensures { GivesNames names_view (λ bytes. names_by (stream_file E.little stream.old bytes) entries.now)
         stream.old stream.new result }
 {
-    match string_part(stream.segments().as_slice(), entries) {
-        Ok(part) => names_of_part(alloc, stream, entries, &part),
-        Err(error) => Err(error),
-    }
+    let part = string_part(stream.segments().as_slice(), entries)?;
+    names_of_part(alloc, stream, entries, &part)
 }
 
 /// Returns the soname of a file, the libraries that it needs and its search paths, or `None` if it has no dynamic
@@ -293,6 +290,14 @@ fn names_by<E: EndianParse, S: StreamSource, A: Allocator + Copy>(
 /// cannot be read; `Name` if the string of an entry cannot be read: of the soname, then of the needed libraries in
 /// order, of `DT_RUNPATH` and of `DT_RPATH`. `Memory` if an allocation failed, which is possible only if the file has
 /// dynamic entries.
+///
+/// ```rust
+/// if let Some(names) = dynamic_names(rt.alloc(), &mut stream)? {
+///     for name in &names.needed {
+///         println!(rt; "{}", from_utf8(names.bytes(name))?)?;
+///     }
+/// }
+/// ```
 pub fn dynamic_names<E: EndianParse, S: StreamSource, A: Allocator + Copy>(
     alloc: Global,
     stream: &mut ElfStream<E, S, A>,
@@ -308,6 +313,56 @@ pub fn dynamic_names<E: EndianParse, S: StreamSource, A: Allocator + Copy>(
         Err(error) => return Err(error),
     };
     match names_by(alloc, stream, entries.as_slice()) {
+        Ok(names) => Ok(Some(names)),
+        Err(error) => Err(error),
+    }
+}
+
+// The segments of a file in memory, copied.
+fn segments_of<E: EndianParse>(
+    alloc: Global,
+    file: &ElfBytes<'_, E>,
+) -> Result<Vec<ProgramHeader>, AllocError>
+    ensures { IfOk result (λ segments. segments.items ≡ (object_file E.little (view file.now)).segments) }
+{
+    match file.segments() {
+        Some(segments) => segments.iter().collect(alloc),
+        None => Ok(Vec::new(alloc)),
+    }
+}
+
+// The names that the entries of a file in memory give.
+fn names_in_memory<E: EndianParse>(
+    alloc: Global,
+    file: &ElfBytes<'_, E>,
+    entries: &[Dyn],
+) -> Result<Names, NamesError>
+    ensures { IsAnswered names_view (names_by (object_file E.little (view file.now)) entries.now) result }
+{
+    let segments = segments_of(alloc, file)?;
+    let part = match string_part(segments.as_slice(), entries) {
+        Ok(part) => part,
+        Err(error) => return Err(error),
+    };
+    match file.segment_data(&part) {
+        Ok(bytes) => names_in(alloc, bytes, entries),
+        Err(error) => Err(NamesError::Read(error)),
+    }
+}
+
+/// Returns of a file in memory what `dynamic_names` returns of a stream, with the same errors in the same order.
+pub fn dynamic_names_of<E: EndianParse>(
+    alloc: Global,
+    file: &ElfBytes<'_, E>,
+) -> Result<Option<Names>, NamesError>
+    ensures { IsAnswered (option_map names_view) (names (object_file E.little (view file.now))) result }
+{
+    let entries = match file.dynamic() {
+        Ok(Some(table)) => entries_in(alloc, &table)?,
+        Ok(None) => return Ok(None),
+        Err(error) => return Err(NamesError::Read(error)),
+    };
+    match names_in_memory(alloc, file, entries.as_slice()) {
         Ok(names) => Ok(Some(names)),
         Err(error) => Err(error),
     }

@@ -57,7 +57,15 @@ pub fn tables<'data, E: EndianParse>(
 }
 
 /// Returns the first library that defines the name, counted from 0, with the index of its symbol and the symbol. A
-/// library in which the symbol is undefined is skipped, like one without the name.
+/// library in which the symbol is undefined is skipped, like one without the name. The tables are those that `tables`
+/// returns.
+///
+/// ```rust
+/// let tables = tables(rt.alloc(), &[file])?;
+/// if let Some((library, index, _)) = definition(tables.as_slice(), b"malloc") {
+///     println!(rt; "library {library}, symbol {index}")?;
+/// }
+/// ```
 pub fn definition<E: EndianParse>(
     tables: &[AnyChecked<'_, E>],
     name: &[u8],

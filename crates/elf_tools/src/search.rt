@@ -7,8 +7,10 @@
 ghost use Rattle.std.specs.Prelude.{◌≡◌, ◌++◌, ◌<◌, IfOk, OnOk, drop, length, map};
 ghost use Rattle.std.specs.List.{slice_split};
 ghost use Rattle.std.specs.Vec.{vec_items};
-ghost use Rattle.elf_tools.specs.Search.{all_rpath_folders, candidates, expanded, expanded_after, folders, folders_if};
-ghost use Rattle.elf_tools.specs.Search.{folders_in, is_name_byte, joined, object_view, others_view, path_view, program_folder, rpath_folders};
+ghost use Rattle.elf_tools.specs.Search.{all_rpath_folders, candidates, expansion, expansion_after, folders};
+ghost use Rattle.elf_tools.specs.Search.{folders_if};
+ghost use Rattle.elf_tools.specs.Search.{folders_in, is_name_byte, joined_path, object_view, others_view, path_view};
+ghost use Rattle.elf_tools.specs.Search.{program_folder, rpath_folders};
 ghost use Rattle.elf_tools.specs.Search.{separates, sequence_length};
 
 use std::alloc::{AllocError, Global};
@@ -85,8 +87,8 @@ fn expand_first(
     text: &mut Vec<u8>,
 ) -> Result<usize, AllocError>
     requires { 0 < length bytes.now }
-    ensures { IfOk result (λ left. text.old.items ++ expanded_after folder.now skip bytes.now
-        ≡ text.new.items ++ expanded_after folder.now left (drop 1 bytes.now)) }
+    ensures { IfOk result (λ left. text.old.items ++ expansion_after folder.now skip bytes.now
+        ≡ text.new.items ++ expansion_after folder.now left (drop 1 bytes.now)) }
 {
     if skip > 0 {
         return Ok(skip - 1);
@@ -102,8 +104,8 @@ fn expand_first(
 
 /// Returns the bytes with the folder in the place of each `$ORIGIN` and `${ORIGIN}`. The only error is a failed
 /// allocation.
-pub fn expanded(alloc: Global, folder: &[u8], bytes: &[u8]) -> Result<Vec<u8>, AllocError>
-    ensures { IfOk result (λ text. text.items ≡ expanded folder.now bytes.now) }
+pub fn expansion(alloc: Global, folder: &[u8], bytes: &[u8]) -> Result<Vec<u8>, AllocError>
+    ensures { IfOk result (λ text. text.items ≡ expansion folder.now bytes.now) }
 {
     let mut text = Vec::new(alloc);
     let mut skip = 0;
@@ -126,8 +128,8 @@ fn parts<'a>(
 }
 
 // A name in a folder.
-fn joined(alloc: Global, folder: &[u8], name: &[u8]) -> Result<Vec<u8>, AllocError>
-    ensures { IfOk result (λ path. path.items ≡ joined name.now folder.now) }
+pub(crate) fn joined_path(alloc: Global, folder: &[u8], name: &[u8]) -> Result<Vec<u8>, AllocError>
+    ensures { IfOk result (λ path. path.items ≡ joined_path name.now folder.now) }
 {
     let mut path = Vec::new(alloc);
     path.extend_from_slice(if folder.is_empty() { b"." } else { folder })?;
@@ -152,7 +154,7 @@ fn add_folders(
     }
     let parts = parts(alloc, separators, path)?;
     for part in &parts {
-        folders.push(expanded(alloc, folder, part)?)?;
+        folders.push(expansion(alloc, folder, part)?)?;
     }
     Ok(())
 }
@@ -262,11 +264,12 @@ pub fn folders(
 
 // The paths of a name in these folders.
 fn paths_in(alloc: Global, name: &[u8], folders: &[Vec<u8>]) -> Result<Vec<Vec<u8>>, AllocError>
-    ensures { IfOk result (λ paths. map vec_items paths.items ≡ map (joined name.now) (map vec_items folders.now)) }
+    ensures { IfOk result
+        (λ paths. map vec_items paths.items ≡ map (joined_path name.now) (map vec_items folders.now)) }
 {
     let mut paths = Vec::new(alloc);
     for folder in folders {
-        paths.push(joined(alloc, folder, name)?)?;
+        paths.push(joined_path(alloc, folder, name)?)?;
     }
     Ok(paths)
 }
@@ -285,7 +288,7 @@ pub fn candidates(
     ensures { IfOk result (λ paths. map vec_items paths.items
         ≡ candidates (object_view object.now) (map object_view loaders.now) (others_view surroundings.now) name.now) }
 {
-    let name = expanded(alloc, object.folder, name)?;
+    let name = expansion(alloc, object.folder, name)?;
     if name.contains(&b'/') {
         let mut paths = Vec::new(alloc);
         paths.push(name)?;

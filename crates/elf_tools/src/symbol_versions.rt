@@ -5,8 +5,9 @@ ghost use Rattle.elf_records.specs.Number.{ok_map};
 ghost use Rattle.elf_records.specs.Symbol.{symbol_reads};
 ghost use Rattle.elf_records.specs.Table.{table_items, table_view};
 ghost use Rattle.elf_parts.specs.gnu_symver.Table.{definition_view, names_left, requirement};
-ghost use Rattle.elf_tools.specs.SymbolVersions.{defined, defined_by_name, needed, symbol_view, version_in};
-ghost use Rattle.elf_tools.specs.SymbolVersions.{version_of_symbol, version_view, versioned_symbols};
+ghost use Rattle.elf_tools.specs.SymbolVersions.{definition_version, defined_by_name, need_version, symbol_view};
+ghost use Rattle.elf_tools.specs.SymbolVersions.{symbol_version_in};
+ghost use Rattle.elf_tools.specs.SymbolVersions.{symbol_version, symbol_version_view, versioned_symbols};
 
 use elf::abi;
 use elf::endian::EndianParse;
@@ -38,7 +39,7 @@ fn defined_by_name<'a, E: EndianParse>(
     hidden: bool,
     symbol: usize,
 ) -> Result<Option<SymbolVersion<'a>>, Unreadable>
-    ensures { ok_map (option_map version_view) result ≡ defined_by_name symbol hidden (names_left names.entry) }
+    ensures { ok_map (option_map symbol_version_view) result ≡ defined_by_name symbol hidden (names_left names.entry) }
 {
     match names.next() {
         Some(Ok(name)) => Ok(Some(SymbolVersion::Defined {
@@ -51,11 +52,12 @@ fn defined_by_name<'a, E: EndianParse>(
 }
 
 // The version of a definition. What is defined for the file itself is no version.
-fn defined<'a, E: EndianParse>(
+fn definition_version<'a, E: EndianParse>(
     definition: SymbolDefinition<'a, E>,
     symbol: usize,
 ) -> Result<Option<SymbolVersion<'a>>, Unreadable>
-    ensures { ok_map (option_map version_view) result ≡ defined symbol (definition_view definition.entry) }
+    ensures { ok_map (option_map symbol_version_view) result
+        ≡ definition_version symbol (definition_view definition.entry) }
 {
     if definition.flags & abi::VER_FLG_BASE != 0 {
         return Ok(None);
@@ -65,11 +67,12 @@ fn defined<'a, E: EndianParse>(
 
 // The version of another file that a symbol has.
 #[tactic(auto, using(crate::proofs::SymbolVersions::needed_given, crate::proofs::SymbolVersions::needed_none))]
-fn needed<'a, E: EndianParse, V: SymbolVersions<E>>(
+fn need_version<'a, E: EndianParse, V: SymbolVersions<E>>(
     versions: &'a V,
     symbol: usize,
 ) -> Result<Option<SymbolVersion<'a>>, Unreadable>
-    ensures { ok_map (option_map version_view) result ≡ needed symbol (requirement (V.versions versions.now) symbol) }
+    ensures { ok_map (option_map symbol_version_view) result
+        ≡ need_version symbol (requirement (V.versions versions.now) symbol) }
 {
     match versions.get_requirement(symbol) {
         Ok(Some(needed)) => Ok(Some(SymbolVersion::Needed {
@@ -87,11 +90,21 @@ fn needed<'a, E: EndianParse, V: SymbolVersions<E>>(
 ///
 /// The error is `Unreadable` if the version index or a name cannot be read (of a need also the name of its file), if
 /// the definition has no names, or if no definition and no need has the version index.
-pub fn version_of_symbol<'a, E: EndianParse, V: SymbolVersions<E>>(
+///
+/// ```rust
+/// if let Some(versions) = file.symbol_version_table()? {
+///     match symbol_version(&versions, 1)? {
+///         Some(SymbolVersion::Needed { file, name }) => println!(rt; "needs {name} of {file}")?,
+///         Some(SymbolVersion::Defined { name, .. }) => println!(rt; "is defined with {name}")?,
+///         None => println!(rt; "has no version")?,
+///     }
+/// }
+/// ```
+pub fn symbol_version<'a, E: EndianParse, V: SymbolVersions<E>>(
     versions: &'a V,
     symbol: usize,
 ) -> Result<Option<SymbolVersion<'a>>, Unreadable>
-    ensures { ok_map (option_map version_view) result ≡ version_of_symbol (V.versions versions.now) symbol }
+    ensures { ok_map (option_map symbol_version_view) result ≡ symbol_version (V.versions versions.now) symbol }
 {
     let index = match versions.get_index(symbol) {
         Ok(index) => index.index(),
@@ -101,22 +114,22 @@ pub fn version_of_symbol<'a, E: EndianParse, V: SymbolVersions<E>>(
         return Ok(None);
     }
     match versions.get_definition(symbol) {
-        Ok(Some(definition)) => defined(definition, symbol),
-        Ok(None) => needed(versions, symbol),
+        Ok(Some(definition)) => definition_version(definition, symbol),
+        Ok(None) => need_version(versions, symbol),
         Err(_) => Err(Unreadable { symbol }),
     }
 }
 
 // The version of a symbol of a file that may have no versions.
-fn version_in<'a, E: EndianParse, V: SymbolVersions<E>>(
+fn symbol_version_in<'a, E: EndianParse, V: SymbolVersions<E>>(
     versions: Option<&'a V>,
     symbol: usize,
 ) -> Result<Option<SymbolVersion<'a>>, Unreadable>
-    ensures { ok_map (option_map version_view) result
-        ≡ version_in (option_map (λ table. V.versions table.now) versions.entry) symbol }
+    ensures { ok_map (option_map symbol_version_view) result
+        ≡ symbol_version_in (option_map (λ table. V.versions table.now) versions.entry) symbol }
 {
     match versions {
-        Some(versions) => version_of_symbol(versions, symbol),
+        Some(versions) => symbol_version(versions, symbol),
         None => Ok(None),
     }
 }
@@ -135,7 +148,7 @@ pub fn versioned_symbols<'a, E: EndianParse, V: SymbolVersions<E>>(
 {
     let mut all = Vec::new(alloc);
     for symbol in symbols.iter() {
-        let version = version_in(versions, all.len());
+        let version = symbol_version_in(versions, all.len());
         all.push(VersionedSymbol { symbol, version })?;
     }
     Ok(all)

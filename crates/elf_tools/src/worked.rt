@@ -4,18 +4,18 @@ ghost use Rattle.elf_binding.specs.Binding.{unreadable};
 ghost use Rattle.elf_tools.specs.Addresses.{has_address, located_symbols, nearest};
 ghost use Rattle.elf_tools.specs.Known.{by_address, found, no_others, others, program, symbol_at, with_both, with_rpath};
 ghost use Rattle.elf_tools.specs.Known.{located_at, own_version, version_of_f, versions, without_paths};
-ghost use Rattle.elf_tools.specs.Search.{candidates, expanded, folders_in};
-ghost use Rattle.elf_tools.specs.SymbolVersions.{version_in, version_of_symbol};
+ghost use Rattle.elf_tools.specs.Search.{candidates, expansion, folders_in};
+ghost use Rattle.elf_tools.specs.SymbolVersions.{symbol_version_in, symbol_version};
 ghost use Rattle.elf_tools.specs.declared.search.Separators.TheVariants.{Colons, ColonsAndSemicolons};
 
 /// `$ORIGIN` and `${ORIGIN}` are replaced wherever they occur. A longer name, an open brace and other sequences stay.
 pub fn sequences()
-    ensures front { expanded (codes "/o") (codes "$ORIGIN/../lib") ≡ codes "/o/../lib" }
-    ensures braces { expanded (codes "/o") (codes "a${ORIGIN}b") ≡ codes "a/ob" }
-    ensures twice { expanded (codes "/o") (codes "$ORIGIN$ORIGIN") ≡ codes "/o/o" }
-    ensures longer { expanded (codes "/o") (codes "$ORIGINAL") ≡ codes "$ORIGINAL" }
-    ensures open { expanded (codes "/o") (codes "${ORIGIN") ≡ codes "${ORIGIN" }
-    ensures other { expanded (codes "/o") (codes "/$LIB") ≡ codes "/$LIB" }
+    ensures front { expansion (codes "/o") (codes "$ORIGIN/../lib") ≡ codes "/o/../lib" }
+    ensures braces { expansion (codes "/o") (codes "a${ORIGIN}b") ≡ codes "a/ob" }
+    ensures twice { expansion (codes "/o") (codes "$ORIGIN$ORIGIN") ≡ codes "/o/o" }
+    ensures longer { expansion (codes "/o") (codes "$ORIGINAL") ≡ codes "$ORIGINAL" }
+    ensures open { expansion (codes "/o") (codes "${ORIGIN") ≡ codes "${ORIGIN" }
+    ensures other { expansion (codes "/o") (codes "/$LIB") ≡ codes "/$LIB" }
 {}
 
 /// A path may have empty folders. An empty path has none.
@@ -75,15 +75,15 @@ pub fn nearest_symbols()
 /// The version indexes 0 and 1 are no version, and neither is the one of the file itself. An index that nothing has, a
 /// symbol without an index, and a name that cannot be read are errors.
 pub fn versions_of_symbols()
-    ensures local { version_of_symbol versions 0 ≡ Ok None }
-    ensures global { version_of_symbol versions 1 ≡ Ok None }
-    ensures default { version_of_symbol versions 2 ≡ own_version true }
-    ensures hidden { version_of_symbol versions 3 ≡ own_version false }
-    ensures needed { version_of_symbol versions 4 ≡ version_of_f }
-    ensures own { version_of_symbol versions 5 ≡ Ok None }
-    ensures no_name { version_of_symbol versions 6 ≡ Err (unreadable 6) }
-    ensures nothing { version_of_symbol versions 7 ≡ Err (unreadable 7) }
-    ensures no_index { version_of_symbol versions 8 ≡ Err (unreadable 8) }
-    ensures no_versions { version_in None 2 ≡ Ok None }
-    ensures some_versions { version_in (Some versions) 2 ≡ own_version true }
+    ensures local { symbol_version versions 0 ≡ Ok None }
+    ensures global { symbol_version versions 1 ≡ Ok None }
+    ensures default { symbol_version versions 2 ≡ own_version true }
+    ensures hidden { symbol_version versions 3 ≡ own_version false }
+    ensures needed { symbol_version versions 4 ≡ version_of_f }
+    ensures own { symbol_version versions 5 ≡ Ok None }
+    ensures no_name { symbol_version versions 6 ≡ Err (unreadable 6) }
+    ensures nothing { symbol_version versions 7 ≡ Err (unreadable 7) }
+    ensures no_index { symbol_version versions 8 ≡ Err (unreadable 8) }
+    ensures no_versions { symbol_version_in None 2 ≡ Ok None }
+    ensures some_versions { symbol_version_in (Some versions) 2 ≡ own_version true }
 {}

@@ -16,7 +16,7 @@ use Rattle.elf_parts.specs.declared.gnu_symver.records.VerNeed.{VerNeed}
 use Rattle.elf_parts.specs.declared.gnu_symver.records.VerNeedAux.{VerNeedAux}
 use Rattle.elf_parts.specs.declared.gnu_symver.records.VersionIndex.{VersionIndex}
 use Rattle.elf_parts.specs.declared.gnu_symver.table.SymbolRequirement.{SymbolRequirement}
-use Rattle.elf_whole.specs.versions.Indexes.{DefinedVersion, GlobalVersion, LocalVersion, RequiredVersion, SoundVersionTable, TextDefinition, TextDefinitions, TextNeeds, Version, defined_with, required_with, version_with_index}
+use Rattle.elf_whole.specs.versions.Indexes.{DefinedVersion, GlobalVersion, LocalVersion, RequiredVersion, SoundVersionTable, TextDefinition, TextDefinitions, TextNeeds, CheckedVersion, defined_with, required_with, version_with_index}
 use Rattle.elf_whole.specs.versions.Records.{IsText, IsTextAt}
 use Rattle.elf_records.proofs.Items.{lies}
 use Rattle.elf_records.proofs.Places.{item_at-below}

@@ -10,17 +10,7 @@ use Rattle.elf.specs.Headers.{first_segment_of}
 use Rattle.elf.specs.ObjectFile.{ObjectFile}
 use Rattle.elf_whole.specs.SegmentsBytes.{AllRead}
 use Rattle.elf_whole.specs.Segments.{SoundSegment, SoundSegments}
-
--- ---- what is found is a member of the list, and passes the test
-
-found_step : {A : Type 0} (p : A → Bool) (y : A) (xs : List A) (x : A) (b : Bool) → p y ≡ b → (find p xs ≡ Some x → (p x ≡ true) × ((i : ℕ) × (slice_get xs i ≡ Some x))) → (if b then Some y else find p xs) ≡ Some x → (p x ≡ true) × ((i : ℕ) × (slice_get (y ∷ xs) i ≡ Some x))
-found_step {A = A} p y xs x true test later e =
-    let same : y ≡ x = cc in (subst (λ (z : A). p z ≡ true) same test, (0, e))
-found_step p y xs x false test later e = let r = later e in (r.0, (suc r.1.0, r.1.1))
-
-found_at : {A : Type 0} (p : A → Bool) (xs : List A) (x : A) → find p xs ≡ Some x → (p x ≡ true) × ((i : ℕ) × (slice_get xs i ≡ Some x))
-found_at p [] x e = cc
-found_at p (y ∷ xs) x e = found_step p y xs x (p y) refl (found_at p xs x) e
+use Rattle.elf_whole.proofs.Firsts.{found_at}
 
 pub member_sound : (file : ObjectFile) (i : ℕ) (p : ProgramHeader) → slice_get file.segments i ≡ Some p → SoundSegments file → SoundSegment file p
 member_sound file i p e sound = sound.each i p (slice_get_within file.segments i p e) e

@@ -35,7 +35,7 @@ if_and : {A : Type 0} (P : A → Type 0) (o : Option A) → IfSome o P → IsSom
 if_and P (Some x) p not = not p
 if_and P None p not = not
 
-not_both : (b : Bool) → b ≡ true → b ≡ false → ⊥
+pub not_both : (b : Bool) → b ≡ true → b ≡ false → ⊥
 not_both b t f = cc
 
 -- ---- a segment
@@ -56,7 +56,7 @@ large_load : (file : ObjectFile) (p : ProgramHeader) → SoundSegment file p →
 large_load file p sound (inl load) more = let fits = (sound.load load).0 in absurd (omega (arith, fits, more))
 large_load file p sound (inr tls) more = let fits = sound.tls tls in absurd (omega (arith, fits, more))
 
-true_segment : (file : ObjectFile) (p : ProgramHeader) (fault : SegmentFault) → IsTrueOfSegment file p fault → SoundSegment file p → ⊥
+pub true_segment : (file : ObjectFile) (p : ProgramHeader) (fault : SegmentFault) → IsTrueOfSegment file p fault → SoundSegment file p → ⊥
 true_segment file p NoBytes t sound = ok_not_err (segment_bytes file p) sound.bytes t
 true_segment file p FileSize t sound = large_load file p sound t.1 t.2
 true_segment file p PastAddresses t sound =
@@ -72,7 +72,7 @@ true_segment file p OtherSection t sound = true_dynamic file p OtherSection t.1 
 
 -- ---- the segments of a file
 
-true_pair : (earlier later : ℕ) (segments : List ProgramHeader) (first index : ℕ) → IsFirstPair earlier later segments first index → NoneFollows earlier later segments → ⊥
+pub true_pair : (earlier later : ℕ) (segments : List ProgramHeader) (first index : ℕ) → IsFirstPair earlier later segments first index → NoneFollows earlier later segments → ⊥
 true_pair earlier later segments first index pair none =
     value_and (λ p. p.p_type ≡ earlier) (slice_get segments first) pair.earlier_one.here (λ p e t.
     value_and (λ q. q.p_type ≡ later) (slice_get segments index) pair.later_one.here (λ q d u.
@@ -87,7 +87,7 @@ true_types segments (PhdrAfterLoad first index) t sound = true_pair pt_load pt_p
 true_types segments (Segment index p_type fault) t sound = t
 true_types segments (OverlappingLoad first index) t sound = t
 
-true_overlap : (segments : List ProgramHeader) (first index : ℕ) → IsFirstOverlap segments first index → LoadsRise segments → ⊥
+pub true_overlap : (segments : List ProgramHeader) (first index : ℕ) → IsFirstOverlap segments first index → LoadsRise segments → ⊥
 true_overlap segments first index overlap rise =
     value_and (λ p. (p.p_type ≡ pt_load) × IsSomeAnd (slice_get segments index) (λ q. (q.p_type ≡ pt_load) × (q.p_vaddr < memory_end p))) (slice_get segments first) overlap.here (λ p e t.
     value_and (λ q. (q.p_type ≡ pt_load) × (q.p_vaddr < memory_end p)) (slice_get segments index) t.1 (λ q d u.

@@ -1,7 +1,7 @@
 -- Members of tables that are checked in order.
 use Rattle.std.proofs.Common.{◌≡◌, ◌↔◌, ℕ, ◌+◌, ◌<◌, ◌≤◌, ◌^◌, length, Some, Result, Ok, Err, refl, sym, subst, inl, inr, arith}
 use Rattle.std.proofs.lemmas.Bool.{cases_lt}
-use Rattle.std.specs.Result.{IsOk, IsOkAnd, result_ok}
+use Rattle.std.specs.Result.{IfOk, IsOk, IsOkAnd, result_ok}
 use Rattle.elf_records.specs.Number.{ok_map}
 use Rattle.elf_records.specs.Record.{ReadsWherever, RecordType}
 use Rattle.elf_records.specs.Section.{section_header_layout, section_header_reads}
@@ -15,12 +15,15 @@ use Rattle.elf_records.specs.Table.{Table, table_get, table_len}
 use Rattle.elf_whole.specs.Members.{IsFirstFault}
 use Rattle.elf_whole.specs.Members.{AllSound, SoundBelow}
 
-is_ok_from : {A E : Type 0} (r : Result A E) (x : A) → r ≡ Ok x → IsOk r
+pub is_ok_from : {A E : Type 0} (r : Result A E) (x : A) → r ≡ Ok x → IsOk r
 is_ok_from (Ok y) x e = refl
 is_ok_from r x e = cc
 
 pub ok_and : {A E : Type 0} (P : A → Type 0) (r : Result A E) (x : A) → r ≡ Ok x → P x → IsOkAnd r P
 ok_and {A = A} {E = E} P r x e p = subst (λ (q : Result A E). IsOkAnd q P) (sym e) p
+
+pub ok_if : {A E : Type 0} (P : A → Type 0) (r : Result A E) (x : A) → r ≡ Ok x → P x → IfOk r P
+ok_if {A = A} {E = E} P r x e p = subst (λ (q : Result A E). IfOk q P) (sym e) p
 
 pub ok_from_some : {A E : Type 0} (r : Result A E) (x : A) → result_ok r ≡ Some x → r ≡ Ok x
 ok_from_some (Ok y) x e = cc

@@ -1,5 +1,5 @@
 -- A fault that is true of a file means that the file is not sound.
-use Rattle.std.proofs.Common.{◌≡◌, ◌≢◌, ℕ, ◌%◌, ◌<◌, ◌≤◌, List, length, Option, Some, None, Result, Ok, Err, MatchOption, IsTrue, refl, ap, ◌∙◌, subst, inl, inr, arith}
+use Rattle.std.proofs.Common.{◌≡◌, ◌≢◌, ℕ, ◌%◌, ◌<◌, List, length, Option, Some, None, Result, Ok, Err, MatchOption, IsTrue, refl, ap, ◌∙◌, subst, inl, inr, arith}
 use Rattle.std.specs.Option.{IsSomeAnd}
 use Rattle.std.specs.Result.{IsErr, IsOk, IsOkAnd, result_ok}
 use Rattle.elf_abi.specs.Values.{sht_strtab}
@@ -13,7 +13,7 @@ use Rattle.elf_records.specs.declared.parse.ParseError.{ParseError}
 use Rattle.elf_records.specs.declared.section.SectionHeader.{SectionHeader}
 use Rattle.elf_records.specs.declared.symbol.Symbol.{Symbol}
 use Rattle.elf_parts.specs.Hash.{symbol_at}
-use Rattle.elf_check.specs.Object.{IsSound, IsTrueOf as IsTrueOfObject}
+use Rattle.elf_check.specs.Object.{IsSound, IsTrueOfObject}
 use Rattle.elf_check.specs.declared.hashcheck.any.HashKind.{HashKind}
 use Rattle.elf_check.specs.declared.hashcheck.any.HashKind.TheVariants.{Gnu, Sysv}
 use Rattle.elf.specs.Answers.{symbols_in, symbols_of, with_linked}
@@ -22,14 +22,14 @@ use Rattle.elf.specs.Names.{name_table}
 use Rattle.elf.specs.ObjectFile.{ObjectFile, table_of}
 use Rattle.elf.specs.Versions.{linked_strings}
 use Rattle.elf_whole.specs.Dynamic.{IsTrueOfDynamic, IsTrueOfEntries, SoundDynamic, SoundEntries, before_null, has_its_string}
-use Rattle.elf_whole.specs.Faults.{IsTrueOf}
+use Rattle.elf_whole.specs.Faults.{IsTrueOfFile}
 use Rattle.elf_whole.specs.Hashes.{IsTrueOfHash, SoundHash, hash_object}
 use Rattle.elf_whole.specs.Members.{AllSound, IsFirstFault}
 use Rattle.elf_whole.specs.Notes.{IsNoNote, NotesFill}
 use Rattle.elf_whole.specs.Relocations.{IsTrueOfRelocations, IsTrueOfTable, NamesNone, SoundRelocationTable, SoundRelocations, symbols_to_name}
 use Rattle.elf_whole.specs.Sections.{IsPlain, IsTrueOfContent, IsTrueOfSection, SoundContent, SoundSection, section_name}
 use Rattle.elf_whole.specs.Sound.{SoundFile}
-use Rattle.elf_whole.specs.Strings.{EndsInNul}
+use Rattle.elf_whole.specs.Strings.{IsEmptyOrEndsWithNul}
 use Rattle.elf_whole.specs.Symbols.{IsTrueOfSymbol, IsTrueOfSymbols, SoundSymbol, SoundSymbolTable, SoundSymbols, holds_symbols, shn_loreserve}
 use Rattle.elf_whole.specs.declared.faults.DynamicFault.{DynamicFault}
 use Rattle.elf_whole.specs.declared.faults.DynamicFault.TheVariants.{NoNull, NoString, NoStrings, PartOfEntry}
@@ -53,7 +53,7 @@ use Rattle.elf_whole.proofs.VersionFaults.{true_versions}
 
 -- ---- results
 
-ok_not_err : {A E : Type 0} (r : Result A E) → IsOk r → IsErr r → ⊥
+pub ok_not_err : {A E : Type 0} (r : Result A E) → IsOk r → IsErr r → ⊥
 ok_not_err (Ok x) ok err = cc
 ok_not_err (Err e) ok err = cc
 
@@ -69,7 +69,7 @@ value_and : {A E : Type 0} (P : A → Type 0) (r : Result A E) → IsOkAnd r P �
 value_and P (Ok x) p none = none x refl p
 value_and P (Err e) p none = p
 
-weaker : {A E : Type 0} (P Q : A → Type 0) (r : Result A E) → ((x : A) → P x → Q x) → IsOkAnd r P → IsOkAnd r Q
+pub weaker : {A E : Type 0} (P Q : A → Type 0) (r : Result A E) → ((x : A) → P x → Q x) → IsOkAnd r P → IsOkAnd r Q
 weaker P Q (Ok x) f p = f x p
 weaker P Q (Err e) f p = p
 
@@ -184,9 +184,9 @@ true_symbols file s (At i fault) t sound =
     both_and (λ (f : Table × List ℕ). SoundSymbolTable n f.0 f.1) (λ found. IsFirstFault (symbol_at found.0) (SoundSymbol n found.1) (IsTrueOfSymbol n found.1) i fault) (symbols_of file s) sound.symbols t
     (λ found e all first. no_first (symbol_at found.0) (SoundSymbol n found.1) (IsTrueOfSymbol n found.1) i fault (λ x. true_symbol n found.1 x fault) first all)
 
-true_content : (file : ObjectFile) (s : SectionHeader) (fault : SectionFault) → IsTrueOfContent file s fault → SoundContent file s → ⊥
+pub true_content : (file : ObjectFile) (s : SectionHeader) (fault : SectionFault) → IsTrueOfContent file s fault → SoundContent file s → ⊥
 true_content file s NoLastNul t sound =
-    both_and EndsInNul (λ bytes. ¬ EndsInNul bytes) (content file s) (sound.strings t.0) t.1 (λ bytes e ends not. not ends)
+    both_and IsEmptyOrEndsWithNul (λ bytes. ¬ IsEmptyOrEndsWithNul bytes) (content file s) (sound.strings t.0) t.1 (λ bytes e ends not. not ends)
 true_content file s (Symbols fault) t sound = true_symbols file s fault t.1 (sound.symbols t.0)
 true_content file s (Relocations fault) (inl t) sound =
     true_relocations rel_reads (λ r. r.r_sym) file s fault t.1 (sound.rels t.0)
@@ -202,7 +202,7 @@ true_content file s NoSectionName t sound = t
 true_content file s NoBytes t sound = t
 true_content file s Compressed t sound = t
 
-true_section : (file : ObjectFile) (s : SectionHeader) (fault : SectionFault) → IsTrueOfSection file s fault → SoundSection file s → ⊥
+pub true_section : (file : ObjectFile) (s : SectionHeader) (fault : SectionFault) → IsTrueOfSection file s fault → SoundSection file s → ⊥
 true_section file s NoSectionName t sound = ok_not_err (section_name file s) sound.name t
 true_section file s NoBytes t sound = ok_not_err (section_data file s) sound.bytes t.1
 true_section file s Compressed t sound = t.2 sound.plain
@@ -213,7 +213,7 @@ true_section file s (Hash fault) t sound = true_content file s (Hash fault) t.co
 true_section file s (Dynamic fault) t sound = true_content file s (Dynamic fault) t.content sound.content
 true_section file s (NoNote offset) t sound = true_content file s (NoNote offset) t.content sound.content
 
-pub true_fault : (file : ObjectFile) (fault : FileFault) → IsTrueOf file fault → SoundFile file → ⊥
+pub true_fault : (file : ObjectFile) (fault : FileFault) → IsTrueOfFile file fault → SoundFile file → ⊥
 true_fault file NoNames t sound = ok_not_err (name_table file) sound.names t
 true_fault file (Repeated sh_type) t sound =
     let none = sound.single in

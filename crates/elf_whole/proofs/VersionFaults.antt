@@ -1,32 +1,27 @@
 -- A fault of versions that is true means that the versions are not sound; and what is read of versions that are.
-use Rattle.std.proofs.Common.{◌≡◌, ◌≢◌, ◌↔◌, ℕ, ◌<◌, ◌%◌, ◌^◌, List, length, map, Option, Some, None, Result, Ok, Err, MatchOption, IsTrue, refl, ap, sym, ◌∙◌, subst, arith}
-use Rattle.std.specs.List.{AllByRecursion, slice_get}
+use Rattle.std.proofs.Common.{◌≡◌, ◌≢◌, ◌↔◌, ℕ, ◌<◌, ◌%◌, ◌^◌, length, Option, Some, None, Result, Ok, Err, MatchOption, refl, ap, sym, ◌∙◌, subst, arith}
 use Rattle.std.specs.Option.{IfSome, IsSome, IsSomeAnd}
 use Rattle.std.specs.Result.{IsErr, IsOk, IsOkAnd}
 use Rattle.elf_records.specs.Number.{ok_map}
-use Rattle.elf_records.specs.Record.{◌>>=◌}
 use Rattle.elf_records.specs.Symbol.{symbol_reads}
-use Rattle.elf_records.specs.inner.RecordLaws.{bind-ok, ok_map-ok, wherever_by}
+use Rattle.elf_records.specs.inner.RecordLaws.{ok_map-ok, wherever_by}
 use Rattle.elf_records.specs.declared.parse.ParseError.{ParseError}
 use Rattle.elf_records.specs.declared.section.SectionHeader.{SectionHeader}
 use Rattle.elf_records.specs.Table.{Table, table_get, table_len}
-use Rattle.elf_parts.specs.gnu_symver.Lists.{ver_def_with_aux, ver_defs, ver_need_with_aux, ver_needs}
 use Rattle.elf_parts.specs.gnu_symver.Records.{version_index_layout, version_index_reads}
-use Rattle.elf_parts.specs.gnu_symver.Table.{Definitions, Needs, Versions, index_of}
+use Rattle.elf_parts.specs.gnu_symver.Table.{Versions, index_of}
 use Rattle.elf_parts.specs.declared.gnu_symver.records.VersionIndex.{VersionIndex}
-use Rattle.elf_whole.specs.Chains.{IsTrueOfChain, SoundChain, total_extent}
-use Rattle.elf_whole.specs.versions.Indexes.{IsFirstUnknown, SoundIndexes, SoundVersionTable, TextDefinitions, TextNeeds, symbol_version, version_with_index}
+use Rattle.elf_whole.specs.Chains.{IsTrueOfChain, total_extent}
+use Rattle.elf_whole.specs.versions.Indexes.{SoundIndexes, version_with_index}
 use Rattle.elf_whole.specs.versions.Records.{SoundDef, SoundDefs, SoundNeed, SoundNeeds, def_extent, def_links, need_extent, need_links}
-use Rattle.elf_whole.specs.declared.faults.ChainFault.{ChainFault}
 use Rattle.elf_whole.proofs.ChainSteps.{true_chain}
-use Rattle.elf_whole.proofs.Texts.{text_definitions, text_needs}
 use Rattle.elf.specs.Answers.{dynamic_symbol_table, symbol_version_table}
-use Rattle.elf.specs.Headers.{if_found, section_range}
+use Rattle.elf.specs.Headers.{if_found}
 use Rattle.elf.specs.ObjectFile.{ObjectFile, table_of}
-use Rattle.elf.specs.Versions.{linked_strings, version_definitions, version_indexes, version_needs, versions_of}
+use Rattle.elf.specs.Versions.{versions_of}
 use Rattle.elf_reading.specs.Versions.{version_sections}
 use Rattle.elf_reading.specs.declared.versions.VersionSections.{VersionSections}
-use Rattle.elf_whole.specs.versions.InFile.{AreAsMany, IsTrueOfDefs, IsTrueOfVersions, IsTrueOfIndexes, IsTrueOfNeeds, IsTrueOfVersionsOf, SoundDefsOf, SoundIndexesOf, SoundNeedsOf, SoundVersions, SoundVersionsOf, with_strings}
+use Rattle.elf_whole.specs.versions.InFile.{IsTrueOfDefs, IsTrueOfVersions, IsTrueOfIndexSection, IsTrueOfIndexes, IsTrueOfNeeds, IsTrueOfVersionsOf, KnowsVersions, SoundDefsOf, SoundIndexSection, SoundIndexesOf, SoundNeedsOf, SoundVersions, SoundVersionsOf, with_strings}
 use Rattle.elf_whole.specs.declared.faults.VersionsFault.{VersionsFault}
 use Rattle.elf_whole.specs.declared.faults.VersionsFault.TheVariants.{CountOfIndexes, DefinitionsTooLong, DefinitionsUnreadable, FaultyDefinitions, FaultyNeeds}
 use Rattle.elf_whole.specs.declared.faults.VersionsFault.TheVariants.{IndexesUnreadable, NeedsTooLong, NeedsUnreadable, NoDynamicSymbols, PartOfIndex, UnknownIndex}
@@ -65,17 +60,33 @@ all_parts file chosen s v (Some (FaultyDefinitions f)) needs defs whole e h = ab
 all_parts file chosen s v (Some PartOfIndex) needs defs whole e h = absurd h
 all_parts file chosen s v (Some IndexesUnreadable) needs defs whole e h = absurd h
 
+-- the same of the section of indexes alone
+pub index_section : (file : ObjectFile) (chosen : VersionSections) (s : SectionHeader) (v : Versions) (r : Option VersionsFault) → KnowsVersions file chosen → s.sh_size % version_index_reads.size file.class ≡ 0 → versions_of file chosen s ≡ Ok v → MatchOption r (SoundIndexesOf file v) (IsTrueOfIndexes file v) → MatchOption r (SoundIndexSection file chosen s) (IsTrueOfIndexSection file chosen s)
+index_section file chosen s v None known whole e h =
+    record { whole = whole; indexes = λ k. ok_and (SoundIndexesOf file) (versions_of file chosen s) v e h }
+index_section file chosen s v (Some NoDynamicSymbols) known whole e h = (whole, known, ok_and (λ x. IsTrueOfIndexes file x NoDynamicSymbols) (versions_of file chosen s) v e h)
+index_section file chosen s v (Some CountOfIndexes) known whole e h = (whole, known, ok_and (λ x. IsTrueOfIndexes file x CountOfIndexes) (versions_of file chosen s) v e h)
+index_section file chosen s v (Some (UnknownIndex i)) known whole e h = (whole, known, ok_and (λ x. IsTrueOfIndexes file x (UnknownIndex i)) (versions_of file chosen s) v e h)
+index_section file chosen s v (Some NeedsUnreadable) known whole e h = absurd h
+index_section file chosen s v (Some NeedsTooLong) known whole e h = absurd h
+index_section file chosen s v (Some DefinitionsTooLong) known whole e h = absurd h
+index_section file chosen s v (Some (FaultyNeeds f)) known whole e h = absurd h
+index_section file chosen s v (Some DefinitionsUnreadable) known whole e h = absurd h
+index_section file chosen s v (Some (FaultyDefinitions f)) known whole e h = absurd h
+index_section file chosen s v (Some PartOfIndex) known whole e h = absurd h
+index_section file chosen s v (Some IndexesUnreadable) known whole e h = absurd h
+
 -- ---- a true fault
 
-and_not_err : {A E : Type 0} (P : A → Type 0) (r : Result A E) → IsOkAnd r P → IsErr r → ⊥
+pub and_not_err : {A E : Type 0} (P : A → Type 0) (r : Result A E) → IsOkAnd r P → IsErr r → ⊥
 and_not_err P (Ok x) ok err = cc
 and_not_err P (Err e) ok err = ok
 
-both_and : {A E : Type 0} (P Q : A → Type 0) (r : Result A E) → IsOkAnd r P → IsOkAnd r Q → ((x : A) → P x → Q x → ⊥) → ⊥
+pub both_and : {A E : Type 0} (P Q : A → Type 0) (r : Result A E) → IsOkAnd r P → IsOkAnd r Q → ((x : A) → P x → Q x → ⊥) → ⊥
 both_and P Q (Ok x) p q none = none x p q
 both_and P Q (Err e) p q none = p
 
-both_some : {A : Type 0} (P Q : A → Type 0) (o : Option A) → IfSome o P → IsSomeAnd o Q → ((x : A) → P x → Q x → ⊥) → ⊥
+pub both_some : {A : Type 0} (P Q : A → Type 0) (o : Option A) → IfSome o P → IsSomeAnd o Q → ((x : A) → P x → Q x → ⊥) → ⊥
 both_some P Q (Some x) p q none = none x p q
 both_some P Q None p q none = q
 
@@ -88,7 +99,7 @@ not_some P (Ok (Some x)) h = refl
 not_some P (Ok None) h = absurd h
 not_some P (Err e) h = h
 
-true_needs : (file : ObjectFile) (s : SectionHeader) (fault : VersionsFault) → SoundNeedsOf file s → IsTrueOfNeeds file s fault → ⊥
+pub true_needs : (file : ObjectFile) (s : SectionHeader) (fault : VersionsFault) → SoundNeedsOf file s → IsTrueOfNeeds file s fault → ⊥
 true_needs file s NeedsUnreadable sound t = and_not_err _ (with_strings file s) sound t
 true_needs file s (FaultyNeeds fault) sound t =
     both_and (λ found. SoundNeeds found.1 (table_of file found.0) s.sh_info) (λ found. IsTrueOfChain (λ x. x.vn_next) (SoundNeed found.1 (table_of file found.0)) s.sh_info (need_links (table_of file found.0) s.sh_info) fault) (with_strings file s) sound t
@@ -105,7 +116,7 @@ true_needs file s NoDynamicSymbols sound t = t
 true_needs file s CountOfIndexes sound t = t
 true_needs file s (UnknownIndex i) sound t = t
 
-true_defs : (file : ObjectFile) (s : SectionHeader) (fault : VersionsFault) → SoundDefsOf file s → IsTrueOfDefs file s fault → ⊥
+pub true_defs : (file : ObjectFile) (s : SectionHeader) (fault : VersionsFault) → SoundDefsOf file s → IsTrueOfDefs file s fault → ⊥
 true_defs file s DefinitionsUnreadable sound t = and_not_err _ (with_strings file s) sound t
 true_defs file s DefinitionsTooLong sound t =
     both_and (λ found. SoundDefs found.1 (table_of file found.0) s.sh_info) (λ found. length found.0 < total_extent def_extent (def_links (table_of file found.0) s.sh_info)) (with_strings file s) sound t
@@ -126,7 +137,7 @@ known_here : (v : Versions) (i : ℕ) (r : Result VersionIndex ParseError) → i
 known_here v i (Ok version) e known none = let k = known i version e in cc (k, none)
 known_here v i (Err d) e known none = cc none
 
-true_indexes : (file : ObjectFile) (v : Versions) (fault : VersionsFault) → SoundIndexesOf file v → IsTrueOfIndexes file v fault → ⊥
+pub true_indexes : (file : ObjectFile) (v : Versions) (fault : VersionsFault) → SoundIndexesOf file v → IsTrueOfIndexes file v fault → ⊥
 true_indexes file v NoDynamicSymbols sound t = t (not_some _ (dynamic_symbol_table file) sound.many)
 true_indexes file v CountOfIndexes sound t =
     both_and (λ found. IsSomeAnd found (λ symbols. table_len symbol_reads symbols.0 ≡ table_len version_index_reads v.indexes)) (λ found. IsSomeAnd found (λ symbols. table_len symbol_reads symbols.0 ≢ table_len version_index_reads v.indexes)) (dynamic_symbol_table file) sound.many t

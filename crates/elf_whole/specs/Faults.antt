@@ -10,15 +10,15 @@ use Rattle.elf_whole.specs.SegmentsFaults.{IsTrueOfSegments}
 use Rattle.elf_whole.specs.declared.faults.FileFault.{FileFault}
 use Rattle.elf_whole.specs.declared.faults.FileFault.TheVariants.{NoNames, Repeated, Section, Segments, Versions}
 
-abbrev pub IsTrueOf : ObjectFile → FileFault → Type 0
-IsTrueOf file NoNames = IsErr (name_table file)
-IsTrueOf file (Repeated sh_type) = IsOk (name_table file) × (repeated_type file ≡ Some sh_type)
-IsTrueOf file (Section index fault) =
+abbrev pub IsTrueOfFile : ObjectFile → FileFault → Type 0
+IsTrueOfFile file NoNames = IsErr (name_table file)
+IsTrueOfFile file (Repeated sh_type) = IsOk (name_table file) × (repeated_type file ≡ Some sh_type)
+IsTrueOfFile file (Section index fault) =
     IsOk (name_table file) × (repeated_type file ≡ None)
     × IsFirstFault file.section_at (SoundSection file) (IsTrueOfSection file) index fault
-IsTrueOf file (Versions fault) =
+IsTrueOfFile file (Versions fault) =
     IsOk (name_table file) × (repeated_type file ≡ None) × AllSound file.section_at (SoundSection file)
     × IsTrueOfVersions file fault
-IsTrueOf file (Segments fault) =
+IsTrueOfFile file (Segments fault) =
     IsOk (name_table file) × (repeated_type file ≡ None) × AllSound file.section_at (SoundSection file)
     × SoundVersions file × IsTrueOfSegments file fault

@@ -1,13 +1,17 @@
 -- When a hash section is sound (gABI, chapter "Hash Table"; GNU hash sections), and what its faults say.
-use Rattle.std.specs.Prelude.{◌≡◌, List, Result, IsErr, IsTrue}
+use Rattle.std.specs.Prelude.{◌≡◌, ◌==◌, if◌then◌else◌, Option, Some, None, Result, Ok, IsErr, IsTrue}
+use Rattle.std.specs.Option.{IsSomeAnd, option_or}
 use Rattle.std.specs.Result.{IsOkAnd}
+use Rattle.elf_abi.specs.Values.{sht_gnu_hash, sht_hash}
 use Rattle.elf_records.specs.Record.{◌>>=◌}
 use Rattle.elf_records.specs.declared.parse.ParseError.{ParseError}
 use Rattle.elf_records.specs.declared.section.SectionHeader.{SectionHeader}
-use Rattle.elf_check.specs.Object.{IsSound, IsTrueOf as IsTrueOfObject, Object, object_in}
+use Rattle.elf_check.specs.Object.{IsSound, IsTrueOfObject, Object, object_in}
 use Rattle.elf_check.specs.declared.hashcheck.any.HashKind.{HashKind}
+use Rattle.elf_check.specs.declared.hashcheck.any.HashKind.TheVariants.{Gnu, Sysv}
 use Rattle.elf.specs.Answers.{symbols_of}
 use Rattle.elf.specs.Data.{content}
+use Rattle.elf.specs.Headers.{first_section_of}
 use Rattle.elf.specs.ObjectFile.{ObjectFile}
 use Rattle.elf_whole.specs.Symbols.{holds_symbols}
 use Rattle.elf_whole.specs.declared.faults.HashSectionFault.{HashSectionFault}
@@ -23,6 +27,25 @@ hash_object kind file s linked =
 abbrev pub SoundHash : HashKind → ObjectFile → SectionHeader → Type 0
 SoundHash kind file s = IsOkAnd (file.section_at s.sh_link) (λ linked.
     IsTrue (holds_symbols linked) × IsOkAnd (hash_object kind file s linked) IsSound)
+
+-- the kind of a hash section, by its type
+abbrev pub hash_kind : SectionHeader → Option HashKind
+hash_kind s =
+    if s.sh_type == sht_hash then Some Sysv else if s.sh_type == sht_gnu_hash then Some Gnu else None
+
+-- the object is the hash table of a section of a kind, with the symbols of the section that it is linked to
+abbrev pub IsObjectOf : HashKind → ObjectFile → SectionHeader → Object → Type 0
+IsObjectOf kind file s object =
+    IsOkAnd (file.section_at s.sh_link) (λ linked. hash_object kind file s linked ≡ Ok object)
+
+-- the section by which a file's symbols are looked up: the first one of GNU, or else the first one of the gABI
+abbrev pub look_up_section : ObjectFile → Option SectionHeader
+look_up_section file =
+    option_or (first_section_of sht_gnu_hash file.sections) (first_section_of sht_hash file.sections)
+
+-- the object is the hash table of a section, of the kind that its type says
+abbrev pub IsObjectOfSection : ObjectFile → SectionHeader → Object → Type 0
+IsObjectOfSection file s object = IsSomeAnd (hash_kind s) (λ kind. IsObjectOf kind file s object)
 
 -- ---- faults
 

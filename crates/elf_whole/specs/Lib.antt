@@ -6,6 +6,7 @@ pub mod Chains
 pub mod Strings
 pub mod Symbols
 pub mod Relocations
+pub mod RelocationLists
 pub mod Hashes
 pub mod Dynamic
 pub mod Notes
@@ -18,12 +19,18 @@ pub mod Segments
 pub mod SegmentsFaults
 pub mod SegmentsBytes
 pub mod SegmentsWhole
+-- the build id
+pub mod BuildId
 -- when a file is sound, what each fault says, and what a check says
 pub mod Sound
 pub mod Faults
 pub mod Verdict
+-- all faults of a file
+pub mod AllFaults
 -- the views of a file that was checked, and of its parts
 pub mod Whole
 pub mod DynamicViews
+pub mod RelocationViews
+pub mod SectionViews
 -- that a file is sound is true in one way only
 pub mod inner

@@ -7,10 +7,11 @@ use Rattle.std.specs.Result.{IsOkAnd, result_ok}
 use Rattle.elf_records.specs.Class.{address_bits}
 use Rattle.elf_records.specs.Number.{number_at, ok_map}
 use Rattle.elf_records.specs.Record.{◌>>=◌, RecordType, size_by}
-use Rattle.elf_records.specs.Relocation.{rela_reads}
+use Rattle.elf_records.specs.Relocation.{rel_reads, rela_reads}
 use Rattle.elf_records.specs.Symbol.{symbol_layout}
 use Rattle.elf_records.specs.Table.{Table, table_get}
 use Rattle.elf_records.specs.declared.parse.ParseError.{ParseError}
+use Rattle.elf_records.specs.declared.relocation.Rel.{Rel}
 use Rattle.elf_records.specs.declared.relocation.Rela.{Rela}
 use Rattle.elf_records.specs.declared.section.SectionHeader.{SectionHeader}
 use Rattle.elf_records.specs.declared.symbol.Symbol.{Symbol}
@@ -66,10 +67,18 @@ linked_symbols file s =
     else file.section_at s.sh_link >>= λ linked. ok_map Some (symbols_of file linked)
 
 -- relocation i, and the symbol that it names with its name, if symbols are linked
+abbrev pub relocation_with_symbol :
+    {R : Type 0} → RecordType R → (R → ℕ) → ObjectFile → SectionHeader → ℕ →
+    Result (R × Option (Symbol × List ℕ)) ParseError
+relocation_with_symbol reads symbol_of file s i =
+    content file s >>= λ bytes. table_get reads (table_of file bytes) i >>= λ r. linked_symbols file s >>= λ found.
+    ok_map (λ named. (r, named)) (if_found (λ symbols. named_symbol symbols.0 symbols.1 (symbol_of r)) found)
+
+abbrev pub rel_with_symbol : ObjectFile → SectionHeader → ℕ → Result (Rel × Option (Symbol × List ℕ)) ParseError
+rel_with_symbol file s i = relocation_with_symbol rel_reads (λ r. r.r_sym) file s i
+
 abbrev pub rela_with_symbol : ObjectFile → SectionHeader → ℕ → Result (Rela × Option (Symbol × List ℕ)) ParseError
-rela_with_symbol file s i =
-    content file s >>= λ bytes. table_get rela_reads (table_of file bytes) i >>= λ r. linked_symbols file s >>= λ found.
-    ok_map (λ named. (r, named)) (if_found (λ symbols. named_symbol symbols.0 symbols.1 r.r_sym) found)
+rela_with_symbol file s i = relocation_with_symbol rela_reads (λ r. r.r_sym) file s i
 
 module _ {R : Type 0} (reads : RecordType R) (symbol_of : R → ℕ) where
   -- a whole number of relocations, each of which names a symbol below this number

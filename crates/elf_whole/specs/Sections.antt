@@ -21,7 +21,7 @@ use Rattle.elf_whole.specs.Dynamic.{IsTrueOfDynamic, SoundDynamic}
 use Rattle.elf_whole.specs.Hashes.{IsTrueOfHash, SoundHash}
 use Rattle.elf_whole.specs.Notes.{IsNoNote, SoundNotes}
 use Rattle.elf_whole.specs.Relocations.{IsTrueOfRelocations, SoundRelocations}
-use Rattle.elf_whole.specs.Strings.{EndsInNul}
+use Rattle.elf_whole.specs.Strings.{IsEmptyOrEndsWithNul}
 use Rattle.elf_whole.specs.Symbols.{HoldsSymbols, IsTrueOfSymbols, SoundSymbols}
 use Rattle.elf_whole.specs.declared.faults.SectionFault.{SectionFault}
 use Rattle.elf_whole.specs.declared.faults.SectionFault.TheVariants.{Compressed, Dynamic, Hash, NoBytes, NoLastNul}
@@ -71,7 +71,7 @@ IsPlain s = IsTrue (is_structural s) → IsTrue (not (is_compressed s))
 -- ---- the content of a section
 
 abbrev pub SoundStrings : ObjectFile → SectionHeader → Type 0
-SoundStrings file s = IsOkAnd (content file s) EndsInNul
+SoundStrings file s = IsOkAnd (content file s) IsEmptyOrEndsWithNul
 
 -- the content is sound by the type of the section
 pub record SoundContent (file : ObjectFile) (s : SectionHeader) : Type 0 where
@@ -92,10 +92,17 @@ pub record SoundSection (file : ObjectFile) (s : SectionHeader) : Type 0 where
   pub plain : IsPlain s
   pub content : SoundContent file s
 
+-- the same of a section whose name is not checked
+pub record SoundUnnamed (file : ObjectFile) (s : SectionHeader) : Type 0 where
+  pub bytes : IsOk (section_data file s)
+  pub plain : IsPlain s
+  pub content : SoundContent file s
+
 -- ---- faults, each with the facts that are checked before it
 
 abbrev pub IsTrueOfContent : ObjectFile → SectionHeader → SectionFault → Type 0
-IsTrueOfContent file s NoLastNul = (s.sh_type ≡ sht_strtab) × IsOkAnd (content file s) (λ bytes. ¬ EndsInNul bytes)
+IsTrueOfContent file s NoLastNul = (s.sh_type ≡ sht_strtab)
+    × IsOkAnd (content file s) (λ bytes. ¬ IsEmptyOrEndsWithNul bytes)
 IsTrueOfContent file s (Symbols fault) = HoldsSymbols s × IsTrueOfSymbols file s fault
 IsTrueOfContent file s (Relocations fault) =
     ((s.sh_type ≡ sht_rel) × IsTrueOfRelocations rel_reads (λ r. r.r_sym) file s fault)
@@ -122,3 +129,10 @@ IsTrueOfSection file s NoName = IsErr (section_name file s)
 IsTrueOfSection file s NoBytes = IsOk (section_name file s) × IsErr (section_data file s)
 IsTrueOfSection file s Compressed = IsOk (section_name file s) × IsOk (section_data file s) × (¬ IsPlain s)
 IsTrueOfSection file s fault = IsTrueOfPlain file s fault
+
+-- of a section whose name is not checked
+abbrev pub IsTrueOfUnnamed : ObjectFile → SectionHeader → SectionFault → Type 0
+IsTrueOfUnnamed file s NoName = ⊥
+IsTrueOfUnnamed file s NoBytes = IsErr (section_data file s)
+IsTrueOfUnnamed file s Compressed = IsOk (section_data file s) × (¬ IsPlain s)
+IsTrueOfUnnamed file s fault = IsOk (section_data file s) × IsPlain s × IsTrueOfContent file s fault

@@ -2,5 +2,5 @@
 use Rattle.std.specs.Prelude.{◌≡◌, ℕ, ◌-◌, List, length, slice_get, Some}
 
 -- the last byte, if there is one, is 0
-abbrev pub EndsInNul : List ℕ → Type 0
-EndsInNul bytes = (last : ℕ) → slice_get bytes (length bytes - 1) ≡ Some last → last ≡ 0
+abbrev pub IsEmptyOrEndsWithNul : List ℕ → Type 0
+IsEmptyOrEndsWithNul bytes = (last : ℕ) → slice_get bytes (length bytes - 1) ≡ Some last → last ≡ 0

@@ -1,7 +1,6 @@
 -- What a file that was checked shows, and its sections and symbols.
 use Rattle.std.specs.Prelude.{ℕ, Bool, List, Option}
 use Rattle.std.specs.Option.{option_map}
-use Rattle.elf_records.specs.declared.relocation.Rela.{Rela}
 use Rattle.std.specs.declared.cmp.PartialEq.{Ghosts as PartialEqGhosts}
 use Rattle.std.specs.declared.default.Default.{Ghosts as DefaultGhosts}
 use Rattle.elf_records.specs.StringTable.{strings_view}
@@ -15,6 +14,7 @@ use Rattle.elf.specs.ElfBytes.{view}
 use Rattle.elf.specs.ObjectFile.{ObjectFile, object_file}
 use Rattle.elf_whole.specs.declared.whole.WholeFile.{WholeFile}
 use Rattle.elf_whole.specs.declared.whole.section.WholeSection.{WholeSection}
+use Rattle.elf_whole.specs.declared.whole.strings.WholeStrings.{WholeStrings}
 use Rattle.elf_whole.specs.declared.whole.symbols.WholeSymbols.{WholeSymbols}
 use Rattle.elf_whole.specs.declared.whole.iter.WholeSymbolsIter.{WholeSymbolsIter}
 use Rattle.elf_whole.specs.Symbols.{with_names}
@@ -29,8 +29,12 @@ abbrev pub strings_beside : Bor (List ℕ) × StringTable → List ℕ × List �
 strings_beside found = (found.0.now, strings_view found.1)
 
 -- a relocation, and the symbol that it names
-abbrev pub rela_view : Rela × Option (Symbol × Bor (List ℕ)) → Rela × Option (Symbol × List ℕ)
-rela_view found = (found.0, option_map named_view found.1)
+abbrev pub relocation_view : {R : Type 0} → R × Option (Symbol × Bor (List ℕ)) → R × Option (Symbol × List ℕ)
+relocation_view found = (found.0, option_map named_view found.1)
+
+-- the bytes of strings
+abbrev pub whole_strings : WholeStrings → List ℕ
+whole_strings s = strings_view s.strings
 
 module _ {E : Type 0} {order : EndianGhosts E} {default : DefaultGhosts E} {equal : PartialEqGhosts E} where
   -- the file that was checked

@@ -1,4 +1,6 @@
 pub mod VersionProps
 pub mod DynamicProps
+pub mod StringProps
 pub mod SegmentsProps
 pub mod SoundProps
+pub mod Adding

@@ -184,7 +184,7 @@ pub enum FileFault {
     /// More than one section has this type, and there is to be one at most.
     #[error("more than one section of type {sh_type:#x}")]
     Repeated { sh_type: u32 },
-    /// This is the first section that is not sound.
+    /// This section is not sound. `check_file` returns the first one.
     #[error("section {index}: {fault}")]
     Section { index: usize, fault: SectionFault },
     /// The versions of symbols are not sound.

@@ -1,6 +1,7 @@
 //! The check of a whole file. A file that was checked is read without errors.
 #![tactic(auto)]
 
+mod all;
 mod chains;
 mod dynamic;
 pub mod faults;
@@ -16,7 +17,10 @@ mod types;
 mod versions;
 mod whole;
 
+pub use all::{all_faults, all_faults_in};
+pub use relocations::Relocation;
 pub use whole::{
-    SymbolVersion, WholeDefinition, WholeDynamic, WholeFile, WholeNames, WholeSection,
-    WholeSymbols, WholeSymbolsIter, WholeVersions, check_file, check_file_in,
+    WholeDefinition, WholeDynamic, WholeFile, WholeNames, WholeRelocations, WholeSection,
+    WholeSections, WholeStrings, WholeSymbols, WholeSymbolsIter, WholeVersion, WholeVersions,
+    check_file, check_file_in,
 };

@@ -21,10 +21,11 @@ use elf::section::SectionHeader;
 use elf::symbol::Symbol;
 use elf::{ElfBytes, abi};
 
-// A relocation, which names a symbol.
-pub(crate) trait Relocation: PlainRecord + Drop {
+/// A relocation, which names a symbol.
+pub trait Relocation: PlainRecord + Drop {
     ghost symbol_of: { Self → ℕ };
 
+    /// The index of the symbol.
     fn symbol(&self) -> u32
         ensures { result ≡ symbol_of self.now };
 }
@@ -46,7 +47,10 @@ impl Relocation for Rela {
 }
 
 // A record below the number of records.
-fn record_below<E: EndianParse, P: PlainRecord>(table: &ParsingTable<'_, E, P>, index: usize) -> P
+pub(crate) fn record_below<E: EndianParse, P: PlainRecord>(
+    table: &ParsingTable<'_, E, P>,
+    index: usize,
+) -> P
     requires { index < table_len P.reads (table_view table.now) }
     ensures { table_get P.reads (table_view table.now) index ≡ Ok result }
 {

@@ -13,6 +13,9 @@ ghost use Rattle.elf_whole.specs.Members.{AllSound, IsFirstFault};
 ghost use Rattle.elf_whole.specs.Sections.{IsTrueOfContent, IsTrueOfSection, SoundContent, SoundSection};
 ghost use Rattle.elf_whole.specs.Symbols.{HoldsSymbols, IsTrueOfSymbols, SoundSymbols};
 ghost use Rattle.elf_whole.specs.Sections.{IsPlain, is_compressed, is_structural, name_in};
+ghost use Rattle.elf_whole.specs.Sections.{IsTrueOfUnnamed, SoundUnnamed};
+
+mod all;
 
 use crate::dynamic::dynamic_fault;
 use crate::faults::{SectionFault, SymbolsFault};
@@ -21,6 +24,7 @@ use crate::notes::notes_fault;
 use crate::relocations::relocations_fault;
 use crate::strings::{ends_in_nul, has_string};
 use crate::symbols::first_bad_symbol;
+pub(crate) use all::add_sections;
 use elf::endian::EndianParse;
 use elf::headers::{Headers, LinkedSections};
 use elf::laws::tables::iter_gives_len_records;
@@ -199,6 +203,25 @@ fn content_fault<E: EndianParse>(
     }
 }
 
+// What a section lacks, apart from its name.
+fn unnamed_fault<E: EndianParse>(
+    file: &ElfBytes<'_, E>,
+    shdr: &SectionHeader,
+    sections: usize,
+) -> Option<SectionFault>
+    requires { sections ≡ length (object_file E.little (view file.now)).sections }
+    ensures { let whole = object_file E.little (view file.now) in
+        MatchOption result (SoundUnnamed whole shdr.now) (IsTrueOfUnnamed whole shdr.now) }
+{
+    let Ok((bytes, _)) = file.section_data(shdr) else {
+        return Some(SectionFault::NoBytes);
+    };
+    if !is_plain(shdr) {
+        return Some(SectionFault::Compressed);
+    }
+    content_fault(file, shdr, sections, bytes)
+}
+
 // What a section lacks.
 pub(crate) fn section_fault<E: EndianParse>(
     file: &ElfBytes<'_, E>,
@@ -214,13 +237,7 @@ pub(crate) fn section_fault<E: EndianParse>(
     if !has_readable_name(names, shdr) {
         return Some(SectionFault::NoName);
     }
-    let Ok((bytes, _)) = file.section_data(shdr) else {
-        return Some(SectionFault::NoBytes);
-    };
-    if !is_plain(shdr) {
-        return Some(SectionFault::Compressed);
-    }
-    content_fault(file, shdr, sections, bytes)
+    unnamed_fault(file, shdr, sections)
 }
 
 // The first section that is not sound, and what it lacks.

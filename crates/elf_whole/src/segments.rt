@@ -13,6 +13,7 @@ use elf::segment::SegmentTable;
 use loads::first_overlap;
 use types::types_fault;
 
+mod all;
 mod dynamic;
 mod each;
 mod faults;
@@ -22,9 +23,11 @@ mod table;
 mod types;
 mod whole;
 
+pub(crate) use all::add_segments;
 pub use faults::{SegmentFault, SegmentsFault};
 pub use iter::WholeSegmentsIter;
 pub use whole::WholeSegments;
+pub(crate) use whole::notes_of;
 
 // What the segments of a table lack.
 fn table_fault<E: EndianParse>(

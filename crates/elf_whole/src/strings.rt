@@ -1,13 +1,13 @@
 //! Strings of a section.
 ghost use Rattle.std.specs.Prelude.{◌≡◌, ◌↔◌, IsTrue, is_ok};
 ghost use Rattle.elf_records.specs.StringTable.{string_at};
-ghost use Rattle.elf_whole.specs.Strings.{EndsInNul};
+ghost use Rattle.elf_whole.specs.Strings.{IsEmptyOrEndsWithNul};
 
 use elf::string_table::TerminatedStrings;
 
 // Whether the last byte, if there is one, is 0.
 pub(crate) fn ends_in_nul(bytes: &[u8]) -> bool
-    ensures { IsTrue result ↔ EndsInNul bytes.now }
+    ensures { IsTrue result ↔ IsEmptyOrEndsWithNul bytes.now }
 {
     match bytes.last() {
         Some(last) => *last == 0,

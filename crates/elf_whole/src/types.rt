@@ -8,7 +8,7 @@ use elf::endian::EndianParse;
 use elf::{ElfBytes, abi};
 
 // Whether more than one section has a type.
-fn is_repeated<E: EndianParse>(file: &ElfBytes<'_, E>, sh_type: u32) -> bool
+pub(crate) fn is_repeated<E: EndianParse>(file: &ElfBytes<'_, E>, sh_type: u32) -> bool
     ensures { result ≡ is_repeated (object_file E.little (view file.now)).sections sh_type }
 {
     match file.section_headers() {

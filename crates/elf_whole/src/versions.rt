@@ -16,11 +16,13 @@ ghost use Rattle.elf_whole.specs.versions.InFile.{with_strings};
 ghost use Rattle.elf_whole.specs.Whole.{strings_beside};
 ghost use Rattle.elf_reading.specs.Versions.{version_sections};
 
+mod all;
 mod indexes;
 mod records;
 
 use crate::chains::{chain_fault, do_fit};
 use crate::faults::VersionsFault;
+pub(crate) use all::add_versions;
 use elf::ElfBytes;
 use elf::endian::EndianParse;
 use elf::gnu_symver::links::Links;

@@ -12,7 +12,7 @@ ghost use Rattle.elf.specs.ObjectFile.{object_file};
 ghost use Rattle.elf.specs.Answers.{dynamic_symbol_table, symbol_table, symbol_version_table, symbols_view};
 ghost use Rattle.elf_whole.specs.Sound.{SoundFile};
 ghost use Rattle.elf_whole.specs.Symbols.{SoundSymbolTable};
-ghost use Rattle.elf_whole.specs.inner.SoundProps.{IsNamed, IsNamed-prop, SoundFile-prop};
+ghost use Rattle.elf_whole.specs.inner.SoundProps.{HasNameTable, HasNameTable-prop, SoundFile-prop};
 
 use crate::listed::sections_are_listed;
 use crate::segments::WholeSegments;
@@ -22,13 +22,18 @@ use elf::string_table::StringTable;
 use elf::symbol::SymbolTable;
 use elf::{ElfBytes, abi};
 
+mod build_id;
 mod check;
 mod dynamic;
 mod dynamic_section;
+mod hash_section;
 mod iter;
 mod names;
-mod relocation;
+mod relocations;
+mod relocations_section;
 mod section;
+mod sections;
+mod strings;
 mod symbols;
 mod versions;
 
@@ -36,11 +41,22 @@ pub use check::{check_file, check_file_in};
 pub use dynamic::WholeDynamic;
 pub use iter::WholeSymbolsIter;
 pub use names::WholeNames;
+pub use relocations::WholeRelocations;
 pub use section::WholeSection;
+pub use sections::WholeSections;
+pub use strings::WholeStrings;
 pub use symbols::WholeSymbols;
-pub use versions::{SymbolVersion, WholeDefinition, WholeVersions};
+pub use versions::{WholeDefinition, WholeVersion, WholeVersions};
 
-/// A file whose parts can all be read.
+/// A file whose parts can all be read. It has what `ElfBytes` has, and returns no errors:
+///
+/// - sections: `sections`, `section`, `section_by_name`, `first_section_of`, and of each `WholeSection::header`, `name`
+///   and `data`;
+/// - what a section holds, by its type: `WholeSection::strings`, `symbols`, `rels`, `relas`, `notes`, `dynamic` and
+///   `hash_table`, each `None` for other types;
+/// - the symbols, dynamic entries, versions and the hash table of a file: `symbols`, `dynamic_symbols`, `dynamic`,
+///   `versions`, `hash_table`;
+/// - segments: `segments`, and of these `WholeSegments::get`, `iter`, `notes`, `dynamic` and `interpreter`.
 #[derive(Debug, Drop)]
 pub struct WholeFile<'a, 'data, E: EndianParse> {
     file: &'a ElfBytes<'data, E>,
@@ -48,8 +64,9 @@ pub struct WholeFile<'a, 'data, E: EndianParse> {
     sections: usize,
     ghost sound: { SoundFile (object_file E.little (view file.now)) } by { SoundFile-prop (object_file E.little (view
         file.now)) },
-    ghost named: { IsNamed (object_file E.little (view file.now)) (option_map strings_view names) } by { IsNamed-prop
-        (object_file E.little (view file.now)) (option_map strings_view names) },
+    ghost named: { HasNameTable (object_file E.little (view file.now))
+        (option_map strings_view names) } by { HasNameTable-prop
+            (object_file E.little (view file.now)) (option_map strings_view names) },
     ghost counted: { sections ≡ length (object_file E.little (view file.now)).sections },
 }
 

@@ -1,6 +1,6 @@
 -- What a reference binds to is known, where objects are made of sound files.
 use Rattle.std.proofs.Common.{◌≡◌, ℕ, suc, Bool, true, false, if◌then◌else◌, List, [], ◌∷◌, Option, Some, None, Result, Ok, Err, refl, ap, sym, subst, arith}
-use Rattle.std.specs.Prelude.{not}
+use Rattle.std.specs.Prelude.{MatchBool, not}
 use Rattle.std.specs.List.{AllByRecursion, Contains, slice_get}
 use Rattle.std.specs.Option.{IsSomeAnd}
 use Rattle.std.specs.Result.{IsOk, IsOkAnd, result_ok}
@@ -25,13 +25,14 @@ use Rattle.elf.specs.Answers.{dynamic_symbol_table, symbol_version_table}
 use Rattle.elf.specs.Data.{section_data}
 use Rattle.elf.specs.Headers.{first_section_of}
 use Rattle.elf.specs.ObjectFile.{ObjectFile}
-use Rattle.elf_check.specs.NamedSymbols.{AreAllNamed, IsNamed}
+use Rattle.elf_check.specs.NamedSymbols.{AreAllNamed, IsIndexedWithName}
 use Rattle.elf_check.specs.Object.{ByGnu, BySysv, IsSound, Object, object_in}
-use Rattle.elf_check.specs.WithSymbols.{named, with_symbols}
+use Rattle.elf_check.specs.WithSymbols.{symbol_and_name, with_symbols}
 use Rattle.elf_check.specs.declared.hashcheck.any.HashKind.{HashKind}
 use Rattle.elf_check.specs.declared.hashcheck.any.HashKind.TheVariants.{Gnu, Sysv}
-use Rattle.elf_binding.specs.Binding.{IsChosen, IsOrElse, VersionedObject, first_serving, is_base, is_definition, serves_exactly, serves_version, unreadable, version_index_of, version_of, version_view}
-use Rattle.elf_binding.specs.ObjectTable.{needed, object_by, object_of, read}
+use Rattle.elf_binding.specs.Binding.{IsChosenFor, IsFoundAt, IsOrElse, VersionedObject, first_serving, is_base, is_definition_for, passes_over, serves_exactly, serves_version, unreadable, version_index_of, version_of, version_view}
+use Rattle.elf_binding.specs.ObjectTable.{or_no_symbols, object_by, object_of, or_fault}
+use Rattle.elf_binding.specs.declared.ReferenceKind.{ReferenceKind}
 use Rattle.elf_binding.specs.declared.Unreadable.{Unreadable}
 use Rattle.elf_binding.specs.declared.Wanted.{Wanted}
 use Rattle.elf_binding.specs.declared.Wanted.TheVariants.{Any, Compatible, Only}
@@ -71,15 +72,15 @@ HasSymbols r object = (symbols : Table × List ℕ) × (r ≡ Ok (Some symbols))
 abbrev IsTable : Object → Object → Type 0
 IsTable object table = IsSound table × (object ≡ table)
 
-read_object : (q : Result Object ParseError) (object : Object) → IsOkAnd (read q) (IsTable object) → q ≡ Ok object
+read_object : (q : Result Object ParseError) (object : Object) → IsOkAnd (or_fault q) (IsTable object) → q ≡ Ok object
 read_object (Ok table) object h = ap (λ (x : Object). Ok x) (sym h.1)
 read_object (Err e) object h = absurd h
 
 abbrev parts_of : Result (List ℕ × Option CompressionHeader) ParseError → Result (Option (Table × List ℕ)) ParseError → Result (List ℕ × (Table × List ℕ)) ObjectFault
-parts_of d r = read d >>= λ found. read r >>= needed >>= λ symbols. Ok (found.0, symbols)
+parts_of d r = or_fault d >>= λ found. or_fault r >>= or_no_symbols >>= λ symbols. Ok (found.0, symbols)
 
 in_section : (kind : HashKind) (little : Bool) (class : Class) (object : Object) (d : Result (List ℕ × Option CompressionHeader) ParseError) (r : Result (Option (Table × List ℕ)) ParseError) →
-    IsOkAnd (parts_of d r >>= λ parts. read (object_in kind little class parts.0 parts.1.0 parts.1.1)) (IsTable object) → HasSymbols r object
+    IsOkAnd (parts_of d r >>= λ parts. or_fault (object_in kind little class parts.0 parts.1.0 parts.1.1)) (IsTable object) → HasSymbols r object
 in_section kind little class object (Ok found) (Ok (Some symbols)) h =
     (symbols, refl, in_symbols kind little class found.0 symbols.0 symbols.1 object (read_object (object_in kind little class found.0 symbols.0 symbols.1) object h))
 in_section kind little class object (Ok found) (Ok None) h = absurd h
@@ -100,11 +101,11 @@ first_ok : {A B E : Type 0} (r : Result A E) (f : A → Result B E) (x : B) → 
 first_ok (Ok y) f x e = refl
 first_ok (Err d) f x e = absurd (cc e)
 
-there : (symbols : Table) (strings : List ℕ) (i : ℕ) (x : Symbol × List ℕ) → named symbols strings i ≡ Some x → IsOk (symbol_at symbols i)
-unfolding named named_symbol
+there : (symbols : Table) (strings : List ℕ) (i : ℕ) (x : Symbol × List ℕ) → symbol_and_name symbols strings i ≡ Some x → IsOk (symbol_at symbols i)
+unfolding symbol_and_name named_symbol
 there symbols strings i x e = first_ok (symbol_at symbols i) (λ symbol. string_at strings symbol.st_name >>= λ name. Ok (symbol, name)) x e
 
-named_there : (object : Object) (name : List ℕ) (one : ℕ × Symbol) → IsNamed object name one → IsOk (symbol_at (object_symbols object) one.0)
+named_there : (object : Object) (name : List ℕ) (one : ℕ × Symbol) → IsIndexedWithName object name one → IsOk (symbol_at (object_symbols object) one.0)
 unfolding object_symbols
 named_there (BySysv s) name one h = there s.symbols s.strings one.0 (one.1, name) h.1
 named_there (ByGnu s) name one h = there s.symbols s.strings one.0 (one.1, name) h.1
@@ -145,12 +146,12 @@ serving_step true (Ok false) one rest ok after = after
 serving_step true (Err e) one rest ok after = absurd (cc ok)
 serving_step false r one rest ok after = after
 
-serving_ok : (serving : ℕ → Result Bool Unreadable) (found : List (ℕ × Symbol)) → AllByRecursion (λ (one : ℕ × Symbol). IsOk (serving one.0)) found → IsOk (first_serving serving found)
-serving_ok serving [] all = refl
-serving_ok serving (one ∷ others) all = serving_step (is_definition one.1) (serving one.0) one (first_serving serving others) all.0 (serving_ok serving others all.1)
+serving_ok : (kind : ReferenceKind) (serving : ℕ → Result Bool Unreadable) (found : List (ℕ × Symbol)) → AllByRecursion (λ (one : ℕ × Symbol). IsOk (serving one.0)) found → IsOk (first_serving kind serving found)
+serving_ok kind serving [] all = refl
+serving_ok kind serving (one ∷ others) all = serving_step (is_definition_for kind one.1) (serving one.0) one (first_serving kind serving others) all.0 (serving_ok kind serving others all.1)
 
-first_known : (serving : ℕ → Result Bool Unreadable) (found : List (ℕ × Symbol)) (result : Result (Option (ℕ × Symbol)) Unreadable) → result ≡ first_serving serving found → ((one : ℕ × Symbol) → Contains found one → IsOk (serving one.0)) → IsOk result
-first_known serving found result e each = subst (λ (r : Result (Option (ℕ × Symbol)) Unreadable). IsOk r) (sym e) (serving_ok serving found (all_of (λ (one : ℕ × Symbol). IsOk (serving one.0)) found each))
+first_known : (kind : ReferenceKind) (serving : ℕ → Result Bool Unreadable) (found : List (ℕ × Symbol)) (result : Result (Option (ℕ × Symbol)) Unreadable) → result ≡ first_serving kind serving found → ((one : ℕ × Symbol) → Contains found one → IsOk (serving one.0)) → IsOk result
+first_known kind serving found result e each = subst (λ (r : Result (Option (ℕ × Symbol)) Unreadable). IsOk r) (sym e) (serving_ok kind serving found (all_of (λ (one : ℕ × Symbol). IsOk (serving one.0)) found each))
 
 -- ---- the choice in an object
 
@@ -168,33 +169,33 @@ or_else Second result (Ok None) ok h second = second h
 or_else {A = A} {E = E} Second result (Ok (Some found)) ok h second = subst (λ (r : Result (Option A) E). IsOk r) (sym h) refl
 or_else Second result (Err e) ok h second = absurd (cc ok)
 
-abbrev FirstOf : Object → List ℕ → (ℕ → Result Bool Unreadable) → Result (Option (ℕ × Symbol)) Unreadable → Type 0
-FirstOf symbols name serving result = (found : List (ℕ × Symbol)) × AreAllNamed symbols name found × (result ≡ first_serving serving found)
+abbrev FirstOf : ReferenceKind → Object → List ℕ → (ℕ → Result Bool Unreadable) → Result (Option (ℕ × Symbol)) Unreadable → Type 0
+FirstOf kind symbols name serving result = (found : List (ℕ × Symbol)) × AreAllNamed symbols name found × (result ≡ first_serving kind serving found)
 
 abbrev KnownIn : Option Versions → ℕ → Type 0
 KnownIn None i = Unit {0}
 KnownIn (Some v) i = Known v i
 
-chosen_known : (symbols : Object) (versions : Option Versions) (name : List ℕ) (wanted : Wanted) (result : Result (Option (ℕ × Symbol)) Unreadable) → ((one : ℕ × Symbol) → IsNamed symbols name one → KnownIn versions one.0) → IsChosen (record { symbols = symbols; versions = versions }) name wanted result → IsOk result
-chosen_known symbols None name (Compatible w) result each h = first_known (λ i. Ok true) h.0 result h.2 (λ one inside. refl)
-chosen_known symbols None name (Only w) result each h = first_known (λ i. Ok true) h.0 result h.2 (λ one inside. refl)
-chosen_known symbols None name Any result each h =
-    or_else (FirstOf symbols name (λ i. Ok true)) result h.0 (first_known (λ i. Ok true) h.1.0 h.0 h.1.2 (λ one inside. refl)) h.2
-    (λ second. first_known (λ i. Ok true) second.0 result second.2 (λ one inside. refl))
-chosen_known symbols (Some v) name (Compatible w) result each h =
+chosen_known : (kind : ReferenceKind) (symbols : Object) (versions : Option Versions) (name : List ℕ) (wanted : Wanted) (result : Result (Option (ℕ × Symbol)) Unreadable) → ((one : ℕ × Symbol) → IsIndexedWithName symbols name one → KnownIn versions one.0) → IsChosenFor kind (record { symbols = symbols; versions = versions }) name wanted result → IsOk result
+chosen_known kind symbols None name (Compatible w) result each h = first_known kind (λ i. Ok true) h.0 result h.2 (λ one inside. refl)
+chosen_known kind symbols None name (Only w) result each h = first_known kind (λ i. Ok true) h.0 result h.2 (λ one inside. refl)
+chosen_known kind symbols None name Any result each h =
+    or_else (FirstOf kind symbols name (λ i. Ok true)) result h.0 (first_known kind (λ i. Ok true) h.1.0 h.0 h.1.2 (λ one inside. refl)) h.2
+    (λ second. first_known kind (λ i. Ok true) second.0 result second.2 (λ one inside. refl))
+chosen_known kind symbols (Some v) name (Compatible w) result each h =
     let serving : ℕ → Result Bool Unreadable = λ i. version_of v i >>= λ own. version_index_of v i >>= λ index. Ok (serves_version (version_view w) own index) in
-    first_known serving h.0 result h.2
+    first_known kind serving h.0 result h.2
     (λ one inside. let k = each one ((h.1.all one).0 inside) in both_ok (version_of v one.0) (version_index_of v one.0) (serves_version (version_view w)) k.version k.index)
-chosen_known symbols (Some v) name (Only w) result each h =
+chosen_known kind symbols (Some v) name (Only w) result each h =
     let serving : ℕ → Result Bool Unreadable = λ i. version_of v i >>= λ own. Ok (serves_exactly (version_view w) own) in
-    first_known serving h.0 result h.2
+    first_known kind serving h.0 result h.2
     (λ one inside. let k = each one ((h.1.all one).0 inside) in then_ok (version_of v one.0) (serves_exactly (version_view w)) k.version)
-chosen_known symbols (Some v) name Any result each h =
+chosen_known kind symbols (Some v) name Any result each h =
     let base : ℕ → Result Bool Unreadable = λ i. version_index_of v i >>= λ index. Ok (is_base index) in
     let shown : ℕ → Result Bool Unreadable = λ i. version_index_of v i >>= λ index. Ok (not (version_is_hidden index)) in
-    or_else (FirstOf symbols name shown) result h.0
-    (first_known base h.1.0 h.0 h.1.2 (λ one inside. let k = each one ((h.1.1.all one).0 inside) in then_ok (version_index_of v one.0) is_base k.index)) h.2
-    (λ second. first_known shown second.0 result second.2 (λ one inside. let k = each one ((second.1.all one).0 inside) in then_ok (version_index_of v one.0) (λ index. not (version_is_hidden index)) k.index))
+    or_else (FirstOf kind symbols name shown) result h.0
+    (first_known kind base h.1.0 h.0 h.1.2 (λ one inside. let k = each one ((h.1.1.all one).0 inside) in then_ok (version_index_of v one.0) is_base k.index)) h.2
+    (λ second. first_known kind shown second.0 result second.2 (λ one inside. let k = each one ((second.1.all one).0 inside) in then_ok (version_index_of v one.0) (λ index. not (version_is_hidden index)) k.index))
 
 -- ---- objects of sound files
 
@@ -202,12 +203,16 @@ known_in : (file : ObjectFile) (versions : Option Versions) (symbols : Table × 
 known_in file None symbols i sound e d here = tt
 known_in file (Some v) symbols i sound e d here = known file v i sound d (index_there file v symbols i sound e d here)
 
-object_known : (object : VersionedObject) → IsOfSound object → (name : List ℕ) (wanted : Wanted) (result : Result (Option (ℕ × Symbol)) Unreadable) → IsChosen object name wanted result → IsOk result
-object_known object of name wanted result h =
+object_known : (kind : ReferenceKind) (object : VersionedObject) → IsOfSound object → (name : List ℕ) (wanted : Wanted) (result : Result (Option (ℕ × Symbol)) Unreadable) → IsChosenFor kind object name wanted result → IsOk result
+object_known kind object of name wanted result h =
     let symbols = of_file of.file object.symbols of.made.0 in
-    chosen_known object.symbols object.versions name wanted result
+    chosen_known kind object.symbols object.versions name wanted result
     (λ one is. known_in of.file object.versions symbols.0 one.0 of.sound symbols.1 of.made.1
     (subst (λ (t : Table). IsOk (symbol_at t one.0)) symbols.2 (named_there object.symbols name one is))) h
+
+either_known : (over : Bool) (kind : ReferenceKind) (object : VersionedObject) → IsOfSound object → (name : List ℕ) (wanted : Wanted) (result : Result (Option (ℕ × Symbol)) Unreadable) → MatchBool over (result ≡ Ok None) (IsChosenFor kind object name wanted result) → IsOk result
+either_known true kind object of name wanted result h = subst (λ (r : Result (Option (ℕ × Symbol)) Unreadable). IsOk r) (sym h) refl
+either_known false kind object of name wanted result h = object_known kind object of name wanted result h
 
 -- ---- lists of objects
 
@@ -218,8 +223,11 @@ some_and None P h = absurd h
 not_refused : (A : Type 0) {E : Type 0} (e : E) → IsOk {T = A} {E = E} (Err e) → ⊥
 not_refused A e h = cc h
 
+found_known : (kind : ReferenceKind) (place : ℕ) (object : VersionedObject) → IsOfSound object → (name : List ℕ) (wanted : Wanted) (result : Result (Option (ℕ × Symbol)) Unreadable) → IsFoundAt kind place object name wanted result → IsOk result
+found_known kind place object of name wanted result h = either_known (passes_over kind place) kind object of name wanted result h
+
 pub all_bound : {C : Type 0} (view : C → VersionedObject) (objects : List C) → AreOfSound view objects → BindsAll view objects
-all_bound view objects of name wanted (Ok found) h = refl
-all_bound view objects of name wanted (Err fault) h =
-    let one = some_and (slice_get objects fault.object) (λ object. IsChosen (view object) name wanted (Err (unreadable fault.symbol))) h.0 in
-    absurd (not_refused (Option (ℕ × Symbol)) (unreadable fault.symbol) (object_known (view one.0) (of fault.object one.0 one.1) name wanted (Err (unreadable fault.symbol)) one.2))
+all_bound view objects of kind name wanted (Ok found) h = refl
+all_bound view objects of kind name wanted (Err fault) h =
+    let one = some_and (slice_get objects fault.object) (λ object. IsFoundAt kind fault.object (view object) name wanted (Err (unreadable fault.symbol))) h.0 in
+    absurd (not_refused (Option (ℕ × Symbol)) (unreadable fault.symbol) (found_known kind fault.object (view one.0) (of fault.object one.0 one.1) name wanted (Err (unreadable fault.symbol)) one.2))

@@ -13,15 +13,15 @@ use Rattle.elf.specs.Answers.{dynamic_symbol_table, symbol_table}
 use Rattle.elf.specs.ObjectFile.{ObjectFile}
 use Rattle.elf_calls.specs.Question.{DynSyms, Symbols}
 use Rattle.elf_calls.specs.Text.{symbols_text, unless_none}
-use Rattle.elf_lines.specs.Counted.{end_line, numbered}
+use Rattle.elf_lines.specs.Counted.{end_line, numbered_lines}
 use Rattle.elf_lines.specs.Name.{name_read}
-use Rattle.elf_lines.specs.Pieces.{◌⧺◌, escaped, newline}
+use Rattle.elf_lines.specs.Pieces.{◌⧺◌, escaped_text, newline}
 use Rattle.elf_lines.specs.Symbols.{symbol_fields, symbol_line}
 use Rattle.elf_whole.specs.Symbols.{AllNamed, name_of, with_names}
 use Rattle.elf_whole_laws.specs.Answers.{IsAnswered}
 use Rattle.elf_whole_laws.specs.Named.{named_line, named_text}
 
-pub name_shown : (r : Result (List ℕ) ParseError) → IsOk r → name_read r ≡ codes "name=" ⧺ escaped (result_unwrap_or r [])
+pub name_shown : (r : Result (List ℕ) ParseError) → IsOk r → name_read r ≡ codes "name=" ⧺ escaped_text (result_unwrap_or r [])
 name_shown (Ok name) h = refl
 name_shown (Err e) h = cc
 
@@ -29,12 +29,12 @@ line_same : (strings : List ℕ) (k : ℕ) (s : Symbol) → IsOk (string_at stri
 line_same strings k s h =
     ap (λ (name : List ℕ). codes "symbol " ⧺ decimal k ⧺ codes " " ⧺ name ⧺ symbol_fields s ⧺ newline) (name_shown (string_at strings s.st_name) h)
 
-numbered_same : (strings : List ℕ) (k : ℕ) (xs : List Symbol) → AllNamed strings xs → numbered (symbol_line strings) k xs ≡ numbered named_line k (with_names strings xs)
+numbered_same : (strings : List ℕ) (k : ℕ) (xs : List Symbol) → AllNamed strings xs → numbered_lines (symbol_line strings) k xs ≡ numbered_lines named_line k (with_names strings xs)
 numbered_same strings k [] all = refl
 numbered_same strings k (x ∷ xs) all =
     let rest = numbered_same strings (k + 1) xs (λ i s e. all (suc i) s e) in
     let here = line_same strings k x (all 0 x refl) in
-    ap (λ (line : List ℕ). line ⧺ numbered (symbol_line strings) (k + 1) xs) here ∙ ap (λ (lines : List ℕ). named_line k (x, name_of strings x) ⧺ lines) rest
+    ap (λ (line : List ℕ). line ⧺ numbered_lines (symbol_line strings) (k + 1) xs) here ∙ ap (λ (lines : List ℕ). named_line k (x, name_of strings x) ⧺ lines) rest
 
 pub count_same : (strings : List ℕ) (xs : List Symbol) → length xs ≡ length (with_names strings xs)
 count_same strings [] = refl
@@ -44,7 +44,7 @@ text_same : (found : Table × List ℕ) → AllNamed found.1 (table_items symbol
 text_same found all =
     let xs = table_items symbol_reads found.0 in
     ap (λ (lines : List ℕ). lines ⧺ end_line (length xs)) (numbered_same found.1 0 xs all)
-    ∙ ap (λ (n : ℕ). numbered named_line 0 (with_names found.1 xs) ⧺ end_line n) (count_same found.1 xs)
+    ∙ ap (λ (n : ℕ). numbered_lines named_line 0 (with_names found.1 xs) ⧺ end_line n) (count_same found.1 xs)
 
 -- the answer of the call, where the symbols have names
 answer_same : (r : Result (Option (Table × List ℕ)) ParseError) (o : Option (Table × List ℕ)) → r ≡ Ok o → ((found : Table × List ℕ) → o ≡ Some found → AllNamed found.1 (table_items symbol_reads found.0)) →

@@ -12,7 +12,7 @@ use Rattle.elf_records.specs.declared.section.SectionHeader.{SectionHeader}
 use Rattle.elf.specs.Names.{name_table}
 use Rattle.elf.specs.ObjectFile.{ObjectFile}
 use Rattle.elf_calls.specs.Question.{Sections}
-use Rattle.elf_lines.specs.Counted.{counted_lines, end_line, numbered}
+use Rattle.elf_lines.specs.Counted.{counted_lines, end_line, numbered_lines}
 use Rattle.elf_lines.specs.Name.{name_field}
 use Rattle.elf_lines.specs.Pieces.{◌⧺◌, newline}
 use Rattle.elf_lines.specs.Sections.{section_fields, section_line}
@@ -34,11 +34,11 @@ section_same : (names : Option (List ℕ)) (k : ℕ) (s : SectionHeader) → IsO
 section_same names k s h =
     ap (λ (name : List ℕ). codes "section " ⧺ decimal k ⧺ codes " " ⧺ name ⧺ codes " " ⧺ section_fields s ⧺ newline) (field_same names s h)
 
-sections_same : (names : Option (List ℕ)) (k : ℕ) (xs : List SectionHeader) → ((i : ℕ) (s : SectionHeader) → slice_get xs i ≡ Some s → IsOk (name_in s names)) → numbered (section_line names) k xs ≡ numbered (named_section names) k xs
+sections_same : (names : Option (List ℕ)) (k : ℕ) (xs : List SectionHeader) → ((i : ℕ) (s : SectionHeader) → slice_get xs i ≡ Some s → IsOk (name_in s names)) → numbered_lines (section_line names) k xs ≡ numbered_lines (named_section names) k xs
 sections_same names k [] all = refl
 sections_same names k (x ∷ xs) all =
     let rest = sections_same names (k + 1) xs (λ i s e. all (suc i) s e) in
-    ap (λ (line : List ℕ). line ⧺ numbered (section_line names) (k + 1) xs) (section_same names k x (all 0 x refl))
+    ap (λ (line : List ℕ). line ⧺ numbered_lines (section_line names) (k + 1) xs) (section_same names k x (all 0 x refl))
     ∙ ap (λ (lines : List ℕ). named_section names k x ⧺ lines) rest
 
 answered : (r : Result (Option (List ℕ)) ParseError) (xs : List SectionHeader) → IsOk r → ((i : ℕ) (s : SectionHeader) → slice_get xs i ≡ Some s → IsOk (r >>= name_in s)) →

@@ -22,7 +22,7 @@ use Rattle.elf_check.specs.declared.hashcheck.any.HashKind.{HashKind}
 use Rattle.elf_check.specs.declared.hashcheck.any.HashKind.TheVariants.{Gnu, Sysv}
 use Rattle.elf_binding.specs.Binding.{VersionedObject}
 use Rattle.elf_binding.specs.BindingObjects.{GivesVersioned}
-use Rattle.elf_binding.specs.ObjectTable.{IsFaultOf, needed, object_by, read, section_object}
+use Rattle.elf_binding.specs.ObjectTable.{IsFaultOf, or_no_symbols, object_by, or_fault, section_object}
 use Rattle.elf_binding.specs.declared.resolve.ObjectFault.{ObjectFault}
 use Rattle.elf_binding.specs.declared.resolve.ObjectFault.TheVariants.{Faulty, NoSymbols, Read}
 use Rattle.elf_whole.proofs.Firsts.{found_at}
@@ -34,42 +34,42 @@ use Rattle.elf_whole.specs.Sound.{SoundFile}
 use Rattle.elf_whole.specs.Symbols.{holds_symbols}
 use Rattle.elf_whole_laws.proofs.Calls.{hash_sound, linked_first}
 use Rattle.elf_whole_laws.specs.Answers.{IsHashSection}
-use Rattle.elf_whole_laws.specs.Bindings.{GivesSound, LooksUpDynamic, looked_up}
+use Rattle.elf_whole_laws.specs.Bindings.{GivesSound, LooksUpDynamic, kind_and_section}
 
 abbrev Data : Type 0
 Data = Result (List ℕ × Option CompressionHeader) ParseError
 
 abbrev parts_of : Data → Result (Option (Table × List ℕ)) ParseError → Result (List ℕ × (Table × List ℕ)) ObjectFault
-parts_of d r = read d >>= λ found. read r >>= needed >>= λ symbols. Ok (found.0, symbols)
+parts_of d r = or_fault d >>= λ found. or_fault r >>= or_no_symbols >>= λ symbols. Ok (found.0, symbols)
 
-object_read : (q : Result Object ParseError) → IsOkAnd q IsSound → IsOkAnd (read q) IsSound
+object_read : (q : Result Object ParseError) → IsOkAnd q IsSound → IsOkAnd (or_fault q) IsSound
 object_read (Ok object) sound = sound
 object_read (Err e) sound = absurd sound
 
 with_data : (d : Data) (make : List ℕ → Table → List ℕ → Result Object ParseError) (symbols : Table × List ℕ) →
     IsOkAnd (ok_map (λ found. found.0) d >>= λ bytes. make bytes symbols.0 symbols.1) IsSound →
-    IsOkAnd (parts_of d (Ok (Some symbols)) >>= λ parts. read (make parts.0 parts.1.0 parts.1.1)) IsSound
+    IsOkAnd (parts_of d (Ok (Some symbols)) >>= λ parts. or_fault (make parts.0 parts.1.0 parts.1.1)) IsSound
 with_data (Ok found) make symbols sound = object_read (make found.0 symbols.0 symbols.1) sound
 with_data (Err e) make symbols sound = absurd sound
 
 with_symbols_of : (d : Data) (make : List ℕ → Table → List ℕ → Result Object ParseError) (r : Result (Table × List ℕ) ParseError) →
     IsOkAnd (r >>= λ one. ok_map (λ found. found.0) d >>= λ bytes. make bytes one.0 one.1) IsSound →
-    IsOkAnd (parts_of d (ok_map Some r) >>= λ parts. read (make parts.0 parts.1.0 parts.1.1)) IsSound
+    IsOkAnd (parts_of d (ok_map Some r) >>= λ parts. or_fault (make parts.0 parts.1.0 parts.1.1)) IsSound
 with_symbols_of d make (Ok symbols) sound = with_data d make symbols sound
 with_symbols_of d make (Err e) sound = absurd sound
 
 with_link : (d : Data) (make : List ℕ → Table → List ℕ → Result Object ParseError) (w : Result (SectionHeader × SectionHeader) ParseError) (symbols : SectionHeader × SectionHeader → Result (Table × List ℕ) ParseError) →
     IsOkAnd ((w >>= symbols) >>= λ one. ok_map (λ found. found.0) d >>= λ bytes. make bytes one.0 one.1) IsSound →
-    IsOkAnd (parts_of d (ok_map Some w >>= if_found symbols) >>= λ parts. read (make parts.0 parts.1.0 parts.1.1)) IsSound
+    IsOkAnd (parts_of d (ok_map Some w >>= if_found symbols) >>= λ parts. or_fault (make parts.0 parts.1.0 parts.1.1)) IsSound
 with_link d make (Ok pair) symbols sound = with_symbols_of d make (symbols pair) sound
 with_link d make (Err e) symbols sound = absurd sound
 
 by_first : (kind : HashKind) (file : ObjectFile) (s : SectionHeader) (at : Result SectionHeader ParseError) (first : Option SectionHeader) → result_ok at ≡ first →
     IsOkAnd at (λ linked. IsTrue (holds_symbols linked) × IsOkAnd (hash_object kind file s linked) IsSound) →
-    IsOkAnd (parts_of (section_data file s) (if_found (with_linked file) first >>= if_found (symbols_in file)) >>= λ parts. read (object_in kind file.little file.class parts.0 parts.1.0 parts.1.1)) IsSound
+    IsOkAnd (parts_of (section_data file s) (if_found (with_linked file) first >>= if_found (symbols_in file)) >>= λ parts. or_fault (object_in kind file.little file.class parts.0 parts.1.0 parts.1.1)) IsSound
 by_first kind file s (Ok linked) (Some first) e sound =
     let same : linked ≡ first = cc e in
-    subst (λ (x : SectionHeader). IsOkAnd (parts_of (section_data file s) (if_found (with_linked file) (Some x) >>= if_found (symbols_in file)) >>= λ parts. read (object_in kind file.little file.class parts.0 parts.1.0 parts.1.1)) IsSound) same
+    subst (λ (x : SectionHeader). IsOkAnd (parts_of (section_data file s) (if_found (with_linked file) (Some x) >>= if_found (symbols_in file)) >>= λ parts. or_fault (object_in kind file.little file.class parts.0 parts.1.0 parts.1.1)) IsSound) same
     (with_link (section_data file s) (object_in kind file.little file.class) (with_linked file linked) (symbols_in file) sound.1)
 by_first kind file s (Ok linked) None e sound = absurd (cc e)
 by_first kind file s (Err x) first e sound = absurd sound
@@ -90,7 +90,7 @@ module _ (file : ObjectFile) (sound : SoundFile file) (listed : (i : ℕ) → sl
   no_fault (Ok object) NoSymbols fine h = h
   no_fault (Err first) fault fine h = fine
 
-  by_sections : (gnu sysv : Option SectionHeader) (fault : ObjectFault) → ((s : SectionHeader) → gnu ≡ Some s → SoundSection file s) → ((s : SectionHeader) → sysv ≡ Some s → SoundSection file s) → IfSome (looked_up gnu sysv) (λ chosen. IsHashSection chosen.0 file chosen.1) → IsSomeAnd (object_by file gnu sysv) (λ object. IsFaultOf object fault) → ⊥
+  by_sections : (gnu sysv : Option SectionHeader) (fault : ObjectFault) → ((s : SectionHeader) → gnu ≡ Some s → SoundSection file s) → ((s : SectionHeader) → sysv ≡ Some s → SoundSection file s) → IfSome (kind_and_section gnu sysv) (λ chosen. IsHashSection chosen.0 file chosen.1) → IsSomeAnd (object_by file gnu sysv) (λ object. IsFaultOf object fault) → ⊥
   by_sections (Some s) sysv fault g y fit h = no_fault (section_object Gnu file s) fault (object_sound Gnu s (g s refl) fit) h
   by_sections None (Some s) fault g y fit h = no_fault (section_object Sysv file s) fault (object_sound Sysv s (y s refl) fit) h
   by_sections None None fault g y fit h = h

@@ -25,8 +25,9 @@ use Rattle.elf.specs.ObjectFile.{ObjectFile}
 use Rattle.elf_calls.specs.Question.{Versions as VersionsCall}
 use Rattle.elf_calls.specs.Text.{symbol_count, unless_none}
 use Rattle.elf_lines.specs.Counted.{end_line}
-use Rattle.elf_lines.specs.Pieces.{◌⧺◌, escaped, newline}
-use Rattle.elf_lines.specs.Versions.{def_field, need_field, needed_field, text_of, version_fields, version_line, version_lines, version_name, version_names, versions_listed}
+use Rattle.elf_lines.specs.Pieces.{◌⧺◌, escaped_text, newline}
+use Rattle.elf_records.specs.StringTable.{text_of}
+use Rattle.elf_lines.specs.Versions.{def_field, need_field, needed_field, version_fields, version_line, version_lines, version_name, version_names, versions_listed}
 use Rattle.elf_whole_laws.specs.Answers.{IsAnswered}
 use Rattle.elf_whole_laws.specs.Sure.{name_bytes, sure_def, sure_line, sure_lines, sure_listed, sure_names, sure_need}
 
@@ -58,7 +59,7 @@ names_shown : (names : List (Result (List ℕ) ParseError)) → AllByRecursion I
 names_shown [] all = refl
 names_shown (name ∷ names) all =
     ap (λ (o : Option (List ℕ)). version_name o ++ version_names names) (text_shown name all.0)
-    ∙ ap (λ (rest : List ℕ). (codes " name=" ⧺ escaped (name_bytes name)) ++ rest) (names_shown names all.1)
+    ∙ ap (λ (rest : List ℕ). (codes " name=" ⧺ escaped_text (name_bytes name)) ++ rest) (names_shown names all.1)
 
 def_shown : (found : Definition) → AllByRecursion IsText found.names → def_field (Ok (Some found)) ≡ sure_def (Some found)
 def_shown found all = ap (λ (names : List ℕ). codes "def" ⧺ version_fields found.hash found.flags found.hidden ⧺ names) (names_shown found.names all)

@@ -5,7 +5,7 @@ use Rattle.std.specs.List.{AllByRecursion}
 use Rattle.std.specs.Option.{IfSome, option_map}
 use Rattle.std.specs.Result.{IsOk}
 use Rattle.elf_abi.specs.Values.{ver_flg_base}
-use Rattle.elf_records.specs.StringTable.{string_at}
+use Rattle.elf_records.specs.StringTable.{string_at, text_of}
 use Rattle.elf_records.specs.Table.{Table}
 use Rattle.elf_records.specs.declared.parse.ParseError.{ParseError}
 use Rattle.elf_parts.specs.gnu_symver.Lists.{ver_def_with_aux}
@@ -16,7 +16,7 @@ use Rattle.elf_parts.specs.declared.gnu_symver.records.VerDefAux.{VerDefAux}
 use Rattle.elf_parts.specs.declared.gnu_symver.records.VerNeed.{VerNeed}
 use Rattle.elf_parts.specs.declared.gnu_symver.records.VerNeedAux.{VerNeedAux}
 use Rattle.elf_parts.specs.declared.gnu_symver.records.VersionIndex.{VersionIndex}
-use Rattle.elf_binding.specs.Binding.{defined_as, first_name, index_by, named_version, needed_as, needed_by, text_of, unreadable, version_by}
+use Rattle.elf_binding.specs.Binding.{defined_as, first_name, index_by, named_version, needed_as, needed_by, unreadable, version_by}
 use Rattle.elf_whole.proofs.Looked.{if_defined, if_needed}
 use Rattle.elf_whole.proofs.Texts.{TextPair, all_map, found_holds}
 use Rattle.elf_whole.specs.versions.Indexes.{TextDefinition, TextDefinitions, TextNeeds}

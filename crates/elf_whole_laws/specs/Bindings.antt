@@ -9,9 +9,10 @@ use Rattle.elf_binding.specs.declared.resolve.ObjectFault.{ObjectFault}
 use Rattle.elf_whole_laws.specs.Answers.{IsHashSection}
 use Rattle.elf_records.specs.declared.symbol.Symbol.{Symbol}
 use Rattle.elf.specs.ObjectFile.{ObjectFile}
-use Rattle.elf_binding.specs.Binding.{IsBinding, VersionedObject}
+use Rattle.elf_binding.specs.Binding.{IsBindingFor, VersionedObject}
 use Rattle.elf_binding.specs.BindingObjects.{GivesVersioned}
 use Rattle.elf_binding.specs.declared.BindingFault.{BindingFault}
+use Rattle.elf_binding.specs.declared.ReferenceKind.{ReferenceKind}
 use Rattle.elf_binding.specs.declared.Wanted.{Wanted}
 use Rattle.elf_whole.specs.Sound.{SoundFile}
 
@@ -29,21 +30,22 @@ module _ {C : Type 0} (view : C → VersionedObject) (objects : List C) where
   -- whatever is asked, what a reference binds to is known
   abbrev pub BindsAll : Type 0
   BindsAll =
-      (name : List ℕ) (wanted : Wanted) (result : Result (Option (ℕ × ℕ × Symbol)) BindingFault) →
-      IsBinding view objects name wanted result → IsOk result
+      (kind : ReferenceKind) (name : List ℕ) (wanted : Wanted)
+      (result : Result (Option (ℕ × ℕ × Symbol)) BindingFault) →
+      IsBindingFor view objects name wanted kind result → IsOk result
 
 -- ---- the object that a file is
 
 -- the hash section in which a look-up finds symbols, with its kind: a GNU section, or if there is none a SysV section
-abbrev pub looked_up : Option SectionHeader → Option SectionHeader → Option (HashKind × SectionHeader)
-looked_up (Some gnu) sysv = Some (Gnu, gnu)
-looked_up None (Some sysv) = Some (Sysv, sysv)
-looked_up None None = None
+abbrev pub kind_and_section : Option SectionHeader → Option SectionHeader → Option (HashKind × SectionHeader)
+kind_and_section (Some gnu) sysv = Some (Gnu, gnu)
+kind_and_section None (Some sysv) = Some (Sysv, sysv)
+kind_and_section None None = None
 
 -- it is linked to symbols for dynamic linking, if there is one
 abbrev pub LooksUpDynamic : ObjectFile → Type 0
 LooksUpDynamic file =
-    IfSome (looked_up (first_section_of sht_gnu_hash file.sections) (first_section_of sht_hash file.sections))
+    IfSome (kind_and_section (first_section_of sht_gnu_hash file.sections) (first_section_of sht_hash file.sections))
     (λ chosen. IsHashSection chosen.0 file chosen.1)
 
 -- no error, and an object of a sound file, if there is one

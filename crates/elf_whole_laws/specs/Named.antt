@@ -8,7 +8,7 @@ use Rattle.elf_records.specs.Table.{Table, table_items}
 use Rattle.elf_records.specs.declared.section.SectionHeader.{SectionHeader}
 use Rattle.elf_records.specs.declared.symbol.Symbol.{Symbol}
 use Rattle.elf_lines.specs.Counted.{counted_lines}
-use Rattle.elf_lines.specs.Pieces.{◌⧺◌, escaped, newline}
+use Rattle.elf_lines.specs.Pieces.{◌⧺◌, escaped_text, newline}
 use Rattle.elf_lines.specs.Sections.{section_fields}
 use Rattle.elf_lines.specs.Symbols.{symbol_fields}
 use Rattle.elf_whole.specs.Symbols.{with_names}
@@ -18,7 +18,7 @@ use Rattle.elf_whole.specs.Symbols.{with_names}
 -- the line of symbol k with its name
 abbrev pub named_line : ℕ → Symbol × List ℕ → List ℕ
 named_line k found =
-    codes "symbol " ⧺ decimal k ⧺ codes " " ⧺ (codes "name=" ⧺ escaped found.1) ⧺ symbol_fields found.0 ⧺ newline
+    codes "symbol " ⧺ decimal k ⧺ codes " " ⧺ (codes "name=" ⧺ escaped_text found.1) ⧺ symbol_fields found.0 ⧺ newline
 
 -- the symbols of a table, with the bytes of their names
 abbrev pub named_text : Table × List ℕ → List ℕ
@@ -29,7 +29,7 @@ named_text found = counted_lines named_line (with_names found.1 (table_items sym
 -- the name of a section, if there are names
 abbrev pub sure_name : Option (List ℕ) → ℕ → List ℕ
 sure_name None offset = codes "noname"
-sure_name (Some strings) offset = codes "name=" ⧺ escaped (result_unwrap_or (string_at strings offset) [])
+sure_name (Some strings) offset = codes "name=" ⧺ escaped_text (result_unwrap_or (string_at strings offset) [])
 
 -- the line of section k with its name
 abbrev pub named_section : Option (List ℕ) → ℕ → SectionHeader → List ℕ

@@ -112,7 +112,8 @@ pub fn texts_are_answered<E: EndianParse>(file: &WholeFile<'_, '_, E>)
 }
 
 /// What a reference binds to is known, if each object of a list is the hash table of a file that is sound with the
-/// versions of its symbols: `bind` over these objects returns no error, whatever the name and the version.
+/// versions of its symbols: `bind` and `bind_for` over these objects return no error, whatever the kind, the name and
+/// the version.
 pub fn references_bind<E: EndianParse, V: SymbolVersions<E>>(objects: &[VersionedObject<'_, E, V>])
     ensures { AreOfSound (versioned_view V.versions) objects.now → BindsAll (versioned_view V.versions) objects.now }
 {}

@@ -7,7 +7,7 @@ use Rattle.elf_records.specs.Number.{bytes_at, number_at}
 use Rattle.elf_records.specs.Record.{numbers_at}
 use Rattle.elf_records.specs.StringTable.{string_at}
 use Rattle.elf_parts.specs.SysvFind.{SysvTable}
-use Rattle.elf_check.specs.WithSymbols.{WithSymbols, bloom, name_at, named, word}
+use Rattle.elf_check.specs.WithSymbols.{WithSymbols, bloom, name_at, symbol_and_name, word}
 use Rattle.elf_worked.proofs.Below.{below_one, below_three, below_two}
 use Rattle.elf_worked.specs.Built.{AreGrouped, HasGnuWords, HasSysvWords, IsBuiltGnu, IsBuiltSysv, bloom_of_all, bucket_after, bucket_word, chain_after, gnu_hashes, name_in, run_word, sysv_bucket}
 use Rattle.elf_worked.specs.BuiltSections.{gnu_built_names, sysv_built_names, sysv_built_order}
@@ -54,7 +54,7 @@ abbrev HasItsName : ℕ → Type 0
 HasItsName index = name_at sysv_one.symbols sysv_one.strings index ≡ Some (name_in sysv_built_names index)
 
 sysv_named : All HasItsName sysv_built_order
-unfolding named named_symbol string_at bytes_at number_at numbers_at
+unfolding symbol_and_name named_symbol string_at bytes_at number_at numbers_at
 sysv_named = all_put HasItsName refl refl refl
 
 pub sysv_built : IsBuiltSysv sysv_built_names sysv_built_order sysv_one
@@ -102,7 +102,7 @@ gnu_grouped i (suc (suc zero)) zero a b c e = absurd (omega (arith, b))
 gnu_grouped (suc (suc (suc i))) (suc (suc zero)) k a b c e = absurd (omega (arith, a))
 
 gnu_named : (k : ℕ) → k < 3 → name_at gnu_one.symbols gnu_one.strings (1 + k) ≡ Some (name_in gnu_built_names k)
-unfolding named named_symbol string_at bytes_at number_at numbers_at
+unfolding symbol_and_name named_symbol string_at bytes_at number_at numbers_at
 gnu_named =
     let P : ℕ → Type 0 = λ k. name_at gnu_one.symbols gnu_one.strings (1 + k) ≡ Some (name_in gnu_built_names k) in
     below_three P refl refl refl

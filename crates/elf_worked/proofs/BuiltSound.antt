@@ -24,7 +24,7 @@ use Rattle.elf_check.proofs.SysvScan.{before_end, visits_before}
 use Rattle.elf_check.specs.Indexed.{IndexedSysv, IsFirstNamed, IsLeastNamed}
 use Rattle.elf_check.specs.SoundGnu.{HasBothBits, InRun, RunsTo, SoundGnu, SoundWord}
 use Rattle.elf_check.specs.SoundSysv.{Belongs, EndsAt, SoundSysv, chain_word, value}
-use Rattle.elf_check.specs.WithSymbols.{WithSymbols, name_at, named, word}
+use Rattle.elf_check.specs.WithSymbols.{WithSymbols, name_at, symbol_and_name, word}
 use Rattle.elf_worked.proofs.Grouped.{bits_set, half_of_run_word, leads}
 use Rattle.elf_worked.proofs.PutIn.{Chained, Steps, whole_chain}
 use Rattle.elf_worked.specs.Built.{IsBuiltGnu, IsBuiltSysv, gnu_bucket, gnu_hashes, name_in, run_word, sysv_bucket}
@@ -75,11 +75,11 @@ module _ (names : List (List ℕ)) (put : List ℕ) (s : WithSymbols SysvTable) 
 
   -- the name of a symbol that was put in is such
   name_of : (index : ℕ) → Contains put index → (P : List ℕ → Type 0) → P (name_in names index) →
-      IsSomeAnd (named s.symbols s.strings index) (λ found. P found.1)
+      IsSomeAnd (symbol_and_name s.symbols s.strings index) (λ found. P found.1)
   name_of index member P h =
       let N : ℕ → Type 0 = λ i. name_at s.symbols s.strings i ≡ Some (name_in names i) in
       let name = All-contains N put index built.1.named member in
-      name_such (named s.symbols s.strings index) (name_in names index) P name h
+      name_such (symbol_and_name s.symbols s.strings index) (name_in names index) P name h
 
   -- a symbol that was put in belongs to its bucket
   belongs : (bucket index : ℕ) → Contains put index → bucket_of index ≡ bucket → (0 < index) × Belongs s bucket index
@@ -190,7 +190,7 @@ module _ (names : List (List ℕ)) (s : WithSymbols GnuTable) (built : IsBuiltGn
       let P : ℕ → Type 0 = λ hash. (w / 2 ≡ hash / 2) × HasBothBits s.table hash × InRun s.table k hash in
       let of_hash : P (get_or hashes k 0) = (half, both_bits_set k below, in_run k below) in
       let Q : List ℕ → Type 0 = λ name. P (gnu_hash_of name) in
-      name_such (named s.symbols s.strings (first + k)) (name_in names k) Q (built.1.named k named_k)
+      name_such (symbol_and_name s.symbols s.strings (first + k)) (name_in names k) Q (built.1.named k named_k)
       (subst P (hash_is k below) of_hash)
 
   pub gnu_sound : SoundGnu s
@@ -204,5 +204,5 @@ module _ (names : List (List ℕ)) (s : WithSymbols GnuTable) (built : IsBuiltGn
       let P : List ℕ → Type 0 = λ name. name ≡ name_in names k in
       let within : first + k < first + word_count s.table.chains =
       omega (arith, below, length_of_hashes, built.0.chains.0) in
-      let name = name_such (named s.symbols s.strings (first + k)) (name_in names k) P (built.1.named k below) refl in
+      let name = name_such (symbol_and_name s.symbols s.strings (first + k)) (name_in names k) P (built.1.named k below) refl in
       absurd (none (first + k) ((omega arith, within), name))

@@ -10,7 +10,7 @@ use Rattle.elf_records.specs.Table.{Table}
 use Rattle.elf_check.proofs.GnuVerdicts.{true_fault}
 use Rattle.elf_check.specs.Faults.{IsTrueOfGnu}
 use Rattle.elf_check.specs.SoundGnu.{HasBothBits, InRun, RunsTo, SoundGnu, SoundWord}
-use Rattle.elf_check.specs.WithSymbols.{WithSymbols, bloom, named, word}
+use Rattle.elf_check.specs.WithSymbols.{WithSymbols, bloom, symbol_and_name, word}
 use Rattle.elf_check.specs.declared.hashcheck.HashFault.{HashFault}
 use Rattle.elf_check.specs.declared.hashcheck.HashFault.TheVariants.{NoBloomBit, NotInRun, ShiftTooLarge, Unreadable}
 use Rattle.elf_check.specs.declared.hashcheck.HashFault.TheVariants.{WrongHash}
@@ -27,7 +27,7 @@ unfolding word word_at
 word_begins words k w e = grind (arith, common_steps)
 
 first_word : SoundWord sound_one 0 0x2b606
-unfolding word word_at bloom bloom_word named named_symbol string_at bytes_at number_at numbers_at gnu_hash_of
+unfolding word word_at bloom bloom_word symbol_and_name named_symbol string_at bytes_at number_at numbers_at gnu_hash_of
 first_word = (refl, (lit≤ tt, (refl, refl)), (lit≤ tt, (lit≤ tt, lit≤ tt, λ j v from inside e. absurd (omega (arith, inside)))))
 
 -- the chain word before the second does not end the run
@@ -37,11 +37,11 @@ before_second zero v inside e = let same : 0x2b606 ≡ v = cc e in omega (arith,
 before_second (suc j) v inside e = absurd (omega (arith, inside))
 
 second_word : SoundWord sound_one 1 0x2b609
-unfolding word word_at bloom bloom_word named named_symbol string_at bytes_at number_at numbers_at gnu_hash_of
+unfolding word word_at bloom bloom_word symbol_and_name named_symbol string_at bytes_at number_at numbers_at gnu_hash_of
 second_word = (refl, (lit≤ tt, (refl, refl)), (lit≤ tt, (lit≤ tt, lit≤ tt, λ j v from inside e. before_second j v inside e)))
 
 third_word : SoundWord sound_one 2 0x2b607
-unfolding word word_at bloom bloom_word named named_symbol string_at bytes_at number_at numbers_at gnu_hash_of
+unfolding word word_at bloom bloom_word symbol_and_name named_symbol string_at bytes_at number_at numbers_at gnu_hash_of
 third_word = (refl, (lit≤ tt, (refl, refl)), (lit≤ tt, (lit≤ tt, lit≤ tt, λ j v from inside e. absurd (omega (arith, from, inside)))))
 
 sound_words : (k w : ℕ) → word sound_one.table.chains k ≡ Some w → SoundWord sound_one k w
@@ -62,11 +62,11 @@ shift : IsTrueOfGnu (gnu_with 3 32 0xc0 0x06 0x09) ShiftTooLarge
 shift = lit≤ tt
 
 unreadable : IsTrueOfGnu (gnu_with 8 5 0xc0 0x06 0x09) (Unreadable 2)
-unfolding word word_at named named_symbol string_at bytes_at number_at numbers_at
+unfolding word word_at symbol_and_name named_symbol string_at bytes_at number_at numbers_at
 unreadable = (lit≤ tt, (1, refl, refl))
 
 wrong_hash : IsTrueOfGnu (gnu_with 3 5 0xc0 0x06 0x0b) (WrongHash 2)
-unfolding word word_at named named_symbol string_at bytes_at number_at numbers_at gnu_hash_of
+unfolding word word_at symbol_and_name named_symbol string_at bytes_at number_at numbers_at gnu_hash_of
 wrong_hash = (lit≤ tt, (1, refl, λ e. absurd (omega (arith, e))))
 
 no_bits : HasBothBits (gnu_with 3 5 0x40 0x06 0x09).table 0x2b607 → ⊥
@@ -74,7 +74,7 @@ unfolding word word_at bloom bloom_word bytes_at number_at numbers_at
 no_bits h = let one : 0 ≡ 1 = h.1.0 in omega (arith, one)
 
 no_bloom_bit : IsTrueOfGnu (gnu_with 3 5 0x40 0x06 0x09) (NoBloomBit 3)
-unfolding word word_at named named_symbol string_at bytes_at number_at numbers_at gnu_hash_of
+unfolding word word_at symbol_and_name named_symbol string_at bytes_at number_at numbers_at gnu_hash_of
 no_bloom_bit = (lit≤ tt, (2, refl, (refl, no_bits)))
 
 no_run : InRun (gnu_with 3 5 0xc0 0x07 0x09).table 1 0x2b608 → ⊥
@@ -85,7 +85,7 @@ no_run h =
     omega (arith, even)
 
 not_in_run : IsTrueOfGnu (gnu_with 3 5 0xc0 0x07 0x09) (NotInRun 2)
-unfolding word word_at bloom bloom_word named named_symbol string_at bytes_at number_at numbers_at gnu_hash_of
+unfolding word word_at bloom bloom_word symbol_and_name named_symbol string_at bytes_at number_at numbers_at gnu_hash_of
 not_in_run = (lit≤ tt, (1, refl, (refl, (lit≤ tt, (refl, refl)), no_run)))
 
 -- ---- a section is not sound if a fault is true of it

@@ -10,7 +10,7 @@ use Rattle.elf_check.proofs.SysvVerdicts.{true_fault}
 use Rattle.elf_check.specs.Faults.{IsTrueOfSysv}
 use Rattle.elf_check.specs.SoundGnu.{SoundGnu, SoundWord}
 use Rattle.elf_check.specs.SoundSysv.{SoundSysv, value}
-use Rattle.elf_check.specs.WithSymbols.{bloom, named, word}
+use Rattle.elf_check.specs.WithSymbols.{bloom, symbol_and_name, word}
 use Rattle.elf_check.specs.declared.hashcheck.HashFault.TheVariants.{Endless}
 use Rattle.elf_worked.proofs.Below.{below_one, below_three, suc_other}
 use Rattle.elf_worked.proofs.GnuSound.{word_begins}
@@ -20,7 +20,7 @@ use Rattle.elf_worked.specs.HashesOfA.{gnu_of_a, sysv_of_a}
 -- ---- SysV
 
 pub sysv_of_a_sound : SoundSysv (sysv_of_a 0)
-unfolding word word_at named named_symbol string_at bytes_at number_at numbers_at sysv_hash_of
+unfolding word word_at symbol_and_name named_symbol string_at bytes_at number_at numbers_at sysv_hash_of
 sysv_of_a_sound zero h = (1, (lit≤ tt, refl, below_one (IsVisit (sysv_of_a 0) 0) (lit≤ tt, (lit≤ tt, refl))))
 sysv_of_a_sound (suc bucket) h = absurd (omega (arith, h))
 
@@ -36,7 +36,7 @@ sysv_of_a_cyclic sound = true_fault (sysv_of_a 1) sound (Endless 0) cyclic
 -- ---- GNU
 
 only_word : SoundWord gnu_of_a 0 0x2b607
-unfolding word word_at bloom bloom_word named named_symbol string_at bytes_at number_at numbers_at gnu_hash_of
+unfolding word word_at bloom bloom_word symbol_and_name named_symbol string_at bytes_at number_at numbers_at gnu_hash_of
 only_word = (refl, (lit≤ tt, (refl, refl)), (lit≤ tt, (lit≤ tt, lit≤ tt, λ j v from inside e. absurd (omega (arith, inside)))))
 
 sound_words : (k w : ℕ) → word gnu_of_a.table.chains k ≡ Some w → SoundWord gnu_of_a k w

@@ -14,7 +14,7 @@ use Rattle.elf_check.proofs.SysvScan.{sysv_scan}
 use Rattle.elf_check.specs.Indexed.{IsFirstNamed, IsLeastNamed}
 use Rattle.elf_check.specs.Object.{Has, Object}
 use Rattle.elf_binding.specs.Resolve.{At}
-use Rattle.elf_check.specs.WithSymbols.{named, word}
+use Rattle.elf_check.specs.WithSymbols.{symbol_and_name, word}
 use Rattle.elf_check.specs.inner.SoundProps.{GnuReads, SysvReads}
 use Rattle.elf_worked.proofs.Below.{below_one, below_two, some_other}
 use Rattle.elf_worked.proofs.GnuSound.{gnu_sound}
@@ -82,16 +82,16 @@ d_in_two = two_finds (codes "d") None refl
 -- ---- which object has a name
 
 one_has_b : Has (codes "b") first_object
-unfolding word word_at named named_symbol string_at bytes_at number_at numbers_at
+unfolding word word_at symbol_and_name named_symbol string_at bytes_at number_at numbers_at
 one_has_b =
     (3, ((0, 1, lit≤ tt, (lit≤ tt, refl, λ i most. below_two (IsOther one 0) (some_other 0) (some_other 2) i (omega (arith, most)))), refl))
 
 two_has_b : Has (codes "b") second_object
-unfolding word word_at named named_symbol string_at bytes_at number_at numbers_at
+unfolding word word_at symbol_and_name named_symbol string_at bytes_at number_at numbers_at
 two_has_b = (3, ((lit≤ tt, lit≤ tt), refl))
 
 two_has_c : Has (codes "c") second_object
-unfolding word word_at named named_symbol string_at bytes_at number_at numbers_at
+unfolding word word_at symbol_and_name named_symbol string_at bytes_at number_at numbers_at
 two_has_c = (2, ((lit≤ tt, lit≤ tt), refl))
 
 -- ---- answers

@@ -8,7 +8,7 @@ use Rattle.elf_records.specs.StringTable.{string_at}
 use Rattle.elf_check.proofs.SysvVerdicts.{true_fault}
 use Rattle.elf_check.specs.Faults.{IsTrueOfSysv}
 use Rattle.elf_check.specs.SoundSysv.{Belongs, SoundSysv, value}
-use Rattle.elf_check.specs.WithSymbols.{WithSymbols, named, word}
+use Rattle.elf_check.specs.WithSymbols.{WithSymbols, symbol_and_name, word}
 use Rattle.elf_check.specs.declared.hashcheck.HashFault.{HashFault}
 use Rattle.elf_check.specs.declared.hashcheck.HashFault.TheVariants.{Endless, PastChains, Unreadable, WrongBucket}
 use Rattle.elf_parts.specs.SysvFind.{SysvTable}
@@ -30,7 +30,7 @@ abbrev pub IsOther : WithSymbols SysvTable → ℕ → ℕ → Type 0
 IsOther s bucket i = value s.table bucket i ≢ Some 0
 
 pub sysv_sound : SoundSysv sound_one
-unfolding word word_at named named_symbol string_at bytes_at number_at numbers_at sysv_hash_of
+unfolding word word_at symbol_and_name named_symbol string_at bytes_at number_at numbers_at sysv_hash_of
 sysv_sound zero h = (2, (lit≤ tt, refl, below_two (IsVisit sound_one 0) (lit≤ tt, (lit≤ tt, refl)) (lit≤ tt, (lit≤ tt, refl))))
 sysv_sound (suc zero) h = (1, (lit≤ tt, refl, below_one (IsVisit sound_one 1) (lit≤ tt, (lit≤ tt, refl))))
 sysv_sound (suc (suc bucket)) h = absurd (omega (arith, h))
@@ -48,12 +48,12 @@ past_chains =
     ((lit≤ tt, (1, (lit≤ tt, refl, λ i most. below_two (IsOther (sysv_with 8 []) 0) (some_other 0) (some_other 2) i (omega (arith, most))))), lit≤ tt)
 
 unreadable : IsTrueOfSysv (sysv_with 11 (in_four 0)) (Unreadable 3)
-unfolding word word_at named named_symbol string_at bytes_at number_at numbers_at
+unfolding word word_at symbol_and_name named_symbol string_at bytes_at number_at numbers_at
 unreadable =
     ((0, (lit≤ tt, (1, (lit≤ tt, refl, λ i most. below_two (IsOther (sysv_with 11 (in_four 0)) 0) (some_other 0) (some_other 2) i (omega (arith, most)))))), refl)
 
 wrong_bucket : IsTrueOfSysv (sysv_with 8 (in_four 2)) (WrongBucket 0 2)
-unfolding word word_at named named_symbol string_at bytes_at number_at numbers_at sysv_hash_of
+unfolding word word_at symbol_and_name named_symbol string_at bytes_at number_at numbers_at sysv_hash_of
 wrong_bucket =
     ((lit≤ tt, (2, (lit≤ tt, refl, λ i most. below_three (IsOther (sysv_with 8 (in_four 2)) 0) (some_other 0) (some_other 2) (some_other 1) i (omega (arith, most))))), suc_other 0)
 

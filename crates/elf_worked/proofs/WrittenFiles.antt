@@ -28,7 +28,7 @@ use Rattle.elf.specs.ObjectFile.{object_file}
 use Rattle.elf.specs.Headers.{section_at, section_range}
 use Rattle.elf_check.proofs.Reading.{ok_from_some}
 use Rattle.std.proofs.lemmas.Option.{slice_get_within}
-use Rattle.elf_reading.specs.Opening.{first_section, header_at_front, opened, section_count, section_table, segment_count, segment_table, table_bytes}
+use Rattle.elf_reading.specs.Opening.{first_section, header_at_front, opened_file, section_count, section_table, segment_count, segment_table, table_bytes}
 use Rattle.elf_reading.specs.Opening.{section_list, segment_list}
 use Rattle.elf_worked.specs.WrittenFiles.{IsWritten, LieAt, NamesLie, SectionsLie, SegmentsLie, TableLies, declared_names, phdr_size, declared_sections, segments_of, declared_segments, shdr_size, written_sections, written_segments, written_view}
 
@@ -185,7 +185,7 @@ segments_read little h of_byte sections (Some segments) bytes w lie =
     (segments_counted little h of_byte sections (Some segments) bytes w n sections lie.count (first_found little h sections bytes w.small w.sections_lie))
     (table_cut program_header_layout program_header_struct program_header_is_struct (little h.endianness) h.class (phdr_size h.class) segments bytes h.e_phoff h.e_phentsize (declared_segments h sections) (phdr_same h.class) w.small lie)
 
-pub file_opened : {E : Type 0} (little : E → Bool) (h : FileHeader E) (of_byte : ℕ → Option E) (sections : List SectionHeader) (segments : Option (List ProgramHeader)) (bytes : List ℕ) → IsWritten little h of_byte sections segments bytes → opened little of_byte bytes ≡ Ok (written_view little h sections segments bytes)
+pub file_opened : {E : Type 0} (little : E → Bool) (h : FileHeader E) (of_byte : ℕ → Option E) (sections : List SectionHeader) (segments : Option (List ProgramHeader)) (bytes : List ℕ) → IsWritten little h of_byte sections segments bytes → opened_file little of_byte bytes ≡ Ok (written_view little h sections segments bytes)
 file_opened little h of_byte sections segments bytes w =
     three_steps (header_at_front little of_byte bytes) (λ x. section_table little x bytes) (λ x. segment_table little x bytes)
     (λ x y z. record { ehdr = x; bytes = bytes; sections = y; segments = z })

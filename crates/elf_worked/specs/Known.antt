@@ -12,8 +12,8 @@ use Rattle.elf_records.specs.declared.section.SectionHeader.{SectionHeader}
 use Rattle.elf_records.specs.declared.segment.ProgramHeader.{ProgramHeader}
 use Rattle.elf.specs.Names.{name_table}
 use Rattle.elf.specs.ObjectFile.{object_file}
-use Rattle.elf_reading.specs.Opening.{opened}
-use Rattle.elf_reading.specs.Opening.{View}
+use Rattle.elf_reading.specs.Opening.{opened_file}
+use Rattle.elf_reading.specs.Opening.{FileView}
 use Rattle.elf_calls.specs.Question.{Question}
 use Rattle.elf_calls.specs.Text.{text}
 use Rattle.elf_worked.specs.Files.{elsewhere, header_of_tables, in_eight, in_four, in_two, loaded_segment}
@@ -42,7 +42,7 @@ small_header = record {
 }
 
 -- it declares no table
-abbrev pub small_view : View AnyEndian
+abbrev pub small_view : FileView AnyEndian
 small_view = record { ehdr = small_header; bytes = small_file; sections = None; segments = None }
 
 -- the header of the file with two sections, and with another e_shstrndx
@@ -72,7 +72,7 @@ abbrev pub two_table : Table
 two_table = table_in true ELF32 (null_section (zeros 4) ++ names_section (in_four 1))
 
 -- what it shows, and with another e_shstrndx in the standing header
-abbrev pub two_view_with : ℕ → View AnyEndian
+abbrev pub two_view_with : ℕ → FileView AnyEndian
 two_view_with shstrndx = record {
   ehdr = two_header_with shstrndx;
   bytes = two_sections;
@@ -80,7 +80,7 @@ two_view_with shstrndx = record {
   segments = None;
 }
 
-abbrev pub two_view : View AnyEndian
+abbrev pub two_view : FileView AnyEndian
 two_view = two_view_with 1
 
 -- the first of its section headers, all of whose fields are 0, and the second
@@ -156,11 +156,11 @@ extended_file =
     ++ loaded_segment
 
 -- the file that the bytes hold, in the order that they give
-abbrev pub opening : List ℕ → Result (View AnyEndian) ParseError
-opening bytes = opened any_is_little any_of_byte bytes
+abbrev pub opening : List ℕ → Result (FileView AnyEndian) ParseError
+opening bytes = opened_file any_is_little any_of_byte bytes
 
 -- the bytes of the names of the sections of a file that was opened
-abbrev pub names_in : View AnyEndian → Result (Option (List ℕ)) ParseError
+abbrev pub names_in : FileView AnyEndian → Result (Option (List ℕ)) ParseError
 names_in file = name_table (object_file any_is_little file)
 
 -- the text of the calls over that file

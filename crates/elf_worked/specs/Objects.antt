@@ -6,7 +6,7 @@ use Rattle.elf_records.specs.declared.section.SectionHeader.{SectionHeader}
 use Rattle.elf_records.specs.declared.segment.ProgramHeader.{ProgramHeader}
 use Rattle.elf_records.specs.declared.symbol.Symbol.{Symbol}
 use Rattle.elf.specs.ObjectFile.{ObjectFile}
-use Rattle.elf_worked.specs.Files.{counted}
+use Rattle.elf_worked.specs.Files.{counted_file}
 
 -- a symbol with this st_info and this st_other
 abbrev pub symbol_with : ℕ → ℕ → Symbol
@@ -79,4 +79,4 @@ object_with bytes sections segments = record {
 
 -- one of the bytes 00 to 3f, without headers
 abbrev pub small_object : ObjectFile
-small_object = object_with counted [] []
+small_object = object_with counted_file [] []

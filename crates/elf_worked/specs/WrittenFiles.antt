@@ -10,7 +10,7 @@ use Rattle.elf_records.specs.declared.file.Class.TheVariants.{ELF32, ELF64}
 use Rattle.elf_records.specs.declared.file.FileHeader.{FileHeader}
 use Rattle.elf_records.specs.declared.section.SectionHeader.{SectionHeader}
 use Rattle.elf_records.specs.declared.segment.ProgramHeader.{ProgramHeader}
-use Rattle.elf_reading.specs.Opening.{View}
+use Rattle.elf_reading.specs.Opening.{FileView}
 
 -- these bytes lie at o
 pub record LieAt (part bytes : List ℕ) (o : ℕ) : Type 0 where
@@ -91,7 +91,7 @@ module _ {E : Type 0} (little : E → Bool) (h : FileHeader E) where
       let bytes = table_of (little h.endianness) (program_header_struct h.class) segments in
       Some (table_in (little h.endianness) h.class bytes)
 
-  abbrev pub written_view : List SectionHeader → Option (List ProgramHeader) → List ℕ → View E
+  abbrev pub written_view : List SectionHeader → Option (List ProgramHeader) → List ℕ → FileView E
   written_view sections segments bytes = record {
     ehdr = h;
     bytes = bytes;

@@ -1,7 +1,9 @@
 //! Which symbols a reference may bind to, and which of them serves it.
 ghost use Rattle.std.specs.Prelude.{◌≡◌, ℕ, List, [], ◌∷◌, true, false, Ok, Err, None, Some};
 ghost use Rattle.elf_binding.specs.Binding.{VersionedObject, ChosenAt, IsBinding, is_definition, unreadable};
-ghost use Rattle.elf_binding.specs.Binding.{version_of};
+ghost use Rattle.elf_binding.specs.Binding.{IsBindingFor, IsChosenFor, is_definition_for, version_of};
+ghost use Rattle.elf_binding.specs.ReferenceKinds.{reference_kind};
+ghost use Rattle.elf_binding.specs.declared.ReferenceKind.TheVariants.{Address, Copied, JumpSlot};
 ghost use Rattle.elf_binding.specs.declared.Version.{Version};
 ghost use Rattle.elf_binding.specs.declared.Wanted.{Wanted};
 ghost use Rattle.elf_binding.specs.declared.Wanted.TheVariants.{Any, Compatible, Only};
@@ -26,6 +28,35 @@ pub fn definitions()
     ensures section { is_definition (symbol_at 0x13 0 1 16) ≡ false }
     ensures hidden { is_definition (symbol_at 0x12 2 1 16) ≡ false }
     ensures internal { is_definition (symbol_at 0x12 1 1 16) ≡ false }
+{}
+
+/// An undefined symbol with a value serves a reference that is no call, if other files may bind to it and it is not
+/// thread-local.
+pub fn definitions_by_kind()
+    ensures call { is_definition_for JumpSlot (symbol_at 0x12 0 0 16) ≡ false }
+    ensures address { is_definition_for Address (symbol_at 0x12 0 0 16) ≡ true }
+    ensures copied { is_definition_for Copied (symbol_at 0x12 0 0 16) ≡ true }
+    ensures defined { is_definition_for Address (symbol_at 0x12 0 1 16) ≡ true }
+    ensures defined_call { is_definition_for JumpSlot (symbol_at 0x12 0 1 16) ≡ true }
+    ensures no_value { is_definition_for Address (symbol_at 0x12 0 0 0) ≡ false }
+    ensures hidden { is_definition_for Address (symbol_at 0x12 2 0 16) ≡ false }
+    ensures local { is_definition_for Address (symbol_at 0x02 0 0 16) ≡ false }
+    ensures thread_local { is_definition_for Address (symbol_at 0x16 0 0 16) ≡ false }
+{}
+
+/// The relocation types of jump slots and copies: of x86-64 (62), AArch64 (183), RISC-V (243), and of MIPS (8), for which
+/// each relocation counts as a jump slot.
+pub fn kinds_of_relocations()
+    ensures jump_slot { reference_kind 62 7 ≡ JumpSlot }
+    ensures global_data { reference_kind 62 6 ≡ Address }
+    ensures direct { reference_kind 62 1 ≡ Address }
+    ensures copy { reference_kind 62 5 ≡ Copied }
+    ensures aarch64_jump_slot { reference_kind 183 1026 ≡ JumpSlot }
+    ensures aarch64_global_data { reference_kind 183 1025 ≡ Address }
+    ensures aarch64_copy { reference_kind 183 1024 ≡ Copied }
+    ensures riscv_jump_slot { reference_kind 243 5 ≡ JumpSlot }
+    ensures riscv_copy { reference_kind 243 4 ≡ Copied }
+    ensures mips { reference_kind 8 3 ≡ JumpSlot }
 {}
 
 /// The version of a symbol goes by its version index without bit 15. What is defined for the file itself is no version,
@@ -96,4 +127,14 @@ pub fn bound_in_two()
         → ChosenAt (λ object. object) (one ∷ two ∷ []) name wanted 0 (Ok None)
         → ChosenAt (λ object. object) (one ∷ two ∷ []) name wanted 1 (Ok None)
         → IsBinding (λ object. object) (one ∷ two ∷ []) name wanted (Ok None) }
+{}
+
+/// A copy passes over the first object, the program, and other references do not.
+pub fn bound_by_a_copy()
+    ensures copy { (one two : VersionedObject) (name : List ℕ) (wanted : Wanted) (found : ℕ × Symbol)
+        → IsChosenFor Copied two name wanted (Ok (Some found))
+        → IsBindingFor (λ object. object) (one ∷ two ∷ []) name wanted Copied (Ok (Some (1, found.0, found.1))) }
+    ensures address { (one two : VersionedObject) (name : List ℕ) (wanted : Wanted) (found : ℕ × Symbol)
+        → IsChosenFor Address one name wanted (Ok (Some found))
+        → IsBindingFor (λ object. object) (one ∷ two ∷ []) name wanted Address (Ok (Some (0, found.0, found.1))) }
 {}

@@ -12,7 +12,7 @@ ghost use Rattle.elf_records.specs.declared.file.Class.TheVariants.{ELF32, ELF64
 ghost use Rattle.elf_records.specs.declared.parse.ParseError.TheVariants.{BadMagic, IntegerOverflow};
 ghost use Rattle.elf_records.specs.declared.parse.ParseError.TheVariants.{SliceReadError, UnsupportedElfClass};
 ghost use Rattle.elf_records.specs.declared.parse.ParseError.TheVariants.{UnsupportedElfEndianness, UnsupportedVersion};
-ghost use Rattle.elf_worked.specs.Files.{counted, small_tail};
+ghost use Rattle.elf_worked.specs.Files.{counted_file, small_tail};
 ghost use Rattle.elf_worked.specs.Known.{small_header};
 ghost use Rattle.elf_worked.specs.Records.{versioned_layout};
 
@@ -75,7 +75,7 @@ pub fn ident_of_one_order()
 
 /// A 64-bit section header of the bytes 00 to 3f, in both orders.
 pub fn section_header_of_64_bits()
-    ensures little { record_by section_header_layout true ELF64 counted 0 ≡ Ok (record {
+    ensures little { record_by section_header_layout true ELF64 counted_file 0 ≡ Ok (record {
       sh_name = 0x03020100;
       sh_type = 0x07060504;
       sh_flags = 0x0f0e0d0c0b0a0908;
@@ -87,7 +87,7 @@ pub fn section_header_of_64_bits()
       sh_addralign = 0x3736353433323130;
       sh_entsize = 0x3f3e3d3c3b3a3938;
     }) }
-    ensures big { record_by section_header_layout false ELF64 counted 0 ≡ Ok (record {
+    ensures big { record_by section_header_layout false ELF64 counted_file 0 ≡ Ok (record {
       sh_name = 0x00010203;
       sh_type = 0x04050607;
       sh_flags = 0x08090a0b0c0d0e0f;
@@ -99,12 +99,12 @@ pub fn section_header_of_64_bits()
       sh_addralign = 0x3031323334353637;
       sh_entsize = 0x38393a3b3c3d3e3f;
     }) }
-    ensures moved { offset_by section_header_layout true ELF64 counted 0 ≡ 64 }
+    ensures moved { offset_by section_header_layout true ELF64 counted_file 0 ≡ 64 }
 {}
 
 /// A 32-bit section header of the bytes 00 to 27, in both orders, and of the bytes 18 to 3f.
 pub fn section_header_of_32_bits()
-    ensures little { record_by section_header_layout true ELF32 (take 40 counted) 0 ≡ Ok (record {
+    ensures little { record_by section_header_layout true ELF32 (take 40 counted_file) 0 ≡ Ok (record {
       sh_name = 0x03020100;
       sh_type = 0x07060504;
       sh_flags = 0x0b0a0908;
@@ -116,7 +116,7 @@ pub fn section_header_of_32_bits()
       sh_addralign = 0x23222120;
       sh_entsize = 0x27262524;
     }) }
-    ensures big { record_by section_header_layout false ELF32 counted 0 ≡ Ok (record {
+    ensures big { record_by section_header_layout false ELF32 counted_file 0 ≡ Ok (record {
       sh_name = 0x00010203;
       sh_type = 0x04050607;
       sh_flags = 0x08090a0b;
@@ -128,7 +128,7 @@ pub fn section_header_of_32_bits()
       sh_addralign = 0x20212223;
       sh_entsize = 0x24252627;
     }) }
-    ensures later { record_by section_header_layout true ELF32 counted 24 ≡ Ok (record {
+    ensures later { record_by section_header_layout true ELF32 counted_file 24 ≡ Ok (record {
       sh_name = 0x1b1a1918;
       sh_type = 0x1f1e1d1c;
       sh_flags = 0x23222120;
@@ -140,12 +140,12 @@ pub fn section_header_of_32_bits()
       sh_addralign = 0x3b3a3938;
       sh_entsize = 0x3f3e3d3c;
     }) }
-    ensures moved { offset_by section_header_layout true ELF32 counted 24 ≡ 64 }
+    ensures moved { offset_by section_header_layout true ELF32 counted_file 24 ≡ 64 }
 {}
 
 /// A 64-bit program header of the bytes 00 to 37: its flags follow its type.
 pub fn program_header_of_64_bits()
-    ensures little { record_by program_header_layout true ELF64 (take 56 counted) 0 ≡ Ok (record {
+    ensures little { record_by program_header_layout true ELF64 (take 56 counted_file) 0 ≡ Ok (record {
       p_type = 0x03020100;
       p_offset = 0x0f0e0d0c0b0a0908;
       p_vaddr = 0x1716151413121110;
@@ -155,7 +155,7 @@ pub fn program_header_of_64_bits()
       p_flags = 0x07060504;
       p_align = 0x3736353433323130;
     }) }
-    ensures big { record_by program_header_layout false ELF64 (take 56 counted) 0 ≡ Ok (record {
+    ensures big { record_by program_header_layout false ELF64 (take 56 counted_file) 0 ≡ Ok (record {
       p_type = 0x00010203;
       p_offset = 0x08090a0b0c0d0e0f;
       p_vaddr = 0x1011121314151617;
@@ -165,12 +165,12 @@ pub fn program_header_of_64_bits()
       p_flags = 0x04050607;
       p_align = 0x3031323334353637;
     }) }
-    ensures moved { offset_by program_header_layout true ELF64 counted 0 ≡ 56 }
+    ensures moved { offset_by program_header_layout true ELF64 counted_file 0 ≡ 56 }
 {}
 
 /// A 32-bit program header of the bytes 00 to 1f: its flags come before its alignment.
 pub fn program_header_of_32_bits()
-    ensures little { record_by program_header_layout true ELF32 (take 32 counted) 0 ≡ Ok (record {
+    ensures little { record_by program_header_layout true ELF32 (take 32 counted_file) 0 ≡ Ok (record {
       p_type = 0x03020100;
       p_offset = 0x07060504;
       p_vaddr = 0x0b0a0908;
@@ -180,7 +180,7 @@ pub fn program_header_of_32_bits()
       p_flags = 0x1b1a1918;
       p_align = 0x1f1e1d1c;
     }) }
-    ensures big { record_by program_header_layout false ELF32 (take 32 counted) 0 ≡ Ok (record {
+    ensures big { record_by program_header_layout false ELF32 (take 32 counted_file) 0 ≡ Ok (record {
       p_type = 0x00010203;
       p_offset = 0x04050607;
       p_vaddr = 0x08090a0b;
@@ -190,7 +190,7 @@ pub fn program_header_of_32_bits()
       p_flags = 0x18191a1b;
       p_align = 0x1c1d1e1f;
     }) }
-    ensures moved { offset_by program_header_layout true ELF32 counted 0 ≡ 32 }
+    ensures moved { offset_by program_header_layout true ELF32 counted_file 0 ≡ 32 }
 {}
 
 /// How many bytes each of these records has.
@@ -204,32 +204,32 @@ pub fn sizes_of_records()
 /// Section headers that do not fit into what is there: the error is that of the first field that ends
 /// after the bytes.
 pub fn refused_records()
-    ensures fourth_field { record_by section_header_layout true ELF64 (take 20 counted) 0
+    ensures fourth_field { record_by section_header_layout true ELF64 (take 20 counted_file) 0
         ≡ Err (SliceReadError (16, 24)) }
-    ensures fourth_field_later { record_by section_header_layout true ELF64 (take 20 counted) 3
+    ensures fourth_field_later { record_by section_header_layout true ELF64 (take 20 counted_file) 3
         ≡ Err (SliceReadError (19, 27)) }
-    ensures last_field { record_by section_header_layout true ELF32 counted 25
+    ensures last_field { record_by section_header_layout true ELF32 counted_file 25
         ≡ Err (SliceReadError (61, 65)) }
-    ensures first_field { record_by section_header_layout true ELF64 counted 64
+    ensures first_field { record_by section_header_layout true ELF64 counted_file 64
         ≡ Err (SliceReadError (64, 68)) }
-    ensures second_field { record_by program_header_layout true ELF64 (take 7 counted) 0
+    ensures second_field { record_by program_header_layout true ELF64 (take 7 counted_file) 0
         ≡ Err (SliceReadError (4, 8)) }
-    ensures past_64_bits { record_by section_header_layout true ELF64 counted (2 ^ 64 - 1)
+    ensures past_64_bits { record_by section_header_layout true ELF64 counted_file (2 ^ 64 - 1)
         ≡ Err IntegerOverflow }
-    ensures at_64_bits { record_by section_header_layout true ELF64 counted (2 ^ 64 - 4)
+    ensures at_64_bits { record_by section_header_layout true ELF64 counted_file (2 ^ 64 - 4)
         ≡ Err IntegerOverflow }
-    ensures below_64_bits { record_by section_header_layout true ELF64 counted (2 ^ 64 - 5)
+    ensures below_64_bits { record_by section_header_layout true ELF64 counted_file (2 ^ 64 - 5)
         ≡ Err (SliceReadError (18446744073709551611, 18446744073709551615)) }
 {}
 
 /// A refused record leaves the offset at the field of the error.
 pub fn offsets_of_refused_records()
-    ensures fourth_field { offset_by section_header_layout true ELF64 (take 20 counted) 0 ≡ 16 }
-    ensures fourth_field_later { offset_by section_header_layout true ELF64 (take 20 counted) 3 ≡ 19 }
-    ensures last_field { offset_by section_header_layout true ELF32 counted 25 ≡ 61 }
-    ensures first_field { offset_by section_header_layout true ELF64 counted 64 ≡ 64 }
-    ensures second_field { offset_by program_header_layout true ELF64 (take 7 counted) 0 ≡ 4 }
-    ensures past_64_bits { offset_by section_header_layout true ELF64 counted (2 ^ 64 - 1)
+    ensures fourth_field { offset_by section_header_layout true ELF64 (take 20 counted_file) 0 ≡ 16 }
+    ensures fourth_field_later { offset_by section_header_layout true ELF64 (take 20 counted_file) 3 ≡ 19 }
+    ensures last_field { offset_by section_header_layout true ELF32 counted_file 25 ≡ 61 }
+    ensures first_field { offset_by section_header_layout true ELF64 counted_file 64 ≡ 64 }
+    ensures second_field { offset_by program_header_layout true ELF64 (take 7 counted_file) 0 ≡ 4 }
+    ensures past_64_bits { offset_by section_header_layout true ELF64 counted_file (2 ^ 64 - 1)
         ≡ 18446744073709551615 }
 {}
 
@@ -253,14 +253,14 @@ pub fn versioned_record()
 /// The tail of the small file, by itself and with bytes after it.
 pub fn tail_of_small_file()
     ensures alone { header_with_tail any_is_little (Little, ELF64, 0, 0) small_tail ≡ Ok small_header }
-    ensures more { header_with_tail any_is_little (Little, ELF64, 0, 0) (small_tail ++ counted)
+    ensures more { header_with_tail any_is_little (Little, ELF64, 0, 0) (small_tail ++ counted_file)
         ≡ Ok small_header }
 {}
 
 /// The bytes 00 to 2f as the tail of a 64-bit header in little order, and the bytes 00 to 23 as that of a
 /// 32-bit header in big order.
 pub fn tail_of_counted_bytes()
-    ensures little { header_with_tail any_is_little (Little, ELF64, 0, 0) (take 48 counted) ≡ Ok (record {
+    ensures little { header_with_tail any_is_little (Little, ELF64, 0, 0) (take 48 counted_file) ≡ Ok (record {
       class = ELF64;
       endianness = Little;
       version = 0x07060504;
@@ -279,7 +279,7 @@ pub fn tail_of_counted_bytes()
       e_shnum = 0x2d2c;
       e_shstrndx = 0x2f2e;
     }) }
-    ensures big { header_with_tail any_is_little (Big, ELF32, 3, 4) (take 36 counted) ≡ Ok (record {
+    ensures big { header_with_tail any_is_little (Big, ELF32, 3, 4) (take 36 counted_file) ≡ Ok (record {
       class = ELF32;
       endianness = Big;
       version = 0x04050607;
@@ -304,10 +304,10 @@ pub fn tail_of_counted_bytes()
 pub fn tail_that_is_cut()
     ensures none { header_with_tail any_is_little (Little, ELF64, 0, 0) []
         ≡ Err (SliceReadError (0, 2)) }
-    ensures entry { header_with_tail any_is_little (Little, ELF64, 0, 0) (take 12 counted)
+    ensures entry { header_with_tail any_is_little (Little, ELF64, 0, 0) (take 12 counted_file)
         ≡ Err (SliceReadError (8, 16)) }
-    ensures last { header_with_tail any_is_little (Little, ELF64, 0, 0) (take 47 counted)
+    ensures last { header_with_tail any_is_little (Little, ELF64, 0, 0) (take 47 counted_file)
         ≡ Err (SliceReadError (46, 48)) }
-    ensures place { header_with_tail any_is_little (Big, ELF32, 3, 4) (take 12 counted)
+    ensures place { header_with_tail any_is_little (Big, ELF32, 3, 4) (take 12 counted_file)
         ≡ Err (SliceReadError (12, 16)) }
 {}

@@ -11,7 +11,7 @@ ghost use Rattle.elf_records.specs.declared.file.Class.TheVariants.{ELF32, ELF64
 ghost use Rattle.elf_records.specs.declared.parse.ParseError.TheVariants.{BadEntsize, BadMagic};
 ghost use Rattle.elf_records.specs.declared.parse.ParseError.TheVariants.{BadOffset, IntegerOverflow};
 ghost use Rattle.elf_records.specs.declared.parse.ParseError.TheVariants.{SliceReadError, UnsupportedElfEndianness};
-ghost use Rattle.elf_reading.specs.Opening.{opened};
+ghost use Rattle.elf_reading.specs.Opening.{opened_file};
 ghost use Rattle.elf.specs.Headers.{section_at};
 ghost use Rattle.elf_worked.specs.Files.{compressed_section, counted_by_info, counted_by_size, elsewhere};
 ghost use Rattle.elf_worked.specs.Files.{header_as_section, header_of_tables, in_eight, in_four};
@@ -193,7 +193,7 @@ pub fn names_by_standing_header()
 
 /// A type that has one order refuses a file of the other.
 pub fn files_of_one_order()
-    ensures not_little { opened (λ _. true) little_of_byte two_sections_big
+    ensures not_little { opened_file (λ _. true) little_of_byte two_sections_big
         ≡ Err (UnsupportedElfEndianness 2) }
-    ensures not_big { opened (λ _. false) big_of_byte two_sections ≡ Err (UnsupportedElfEndianness 1) }
+    ensures not_big { opened_file (λ _. false) big_of_byte two_sections ≡ Err (UnsupportedElfEndianness 1) }
 {}

@@ -1,12 +1,12 @@
 //! A name over a list of two objects, and what files are as objects.
 ghost use Rattle.std.specs.Prelude.{◌≡◌, [], ◌∷◌, None, Ok, Err, Some, codes};
 ghost use Rattle.elf_records.specs.declared.parse.ParseError.TheVariants.{SliceReadError};
-ghost use Rattle.elf_check.specs.NamedSymbols.{chain_from, kept_named, run_from};
+ghost use Rattle.elf_check.specs.NamedSymbols.{chain_from, symbols_with_name, run_from};
 ghost use Rattle.elf_check.specs.Object.{ByGnu, BySysv};
 ghost use Rattle.elf_binding.specs.ObjectTable.{IsFaultOf, object_of};
 ghost use Rattle.elf_check.specs.declared.hashcheck.HashFault.TheVariants.{Endless};
 ghost use Rattle.elf_binding.specs.declared.resolve.ObjectFault.TheVariants.{Faulty, NoSymbols, Read};
-ghost use Rattle.elf_worked.specs.Files.{counted, in_four, two_sections};
+ghost use Rattle.elf_worked.specs.Files.{counted_file, in_four, two_sections};
 ghost use Rattle.elf_worked.specs.HashesOfA.{gnu_of_a, sysv_of_a};
 ghost use Rattle.elf_worked.specs.Listed.{gnu_type, symbol_a, symbol_a_with};
 ghost use Rattle.elf_worked.specs.ObjectLists.{Resolves, first_object, object_in, second_object};
@@ -31,7 +31,7 @@ pub fn names_listed()
     ensures run { run_from (gnu_with 3 5 0xc0 0x06 0x09).table (Some (1, symbol_of 1)) ≡ 1 ∷ 2 ∷ [] }
     ensures none { run_from (gnu_with 3 5 0xc0 0x06 0x09).table None ≡ [] }
     ensures kept { let s = sysv_with 8 (in_four 0) in
-        kept_named s.symbols s.strings (codes "b") (1 ∷ 3 ∷ []) ≡ (3, symbol_of 8) ∷ [] }
+        symbols_with_name s.symbols s.strings (codes "b") (1 ∷ 3 ∷ []) ≡ (3, symbol_of 8) ∷ [] }
 {}
 
 /// The object of a file: by its GNU section, by its SysV section if it has no other, and none without either.
@@ -44,8 +44,8 @@ pub fn objects_of_files()
 /// The faults of an object: bytes of the section that are not in the file, no symbols of dynamic linking, and a section
 /// that is not sound.
 pub fn faults_of_objects()
-    ensures read { object_of (object_with counted (section_of 5 0 0x3c 8 ∷ []) [])
+    ensures read { object_of (object_with counted_file (section_of 5 0 0x3c 8 ∷ []) [])
         ≡ Some (Err (Read (SliceReadError (0x3c, 0x44)))) }
-    ensures no_symbols { object_of (object_with counted (section_of 5 0 0 8 ∷ []) []) ≡ Some (Err NoSymbols) }
+    ensures no_symbols { object_of (object_with counted_file (section_of 5 0 0 8 ∷ []) []) ≡ Some (Err NoSymbols) }
     ensures unsound { IsFaultOf (Ok (BySysv (sysv_of_a 1))) (Faulty (Endless 0)) }
 {}

@@ -3,7 +3,7 @@ ghost use Rattle.std.specs.Prelude.{◌≡◌, ◌-◌, ◌^◌, [], ◌∷◌, 
 ghost use Rattle.std.specs.Fmt.{decimal};
 ghost use Rattle.elf_records.specs.declared.parse.ParseError.TheVariants.{SliceReadError};
 ghost use Rattle.elf_calls.specs.Question.{Header, Sections};
-ghost use Rattle.elf_lines.specs.Pieces.{escaped, hex};
+ghost use Rattle.elf_lines.specs.Pieces.{escaped_text, hex};
 ghost use Rattle.elf_worked.specs.Files.{compressed_section, counted_by_size, elsewhere, in_four, in_two, ones};
 ghost use Rattle.elf_worked.specs.Files.{small_file, two_sections, two_sections_big, two_with, zeros};
 ghost use Rattle.elf_worked.specs.Known.{listing};
@@ -21,11 +21,11 @@ pub fn numbers_written()
 /// Names: visible characters are written as they are, except for the backslash; all other bytes, the space
 /// among them, are written by their numbers.
 pub fn names_written()
-    ensures plain { escaped (0x21 ∷ 0x2e ∷ 0x73 ∷ 0x7e ∷ []) ≡ codes "!.s~" }
-    ensures low { escaped (0x00 ∷ 0x0a ∷ 0x20 ∷ []) ≡ codes "\\x00\\x0a\\x20" }
-    ensures backslash { escaped (0x5b ∷ 0x5c ∷ 0x5d ∷ []) ≡ codes "[\\x5c]" }
-    ensures high { escaped (0x7f ∷ 0x80 ∷ 0xff ∷ []) ≡ codes "\\x7f\\x80\\xff" }
-    ensures note { escaped (0x47 ∷ 0x4e ∷ 0x55 ∷ 0x55 ∷ 0x00 ∷ []) ≡ codes "GNUU\\x00" }
+    ensures plain { escaped_text (0x21 ∷ 0x2e ∷ 0x73 ∷ 0x7e ∷ []) ≡ codes "!.s~" }
+    ensures low { escaped_text (0x00 ∷ 0x0a ∷ 0x20 ∷ []) ≡ codes "\\x00\\x0a\\x20" }
+    ensures backslash { escaped_text (0x5b ∷ 0x5c ∷ 0x5d ∷ []) ≡ codes "[\\x5c]" }
+    ensures high { escaped_text (0x7f ∷ 0x80 ∷ 0xff ∷ []) ≡ codes "\\x7f\\x80\\xff" }
+    ensures note { escaped_text (0x47 ∷ 0x4e ∷ 0x55 ∷ 0x55 ∷ 0x00 ∷ []) ≡ codes "GNUU\\x00" }
 {}
 
 /// The header alone: its line, and a list of no sections.

@@ -6,7 +6,7 @@ ghost use Rattle.elf_records.specs.declared.section.SectionHeader.{SectionHeader
 ghost use Rattle.elf_records.specs.declared.segment.ProgramHeader.{ProgramHeader};
 ghost use Rattle.elf.specs.Names.{name_table};
 ghost use Rattle.elf.specs.ObjectFile.{object_file};
-ghost use Rattle.elf_reading.specs.Opening.{opened};
+ghost use Rattle.elf_reading.specs.Opening.{opened_file};
 ghost use Rattle.elf_reading.specs.Opening.{section_list, segment_list};
 ghost use Rattle.elf_worked.specs.Files.{two_names, two_sections};
 ghost use Rattle.elf_worked.specs.Known.{extended_file, extended_header, extended_section, extended_segment};
@@ -19,7 +19,7 @@ ghost use Rattle.elf_worked.specs.WrittenFiles.{written_sections, written_segmen
 pub fn written_files_are_opened<E>()
     ensures view { (little : E → Bool) (of_byte : ℕ → Option E) (h : FileHeader E) (sections : List SectionHeader)
         (segments : Option (List ProgramHeader)) (bytes : List ℕ) → IsWritten little h of_byte sections segments bytes →
-        opened little of_byte bytes ≡ Ok (written_view little h sections segments bytes) }
+        opened_file little of_byte bytes ≡ Ok (written_view little h sections segments bytes) }
     ensures sections { (little : E → Bool) (of_byte : ℕ → Option E) (h : FileHeader E) (sections : List SectionHeader)
         (segments : Option (List ProgramHeader)) (bytes : List ℕ) → IsWritten little h of_byte sections segments bytes →
         section_list (written_sections little h sections) ≡ sections }

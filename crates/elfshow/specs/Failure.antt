@@ -39,10 +39,10 @@ run_of (Err (failure.Fault done e)) = Some (Err (run.Fault done e))
 run_of (Err (failure.Write done e)) = Some (Err (run.Write done e))
 
 -- it is of a file: that cannot be opened or read, or a run over which stopped
-abbrev pub IsOfFile : Failure → Type 0
-IsOfFile failure.Usage = ⊥
-IsOfFile failure.OutOfMemory = ⊥
-IsOfFile (failure.File e) = Unit {0}
-IsOfFile (failure.Open e) = Unit {0}
-IsOfFile (failure.Fault done e) = Unit {0}
-IsOfFile (failure.Write done e) = Unit {0}
+abbrev pub IsFailureOfFile : Failure → Type 0
+IsFailureOfFile failure.Usage = ⊥
+IsFailureOfFile failure.OutOfMemory = ⊥
+IsFailureOfFile (failure.File e) = Unit {0}
+IsFailureOfFile (failure.Open e) = Unit {0}
+IsFailureOfFile (failure.Fault done e) = Unit {0}
+IsFailureOfFile (failure.Write done e) = Unit {0}

@@ -5,10 +5,10 @@ ghost use Rattle.std.specs.Io.Buffered.{writer_contents, writer_inner};
 ghost use Rattle.std.specs.Io.KnownBytes.{Appends};
 ghost use Rattle.elf_records.specs.Endian.{any_is_little, any_of_byte};
 ghost use Rattle.elf.specs.ObjectFile.{object_file};
-ghost use Rattle.elf_reading.specs.Opening.{opened};
+ghost use Rattle.elf_reading.specs.Opening.{opened_file};
 ghost use Rattle.elf_calls.specs.Question.{question};
 ghost use Rattle.elf_calls.specs.Text.{text};
-ghost use Rattle.elfshow.specs.Failure.{IsOfFile, run_of, status_of};
+ghost use Rattle.elfshow.specs.Failure.{IsFailureOfFile, run_of, status_of};
 ghost use Rattle.elfshow.specs.inner.RunSteps.{IsUnfailing, in_memory};
 ghost use Rattle.elf_lines.specs.Pieces.{◌⧺◌};
 ghost use Rattle.elfshow.specs.Show.{IsStopOfBoth, IsStopOfBytes, IsUnwritten, RanOver, agreement, calls_of, mode_of};
@@ -142,14 +142,14 @@ pub fn show<F: FileSystem, W: Write + Drop, V: Write>(
     err: &mut V,
 ) -> u8
     ensures listed { result ≡ 0 → IsSomeAnd (request_of words.now) (λ request.
-        IfSome (F.content files.now request.1) (λ bytes. IsOkAnd (opened any_is_little any_of_byte bytes) (λ file.
+        IfSome (F.content files.now request.1) (λ bytes. IsOkAnd (opened_file any_is_little any_of_byte bytes) (λ file.
         Appends (writer_contents W.contents out.old) (W.contents (writer_inner out.new))
         (shown_by request.0 (text file.ehdr (object_file any_is_little file) request.2))))) }
     ensures usage { result ≡ 2 → IsNone (request_of words.now) }
     ensures reported { IsNone (request_of words.now) → result ≡ 2 }
     ensures no_request { IsNone (request_of words.now) → out.new ≡ out.old }
     ensures refused { IfSome (request_of words.now) (λ request. IfSome (F.content files.now request.1) (λ bytes.
-        IsErr (opened any_is_little any_of_byte bytes) → out.new ≡ out.old)) }
+        IsErr (opened_file any_is_little any_of_byte bytes) → out.new ≡ out.old)) }
     ensures status { result ≤ 2 }
 {
     match list(alloc, words, files, out) {
@@ -167,14 +167,14 @@ fn list<F: FileSystem, W: Write + Drop>(
     out: &mut BufWriter<W>,
 ) -> Result<(), Failure>
     ensures listed { OnOk result (IsSomeAnd (request_of words.now) (λ request.
-        IfSome (F.content files.now request.1) (λ bytes. IsOkAnd (opened any_is_little any_of_byte bytes) (λ file.
+        IfSome (F.content files.now request.1) (λ bytes. IsOkAnd (opened_file any_is_little any_of_byte bytes) (λ file.
         Appends (writer_contents W.contents out.old) (W.contents (writer_inner out.new))
         (shown_by request.0 (text file.ehdr (object_file any_is_little file) request.2)))))) }
     ensures usage { IfErr result (λ failure. status_of failure ≡ 2 → IsNone (request_of words.now)) }
     ensures reported { IsNone (request_of words.now) → result ≡ Err Usage }
     ensures no_request { IsNone (request_of words.now) → out.new ≡ out.old }
     ensures refused { IfSome (request_of words.now) (λ request. IfSome (F.content files.now request.1) (λ bytes.
-        IsErr (opened any_is_little any_of_byte bytes) → (out.new ≡ out.old) × IsErr result)) }
+        IsErr (opened_file any_is_little any_of_byte bytes) → (out.new ≡ out.old) × IsErr result)) }
 {
     let request = parse_words(alloc, words)?;
     answer(alloc, &request, files, out)?;
@@ -198,24 +198,24 @@ pub fn answer<F: FileSystem, W: Write>(
     out: &mut W,
 ) -> Result<(), Failure>
     ensures listed { OnOk result (IfSome (F.content files.now request.now.file.now) (λ bytes.
-        IsOkAnd (opened any_is_little any_of_byte bytes) (λ file.
+        IsOkAnd (opened_file any_is_little any_of_byte bytes) (λ file.
         Appends (W.contents out.old) (W.contents out.new)
         (shown_by request.now.mode
         (text file.ehdr (object_file any_is_little file) (map question request.now.calls.items)))))) }
     ensures refused { IfSome (F.content files.now request.now.file.now) (λ bytes.
-        IsErr (opened any_is_little any_of_byte bytes) → (out.new ≡ out.old) × IsErr result) }
+        IsErr (opened_file any_is_little any_of_byte bytes) → (out.new ≡ out.old) × IsErr result) }
     ensures run { request.now.mode ≡ Stream → IfSome (F.content files.now request.now.file.now) (λ bytes.
-        IfSome (run_of result) (λ run. RanOver (opened any_is_little any_of_byte bytes)
+        IfSome (run_of result) (λ run. RanOver (opened_file any_is_little any_of_byte bytes)
         (λ file calls. text file.ehdr (object_file any_is_little file) (map question calls)) request.now.calls.items
         (W.contents out.old) (W.contents out.new) (F.can_fail files.now request.now.file.now) run)) }
     ensures bytes { request.now.mode ≡ Bytes → IfSome (F.content files.now request.now.file.now) (λ bytes.
         IfSome (run_of result) (λ run. IfErr run
-        (IsStopOfBytes (opened any_is_little any_of_byte bytes) (length request.now.calls.items)))) }
+        (IsStopOfBytes (opened_file any_is_little any_of_byte bytes) (length request.now.calls.items)))) }
     ensures both { request.now.mode ≡ Both → IfSome (F.content files.now request.now.file.now) (λ bytes.
         IfSome (run_of result) (λ run. IfErr run
-        (IsStopOfBoth (opened any_is_little any_of_byte bytes) (length request.now.calls.items)))) }
+        (IsStopOfBoth (opened_file any_is_little any_of_byte bytes) (length request.now.calls.items)))) }
     ensures unwritten { request.now.mode ≡ Both → IfSome (run_of result) (IsUnwritten out.old out.new) }
-    ensures cause { IfErr result IsOfFile }
+    ensures cause { IfErr result IsFailureOfFile }
 {
     let calls = request.calls.as_slice();
     match request.mode {
@@ -244,11 +244,11 @@ pub fn run_source<S: StreamSource, W: Write>(
     calls: &[Call<'_>],
     out: &mut W,
 ) -> Result<(), RunError>
-    ensures ran { IfSome (S.content source) (λ bytes. RanOver (opened any_is_little any_of_byte bytes)
+    ensures ran { IfSome (S.content source) (λ bytes. RanOver (opened_file any_is_little any_of_byte bytes)
         (λ file calls. text file.ehdr (object_file any_is_little file) (map question calls)) calls.now
         (W.contents out.old) (W.contents out.new) (S.can_fail source) result) }
     ensures refused { IfSome (S.content source) (λ bytes.
-        IsErr (opened any_is_little any_of_byte bytes) → out.new ≡ out.old) }
+        IsErr (opened_file any_is_little any_of_byte bytes) → out.new ≡ out.old) }
 {
     texts_are_the_same::<AnyEndian>();
     match ElfStream::<AnyEndian, S, Global>::open_stream(alloc, source) {
@@ -268,13 +268,13 @@ pub fn run_both<W: Write>(
     calls: &[Call<'_>],
     out: &mut W,
 ) -> Result<(), RunError>
-    ensures ok { OnOk result (IsOkAnd (opened any_is_little any_of_byte «data».now) (λ file.
+    ensures ok { OnOk result (IsOkAnd (opened_file any_is_little any_of_byte «data».now) (λ file.
         Appends (W.contents out.old) (W.contents out.new)
         (shown_by Both (text file.ehdr (object_file any_is_little file) (map question calls.now))))) }
-    ensures open { IfErr (opened any_is_little any_of_byte «data».now) (λ e. result ≡ Err (RunError.Open e)) }
-    ensures cause { IfErr result (IsStopOfBoth (opened any_is_little any_of_byte «data».now) (length calls.now)) }
+    ensures open { IfErr (opened_file any_is_little any_of_byte «data».now) (λ e. result ≡ Err (RunError.Open e)) }
+    ensures cause { IfErr result (IsStopOfBoth (opened_file any_is_little any_of_byte «data».now) (length calls.now)) }
     ensures stopped { IsUnwritten out.old out.new result }
-    ensures refused { IsErr (opened any_is_little any_of_byte «data».now) → out.new ≡ out.old }
+    ensures refused { IsErr (opened_file any_is_little any_of_byte «data».now) → out.new ≡ out.old }
 {
     let mut one = Vec::new(alloc);
     if let Err(error) = run_bytes_with_memory::<AnyEndian, Global, Vec<u8>>(

@@ -1,8 +1,13 @@
 //! The files of the operating system.
-use nugwier_commands::files::Files;
+ghost use Rattle.std.specs.Prelude.{None};
+
+use elf::FileSource;
+use nugwier_commands::files::{Files, Libraries};
+use std::alloc::AllocError;
 use std::fs::File;
-use std::io;
 use std::io::Read;
+use std::str::from_utf8;
+use std::{fs, io};
 
 /// The files of the operating system.
 #[derive(Drop)]
@@ -18,6 +23,17 @@ impl<'a> SystemFiles<'a> {
 }
 
 impl Files for SystemFiles<'_> {
+    type Source = FileSource;
+
+    // Only a regular file is read by parts: a pipe is read once, from its start.
+    fn open(&self, path: &str) -> Option<FileSource> {
+        if path == "-" || !fs::metadata(self.rt, path).ok()?.is_file() {
+            return None;
+        }
+        let file = File::open(self.rt, path).ok()?;
+        Some(FileSource::new(file))
+    }
+
     // Standard input is read through its own handle, since the system may not allow opening it again.
     fn read(&self, path: &str) -> io::Result<Vec<u8>> {
         match path {
@@ -25,6 +41,33 @@ impl Files for SystemFiles<'_> {
             _ => read_file(self.rt, path),
         }
     }
+}
+
+impl Libraries for SystemFiles<'_> {
+    // Files may change, so their contents are not known.
+    ghost contents = { λ _. None };
+
+    // A path that is no UTF-8 cannot be opened by std of Rattle, and counts as none.
+    fn read_library(&self, path: &[u8]) -> Result<Option<Vec<u8>>, AllocError> {
+        let Ok(path) = from_utf8(path) else {
+            return Ok(None);
+        };
+        match read_regular(self.rt, path) {
+            Ok(found) => Ok(found),
+            Err(error) => match error.kind() {
+                io::ErrorKind::OutOfMemory => Err(AllocError),
+                _ => Ok(None),
+            },
+        }
+    }
+}
+
+// Reads a file if it is a regular one: another one may wait for someone to write it, or have no end.
+fn read_regular(rt: &HostRuntime, path: &str) -> io::Result<Option<Vec<u8>>> {
+    if !fs::metadata(rt, path)?.is_file() {
+        return Ok(None);
+    }
+    Ok(Some(read_file(rt, path)?))
 }
 
 fn read_standard_input(rt: &HostRuntime) -> io::Result<Vec<u8>> {

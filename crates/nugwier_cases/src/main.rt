@@ -2,9 +2,15 @@
 //! the program. Prints the line, what is listed, what is told on standard error, and the exit status.
 #![tactic(auto)]
 
-use nugwier_commands::files::Files;
+ghost use Rattle.std.specs.Prelude.{None};
+
+use elf::FileSource;
+use nugwier_commands::files::{Files, Libraries};
 use nugwier_commands::run::run;
+use std::alloc::AllocError;
+use std::fs::File;
 use std::io::Write;
+use std::str::from_utf8;
 use std::{fs, io};
 
 /// The files beside the program.
@@ -14,8 +20,33 @@ struct CaseFiles<'a> {
 }
 
 impl Files for CaseFiles<'_> {
+    type Source = FileSource;
+
+    fn open(&self, path: &str) -> Option<FileSource> {
+        let file = File::open(self.rt, path).ok()?;
+        Some(FileSource::new(file))
+    }
+
     fn read(&self, path: &str) -> io::Result<Vec<u8>> {
         fs::read(self.rt, path)
+    }
+}
+
+impl Libraries for CaseFiles<'_> {
+    ghost contents = { λ _. None };
+
+    // Only files beside the program are read, so that those of the machine do not count.
+    fn read_library(&self, path: &[u8]) -> Result<Option<Vec<u8>>, AllocError> {
+        let Ok(path) = from_utf8(path) else {
+            return Ok(None);
+        };
+        if path.starts_with('/') {
+            return Ok(None);
+        }
+        match fs::read(self.rt, path) {
+            Ok(data) => Ok(Some(data)),
+            Err(_) => Ok(None),
+        }
     }
 }
 

@@ -10,7 +10,7 @@ use Rattle.elf_tools.specs.declared.addresses.Located.{Located}
 use Rattle.elf_tools.specs.declared.addresses.Nearest.{Nearest}
 use Rattle.nugwier_commands.specs.Wrong.{whole}
 use Rattle.nugwier_lines.specs.Names.{is_symbol_bad}
-use Rattle.nugwier_lines.specs.Places.{at_if, numbered}
+use Rattle.nugwier_lines.specs.Places.{at_if, numbered_places}
 use Rattle.nugwier_lines.specs.declared.problem.Item.TheVariants.{Name}
 use Rattle.nugwier_lines.specs.declared.problem.Part.TheVariants.{Address, Symbols}
 use Rattle.nugwier_lines.specs.declared.problem.Place.{Place}
@@ -35,7 +35,7 @@ address_wrong sorted symbols address = nearest_wrong symbols address (nearest ad
 abbrev pub IsWrongBy : Table × List ℕ → List ℕ → List Place → Type 0
 IsWrongBy symbols addresses places =
     (sorted : List Located) × IsByAddress (located_symbols (table_items symbol_reads symbols.0)) sorted
-    × (places ≡ numbered (λ i address. address_wrong sorted symbols address) 0 addresses)
+    × (places ≡ numbered_places (λ i address. address_wrong sorted symbols address) 0 addresses)
 
 -- of the symbols, which have to be there, then of each address
 abbrev pub AddressesWrong : List ℕ → List Place → Result (Option (Table × List ℕ)) ParseError → Type 0

@@ -1,7 +1,7 @@
 -- What the check of a file as a whole adds to what is wrong.
 use Rattle.std.specs.Prelude.{List, [], ◌∷◌, Option, Some, None, MatchOption}
 use Rattle.elf.specs.ObjectFile.{ObjectFile}
-use Rattle.elf_whole.specs.Faults.{IsTrueOf}
+use Rattle.elf_whole.specs.Faults.{IsTrueOfFile}
 use Rattle.elf_whole.specs.Sound.{SoundFile}
 use Rattle.elf_whole.specs.declared.faults.FileFault.{FileFault}
 use Rattle.elf_whole.specs.declared.faults.FileFault.TheVariants.{NoNames, Repeated, Section, Segments, Versions}
@@ -11,7 +11,7 @@ use Rattle.nugwier_lines.specs.declared.problem.Place.{Place}
 
 -- none exactly if the file is sound, else a fault that is true of it: the first one in the order of the check
 abbrev pub IsFaultOf : ObjectFile → Option FileFault → Type 0
-IsFaultOf file fault = MatchOption fault (SoundFile file) (λ found. (¬ SoundFile file) × IsTrueOf file found)
+IsFaultOf file fault = MatchOption fault (SoundFile file) (λ found. (¬ SoundFile file) × IsTrueOfFile file found)
 
 -- the section that is not sound, or the file as a whole
 abbrev pub fault_place : FileFault → Place

@@ -6,3 +6,5 @@ pub mod Check
 pub mod Addresses
 -- what a command finds wrong, and the exit status
 pub mod Status
+-- the objects of a program that are complete
+pub mod Tree

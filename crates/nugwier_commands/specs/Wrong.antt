@@ -23,7 +23,7 @@ use Rattle.elf_tools.specs.Needed.{entries_in, or_error, string_part}
 use Rattle.elf_tools.specs.declared.needed.NamesError.{NamesError}
 use Rattle.elf_tools.specs.declared.needed.NamesError.TheVariants.{Read}
 use Rattle.nugwier_lines.specs.Names.{entry_wrong, needed_wrong, relocation_wrong, section_wrong, symbol_wrong}
-use Rattle.nugwier_lines.specs.Places.{at_if, is_error, numbered}
+use Rattle.nugwier_lines.specs.Places.{at_if, is_error, numbered_places}
 use Rattle.nugwier_lines.specs.declared.problem.Item.TheVariants.{Whole, Symbols as ItemSymbols}
 use Rattle.nugwier_lines.specs.declared.problem.Part.{Part}
 use Rattle.nugwier_lines.specs.declared.problem.Part.TheVariants.{Dynamic, DynamicStrings, DynamicSymbols, Section, SectionNames}
@@ -56,7 +56,7 @@ part_wrong part none wrong (Err e) = whole part ∷ []
 -- of the symbols of a table with these strings and versions, if they have a row
 abbrev pub table_wrong : (ℕ → Symbol → Bool) → Part → Option Versions → Table × List ℕ → List Place
 table_wrong has_row part versions symbols =
-    numbered (λ i symbol. symbol_wrong (has_row i symbol) part symbols.1 versions i symbol) 0
+    numbered_places (λ i symbol. symbol_wrong (has_row i symbol) part symbols.1 versions i symbol) 0
     (table_items symbol_reads symbols.0)
 
 -- the versions of the file, then the symbols
@@ -83,7 +83,7 @@ strings_by file entries = string_part file.segments entries >>= λ part. or_erro
 -- of the names that a list of needed libraries shows, if the strings can be read
 abbrev pub names_wrong : List Dyn → Option (List ℕ) → List Place
 names_wrong entries None = []
-names_wrong entries (Some strings) = numbered (needed_wrong strings) 0 entries
+names_wrong entries (Some strings) = numbered_places (needed_wrong strings) 0 entries
 
 -- the strings, then the names
 abbrev pub needed_in : ObjectFile → Table → List Place
@@ -97,7 +97,7 @@ abbrev pub listed_in : ObjectFile → Table → List Place
 listed_in file table =
     let entries = entries_in table in
     let strings = strings_by file entries in
-    at_if (is_error strings) (whole DynamicStrings) ++ numbered (entry_wrong (result_ok strings)) 0 entries
+    at_if (is_error strings) (whole DynamicStrings) ++ numbered_places (entry_wrong (result_ok strings)) 0 entries
 
 -- of the names and search paths, for which there have to be dynamic entries
 abbrev pub needed_of : ObjectFile → List Place
@@ -114,7 +114,7 @@ abbrev pub sections_wrong : ObjectFile → List Place
 sections_wrong file =
     if file.declares_sections
     then at_if (is_error (name_table file)) (whole SectionNames)
-    ++ numbered (section_wrong (readable (name_table file))) 0 file.sections
+    ++ numbered_places (section_wrong (readable (name_table file))) 0 file.sections
     else []
 
 -- ---- relocations
@@ -131,7 +131,7 @@ linked_symbols file n =
 abbrev pub symbols_of_each : {R : Type 0} → (R → ℕ) → Option (Table × List ℕ) → ℕ → Result (List R) ParseError →
     List Place
 symbols_of_each number symbols i (Ok records) =
-    numbered (λ k r. relocation_wrong (Section i) symbols k (number r)) 0 records
+    numbered_places (λ k r. relocation_wrong (Section i) symbols k (number r)) 0 records
 symbols_of_each number symbols i (Err e) = whole (Section i) ∷ []
 
 abbrev pub records_wrong : ObjectFile → Option (Table × List ℕ) → ℕ → SectionHeader → List Place
@@ -149,7 +149,7 @@ relocations_in file i s =
     else []
 
 abbrev pub relocations_wrong : ObjectFile → List Place
-relocations_wrong file = numbered (relocations_in file) 0 file.sections
+relocations_wrong file = numbered_places (relocations_in file) 0 file.sections
 
 -- ---- notes
 
@@ -162,9 +162,10 @@ one_segment_wrong file i p =
     if p.p_type == pt_note then at_if (is_error (segment_data_as_notes file p)) (whole (Segment i)) else []
 
 abbrev pub segment_notes_wrong : ObjectFile → List Place
-segment_notes_wrong file = numbered (one_segment_wrong file) 0 file.segments
+segment_notes_wrong file = numbered_places (one_segment_wrong file) 0 file.segments
 
 -- of the sections or, if none are declared, of the segments
 abbrev pub notes_wrong : ObjectFile → List Place
 notes_wrong file =
-    if file.declares_sections then numbered (section_notes_wrong file) 0 file.sections else segment_notes_wrong file
+    if file.declares_sections then numbered_places
+    (section_notes_wrong file) 0 file.sections else segment_notes_wrong file

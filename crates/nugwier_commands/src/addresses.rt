@@ -14,6 +14,7 @@ use elf::string_table::{StringTable, TerminatedStrings};
 use elf::symbol::SymbolTable;
 use elf::{ElfBytes, ParseError};
 use elf_tools::addresses::{Addresses, Nearest};
+use nugwier_lines::json::{Format, Value, write_object};
 use nugwier_lines::named::Name;
 use nugwier_lines::problem::{Fault, Item, Part, Place, Problems, Stop};
 use nugwier_lines::relocations::Symbols;
@@ -25,6 +26,7 @@ use std::io::Write;
 /// there or before, or if its name cannot be read.
 pub(crate) fn list_addresses<E: EndianParse, W: Write>(
     alloc: Global,
+    format: Format<'_>,
     file: &ElfBytes<'_, E>,
     addresses: &[u64],
     out: &mut W,
@@ -39,7 +41,7 @@ pub(crate) fn list_addresses<E: EndianParse, W: Write>(
         item: Item::Whole,
     };
     match all_symbols(file) {
-        Ok(Some(symbols)) => list_found(alloc, symbols, addresses, out, problems),
+        Ok(Some(symbols)) => list_found(alloc, format, symbols, addresses, out, problems),
         Ok(None) => problems.add(place, Fault::Missing),
         Err(error) => problems.add(place, Fault::Read(error)),
     }
@@ -61,6 +63,7 @@ fn all_symbols<'data, E: EndianParse>(
 
 fn list_found<'data, E: EndianParse, W: Write>(
     alloc: Global,
+    format: Format<'_>,
     symbols: (SymbolTable<'data, E>, StringTable<'data>),
     addresses: &[u64],
     out: &mut W,
@@ -76,6 +79,7 @@ fn list_found<'data, E: EndianParse, W: Write>(
         strings: TerminatedStrings::new(&strings),
     };
     let row = AddressRow {
+        format,
         symbols,
         by_address,
     };
@@ -84,12 +88,13 @@ fn list_found<'data, E: EndianParse, W: Write>(
 
 // The row of an address, with the name of the nearest symbol.
 #[derive(Drop)]
-struct AddressRow<'data, E: EndianParse> {
+struct AddressRow<'p, 'data, E: EndianParse> {
+    format: Format<'p>,
     symbols: Symbols<'data, E>,
     by_address: Addresses,
 }
 
-impl<'data, E: EndianParse> Row for AddressRow<'data, E> {
+impl<'p, 'data, E: EndianParse> Row for AddressRow<'p, 'data, E> {
     type Item = u64;
 
     ghost wrong = { λ row number address. address_wrong row.by_address (lines_view row.symbols) address };
@@ -114,7 +119,10 @@ impl<'data, E: EndianParse> Row for AddressRow<'data, E> {
             item: Item::Name,
         };
         let name = problems.readable(place, self.symbols.name_of(nearest.symbol))?;
-        list_nearest(*address, Name(name), &nearest, out)
+        match self.format {
+            Format::Text => list_nearest(*address, Name(name), &nearest, out),
+            Format::Json(path) => write_nearest(path, *address, Name(name), &nearest, out),
+        }
     }
 }
 
@@ -131,5 +139,23 @@ fn list_nearest<W: Write>(
         " past its end"
     };
     writeln!(out, "{address:#x} {name}+{distance:#x}{end}")?;
+    Ok(())
+}
+
+fn write_nearest<W: Write>(
+    path: &str,
+    address: u64,
+    name: Name<'_>,
+    nearest: &Nearest,
+    out: &mut W,
+) -> Result<(), Stop> {
+    let members = [
+        ("address", Value::Number(address)),
+        ("symbol", Value::Number(nearest.symbol as u64)),
+        ("name", Value::Text(name.0)),
+        ("distance", Value::Number(nearest.distance)),
+        ("is_inside", Value::Flag(nearest.is_inside)),
+    ];
+    write_object(path, "address", &members, out)?;
     Ok(())
 }

@@ -9,8 +9,10 @@ use elf::ElfBytes;
 use elf::endian::EndianParse;
 use elf_whole::check_file_in;
 use elf_whole::faults::{FileFault, FileVerdict};
+use nugwier_lines::json::{Format, Value, part_member, write_object};
 use nugwier_lines::problem::{Fault, Item, Part, Place, Problems, Stop};
 use std::alloc::Global;
+use std::io;
 use std::io::Write;
 
 // The number of places for the versions that a file needs, and for those that it defines: one for each version index.
@@ -19,6 +21,7 @@ const PLACES: usize = 32_768;
 /// Lists whether a file is sound. If it is not, its first fault is wrong, and nothing else.
 pub(crate) fn check<E: EndianParse, W: Write>(
     alloc: Global,
+    format: Format<'_>,
     file: &ElfBytes<'_, E>,
     out: &mut W,
     problems: &mut Problems,
@@ -27,7 +30,7 @@ pub(crate) fn check<E: EndianParse, W: Write>(
         × (problems.new ≡ problems.old ++ fault_wrong fault)) }
 {
     let fault = file_fault(alloc, file);
-    list_verdict(alloc, fault, out, problems)
+    list_verdict(alloc, format, fault, out, problems)
 }
 
 // What a file lacks, or nothing exactly if it is sound.
@@ -57,6 +60,7 @@ fn empty_places<T: Copy>(alloc: Global) -> Vec<Option<T>> {
 // Lists a verdict, and adds the fault if there is one.
 fn list_verdict<W: Write>(
     alloc: Global,
+    format: Format<'_>,
     fault: Option<FileFault>,
     out: &mut W,
     problems: &mut Problems,
@@ -65,13 +69,42 @@ fn list_verdict<W: Write>(
 {
     match fault {
         Some(fault) => {
-            writeln!(out, "FAULT")?;
             let text = text_of(alloc, fault)?;
+            list_fault(format, place_of(fault).part, text.as_str(), out)?;
             problems.add(place_of(fault), Fault::Check(text))
         }
         None => {
-            writeln!(out, "sound")?;
+            list_sound(format, out)?;
             Ok(())
+        }
+    }
+}
+
+fn list_sound<W: Write>(format: Format<'_>, out: &mut W) -> io::Result<()> {
+    match format {
+        Format::Text => writeln!(out, "sound"),
+        Format::Json(path) => {
+            let members = [
+                ("is_sound", Value::Flag(true)),
+                ("section", Value::Null),
+                ("fault", Value::Null),
+            ];
+            write_object(path, "check", &members, out)
+        }
+    }
+}
+
+// People are told the fault on standard error alone.
+fn list_fault<W: Write>(format: Format<'_>, part: Part, text: &str, out: &mut W) -> io::Result<()> {
+    match format {
+        Format::Text => writeln!(out, "FAULT"),
+        Format::Json(path) => {
+            let members = [
+                ("is_sound", Value::Flag(false)),
+                part_member(part),
+                ("fault", Value::Text(Some(text.as_bytes()))),
+            ];
+            write_object(path, "check", &members, out)
         }
     }
 }

@@ -17,8 +17,10 @@ usage: nugwier COMMAND [OPTION..] FILE..
   plan        what a loader maps into memory, and where
   check       whether a file is sound, or its first fault
   address     the symbols at addresses
+  tree        the libraries that a program loads, and the files that are found for them
 
   COMMAND --help    how the command is called
+  COMMAND --json    an object of JSON for each record, one a line, in place of lines for people
   --version         the version of nugwier
 
 FILE is a path, or - for standard input. Of several files each has a heading. What cannot be read is told on
@@ -44,11 +46,12 @@ Lists the parts of a file that the options name; without options, all of -a.
   -a           all of these
   -x SECTION   the bytes of a section, by its name or its number
   -p SECTION   the strings of a section, by its name or its number
+  --json       an object of JSON for each record, one a line, in place of lines for people
 
 Letters may stand together, as in -hSl. After -- each word is a file.";
 
 const SYMBOLS: &str = "\
-usage: nugwier symbols FILE..
+usage: nugwier symbols [--json] FILE..
 
 Lists the symbols for dynamic linking in the order of their table: the value, a letter, and NAME@VERSION, or
 NAME@@VERSION of a default version. The letter is in lower case if the symbol is local:
@@ -62,40 +65,53 @@ NAME@@VERSION of a default version. The letter is in lower case if the symbol is
   ?  of no section";
 
 const NEEDED: &str = "\
-usage: nugwier needed FILE..
+usage: nugwier needed [--json] FILE..
 
 Lists the file's own name (soname), the libraries that it needs (needed) and where they are looked for (rpath, runpath),
 in the order of the dynamic entries.";
 
 const EXPORTS: &str = "\
-usage: nugwier exports FILE..
+usage: nugwier exports [--json] FILE..
 
 Lists the functions that a file defines for others, as NAME@VERSION, or NAME@@VERSION of a default version.";
 
 const BUILD_ID: &str = "\
-usage: nugwier build-id FILE..
+usage: nugwier build-id [--json] FILE..
 
 Prints the build id, which the notes of a file hold, in hexadecimal.";
 
 const PLAN: &str = "\
-usage: nugwier plan FILE..
+usage: nugwier plan [--json] FILE..
 
 Lists what a loader maps: the addresses, the bytes of the file that are there, and the permissions. The rest of the
 memory is 0. Tells why, if a file cannot be mapped so.";
 
 const CHECK: &str = "\
-usage: nugwier check FILE..
+usage: nugwier check [--json] FILE..
 
 Prints sound if all that the headers of a file declare can be read: the sections and their names, symbols, strings,
 relocations, hash tables, notes, dynamic entries, versions and segments. Otherwise prints FAULT, and tells the first
 fault on standard error.";
 
 const ADDRESS: &str = "\
-usage: nugwier address FILE ADDRESS..
+usage: nugwier address [--json] FILE ADDRESS..
 
 Prints, for each address, NAME+DISTANCE of the last symbol of a function or a variable that starts there or before, and
 says so if the address lies past its end. An address is in hexadecimal, with or without 0x. The symbols are those of
 list -s or, if the file has none, those for dynamic linking.";
+
+const TREE: &str = "\
+usage: nugwier tree [--search FOLDER].. FILE..
+
+Prints the program, and below it each library that it loads: the name by which it is needed, and the path of the file
+that is found, or 'not found'. A library stands below the one that needs it first. Nothing is run.
+
+  --search FOLDER   looks for libraries in this folder, as if LD_LIBRARY_PATH named it
+
+Libraries are looked for as the dynamic linker does: in the folders of DT_RPATH of the object that needs them and of its
+loaders, those of --search, those of DT_RUNPATH of the object, and the usual ones of its machine, such as
+/lib/x86_64-linux-gnu, /lib64 and /usr/lib. $ORIGIN is the folder of the object's path. LD_LIBRARY_PATH, ld.so.conf and
+the cache of the dynamic linker are not read.";
 
 /// How the program, or one of its commands, is called.
 pub(crate) fn help(command: Option<Command>) -> &'static str {
@@ -109,5 +125,6 @@ pub(crate) fn help(command: Option<Command>) -> &'static str {
         Some(Command::Plan) => PLAN,
         Some(Command::Check) => CHECK,
         Some(Command::Address) => ADDRESS,
+        Some(Command::Tree) => TREE,
     }
 }

@@ -10,11 +10,14 @@ use elf::ElfBytes;
 use elf::endian::EndianParse;
 use elf_tools::build_id::build_id;
 use nugwier_lines::dump::Hex;
+use nugwier_lines::json::{Format, Value, write_object};
 use nugwier_lines::problem::{Fault, Item, Part, Place, Problems, Stop};
+use std::io;
 use std::io::Write;
 
 /// Lists the build id. It is wrong if there is none.
 pub(crate) fn list_build_id<E: EndianParse, W: Write>(
+    format: Format<'_>,
     file: &ElfBytes<'_, E>,
     out: &mut W,
     problems: &mut Problems,
@@ -28,11 +31,23 @@ pub(crate) fn list_build_id<E: EndianParse, W: Write>(
     };
     match build_id(file) {
         Ok(Some(id)) => {
-            let id = Hex(id);
-            writeln!(out, "{id}")?;
+            list_id(format, id, out)?;
             Ok(())
         }
         Ok(None) => problems.add(place, Fault::Missing),
         Err(error) => problems.add(place, Fault::Read(error)),
+    }
+}
+
+fn list_id<W: Write>(format: Format<'_>, id: &[u8], out: &mut W) -> io::Result<()> {
+    match format {
+        Format::Text => {
+            let id = Hex(id);
+            writeln!(out, "{id}")
+        }
+        Format::Json(path) => {
+            let members = [("build_id", Value::Bytes(id))];
+            write_object(path, "build_id", &members, out)
+        }
     }
 }

@@ -3,6 +3,7 @@
 #![tactic(auto)]
 
 mod addresses;
+mod by_parts;
 mod check;
 mod contents;
 pub mod files;
@@ -17,5 +18,7 @@ mod report;
 pub mod run;
 mod strings;
 mod symbols;
+mod tree;
+mod usual;
 mod version_lists;
 pub mod words;

@@ -15,6 +15,7 @@ use crate::words::Job;
 use elf::ElfBytes;
 use elf::endian::EndianParse;
 use nugwier_lines::header::list_header;
+use nugwier_lines::json::Format;
 use nugwier_lines::problem::{Item, Part, Place, Problems, Stop};
 use nugwier_lines::rows::list_records;
 use nugwier_lines::sections::SectionRow;
@@ -26,32 +27,34 @@ use std::io::Write;
 pub(crate) fn list<E: EndianParse, W: Write>(
     alloc: Global,
     job: &Job<'_>,
+    format: Format<'_>,
     file: &ElfBytes<'_, E>,
     out: &mut W,
     problems: &mut Problems,
 ) -> Result<(), Stop> {
-    list_headers(job, file, out, problems)?;
-    list_tables(alloc, job, file, out, problems)?;
+    list_headers(job, format, file, out, problems)?;
+    list_tables(alloc, job, format, file, out, problems)?;
     for wanted in &job.contents {
-        list_content(alloc, file, wanted, out, problems)?;
+        list_content(alloc, format, file, wanted, out, problems)?;
     }
     Ok(())
 }
 
 fn list_headers<E: EndianParse, W: Write>(
     job: &Job<'_>,
+    format: Format<'_>,
     file: &ElfBytes<'_, E>,
     out: &mut W,
     problems: &mut Problems,
 ) -> Result<(), Stop> {
     if job.parts.header {
-        list_header(&file.ehdr, out)?;
+        list_header(format, &file.ehdr, out)?;
     }
     if job.parts.sections {
-        list_sections(file, out, problems)?;
+        list_sections(format, file, out, problems)?;
     }
     if job.parts.segments {
-        list_segments(file, out)?;
+        list_segments(format, file, out)?;
     }
     Ok(())
 }
@@ -59,32 +62,34 @@ fn list_headers<E: EndianParse, W: Write>(
 fn list_tables<E: EndianParse, W: Write>(
     alloc: Global,
     job: &Job<'_>,
+    format: Format<'_>,
     file: &ElfBytes<'_, E>,
     out: &mut W,
     problems: &mut Problems,
 ) -> Result<(), Stop> {
     if job.parts.symbols {
-        list_symbols(file, out, problems)?;
+        list_symbols(format, file, out, problems)?;
     }
     if job.parts.dynamic_symbols {
-        list_linked(alloc, file, out, problems)?;
+        list_linked(alloc, format, file, out, problems)?;
     }
     if job.parts.dynamic {
-        list_entries(alloc, file, out, problems)?;
+        list_entries(alloc, format, file, out, problems)?;
     }
     if job.parts.relocations {
-        list_relocations(file, out, problems)?;
+        list_relocations(format, file, out, problems)?;
     }
     if job.parts.notes {
-        list_notes(file, out, problems)?;
+        list_notes(format, file, out, problems)?;
     }
     if job.parts.versions {
-        list_versions(file, out, problems)?;
+        list_versions(format, file, out, problems)?;
     }
     Ok(())
 }
 
 fn list_sections<E: EndianParse, W: Write>(
+    format: Format<'_>,
     file: &ElfBytes<'_, E>,
     out: &mut W,
     problems: &mut Problems,
@@ -102,16 +107,17 @@ fn list_sections<E: EndianParse, W: Write>(
         Some(names) => names,
         None => None,
     };
-    sections::list_heading(out)?;
-    list_records(table.iter(), &SectionRow { names }, out, problems)
+    sections::list_heading(format, out)?;
+    list_records(table.iter(), &SectionRow { format, names }, out, problems)
 }
 
 fn list_segments<E: EndianParse, W: Write>(
+    format: Format<'_>,
     file: &ElfBytes<'_, E>,
     out: &mut W,
 ) -> Result<(), Stop> {
     if let Some(table) = file.segments() {
-        segments::list_segments(&table, out)?;
+        segments::list_segments(format, &table, out)?;
     }
     Ok(())
 }

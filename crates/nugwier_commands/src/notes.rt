@@ -14,6 +14,7 @@ use elf::segment::ProgramHeader;
 use elf::string_table::TerminatedStrings;
 use elf::{ElfBytes, ParseError, abi};
 use nugwier_lines::escape::Escaped;
+use nugwier_lines::json::Format;
 use nugwier_lines::notes;
 use nugwier_lines::problem::{Fault, Item, Part, Place, Problems, Stop};
 use nugwier_lines::rows::{Row, list_records};
@@ -21,6 +22,7 @@ use std::io::Write;
 
 /// Lists the notes of the sections or, if no sections are declared, of the segments.
 pub(crate) fn list_notes<E: EndianParse, W: Write>(
+    format: Format<'_>,
     file: &ElfBytes<'_, E>,
     out: &mut W,
     problems: &mut Problems,
@@ -31,15 +33,20 @@ pub(crate) fn list_notes<E: EndianParse, W: Write>(
     match file.section_headers() {
         Some(sections) => list_records(
             sections.iter(),
-            &NoteSections { file, names },
+            &NoteSections {
+                format,
+                file,
+                names,
+            },
             out,
             problems,
         ),
-        None => list_segments(file, out, problems),
+        None => list_segments(format, file, out, problems),
     }
 }
 
 fn list_segments<E: EndianParse, W: Write>(
+    format: Format<'_>,
     file: &ElfBytes<'_, E>,
     out: &mut W,
     problems: &mut Problems,
@@ -48,19 +55,23 @@ fn list_segments<E: EndianParse, W: Write>(
         ++ segment_notes_wrong (object_file E.little (view file.now))) }
 {
     match file.segments() {
-        Some(segments) => list_records(segments.iter(), &NoteSegments { file }, out, problems),
+        Some(segments) => {
+            let row = NoteSegments { format, file };
+            list_records(segments.iter(), &row, out, problems)
+        }
         None => Ok(()),
     }
 }
 
-// The notes of a section, under a heading; nothing of a section of another type.
+// The notes of a section, for people under a heading; nothing of a section of another type.
 #[derive(Drop)]
-struct NoteSections<'f, 'data, E: EndianParse> {
+struct NoteSections<'p, 'f, 'data, E: EndianParse> {
+    format: Format<'p>,
     file: &'f ElfBytes<'data, E>,
     names: Option<TerminatedStrings<'data>>,
 }
 
-impl<'f, 'data, E: EndianParse> Row for NoteSections<'f, 'data, E> {
+impl<'p, 'f, 'data, E: EndianParse> Row for NoteSections<'p, 'f, 'data, E> {
     type Item = SectionHeader;
 
     ghost wrong = { λ row number section. section_notes_wrong (object_file E.little (view row.file.now))
@@ -76,20 +87,23 @@ impl<'f, 'data, E: EndianParse> Row for NoteSections<'f, 'data, E> {
         if section.sh_type != abi::SHT_NOTE {
             return Ok(());
         }
-        let name = Escaped(name_of(&self.names, section));
-        writeln!(out, "Notes of section {number} ({name}):")?;
+        if self.format.is_text() {
+            let name = Escaped(name_of(&self.names, section));
+            writeln!(out, "Notes of section {number} ({name}):")?;
+        }
         let notes = self.file.section_data_as_notes(section);
-        list_found(Part::Section(number), notes, out, problems)
+        list_found(self.format, Part::Section(number), notes, out, problems)
     }
 }
 
-// The notes of a segment, under a heading; nothing of a segment of another type.
+// The notes of a segment, for people under a heading; nothing of a segment of another type.
 #[derive(Drop)]
-struct NoteSegments<'f, 'data, E: EndianParse> {
+struct NoteSegments<'p, 'f, 'data, E: EndianParse> {
+    format: Format<'p>,
     file: &'f ElfBytes<'data, E>,
 }
 
-impl<'f, 'data, E: EndianParse> Row for NoteSegments<'f, 'data, E> {
+impl<'p, 'f, 'data, E: EndianParse> Row for NoteSegments<'p, 'f, 'data, E> {
     type Item = ProgramHeader;
 
     ghost wrong = { λ row number segment. one_segment_wrong (object_file E.little (view row.file.now)) number segment };
@@ -104,14 +118,17 @@ impl<'f, 'data, E: EndianParse> Row for NoteSegments<'f, 'data, E> {
         if segment.p_type != abi::PT_NOTE {
             return Ok(());
         }
-        writeln!(out, "Notes of segment {number}:")?;
+        if self.format.is_text() {
+            writeln!(out, "Notes of segment {number}:")?;
+        }
         let notes = self.file.segment_data_as_notes(segment);
-        list_found(Part::Segment(number), notes, out, problems)
+        list_found(self.format, Part::Segment(number), notes, out, problems)
     }
 }
 
 // Lists notes, if they can be read.
 fn list_found<'data, E: EndianParse, W: Write>(
+    format: Format<'_>,
     part: Part,
     notes: Result<NoteIterator<'data, E>, ParseError>,
     out: &mut W,
@@ -125,7 +142,7 @@ fn list_found<'data, E: EndianParse, W: Write>(
     };
     match notes {
         Ok(notes) => {
-            notes::list_notes(notes, out)?;
+            notes::list_notes(format, part, notes, out)?;
             Ok(())
         }
         Err(error) => problems.add(place, Fault::Read(error)),

@@ -3,6 +3,7 @@ use elf::ElfBytes;
 use elf::endian::EndianParse;
 use elf_tools::load_plan::{Mapping, PlanError, load_plan};
 use nugwier_lines::flags::SegmentFlags;
+use nugwier_lines::json::{Format, Value, write_object};
 use nugwier_lines::problem::{Fault, Item, Part, Place, Problems, Stop};
 use std::alloc::Global;
 use std::io;
@@ -11,6 +12,7 @@ use std::io::Write;
 /// Lists the mappings of a file. It is wrong if there are none, or if they cannot be mapped.
 pub(crate) fn list_plan<E: EndianParse, W: Write>(
     alloc: Global,
+    format: Format<'_>,
     file: &ElfBytes<'_, E>,
     out: &mut W,
     problems: &mut Problems,
@@ -24,7 +26,7 @@ pub(crate) fn list_plan<E: EndianParse, W: Write>(
             if plan.is_empty() {
                 return problems.add(place, Fault::Missing);
             }
-            list_mappings(plan.as_slice(), out)?;
+            list_mappings(format, plan.as_slice(), out)?;
             Ok(())
         }
         Err(PlanError::Memory) => Err(Stop::Memory),
@@ -32,15 +34,31 @@ pub(crate) fn list_plan<E: EndianParse, W: Write>(
     }
 }
 
-fn list_mappings<W: Write>(plan: &[Mapping], out: &mut W) -> io::Result<()> {
-    writeln!(
-        out,
-        "address            memory     bytes of the file      flags"
-    )?;
+fn list_mappings<W: Write>(format: Format<'_>, plan: &[Mapping], out: &mut W) -> io::Result<()> {
+    if format.is_text() {
+        writeln!(
+            out,
+            "address            memory     bytes of the file      flags"
+        )?;
+    }
     for mapping in plan {
-        list_mapping(mapping, out)?;
+        match format {
+            Format::Text => list_mapping(mapping, out)?,
+            Format::Json(path) => write_mapping(path, mapping, out)?,
+        }
     }
     Ok(())
+}
+
+fn write_mapping<W: Write>(path: &str, mapping: &Mapping, out: &mut W) -> io::Result<()> {
+    let members = [
+        ("p_vaddr", Value::Number(mapping.address)),
+        ("p_memsz", Value::Number(mapping.memory_size)),
+        ("p_offset", Value::Number(mapping.offset)),
+        ("p_filesz", Value::Number(mapping.file_size)),
+        ("p_flags", Value::Number(mapping.flags as u64)),
+    ];
+    write_object(path, "mapping", &members, out)
 }
 
 fn list_mapping<W: Write>(mapping: &Mapping, out: &mut W) -> io::Result<()> {

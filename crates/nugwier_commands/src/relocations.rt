@@ -17,13 +17,16 @@ use elf::symbol::SymbolTable;
 use elf::{ElfBytes, ParseError, abi};
 use elf_records::parse::get_bytes;
 use nugwier_lines::escape::Escaped;
+use nugwier_lines::json::Format;
 use nugwier_lines::problem::{Fault, Item, Part, Place, Problems, Stop};
 use nugwier_lines::relocations::{RelRow, RelaRow, Symbols, list_heading};
 use nugwier_lines::rows::{Row, list_records};
+use std::io;
 use std::io::Write;
 
 /// Lists the relocations of each section that has them.
 pub(crate) fn list_relocations<E: EndianParse, W: Write>(
+    format: Format<'_>,
     file: &ElfBytes<'_, E>,
     out: &mut W,
     problems: &mut Problems,
@@ -35,7 +38,11 @@ pub(crate) fn list_relocations<E: EndianParse, W: Write>(
         Some(sections) => {
             list_records(
                 sections.iter(),
-                &RelocationSections { file, names },
+                &RelocationSections {
+                    format,
+                    file,
+                    names,
+                },
                 out,
                 problems,
             )
@@ -44,14 +51,15 @@ pub(crate) fn list_relocations<E: EndianParse, W: Write>(
     }
 }
 
-// The relocations of a section, under a heading; nothing of a section of another type.
+// The relocations of a section, for people under a heading; nothing of a section of another type.
 #[derive(Drop)]
-struct RelocationSections<'f, 'data, E: EndianParse> {
+struct RelocationSections<'p, 'f, 'data, E: EndianParse> {
+    format: Format<'p>,
     file: &'f ElfBytes<'data, E>,
     names: Option<TerminatedStrings<'data>>,
 }
 
-impl<'f, 'data, E: EndianParse> Row for RelocationSections<'f, 'data, E> {
+impl<'p, 'f, 'data, E: EndianParse> Row for RelocationSections<'p, 'f, 'data, E> {
     type Item = SectionHeader;
 
     ghost wrong = { λ row number section. relocations_in (object_file E.little (view row.file.now)) number section };
@@ -66,9 +74,8 @@ impl<'f, 'data, E: EndianParse> Row for RelocationSections<'f, 'data, E> {
         if section.sh_type != abi::SHT_REL && section.sh_type != abi::SHT_RELA {
             return Ok(());
         }
-        let name = Escaped(name_of(&self.names, section));
-        writeln!(out, "Relocations of section {number} ({name}):")?;
-        list_heading(out)?;
+        list_title(self.format, &self.names, number, section, out)?;
+        list_heading(self.format, out)?;
         let place = Place {
             part: Part::Section(number),
             item: Item::Symbols,
@@ -77,7 +84,15 @@ impl<'f, 'data, E: EndianParse> Row for RelocationSections<'f, 'data, E> {
             Some(symbols) => symbols,
             None => None,
         };
-        list_section(self.file, number, section, symbols, out, problems)
+        list_section(
+            self.format,
+            self.file,
+            number,
+            section,
+            symbols,
+            out,
+            problems,
+        )
     }
 }
 
@@ -129,8 +144,23 @@ fn symbols_of<'data, E: EndianParse>(
     })
 }
 
+fn list_title<W: Write>(
+    format: Format<'_>,
+    names: &Option<TerminatedStrings<'_>>,
+    number: u64,
+    section: &SectionHeader,
+    out: &mut W,
+) -> io::Result<()> {
+    if !format.is_text() {
+        return Ok(());
+    }
+    let name = Escaped(name_of(names, section));
+    writeln!(out, "Relocations of section {number} ({name}):")
+}
+
 // Lists the relocations of a section of either type.
 fn list_section<'data, E: EndianParse, W: Write>(
+    format: Format<'_>,
     file: &ElfBytes<'data, E>,
     number: u64,
     section: &SectionHeader,
@@ -148,12 +178,26 @@ fn list_section<'data, E: EndianParse, W: Write>(
     };
     if section.sh_type == abi::SHT_REL {
         return match file.section_data_as_rels(section) {
-            Ok(rels) => list_records(rels, &RelRow { part, symbols }, out, problems),
+            Ok(rels) => {
+                let row = RelRow {
+                    format,
+                    part,
+                    symbols,
+                };
+                list_records(rels, &row, out, problems)
+            }
             Err(error) => problems.add(place, Fault::Read(error)),
         };
     }
     match file.section_data_as_relas(section) {
-        Ok(relas) => list_records(relas, &RelaRow { part, symbols }, out, problems),
+        Ok(relas) => {
+            let row = RelaRow {
+                format,
+                part,
+                symbols,
+            };
+            list_records(relas, &row, out, problems)
+        }
         Err(error) => problems.add(place, Fault::Read(error)),
     }
 }

@@ -6,6 +6,7 @@ ghost use Rattle.nugwier_commands.specs.Status.{IsWrongFor, ended_status};
 ghost use Rattle.nugwier_lines.specs.declared.problem.Place.{Place};
 
 use crate::addresses::list_addresses;
+use crate::by_parts::{list_by_parts, wants_only_headers};
 use crate::check::check;
 use crate::files::Files;
 use crate::help::{VERSION, help};
@@ -15,10 +16,12 @@ use crate::plan::list_plan;
 use crate::report::report;
 use crate::strings::list_needed;
 use crate::symbols::list_dynamic_symbols;
+use crate::tree::run_tree;
 use crate::words::{Command, Job, Request, WordError, parse_words};
 use elf::endian::{AnyEndian, EndianParse};
 use elf::{ElfBytes, ParseError};
 use nugwier_lines::escape::Escaped;
+use nugwier_lines::json::Format;
 use nugwier_lines::problem::{Problems, Stop};
 use nugwier_lines::symbols::Form;
 use std::alloc::Global;
@@ -91,7 +94,7 @@ fn run_job<F: Files, W: Write, V: Write>(
 ) -> Result<bool, Stop> {
     let mut is_read = true;
     for (place, path) in job.files.as_slice().iter().enumerate() {
-        if job.files.len() > 1 {
+        if job.files.len() > 1 && !job.is_json {
             list_heading(place, *path, out)?;
         }
         is_read &= run_file(alloc, job, files, *path, out, err)?;
@@ -118,8 +121,29 @@ fn run_file<F: Files, W: Write, V: Write>(
     out: &mut W,
     err: &mut V,
 ) -> Result<bool, Stop> {
+    if wants_only_headers(job) {
+        let format = format_of(job, path);
+        if list_by_parts(alloc, job, format, files.open(path), out)? {
+            return Ok(true);
+        }
+    }
     match files.read(path) {
-        Ok(data) => run_bytes(alloc, job, path, data.as_slice(), out, err),
+        Ok(data) => match job.command {
+            Command::Tree => {
+                let searches = job.searches.as_slice();
+                run_tree(
+                    alloc,
+                    searches,
+                    format_of(job, path),
+                    files,
+                    path,
+                    data,
+                    out,
+                    err,
+                )
+            }
+            _ => run_bytes(alloc, job, path, data.as_slice(), out, err),
+        },
         Err(error) => {
             out.flush()?;
             let path = Escaped(path.as_bytes());
@@ -164,7 +188,7 @@ fn run_file_command<E: EndianParse, W: Write, V: Write>(
         × (is_read ≡ (length places == 0))) }
 {
     let mut problems = Problems::none(alloc);
-    run_command(alloc, job, file, out, &mut problems)?;
+    run_command(alloc, job, format_of(job, path), file, out, &mut problems)?;
     if problems.is_empty() {
         return Ok(true);
     }
@@ -173,10 +197,19 @@ fn run_file_command<E: EndianParse, W: Write, V: Write>(
     Ok(false)
 }
 
+fn format_of<'a>(job: &Job<'_>, path: &'a str) -> Format<'a> {
+    if job.is_json {
+        Format::Json(path)
+    } else {
+        Format::Text
+    }
+}
+
 // Lists what a command asks for of a file.
 fn run_command<E: EndianParse, W: Write>(
     alloc: Global,
     job: &Job<'_>,
+    format: Format<'_>,
     file: &ElfBytes<'_, E>,
     out: &mut W,
     problems: &mut Problems,
@@ -185,19 +218,26 @@ fn run_command<E: EndianParse, W: Write>(
         problems.old problems.new) }
 {
     match job.command {
-        Command::List => list(alloc, job, file, out, problems),
+        Command::List => list(alloc, job, format, file, out, problems),
         Command::Symbols => {
             let form = Form::Letter {
                 class: file.ehdr.class,
                 sections: file.section_headers(),
             };
-            list_dynamic_symbols(alloc, file, form, out, problems)
+            list_dynamic_symbols(alloc, format, file, form, out, problems)
         }
-        Command::Exports => list_dynamic_symbols(alloc, file, Form::Export, out, problems),
-        Command::Needed => list_needed(alloc, file, out, problems),
-        Command::BuildId => list_build_id(file, out, problems),
-        Command::Plan => list_plan(alloc, file, out, problems),
-        Command::Check => check(alloc, file, out, problems),
-        Command::Address => list_addresses(alloc, file, job.addresses.as_slice(), out, problems),
+        Command::Exports => {
+            list_dynamic_symbols(alloc, format, file, Form::Export, out, problems)
+        }
+        Command::Needed => list_needed(alloc, format, file, out, problems),
+        Command::BuildId => list_build_id(format, file, out, problems),
+        Command::Plan => list_plan(alloc, format, file, out, problems),
+        Command::Check => check(alloc, format, file, out, problems),
+        Command::Address => {
+            let addresses = job.addresses.as_slice();
+            list_addresses(alloc, format, file, addresses, out, problems)
+        }
+        // It reads other files too, so `run_tree` lists it.
+        Command::Tree => Ok(()),
     }
 }

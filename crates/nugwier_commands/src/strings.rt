@@ -21,6 +21,7 @@ use elf::string_table::{StringTable, TerminatedStrings};
 use elf::{ElfBytes, ParseError, abi};
 use elf_tools::needed::NamesError;
 use nugwier_lines::dynamic::{EntryRow, NeededRow, list_heading};
+use nugwier_lines::json::Format;
 use nugwier_lines::problem::{Fault, Item, Part, Place, Problems, Stop};
 use nugwier_lines::rows::list_slice;
 use std::alloc::{AllocError, Global};
@@ -182,6 +183,7 @@ fn found_strings<'data, E: EndianParse>(
 /// Lists the names and search paths of the dynamic entries. It is wrong if there are no entries.
 pub(crate) fn list_needed<E: EndianParse, W: Write>(
     alloc: Global,
+    format: Format<'_>,
     file: &ElfBytes<'_, E>,
     out: &mut W,
     problems: &mut Problems,
@@ -189,7 +191,7 @@ pub(crate) fn list_needed<E: EndianParse, W: Write>(
     ensures { OnOk result (problems.new ≡ problems.old ++ needed_of (object_file E.little (view file.now))) }
 {
     match file.dynamic() {
-        Ok(Some(table)) => list_named(alloc, file, &table, out, problems),
+        Ok(Some(table)) => list_named(alloc, format, file, &table, out, problems),
         Ok(None) => problems.add(ENTRIES, Fault::Missing),
         Err(error) => problems.add(ENTRIES, Fault::Read(error)),
     }
@@ -197,6 +199,7 @@ pub(crate) fn list_needed<E: EndianParse, W: Write>(
 
 fn list_named<'data, E: EndianParse, W: Write>(
     alloc: Global,
+    format: Format<'_>,
     file: &ElfBytes<'data, E>,
     table: &DynamicTable<'data, E>,
     out: &mut W,
@@ -207,14 +210,18 @@ fn list_named<'data, E: EndianParse, W: Write>(
 {
     let entries = entries_in(alloc, table)?;
     match found_strings(file, entries.as_slice(), problems)? {
-        Some(strings) => list_slice(entries.as_slice(), &NeededRow { strings }, out, problems),
+        Some(strings) => {
+            let row = NeededRow { format, strings };
+            list_slice(entries.as_slice(), &row, out, problems)
+        }
         None => Ok(()),
     }
 }
 
-/// Lists the dynamic entries, if there are any, under a heading.
+/// Lists the dynamic entries, if there are any, for people under a heading.
 pub(crate) fn list_entries<E: EndianParse, W: Write>(
     alloc: Global,
+    format: Format<'_>,
     file: &ElfBytes<'_, E>,
     out: &mut W,
     problems: &mut Problems,
@@ -222,7 +229,7 @@ pub(crate) fn list_entries<E: EndianParse, W: Write>(
     ensures { OnOk result (problems.new ≡ problems.old ++ entries_of (object_file E.little (view file.now))) }
 {
     match file.dynamic() {
-        Ok(Some(table)) => list_all(alloc, file, &table, out, problems),
+        Ok(Some(table)) => list_all(alloc, format, file, &table, out, problems),
         Ok(None) => Ok(()),
         Err(error) => problems.add(ENTRIES, Fault::Read(error)),
     }
@@ -230,6 +237,7 @@ pub(crate) fn list_entries<E: EndianParse, W: Write>(
 
 fn list_all<'data, E: EndianParse, W: Write>(
     alloc: Global,
+    format: Format<'_>,
     file: &ElfBytes<'data, E>,
     table: &DynamicTable<'data, E>,
     out: &mut W,
@@ -240,6 +248,7 @@ fn list_all<'data, E: EndianParse, W: Write>(
 {
     let entries = entries_in(alloc, table)?;
     let strings = found_strings(file, entries.as_slice(), problems)?;
-    list_heading(out)?;
-    list_slice(entries.as_slice(), &EntryRow { strings }, out, problems)
+    list_heading(format, out)?;
+    let row = EntryRow { format, strings };
+    list_slice(entries.as_slice(), &row, out, problems)
 }

@@ -14,6 +14,7 @@ use elf::string_table::{StringTable, TerminatedStrings};
 use elf::symbol::SymbolTable;
 use elf::{ElfBytes, ParseError};
 use elf_tools::versions::indexed;
+use nugwier_lines::json::Format;
 use nugwier_lines::problem::{Fault, Item, Part, Place, Problems, Stop};
 use nugwier_lines::rows::list_records;
 use nugwier_lines::symbols::{Form, Names, SymbolRow, list_heading};
@@ -37,6 +38,7 @@ fn whole(part: Part) -> Place
 /// Lists the symbols for dynamic linking, with their versions. It is wrong if there are none.
 pub(crate) fn list_dynamic_symbols<'data, E: EndianParse, W: Write>(
     alloc: Global,
+    format: Format<'_>,
     file: &ElfBytes<'data, E>,
     form: Form<'data, E>,
     out: &mut W,
@@ -46,7 +48,7 @@ pub(crate) fn list_dynamic_symbols<'data, E: EndianParse, W: Write>(
         ++ dynamic_symbols_wrong (whole DynamicSymbols ∷ []) (is_listed form.entry) (object_file E.little (view file.now))) }
 {
     match file.dynamic_symbol_table() {
-        Ok(Some(symbols)) => list_versioned(alloc, file, symbols, form, out, problems),
+        Ok(Some(symbols)) => list_versioned(alloc, format, file, symbols, form, out, problems),
         Ok(None) => problems.add(whole(Part::DynamicSymbols), Fault::Missing),
         Err(error) => problems.add(whole(Part::DynamicSymbols), Fault::Read(error)),
     }
@@ -55,6 +57,7 @@ pub(crate) fn list_dynamic_symbols<'data, E: EndianParse, W: Write>(
 // Lists symbols with their versions.
 fn list_versioned<'data, E: EndianParse, W: Write>(
     alloc: Global,
+    format: Format<'_>,
     file: &ElfBytes<'data, E>,
     symbols: Symbols<'data, E>,
     form: Form<'data, E>,
@@ -70,10 +73,12 @@ fn list_versioned<'data, E: EndianParse, W: Write>(
         None => None,
     };
     let versions = indexed(alloc, versions.as_ref())?;
-    list_rows(Part::DynamicSymbols, symbols, versions, form, out, problems)
+    let part = Part::DynamicSymbols;
+    list_rows(format, part, symbols, versions, form, out, problems)
 }
 
 fn list_rows<'a, 'data, E: EndianParse, W: Write>(
+    format: Format<'_>,
     part: Part,
     symbols: Symbols<'data, E>,
     versions: Option<IndexedVersions<'a, 'data, E, Global>>,
@@ -90,11 +95,17 @@ fn list_rows<'a, 'data, E: EndianParse, W: Write>(
         versions,
         order: PhantomData,
     };
-    list_records(table.iter(), &SymbolRow { names, form }, out, problems)
+    let row = SymbolRow {
+        format,
+        names,
+        form,
+    };
+    list_records(table.iter(), &row, out, problems)
 }
 
-/// Lists the symbols of the section of type `SHT_SYMTAB`, if there is one, under a heading.
+/// Lists the symbols of the section of type `SHT_SYMTAB`, if there is one, for people under a heading.
 pub(crate) fn list_symbols<E: EndianParse, W: Write>(
+    format: Format<'_>,
     file: &ElfBytes<'_, E>,
     out: &mut W,
     problems: &mut Problems,
@@ -104,17 +115,19 @@ pub(crate) fn list_symbols<E: EndianParse, W: Write>(
 {
     match file.symbol_table() {
         Ok(Some(symbols)) => {
-            list_heading("Symbols", out)?;
-            list_rows(Part::Symbols, symbols, None, Form::Fields, out, problems)
+            list_heading(format, "Symbols", out)?;
+            let part = Part::Symbols;
+            list_rows(format, part, symbols, None, Form::Fields, out, problems)
         }
         Ok(None) => Ok(()),
         Err(error) => problems.add(whole(Part::Symbols), Fault::Read(error)),
     }
 }
 
-/// Lists the symbols for dynamic linking, if there are any, under a heading.
+/// Lists the symbols for dynamic linking, if there are any, for people under a heading.
 pub(crate) fn list_linked<E: EndianParse, W: Write>(
     alloc: Global,
+    format: Format<'_>,
     file: &ElfBytes<'_, E>,
     out: &mut W,
     problems: &mut Problems,
@@ -124,8 +137,8 @@ pub(crate) fn list_linked<E: EndianParse, W: Write>(
 {
     match file.dynamic_symbol_table() {
         Ok(Some(symbols)) => {
-            list_heading("Symbols for dynamic linking", out)?;
-            list_versioned(alloc, file, symbols, Form::Fields, out, problems)
+            list_heading(format, "Symbols for dynamic linking", out)?;
+            list_versioned(alloc, format, file, symbols, Form::Fields, out, problems)
         }
         Ok(None) => Ok(()),
         Err(error) => problems.add(whole(Part::DynamicSymbols), Fault::Read(error)),

@@ -6,12 +6,14 @@ use elf::section::SectionHeader;
 use elf::string_table::{StringTable, TerminatedStrings};
 use elf::{ElfBytes, ParseError, abi};
 use nugwier_lines::escape::Escaped;
+use nugwier_lines::json::Format;
 use nugwier_lines::problem::{Fault, Item, Part, Place, Problems, Stop};
 use nugwier_lines::version_records::{VersionNames, list_definitions, list_needs};
 use std::io::Write;
 
 /// Lists the versions of each section that defines or needs some.
 pub(crate) fn list_versions<E: EndianParse, W: Write>(
+    format: Format<'_>,
     file: &ElfBytes<'_, E>,
     out: &mut W,
     problems: &mut Problems,
@@ -22,12 +24,13 @@ pub(crate) fn list_versions<E: EndianParse, W: Write>(
     let names = readable_names(file);
     for (number, section) in sections.iter().enumerate() {
         let name = name_of(&names, &section);
-        list_section(file, number as u64, &section, name, out, problems)?;
+        list_section(format, file, number as u64, &section, name, out, problems)?;
     }
     Ok(())
 }
 
 fn list_section<E: EndianParse, W: Write>(
+    format: Format<'_>,
     file: &ElfBytes<'_, E>,
     number: u64,
     section: &SectionHeader,
@@ -40,11 +43,14 @@ fn list_section<E: EndianParse, W: Write>(
         abi::SHT_GNU_VERNEED => "Versions needed",
         _ => return Ok(()),
     };
-    let name = Escaped(name);
-    writeln!(out, "{title}, of section {number} ({name}):")?;
+    if format.is_text() {
+        let name = Escaped(name);
+        writeln!(out, "{title}, of section {number} ({name}):")?;
+    }
     match section_bytes(file, section) {
         Ok((bytes, strings)) => {
             let names = VersionNames {
+                format,
                 part: Part::Section(number),
                 strings,
             };
@@ -78,7 +84,7 @@ fn list_entries<E: EndianParse, W: Write>(
     file: &ElfBytes<'_, E>,
     section: &SectionHeader,
     bytes: &[u8],
-    names: &VersionNames<'_>,
+    names: &VersionNames<'_, '_>,
     out: &mut W,
     problems: &mut Problems,
 ) -> Result<(), Stop> {

@@ -17,6 +17,7 @@ pub enum Command {
     Plan,
     Check,
     Address,
+    Tree,
 }
 
 impl Command {
@@ -31,6 +32,7 @@ impl Command {
             Command::Plan => "plan",
             Command::Check => "check",
             Command::Address => "address",
+            Command::Tree => "tree",
         }
     }
 }
@@ -91,6 +93,10 @@ pub struct Job<'a> {
     pub files: Vec<&'a str>,
     /// The addresses for `address`.
     pub addresses: Vec<u64>,
+    /// Whether records are listed as objects of JSON.
+    pub is_json: bool,
+    /// The folders in which `tree` searches for libraries, before the usual ones.
+    pub searches: Vec<&'a str>,
 }
 
 /// What a command line asks for.
@@ -142,11 +148,16 @@ impl fmt::Display for WordError<'_> {
                 )
             }
             WordError::NoValue(command, word) => {
+                let wanted = if *command == Command::List {
+                    "section"
+                } else {
+                    "folder"
+                };
                 let word = Escaped(word.as_bytes());
                 let command = command.word();
                 write!(
                     f,
-                    "nugwier {command}: no section after '{word}'; see nugwier {command} --help"
+                    "nugwier {command}: no {wanted} after '{word}'; see nugwier {command} --help"
                 )
             }
             WordError::NoFile(command) => {
@@ -200,6 +211,7 @@ fn parse_command(word: &str) -> Option<Command> {
         "plan" => Some(Command::Plan),
         "check" => Some(Command::Check),
         "address" => Some(Command::Address),
+        "tree" => Some(Command::Tree),
         _ => None,
     }
 }
@@ -208,6 +220,7 @@ fn parse_command(word: &str) -> Option<Command> {
 enum Word {
     File,
     Help,
+    Json,
     // After this word all are files.
     End,
     Letters,
@@ -219,6 +232,7 @@ fn kind_of(word: &str, has_ended: bool) -> Word {
     }
     match word {
         "--help" => Word::Help,
+        "--json" => Word::Json,
         "--" => Word::End,
         _ => Word::Letters,
     }
@@ -232,7 +246,9 @@ fn parse_rest<'a>(
     let mut options = Options {
         parts: Parts::each(false),
         contents: Vec::new(alloc),
+        searches: Vec::new(alloc),
         waiting: None,
+        is_json: false,
     };
     let mut files = Vec::new(alloc);
     let mut has_ended = false;
@@ -243,6 +259,7 @@ fn parse_rest<'a>(
         match kind_of(*word, has_ended) {
             Word::File => files.push(*word)?,
             Word::Help => return Ok(Request::Help(Some(command))),
+            Word::Json => options.is_json = true,
             Word::End => has_ended = true,
             Word::Letters => options.add(command, *word)?,
         }
@@ -278,6 +295,8 @@ fn finish<'a>(
         contents: options.contents,
         files,
         addresses,
+        is_json: options.is_json,
+        searches: options.searches,
     }))
 }
 
@@ -306,19 +325,28 @@ fn parse_address(word: &str) -> Option<u64> {
     u64::from_str_radix(digits, 16).ok()
 }
 
-// The options of `list` so far. An option may wait for the word that names its section.
+// What an option waits for in the next word.
+#[derive(Clone, Copy)]
+enum Waiting {
+    Section(Form),
+    Folder,
+}
+
+// The options so far, all but one of them for `list` and `tree`. The last one may wait for its word.
 #[derive(Drop)]
 struct Options<'a> {
     parts: Parts,
     contents: Vec<Wanted<'a>>,
-    waiting: Option<(Form, &'a str)>,
+    searches: Vec<&'a str>,
+    waiting: Option<(Waiting, &'a str)>,
+    is_json: bool,
 }
 
 impl<'a> Options<'a> {
     // Takes a word that an option waits for.
     fn takes(&mut self, word: &'a str) -> Result<bool, WordError<'a>> {
         match self.waiting {
-            Some((form, _)) => {
+            Some((Waiting::Section(form), _)) => {
                 self.waiting = None;
                 self.contents.push(Wanted {
                     form,
@@ -326,12 +354,21 @@ impl<'a> Options<'a> {
                 })?;
                 Ok(true)
             }
+            Some((Waiting::Folder, _)) => {
+                self.waiting = None;
+                self.searches.push(word)?;
+                Ok(true)
+            }
             None => Ok(false),
         }
     }
 
-    // Adds the options of a word, a letter each.
+    // Adds the options of a word: of `list` a letter each.
     fn add(&mut self, command: Command, word: &'a str) -> Result<(), WordError<'a>> {
+        if command == Command::Tree && word == "--search" {
+            self.waiting = Some((Waiting::Folder, word));
+            return Ok(());
+        }
         if command != Command::List {
             return Err(WordError::Option(command, word));
         }
@@ -346,8 +383,8 @@ impl<'a> Options<'a> {
     // Adds an option, and returns whether it is one.
     fn add_letter(&mut self, letter: u8, word: &'a str) -> bool {
         match letter {
-            b'x' => self.waiting = Some((Form::Bytes, word)),
-            b'p' => self.waiting = Some((Form::Strings, word)),
+            b'x' => self.waiting = Some((Waiting::Section(Form::Bytes), word)),
+            b'p' => self.waiting = Some((Waiting::Section(Form::Strings), word)),
             b'a' => self.parts = Parts::each(true),
             _ => return self.add_part(letter),
         }

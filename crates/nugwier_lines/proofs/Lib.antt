@@ -1,2 +1,4 @@
 pub mod Listing
 pub mod BadVersions
+pub mod JsonStrings
+pub mod JsonReading

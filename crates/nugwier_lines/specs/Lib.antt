@@ -4,3 +4,10 @@ pub mod Places
 pub mod Versions
 -- the names that cannot be read
 pub mod Names
+-- the characters that are shown
+pub mod Escape
+-- the text of objects of JSON; what a string of JSON says
+pub mod Json
+pub mod JsonReading
+-- the members of each kind of record
+pub mod JsonRecords

@@ -13,6 +13,6 @@ is_error (Ok x) = false
 is_error (Err e) = true
 
 -- the places of items that are numbered from k
-abbrev pub numbered : {X : Type 0} → (ℕ → X → List Place) → ℕ → List X → List Place
-numbered wrong k [] = []
-numbered wrong k (x ∷ xs) = wrong k x ++ numbered wrong (k + 1) xs
+abbrev pub numbered_places : {X : Type 0} → (ℕ → X → List Place) → ℕ → List X → List Place
+numbered_places wrong k [] = []
+numbered_places wrong k (x ∷ xs) = wrong k x ++ numbered_places wrong (k + 1) xs

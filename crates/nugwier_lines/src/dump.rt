@@ -1,5 +1,6 @@
 //! Bytes as digits, and the strings of a section.
 use crate::escape::Escaped;
+use crate::json::{Format, Value, write_object};
 use crate::problem::Stop;
 use std::io::Write;
 use std::{fmt, io};
@@ -64,24 +65,61 @@ pub fn list_bytes<W: Write>(bytes: &[u8], out: &mut W) -> Result<(), Stop> {
     Ok(())
 }
 
-/// Lists the strings of a section, each with its offset, without empty ones. Bytes after the last 0 byte are no string.
-pub fn list_strings<W: Write>(bytes: &[u8], out: &mut W) -> Result<(), Stop> {
+/// Writes the bytes of a section, by its number, as an object of JSON.
+pub fn write_bytes<W: Write>(
+    path: &str,
+    section: u64,
+    bytes: &[u8],
+    out: &mut W,
+) -> Result<(), Stop> {
+    let members = [
+        ("section", Value::Number(section)),
+        ("data", Value::Bytes(bytes)),
+    ];
+    write_object(path, "section_data", &members, out)?;
+    Ok(())
+}
+
+/// Lists the strings of a section, by its number, each with its offset, without empty ones. Bytes after the last 0 byte
+/// are no string.
+pub fn list_strings<W: Write>(
+    format: Format<'_>,
+    section: u64,
+    bytes: &[u8],
+    out: &mut W,
+) -> Result<(), Stop> {
     let mut start = 0;
     for (place, byte) in bytes.iter().enumerate() {
         if *byte == 0 {
-            list_string(bytes, start, place, out)?;
+            match bytes.get(start..place) {
+                Some([]) | None => {}
+                Some(string) => list_string(format, section, start as u64, string, out)?,
+            }
             start = place + 1;
         }
     }
     Ok(())
 }
 
-fn list_string<W: Write>(bytes: &[u8], start: usize, end: usize, out: &mut W) -> io::Result<()> {
-    match bytes.get(start..end) {
-        Some([]) | None => Ok(()),
-        Some(string) => {
+fn list_string<W: Write>(
+    format: Format<'_>,
+    section: u64,
+    start: u64,
+    string: &[u8],
+    out: &mut W,
+) -> io::Result<()> {
+    match format {
+        Format::Text => {
             let text = Escaped(string);
             writeln!(out, "  [{start:>6x}]  {text}")
+        }
+        Format::Json(path) => {
+            let members = [
+                ("section", Value::Number(section)),
+                ("offset", Value::Number(start)),
+                ("string", Value::Text(Some(string))),
+            ];
+            write_object(path, "section_string", &members, out)
         }
     }
 }

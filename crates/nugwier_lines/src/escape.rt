@@ -1,4 +1,7 @@
 //! Names of a file as text for a terminal.
+ghost use Rattle.std.specs.Prelude.{◌≡◌};
+ghost use Rattle.nugwier_lines.specs.Escape.{is_shown};
+
 use std::fmt;
 use std::str::from_utf8;
 
@@ -64,9 +67,11 @@ fn is_plain(byte: u8) -> bool {
     (b' '..=b'~').contains(&byte) && byte != b'\\'
 }
 
-// Whether a character is shown as it is: none that controls a terminal, or that is invisible or turns the direction of
-// writing, so that a name could look like another one.
-fn is_shown(character: char) -> bool {
+/// Whether a character is shown as it is: none that controls a terminal, or that is invisible or turns the direction of
+/// writing, so that a name could look like another one.
+pub(crate) fn is_shown(character: char) -> bool
+    ensures { result ≡ is_shown character }
+{
     match character {
         '\0'..='\u{1f}' | '\\' | '\u{7f}'..='\u{9f}' => false,
         '\u{ad}' | '\u{61c}' | '\u{feff}' => false,

@@ -1,7 +1,8 @@
 //! The lines of the file header.
+use crate::json::{Format, Value, write_object};
 use crate::named::Named;
 use crate::problem::Stop;
-use elf_abi::to_str;
+use elf_abi::{abi, to_str};
 use elf_parts::endian::EndianParse;
 use elf_parts::file::{Class, FileHeader};
 use std::io;
@@ -9,14 +10,22 @@ use std::io::Write;
 
 /// Lists the fields of a file header (gABI, chapter "ELF Header").
 pub fn list_header<E: EndianParse, W: Write>(
+    format: Format<'_>,
     header: &FileHeader<E>,
     out: &mut W,
 ) -> Result<(), Stop> {
+    match format {
+        Format::Text => list_fields(header, out)?,
+        Format::Json(path) => write_header(path, header, out)?,
+    }
+    Ok(())
+}
+
+fn list_fields<E: EndianParse, W: Write>(header: &FileHeader<E>, out: &mut W) -> io::Result<()> {
     writeln!(out, "File header:")?;
     list_identification(header, out)?;
     list_kind(header, out)?;
-    list_tables(header, out)?;
-    Ok(())
+    list_tables(header, out)
 }
 
 fn list_identification<E: EndianParse, W: Write>(
@@ -83,4 +92,66 @@ fn list_tables<E: EndianParse, W: Write>(header: &FileHeader<E>, out: &mut W) ->
         "  section headers      {e_shnum} of {e_shentsize} bytes, at offset {e_shoff}"
     )?;
     writeln!(out, "  names of sections    section {e_shstrndx}")
+}
+
+fn write_header<E: EndianParse, W: Write>(
+    path: &str,
+    header: &FileHeader<E>,
+    out: &mut W,
+) -> io::Result<()> {
+    let (class, class_name) = match header.class {
+        Class::ELF32 => (abi::ELFCLASS32, "ELFCLASS32"),
+        Class::ELF64 => (abi::ELFCLASS64, "ELFCLASS64"),
+    };
+    let (order, order_name) = if header.endianness.is_little() {
+        (abi::ELFDATA2LSB, "ELFDATA2LSB")
+    } else {
+        (abi::ELFDATA2MSB, "ELFDATA2MSB")
+    };
+    let FileHeader {
+        version,
+        osabi,
+        abiversion,
+        e_type,
+        e_machine,
+        e_entry,
+        e_phoff,
+        e_shoff,
+        e_flags,
+        e_ehsize,
+        e_phentsize,
+        e_phnum,
+        e_shentsize,
+        e_shnum,
+        e_shstrndx,
+        ..
+    } = *header;
+    let members = [
+        ("ei_class", Value::Number(class as u64)),
+        ("ei_class_name", Value::Word(Some(class_name))),
+        ("ei_data", Value::Number(order as u64)),
+        ("ei_data_name", Value::Word(Some(order_name))),
+        ("ei_osabi", Value::Number(osabi as u64)),
+        ("ei_osabi_name", Value::Word(to_str::e_osabi_to_str(osabi))),
+        ("ei_abiversion", Value::Number(abiversion as u64)),
+        ("e_type", Value::Number(e_type as u64)),
+        ("e_type_name", Value::Word(to_str::e_type_to_str(e_type))),
+        ("e_machine", Value::Number(e_machine as u64)),
+        (
+            "e_machine_name",
+            Value::Word(to_str::e_machine_to_str(e_machine)),
+        ),
+        ("e_version", Value::Number(version as u64)),
+        ("e_entry", Value::Number(e_entry)),
+        ("e_phoff", Value::Number(e_phoff)),
+        ("e_shoff", Value::Number(e_shoff)),
+        ("e_flags", Value::Number(e_flags as u64)),
+        ("e_ehsize", Value::Number(e_ehsize as u64)),
+        ("e_phentsize", Value::Number(e_phentsize as u64)),
+        ("e_phnum", Value::Number(e_phnum as u64)),
+        ("e_shentsize", Value::Number(e_shentsize as u64)),
+        ("e_shnum", Value::Number(e_shnum as u64)),
+        ("e_shstrndx", Value::Number(e_shstrndx as u64)),
+    ];
+    write_object(path, "file_header", &members, out)
 }

@@ -4,6 +4,7 @@ ghost use Rattle.std.specs.Option.{option_map};
 ghost use Rattle.nugwier_lines.specs.Places.{is_error};
 ghost use Rattle.nugwier_lines.specs.Names.{is_symbol_bad, relocation_wrong, symbols_view};
 
+use crate::json::{Format, Value, part_member, write_object};
 use crate::named::Name;
 use crate::problem::{Item, Part, Place, Problems, Stop};
 use crate::rows::Row;
@@ -61,13 +62,14 @@ fn symbol_name<'a, E: EndianParse>(
 
 /// The row of a relocation without an addend, with the name of its symbol, if there are symbols.
 #[derive(Drop)]
-pub struct RelRow<'a, E: EndianParse> {
+pub struct RelRow<'p, 'a, E: EndianParse> {
+    pub format: Format<'p>,
     /// The section of the relocations.
     pub part: Part,
     pub symbols: Option<Symbols<'a, E>>,
 }
 
-impl<E: EndianParse> Row for RelRow<'_, E> {
+impl<E: EndianParse> Row for RelRow<'_, '_, E> {
     type Item = Rel;
 
     ghost wrong = { λ row number relocation. relocation_wrong row.part (option_map symbols_view row.symbols)
@@ -86,23 +88,30 @@ impl<E: EndianParse> Row for RelRow<'_, E> {
             r_type,
         } = *relocation;
         let name = symbol_name(&self.symbols, self.part, number, r_sym, problems)?;
-        writeln!(
-            out,
-            "{number:>6} {r_offset:016x} {r_type:>6} {r_sym:>6} {name}"
-        )?;
+        let line = RelocationLine {
+            part: self.part,
+            number,
+            r_offset,
+            r_sym,
+            r_type,
+            r_addend: None,
+            name,
+        };
+        list_line(self.format, &line, out)?;
         Ok(())
     }
 }
 
 /// The row of a relocation with an addend, with the name of its symbol, if there are symbols.
 #[derive(Drop)]
-pub struct RelaRow<'a, E: EndianParse> {
+pub struct RelaRow<'p, 'a, E: EndianParse> {
+    pub format: Format<'p>,
     /// The section of the relocations.
     pub part: Part,
     pub symbols: Option<Symbols<'a, E>>,
 }
 
-impl<E: EndianParse> Row for RelaRow<'_, E> {
+impl<E: EndianParse> Row for RelaRow<'_, '_, E> {
     type Item = Rela;
 
     ghost wrong = { λ row number relocation. relocation_wrong row.part (option_map symbols_view row.symbols)
@@ -122,15 +131,88 @@ impl<E: EndianParse> Row for RelaRow<'_, E> {
             r_addend,
         } = *relocation;
         let name = symbol_name(&self.symbols, self.part, number, r_sym, problems)?;
-        writeln!(
-            out,
-            "{number:>6} {r_offset:016x} {r_type:>6} {r_sym:>6} {name} {r_addend:+}"
-        )?;
+        let line = RelocationLine {
+            part: self.part,
+            number,
+            r_offset,
+            r_sym,
+            r_type,
+            r_addend: Some(r_addend),
+            name,
+        };
+        list_line(self.format, &line, out)?;
         Ok(())
     }
 }
 
-/// The heading of the rows of relocations.
-pub fn list_heading<W: Write>(out: &mut W) -> io::Result<()> {
+// What is listed of a relocation.
+#[derive(Clone, Copy)]
+struct RelocationLine<'a> {
+    part: Part,
+    number: u64,
+    r_offset: u64,
+    r_sym: u32,
+    r_type: u32,
+    r_addend: Option<i64>,
+    name: Name<'a>,
+}
+
+fn list_line<W: Write>(
+    format: Format<'_>,
+    line: &RelocationLine<'_>,
+    out: &mut W,
+) -> io::Result<()> {
+    match format {
+        Format::Text => list_text(line, out),
+        Format::Json(path) => write_relocation(path, line, out),
+    }
+}
+
+fn list_text<W: Write>(line: &RelocationLine<'_>, out: &mut W) -> io::Result<()> {
+    let RelocationLine {
+        number,
+        r_offset,
+        r_sym,
+        r_type,
+        r_addend,
+        name,
+        ..
+    } = *line;
+    write!(
+        out,
+        "{number:>6} {r_offset:016x} {r_type:>6} {r_sym:>6} {name}"
+    )?;
+    match r_addend {
+        Some(r_addend) => writeln!(out, " {r_addend:+}"),
+        None => writeln!(out),
+    }
+}
+
+fn write_relocation<W: Write>(
+    path: &str,
+    line: &RelocationLine<'_>,
+    out: &mut W,
+) -> io::Result<()> {
+    let addend = match line.r_addend {
+        Some(r_addend) => Value::Signed(r_addend),
+        None => Value::Null,
+    };
+    let members = [
+        part_member(line.part),
+        ("index", Value::Number(line.number)),
+        ("r_offset", Value::Number(line.r_offset)),
+        ("r_sym", Value::Number(line.r_sym as u64)),
+        ("name", Value::Text(line.name.0)),
+        ("r_type", Value::Number(line.r_type as u64)),
+        ("r_addend", addend),
+    ];
+    write_object(path, "relocation", &members, out)
+}
+
+/// The heading of the rows of relocations, for people.
+pub fn list_heading<W: Write>(format: Format<'_>, out: &mut W) -> io::Result<()> {
+    if !format.is_text() {
+        return Ok(());
+    }
     writeln!(out, "    nr offset             type symbol name, addend")
 }

@@ -2,7 +2,7 @@
 ghost use Rattle.std.specs.Prelude.{◌≡◌, ◌-◌, ◌^◌, ◌++◌, ℕ, List, OnOk};
 ghost use Rattle.std.specs.Iterator.{Drains, UpTo};
 ghost use Rattle.elf_records.specs.Table.{items_left, table_items, table_view};
-ghost use Rattle.nugwier_lines.specs.Places.{numbered};
+ghost use Rattle.nugwier_lines.specs.Places.{numbered_places};
 ghost use Rattle.nugwier_lines.specs.declared.problem.Place.{Place};
 
 use crate::problem::{Problems, Stop};
@@ -41,7 +41,7 @@ where
     requires can { I.can_next items }
     requires few { UpTo (I.remaining items) (2 ^ 64 - 1) }
     ensures { OnOk result ((shown : List R.Item) × Drains I.next_gives items shown
-        × (problems.new ≡ problems.old ++ numbered (R.wrong row.now) 0 shown)) }
+        × (problems.new ≡ problems.old ++ numbered_places (R.wrong row.now) 0 shown)) }
 {
     let mut number = 0;
     for item in items {
@@ -58,7 +58,7 @@ pub fn list_slice<R: Row, W: Write>(
     out: &mut W,
     problems: &mut Problems,
 ) -> Result<(), Stop>
-    ensures { OnOk result (problems.new ≡ problems.old ++ numbered (R.wrong row.now) 0 items.now) }
+    ensures { OnOk result (problems.new ≡ problems.old ++ numbered_places (R.wrong row.now) 0 items.now) }
 {
     let mut number = 0;
     for item in items {
@@ -78,7 +78,7 @@ pub fn list_records<E: EndianParse, R: Row, W: Write>(
 where
     R::Item: ParseAt + Drop,
     ensures { OnOk result (problems.new ≡ problems.old
-        ++ numbered (R.wrong row.now) 0 (items_left R.Item.reads records.entry)) }
+        ++ numbered_places (R.wrong row.now) 0 (items_left R.Item.reads records.entry)) }
 {
     few_records_are_left(&records);
     list_items(records, row, out, problems)

@@ -1,8 +1,14 @@
 //! The rows of sections.
-ghost use Rattle.std.specs.Prelude.{◌≡◌, ◌++◌, OnOk};
+ghost use Rattle.std.specs.Prelude.{◌≡◌, ◌++◌, codes, OnOk};
+ghost use Rattle.std.specs.Io.KnownBytes.{Appends};
+ghost use Rattle.std.specs.List.{concat};
+ghost use Rattle.std.specs.Option.{option_copied};
+ghost use Rattle.nugwier_lines.specs.Json.{object};
+ghost use Rattle.nugwier_lines.specs.JsonRecords.{section_members, sh_type_name};
 ghost use Rattle.nugwier_lines.specs.Names.{section_wrong};
 
 use crate::flags::SectionFlags;
+use crate::json::{Format, Value, write_object};
 use crate::named::{Name, Named};
 use crate::problem::{Item, Part, Place, Problems, Stop};
 use crate::rows::Row;
@@ -14,11 +20,12 @@ use std::io::Write;
 
 /// The row of a section, with its name in these strings, if there are any.
 #[derive(Drop)]
-pub struct SectionRow<'a> {
+pub struct SectionRow<'p, 'a> {
+    pub format: Format<'p>,
     pub names: Option<TerminatedStrings<'a>>,
 }
 
-impl Row for SectionRow<'_> {
+impl Row for SectionRow<'_, '_> {
     type Item = SectionHeader;
 
     ghost wrong = { λ row number section. section_wrong row.names number section };
@@ -31,7 +38,10 @@ impl Row for SectionRow<'_> {
         problems: &mut Problems,
     ) -> Result<(), Stop> {
         let name = section_name(&self.names, number, section, problems)?;
-        list_section(number, section, name, out)?;
+        match self.format {
+            Format::Text => list_section(number, section, name, out)?,
+            Format::Json(path) => write_section(path, number, section, name, out)?,
+        }
         Ok(())
     }
 }
@@ -56,8 +66,11 @@ fn section_name<'a>(
     Ok(Name(name))
 }
 
-/// The heading of the rows of sections.
-pub fn list_heading<W: Write>(out: &mut W) -> io::Result<()> {
+/// The heading of the rows of sections, for people.
+pub fn list_heading<W: Write>(format: Format<'_>, out: &mut W) -> io::Result<()> {
+    if !format.is_text() {
+        return Ok(());
+    }
     writeln!(out, "Sections:")?;
     writeln!(
         out,
@@ -96,4 +109,51 @@ fn list_section<W: Write>(
         out,
         "{sh_entsize:>7} {sh_link:>4} {sh_info:>4} {sh_addralign:>5} {name} {flags}"
     )
+}
+
+fn write_section<W: Write>(
+    path: &str,
+    number: u64,
+    section: &SectionHeader,
+    name: Name<'_>,
+    out: &mut W,
+) -> io::Result<()>
+    ensures { OnOk result (Appends (W.contents out.old) (W.contents out.new)
+        (object path.now (codes "section_header") (concat (section_members number section.now (option_copied name.entry.0))))) }
+{
+    let SectionHeader {
+        sh_name,
+        sh_type,
+        sh_flags,
+        sh_addr,
+        sh_offset,
+        sh_size,
+        sh_link,
+        sh_info,
+        sh_addralign,
+        sh_entsize,
+    } = *section;
+    let members = [
+        ("index", Value::Number(number)),
+        ("sh_name", Value::Number(sh_name as u64)),
+        ("name", Value::Text(name.0)),
+        ("sh_type", Value::Number(sh_type as u64)),
+        ("sh_type_name", Value::Word(type_name(sh_type))),
+        ("sh_flags", Value::Number(sh_flags)),
+        ("sh_addr", Value::Number(sh_addr)),
+        ("sh_offset", Value::Number(sh_offset)),
+        ("sh_size", Value::Number(sh_size)),
+        ("sh_link", Value::Number(sh_link as u64)),
+        ("sh_info", Value::Number(sh_info as u64)),
+        ("sh_addralign", Value::Number(sh_addralign)),
+        ("sh_entsize", Value::Number(sh_entsize)),
+    ];
+    write_object(path, "section_header", &members, out)
+}
+
+#[tactic(auto, unfolding(crate::specs::JsonRecords::sh_type_name))]
+fn type_name(sh_type: u32) -> Option<&'static str>
+    ensures { option_copied result ≡ sh_type_name sh_type }
+{
+    to_str::sh_type_to_str(sh_type)
 }

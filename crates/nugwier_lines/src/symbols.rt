@@ -4,10 +4,11 @@ ghost use Rattle.std.specs.Option.{option_map};
 ghost use Rattle.nugwier_lines.specs.Names.{is_export, is_listed, name_wrong, symbol_wrong};
 ghost use Rattle.nugwier_lines.specs.Versions.{version_wrong};
 
+use crate::json::{Format, Value, write_object};
 use crate::named::{Name, Named};
 use crate::problem::{Item, Part, Place, Problems, Stop};
 use crate::rows::Row;
-use crate::versions::{Suffix, version_of};
+use crate::versions::{ShownVersion, Suffix, shown_version};
 use elf_abi::{abi, to_str};
 use elf_parts::endian::EndianParse;
 use elf_parts::file::Class;
@@ -62,7 +63,7 @@ impl<'a, E: EndianParse, V: SymbolVersions<E> + Drop> Names<'a, E, V> {
             part: self.part,
             item: Item::SymbolVersion(number),
         };
-        let read = version_of::<E, V>(versions, number as usize, symbol);
+        let read = shown_version::<E, V>(versions, number as usize, symbol);
         match problems.readable(place, read)? {
             Some(version) => Ok(Suffix(version)),
             None => Ok(Suffix(None)),
@@ -109,16 +110,25 @@ impl<'a, E: EndianParse> Form<'a, E> {
             Form::Export => Ok(()),
         }
     }
+
+    // The letter of a symbol, if rows show one.
+    fn letter(&self, symbol: &Symbol) -> Option<char> {
+        match self {
+            Form::Letter { sections, .. } => Some(letter_of(symbol, sections)),
+            _ => None,
+        }
+    }
 }
 
 /// The row of a symbol.
 #[derive(Drop)]
-pub struct SymbolRow<'a, E: EndianParse, V: SymbolVersions<E> + Drop> {
+pub struct SymbolRow<'p, 'a, E: EndianParse, V: SymbolVersions<E> + Drop> {
+    pub format: Format<'p>,
     pub names: Names<'a, E, V>,
     pub form: Form<'a, E>,
 }
 
-impl<'a, E: EndianParse, V: SymbolVersions<E> + Drop> Row for SymbolRow<'a, E, V> {
+impl<'p, 'a, E: EndianParse, V: SymbolVersions<E> + Drop> Row for SymbolRow<'p, 'a, E, V> {
     type Item = Symbol;
 
     ghost wrong = { λ row number symbol. symbol_wrong (is_listed row.form number symbol) row.names.part
@@ -136,14 +146,111 @@ impl<'a, E: EndianParse, V: SymbolVersions<E> + Drop> Row for SymbolRow<'a, E, V
         }
         let name = self.names.name(number, symbol, problems)?;
         let version = self.names.version(number, symbol, problems)?;
-        self.form.list_front(number, symbol, out)?;
-        writeln!(out, "{name}{version}")?;
+        match self.format {
+            Format::Text => {
+                self.form.list_front(number, symbol, out)?;
+                writeln!(out, "{name}{version}")?;
+            }
+            Format::Json(path) => {
+                let line = SymbolLine {
+                    part: self.names.part,
+                    number,
+                    letter: self.form.letter(symbol),
+                };
+                write_symbol(path, line, symbol, name, version, out)?;
+            }
+        }
         Ok(())
     }
 }
 
-/// The heading of the rows of symbols.
-pub fn list_heading<W: Write>(title: &str, out: &mut W) -> io::Result<()> {
+// What is listed of a symbol beside its fields and its name.
+#[derive(Clone, Copy)]
+struct SymbolLine {
+    part: Part,
+    number: u64,
+    letter: Option<char>,
+}
+
+fn write_symbol<'a, W: Write>(
+    path: &str,
+    line: SymbolLine,
+    symbol: &Symbol,
+    name: Name<'a>,
+    version: Suffix<'a>,
+    out: &mut W,
+) -> io::Result<()> {
+    let Symbol {
+        st_name,
+        st_shndx,
+        st_info,
+        st_other,
+        st_value,
+        st_size,
+    } = *symbol;
+    let (binding, kind, visibility) = (symbol.st_bind(), symbol.st_symtype(), symbol.st_vis());
+    let (version, is_default) = version_values(version);
+    let members = [
+        ("table", Value::Word(table_of(line.part))),
+        ("index", Value::Number(line.number)),
+        ("st_name", Value::Number(st_name as u64)),
+        ("name", Value::Text(name.0)),
+        ("st_info", Value::Number(st_info as u64)),
+        ("st_bind", Value::Number(binding as u64)),
+        ("st_bind_name", Value::Word(to_str::st_bind_to_str(binding))),
+        ("st_type", Value::Number(kind as u64)),
+        ("st_type_name", Value::Word(to_str::st_symtype_to_str(kind))),
+        ("st_other", Value::Number(st_other as u64)),
+        ("st_visibility", Value::Number(visibility as u64)),
+        (
+            "st_visibility_name",
+            Value::Word(to_str::st_vis_to_str(visibility)),
+        ),
+        ("st_shndx", Value::Number(st_shndx as u64)),
+        ("st_shndx_name", Value::Word(special_section(st_shndx))),
+        ("st_value", Value::Number(st_value)),
+        ("st_size", Value::Number(st_size)),
+        ("version", version),
+        ("version_is_default", is_default),
+        ("letter", Value::Character(line.letter)),
+    ];
+    write_object(path, "symbol", &members, out)
+}
+
+// The name of a version, and whether it is the default one.
+fn version_values(version: Suffix<'_>) -> (Value<'_>, Value<'_>) {
+    match version.0 {
+        Some(ShownVersion { name, is_default }) => {
+            (Value::Text(Some(name.as_bytes())), Value::Flag(is_default))
+        }
+        None => (Value::Null, Value::Null),
+    }
+}
+
+// The type of the section that has a table of symbols.
+fn table_of(part: Part) -> Option<&'static str> {
+    match part {
+        Part::Symbols => Some("SHT_SYMTAB"),
+        Part::DynamicSymbols => Some("SHT_DYNSYM"),
+        _ => None,
+    }
+}
+
+// The name of a section number that is no section.
+fn special_section(st_shndx: u16) -> Option<&'static str> {
+    match st_shndx {
+        abi::SHN_UNDEF => Some("SHN_UNDEF"),
+        abi::SHN_ABS => Some("SHN_ABS"),
+        abi::SHN_COMMON => Some("SHN_COMMON"),
+        _ => None,
+    }
+}
+
+/// The heading of the rows of symbols, for people.
+pub fn list_heading<W: Write>(format: Format<'_>, title: &str, out: &mut W) -> io::Result<()> {
+    if !format.is_text() {
+        return Ok(());
+    }
     writeln!(out, "{title}:")?;
     writeln!(
         out,

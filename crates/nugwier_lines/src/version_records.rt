@@ -4,24 +4,28 @@ ghost use Rattle.elf_records.specs.StringTable.{string_at};
 ghost use Rattle.nugwier_lines.specs.Places.{at_if, is_error};
 ghost use Rattle.nugwier_lines.specs.declared.problem.Item.TheVariants.{VersionName};
 
+use crate::json::{Format, Value, part_member, write_object};
 use crate::named::Name;
 use crate::problem::{Item, Part, Place, Problems, Stop};
 use elf_parts::endian::EndianParse;
 use elf_parts::gnu_symver::{
-    VerDefAuxIterator, VerDefIterator, VerNeedAux, VerNeedAuxIterator, VerNeedIterator,
+    VerDef, VerDefAuxIterator, VerDefIterator, VerNeed, VerNeedAux, VerNeedAuxIterator,
+    VerNeedIterator,
 };
 use elf_parts::string_table::TerminatedStrings;
+use std::io;
 use std::io::Write;
 
-/// Where the names of versions are read.
+/// How versions are listed, and where their names are read.
 #[derive(Drop)]
-pub struct VersionNames<'a> {
+pub struct VersionNames<'p, 'a> {
+    pub format: Format<'p>,
     /// The section of the definitions or of the needed versions.
     pub part: Part,
     pub strings: TerminatedStrings<'a>,
 }
 
-impl<'a> VersionNames<'a> {
+impl<'p, 'a> VersionNames<'p, 'a> {
     // The name at this offset, for a version of this index. Adds a problem if it cannot be read.
     fn name(&self, index: u16, offset: u32, problems: &mut Problems) -> Result<Name<'a>, Stop>
         ensures { OnOk result (problems.new ≡ problems.old
@@ -40,30 +44,74 @@ impl<'a> VersionNames<'a> {
 /// Lists the versions that a file defines: the index, the flags, the name, and the versions that it is a successor of.
 pub fn list_definitions<E: EndianParse, W: Write>(
     definitions: VerDefIterator<'_, E>,
-    names: &VersionNames<'_>,
+    names: &VersionNames<'_, '_>,
     out: &mut W,
     problems: &mut Problems,
 ) -> Result<(), Stop> {
     for (definition, records) in definitions {
-        let index = definition.vd_ndx;
-        let flags = definition.vd_flags;
-        write!(out, "  {index:>5} flags {flags:#x} ")?;
-        list_names(index, records, names, out, problems)?;
-        writeln!(out)?;
+        match names.format {
+            Format::Text => list_definition(&definition, records, names, out, problems)?,
+            Format::Json(path) => {
+                write_definition(path, names.part, &definition, out)?;
+                write_names(path, definition.vd_ndx, records, names, out, problems)?;
+            }
+        }
     }
     Ok(())
 }
 
-fn list_names<E: EndianParse, W: Write>(
+fn list_definition<E: EndianParse, W: Write>(
+    definition: &VerDef,
+    records: VerDefAuxIterator<'_, E>,
+    names: &VersionNames<'_, '_>,
+    out: &mut W,
+    problems: &mut Problems,
+) -> Result<(), Stop> {
+    let index = definition.vd_ndx;
+    let flags = definition.vd_flags;
+    write!(out, "  {index:>5} flags {flags:#x} ")?;
+    for record in records {
+        let name = names.name(index, record.vda_name, problems)?;
+        write!(out, " {name}")?;
+    }
+    writeln!(out)?;
+    Ok(())
+}
+
+fn write_definition<W: Write>(
+    path: &str,
+    part: Part,
+    definition: &VerDef,
+    out: &mut W,
+) -> io::Result<()> {
+    let members = [
+        part_member(part),
+        ("vd_flags", Value::Number(definition.vd_flags as u64)),
+        ("vd_ndx", Value::Number(definition.vd_ndx as u64)),
+        ("vd_cnt", Value::Number(definition.vd_cnt as u64)),
+        ("vd_hash", Value::Number(definition.vd_hash as u64)),
+    ];
+    write_object(path, "verdef", &members, out)
+}
+
+// Writes the names of the definition of this index.
+fn write_names<E: EndianParse, W: Write>(
+    path: &str,
     index: u16,
     records: VerDefAuxIterator<'_, E>,
-    names: &VersionNames<'_>,
+    names: &VersionNames<'_, '_>,
     out: &mut W,
     problems: &mut Problems,
 ) -> Result<(), Stop> {
     for record in records {
         let name = names.name(index, record.vda_name, problems)?;
-        write!(out, " {name}")?;
+        let members = [
+            part_member(names.part),
+            ("vd_ndx", Value::Number(index as u64)),
+            ("vda_name", Value::Number(record.vda_name as u64)),
+            ("name", Value::Text(name.0)),
+        ];
+        write_object(path, "verdaux", &members, out)?;
     }
     Ok(())
 }
@@ -72,39 +120,84 @@ fn list_names<E: EndianParse, W: Write>(
 /// with its index, its flags and its name.
 pub fn list_needs<E: EndianParse, W: Write>(
     needs: VerNeedIterator<'_, E>,
-    names: &VersionNames<'_>,
+    names: &VersionNames<'_, '_>,
     out: &mut W,
     problems: &mut Problems,
 ) -> Result<(), Stop> {
     for (need, records) in needs {
         let file = names.name(0, need.vn_file, problems)?;
-        writeln!(out, "  of {file}")?;
-        list_needed(records, names, out, problems)?;
+        match names.format {
+            Format::Text => writeln!(out, "  of {file}")?,
+            Format::Json(path) => write_need(path, names.part, &need, file, out)?,
+        }
+        list_needed(need.vn_file, records, names, out, problems)?;
     }
     Ok(())
 }
 
+fn write_need<W: Write>(
+    path: &str,
+    part: Part,
+    need: &VerNeed,
+    file: Name<'_>,
+    out: &mut W,
+) -> io::Result<()> {
+    let members = [
+        part_member(part),
+        ("vn_cnt", Value::Number(need.vn_cnt as u64)),
+        ("vn_file", Value::Number(need.vn_file as u64)),
+        ("name", Value::Text(file.0)),
+    ];
+    write_object(path, "verneed", &members, out)
+}
+
+// Lists the versions that are needed of the file whose name is at this offset.
 fn list_needed<E: EndianParse, W: Write>(
+    file: u32,
     records: VerNeedAuxIterator<'_, E>,
-    names: &VersionNames<'_>,
+    names: &VersionNames<'_, '_>,
     out: &mut W,
     problems: &mut Problems,
 ) -> Result<(), Stop> {
     for record in records {
-        list_needed_version(&record, names, out, problems)?;
+        list_needed_version(file, &record, names, out, problems)?;
     }
     Ok(())
 }
 
 fn list_needed_version<W: Write>(
+    file: u32,
     record: &VerNeedAux,
-    names: &VersionNames<'_>,
+    names: &VersionNames<'_, '_>,
     out: &mut W,
     problems: &mut Problems,
 ) -> Result<(), Stop> {
     let index = record.vna_other;
     let flags = record.vna_flags;
     let name = names.name(index, record.vna_name, problems)?;
-    writeln!(out, "  {index:>5} flags {flags:#x}  {name}")?;
+    match names.format {
+        Format::Text => writeln!(out, "  {index:>5} flags {flags:#x}  {name}")?,
+        Format::Json(path) => write_needed_version(path, names.part, file, record, name, out)?,
+    }
     Ok(())
+}
+
+fn write_needed_version<W: Write>(
+    path: &str,
+    part: Part,
+    file: u32,
+    version: &VerNeedAux,
+    name: Name<'_>,
+    out: &mut W,
+) -> io::Result<()> {
+    let members = [
+        part_member(part),
+        ("vn_file", Value::Number(file as u64)),
+        ("vna_hash", Value::Number(version.vna_hash as u64)),
+        ("vna_flags", Value::Number(version.vna_flags as u64)),
+        ("vna_other", Value::Number(version.vna_other as u64)),
+        ("vna_name", Value::Number(version.vna_name as u64)),
+        ("name", Value::Text(name.0)),
+    ];
+    write_object(path, "vernaux", &members, out)
 }

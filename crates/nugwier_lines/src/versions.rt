@@ -15,14 +15,14 @@ use std::fmt;
 /// The version of a symbol. It is the default version of the symbol's name, unless it is hidden or belongs to another
 /// file.
 #[derive(Clone, Copy, Debug)]
-pub struct Version<'a> {
+pub struct ShownVersion<'a> {
     pub name: &'a str,
     pub is_default: bool,
 }
 
 /// A version after its symbol: `@name`, or `@@name` of a default version.
 #[derive(Clone, Copy)]
-pub struct Suffix<'a>(pub Option<Version<'a>>);
+pub struct Suffix<'a>(pub Option<ShownVersion<'a>>);
 
 impl fmt::Display for Suffix<'_> {
     fn fmt<W: fmt::Write>(&self, f: &mut fmt::Formatter<W>) -> fmt::Result {
@@ -41,11 +41,11 @@ impl fmt::Display for Suffix<'_> {
 /// it has one, and else the version that the symbol needs of another file. `None` if it has no version.
 ///
 /// Errors, in order: that of `get_definition`; that of the first name of the definition; that of `get_requirement`.
-pub fn version_of<'a, E: EndianParse, V: SymbolVersions<E>>(
+pub fn shown_version<'a, E: EndianParse, V: SymbolVersions<E>>(
     versions: &'a V,
     number: usize,
     symbol: &Symbol,
-) -> Result<Option<Version<'a>>, ParseError>
+) -> Result<Option<ShownVersion<'a>>, ParseError>
     ensures { is_error result ≡ is_version_bad (V.versions versions.now) number symbol.now }
 {
     if symbol.is_undefined() {
@@ -61,11 +61,11 @@ pub fn version_of<'a, E: EndianParse, V: SymbolVersions<E>>(
 fn needed_version<'a, E: EndianParse, V: SymbolVersions<E>>(
     versions: &'a V,
     number: usize,
-) -> Result<Option<Version<'a>>, ParseError>
+) -> Result<Option<ShownVersion<'a>>, ParseError>
     ensures { is_error result ≡ is_requirement_bad (requirement (V.versions versions.now) number) }
 {
     match versions.get_requirement(number) {
-        Ok(Some(needed)) => Ok(Some(Version {
+        Ok(Some(needed)) => Ok(Some(ShownVersion {
             name: needed.name,
             is_default: false,
         })),
@@ -77,7 +77,7 @@ fn needed_version<'a, E: EndianParse, V: SymbolVersions<E>>(
 // The version of a definition: the first of its names. A definition of the file itself (`VER_FLG_BASE`) is no version.
 fn defined_version<'a, E: EndianParse>(
     definition: SymbolDefinition<'a, E>,
-) -> Result<Option<Version<'a>>, ParseError>
+) -> Result<Option<ShownVersion<'a>>, ParseError>
     ensures { is_error result ≡ is_definition_bad (definition_view definition.entry) }
 {
     if definition.flags & abi::VER_FLG_BASE != 0 {
@@ -85,7 +85,7 @@ fn defined_version<'a, E: EndianParse>(
     }
     let mut names = definition.names;
     match names.next() {
-        Some(Ok(name)) => Ok(Some(Version {
+        Some(Ok(name)) => Ok(Some(ShownVersion {
             name,
             is_default: !definition.hidden,
         })),

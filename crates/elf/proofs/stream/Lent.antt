@@ -10,7 +10,7 @@ use Rattle.elf.specs.Ranges.{range_of_section, section_ranges}
 use Rattle.elf.specs.ObjectFile.{ObjectFile}
 use Rattle.elf.specs.Data.{content, content_of_type, section_data}
 use Rattle.elf.specs.Headers.{section_range}
-use Rattle.elf.specs.ElfStream.{Seen, AreCached, Leaves}
+use Rattle.elf.specs.ElfStream.{StreamView, AreCached, Leaves}
 use Rattle.elf_reading.specs.Refusals.{IsAnswer}
 use Rattle.elf_reading.specs.Refusals.{IsRefused, kind}
 use Rattle.elf.specs.inner.Loads.{AreThere, Loads, LoadsFor}
@@ -25,12 +25,12 @@ for_reason None rs answer before now can_fail r needs h = tt
 for_reason (Some bytes) rs answer before now can_fail (Ok x) needs h = h
 for_reason (Some bytes) rs answer before now can_fail (Err e) needs h = refused_so (kind e) _ _ before before now can_fail (λ missing. not_ok (answer bytes) (λ ok. missing (needs bytes ok))) refl h
 
-for_accepted : {E Y : Type 0} (known : Option (List ℕ)) (old : Seen E) (rs : List (ℕ × ℕ)) (answer : List ℕ → Result Y ParseError) (r : Result (Unit {0}) ParseError) → ((bytes : List ℕ) → IsOk (answer bytes) → AreThere bytes rs)
+for_accepted : {E Y : Type 0} (known : Option (List ℕ)) (old : StreamView E) (rs : List (ℕ × ℕ)) (answer : List ℕ → Result Y ParseError) (r : Result (Unit {0}) ParseError) → ((bytes : List ℕ) → IsOk (answer bytes) → AreThere bytes rs)
     → IfSome known (λ bytes. AreThere bytes rs → AreCached old rs → IsOk r) → IfSome known (λ bytes. IsOk (answer bytes) → AreCached old rs → IsOk r)
 for_accepted None old rs answer r needs h = tt
 for_accepted (Some bytes) old rs answer r needs h = λ ok cached. h (needs bytes ok) cached
 
-pub loads_for : {E Y : Type 0} (old new : Seen E) (rs : List (ℕ × ℕ)) (answer : List ℕ → Result Y ParseError) (r : Result (Unit {0}) ParseError) → ((bytes : List ℕ) → IsOk (answer bytes) → AreThere bytes rs) → Loads rs old new r → LoadsFor rs answer old new r
+pub loads_for : {E Y : Type 0} (old new : StreamView E) (rs : List (ℕ × ℕ)) (answer : List ℕ → Result Y ParseError) (r : Result (Unit {0}) ParseError) → ((bytes : List ℕ) → IsOk (answer bytes) → AreThere bytes rs) → Loads rs old new r → LoadsFor rs answer old new r
 loads_for old new rs answer r needs h = record {
   keeps = h.keeps;
   loaded = h.loaded;
@@ -42,7 +42,7 @@ loads_for old new rs answer r needs h = record {
 }
 
 -- the same of ranges that are requested under a condition, which holds
-pub loads_if : {E Y : Type 0} (is : Bool) (old new : Seen E) (rs : List (ℕ × ℕ)) (answer : List ℕ → Result Y ParseError) (r : Result (Unit {0}) ParseError) → is ≡ true → LoadsFor rs answer old new r → LoadsFor (if is then rs else []) answer old new r
+pub loads_if : {E Y : Type 0} (is : Bool) (old new : StreamView E) (rs : List (ℕ × ℕ)) (answer : List ℕ → Result Y ParseError) (r : Result (Unit {0}) ParseError) → is ≡ true → LoadsFor rs answer old new r → LoadsFor (if is then rs else []) answer old new r
 loads_if true old new rs answer r same h = h
 loads_if false old new rs answer r same h = cc
 
@@ -51,13 +51,13 @@ for_refused : {T X Y : Type 0} (known : Option (List ℕ)) (shown : T → Y) (wa
 for_refused None shown wanted answer before now can_fail e same h = tt
 for_refused (Some bytes) shown wanted answer before now can_fail e same h = refused_so (kind e) _ _ before before now can_fail (λ missing. not_ok (answer bytes) (λ ok. refused_not (wanted bytes) missing (sym (same bytes) ∙ ok))) refl h
 
-for_accepts : {E X Y : Type 0} (T : Type 0) (known : Option (List ℕ)) (old : Seen E) (rs : List (ℕ × ℕ)) (wanted : List ℕ → Result X ParseError) (answer : List ℕ → Result Y ParseError) (e : ParseError) → ((bytes : List ℕ) → is_ok (answer bytes) ≡ is_ok (wanted bytes))
+for_accepts : {E X Y : Type 0} (T : Type 0) (known : Option (List ℕ)) (old : StreamView E) (rs : List (ℕ × ℕ)) (wanted : List ℕ → Result X ParseError) (answer : List ℕ → Result Y ParseError) (e : ParseError) → ((bytes : List ℕ) → is_ok (answer bytes) ≡ is_ok (wanted bytes))
     → IfSome known (λ bytes. IsOk (wanted bytes) → AreCached old rs → IsOk {T = Unit {0}} (Err e)) → IfSome known (λ bytes. IsOk (answer bytes) → AreCached old rs → IsOk {T = T} (Err e))
 for_accepts T None old rs wanted answer e same h = tt
 for_accepts T (Some bytes) old rs wanted answer e same h = λ ok cached. h (sym (same bytes) ∙ ok) cached
 
 -- the load was refused
-pub leaves_refused_for : {E T X Y : Type 0} (old new : Seen E) (rs : List (ℕ × ℕ)) (shown : T → Y) (wanted : List ℕ → Result X ParseError) (answer : List ℕ → Result Y ParseError) (e : ParseError) (r : Result T ParseError) → r ≡ Err e
+pub leaves_refused_for : {E T X Y : Type 0} (old new : StreamView E) (rs : List (ℕ × ℕ)) (shown : T → Y) (wanted : List ℕ → Result X ParseError) (answer : List ℕ → Result Y ParseError) (e : ParseError) (r : Result T ParseError) → r ≡ Err e
     → ((bytes : List ℕ) → is_ok (answer bytes) ≡ is_ok (wanted bytes)) → LoadsFor rs wanted old new (Err e) → Leaves rs shown answer old new r
 leaves_refused_for {E} {T} {X} {Y} old new rs shown wanted answer e r is same h = rw is (record {
   keeps = h.keeps;

@@ -9,7 +9,7 @@ use Rattle.elf_records.specs.declared.parse.ParseError.{ParseError}
 use Rattle.elf_records.specs.declared.section.SectionHeader.{SectionHeader}
 use Rattle.elf_records.specs.declared.segment.ProgramHeader.{ProgramHeader}
 use Rattle.elf.specs.Answers.{first_symbols, section_dynamic, segment_data, segment_dynamic, symbol_sections, symbols_in}
-use Rattle.elf.specs.ElfStream.{Seen}
+use Rattle.elf.specs.ElfStream.{StreamView}
 use Rattle.elf.specs.Ranges.{LinkedSections, VersionPlan, both_sections, headers_alone, if_chosen, if_there, plan_ranges, section_ranges, segment_ranges, symbols_ranges, whole_section}
 use Rattle.elf.specs.Headers.{entry_size, if_found}
 use Rattle.elf.specs.ObjectFile.{ObjectFile, table_of}
@@ -71,6 +71,6 @@ chosen_need bytes (Ok None) ranges answer each h = tt
 chosen_need bytes (Ok (Some p)) ranges answer each h = each p (ok_inside Some (answer p) h)
 
 -- of the symbols of a stream
-pub symbols_need : {E : Type 0} (little : E → Bool) (s : Seen E) (t : ℕ) (bytes : List ℕ) → IsOk (first_symbols t (stream_file little s bytes)) → AreThere bytes (symbols_ranges t (headers_alone little s))
+pub symbols_need : {E : Type 0} (little : E → Bool) (s : StreamView E) (t : ℕ) (bytes : List ℕ) → IsOk (first_symbols t (stream_file little s bytes)) → AreThere bytes (symbols_ranges t (headers_alone little s))
 symbols_need little s t bytes h =
     chosen_need bytes (symbol_sections t (headers_alone little s)) both_sections (symbols_in (stream_file little s bytes)) (λ pair ok. both_need bytes pair _ ok) h

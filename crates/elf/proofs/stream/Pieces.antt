@@ -4,7 +4,7 @@ use Rattle.std.specs.Prelude.{IsTrue, nat_le, ◌^◌, Result, Ok, IsErr, IsOk, 
 use Rattle.std.specs.List.{list_any}
 use Rattle.std.proofs.lemmas.Bool.{and_parts}
 use Rattle.std.proofs.lemmas.List.{take-take, drop-take, drop-drop}
-use Rattle.elf_reading.specs.Cache.{Piece, IsPartOf, covers, range_of, IsOf, IsSound}
+use Rattle.elf_reading.specs.Cache.{Piece, IsPartOf, covers, range_of, IsOf, IsSoundCache}
 use Rattle.elf_reading.specs.Cache.{is_cached}
 use Rattle.elf_records.specs.Number.{bytes_at}
 use Rattle.std.proofs.lemmas.Bool.Decides.{nat_tests}
@@ -49,7 +49,7 @@ pub piece_within : (bytes : List ℕ) (p : Piece) (start end : ℕ) → IsOf byt
 piece_within bytes p start end of at = let within = of.within in let high = at.high in omega arith
 
 -- a cached range is in the content
-pub sound_cached : (known : Option (List ℕ)) (len : ℕ) (ps : List Piece) (start size count : ℕ) → IsSound known len ps → start + size < 2 ^ 64 → IsTrue (is_cached (map range_of ps) start (start + size))
+pub sound_cached : (known : Option (List ℕ)) (len : ℕ) (ps : List Piece) (start size count : ℕ) → IsSoundCache known len ps → start + size < 2 ^ 64 → IsTrue (is_cached (map range_of ps) start (start + size))
     → IfSome known (λ bytes. (count ≡ count) × (bytes_at size bytes start ≡ Ok (take size (drop start bytes))))
 sound_cached None len ps start size count sound low cached = tt
 sound_cached (Some bytes) len ps start size count sound low cached =
@@ -57,7 +57,7 @@ sound_cached (Some bytes) len ps start size count sound low cached =
     (refl, read_within bytes start size low (piece_within bytes a.1 start (start + size) (subst (IsOf bytes) a.3 (sound.parts a.0 a.1 a.2)) (reaches a.1 start (start + size) a.4)))
 
 -- the bytes of a range within one of the parts are the content's
-pub part_bytes : (known : Option (List ℕ)) (len : ℕ) (ps : List Piece) (start size : ℕ) (part : List ℕ) → IsSound known len ps → start + size < 2 ^ 64 → IsPartOf ps start (start + size) part
+pub part_bytes : (known : Option (List ℕ)) (len : ℕ) (ps : List Piece) (start size : ℕ) (part : List ℕ) → IsSoundCache known len ps → start + size < 2 ^ 64 → IsPartOf ps start (start + size) part
     → IfSome known (λ bytes. bytes_at size bytes start ≡ Ok part)
 part_bytes None len ps start size part sound low at = tt
 part_bytes (Some bytes) len ps start size part sound low at =

@@ -16,7 +16,7 @@ use Rattle.elf.specs.StreamFile.{stream_file}
 use Rattle.elf.specs.ObjectFile.{ObjectFile, table_of}
 use Rattle.elf.specs.Headers.{section_range}
 use Rattle.elf.specs.Readers.{AreAlike}
-use Rattle.elf.specs.ElfStream.{AreCached, Leaves, Seen}
+use Rattle.elf.specs.ElfStream.{AreCached, Leaves, StreamView}
 use Rattle.elf_reading.specs.Refusals.{IsAnswer}
 use Rattle.elf.specs.Versions.{version_definitions, version_needs, versions_of}
 use Rattle.elf_reading.specs.Versions.{version_sections}
@@ -121,12 +121,12 @@ known_answers : {T Y : Type 0} (known : Option (List ℕ)) (shown : T → Y) (on
 known_answers None shown one other before now can_fail r same h = tt
 known_answers (Some bytes) shown one other before now can_fail r same h = answers_alike shown (one bytes) (other bytes) before now can_fail r (same bytes) h
 
-known_accepted : {E T Y : Type 0} (known : Option (List ℕ)) (old : Seen E) (rs : List (ℕ × ℕ)) (one other : List ℕ → Result Y ParseError) (r : Result T ParseError) → ((bytes : List ℕ) → AreAlike (one bytes) (other bytes))
+known_accepted : {E T Y : Type 0} (known : Option (List ℕ)) (old : StreamView E) (rs : List (ℕ × ℕ)) (one other : List ℕ → Result Y ParseError) (r : Result T ParseError) → ((bytes : List ℕ) → AreAlike (one bytes) (other bytes))
     → IfSome known (λ bytes. IsOk (one bytes) → AreCached old rs → IsOk r) → IfSome known (λ bytes. IsOk (other bytes) → AreCached old rs → IsOk r)
 known_accepted None old rs one other r same h = tt
 known_accepted (Some bytes) old rs one other r same h = λ ok cached. h (ok_alike (one bytes) (other bytes) (same bytes) ok) cached
 
-pub leaves_alike : {E T Y : Type 0} (old new : Seen E) (rs : List (ℕ × ℕ)) (shown : T → Y) (one other : List ℕ → Result Y ParseError) (r : Result T ParseError) → ((bytes : List ℕ) → AreAlike (one bytes) (other bytes))
+pub leaves_alike : {E T Y : Type 0} (old new : StreamView E) (rs : List (ℕ × ℕ)) (shown : T → Y) (one other : List ℕ → Result Y ParseError) (r : Result T ParseError) → ((bytes : List ℕ) → AreAlike (one bytes) (other bytes))
     → Leaves rs shown one old new r → Leaves rs shown other old new r
 leaves_alike old new rs shown one other r same h = record {
   keeps = h.keeps;
@@ -139,7 +139,7 @@ leaves_alike old new rs shown one other r same h = record {
 }
 
 -- the load of a plan was refused
-pub plan_refused : {E T : Type 0} (little : E → Bool) (old new : Seen E) (shown : T → Option Versions) (plan : VersionPlan) (e : ParseError) (r : Result T ParseError) → r ≡ Err e
+pub plan_refused : {E T : Type 0} (little : E → Bool) (old new : StreamView E) (shown : T → Option Versions) (plan : VersionPlan) (e : ParseError) (r : Result T ParseError) → r ≡ Err e
     → version_plan (headers_alone little old) ≡ Ok (Some plan) → Loads (plan_ranges plan) old new (Err e) → Leaves (versions_ranges (headers_alone little old)) shown (λ bytes. versions_by_plan (stream_file little old bytes)) old new r
 plan_refused little old new shown plan e r is chosen loads =
     chosen_refused old new plan_ranges shown (λ choice bytes. choice >>= if_found (versions_by (stream_file little old bytes))) (version_plan (headers_alone little old)) plan e r is chosen

@@ -8,14 +8,14 @@ use Rattle.elf_records.specs.declared.parse.ParseError.{ParseError}
 use Rattle.elf.specs.Ranges.{if_chosen}
 use Rattle.elf.specs.inner.Loads.{AreLow, AreThere, Loads}
 use Rattle.elf_reading.specs.Refusals.{HasReason}
-use Rattle.elf.specs.ElfStream.{IsFor, IsNeeded, IsRequested, Seen, AreCached, IsCached, Keeps, Leaves}
+use Rattle.elf.specs.ElfStream.{IsFor, IsNeeded, IsRequested, StreamView, AreCached, IsCached, Keeps, Leaves}
 use Rattle.elf_reading.specs.Refusals.{IsAnswer}
 use Rattle.elf_reading.specs.Refusals.{IsRefused, Kind, kind}
 use Rattle.elf_reading.specs.Cache.{is_cached}
 use Rattle.elf_reading.proofs.Cached.{or_true}
 use Rattle.elf_reading.proofs.steps.Ranges.{not_ok, read_is_within, refused_not, refused_so}
 
-pub keeps_then : {E : Type 0} (old middle new : Seen E) → Keeps old middle → Keeps middle new → Keeps old new
+pub keeps_then : {E : Type 0} (old middle new : StreamView E) → Keeps old middle → Keeps middle new → Keeps old new
 keeps_then old middle new a b = record {
   content = b.content ∙ a.content;
   can_fail = b.can_fail ∙ a.can_fail;
@@ -23,19 +23,19 @@ keeps_then old middle new a b = record {
   cached = λ start end h. b.cached start end (a.cached start end h);
 }
 
-still_cached : {E : Type 0} (old new : Seen E) (rs : List (ℕ × ℕ)) → Keeps old new → AreCached old rs → AreCached new rs
+still_cached : {E : Type 0} (old new : StreamView E) (rs : List (ℕ × ℕ)) → Keeps old new → AreCached old rs → AreCached new rs
 still_cached old new [] keeps h = tt
 still_cached old new (r ∷ rs) keeps h = (keeps.cached r.0 (r.0 + r.1) h.0, still_cached old new rs keeps h.1)
 
-cached_append : {E : Type 0} (s : Seen E) (rs qs : List (ℕ × ℕ)) → AreCached s rs → AreCached s qs → AreCached s (rs ++ qs)
+cached_append : {E : Type 0} (s : StreamView E) (rs qs : List (ℕ × ℕ)) → AreCached s rs → AreCached s qs → AreCached s (rs ++ qs)
 cached_append s [] qs a b = b
 cached_append s (r ∷ rs) qs a b = (a.0, cached_append s rs qs a.1 b)
 
-cached_front : {E : Type 0} (s : Seen E) (rs qs : List (ℕ × ℕ)) → AreCached s (rs ++ qs) → AreCached s rs
+cached_front : {E : Type 0} (s : StreamView E) (rs qs : List (ℕ × ℕ)) → AreCached s (rs ++ qs) → AreCached s rs
 cached_front s [] qs h = tt
 cached_front s (r ∷ rs) qs h = (h.0, cached_front s rs qs h.1)
 
-cached_back : {E : Type 0} (s : Seen E) (rs qs : List (ℕ × ℕ)) → AreCached s (rs ++ qs) → AreCached s qs
+cached_back : {E : Type 0} (s : StreamView E) (rs qs : List (ℕ × ℕ)) → AreCached s (rs ++ qs) → AreCached s qs
 cached_back s [] qs h = h
 cached_back s (r ∷ rs) qs h = cached_back s rs qs h.1
 
@@ -57,7 +57,7 @@ there_append bytes (r ∷ rs) qs a b = (a.0, there_append bytes rs qs a.1 b)
 
 -- ---- nothing but these ranges is cached
 
-abbrev pub Only : {E : Type 0} → List (ℕ × ℕ) → Seen E → Seen E → Type 0
+abbrev pub Only : {E : Type 0} → List (ℕ × ℕ) → StreamView E → StreamView E → Type 0
 Only rs old new = (start end : ℕ) → IsCached new start end → IsCached old start end ⊎ IsRequested rs start end
 
 abbrev ends : List (ℕ × ℕ) → List (ℕ × ℕ)
@@ -76,14 +76,14 @@ wider : {P : Type 0} (rs qs : List (ℕ × ℕ)) (start end : ℕ) → P ⊎ IsR
 wider rs qs start end (inl before) = inl before
 wider rs qs start end (inr there) = inr (requested_front rs qs start end there)
 
-pub only_wider : {E : Type 0} (old new : Seen E) (rs qs : List (ℕ × ℕ)) → Only rs old new → Only (rs ++ qs) old new
+pub only_wider : {E : Type 0} (old new : StreamView E) (rs qs : List (ℕ × ℕ)) → Only rs old new → Only (rs ++ qs) old new
 only_wider old new rs qs only start end h = wider rs qs start end (only start end h)
 
 one_later : {P Q : Type 0} (rs qs : List (ℕ × ℕ)) (start end : ℕ) → (P → Q ⊎ IsRequested rs start end) → P ⊎ IsRequested qs start end → Q ⊎ IsRequested (rs ++ qs) start end
 one_later rs qs start end so (inl before) = wider rs qs start end (so before)
 one_later rs qs start end so (inr there) = inr (requested_back rs qs start end there)
 
-pub only_then : {E : Type 0} (old middle new : Seen E) (rs qs : List (ℕ × ℕ)) → Only rs old middle → Only qs middle new → Only (rs ++ qs) old new
+pub only_then : {E : Type 0} (old middle new : StreamView E) (rs qs : List (ℕ × ℕ)) → Only rs old middle → Only qs middle new → Only (rs ++ qs) old new
 only_then old middle new rs qs a b start end h = one_later rs qs start end (a start end) (b start end h)
 
 -- ---- which range the source and memory are needed for
@@ -93,17 +93,17 @@ for_so P Q Kind.SourceFailure so h = so h
 for_so P Q Kind.AllocationFailure so h = so h
 for_so P Q Kind.Refusal so h = tt
 
-pub needed_front : {E : Type 0} (bytes : List ℕ) (s : Seen E) (rs qs : List (ℕ × ℕ)) → IsNeeded bytes s rs → IsNeeded bytes s (rs ++ qs)
+pub needed_front : {E : Type 0} (bytes : List ℕ) (s : StreamView E) (rs qs : List (ℕ × ℕ)) → IsNeeded bytes s rs → IsNeeded bytes s (rs ++ qs)
 needed_front bytes s [] qs h = absurd h
 needed_front bytes s (r ∷ rs) qs h = (h.0, λ cached. needed_front bytes s rs qs (h.1 cached))
 
-pub needed_back : {E : Type 0} (bytes : List ℕ) (s : Seen E) (rs qs : List (ℕ × ℕ)) → AreThere bytes rs → IsNeeded bytes s qs → IsNeeded bytes s (rs ++ qs)
+pub needed_back : {E : Type 0} (bytes : List ℕ) (s : StreamView E) (rs qs : List (ℕ × ℕ)) → AreThere bytes rs → IsNeeded bytes s qs → IsNeeded bytes s (rs ++ qs)
 needed_back bytes s [] qs there h = h
 needed_back bytes s (r ∷ rs) qs there h = (there.0, λ _. needed_back bytes s rs qs there.1 h)
 
 -- ---- a load of one range
 
-loaded_one : {E : Type 0} (new : Seen E) (start size : ℕ) (r : Result (Unit {0}) ParseError) → OnOk r ((start + size < 2 ^ 64) × IsCached new start (start + size)) → OnOk r (AreLow ((start, size) ∷ []) × AreCached new ((start, size) ∷ []))
+loaded_one : {E : Type 0} (new : StreamView E) (start size : ℕ) (r : Result (Unit {0}) ParseError) → OnOk r ((start + size < 2 ^ 64) × IsCached new start (start + size)) → OnOk r (AreLow ((start, size) ∷ []) × AreCached new ((start, size) ∷ []))
 loaded_one new start size (Ok x) h = ((h.0, tt), (h.1, tt))
 loaded_one new start size (Err e) h = tt
 
@@ -114,7 +114,7 @@ reason_one None start size before now can_fail r h = tt
 reason_one (Some bytes) start size before now can_fail (Ok x) h = h.0
 reason_one (Some bytes) start size before now can_fail (Err e) h = refused_so (kind e) _ _ before before now can_fail (λ missing there. refused_not (bytes_at size bytes start) missing there.0) refl h
 
-accepted_one : {E : Type 0} (known : Option (List ℕ)) (old : Seen E) (start size : ℕ) (r : Result (Unit {0}) ParseError) → (start + size < 2 ^ 64 → IsCached old start (start + size) → IsOk r)
+accepted_one : {E : Type 0} (known : Option (List ℕ)) (old : StreamView E) (start size : ℕ) (r : Result (Unit {0}) ParseError) → (start + size < 2 ^ 64 → IsCached old start (start + size) → IsOk r)
     → IfSome known (λ bytes. AreThere bytes ((start, size) ∷ []) → AreCached old ((start, size) ∷ []) → IsOk r)
 accepted_one None old start size r h = tt
 accepted_one (Some bytes) old start size r h = λ there cached. h (read_is_within bytes start size there.0).0 cached.0
@@ -126,11 +126,11 @@ there_one None start size before now can_fail r h = tt
 there_one (Some bytes) start size before now can_fail (Ok x) h = (ap is_ok h.1, tt)
 there_one (Some bytes) start size before now can_fail (Err e) h = tt
 
-not_cached : {E : Type 0} (old new : Seen E) (start size : ℕ) (e : ParseError) → new.cached ≡ old.cached → (start + size < 2 ^ 64 → IsCached old start (start + size) → IsOk {T = Unit {0}} (Err e))
+not_cached : {E : Type 0} (old new : StreamView E) (start size : ℕ) (e : ParseError) → new.cached ≡ old.cached → (start + size < 2 ^ 64 → IsCached old start (start + size) → IsOk {T = Unit {0}} (Err e))
     → start + size < 2 ^ 64 → IsCached new start (start + size) → ⊥
 not_cached old new start size e same cached low h = let ok = cached low (subst (λ cached. IsTrue (is_cached cached start (start + size))) same h) in cc
 
-needed_one : {E : Type 0} (known : Option (List ℕ)) (old new : Seen E) (start size : ℕ) (r : Result (Unit {0}) ParseError) → OnErr r (new.cached ≡ old.cached)
+needed_one : {E : Type 0} (known : Option (List ℕ)) (old new : StreamView E) (start size : ℕ) (r : Result (Unit {0}) ParseError) → OnErr r (new.cached ≡ old.cached)
     → (start + size < 2 ^ 64 → IsCached old start (start + size) → IsOk r)
     → IfSome known (λ bytes. IfErr r (λ e. IsFor (IsOk (bytes_at size bytes start)) (kind e)))
     → IfSome known (λ bytes. IfErr r (λ e. IsFor (IsNeeded bytes new ((start, size) ∷ [])) (kind e)))
@@ -139,7 +139,7 @@ needed_one (Some bytes) old new start size (Ok x) same cached h = tt
 needed_one (Some bytes) old new start size (Err e) same cached h =
     for_so _ _ (kind e) (λ there. (there, not_cached old new start size e same cached (read_is_within bytes start size there).0)) h
 
-pub loads_one : {E : Type 0} (old new : Seen E) (start size : ℕ) (r : Result (Unit {0}) ParseError) → Keeps old new → OnOk r ((start + size < 2 ^ 64) × IsCached new start (start + size)) → Only ((start, size) ∷ []) old new
+pub loads_one : {E : Type 0} (old new : StreamView E) (start size : ℕ) (r : Result (Unit {0}) ParseError) → Keeps old new → OnOk r ((start + size < 2 ^ 64) × IsCached new start (start + size)) → Only ((start, size) ∷ []) old new
     → (start + size < 2 ^ 64 → IsCached old start (start + size) → IsOk r)
     → IfSome old.content (λ bytes. IsAnswer (λ _. take size (drop start bytes)) (bytes_at size bytes start) old.can_fail old.failures new.failures r)
     → OnErr r (new.cached ≡ old.cached) → (IsCached old start (start + size) → (new ≡ old) × IfErr r (λ e. kind e ≡ Kind.Refusal))
@@ -163,12 +163,12 @@ stopped_reason : (known : Option (List ℕ)) (rs qs : List (ℕ × ℕ)) (before
 stopped_reason None rs qs before now can_fail e h = tt
 stopped_reason (Some bytes) rs qs before now can_fail e h = refused_so (kind e) _ _ before before now can_fail (λ missing there. missing (there_front bytes rs qs there)) refl h
 
-stopped_accepted : {E : Type 0} (known : Option (List ℕ)) (old : Seen E) (rs qs : List (ℕ × ℕ)) (e : ParseError)
+stopped_accepted : {E : Type 0} (known : Option (List ℕ)) (old : StreamView E) (rs qs : List (ℕ × ℕ)) (e : ParseError)
     → IfSome known (λ bytes. AreThere bytes rs → AreCached old rs → IsOk {T = Unit {0}} (Err e)) → IfSome known (λ bytes. AreThere bytes (rs ++ qs) → AreCached old (rs ++ qs) → IsOk {T = Unit {0}} (Err e))
 stopped_accepted None old rs qs e h = tt
 stopped_accepted (Some bytes) old rs qs e h = λ there cached. h (there_front bytes rs qs there) (cached_front old rs qs cached)
 
-stopped_needed : {E : Type 0} (known : Option (List ℕ)) (new : Seen E) (rs qs : List (ℕ × ℕ)) (e : ParseError)
+stopped_needed : {E : Type 0} (known : Option (List ℕ)) (new : StreamView E) (rs qs : List (ℕ × ℕ)) (e : ParseError)
     → IfSome known (λ bytes. IsFor (IsNeeded bytes new rs) (kind e)) → IfSome known (λ bytes. IsFor (IsNeeded bytes new (rs ++ qs)) (kind e))
 stopped_needed None new rs qs e h = tt
 stopped_needed (Some bytes) new rs qs e h = for_so _ _ (kind e) (needed_front bytes new rs qs) h
@@ -178,7 +178,7 @@ none_there None rs qs e = tt
 none_there (Some bytes) rs qs e = tt
 
 -- the first load was refused
-pub loads_stop : {E : Type 0} (old new : Seen E) (rs qs : List (ℕ × ℕ)) (e : ParseError) → Loads rs old new (Err e) → Loads (rs ++ qs) old new (Err e)
+pub loads_stop : {E : Type 0} (old new : StreamView E) (rs qs : List (ℕ × ℕ)) (e : ParseError) → Loads rs old new (Err e) → Loads (rs ++ qs) old new (Err e)
 loads_stop old new rs qs e h = record {
   keeps = h.keeps;
   loaded = tt;
@@ -190,7 +190,7 @@ loads_stop old new rs qs e h = record {
   needed = stopped_needed old.content new rs qs e h.needed;
 }
 
-then_loaded : {E : Type 0} (middle new : Seen E) (rs qs : List (ℕ × ℕ)) (r : Result (Unit {0}) ParseError) → Keeps middle new → AreLow rs × AreCached middle rs → OnOk r (AreLow qs × AreCached new qs) → OnOk r (AreLow (rs ++ qs) × AreCached new (rs ++ qs))
+then_loaded : {E : Type 0} (middle new : StreamView E) (rs qs : List (ℕ × ℕ)) (r : Result (Unit {0}) ParseError) → Keeps middle new → AreLow rs × AreCached middle rs → OnOk r (AreLow qs × AreCached new qs) → OnOk r (AreLow (rs ++ qs) × AreCached new (rs ++ qs))
 then_loaded middle new rs qs (Ok x) keeps a b = (low_append rs qs a.0 b.0, cached_append new rs qs (still_cached middle new rs keeps a.1) b.1)
 then_loaded middle new rs qs (Err e) keeps a b = tt
 
@@ -200,7 +200,7 @@ then_reason None rs qs before middle now can_fail r same h = tt
 then_reason (Some bytes) rs qs before middle now can_fail (Ok x) same h = h ∙ same
 then_reason (Some bytes) rs qs before middle now can_fail (Err e) same h = refused_so (kind e) _ _ before middle now can_fail (λ missing there. missing (there_back bytes rs qs there)) same h
 
-then_accepted : {E : Type 0} (known : Option (List ℕ)) (old middle : Seen E) (rs qs : List (ℕ × ℕ)) (r : Result (Unit {0}) ParseError) → Keeps old middle
+then_accepted : {E : Type 0} (known : Option (List ℕ)) (old middle : StreamView E) (rs qs : List (ℕ × ℕ)) (r : Result (Unit {0}) ParseError) → Keeps old middle
     → IfSome known (λ bytes. AreThere bytes qs → AreCached middle qs → IsOk r) → IfSome known (λ bytes. AreThere bytes (rs ++ qs) → AreCached old (rs ++ qs) → IsOk r)
 then_accepted None old middle rs qs r keeps h = tt
 then_accepted (Some bytes) old middle rs qs r keeps h = λ there cached. h (there_back bytes rs qs there) (still_cached old middle qs keeps (cached_back old rs qs cached))
@@ -211,13 +211,13 @@ then_there None rs qs r a b = tt
 then_there (Some bytes) rs qs (Ok x) a b = there_append bytes rs qs a b
 then_there (Some bytes) rs qs (Err e) a b = tt
 
-then_needed : {E : Type 0} (known : Option (List ℕ)) (new : Seen E) (rs qs : List (ℕ × ℕ)) (r : Result (Unit {0}) ParseError) → IfSome known (λ bytes. AreThere bytes rs)
+then_needed : {E : Type 0} (known : Option (List ℕ)) (new : StreamView E) (rs qs : List (ℕ × ℕ)) (r : Result (Unit {0}) ParseError) → IfSome known (λ bytes. AreThere bytes rs)
     → IfSome known (λ bytes. IfErr r (λ e. IsFor (IsNeeded bytes new qs) (kind e))) → IfSome known (λ bytes. IfErr r (λ e. IsFor (IsNeeded bytes new (rs ++ qs)) (kind e)))
 then_needed None new rs qs r a b = tt
 then_needed (Some bytes) new rs qs (Ok x) a b = tt
 then_needed (Some bytes) new rs qs (Err e) a b = for_so _ _ (kind e) (needed_back bytes new rs qs a) b
 
-then_untouched : {E : Type 0} (old middle new : Seen E) (rs qs : List (ℕ × ℕ)) (x : Unit {0}) (r : Result (Unit {0}) ParseError) → Loads rs old middle (Ok x) → Loads qs middle new r
+then_untouched : {E : Type 0} (old middle new : StreamView E) (rs qs : List (ℕ × ℕ)) (x : Unit {0}) (r : Result (Unit {0}) ParseError) → Loads rs old middle (Ok x) → Loads qs middle new r
     → AreCached old (rs ++ qs) → (new ≡ old) × IfErr r (λ e. kind e ≡ Kind.Refusal)
 then_untouched old middle new rs qs x r a b cached =
     let first = a.untouched (cached_front old rs qs cached) in
@@ -225,7 +225,7 @@ then_untouched old middle new rs qs x r a b cached =
     (second.0 ∙ first.0, second.1)
 
 -- the second load is made after the first
-pub loads_then : {E : Type 0} (old middle new : Seen E) (rs qs : List (ℕ × ℕ)) (x : Unit {0}) (r : Result (Unit {0}) ParseError) → Loads rs old middle (Ok x) → Loads qs middle new r → Loads (rs ++ qs) old new r
+pub loads_then : {E : Type 0} (old middle new : StreamView E) (rs qs : List (ℕ × ℕ)) (x : Unit {0}) (r : Result (Unit {0}) ParseError) → Loads rs old middle (Ok x) → Loads qs middle new r → Loads (rs ++ qs) old new r
 loads_then {E} old middle new rs qs x r a b =
     let same : middle.content ≡ old.content = a.keeps.content in
     let nature : middle.can_fail ≡ old.can_fail = a.keeps.can_fail in record {
@@ -248,13 +248,13 @@ refused_answer : {T Y : Type 0} (known : Option (List ℕ)) (rs : List (ℕ × �
 refused_answer None rs shown answer before now can_fail e needs h = tt
 refused_answer (Some bytes) rs shown answer before now can_fail e needs h = refused_so (kind e) _ _ before before now can_fail (λ missing. not_ok (answer bytes) (λ ok. missing (needs bytes ok))) refl h
 
-refused_accepted : {E Y : Type 0} (T : Type 0) (known : Option (List ℕ)) (old : Seen E) (rs : List (ℕ × ℕ)) (answer : List ℕ → Result Y ParseError) (e : ParseError) → ((bytes : List ℕ) → IsOk (answer bytes) → AreThere bytes rs)
+refused_accepted : {E Y : Type 0} (T : Type 0) (known : Option (List ℕ)) (old : StreamView E) (rs : List (ℕ × ℕ)) (answer : List ℕ → Result Y ParseError) (e : ParseError) → ((bytes : List ℕ) → IsOk (answer bytes) → AreThere bytes rs)
     → IfSome known (λ bytes. AreThere bytes rs → AreCached old rs → IsOk {T = Unit {0}} (Err e)) → IfSome known (λ bytes. IsOk (answer bytes) → AreCached old rs → IsOk {T = T} (Err e))
 refused_accepted T None old rs answer e needs h = tt
 refused_accepted T (Some bytes) old rs answer e needs h = λ ok cached. h (needs bytes ok) cached
 
 -- the loads were refused of ranges that an accepted answer needs
-pub leaves_refused : {E T Y : Type 0} (old new : Seen E) (rs : List (ℕ × ℕ)) (shown : T → Y) (answer : List ℕ → Result Y ParseError) (e : ParseError) (r : Result T ParseError) → r ≡ Err e
+pub leaves_refused : {E T Y : Type 0} (old new : StreamView E) (rs : List (ℕ × ℕ)) (shown : T → Y) (answer : List ℕ → Result Y ParseError) (e : ParseError) (r : Result T ParseError) → r ≡ Err e
     → ((bytes : List ℕ) → IsOk (answer bytes) → AreThere bytes rs) → Loads rs old new (Err e) → Leaves rs shown answer old new r
 leaves_refused {E} {T} {Y} old new rs shown answer e r is needs h = rw is (record {
   keeps = h.keeps;
@@ -267,7 +267,7 @@ leaves_refused {E} {T} {Y} old new rs shown answer e r is needs h = rw is (recor
 })
 
 -- the same of ranges that were chosen first
-pub chosen_refused : {E P T Y : Type 0} (old new : Seen E) (ranges : P → List (ℕ × ℕ)) (shown : T → Y) (answer : Result (Option P) ParseError → List ℕ → Result Y ParseError) (choice : Result (Option P) ParseError) (chosen : P) (e : ParseError) (r : Result T ParseError) → r ≡ Err e
+pub chosen_refused : {E P T Y : Type 0} (old new : StreamView E) (ranges : P → List (ℕ × ℕ)) (shown : T → Y) (answer : Result (Option P) ParseError → List ℕ → Result Y ParseError) (choice : Result (Option P) ParseError) (chosen : P) (e : ParseError) (r : Result T ParseError) → r ≡ Err e
     → choice ≡ Ok (Some chosen) → ((bytes : List ℕ) → IsOk (answer (Ok (Some chosen)) bytes) → AreThere bytes (ranges chosen)) → Loads (ranges chosen) old new (Err e) → Leaves (if_chosen ranges choice) shown (answer choice) old new r
 chosen_refused old new ranges shown answer choice chosen e r is same needs h =
     subst (λ x. Leaves (if_chosen ranges x) shown (answer x) old new r) (sym same) (leaves_refused old new (ranges chosen) shown (answer (Ok (Some chosen))) e r is needs h)

@@ -3,7 +3,7 @@ use Rattle.std.specs.Prelude.{◌≡◌, ℕ, ◌+◌, ◌^◌, ◌<◌, ◌⊎�
 use Rattle.std.specs.Prelude.{IfSome, IfErr, OnOk, IsOk, IsErr}
 use Rattle.elf_records.specs.Number.{bytes_at}
 use Rattle.elf_records.specs.declared.parse.ParseError.{ParseError}
-use Rattle.elf.specs.ElfStream.{Seen, AreCached, IsCached, IsFor, IsNeeded, IsRequested, Keeps}
+use Rattle.elf.specs.ElfStream.{StreamView, AreCached, IsCached, IsFor, IsNeeded, IsRequested, Keeps}
 use Rattle.elf_reading.specs.Refusals.{HasReason, Kind, kind}
 
 -- none of the ranges ends past 64 bits
@@ -21,7 +21,7 @@ AreThere bytes (r ∷ rs) = IsOk (bytes_at r.1 bytes r.0) × AreThere bytes rs
 -- allocation, or if one of the ranges does not lie in the content. It succeeds if they lie there and were cached, and
 -- it touches the source and memory only for one that lies there and was not cached.
 pub record Loads {E : Type 0} (rs : List (ℕ × ℕ))
-    (old new : Seen E) (r : Result (Unit {0}) ParseError) : Type 0 where
+    (old new : StreamView E) (r : Result (Unit {0}) ParseError) : Type 0 where
   pub keeps : Keeps old new
   pub loaded : OnOk r (AreLow rs × AreCached new rs)
   pub only : (start end : ℕ) → IsCached new start end → IsCached old start end ⊎ IsRequested rs start end
@@ -34,7 +34,7 @@ pub record Loads {E : Type 0} (rs : List (ℕ × ℕ))
 -- The same of a load that is made for an answer: it fails for a failure of the source or of the allocation, or if the
 -- answer is an error.
 pub record LoadsFor {E Y : Type 0} (rs : List (ℕ × ℕ)) (answer : List ℕ → Result Y ParseError)
-    (old new : Seen E) (r : Result (Unit {0}) ParseError) : Type 0 where
+    (old new : StreamView E) (r : Result (Unit {0}) ParseError) : Type 0 where
   pub keeps : Keeps old new
   pub loaded : OnOk r (AreLow rs × AreCached new rs)
   pub only : (start end : ℕ) → IsCached new start end → IsCached old start end ⊎ IsRequested rs start end

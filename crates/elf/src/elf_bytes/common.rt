@@ -131,6 +131,13 @@ impl<'data, E: EndianParse> ElfBytes<'data, E> {
     /// The error is that of the first section of these types, in the order of the table, that cannot be read: for
     /// symbols those of `symbol_table`, for dynamic entries those of `dynamic`, for a hash section that of its range
     /// and then that of `new`. After all sections come the errors of `segment_data` for the segment.
+    ///
+    /// ```rust
+    /// let found = file.find_common_data()?;
+    /// if let (Some(symbols), Some(names)) = (&found.dynsyms, &found.dynsyms_strs) {
+    ///     println!(rt; "{}", names.get(symbols.get(1)?.st_name as usize)?)?;
+    /// }
+    /// ```
     pub fn find_common_data(&self) -> Result<CommonElfData<'data, E>, ParseError>
         ensures { ok_map common_view result ≡ find_common_data (object_file E.little (view self.now)) }
     {

@@ -42,6 +42,13 @@ impl<'data, E: EndianParse> ElfBytes<'data, E> {
     /// Errors, in order: `IntegerOverflow` if the end of the section does not fit 64 bits;
     /// `SliceReadError((start, end))` if the section does not lie in the file; `SliceReadError((start, end))`, in bytes
     /// from the start of the section, of the first number of the compression header that does not lie in the section.
+    ///
+    /// ```rust
+    /// if let Some(section) = file.section_header_by_name(".interp")? {
+    ///     let (interpreter, _) = file.section_data(&section)?;
+    ///     println!(rt; "{} bytes", interpreter.len())?;
+    /// }
+    /// ```
     #[tactic(auto, unfolding(crate::specs::Data::section_data))]
     pub fn section_data(
         &self,
@@ -117,6 +124,14 @@ impl<'data, E: EndianParse> ElfBytes<'data, E> {
     /// at the first one that cannot be read, and yields at most one for each byte of the file.
     ///
     /// Errors, in order: `UnexpectedSectionType((found, expected))` for any other type; those of `section_data`.
+    ///
+    /// ```rust
+    /// if let Some(section) = file.section_header_by_name(".rela.dyn")? {
+    ///     for rela in file.section_data_as_relas(&section)? {
+    ///         println!(rt; "type {} at {:#x}", rela.r_type, rela.r_offset)?;
+    ///     }
+    /// }
+    /// ```
     pub fn section_data_as_relas(
         &self,
         shdr: &SectionHeader,
@@ -135,6 +150,16 @@ impl<'data, E: EndianParse> ElfBytes<'data, E> {
     /// for each byte of the file.
     ///
     /// Errors, in order: `UnexpectedSectionType((found, expected))` for any other type; those of `section_data`.
+    ///
+    /// ```rust
+    /// if let Some(section) = file.section_header_by_name(".note.gnu.build-id")? {
+    ///     for note in file.section_data_as_notes(&section)? {
+    ///         if let Note::GnuBuildId(id) = note {
+    ///             println!(rt; "a build id of {} bytes", id.0.len())?;
+    ///         }
+    ///     }
+    /// }
+    /// ```
     pub fn section_data_as_notes(
         &self,
         shdr: &SectionHeader,

@@ -46,6 +46,14 @@ impl<'data, E: EndianParse> ElfBytes<'data, E> {
     ///
     /// Errors of a section, in order: `BadEntsize((found, expected))` if `sh_entsize` is not the size of an entry;
     /// those of `section_data`. Errors of a segment: those of `segment_data`.
+    ///
+    /// ```rust
+    /// if let Some(entries) = file.dynamic()? {
+    ///     for entry in entries {
+    ///         println!(rt; "tag {}, value {:#x}", entry.d_tag, entry.d_val())?;
+    ///     }
+    /// }
+    /// ```
     pub fn dynamic(&self) -> Result<Option<DynamicTable<'data, E>>, ParseError>
         ensures { ok_map (option_map table_view) result ≡ dynamic (object_file E.little (view self.now)) }
     {

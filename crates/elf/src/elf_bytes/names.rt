@@ -36,6 +36,14 @@ impl<'data, E: EndianParse> ElfBytes<'data, E> {
     /// Errors, in order: that of `ParsingTable::get` for section header 0, if `e_shstrndx` is `SHN_XINDEX`; that of
     /// `ParsingTable::get` for the section of the names; `IntegerOverflow` or `SliceReadError((start, end))` if the
     /// range of that section does not lie in the file.
+    ///
+    /// ```rust
+    /// if let (Some(sections), Some(names)) = file.section_headers_with_strtab()? {
+    ///     for section in sections {
+    ///         println!(rt; "{}", names.get(section.sh_name as usize)?)?;
+    ///     }
+    /// }
+    /// ```
     #[tactic(auto, unfolding(crate::specs::Names::name_table))]
     pub fn section_headers_with_strtab(
         &self,
@@ -59,6 +67,12 @@ impl<'data, E: EndianParse> ElfBytes<'data, E> {
     /// Returns the first section whose name has exactly the bytes of `name`. A section whose name cannot be read is
     /// skipped. Returns `None` if no section has the name, or if there is no table of names. The errors are those of
     /// `section_headers_with_strtab`.
+    ///
+    /// ```rust
+    /// if let Some(section) = file.section_header_by_name(".text")? {
+    ///     println!(rt; "{} bytes at {:#x}", section.sh_size, section.sh_addr)?;
+    /// }
+    /// ```
     pub fn section_header_by_name(&self, name: &str) -> Result<Option<SectionHeader>, ParseError>
         ensures { result ≡ section_header_by_name (object_file E.little (view self.now)) name.now }
     {

@@ -20,6 +20,13 @@ impl<'data, E: EndianParse> ElfBytes<'data, E> {
     ///
     /// Errors, in order: `IntegerOverflow` if the end of the segment does not fit 64 bits;
     /// `SliceReadError((start, end))` if the segment does not lie in the file.
+    ///
+    /// ```rust
+    /// if let Some(segments) = file.segments() {
+    ///     let bytes = file.segment_data(&segments.get(0)?)?;
+    ///     println!(rt; "{} bytes", bytes.len())?;
+    /// }
+    /// ```
     pub fn segment_data(&self, phdr: &ProgramHeader) -> Result<&'data [u8], ParseError>
         ensures value { ok_map (λ bytes. bytes.now) result
             ≡ segment_data (object_file E.little (view self.now)) phdr.now }
@@ -33,6 +40,16 @@ impl<'data, E: EndianParse> ElfBytes<'data, E> {
     /// byte of the file.
     ///
     /// Errors, in order: `UnexpectedSegmentType((found, expected))` for any other type; those of `segment_data`.
+    ///
+    /// ```rust
+    /// if let Some(segments) = file.segments() {
+    ///     for segment in segments {
+    ///         if segment.p_type == abi::PT_NOTE {
+    ///             println!(rt; "{} notes", file.segment_data_as_notes(&segment)?.count())?;
+    ///         }
+    ///     }
+    /// }
+    /// ```
     pub fn segment_data_as_notes(
         &self,
         phdr: &ProgramHeader,

@@ -64,6 +64,15 @@ impl<'data, E: EndianParse> ElfBytes<'data, E> {
     /// Errors, in order: that of `ParsingTable::get` for section header `sh_link`; `BadEntsize((found, expected))` if
     /// `sh_entsize` is not the size of a symbol; `IntegerOverflow` or `SliceReadError((start, end))` if the range of
     /// the symbols does not lie in the file; the same for the range of the strings.
+    ///
+    /// ```rust
+    /// if let Some((symbols, names)) = file.symbol_table()? {
+    ///     for symbol in symbols {
+    ///         let name = names.get(symbol.st_name as usize)?;
+    ///         println!(rt; "{:#x} {name}", symbol.st_value)?;
+    ///     }
+    /// }
+    /// ```
     pub fn symbol_table(
         &self,
     ) -> Result<Option<(SymbolTable<'data, E>, StringTable<'data>)>, ParseError>
@@ -74,6 +83,14 @@ impl<'data, E: EndianParse> ElfBytes<'data, E> {
 
     /// Returns the symbols for dynamic linking, those of the first section of type `SHT_DYNSYM`, with their strings.
     /// Returns `None` if there is no section of this type. The errors are those of `symbol_table`.
+    ///
+    /// ```rust
+    /// if let Some((symbols, names)) = file.dynamic_symbol_table()? {
+    ///     for symbol in symbols.iter().filter(|symbol| symbol.is_undefined()) {
+    ///         println!(rt; "{}", names.get(symbol.st_name as usize)?)?;
+    ///     }
+    /// }
+    /// ```
     pub fn dynamic_symbol_table(
         &self,
     ) -> Result<Option<(SymbolTable<'data, E>, StringTable<'data>)>, ParseError>

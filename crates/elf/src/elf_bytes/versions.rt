@@ -2,21 +2,23 @@
 ghost use Rattle.std.specs.Prelude.{◌≡◌};
 ghost use Rattle.std.specs.Option.{option_map};
 ghost use Rattle.elf_records.specs.Number.{ok_map};
-ghost use Rattle.elf_parts.specs.gnu_symver.Table.{definitions_view, needs_view, versions_view};
+ghost use Rattle.elf_parts.specs.gnu_symver.Lists.{entries_in, entries_left};
+ghost use Rattle.elf_parts.specs.gnu_symver.Table.{entries_view, versions_view};
 ghost use Rattle.elf_records.specs.Table.{table_view};
 ghost use Rattle.elf.specs.Answers.{symbol_version_table};
 ghost use Rattle.elf.specs.Headers.{if_found};
 ghost use Rattle.elf.specs.ObjectFile.{object_file};
 ghost use Rattle.elf.specs.ElfBytes.{view};
-ghost use Rattle.elf.specs.Versions.{linked_strings, version_definitions, version_indexes, version_needs};
-ghost use Rattle.elf.specs.Versions.{versions_of};
+ghost use Rattle.elf.specs.Versions.{linked_strings, version_entries, version_indexes, versions_of};
 
 use super::ElfBytes;
 use super::data::section_range;
 use crate::headers::{Headers, VersionSections};
 use elf_parts::endian::EndianParse;
+use elf_parts::gnu_symver::links::VersionEntry;
 use elf_parts::gnu_symver::{
-    SymbolVersionTable, VerDefIterator, VerNeedIterator, VersionIndex, VersionIndexTable,
+    EntriesWithStrings, EntryIterator, SymbolVersionTable, VerDef, VerNeed, VersionIndex,
+    VersionIndexTable,
 };
 use elf_parts::parse::{ParseAt, ParseError};
 use elf_parts::section::SectionHeader;
@@ -44,68 +46,38 @@ impl<'data, E: EndianParse> ElfBytes<'data, E> {
         section_range(&linked, self.data)
     }
 
-    // The needs of a section, with their strings.
-    fn version_needs(
+    // The entries of a section, with their strings.
+    fn version_entries<V: VersionEntry>(
         &self,
         shdr: &SectionHeader,
-    ) -> Result<(VerNeedIterator<'data, E>, StringTable<'data>), ParseError>
-        ensures { ok_map needs_view result ≡ version_needs (object_file E.little (view self.now)) shdr.now }
+    ) -> Result<EntriesWithStrings<'data, E, V>, ParseError>
+        ensures { ok_map (entries_view (entries_left V.reads.record_at V.next_distance V.with_aux)) result
+            ≡ version_entries (entries_in V.reads.record_at V.next_distance V.with_aux)
+            (object_file E.little (view self.now)) shdr.now }
     {
         let bytes = section_range(shdr, self.data)?;
         let strings = self.linked_strings(shdr)?;
-        let needs = VerNeedIterator::new(
+        let entries = EntryIterator::new(
             self.ehdr.endianness,
             self.ehdr.class,
             shdr.sh_info as u64,
             0,
             bytes,
         );
-        Ok((needs, StringTable::new(strings)))
+        Ok((entries, StringTable::new(strings)))
     }
 
-    // The definitions of a section, with their strings.
-    fn version_definitions(
-        &self,
-        shdr: &SectionHeader,
-    ) -> Result<(VerDefIterator<'data, E>, StringTable<'data>), ParseError>
-        ensures { ok_map definitions_view result
-            ≡ version_definitions (object_file E.little (view self.now)) shdr.now }
-    {
-        let bytes = section_range(shdr, self.data)?;
-        let strings = self.linked_strings(shdr)?;
-        let definitions = VerDefIterator::new(
-            self.ehdr.endianness,
-            self.ehdr.class,
-            shdr.sh_info as u64,
-            0,
-            bytes,
-        );
-        Ok((definitions, StringTable::new(strings)))
-    }
-
-    // The needs of a section with their strings, or `None` if there is no section.
-    fn version_needs_if(
+    // The entries of a section with their strings, or `None` if there is no section.
+    fn version_entries_if<V: VersionEntry>(
         &self,
         shdr: Option<SectionHeader>,
-    ) -> Result<Option<(VerNeedIterator<'data, E>, StringTable<'data>)>, ParseError>
-        ensures { ok_map (option_map needs_view) result
-            ≡ if_found (version_needs (object_file E.little (view self.now))) shdr }
+    ) -> Result<Option<EntriesWithStrings<'data, E, V>>, ParseError>
+        ensures { ok_map (option_map (entries_view (entries_left V.reads.record_at V.next_distance V.with_aux))) result
+            ≡ if_found (version_entries (entries_in V.reads.record_at V.next_distance V.with_aux)
+            (object_file E.little (view self.now))) shdr }
     {
         match shdr {
-            Some(shdr) => self.version_needs(&shdr).map(Some),
-            None => Ok(None),
-        }
-    }
-
-    fn version_definitions_if(
-        &self,
-        shdr: Option<SectionHeader>,
-    ) -> Result<Option<(VerDefIterator<'data, E>, StringTable<'data>)>, ParseError>
-        ensures { ok_map (option_map definitions_view) result
-            ≡ if_found (version_definitions (object_file E.little (view self.now))) shdr }
-    {
-        match shdr {
-            Some(shdr) => self.version_definitions(&shdr).map(Some),
+            Some(shdr) => self.version_entries::<V>(&shdr).map(Some),
             None => Ok(None),
         }
     }
@@ -120,8 +92,8 @@ impl<'data, E: EndianParse> ElfBytes<'data, E> {
             ≡ versions_of (object_file E.little (view self.now)) chosen shdr.now }
     {
         let indexes = self.version_indexes(shdr)?;
-        let needs = self.version_needs_if(chosen.needs)?;
-        let definitions = self.version_definitions_if(chosen.definitions)?;
+        let needs = self.version_entries_if::<VerNeed>(chosen.needs)?;
+        let definitions = self.version_entries_if::<VerDef>(chosen.definitions)?;
         Ok(SymbolVersionTable::new(indexes, needs, definitions))
     }
 
@@ -134,6 +106,12 @@ impl<'data, E: EndianParse> ElfBytes<'data, E> {
     /// if the range of the indexes does not lie in the file; the same for the range of the needs; that of
     /// `ParsingTable::get` for the section header that their `sh_link` names; that of the range of their strings; the
     /// last three for the definitions.
+    ///
+    /// ```rust
+    /// if let Some(versions) = file.symbol_version_table()? {
+    ///     println!(rt; "versions of {} symbols", versions.indexes().len())?;
+    /// }
+    /// ```
     pub fn symbol_version_table(&self) -> Result<Option<SymbolVersionTable<'data, E>>, ParseError>
         ensures { ok_map (option_map versions_view) result
             ≡ symbol_version_table (object_file E.little (view self.now)) }

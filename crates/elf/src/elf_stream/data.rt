@@ -79,6 +79,14 @@ impl<E: EndianParse, S: StreamSource, A: Allocator + Copy> ElfStream<E, S, A> {
     ///
     /// Errors, in order: that of the range; `SliceReadError((start, end))`, in bytes from the start of the section, of
     /// the first number of the compression header that does not lie in the section.
+    ///
+    /// ```rust
+    /// // `copied` ends the borrow of the stream, so that it can be called again.
+    /// if let Some(section) = stream.section_header_by_name(".interp")?.copied() {
+    ///     let (interpreter, _) = stream.section_data(&section)?;
+    ///     println!(rt; "{} bytes", interpreter.len())?;
+    /// }
+    /// ```
     pub fn section_data(
         &mut self,
         shdr: &SectionHeader,

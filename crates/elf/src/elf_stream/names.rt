@@ -92,6 +92,12 @@ impl<E: EndianParse, S: StreamSource, A: Allocator + Copy> ElfStream<E, S, A> {
     /// Returns the first section whose name has exactly the bytes of `name`. A section whose name cannot be read is
     /// skipped. Returns `None` if no section has the name, or if there is no table of names. Range and errors are those
     /// of `section_headers_with_strtab`.
+    ///
+    /// ```rust
+    /// if let Some(section) = stream.section_header_by_name(".text")? {
+    ///     println!(rt; "{} bytes at {:#x}", section.sh_size, section.sh_addr)?;
+    /// }
+    /// ```
     #[tactic(auto, unfolding(crate::specs::Names::name_section, crate::specs::Names::name_table))]
     pub fn section_header_by_name(
         &mut self,

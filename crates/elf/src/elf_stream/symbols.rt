@@ -87,6 +87,14 @@ impl<E: EndianParse, S: StreamSource, A: Allocator + Copy> ElfStream<E, S, A> {
 
     /// Returns the symbols for dynamic linking, those of the first section of type `SHT_DYNSYM`, with their strings.
     /// Returns `None` if there is no section of this type. Ranges and errors are those of `symbol_table`.
+    ///
+    /// ```rust
+    /// if let Some((symbols, names)) = stream.dynamic_symbol_table()? {
+    ///     for symbol in symbols {
+    ///         println!(rt; "{}", names.get(symbol.st_name as usize)?)?;
+    ///     }
+    /// }
+    /// ```
     pub fn dynamic_symbol_table(
         &mut self,
     ) -> Result<Option<(SymbolTable<'_, E>, StringTable<'_>)>, ParseError>

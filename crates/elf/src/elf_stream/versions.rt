@@ -9,14 +9,17 @@ ghost use Rattle.elf_reading.specs.Refusals.{Kind, kind};
 ghost use Rattle.elf.specs.inner.Loads.{AreLow, Loads};
 ghost use Rattle.elf.specs.Headers.{if_found};
 ghost use Rattle.std.specs.Option.{option_map};
-ghost use Rattle.elf_parts.specs.gnu_symver.Table.{definitions_view, needs_view, versions_view};
-ghost use Rattle.elf.specs.inner.Plans.{definitions_by, needs_by, versions_by_plan, versions_by};
+ghost use Rattle.elf_parts.specs.gnu_symver.Lists.{entries_in, entries_left};
+ghost use Rattle.elf_parts.specs.gnu_symver.Table.{entries_view, versions_view};
+ghost use Rattle.elf.specs.inner.Plans.{entries_by, versions_by_plan, versions_by};
 
 use super::ElfStream;
 use crate::headers::{Headers, LinkedSections};
 use elf_parts::endian::EndianParse;
+use elf_parts::gnu_symver::links::VersionEntry;
 use elf_parts::gnu_symver::{
-    SymbolVersionTable, VerDefIterator, VerNeedIterator, VersionIndex, VersionIndexTable,
+    EntriesWithStrings, EntryIterator, SymbolVersionTable, VerDef, VerNeed, VersionIndex,
+    VersionIndexTable,
 };
 use elf_parts::parse::{ParseAt, ParseError};
 use elf_parts::section::SectionHeader;
@@ -82,51 +85,29 @@ impl<E: EndianParse, S: StreamSource, A: Allocator + Copy> ElfStream<E, S, A> {
         self.load_both_if(plan.2)
     }
 
-    // The needs of a section with their strings, or `None` if there is no section. The ranges are cached.
-    fn cached_needs(
+    // The entries of a section with their strings, or `None` if there is no section. The ranges are cached.
+    fn cached_entries<V: VersionEntry>(
         &self,
         linked: Option<LinkedSections>,
-    ) -> Option<(VerNeedIterator<'_, E>, StringTable<'_>)>
+    ) -> Option<EntriesWithStrings<'_, E, V>>
         requires low { AreLow (if_there both_sections linked) }
         requires cached { AreCached self.now (if_there both_sections linked) }
         ensures { IfSome self.now.content (λ bytes.
-            if_found (needs_by (stream_file E.little self.now bytes)) linked ≡ Ok (option_map needs_view result)) }
+            if_found (entries_by (entries_in V.reads.record_at V.next_distance V.with_aux)
+            (stream_file E.little self.now bytes)) linked
+            ≡ Ok (option_map (entries_view (entries_left V.reads.record_at V.next_distance V.with_aux)) result)) }
     {
         let (shdr, linked) = linked?;
         let bytes = self.cached_bytes(shdr.sh_offset, shdr.sh_size);
         let strings = self.cached_bytes(linked.sh_offset, linked.sh_size);
-        let needs = VerNeedIterator::new(
+        let entries = EntryIterator::new(
             self.ehdr.endianness,
             self.ehdr.class,
             shdr.sh_info as u64,
             0,
             bytes,
         );
-        Some((needs, StringTable::new(strings)))
-    }
-
-    // The definitions of a section with their strings, or `None` if there is no section. The ranges are cached.
-    fn cached_definitions(
-        &self,
-        linked: Option<LinkedSections>,
-    ) -> Option<(VerDefIterator<'_, E>, StringTable<'_>)>
-        requires low { AreLow (if_there both_sections linked) }
-        requires cached { AreCached self.now (if_there both_sections linked) }
-        ensures { IfSome self.now.content (λ bytes.
-            if_found (definitions_by (stream_file E.little self.now bytes)) linked
-            ≡ Ok (option_map definitions_view result)) }
-    {
-        let (shdr, linked) = linked?;
-        let bytes = self.cached_bytes(shdr.sh_offset, shdr.sh_size);
-        let strings = self.cached_bytes(linked.sh_offset, linked.sh_size);
-        let definitions = VerDefIterator::new(
-            self.ehdr.endianness,
-            self.ehdr.class,
-            shdr.sh_info as u64,
-            0,
-            bytes,
-        );
-        Some((definitions, StringTable::new(strings)))
+        Some((entries, StringTable::new(strings)))
     }
 
     // The versions in the sections of a plan, whose ranges are cached.
@@ -142,8 +123,8 @@ impl<E: EndianParse, S: StreamSource, A: Allocator + Copy> ElfStream<E, S, A> {
     {
         let bytes = self.cached_bytes(plan.0.sh_offset, plan.0.sh_size);
         let indexes = VersionIndexTable::new(self.ehdr.endianness, self.ehdr.class, bytes);
-        let needs = self.cached_needs(plan.1);
-        let definitions = self.cached_definitions(plan.2);
+        let needs = self.cached_entries::<VerNeed>(plan.1);
+        let definitions = self.cached_entries::<VerDef>(plan.2);
         SymbolVersionTable::new(indexes, needs, definitions)
     }
 

@@ -34,8 +34,13 @@ fn section_parts<'data, E: EndianParse>(
     }
 }
 
-// The checked table of a section of a kind.
-fn section_table<'data, E: EndianParse>(
+/// Returns the checked table of a hash section of this kind over the dynamic symbols of its file. The type of the section
+/// is not checked.
+///
+/// Errors, in order: `Read` if the bytes of the section cannot be read; `Read` if the dynamic symbols cannot be read;
+/// `NoSymbols` if there are none; `Read` if `new` of the table returns an error; `Faulty` with a fault that is true of
+/// the section.
+pub fn section_table<'data, E: EndianParse>(
     file: &ElfBytes<'data, E>,
     kind: HashKind,
     section: &SectionHeader,
@@ -44,20 +49,22 @@ fn section_table<'data, E: EndianParse>(
 {
     let (bytes, (symbols, strings)) = section_parts(file, section)?;
     let ehdr = &file.ehdr;
-    match check_any(kind, ehdr.endianness, ehdr.class, bytes, symbols, strings) {
-        Ok(Checked::Sound(table)) => Ok(table),
-        Ok(Checked::Faulty(fault)) => Err(ObjectFault::Faulty(fault)),
-        Err(error) => Err(ObjectFault::Read(error)),
+    match check_any(kind, ehdr.endianness, ehdr.class, bytes, symbols, strings)? {
+        Checked::Sound(table) => Ok(table),
+        Checked::Faulty(fault) => Err(ObjectFault::Faulty(fault)),
     }
 }
 
 /// Returns the checked hash table of a file over its dynamic symbols: that of the first section of type
 /// `SHT_GNU_HASH`, or if there is none that of the first of type `SHT_HASH`. Returns `None` exactly if the file has
-/// neither.
+/// neither. The errors are those of `section_table`.
 ///
-/// Errors, in order: `Read` if the bytes of the section cannot be read; `Read` if the dynamic symbols cannot be
-/// read; `NoSymbols` if there are none; `Read` if `new` of the table returns an error; `Faulty` with a fault that
-/// is true of the section.
+/// ```rust
+/// match object_table(&file)? {
+///     Some(table) => println!(rt; "{} indexed symbols", table.indexed())?,
+///     None => println!(rt; "no hash section")?,
+/// }
+/// ```
 pub fn object_table<'data, E: EndianParse>(
     file: &ElfBytes<'data, E>,
 ) -> Result<Option<AnyChecked<'data, E>>, ObjectFault>
@@ -73,8 +80,17 @@ pub fn object_table<'data, E: EndianParse>(
 }
 
 #[tactic(auto, using(std::proofs::lemmas::Grind::elements))]
-/// Returns the place of the first object in the list that has the name, counted from 0, with the index and the
-/// symbol that its `find` returns. Returns `None` exactly if no object has the name.
+/// Returns the place of the first object in the list that has the name, counted from 0, with the index and the symbol
+/// that its `find` returns. Returns `None` exactly if no object has the name. The objects are the tables that
+/// `object_table` returns for the files, in the order of the search.
+///
+/// ```rust
+/// if let Some(table) = object_table(&file)?
+///     && let Some((object, index, _)) = resolve(&[table], b"malloc")
+/// {
+///     println!(rt; "object {object}, symbol {index}")?;
+/// }
+/// ```
 pub fn resolve<E: EndianParse>(
     objects: &[AnyChecked<'_, E>],
     name: &[u8],

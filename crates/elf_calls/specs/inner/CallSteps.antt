@@ -5,7 +5,7 @@ use Rattle.std.specs.Option.{option_map}
 use Rattle.elf.specs.Answers.{dynamic_symbol_table}
 use Rattle.elf.specs.Data.{section_data}
 use Rattle.elf.specs.ObjectFile.{ObjectFile}
-use Rattle.elf.specs.ElfStream.{AreCached, IsCached, IsNeeded, IsRequested, Keeps, Seen}
+use Rattle.elf.specs.ElfStream.{AreCached, IsCached, IsNeeded, IsRequested, Keeps, StreamView}
 use Rattle.elf_reading.specs.Refusals.{IsAnswer}
 use Rattle.elf.specs.StreamFile.{stream_file}
 use Rattle.elf_reading.specs.Refusals.{IsRefused, Kind, kind}
@@ -37,14 +37,14 @@ TriedOne answer old new can_fail before now (Err e) =
 -- What is used for ranges that were requested, and what is cached after. `takes` says whether memory is taken for a
 -- copy, and `copies` over which content.
 pub record Uses {E T : Type 0} (requested : List (ℕ × ℕ)) (takes : Type 0) (copies : List ℕ → Type 0)
-    (old new : Seen E) (r : Result T ParseError) : Type 0 where
+    (old new : StreamView E) (r : Result T ParseError) : Type 0 where
   pub only : (start end : ℕ) → IsCached new start end → IsCached old start end ⊎ IsRequested requested start end
   pub untouched : AreCached old requested → (new ≡ old) × IfErr r (λ e. IsUse ⊥ takes (kind e))
   pub needed : IfSome old.content (λ bytes. IfErr r (λ e.
       IsUse (IsNeeded bytes new requested) (IsNeeded bytes new requested ⊎ copies bytes) (kind e)))
 
 -- the same file, the text of the call or an error, and what is used for it; its ranges are cached if it has no error
-pub record TriedCall {E X : Type 0} (little : E → Bool) (call : Question) (old new : Seen E)
+pub record TriedCall {E X : Type 0} (little : E → Bool) (call : Question) (old new : StreamView E)
     (before after : Option (List ℕ)) (r : Result (Result (Unit {0}) X) ParseError) : Type 0 where
   pub keeps : Keeps old new
   pub tried : IfSome old.content (λ bytes.
@@ -81,7 +81,7 @@ LeadsTo Kind.Refusal old new r = WritesRefused old new r
 -- the same file, and the answer that the content gives, for which the requested ranges are cached, or an error; and
 -- what is used for it, with a copy
 pub record Gives {E T Y : Type 0} (requested : List (ℕ × ℕ)) (copies : List ℕ → Type 0) (shown : T → Y)
-    (answer : List ℕ → Result Y ParseError) (old new : Seen E) (r : Result T ParseError) : Type 0 where
+    (answer : List ℕ → Result Y ParseError) (old new : StreamView E) (r : Result T ParseError) : Type 0 where
   pub keeps : Keeps old new
   pub loaded : OnOk r (AreCached new requested)
   pub answers : IfSome old.content (λ bytes. IsAnswer shown (answer bytes) old.can_fail old.failures new.failures r)

@@ -13,7 +13,7 @@ use Rattle.elf_records.specs.Table.{Table}
 use Rattle.elf_check.specs.Object.{ByGnu, BySysv, IsSound, Object}
 use Rattle.elf_check.specs.SoundGnu.{HasBothBits, InRun, RunsTo, SoundGnu, SoundWord}
 use Rattle.elf_check.specs.SoundSysv.{Belongs, EndsAt, SoundSysv, value}
-use Rattle.elf_check.specs.WithSymbols.{WithSymbols, bloom, named, word}
+use Rattle.elf_check.specs.WithSymbols.{WithSymbols, bloom, symbol_and_name, word}
 use Rattle.std.specs.Int.{bit_at}
 
 -- ---- statements of any kind
@@ -130,7 +130,7 @@ module _ (s : WithSymbols GnuTable) where
       is_some_and
       (λ found. all_three (equal (w / 2) (gnu_hash_of found.1 / 2)) (has_both_bits s.table (gnu_hash_of found.1))
       (in_run s.table k (gnu_hash_of found.1)))
-      (named s.symbols s.strings (s.table.hdr.table_start_idx + k))
+      (symbol_and_name s.symbols s.strings (s.table.hdr.table_start_idx + k))
 
   pub decide_gnu : Decided (SoundGnu s)
   decide_gnu =
@@ -145,7 +145,7 @@ module _ (s : WithSymbols SysvTable) where
   belongs bucket index =
       both (less index (word_count s.table.chains))
       (is_some_and (λ found. equal (sysv_hash_of found.1 % word_count s.table.buckets) bucket)
-      (named s.symbols s.strings index))
+      (symbol_and_name s.symbols s.strings index))
 
   ends_at : (bucket j : ℕ) → Decided (EndsAt s bucket j)
   ends_at bucket j =

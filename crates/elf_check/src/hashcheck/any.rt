@@ -4,7 +4,7 @@ ghost use Rattle.elf_records.specs.StringTable.{strings_view};
 ghost use Rattle.elf_records.specs.Table.{table_view};
 ghost use Rattle.elf_check.specs.CheckedTable.{object_view};
 ghost use Rattle.elf_check.specs.Indexed.{IsNumberOf};
-ghost use Rattle.elf_check.specs.Object.{IsSound, IsTrueOf, object_in};
+ghost use Rattle.elf_check.specs.Object.{IsSound, IsTrueOfObject, object_in};
 ghost use Rattle.elf_check.specs.Verdict.{GivesVerdict};
 
 use crate::hashcheck::{
@@ -42,8 +42,17 @@ impl<'data, E: EndianParse> HashSection<CheckedSysvHash<'data, E>, CheckedGnuHas
     ghost use Rattle.elf_check.specs.NamedSymbols.{AreAllNamed, named_left};
     ghost use Rattle.elf_check.specs.Object.{Indexed, IsFound, indexed_count};
 
-    /// Returns the index and the symbol of a name: of a GNU section the least such index, of a SysV section the
-    /// first along its chain. Returns `None` exactly if no indexed symbol has the name.
+    /// Returns the index and the symbol of a name: of a GNU section the least such index, of a SysV section the first
+    /// along its chain. Returns `None` exactly if no indexed symbol has the name. The table comes from `check_any` or,
+    /// for a file, from `elf_binding::resolve::object_table`.
+    ///
+    /// ```rust
+    /// if let Some(table) = object_table(&file)?
+    ///     && let Some((index, symbol)) = table.find(b"malloc")
+    /// {
+    ///     println!(rt; "symbol {index}, value {:#x}", symbol.st_value)?;
+    /// }
+    /// ```
     pub fn find(&self, name: &[u8]) -> Option<(usize, Symbol)>
         ensures { IsFound (object_view self.now) name.now result }
     {
@@ -53,8 +62,16 @@ impl<'data, E: EndianParse> HashSection<CheckedSysvHash<'data, E>, CheckedGnuHas
         }
     }
 
-    /// All indexed symbols with a name, each once with its index: of a GNU section in the order of their indexes,
-    /// of a SysV section in the order of their chain. The first is the one that `find` returns.
+    /// Returns an iterator over all indexed symbols with a name, each once with its index: of a GNU section in the
+    /// order of their indexes, of a SysV section in the order of their chain. The first is the one that `find` returns.
+    ///
+    /// ```rust
+    /// if let Some(table) = object_table(&file)? {
+    ///     for (index, symbol) in table.find_all(b"malloc") {
+    ///         println!(rt; "symbol {index}, value {:#x}", symbol.st_value)?;
+    ///     }
+    /// }
+    /// ```
     pub fn find_all<'a>(&self, name: &'a [u8]) -> NamedSymbols<'a, 'data, E>
         ensures { AreAllNamed (object_view self.now) name.now (named_left result) }
     {
@@ -64,7 +81,7 @@ impl<'data, E: EndianParse> HashSection<CheckedSysvHash<'data, E>, CheckedGnuHas
         }
     }
 
-    /// The number of symbols that the section indexes.
+    /// Returns the number of symbols that the section indexes.
     pub fn indexed(&self) -> usize
         ensures count { result ≡ indexed_count (object_view self.now) }
         ensures members { IsNumberOf result (Indexed (object_view self.now)) }
@@ -76,8 +93,23 @@ impl<'data, E: EndianParse> HashSection<CheckedSysvHash<'data, E>, CheckedGnuHas
     }
 }
 
-/// Checks a section of either kind as `check_sysv` or `check_gnu` does. Returns an error exactly if `new` of the
-/// table does, and that error.
+/// Checks the bytes of a hash section of either kind as `check_sysv` or `check_gnu` does. The symbols are those of the
+/// section that `sh_link` of the hash section names, with their strings: usually those of `dynamic_symbol_table`.
+/// Returns the checked table exactly if the section is sound for these symbols, and otherwise a fault that is true of
+/// it. Returns an error exactly if `new` of the table does, and that error.
+///
+/// ```rust
+/// if let Some(section) = file.section_header_by_name(".gnu.hash")?
+///     && let Some((symbols, names)) = file.dynamic_symbol_table()?
+/// {
+///     let (kind, ehdr) = (HashKind::Gnu, &file.ehdr);
+///     let (bytes, _) = file.section_data(&section)?;
+///     match check_any(kind, ehdr.endianness, ehdr.class, bytes, symbols, names)? {
+///         Checked::Sound(table) => println!(rt; "sound, {} symbols", table.indexed())?,
+///         Checked::Faulty(fault) => println!(rt; "{fault:?}")?,
+///     }
+/// }
+/// ```
 pub fn check_any<'data, E: EndianParse>(
     kind: HashKind,
     endian: E,
@@ -88,7 +120,7 @@ pub fn check_any<'data, E: EndianParse>(
 ) -> Result<Checked<AnyChecked<'data, E>>, ParseError>
     ensures { let object = object_in kind (E.little endian) class section.now
         (table_view symtab.entry) (strings_view strtab.entry) in
-        GivesVerdict object_view IsSound IsTrueOf object result }
+        GivesVerdict object_view IsSound IsTrueOfObject object result }
 {
     match kind {
         HashKind::Sysv => match check_sysv(endian, class, section, symtab, strtab) {

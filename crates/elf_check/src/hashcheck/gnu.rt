@@ -12,7 +12,7 @@ ghost use Rattle.elf_check.specs.inner.SoundProps.{GnuReads, GnuReads-prop, Soun
 mod check;
 
 use crate::hashcheck::named::{Following, FollowingIndexes, NamedSymbols};
-use crate::hashcheck::words::word_count;
+use crate::hashcheck::table_words::word_count;
 pub use check::{check_gnu, check_gnu_counted};
 use elf_parts::endian::EndianParse;
 use elf_parts::hash::GnuHashTable;
@@ -61,8 +61,8 @@ impl<'data, E: EndianParse> CheckedGnuHash<'data, E> {
         FollowingIndexes::new(links, chains, Some(index), left)
     }
 
-    /// All indexed symbols with a name, each once with its index, in the order of their indexes. The first is the
-    /// one that `find` returns.
+    /// Returns an iterator over all indexed symbols with a name, each once with its index, in the order of their
+    /// indexes. The first is the one that `find` returns.
     pub fn find_all<'a>(&self, name: &'a [u8]) -> NamedSymbols<'a, 'data, E>
         ensures { AreAllNamed (Object.ByGnu (checked_gnu_view self.now)) name.now (named_left result) }
     {
@@ -70,7 +70,7 @@ impl<'data, E: EndianParse> CheckedGnuHash<'data, E> {
         NamedSymbols::new(walk, self.symtab, self.strtab, name)
     }
 
-    /// The number of symbols that the section indexes: one for each chain word.
+    /// Returns the number of symbols that the section indexes: one for each chain word.
     pub fn indexed(&self) -> usize
         ensures count { result ≡ gnu_indexed self.now }
         ensures words { result ≡ word_count (checked_gnu_view self.now).table.chains }

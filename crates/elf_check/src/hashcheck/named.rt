@@ -3,11 +3,11 @@ ghost use Rattle.std.specs.Prelude.{◌≡◌, ◌-◌};
 ghost use Rattle.std.specs.Iterator.{YieldsFirst, item_count};
 ghost use Rattle.elf_records.specs.StringTable.{strings_view};
 ghost use Rattle.elf_records.specs.Table.{table_view};
-ghost use Rattle.elf_check.specs.NamedSymbols.{index_behind, indexes_from, indexes_left, kept_named, named_left};
+ghost use Rattle.elf_check.specs.NamedSymbols.{index_behind, indexes_from, indexes_left, symbols_with_name, named_left};
 ghost use Rattle.elf_check.specs.NamedSymbols.{symbol_named, unless_last, unless_zero};
 ghost use Rattle.elf_check.specs.WithSymbols.{word};
 
-use crate::hashcheck::words::{U32Table, word_count, word_of};
+use crate::hashcheck::table_words::{U32Table, word_count, word_of};
 use elf_parts::endian::EndianParse;
 use elf_parts::laws::find::words_read_below_count;
 use elf_parts::string_table::{StringTable, TerminatedStrings};
@@ -119,7 +119,8 @@ impl<'a, 'data, E: EndianParse> NamedSymbols<'a, 'data, E> {
         name: &'a [u8],
     ) -> Self
         ensures { named_left result
-            ≡ kept_named (table_view symtab.entry) (strings_view strtab.entry) name.now (indexes_left walk.entry) }
+            ≡ symbols_with_name (table_view symtab.entry) (strings_view strtab.entry) name.now
+            (indexes_left walk.entry) }
     {
         NamedSymbols {
             walk,
@@ -130,7 +131,7 @@ impl<'a, 'data, E: EndianParse> NamedSymbols<'a, 'data, E> {
     }
 
     // The symbol of an index, if it has the name.
-    #[tactic(auto, unfolding(crate::specs::WithSymbols::named, elf_parts::specs::Hash::named_symbol))]
+    #[tactic(auto, unfolding(crate::specs::WithSymbols::symbol_and_name, elf_parts::specs::Hash::named_symbol))]
     fn symbol_named(&self, index: usize) -> Option<(usize, Symbol)>
         ensures { let s = self.now in
             result ≡ symbol_named (table_view s.symtab) s.strings s.name.now index }

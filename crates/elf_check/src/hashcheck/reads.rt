@@ -3,7 +3,7 @@ ghost use Rattle.std.specs.Option.{option_map};
 ghost use Rattle.std.specs.Prelude.{◌≡◌};
 ghost use Rattle.elf_records.specs.StringTable.{strings_view};
 ghost use Rattle.elf_records.specs.Table.{table_view};
-ghost use Rattle.elf_check.specs.Reads.{counted, read_count};
+ghost use Rattle.elf_check.specs.Reads.{count_after, read_count};
 ghost use Rattle.elf_check.specs.WithSymbols.{name_at};
 
 use elf_parts::endian::EndianParse;
@@ -24,7 +24,7 @@ impl Reads {
         Reads { count: 0 }
     }
 
-    /// The number of symbols that were read.
+    /// Returns the number of symbols that were read.
     pub fn count(&self) -> u64
         ensures { result ≡ read_count self.now }
     {
@@ -33,7 +33,7 @@ impl Reads {
 
     // Reads a symbol, and gives its name where both can be read. Inlined, since a name that is returned by a call goes
     // through memory.
-    #[tactic(auto, unfolding(crate::specs::WithSymbols::named, elf_parts::specs::Hash::named_symbol))]
+    #[tactic(auto, unfolding(crate::specs::WithSymbols::symbol_and_name, elf_parts::specs::Hash::named_symbol))]
     #[inline(always)]
     pub(crate) fn name_at<'data, E: EndianParse>(
         &mut self,
@@ -43,7 +43,7 @@ impl Reads {
     ) -> Option<&'data [u8]>
         ensures name { option_map (λ name. name.now) result
             ≡ name_at (table_view symtab.now) (strings_view strtab.now) index }
-        ensures count { read_count self.new ≡ counted (read_count self.old) 1 }
+        ensures count { read_count self.new ≡ count_after (read_count self.old) 1 }
     {
         self.count = self.count.saturating_add(1);
         let symbol = symtab.get(index).ok()?;

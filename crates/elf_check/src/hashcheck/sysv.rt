@@ -12,7 +12,7 @@ ghost use Rattle.elf_check.specs.inner.SoundProps.{SoundSysv-prop, SysvReads, Sy
 mod check;
 
 use crate::hashcheck::named::{Following, FollowingIndexes, NamedSymbols};
-use crate::hashcheck::words::word_count;
+use crate::hashcheck::table_words::word_count;
 pub use check::{check_sysv, check_sysv_counted};
 use elf_parts::endian::EndianParse;
 use elf_parts::hash::SysVHashTable;
@@ -58,8 +58,8 @@ impl<'data, E: EndianParse> CheckedSysvHash<'data, E> {
         }
     }
 
-    /// All indexed symbols with a name, each once with its index, in the order of their chain. The first is the one
-    /// that `find` returns.
+    /// Returns an iterator over all indexed symbols with a name, each once with its index, in the order of their chain.
+    /// The first is the one that `find` returns.
     pub fn find_all<'a>(&self, name: &'a [u8]) -> NamedSymbols<'a, 'data, E>
         ensures { AreAllNamed (Object.BySysv (checked_sysv_view self.now)) name.now (named_left result) }
     {
@@ -67,7 +67,7 @@ impl<'data, E: EndianParse> CheckedSysvHash<'data, E> {
         NamedSymbols::new(walk, self.symtab, self.strtab, name)
     }
 
-    /// The number of symbols that the section indexes: the sum of the lengths of its chains.
+    /// Returns the number of symbols that the section indexes: the sum of the lengths of its chains.
     pub fn indexed(&self) -> usize
         ensures count { result ≡ sysv_indexed self.now }
         ensures lengths { let table = (checked_sysv_view self.now).table in

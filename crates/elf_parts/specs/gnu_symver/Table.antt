@@ -23,15 +23,18 @@ use Rattle.elf_records.specs.declared.parse.ParseError.{ParseError}
 use Rattle.elf_records.specs.declared.string_table.StringTable.{StringTable}
 use denote.Ref.{Bor}
 
--- the needs, each with its versions, and the strings that their names lie in
-pub record Needs : Type 0 where
-  pub list : List (VerNeed × List VerNeedAux)
+-- the entries of a section, each with its auxiliary entries, and the strings that their names lie in
+pub record Entries (V A : Type 0) : Type 0 where
+  pub list : List (V × List A)
   pub strings : List ℕ
 
--- the definitions, each with its names, and the strings that these lie in
-pub record Definitions : Type 0 where
-  pub list : List (VerDef × List VerDefAux)
-  pub strings : List ℕ
+-- the needs, each with its versions
+abbrev pub Needs : Type 0
+Needs = Entries VerNeed VerNeedAux
+
+-- the definitions, each with its names
+abbrev pub Definitions : Type 0
+Definitions = Entries VerDef VerDefAux
 
 -- the version indexes of the symbols, and what these are looked up in
 pub record Versions : Type 0 where
@@ -68,8 +71,8 @@ pub record Requirement : Type 0 where
   pub hidden : Bool
 
 -- what is stored of a needed version; the name of its file is at this offset
-abbrev pub kept : ℕ → VerNeedAux → Needed
-kept file version = record {
+abbrev pub needed_entry : ℕ → VerNeedAux → Needed
+needed_entry file version = record {
   file = file;
   name = version.vna_name;
   hash = version.vna_hash;
@@ -77,7 +80,7 @@ kept file version = record {
 }
 
 abbrev pub needed_of : VerNeed × VerNeedAux → Needed
-needed_of pair = kept pair.0.vn_file pair.1
+needed_of pair = needed_entry pair.0.vn_file pair.1
 
 abbrev pub requirement_of : List ℕ → Bool → Needed → Requirement
 requirement_of strings hidden needed = record {
@@ -176,11 +179,15 @@ definition versions i = definition_among versions.definitions (index_of versions
 
 -- ---- the view of the structs
 
+abbrev pub entries_view : {E V A : Type 0} → (EntryIterator E V A → List (V × List A)) →
+    EntryIterator E V A × StringTable → Entries V A
+entries_view left entries = record { list = left entries.0; strings = strings_view entries.1 }
+
 abbrev pub needs_view : {E : Type 0} → EntryIterator E VerNeed VerNeedAux × StringTable → Needs
-needs_view needs = record { list = ver_needs_left needs.0; strings = strings_view needs.1 }
+needs_view needs = entries_view ver_needs_left needs
 
 abbrev pub definitions_view : {E : Type 0} → EntryIterator E VerDef VerDefAux × StringTable → Definitions
-definitions_view definitions = record { list = ver_defs_left definitions.0; strings = strings_view definitions.1 }
+definitions_view definitions = entries_view ver_defs_left definitions
 
 abbrev pub versions_view : {E : Type 0} → SymbolVersionTable E → Versions
 versions_view table = record {

@@ -4,7 +4,7 @@ use Rattle.std.specs.Option.{option_map, option_or}
 use Rattle.elf_parts.specs.inner.Placed.{slot}
 use Rattle.elf_records.specs.Table.{Table}
 use Rattle.elf_parts.specs.gnu_symver.Lists.{ver_need_aux_records}
-use Rattle.elf_parts.specs.gnu_symver.Table.{kept, version_with}
+use Rattle.elf_parts.specs.gnu_symver.Table.{needed_entry, version_with}
 use Rattle.elf_parts.specs.declared.gnu_symver.records.VerNeedAux.{VerNeedAux}
 use Rattle.elf_parts.specs.declared.gnu_symver.table.Needed.{Needed}
 use Rattle.elf_parts.specs.declared.gnu_symver.table.walked.Stretch.{Stretch}
@@ -30,7 +30,7 @@ AreWalked slots t stretches =
 
 -- what the place of an index holds, or else what the first n versions from an offset on have for it
 abbrev pub held_or_left : List (Option Needed) → ℕ → Table → ℕ → ℕ → ℕ → Option Needed
-held_or_left slots file t k n o = option_or (slot slots k) (option_map (kept file) (first_with t k n o))
+held_or_left slots file t k n o = option_or (slot slots k) (option_map (needed_entry file) (first_with t k n o))
 
 -- no place that was filled is empty
 abbrev pub StayFilled : List (Option Needed) → List (Option Needed) → Type 0

@@ -17,7 +17,7 @@ pub trait Linked: ParseAt {
     // How many bytes after its start the next record begins; 0 if there is none.
     ghost next_distance: { Self → ℕ };
 
-    /// The distance to the next record, in bytes; 0 if this record is the last one.
+    /// Returns the distance to the next record, in bytes; 0 if this record is the last one.
     fn distance(&self) -> u32
         ensures { result ≡ next_distance self.now };
 }
@@ -29,7 +29,7 @@ pub trait VersionEntry: Linked {
     // An entry, from the offset where it begins, with its auxiliary entries.
     ghost with_aux: { Table → ℕ × Self → Self × List Self.Aux };
 
-    /// The auxiliary entries of this entry, whose own start is the offset `start`, in bytes.
+    /// Returns the auxiliary entries of this entry, whose own start is the offset `start`, in bytes.
     fn aux<'data, E: EndianParse>(
         &self,
         entries: &Links<'data, E, Self>,
@@ -75,8 +75,8 @@ impl<'data, E: EndianParse, R: Linked> Clone for Links<'data, E, R> {
 }
 
 impl<'data, E: EndianParse, R: Linked> Links<'data, E, R> {
-    /// The records that are linked from the one at `offset`, in bytes: at most `count`, and at most as many as the
-    /// data have bytes.
+    /// Returns the records that are linked from the one at `offset`, in bytes: at most `count`, and at most as many as
+    /// the data have bytes.
     #[tactic(auto, using(crate::proofs::LinkedRecords::count_bounds))]
     pub fn new(little: bool, class: Class, count: u64, offset: usize, data: &'data [u8]) -> Self
         ensures items { links_left R.reads.record_at R.next_distance result
@@ -96,7 +96,8 @@ impl<'data, E: EndianParse, R: Linked> Links<'data, E, R> {
         }
     }
 
-    /// The records of another type that are linked from the one `distance` bytes after `start`: at most `count`.
+    /// Returns the records of another type that are linked from the one `distance` bytes after `start`: at most
+    /// `count`.
     pub fn aux<A: Linked>(&self, start: usize, count: u16, distance: u32) -> Links<'data, E, A>
         ensures items { links_left A.reads.record_at A.next_distance result
             ≡ links_in A.reads.record_at A.next_distance (links_view self.now) count (start + distance) }
@@ -124,7 +125,7 @@ impl<'data, E: EndianParse, R: Linked> Links<'data, E, R> {
         }
     }
 
-    /// The offset of the next record, in bytes.
+    /// Returns the offset of the next record, in bytes.
     pub fn offset(&self) -> usize
         ensures { result ≡ self.now.offset }
     {
@@ -138,7 +139,7 @@ impl<'data, E: EndianParse, R: Linked> Links<'data, E, R> {
         self.count
     }
 
-    /// The length of the data, in bytes.
+    /// Returns the length of the data, in bytes.
     pub fn data_len(&self) -> usize
         ensures { result ≡ length (links_view self.now).bytes }
     {

@@ -10,6 +10,7 @@ use super::links::{Linked, Links, VersionEntry};
 use super::records::{VerDef, VerDefAux, VerNeed, VerNeedAux};
 use crate::endian::EndianParse;
 use crate::file::Class;
+use crate::string_table::StringTable;
 
 /// An iterator over the auxiliary entries of one entry: at most the count, up to the one whose next field is 0, and
 /// up to the first that cannot be read. After its first `None` it keeps returning `None`.
@@ -25,7 +26,7 @@ pub type VerNeedAuxIterator<'data, E> = AuxIterator<'data, E, VerNeedAux>;
 pub type VerDefAuxIterator<'data, E> = AuxIterator<'data, E, VerDefAux>;
 
 impl<'data, E: EndianParse, A: Linked> AuxIterator<'data, E, A> {
-    /// The entries that are linked from the one at `starting_offset`, in bytes: at most `count`, and at most as
+    /// Returns the entries that are linked from the one at `starting_offset`, in bytes: at most `count`, and at most as
     /// many as the data have bytes.
     #[tactic(auto, using(crate::proofs::LinkedRecords::map_bounds))]
     pub fn new(
@@ -82,8 +83,11 @@ pub type VerNeedIterator<'data, E> = EntryIterator<'data, E, VerNeed>;
 /// The definitions, each with its names.
 pub type VerDefIterator<'data, E> = EntryIterator<'data, E, VerDef>;
 
+/// The entries of a version section, and the strings that their names lie in.
+pub type EntriesWithStrings<'data, E, V> = (EntryIterator<'data, E, V>, StringTable<'data>);
+
 impl<'data, E: EndianParse, V: VersionEntry> EntryIterator<'data, E, V> {
-    /// The entries that are linked from the one at `starting_offset`, in bytes: at most `count`, and at most as
+    /// Returns the entries that are linked from the one at `starting_offset`, in bytes: at most `count`, and at most as
     /// many as the data have bytes.
     #[tactic(auto, using(crate::proofs::LinkedRecords::map_bounds))]
     pub fn new(

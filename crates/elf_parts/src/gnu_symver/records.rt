@@ -23,7 +23,7 @@ pub struct VerNeed {
 impl VerNeed {
     ghost use Rattle.elf_parts.specs.gnu_symver.Records.{ver_need_aux_reads};
 
-    /// The auxiliary entries of this need, which begins at the offset `start` of the data in which `needs` lie.
+    /// Returns the auxiliary entries of this need, which begins at the offset `start` of the data in which `needs` lie.
     pub fn aux_links<'data, E: EndianParse>(
         &self,
         needs: &Links<'data, E, VerNeed>,
@@ -162,7 +162,7 @@ pub struct VerDef {
 impl VerDef {
     ghost use Rattle.elf_parts.specs.gnu_symver.Records.{ver_def_aux_reads};
 
-    /// The names of this definition, which begins at the offset `start` of the data in which `definitions` lie.
+    /// Returns the names of this definition, which begins at the offset `start` of the data in which `definitions` lie.
     pub fn aux_links<'data, E: EndianParse>(
         &self,
         definitions: &Links<'data, E, VerDef>,
@@ -314,28 +314,28 @@ impl ParseAt for VersionIndex {
 }
 
 impl VersionIndex {
-    /// The index: the lower 15 bits.
+    /// Returns the index: the lower 15 bits.
     pub fn index(&self) -> u16
         ensures { result ≡ version_index self.now }
     {
         self.0 & abi::VER_NDX_VERSION
     }
 
-    /// Whether the index is 0 (`VER_NDX_LOCAL`): the symbol is local.
+    /// Returns whether the index is 0 (`VER_NDX_LOCAL`): the symbol is local.
     pub fn is_local(&self) -> bool
         ensures { result ≡ (version_index self.now == ver_ndx_local) }
     {
         self.index() == abi::VER_NDX_LOCAL
     }
 
-    /// Whether the index is 1 (`VER_NDX_GLOBAL`): the symbol is global and has no version of its own.
+    /// Returns whether the index is 1 (`VER_NDX_GLOBAL`): the symbol is global and has no version of its own.
     pub fn is_global(&self) -> bool
         ensures { result ≡ (version_index self.now == ver_ndx_global) }
     {
         self.index() == abi::VER_NDX_GLOBAL
     }
 
-    /// Whether bit 15 is set: the version is hidden.
+    /// Returns whether bit 15 is set: the version is hidden.
     pub fn is_hidden(&self) -> bool
         ensures { result ≡ version_is_hidden self.now }
     {

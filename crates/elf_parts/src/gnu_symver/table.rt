@@ -5,7 +5,7 @@ ghost use Rattle.std.specs.Option.{option_map};
 ghost use Rattle.elf_records.specs.Number.{ok_map};
 ghost use Rattle.elf_records.specs.StringTable.{strings_view};
 ghost use Rattle.elf_parts.specs.gnu_symver.Table.{defined_version, definition, definition_by, definition_view};
-ghost use Rattle.elf_parts.specs.gnu_symver.Table.{definitions_view, index_of, kept};
+ghost use Rattle.elf_parts.specs.gnu_symver.Table.{definitions_view, index_of, needed_entry};
 ghost use Rattle.elf_parts.specs.gnu_symver.Table.{names_left, needed_version, needs_view, raw_names, requirement};
 ghost use Rattle.elf_parts.specs.gnu_symver.Table.{requirement_of};
 ghost use Rattle.elf_parts.specs.gnu_symver.Lists.{aux_view, ver_def_aux_left, ver_def_view, ver_defs_left};
@@ -152,8 +152,8 @@ pub struct Needed {
 }
 
 // What is stored of a version. `file` is the offset of the name of its file.
-fn kept(file: u32, version: &VerNeedAux) -> Needed
-    ensures { result ≡ kept file version.now }
+fn needed_entry(file: u32, version: &VerNeedAux) -> Needed
+    ensures { result ≡ needed_entry file version.now }
 {
     Needed {
         file,
@@ -235,11 +235,19 @@ impl<'data, E: EndianParse> SymbolVersionTable<'data, E> {
         self.indexes.get(symbol)
     }
 
-    /// Returns the version that a symbol, counted from 0, needs of another file. Returns `None` if there are no
-    /// needs, whatever the symbol's version index is, or if no needed version has this index.
+    /// Returns the version that a symbol, counted from 0 among the dynamic symbols, needs of another file. Returns
+    /// `None` if there are no needs, whatever the symbol's version index is, or if no needed version has this index.
     ///
     /// Errors, in order: that of `get_index`; that of `StringTable::get` for the name of the file; the same for the
     /// name of the version.
+    ///
+    /// ```rust
+    /// if let Some(versions) = file.symbol_version_table()?
+    ///     && let Some(version) = versions.get_requirement(1)?
+    /// {
+    ///     println!(rt; "symbol 1 needs {} of {}", version.name, version.file)?;
+    /// }
+    /// ```
     pub fn get_requirement(
         &self,
         symbol: usize,
@@ -253,13 +261,22 @@ impl<'data, E: EndianParse> SymbolVersionTable<'data, E> {
         let Some((need, version)) = first_needed(needs, index.index()) else {
             return Ok(None);
         };
-        let needed = kept(need.vn_file, &version);
+        let needed = needed_entry(need.vn_file, &version);
         Ok(Some(read_requirement(strings, needed, index.is_hidden())?))
     }
 
-    /// Returns the version with which a symbol, counted from 0, is defined. Returns `None` if there are no
-    /// definitions, whatever the symbol's version index is, or if no definition has this index. The only error is
-    /// that of `get_index`: the names, fewer than 2^16, are read by the iterator in the result.
+    /// Returns the version with which a symbol, counted from 0 among the dynamic symbols, is defined. Returns `None` if
+    /// there are no definitions, whatever the symbol's version index is, or if no definition has this index. The only
+    /// error is that of `get_index`: the names, fewer than 2^16, are read by the iterator in the result.
+    ///
+    /// ```rust
+    /// if let Some(versions) = file.symbol_version_table()?
+    ///     && let Some(mut version) = versions.get_definition(1)?
+    ///     && let Some(name) = version.names.next()
+    /// {
+    ///     println!(rt; "symbol 1 is defined with {}", name?)?;
+    /// }
+    /// ```
     pub fn get_definition(
         &self,
         symbol: usize,

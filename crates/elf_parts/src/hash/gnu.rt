@@ -1,12 +1,14 @@
 //! GNU hash sections.
-ghost use Rattle.std.specs.Prelude.{◌≡◌, ◌+◌, ◌-◌, ◌%◌, ◌<◌, ◌≤◌, None, drop, length, take};
+ghost use Rattle.std.specs.Prelude.{◌≡◌, ◌-◌, ◌%◌, ◌<◌, ◌≤◌, None};
 ghost use Rattle.elf_records.specs.Class.{address_bits};
 ghost use Rattle.elf_parts.specs.GnuFind.{bloom_word, find_by_hash, find_in_run, gnu_find, gnu_section};
 ghost use Rattle.elf_parts.specs.GnuFind.{gnu_view, passes, word_decides};
-ghost use Rattle.elf_parts.specs.Hash.{gnu_hash_from, gnu_hash_of, word_count};
+ghost use Rattle.elf_parts.specs.Hash.{gnu_hash_of, word_count};
 ghost use Rattle.elf_records.specs.Number.{ok_map};
 ghost use Rattle.elf_records.specs.StringTable.{strings_view};
 ghost use Rattle.elf_records.specs.Table.{table_in, table_view};
+
+mod eight;
 
 use crate::endian::{BigEndian, EndianParse, LittleEndian};
 use crate::file::Class;
@@ -14,6 +16,7 @@ use crate::hash::{Found, U32Table, if_named, refused_symbol, refused_word, word,
 use crate::parse::{ParseAt, ParseError, ParsingTable, get_bytes};
 use crate::string_table::{StringTable, TerminatedStrings};
 use crate::symbol::{Symbol, SymbolTable};
+pub use eight::gnu_hash;
 
 type U64Table<'data, E> = ParsingTable<'data, E, u64>;
 
@@ -57,84 +60,6 @@ impl ParseAt for GnuHashHeader {
     fn is_local() -> bool {
         true
     }
-}
-
-// The hash continued over the bytes, one by one.
-fn hash_bytes(start: u32, bytes: &[u8]) -> u32
-    ensures { result ≡ gnu_hash_from start bytes.now }
-{
-    let mut hash = start;
-    for byte in bytes {
-        hash = hash.wrapping_mul(33).wrapping_add(u32::from(*byte));
-    }
-    hash
-}
-
-// Every second byte of a word.
-const EVEN_BYTES: u64 = 0x00ff_00ff_00ff_00ff;
-
-// Every second pair of bytes.
-const EVEN_PAIRS: u64 = 0x0000_ffff_0000_ffff;
-
-// The lower four bytes.
-const LOW_HALF: u64 = 0xffff_ffff;
-
-// The hash continued over eight bytes at once. Neighbours are joined, all in one word: bytes to pairs, pairs to fours,
-// and the two fours. The factors are powers of 33, that of the hash modulo 2^32. Byte by byte, each step would wait for
-// the one before it.
-#[tactic(auto, using(crate::proofs::Hashing::eight_at_once))]
-fn hash_eight(hash: u32, bytes: &[u8; 8]) -> u32
-    ensures { result ≡ gnu_hash_from hash bytes.now }
-{
-    let word = u64::from_le_bytes(*bytes);
-    let pairs = 33 * (word & EVEN_BYTES) + ((word >> 8) & EVEN_BYTES);
-    let fours = 1_089 * (pairs & EVEN_PAIRS) + ((pairs >> 16) & EVEN_PAIRS);
-    let eight = 1_185_921 * (fours & LOW_HALF) + (fours >> 32);
-    hash.wrapping_mul(1_954_312_449)
-        .wrapping_add((eight & LOW_HALF) as u32)
-}
-
-// The hash of an empty name, from which that of each name starts.
-const START: u32 = 5381;
-
-// Where a name after bytes of 0 starts: from the hash at index n, 8 - n bytes of 0 lead to `START`.
-const STARTS: [u32; 8] = [
-    3_048_333_317,
-    1_810_751_653,
-    3_920_229_701,
-    518_561_253,
-    4_227_619_461,
-    2_072_488_741,
-    3_967_619_013,
-    2_082_408_549,
-];
-
-// The hash of the first `count` of eight bytes. They are moved past bytes of 0, and all eight are taken at once: a
-// loop over them would run another number of times for each name, which a processor predicts badly.
-#[tactic(auto, using(crate::proofs::Hashing::head_at_once), unfolding(crate::specs::Hash::gnu_hash_of))]
-fn hash_head(eight: &[u8; 8], count: usize) -> u32
-    requires { count < 8 }
-    ensures { result ≡ gnu_hash_of (take count eight.now) }
-{
-    let word = u64::from_le_bytes(*eight);
-    let behind_zeros = (word << (56 - 8 * count)) << 8;
-    hash_eight(STARTS[count], &behind_zeros.to_le_bytes())
-}
-
-/// Returns the hash of a name in a GNU hash section, 32 bits.
-#[tactic(auto, unfolding(crate::specs::Hash::gnu_hash_of))]
-pub fn gnu_hash(name: &[u8]) -> u32
-    ensures { result ≡ gnu_hash_of name.now }
-{
-    let Some(first) = name.first_chunk() else {
-        return hash_bytes(START, name);
-    };
-    let (head, blocks) = name.as_rchunks();
-    let mut hash = hash_head(first, head.len());
-    for block in blocks {
-        hash = hash_eight(hash, block);
-    }
-    hash
 }
 
 /// A GNU hash section: bloom words, which exclude most names that are not in the section, and for each bucket a run of
@@ -366,12 +291,23 @@ impl<'data, E: EndianParse> GnuHashTable<'data, E> {
     }
 
     /// Returns the index and the symbol of a name, the first in the run of its bucket. Returns `None` if there are no
-    /// buckets or bloom words, or if the bloom word or the run has no such name.
+    /// buckets or bloom words, or if the bloom word or the run has no such name. `symtab` has the symbols of the
+    /// section that `sh_link` of the hash section names, and `strtab` their strings: usually both come from
+    /// `dynamic_symbol_table`.
     ///
     /// The error is that of the first read on the way that fails: `ParsingTable::get` for the bloom word, only if the
     /// caller raised `hdr.nbloom`; `ParsingTable::get` for a symbol whose chain word fits the hash;
     /// `StringTable::get_raw` for its name. It is `IntegerOverflow` if the second bloom bit is needed and the shift is
     /// 32 or more.
+    ///
+    /// ```rust
+    /// if let Some(table) = file.find_common_data()?.gnu_hash
+    ///     && let Some((symbols, names)) = file.dynamic_symbol_table()?
+    ///     && let Some((index, symbol)) = table.find(b"malloc", &symbols, &names)?
+    /// {
+    ///     println!(rt; "symbol {index}, value {:#x}", symbol.st_value)?;
+    /// }
+    /// ```
     // Inlined with its parts. A result has some hundred bytes, since `ParseError` can hold an `io::Error`: a call would
     // fill and copy that room for each look-up.
     #[tactic(auto, unfolding(crate::specs::GnuFind::gnu_find))]

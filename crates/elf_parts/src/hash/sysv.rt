@@ -1,6 +1,6 @@
 //! SysV hash sections (gABI, chapter "Hash Table").
 ghost use Rattle.std.specs.Prelude.{◌≡◌, ◌%◌, ◌^◌};
-ghost use Rattle.elf_parts.specs.Hash.{folded, sysv_hash_of, word_count};
+ghost use Rattle.elf_parts.specs.Hash.{hash_fold, sysv_hash_of, word_count};
 ghost use Rattle.elf_records.specs.Number.{ok_map};
 ghost use Rattle.elf_records.specs.StringTable.{strings_view};
 ghost use Rattle.elf_parts.specs.SysvFind.{find_along, sysv_find, sysv_section, sysv_view};
@@ -50,12 +50,17 @@ impl ParseAt for SysVHashHeader {
 // XORs the top four bits in at bit 4. They stay at the top as well: the next step shifts them out.
 #[tactic(auto, using(crate::proofs::Hashing::fold_steps))]
 fn fold_top(hash: u32) -> u32
-    ensures { result % 2 ^ 28 ≡ folded hash }
+    ensures { result % 2 ^ 28 ≡ hash_fold hash }
 {
     hash ^ ((hash >> 24) & 0xf0)
 }
 
-/// The hash of a name in a SysV hash section (gABI, chapter "Hash Table"): 32 bits. The upper four are 0.
+/// Returns the hash of a name, given without its 0 byte, in a SysV hash section (gABI, chapter "Hash Table"): 32 bits,
+/// of which the upper four are 0.
+///
+/// ```rust
+/// println!(rt; "{:#x}", sysv_hash(b"printf"))?; // 0x77905a6
+/// ```
 #[tactic(auto, using(crate::proofs::Hashing::hash_steps), unfolding(crate::specs::Hash::sysv_hash_of))]
 pub fn sysv_hash(name: &[u8]) -> u32
     ensures { result ≡ sysv_hash_of name.now }
@@ -94,14 +99,15 @@ impl<'data, E: EndianParse> SysVHashTable<'data, E> {
         })
     }
 
-    /// The words of the buckets. Each is the first symbol index of the bucket's chain, or 0 if the chain is empty.
+    /// Returns the words of the buckets. Each is the first symbol index of the bucket's chain, or 0 if the chain is
+    /// empty.
     pub fn buckets(&self) -> ParsingTable<'data, E, u32>
         ensures { table_view result ≡ (sysv_view self.now).buckets }
     {
         self.buckets
     }
 
-    /// The chain words. The one at a symbol index is the next index of its chain, or 0 if there is none.
+    /// Returns the chain words. The one at a symbol index is the next index of its chain, or 0 if there is none.
     pub fn chains(&self) -> ParsingTable<'data, E, u32>
         ensures { table_view result ≡ (sysv_view self.now).chains }
     {
@@ -139,11 +145,21 @@ impl<'data, E: EndianParse> SysVHashTable<'data, E> {
     }
 
     /// Returns the index and the symbol of a name: the first one along the chain of its bucket. Returns `None` if
-    /// there are no buckets, or if the chain ends, or is followed for as many symbols as there are chain words,
-    /// without one of this name.
+    /// there are no buckets, or if the chain ends, or is followed for as many symbols as there are chain words, without
+    /// one of this name. `symtab` has the symbols of the section that `sh_link` of the hash section names, and `strtab`
+    /// their strings: usually both come from `dynamic_symbol_table`.
     ///
     /// The error is that of the first read on the way that fails: `ParsingTable::get` for the symbol,
     /// `StringTable::get_raw` for its name, or `ParsingTable::get` for the chain word.
+    ///
+    /// ```rust
+    /// if let Some(table) = file.find_common_data()?.sysv_hash
+    ///     && let Some((symbols, names)) = file.dynamic_symbol_table()?
+    ///     && let Some((index, symbol)) = table.find(b"malloc", &symbols, &names)?
+    /// {
+    ///     println!(rt; "symbol {index}, value {:#x}", symbol.st_value)?;
+    /// }
+    /// ```
     // Inlined with its parts. A result has some hundred bytes, since `ParseError` can hold an `io::Error`: a call would
     // fill and copy that room for each look-up.
     #[tactic(auto, using(crate::proofs::Walks::along_ended), unfolding(crate::specs::SysvFind::sysv_find))]

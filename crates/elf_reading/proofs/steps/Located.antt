@@ -14,7 +14,7 @@ use Rattle.elf_reading.specs.declared.tables.DeclaredTable.{DeclaredTable}
 use Rattle.elf_reading.specs.declared.source.StreamSource as source
 use Rattle.elf_reading.specs.inner.HeaderSteps.{range_bytes, range_table}
 use Rattle.elf_reading.specs.Refusals.{IsNoAllocationFailure}
-use Rattle.elf_reading.specs.inner.Reads.{HasLength, Reads, ReadsAs}
+use Rattle.elf_reading.specs.inner.Reads.{HasLength, ReadsSource, ReadsSourceAs}
 use Rattle.elf_reading.specs.Tables.{declared_count, declared_table}
 use Rattle.elf_reading.proofs.steps.Chains.{given}
 use Rattle.elf_reading.proofs.steps.Ranges.{refused_so}
@@ -47,9 +47,9 @@ free_of_want f (Ok a) h = tt
 free_of_want f (Err e) h = h
 
 pub located : {S E : Type 0} (ghosts : source.Ghosts S) (little : E → Bool) (h : FileHeader E) (size : ℕ) (table : DeclaredTable) (len n : ℕ) (old middle : S) (r : Result (ℕ × ℕ) ParseError)
-    → (table.offset == 0) ≡ false → HasLength ghosts old len → Reads ghosts (declared_count little h table) old middle (Ok n)
+    → (table.offset == 0) ≡ false → HasLength ghosts old len → ReadsSource ghosts (declared_count little h table) old middle (Ok n)
     → ((bytes : List ℕ) (can_fail : Bool) (failures : ℕ) → len ≡ length bytes → IsAnswer (range_bytes bytes) (table_bytes size table.entsize n table.offset bytes) can_fail failures failures r)
-    → IfErr r (λ e. IsNoAllocationFailure (kind e)) → ReadsAs ghosts (λ bytes. option_map (range_table little h bytes)) (declared_table little h size table) old middle (ok_map Some r)
+    → IfErr r (λ e. IsNoAllocationFailure (kind e)) → ReadsSourceAs ghosts (λ bytes. option_map (range_table little h bytes)) (declared_table little h size table) old middle (ok_map Some r)
 located ghosts little h size table len n old middle r there whole counted found none = record {
   content = counted.content;
   nature = counted.nature;

@@ -5,7 +5,7 @@ use Rattle.elf_records.specs.declared.parse.ParseError.TheVariants.{BadOffset, I
 use Rattle.std.specs.Prelude.{◌^◌, ◌==◌, nat_le, nat_lt, length, take, drop, Result, Ok, Err, IfErr, ok_or, if◌then◌else◌}
 use Rattle.elf_records.specs.File.{byte_in, class_of, ident_of, magic_in, order_of, version_in}
 use Rattle.elf_records.specs.Number.{bytes_at, number_at, ok_map}
-use Rattle.elf_records.specs.Record.{◌>>=◌, Field, Layout, accepted, numbers_at, record_by, size_by}
+use Rattle.elf_records.specs.Record.{◌>>=◌, Field, Layout, field_value, numbers_at, record_by, size_by}
 use Rattle.elf_records.specs.Section.{section_header_layout, section_header_reads}
 use Rattle.elf_records.specs.Table.{Table, item_at}
 use Rattle.elf_records.specs.declared.file.Class.{Class}
@@ -48,16 +48,16 @@ plain_number_at : (little : Bool) (width : ℕ) (bytes : List ℕ) (o : ℕ) →
 unfolding number_at
 plain_number_at little width bytes o = plain_map _ _ (plain_bytes_at width bytes o)
 
-plain_accepted : (o : Option ℕ) (n : ℕ) → IsPlain (accepted o n)
-plain_accepted None n = plain_ok
-plain_accepted (Some v) n = plain_if _ _ _ plain_ok (plain_err _ refl)
+plain_value : (o : Option ℕ) (n : ℕ) → IsPlain (field_value o n)
+plain_value None n = plain_ok
+plain_value (Some v) n = plain_if _ _ _ plain_ok (plain_err _ refl)
 
 plain_numbers_at : (little : Bool) (fields : List Field) (bytes : List ℕ) (o : ℕ) → IsPlain (numbers_at little fields bytes o)
 unfolding numbers_at
 plain_numbers_at little [] bytes o = plain_ok
 plain_numbers_at little (f ∷ fs) bytes o =
     plain_bind (number_at little f.width bytes (o + f.place)) _ (plain_number_at little f.width bytes (o + f.place)) (λ x.
-    plain_bind (accepted f.version x) _ (plain_accepted f.version x) (λ n.
+    plain_bind (field_value f.version x) _ (plain_value f.version x) (λ n.
     plain_bind (numbers_at little fs bytes o) _ (plain_numbers_at little fs bytes o) (λ ns. plain_ok)))
 
 pub plain_record_by : {A : Type 0} (layout : Layout A) (little : Bool) (class : Class) (bytes : List ℕ) (o : ℕ) → IsPlain (record_by layout little class bytes o)

@@ -11,7 +11,7 @@ abbrev pub HasLength : {S : Type 0} → source.Ghosts S → S → ℕ → Type 0
 HasLength ghosts s len = IfSome (ghosts.content s) (λ bytes. len ≡ length bytes)
 
 -- The source is the same one, the answer is the content's, and no memory was wanted.
-pub record ReadsAs {S T Y : Type 0} (ghosts : source.Ghosts S) (shown : List ℕ → T → Y)
+pub record ReadsSourceAs {S T Y : Type 0} (ghosts : source.Ghosts S) (shown : List ℕ → T → Y)
     (gives : List ℕ → Result Y ParseError) (old new : S) (r : Result T ParseError) : Type 0 where
   pub content : ghosts.content new ≡ ghosts.content old
   pub nature : ghosts.can_fail new ≡ ghosts.can_fail old
@@ -20,7 +20,7 @@ pub record ReadsAs {S T Y : Type 0} (ghosts : source.Ghosts S) (shown : List ℕ
   pub memory : IfErr r (λ e. IsNoAllocationFailure (kind e))
 
 -- the same of a result that is the content's answer
-abbrev pub Reads :
+abbrev pub ReadsSource :
     {S Y : Type 0} → source.Ghosts S → (List ℕ → Result Y ParseError) →
     S → S → Result Y ParseError → Type 0
-Reads ghosts gives old new r = ReadsAs ghosts (λ _ x. x) gives old new r
+ReadsSource ghosts gives old new r = ReadsSourceAs ghosts (λ _ x. x) gives old new r

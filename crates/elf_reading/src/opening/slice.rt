@@ -3,7 +3,7 @@ ghost use Rattle.std.specs.Prelude.{◌≡◌};
 ghost use Rattle.std.specs.Option.{option_map};
 ghost use Rattle.elf_records.specs.Number.{ok_map};
 ghost use Rattle.elf_records.specs.Table.{table_view};
-ghost use Rattle.elf_reading.specs.Opening.{first_section, header_at_front, opened, opened_view, table_bytes};
+ghost use Rattle.elf_reading.specs.Opening.{first_section, header_at_front, opened_file, opened_view, table_bytes};
 ghost use Rattle.elf_reading.specs.Tables.{declared_count, declared_table};
 
 use crate::tables::DeclaredTable;
@@ -113,7 +113,7 @@ pub struct Opened<'data, E: EndianParse> {
 /// `SliceReadError((start, end))` if the table does not lie in the data.
 #[tactic(auto, unfolding(crate::specs::Opening::section_table, crate::specs::Opening::segment_table))]
 pub fn open<'data, E: EndianParse>(data: &'data [u8]) -> Result<Opened<'data, E>, ParseError>
-    ensures { ok_map (opened_view «data».now) result ≡ opened E.little E.of_byte «data».now }
+    ensures { ok_map (opened_view «data».now) result ≡ opened_file E.little E.of_byte «data».now }
 {
     let ehdr = parse_ehdr(data)?;
     let shdrs = find_table(&ehdr, data, DeclaredTable::of_sections(&ehdr))?;

@@ -1,7 +1,7 @@
 //! A file in a source: its headers are read. Memory is allocated only for tables that lie in the source.
 ghost use Rattle.std.specs.Prelude.{◌≡◌, ℕ, ◌≤◌, Bool, List, Ok, IfOk, IfErr, IfSome, length};
 ghost use Rattle.std.specs.Option.{option_map};
-ghost use Rattle.elf_reading.specs.Opening.{first_section, header_at_front, headers_of, opened, read_headers};
+ghost use Rattle.elf_reading.specs.Opening.{first_section, header_at_front, headers_of, opened_file, read_headers};
 ghost use Rattle.elf_reading.specs.Opening.{section_table, segment_table, table_bytes};
 ghost use Rattle.elf_records.specs.File.{tail_fields};
 ghost use Rattle.elf_records.specs.Number.{bytes_at, ok_map};
@@ -11,7 +11,7 @@ ghost use Rattle.elf_records.specs.Table.{table_items, table_view};
 ghost use Rattle.elf_reading.specs.Refusals.{IsAnswer, IsNoAllocationFailure, IsOpeningOf, kind};
 ghost use Rattle.elf_reading.specs.inner.HeaderSteps.{front_ident, range_bytes, range_records, range_table};
 ghost use Rattle.elf_reading.specs.inner.HeaderSteps.{tail_header};
-ghost use Rattle.elf_reading.specs.inner.Reads.{HasLength, Reads, ReadsAs};
+ghost use Rattle.elf_reading.specs.inner.Reads.{HasLength, ReadsSource, ReadsSourceAs};
 ghost use Rattle.elf_reading.specs.Tables.{declared_count, declared_table};
 
 use crate::reads::{fetch, read_at};
@@ -37,7 +37,7 @@ fn read_array<const N: usize, S: StreamSource>(
     start: u64,
 ) -> Result<[u8; N], ParseError>
     requires { HasLength S.StreamSource source.old len }
-    ensures { Reads S.StreamSource (λ bytes. bytes_at N bytes start) source.old source.new result }
+    ensures { ReadsSource S.StreamSource (λ bytes. bytes_at N bytes start) source.old source.new result }
 {
     let Some(end) = start.checked_add(N as u64) else {
         return Err(ParseError::IntegerOverflow);
@@ -56,7 +56,7 @@ fn read_ident<E: EndianParse, S: StreamSource>(
     len: u64,
 ) -> Result<(E, Class, u8, u8), ParseError>
     requires { HasLength S.StreamSource source.old len }
-    ensures { Reads S.StreamSource (front_ident E.of_byte) source.old source.new result }
+    ensures { ReadsSource S.StreamSource (front_ident E.of_byte) source.old source.new result }
 {
     let front = read_array::<EI_NIDENT, S>(source, len, 0)?;
     parse_ident(&front)
@@ -70,7 +70,7 @@ fn read_tail_of<const N: usize, E: EndianParse, S: StreamSource>(
 ) -> Result<FileHeader<E>, ParseError>
     requires whole { HasLength S.StreamSource source.old len }
     requires size { N ≡ size_of (tail_fields ident.1) }
-    ensures { Reads S.StreamSource (λ bytes. tail_header E.little bytes ident) source.old source.new result }
+    ensures { ReadsSource S.StreamSource (λ bytes. tail_header E.little bytes ident) source.old source.new result }
 {
     let tail = read_array::<N, S>(source, len, EI_NIDENT as u64)?;
     FileHeader::parse_tail(ident, &tail)
@@ -83,7 +83,7 @@ fn read_tail<E: EndianParse, S: StreamSource>(
     ident: (E, Class, u8, u8),
 ) -> Result<FileHeader<E>, ParseError>
     requires { HasLength S.StreamSource source.old len }
-    ensures { Reads S.StreamSource (λ bytes. tail_header E.little bytes ident) source.old source.new result }
+    ensures { ReadsSource S.StreamSource (λ bytes. tail_header E.little bytes ident) source.old source.new result }
 {
     match ident.1 {
         Class::ELF32 => read_tail_of::<ELF32_EHDR_TAILSIZE, E, S>(source, len, ident),
@@ -97,7 +97,7 @@ fn read_ehdr<E: EndianParse, S: StreamSource>(
     len: u64,
 ) -> Result<FileHeader<E>, ParseError>
     requires { HasLength S.StreamSource source.old len }
-    ensures { Reads S.StreamSource (header_at_front E.little E.of_byte) source.old source.new result }
+    ensures { ReadsSource S.StreamSource (header_at_front E.little E.of_byte) source.old source.new result }
 {
     let ident = read_ident::<E, S>(source, len)?;
     read_tail(source, len, ident)
@@ -111,7 +111,7 @@ fn read_first_of<const N: usize, E: EndianParse, S: StreamSource>(
 ) -> Result<SectionHeader, ParseError>
     requires whole { HasLength S.StreamSource source.old len }
     requires size { N ≡ size_by section_header_layout ehdr.now.class }
-    ensures { Reads S.StreamSource (first_section E.little ehdr.now) source.old source.new result }
+    ensures { ReadsSource S.StreamSource (first_section E.little ehdr.now) source.old source.new result }
 {
     let part = read_array::<N, S>(source, len, ehdr.e_shoff)?;
     let mut offset = 0;
@@ -125,7 +125,7 @@ fn read_first<E: EndianParse, S: StreamSource>(
     ehdr: &FileHeader<E>,
 ) -> Result<SectionHeader, ParseError>
     requires { HasLength S.StreamSource source.old len }
-    ensures { Reads S.StreamSource (first_section E.little ehdr.now) source.old source.new result }
+    ensures { ReadsSource S.StreamSource (first_section E.little ehdr.now) source.old source.new result }
 {
     match ehdr.class {
         Class::ELF32 => read_first_of::<ELF32_SHDR_SIZE, E, S>(source, len, ehdr),
@@ -141,7 +141,7 @@ fn read_count<E: EndianParse, S: StreamSource>(
     table: DeclaredTable,
 ) -> Result<u64, ParseError>
     requires { HasLength S.StreamSource source.old len }
-    ensures { Reads S.StreamSource (declared_count E.little ehdr.now table) source.old source.new result }
+    ensures { ReadsSource S.StreamSource (declared_count E.little ehdr.now table) source.old source.new result }
 {
     if table.count != table.extended {
         return Ok(u64::from(table.count));
@@ -186,7 +186,7 @@ fn locate<P: ParseAt, E: EndianParse, S: StreamSource>(
     table: DeclaredTable,
 ) -> Result<Option<(u64, u64)>, ParseError>
     requires { HasLength S.StreamSource source.old len }
-    ensures reads { ReadsAs S.StreamSource (λ bytes. option_map (range_table E.little ehdr.now bytes))
+    ensures reads { ReadsSourceAs S.StreamSource (λ bytes. option_map (range_table E.little ehdr.now bytes))
         (declared_table E.little ehdr.now (P.reads.size ehdr.now.class) table) source.old source.new result }
     ensures within { IfOk result (λ found. IfSome found (λ range. (range.0 ≤ range.1) × (range.1 ≤ len))) }
 {
@@ -206,7 +206,7 @@ fn locate_shdrs<E: EndianParse, S: StreamSource>(
     ehdr: &FileHeader<E>,
 ) -> Result<Option<(u64, u64)>, ParseError>
     requires { HasLength S.StreamSource source.old len }
-    ensures reads { ReadsAs S.StreamSource (λ bytes. option_map (range_table E.little ehdr.now bytes))
+    ensures reads { ReadsSourceAs S.StreamSource (λ bytes. option_map (range_table E.little ehdr.now bytes))
         (section_table E.little ehdr.now) source.old source.new result }
     ensures within { IfOk result (λ found. IfSome found (λ range. (range.0 ≤ range.1) × (range.1 ≤ len))) }
 {
@@ -221,7 +221,7 @@ fn locate_phdrs<E: EndianParse, S: StreamSource>(
     ehdr: &FileHeader<E>,
 ) -> Result<Option<(u64, u64)>, ParseError>
     requires { HasLength S.StreamSource source.old len }
-    ensures reads { ReadsAs S.StreamSource (λ bytes. option_map (range_table E.little ehdr.now bytes))
+    ensures reads { ReadsSourceAs S.StreamSource (λ bytes. option_map (range_table E.little ehdr.now bytes))
         (segment_table E.little ehdr.now) source.old source.new result }
     ensures within { IfOk result (λ found. IfSome found (λ range. (range.0 ≤ range.1) × (range.1 ≤ len))) }
 {
@@ -295,13 +295,10 @@ pub fn open_source<E: EndianParse, S: StreamSource, A: Allocator + Copy>(
     ensures nature { S.can_fail source.new ≡ S.can_fail source.old }
     ensures length { IfOk result (λ found. HasLength S.StreamSource source.new found.len) }
     ensures opening { IfSome (S.content source.old) (λ bytes. IsOpeningOf read_headers
-        (ok_map headers_of (opened E.little E.of_byte bytes)) (S.can_fail source.old) (S.failures source.old)
+        (ok_map headers_of (opened_file E.little E.of_byte bytes)) (S.can_fail source.old) (S.failures source.old)
         (S.failures source.new) result) }
 {
-    let len = match source.seek_end() {
-        Ok(len) => len,
-        Err(e) => return Err(ParseError::IOError(e)),
-    };
+    let len = source.seek_end()?;
     let ehdr = read_ehdr(source, len)?;
     let sections = locate_shdrs(source, len, &ehdr)?;
     let segments = locate_phdrs(source, len, &ehdr)?;

@@ -6,7 +6,8 @@ use Rattle.std.proofs.lemmas.List.{drop-take, take-take, drop-drop}
 use Rattle.std.proofs.lemmas.Simd.{length-chunk}
 use Rattle.elf_records.specs.declared.parse.ParseError.{ParseError}
 use Rattle.elf_records.specs.Number.{bytes_at, number, number_at, ok_map}
-use Rattle.elf_records.specs.Record.{Field, size_of, ◌>>=◌, accepted, numbers_at, numbers_end, Layout, size_by, record_by}
+use Rattle.elf_records.specs.Record.{Field, size_of, ◌>>=◌, field_value, numbers_at, numbers_end, Layout, size_by}
+use Rattle.elf_records.specs.Record.{record_by}
 use Rattle.elf_records.specs.Record.{offset_by, ReadsWithin, ReadsLocally, ReadsOnly, ReadsWherever, RecordType}
 use Rattle.elf_records.specs.declared.file.Class.{Class}
 use Rattle.elf_records.specs.declared.file.Class.TheVariants.{ELF32, ELF64}
@@ -102,7 +103,7 @@ pub record First (little : Bool) (f : Field) (fs : List Field) (bytes : List ℕ
   pub kept : ℕ
   pub rest : List ℕ
   pub number : number_at little f.width bytes (o + f.place) ≡ Ok found
-  pub version : accepted f.version found ≡ Ok kept
+  pub version : field_value f.version found ≡ Ok kept
   pub others : numbers_at little fs bytes o ≡ Ok rest
   pub all : kept ∷ rest ≡ ns
 
@@ -112,8 +113,8 @@ unfolding numbers_at
 first_of_all little f fs bytes o ns e =
     let rest : ℕ → Result (List ℕ) ParseError = λ n. numbers_at little fs bytes o >>= λ ns'. Ok (n ∷ ns') in
     let m = bind-ok {A = ℕ} {B = List ℕ} (number_at little f.width bytes (o + f.place))
-    (λ x. accepted f.version x >>= rest) ns e in
-    let a = bind-ok {A = ℕ} {B = List ℕ} (accepted f.version m.0) rest ns m.2 in
+    (λ x. field_value f.version x >>= rest) ns e in
+    let a = bind-ok {A = ℕ} {B = List ℕ} (field_value f.version m.0) rest ns m.2 in
     let b = bind-ok {A = List ℕ} {B = List ℕ} (numbers_at little fs bytes o) (λ ns'. Ok (a.0 ∷ ns')) ns a.2 in
     record { found = m.0; kept = a.0; rest = b.0; number = m.1; version = a.1; others = b.1; all = cc }
 
@@ -187,7 +188,7 @@ abbrev pub is_free : List Field → Bool
 is_free [] = true
 is_free (f ∷ fs) = is_none f.version && is_free fs
 
-free_field : (version : Option ℕ) (n : ℕ) → is_none version ≡ true → accepted version n ≡ Ok n
+free_field : (version : Option ℕ) (n : ℕ) → is_none version ≡ true → field_value version n ≡ Ok n
 free_field None n e = refl
 free_field (Some version) n e = cc
 

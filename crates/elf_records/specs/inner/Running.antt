@@ -2,19 +2,19 @@
 use Rattle.std.specs.Prelude.{ℕ, ◌+◌, Bool, List, [], ◌∷◌, if◌then◌else◌, Result, Ok, Err, is_ok}
 use Rattle.elf_records.specs.declared.parse.ParseError.{ParseError}
 use Rattle.elf_records.specs.Number.{number_at}
-use Rattle.elf_records.specs.Record.{Field, ◌>>=◌, accepted}
+use Rattle.elf_records.specs.Record.{Field, ◌>>=◌, field_value}
 
 -- the numbers of the fields; the first lies at o
 abbrev pub numbers_from : Bool → List Field → List ℕ → ℕ → Result (List ℕ) ParseError
 numbers_from little [] bytes o = Ok []
 numbers_from little (f ∷ fs) bytes o =
-    number_at little f.width bytes o >>= λ x. accepted f.version x >>= λ n.
+    number_at little f.width bytes o >>= λ x. field_value f.version x >>= λ n.
     numbers_from little fs bytes (o + f.width) >>= λ ns. Ok (n ∷ ns)
 
 -- where the read of a field leaves an offset, `next` being where the fields after it leave it
 abbrev pub next_offset : ℕ → Field → Result ℕ ParseError → ℕ → ℕ
 next_offset o f (Err e) next = o
-next_offset o f (Ok x) next = if is_ok (accepted f.version x) then next else o + f.width
+next_offset o f (Ok x) next = if is_ok (field_value f.version x) then next else o + f.width
 
 -- where the read of the fields leaves an offset
 abbrev pub offset_from : Bool → List Field → List ℕ → ℕ → ℕ

@@ -134,7 +134,7 @@ pub struct ParsingIterator<'data, E: EndianParse, P: ParseAt> {
 }
 
 impl<'data, E: EndianParse, P: ParseAt> ParsingIterator<'data, E, P> {
-    /// The records in `data`, in order from its start: at most as many as `data` has bytes.
+    /// Returns the records in `data`, in order from its start: at most as many as `data` has bytes.
     pub fn new(endian: E, class: Class, data: &'data [u8]) -> Self
         ensures items { items_left P.reads result
             ≡ table_items P.reads (table_in (E.little endian) class «data».now) }
@@ -204,7 +204,7 @@ impl<'data, E: EndianParse, P: ParseAt> Clone for ParsingTable<'data, E, P> {
 }
 
 impl<'data, E: EndianParse, P: ParseAt> ParsingTable<'data, E, P> {
-    /// The table whose records begin at the start of `data`.
+    /// Returns the table whose records begin at the start of `data`.
     pub fn new(endian: E, class: Class, data: &'data [u8]) -> Self
         ensures { table_view result ≡ table_in (E.little endian) class «data».now }
     {
@@ -217,7 +217,15 @@ impl<'data, E: EndianParse, P: ParseAt> ParsingTable<'data, E, P> {
         }
     }
 
-    /// The records in order, up to the first that cannot be read: at most as many as the table has bytes.
+    /// Returns an iterator over the records in order, up to the first that cannot be read: at most as many as the table
+    /// has bytes.
+    ///
+    /// ```rust
+    /// if let Some(sections) = file.section_headers() {
+    ///     let empty = sections.iter().filter(|section| section.sh_size == 0);
+    ///     println!(rt; "{} empty sections", empty.count())?;
+    /// }
+    /// ```
     pub fn iter(&self) -> ParsingIterator<'data, E, P>
         ensures items { items_left P.reads result ≡ table_items P.reads (table_view self.now) }
         ensures few { length (items_left P.reads result) ≤ length (table_view self.now).bytes }
@@ -233,7 +241,13 @@ impl<'data, E: EndianParse, P: ParseAt> ParsingTable<'data, E, P> {
         self.data
     }
 
-    /// How many records fit: the table's bytes divided by the size of a record, rounded down.
+    /// Returns how many records fit: the table's bytes divided by the size of a record, rounded down.
+    ///
+    /// ```rust
+    /// if let Some((symbols, _)) = file.dynamic_symbol_table()? {
+    ///     println!(rt; "{} symbols", symbols.len())?;
+    /// }
+    /// ```
     pub fn len(&self) -> usize
         ensures count { result ≡ table_len P.reads (table_view self.now) }
         ensures short { length (table_view self.now).bytes < 2 ^ 64 }
@@ -241,7 +255,7 @@ impl<'data, E: EndianParse, P: ParseAt> ParsingTable<'data, E, P> {
         self.data.len() / P::size_for(self.class)
     }
 
-    /// Whether `len` is 0.
+    /// Returns whether `len` is 0.
     pub fn is_empty(&self) -> bool
         ensures { result ≡ (table_len P.reads (table_view self.now) == 0) }
     {
@@ -253,6 +267,12 @@ impl<'data, E: EndianParse, P: ParseAt> ParsingTable<'data, E, P> {
     /// Errors, in order: `BadOffset(index)` if the table has no bytes; `IntegerOverflow` if the offset of the
     /// record does not fit 64 bits; `BadOffset(index)` if the offset lies past the end of the table; then the error
     /// of the record's own read, as `SliceReadError((start, end))` of a field that does not lie in the table.
+    ///
+    /// ```rust
+    /// if let Some(sections) = file.section_headers() {
+    ///     println!(rt; "section 1 has {} bytes", sections.get(1)?.sh_size)?;
+    /// }
+    /// ```
     #[inline(always)]
     pub fn get(&self, index: usize) -> Result<P, ParseError>
         ensures { result ≡ table_get P.reads (table_view self.now) index }

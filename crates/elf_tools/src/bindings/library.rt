@@ -2,14 +2,15 @@
 //! needs the hash section, the symbols and their versions at once.
 ghost use Rattle.std.specs.Prelude.{◌≡◌, Bool, IfErr, IsOk};
 ghost use Rattle.std.specs.Option.{option_map};
-ghost use Rattle.elf_parts.specs.gnu_symver.Table.{definitions_view, needs_view, versions_view};
+ghost use Rattle.elf_parts.specs.gnu_symver.Lists.{entries_in, entries_left};
+ghost use Rattle.elf_parts.specs.gnu_symver.Table.{entries_view, versions_view};
 ghost use Rattle.elf.specs.Answers.{symbol_version_table, symbols_view};
 ghost use Rattle.elf.specs.ObjectFile.{ObjectFile};
 ghost use Rattle.elf_check.specs.CheckedTable.{object_view};
 ghost use Rattle.elf_binding.specs.ObjectTable.{GivesObjectTable, object_of};
 ghost use Rattle.elf_binding.specs.VersionedView.{versioned_view};
-ghost use Rattle.elf_tools.specs.Library.{GivesFrom, IsLibraryFault, IsLibraryOf, definitions_in, library_hash};
-ghost use Rattle.elf_tools.specs.Library.{needs_in, part_result, shown_hash};
+ghost use Rattle.elf_tools.specs.Library.{GivesFrom, IsLibraryFault, IsLibraryOf, library_hash};
+ghost use Rattle.elf_tools.specs.Library.{part_result, shown_hash, stored_entries};
 ghost use Rattle.elf_tools.specs.Library.{library_object, library_symbols, library_versions, object_result};
 ghost use Rattle.elf_tools.specs.Library.{versions_in};
 ghost use Rattle.elf_tools.specs.declared.bindings.library.LibraryFault.TheVariants.{Unread as IsUnread};
@@ -17,7 +18,10 @@ ghost use Rattle.elf_tools.specs.declared.bindings.library.LibraryFault.TheVaria
 use elf::ParseError;
 use elf::endian::EndianParse;
 use elf::file::Class;
-use elf::gnu_symver::{SymbolVersionTable, VerDefIterator, VerNeedIterator, VersionIndexTable};
+use elf::gnu_symver::links::VersionEntry;
+use elf::gnu_symver::{
+    EntriesWithStrings, EntryIterator, SymbolVersionTable, VerDef, VerNeed, VersionIndexTable,
+};
 use elf::string_table::StringTable;
 use elf::symbol::SymbolTable;
 use elf_binding::VersionedObject;
@@ -85,7 +89,7 @@ impl<'a> From<&'a ParseError> for LibraryFault<'a> {
 }
 
 impl<E: EndianParse> Library<E> {
-    /// The hash section, if there is one, or the error of reading it.
+    /// Returns the hash section, if there is one, or the error of reading it.
     fn hash_section(&self) -> Result<Option<(HashKind, &[u8])>, &ParseError>
         ensures { part_result (option_map shown_hash) result ≡ library_hash self.now }
     {
@@ -112,58 +116,33 @@ impl<E: EndianParse> Library<E> {
         }
     }
 
-    // The needs of a section, with their strings.
-    fn needs<'a>(&self, bytes: &'a EntryBytes) -> (VerNeedIterator<'a, E>, StringTable<'a>)
-        ensures { needs_view result ≡ needs_in (E.little self.now.endianness) self.now.class bytes.now }
+    // The entries of a section, with their strings.
+    fn entries<'a, V: VersionEntry>(&self, bytes: &'a EntryBytes) -> EntriesWithStrings<'a, E, V>
+        ensures { entries_view (entries_left V.reads.record_at V.next_distance V.with_aux) result
+            ≡ stored_entries (entries_in V.reads.record_at V.next_distance V.with_aux)
+            (E.little self.now.endianness) self.now.class bytes.now }
     {
-        let needs = VerNeedIterator::new(
+        let entries = EntryIterator::new(
             self.endianness,
             self.class,
             bytes.count as u64,
             0,
             bytes.entries.as_slice(),
         );
-        (needs, StringTable::new(bytes.strings.as_slice()))
+        (entries, StringTable::new(bytes.strings.as_slice()))
     }
 
-    // The definitions of a section, with their strings.
-    fn definitions<'a>(&self, bytes: &'a EntryBytes) -> (VerDefIterator<'a, E>, StringTable<'a>)
-        ensures { definitions_view result ≡ definitions_in (E.little self.now.endianness) self.now.class bytes.now }
-    {
-        let definitions = VerDefIterator::new(
-            self.endianness,
-            self.class,
-            bytes.count as u64,
-            0,
-            bytes.entries.as_slice(),
-        );
-        (definitions, StringTable::new(bytes.strings.as_slice()))
-    }
-
-    // The needs of a section, if there is one.
-    fn needs_if<'a>(
+    // The entries of a section, if there is one.
+    fn entries_if<'a, V: VersionEntry>(
         &self,
         bytes: &'a Option<EntryBytes>,
-    ) -> Option<(VerNeedIterator<'a, E>, StringTable<'a>)>
-        ensures { option_map needs_view result
-            ≡ option_map (needs_in (E.little self.now.endianness) self.now.class) bytes.now }
+    ) -> Option<EntriesWithStrings<'a, E, V>>
+        ensures { option_map (entries_view (entries_left V.reads.record_at V.next_distance V.with_aux)) result
+            ≡ option_map (stored_entries (entries_in V.reads.record_at V.next_distance V.with_aux)
+            (E.little self.now.endianness) self.now.class) bytes.now }
     {
         match bytes {
-            Some(bytes) => Some(self.needs(bytes)),
-            None => None,
-        }
-    }
-
-    // The definitions of a section, if there is one.
-    fn definitions_if<'a>(
-        &self,
-        bytes: &'a Option<EntryBytes>,
-    ) -> Option<(VerDefIterator<'a, E>, StringTable<'a>)>
-        ensures { option_map definitions_view result
-            ≡ option_map (definitions_in (E.little self.now.endianness) self.now.class) bytes.now }
-    {
-        match bytes {
-            Some(bytes) => Some(self.definitions(bytes)),
+            Some(bytes) => Some(self.entries::<V>(bytes)),
             None => None,
         }
     }
@@ -173,8 +152,8 @@ impl<E: EndianParse> Library<E> {
         ensures { versions_view result ≡ versions_in (E.little self.now.endianness) self.now.class bytes.now }
     {
         let indexes = VersionIndexTable::new(self.endianness, self.class, bytes.indexes.as_slice());
-        let needs = self.needs_if(&bytes.needs);
-        let definitions = self.definitions_if(&bytes.definitions);
+        let needs = self.entries_if::<VerNeed>(&bytes.needs);
+        let definitions = self.entries_if::<VerDef>(&bytes.definitions);
         SymbolVersionTable::new(indexes, needs, definitions)
     }
 

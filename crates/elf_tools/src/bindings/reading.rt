@@ -14,9 +14,9 @@ ghost use Rattle.elf.specs.Ranges.{both_sections, headers_alone, if_there, secti
 ghost use Rattle.elf.specs.StreamFile.{stream_file};
 ghost use Rattle.elf.specs.Versions.{linked_strings, version_definitions, version_needs};
 ghost use Rattle.elf_tools.specs.Library.{definitions_in, hash_in, hash_of, hash_section, needs_in, symbols_in};
-ghost use Rattle.elf_tools.specs.Library.{IsLibraryOf, IsOpened, versions_in};
+ghost use Rattle.elf_tools.specs.Library.{IsLibraryOf, IsOpenedLibrary, versions_in};
 ghost use Rattle.elf_tools.specs.LibraryRanges.{entries_ranges, hash_ranges, library_ranges, linked_ranges, versions_read};
-ghost use Rattle.elf_tools.specs.Readings.{Reads, Uses};
+ghost use Rattle.elf_tools.specs.Readings.{ReadsFile, Uses};
 
 use crate::bindings::library::{EntryBytes, HashBytes, Library, SymbolBytes, VersionBytes};
 use elf::endian::EndianParse;
@@ -42,7 +42,7 @@ fn read_data<E: EndianParse, S: StreamSource>(
     stream: &mut ElfStream<E, S, Global>,
     section: &SectionHeader,
 ) -> Result<Vec<u8>, ParseError>
-    ensures reads { Reads stream.old stream.new result (λ copy. copy.items)
+    ensures reads { ReadsFile stream.old stream.new result (λ copy. copy.items)
         (λ bytes. content (stream_file E.little stream.old bytes) section.now) }
     ensures used { Uses (section_ranges section.now) stream.old stream.new }
 {
@@ -59,7 +59,8 @@ fn read_range<E: EndianParse, S: StreamSource>(
     stream: &mut ElfStream<E, S, Global>,
     section: &SectionHeader,
 ) -> Result<Vec<u8>, ParseError>
-    ensures reads { Reads stream.old stream.new result (λ copy. copy.items) (λ bytes. section_range bytes section.now) }
+    ensures reads { ReadsFile stream.old stream.new result (λ copy. copy.items)
+        (λ bytes. section_range bytes section.now) }
     ensures used { Uses (whole_section section.now) stream.old stream.new }
 {
     let whole = SectionHeader {
@@ -76,7 +77,7 @@ fn read_linked<E: EndianParse, S: StreamSource>(
     stream: &mut ElfStream<E, S, Global>,
     section: &SectionHeader,
 ) -> Result<Vec<u8>, ParseError>
-    ensures reads { Reads stream.old stream.new result (λ copy. copy.items)
+    ensures reads { ReadsFile stream.old stream.new result (λ copy. copy.items)
         (λ bytes. linked_strings (stream_file E.little stream.old bytes) section.now) }
     ensures used { Uses (linked_ranges ((headers_alone E.little stream.old).section_at section.now.sh_link)) stream.old stream.new }
 {
@@ -93,7 +94,7 @@ fn read_hash_of<E: EndianParse, S: StreamSource>(
     kind: HashKind,
     section: &SectionHeader,
 ) -> Result<Option<HashBytes>, ParseError>
-    ensures reads { Reads stream.old stream.new result (option_map hash_in)
+    ensures reads { ReadsFile stream.old stream.new result (option_map hash_in)
         (λ bytes. ok_map Some (hash_of kind (stream_file E.little stream.old bytes) section.now)) }
     ensures used { Uses (section_ranges section.now) stream.old stream.new }
 {
@@ -108,7 +109,7 @@ fn read_hash<E: EndianParse, S: StreamSource>(
     alloc: Global,
     stream: &mut ElfStream<E, S, Global>,
 ) -> Result<Option<HashBytes>, ParseError>
-    ensures reads { Reads stream.old stream.new result (option_map hash_in)
+    ensures reads { ReadsFile stream.old stream.new result (option_map hash_in)
         (λ bytes. hash_section (stream_file E.little stream.old bytes)) }
     ensures used { Uses (hash_ranges (headers_alone E.little stream.old)) stream.old stream.new }
 {
@@ -128,7 +129,7 @@ fn read_symbols_of<E: EndianParse, S: StreamSource>(
     section: &SectionHeader,
     linked: &SectionHeader,
 ) -> Result<SymbolBytes, ParseError>
-    ensures reads { Reads stream.old stream.new result
+    ensures reads { ReadsFile stream.old stream.new result
         (symbols_in (E.little stream.old.headers.ehdr.endianness) stream.old.headers.ehdr.class)
         (λ bytes. symbols_in_file (stream_file E.little stream.old bytes) (section.now, linked.now)) }
     ensures used { Uses (both_sections (section.now, linked.now)) stream.old stream.new }
@@ -143,7 +144,7 @@ fn read_symbols<E: EndianParse, S: StreamSource>(
     alloc: Global,
     stream: &mut ElfStream<E, S, Global>,
 ) -> Result<Option<SymbolBytes>, ParseError>
-    ensures reads { Reads stream.old stream.new result
+    ensures reads { ReadsFile stream.old stream.new result
         (option_map (symbols_in (E.little stream.old.headers.ehdr.endianness) stream.old.headers.ehdr.class))
         (λ bytes. dynamic_symbol_table (stream_file E.little stream.old bytes)) }
     ensures used { Uses (symbols_ranges sht_dynsym (headers_alone E.little stream.old)) stream.old stream.new }
@@ -164,10 +165,10 @@ fn read_entries<E: EndianParse, S: StreamSource>(
     stream: &mut ElfStream<E, S, Global>,
     section: &SectionHeader,
 ) -> Result<EntryBytes, ParseError>
-    ensures needs { Reads stream.old stream.new result
+    ensures needs { ReadsFile stream.old stream.new result
         (needs_in (E.little stream.old.headers.ehdr.endianness) stream.old.headers.ehdr.class)
         (λ bytes. version_needs (stream_file E.little stream.old bytes) section.now) }
-    ensures definitions { Reads stream.old stream.new result
+    ensures definitions { ReadsFile stream.old stream.new result
         (definitions_in (E.little stream.old.headers.ehdr.endianness) stream.old.headers.ehdr.class)
         (λ bytes. version_definitions (stream_file E.little stream.old bytes) section.now) }
     ensures used { Uses (entries_ranges (headers_alone E.little stream.old) section.now) stream.old stream.new }
@@ -188,10 +189,10 @@ fn read_entries_if<E: EndianParse, S: StreamSource>(
     stream: &mut ElfStream<E, S, Global>,
     section: Option<SectionHeader>,
 ) -> Result<Option<EntryBytes>, ParseError>
-    ensures needs { Reads stream.old stream.new result
+    ensures needs { ReadsFile stream.old stream.new result
         (option_map (needs_in (E.little stream.old.headers.ehdr.endianness) stream.old.headers.ehdr.class))
         (λ bytes. if_found (version_needs (stream_file E.little stream.old bytes)) section) }
-    ensures definitions { Reads stream.old stream.new result
+    ensures definitions { ReadsFile stream.old stream.new result
         (option_map (definitions_in (E.little stream.old.headers.ehdr.endianness) stream.old.headers.ehdr.class))
         (λ bytes. if_found (version_definitions (stream_file E.little stream.old bytes)) section) }
     ensures used { Uses (if_there (entries_ranges (headers_alone E.little stream.old)) section) stream.old stream.new }
@@ -210,7 +211,7 @@ fn read_versions<E: EndianParse, S: StreamSource>(
     alloc: Global,
     stream: &mut ElfStream<E, S, Global>,
 ) -> Result<Option<VersionBytes>, ParseError>
-    ensures versions { Reads stream.old stream.new result
+    ensures versions { ReadsFile stream.old stream.new result
         (option_map (versions_in (E.little stream.old.headers.ehdr.endianness) stream.old.headers.ehdr.class))
         (λ bytes. symbol_version_table (stream_file E.little stream.old bytes)) }
     ensures none { IsNone (version_sections stream.old.headers.sections).indexes → IsOk result }
@@ -265,7 +266,7 @@ pub fn open_library<E: EndianParse, S: StreamSource>(
     alloc: Global,
     source: S,
 ) -> Result<Library<E>, ParseError>
-    ensures { IfSome (S.content source) (λ bytes. IsOpened E.little E.of_byte (S.can_fail source) bytes result) }
+    ensures { IfSome (S.content source) (λ bytes. IsOpenedLibrary E.little E.of_byte (S.can_fail source) bytes result) }
 {
     let mut stream = ElfStream::<E, S, Global>::open_stream(alloc, source)?;
     Ok(read_library(alloc, &mut stream))

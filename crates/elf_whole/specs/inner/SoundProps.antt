@@ -28,11 +28,11 @@ use Rattle.elf_whole.specs.Sound.{SoundFile}
 use Rattle.elf_whole.specs.Symbols.{SoundSymbolTable, SoundSymbols}
 
 -- the table of the names of sections
-abbrev pub IsNamed : ObjectFile → Option (List ℕ) → Type 0
-IsNamed file names = result_ok (name_table file) ≡ Some names
+abbrev pub HasNameTable : ObjectFile → Option (List ℕ) → Type 0
+HasNameTable file names = result_ok (name_table file) ≡ Some names
 
-pub IsNamed-prop : (file : ObjectFile) (names : Option (List ℕ)) → IsProp (IsNamed file names)
-IsNamed-prop file names = hlevel (Coded-set, codes)
+pub HasNameTable-prop : (file : ObjectFile) (names : Option (List ℕ)) → IsProp (HasNameTable file names)
+HasNameTable-prop file names = hlevel (Coded-set, codes)
 
 pub SoundSymbolTable-prop : (sections : ℕ) (symbols : Table) (strings : List ℕ) → IsProp (SoundSymbolTable sections
     symbols strings)

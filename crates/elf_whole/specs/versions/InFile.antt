@@ -1,5 +1,5 @@
 -- When the versions of a file are sound (GNU symbol versioning), and what each fault says.
-use Rattle.std.specs.Prelude.{◌≡◌, ◌≢◌, ℕ, ◌%◌, ◌<◌, List, length, Option, Some, Result, Ok, IsErr, IfSome, IsSome}
+use Rattle.std.specs.Prelude.{◌≡◌, ◌≢◌, ℕ, ◌%◌, ◌<◌, List, length, Result, IsErr, IfSome, IsSome}
 use Rattle.std.specs.Option.{IsSomeAnd}
 use Rattle.std.specs.Result.{IsOkAnd}
 use Rattle.elf_records.specs.Number.{ok_map}
@@ -7,7 +7,7 @@ use Rattle.elf_records.specs.Record.{◌>>=◌, size_by}
 use Rattle.elf_records.specs.Symbol.{symbol_reads}
 use Rattle.elf_records.specs.declared.parse.ParseError.{ParseError}
 use Rattle.elf_records.specs.declared.section.SectionHeader.{SectionHeader}
-use Rattle.elf_records.specs.Table.{Table, table_len}
+use Rattle.elf_records.specs.Table.{table_len}
 use Rattle.elf_parts.specs.gnu_symver.Records.{version_index_layout, version_index_reads}
 use Rattle.elf_parts.specs.gnu_symver.Table.{Versions}
 use Rattle.elf_whole.specs.Chains.{IsTrueOfChain, total_extent}
@@ -62,6 +62,16 @@ abbrev pub SoundVersions : ObjectFile → Type 0
 SoundVersions file =
     let chosen = version_sections file.sections in IfSome chosen.indexes (SoundVersionsOf file chosen)
 
+-- the needs and the definitions are sound: only then is it known which versions there are
+abbrev pub KnowsVersions : ObjectFile → VersionSections → Type 0
+KnowsVersions file chosen = IfSome chosen.needs (SoundNeedsOf file) × IfSome chosen.definitions (SoundDefsOf file)
+
+-- a section of version indexes, whatever the needs and the definitions are: the indexes themselves are checked if it
+-- is known which versions there are
+pub record SoundIndexSection (file : ObjectFile) (chosen : VersionSections) (s : SectionHeader) : Type 0 where
+  pub whole : s.sh_size % size_by version_index_layout file.class ≡ 0
+  pub indexes : KnowsVersions file chosen → IsOkAnd (versions_of file chosen s) (SoundIndexesOf file)
+
 -- ---- faults
 
 abbrev pub IsTrueOfNeeds : ObjectFile → SectionHeader → VersionsFault → Type 0
@@ -114,3 +124,12 @@ abbrev pub IsTrueOfVersions : ObjectFile → VersionsFault → Type 0
 IsTrueOfVersions file fault =
     let chosen = version_sections file.sections in IsSomeAnd chosen.indexes (λ s. IsTrueOfVersionsOf file chosen s
     fault)
+
+abbrev pub IsTrueOfIndexSection : ObjectFile → VersionSections → SectionHeader → VersionsFault → Type 0
+IsTrueOfIndexSection file chosen s PartOfIndex = s.sh_size % size_by version_index_layout file.class ≢ 0
+IsTrueOfIndexSection file chosen s IndexesUnreadable =
+    (s.sh_size % size_by version_index_layout file.class ≡ 0) × KnowsVersions file chosen
+    × IsErr (versions_of file chosen s)
+IsTrueOfIndexSection file chosen s fault =
+    (s.sh_size % size_by version_index_layout file.class ≡ 0) × KnowsVersions file chosen
+    × IsOkAnd (versions_of file chosen s) (λ v. IsTrueOfIndexes file v fault)

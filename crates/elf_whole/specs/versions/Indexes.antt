@@ -17,11 +17,11 @@ use Rattle.elf_whole.specs.versions.Records.{IsText, IsTextAt}
 use Rattle.elf_parts.specs.declared.gnu_symver.records.VersionIndex.{VersionIndex}
 
 -- the version of a symbol: of this file alone, of no version, of another file, or defined
-pub data Version : Type 0 where
-  LocalVersion : Version
-  GlobalVersion : Version
-  RequiredVersion : Requirement → Version
-  DefinedVersion : Definition → Version
+pub data CheckedVersion : Type 0 where
+  LocalVersion : CheckedVersion
+  GlobalVersion : CheckedVersion
+  RequiredVersion : Requirement → CheckedVersion
+  DefinedVersion : Definition → CheckedVersion
 
 -- what is needed or defined with an index, if anything is
 abbrev pub required_with : Option Needs → VersionIndex → Option Requirement
@@ -34,7 +34,7 @@ defined_with (Some defs) version = definition_with defs version
 
 -- the version with an index, if there is one: 0 and 1 name none of the tables; else what is needed with it, or else
 -- what is defined with it
-abbrev pub version_with_index : Versions → VersionIndex → Option Version
+abbrev pub version_with_index : Versions → VersionIndex → Option CheckedVersion
 version_with_index versions version =
     if version_index version == 0 then Some LocalVersion
     else if version_index version == 1 then Some GlobalVersion
@@ -42,8 +42,8 @@ version_with_index versions version =
     (option_map DefinedVersion (defined_with versions.definitions version))
 
 -- the version of symbol i, if its index is that of one
-abbrev pub symbol_version : Versions → ℕ → Result (Option Version) ParseError
-symbol_version versions i = ok_map (version_with_index versions) (index_of versions i)
+abbrev pub checked_version : Versions → ℕ → Result (Option CheckedVersion) ParseError
+checked_version versions i = ok_map (version_with_index versions) (index_of versions i)
 
 -- each index that can be read is that of a version
 abbrev pub SoundIndexes : Versions → Type 0
@@ -52,7 +52,7 @@ SoundIndexes versions =
 
 -- the index of this symbol, the first one, is that of none
 pub record IsFirstUnknown (versions : Versions) (i : ℕ) : Type 0 where
-  pub here : symbol_version versions i ≡ Ok None
+  pub here : checked_version versions i ≡ Ok None
   pub before : (k : ℕ) (version : VersionIndex) → k < i → index_of versions k ≡ Ok version → IsSome
       (version_with_index versions version)
 

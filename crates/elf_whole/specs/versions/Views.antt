@@ -6,9 +6,10 @@ use Rattle.std.specs.declared.default.Default.{Ghosts as DefaultGhosts}
 use Rattle.elf_records.specs.declared.endian.EndianParse.{Ghosts as EndianGhosts}
 use Rattle.elf_records.specs.declared.parse.ParseError.{ParseError}
 use Rattle.elf_parts.specs.gnu_symver.Table.{Definition, GivesTexts, Versions, names_left, versions_view}
-use Rattle.elf_whole.specs.versions.Indexes.{DefinedVersion, GlobalVersion, LocalVersion, RequiredVersion, Version}
-use Rattle.elf_whole.specs.declared.whole.versions.SymbolVersion.{SymbolVersion}
-use Rattle.elf_whole.specs.declared.whole.versions.SymbolVersion.TheVariants.{Defined, Global, Local, Required}
+use Rattle.elf_whole.specs.versions.Indexes.{DefinedVersion, GlobalVersion, LocalVersion, RequiredVersion}
+use Rattle.elf_whole.specs.versions.Indexes.{CheckedVersion}
+use Rattle.elf_whole.specs.declared.whole.versions.WholeVersion.{WholeVersion}
+use Rattle.elf_whole.specs.declared.whole.versions.WholeVersion.TheVariants.{Defined, Global, Local, Required}
 use Rattle.elf_whole.specs.declared.whole.versions.WholeDefinition.{WholeDefinition}
 use Rattle.elf_whole.specs.declared.whole.versions.WholeVersions.{WholeVersions}
 use Rattle.elf_whole.specs.declared.whole.names.WholeNames.{WholeNames}
@@ -33,7 +34,7 @@ module _ {E : Type 0} {order : EndianGhosts E} {default : DefaultGhosts E} {equa
     pub names : texts_left found.names ≡ bytes_of definition.names
 
   -- the version, with its names as texts
-  abbrev pub Shows : Version → SymbolVersion E order default equal → Type 0
+  abbrev pub Shows : CheckedVersion → WholeVersion E order default equal → Type 0
   Shows LocalVersion Local = ⊤
   Shows GlobalVersion Global = ⊤
   Shows (RequiredVersion needed) (Required found) = GivesTexts needed (Ok found)

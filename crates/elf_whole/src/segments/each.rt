@@ -98,7 +98,7 @@ fn notes_fault<E: EndianParse>(
 }
 
 // What a segment lacks, where the first section of type `SHT_DYNAMIC` is known.
-fn segment_fault<E: EndianParse>(
+pub(super) fn segment_fault<E: EndianParse>(
     file: &ElfBytes<'_, E>,
     section: &Option<SectionHeader>,
     phdr: &ProgramHeader,

@@ -81,7 +81,7 @@ pub enum SegmentsFault {
         first: usize,
         index: usize,
     },
-    /// The first segment that is not sound, with its type.
+    /// A segment that is not sound, with its type. `segments_fault` returns the first one.
     #[error("segment {index} ({}): {fault}", TypeName(*.p_type))]
     Segment {
         index: usize,

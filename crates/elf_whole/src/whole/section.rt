@@ -8,19 +8,15 @@ ghost use Rattle.elf.specs.ElfBytes.{view};
 ghost use Rattle.elf.specs.ObjectFile.{object_file};
 ghost use Rattle.elf_reading.specs.Leading.{data_view};
 ghost use Rattle.std.specs.Prelude.{◌≢◌};
-ghost use Rattle.std.specs.Result.{IsOkAnd};
-ghost use Rattle.elf_abi.specs.Values.{sht_hash, sht_note};
+ghost use Rattle.elf_abi.specs.Values.{sht_note};
 ghost use Rattle.elf_parts.specs.Note.{notes_left};
-ghost use Rattle.elf_check.specs.declared.hashcheck.any.HashKind.TheVariants.{Sysv};
-ghost use Rattle.elf_whole.specs.Hashes.{SoundHash, hash_object};
 ghost use Rattle.elf_whole.specs.Notes.{SoundNotes};
 ghost use Rattle.elf_whole.specs.Sections.{SoundSection, section_name};
 ghost use Rattle.elf_whole.specs.Sound.{SoundFile};
 ghost use Rattle.elf_whole.specs.Symbols.{HoldsSymbols};
-ghost use Rattle.elf_whole.specs.inner.SoundProps.{IsNamed, IsNamed-prop, SoundFile-prop, SoundSection-prop};
+ghost use Rattle.elf_whole.specs.inner.SoundProps.{HasNameTable, HasNameTable-prop, SoundFile-prop, SoundSection-prop};
 
 use super::symbols::WholeSymbols;
-use crate::hashes::symbols_of;
 use crate::sections::symbols_in;
 use elf::compression::CompressionHeader;
 use elf::endian::EndianParse;
@@ -29,7 +25,6 @@ use elf::note::NoteIterator;
 use elf::section::SectionHeader;
 use elf::string_table::StringTable;
 use elf::{ElfBytes, abi};
-use elf_check::hashcheck::{AnyChecked, Checked, HashKind, check_any};
 
 /// A section of a file that was checked: what it declares can be read.
 #[derive(Debug, Drop)]
@@ -42,13 +37,13 @@ pub struct WholeSection<'a, 'data, E: EndianParse> {
         file.now)) },
     ghost sound: { SoundSection (object_file E.little (view file.now)) header } by { SoundSection-prop (object_file
         E.little (view file.now)) header },
-    ghost named: { IsNamed (object_file E.little (view file.now)) (option_map strings_view names) } by { IsNamed-prop
-        (object_file E.little (view file.now)) (option_map strings_view names) },
+    ghost named: { HasNameTable (object_file E.little (view file.now))
+        (option_map strings_view names) } by { HasNameTable-prop
+            (object_file E.little (view file.now)) (option_map strings_view names) },
     ghost counted: { sections ≡ length (object_file E.little (view file.now)).sections },
 }
 
 impl<'a, 'data, E: EndianParse> WholeSection<'a, 'data, E> {
-    ghost use Rattle.elf_check.specs.CheckedTable.{object_view};
     ghost use Rattle.elf_whole.specs.Whole.{section_file, section_header, whole_symbols};
 
     pub(super) fn new(
@@ -59,7 +54,7 @@ impl<'a, 'data, E: EndianParse> WholeSection<'a, 'data, E> {
     ) -> Self
         requires whole { SoundFile (object_file E.little (view file.now)) }
         requires sound { SoundSection (object_file E.little (view file.now)) header }
-        requires named { IsNamed (object_file E.little (view file.now)) (option_map strings_view names) }
+        requires named { HasNameTable (object_file E.little (view file.now)) (option_map strings_view names) }
         requires counted { sections ≡ length (object_file E.little (view file.now)).sections }
         ensures same { section_file E.little result ≡ object_file E.little (view file.now) }
         ensures header { section_header result ≡ header }
@@ -125,37 +120,6 @@ impl<'a, 'data, E: EndianParse> WholeSection<'a, 'data, E> {
     {
         if self.header.sh_type == abi::SHT_NOTE {
             Some(self.file.section_data_as_notes(&self.header).unwrap())
-        } else {
-            None
-        }
-    }
-
-    // The table of a hash section of a kind.
-    fn checked_table(&self, kind: HashKind) -> AnyChecked<'data, E>
-        requires { SoundHash kind (section_file E.little self.now) (section_header self.now) }
-        ensures { let whole = section_file E.little self.now in let s = section_header self.now in
-            IsOkAnd (whole.section_at s.sh_link) (λ linked.
-            hash_object kind whole s linked ≡ Ok (object_view result)) }
-    {
-        let linked = self.file.section_at(self.header.sh_link as usize).unwrap();
-        let (symbols, strings) = symbols_of(self.file, &linked).unwrap();
-        let (bytes, _) = self.data();
-        let (endian, class) = (self.file.ehdr.endianness, self.file.ehdr.class);
-        match check_any(kind, endian, class, bytes, symbols, strings) {
-            Ok(Checked::Sound(table)) => table,
-            Ok(Checked::Faulty(_)) => unreachable!(),
-            Err(_) => unreachable!(),
-        }
-    }
-
-    /// The table of a gABI hash section, or `None` exactly if the section is none.
-    pub fn sysv_hash_table(&self) -> Option<AnyChecked<'data, E>>
-        ensures { let whole = section_file E.little self.now in let s = section_header self.now in
-            MatchOption result (s.sh_type ≢ sht_hash) (λ table. IsOkAnd (whole.section_at s.sh_link) (λ linked.
-            hash_object Sysv whole s linked ≡ Ok (object_view table))) }
-    {
-        if self.header.sh_type == abi::SHT_HASH {
-            Some(self.checked_table(HashKind::Sysv))
         } else {
             None
         }

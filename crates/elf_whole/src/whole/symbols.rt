@@ -1,11 +1,12 @@
 //! The symbols of a section of a file that was checked.
-ghost use Rattle.std.specs.Prelude.{◌≡◌, ◌<◌, ◌↔◌, IsSome, length};
+ghost use Rattle.std.specs.Prelude.{◌≡◌, ◌<◌, ◌↔◌, ℕ, IsOk, IsSome, length};
 ghost use Rattle.std.specs.Option.{option_map};
 ghost use Rattle.std.specs.Result.{result_ok};
 ghost use Rattle.elf_parts.specs.Hash.{named_symbol};
 ghost use Rattle.elf_records.specs.Table.{table_items, table_len, table_view};
 ghost use Rattle.elf_records.specs.StringTable.{strings_view};
 ghost use Rattle.elf_records.specs.Symbol.{symbol_reads};
+ghost use Rattle.elf.specs.Answers.{symbols_view};
 ghost use Rattle.elf_reading.specs.Leading.{data_view};
 ghost use Rattle.elf_whole.specs.Symbols.{AllNamed, SoundSymbolTable, with_names};
 ghost use Rattle.elf_whole.specs.inner.SoundProps.{SoundSymbolTable-prop};
@@ -43,6 +44,21 @@ impl<'data, E: EndianParse> WholeSymbols<'data, E> {
             strings,
             sections,
         }
+    }
+
+    // The table of the symbols, and their strings.
+    pub(super) fn parts(&self) -> (SymbolTable<'data, E>, StringTable<'data>)
+        ensures { symbols_view result ≡ whole_symbols self.now }
+    {
+        (self.symbols, self.strings)
+    }
+
+    // Each symbol can be read with its name.
+    pub(super) fn are_read(&self)
+        ensures { let (symbols, strings) = whole_symbols self.now in
+            (i : ℕ) → i < table_len symbol_reads symbols → IsOk (named_symbol symbols strings i) }
+    {
+        let _ = self.symbols.len();
     }
 
     /// How many symbols there are.

@@ -7,7 +7,7 @@ ghost use Rattle.elf_records.specs.Table.{table_len};
 ghost use Rattle.elf_parts.specs.gnu_symver.Records.{version_index_reads};
 ghost use Rattle.elf_parts.specs.gnu_symver.Table.{GivesTexts, definition_view, index_of, versions_view};
 ghost use Rattle.elf_whole.specs.versions.Records.{IsText};
-ghost use Rattle.elf_whole.specs.versions.Indexes.{SoundVersionTable, defined_with, required_with, symbol_version};
+ghost use Rattle.elf_whole.specs.versions.Indexes.{SoundVersionTable, defined_with, required_with, checked_version};
 ghost use Rattle.elf_whole.specs.inner.VersionProps.{SoundVersionTable-prop};
 
 use super::names::WholeNames;
@@ -16,7 +16,7 @@ use elf::gnu_symver::{SymbolDefinition, SymbolRequirement, SymbolVersionTable, V
 
 /// The version of a symbol.
 #[derive(Debug, Drop)]
-pub enum SymbolVersion<'data, E: EndianParse> {
+pub enum WholeVersion<'data, E: EndianParse> {
     /// The symbol is local: its index is 0.
     Local,
     /// The symbol has no version: its index is 1.
@@ -101,20 +101,20 @@ impl<'data, E: EndianParse> WholeVersions<'data, E> {
     }
 
     /// The version of a symbol, counted from 0, or `None` exactly if there is no such symbol.
-    pub fn version_of(&self, symbol: usize) -> Option<SymbolVersion<'_, E>>
+    pub fn get(&self, symbol: usize) -> Option<WholeVersion<'_, E>>
         ensures { MatchOption result (IsErr (index_of (whole_versions self.now) symbol)) (λ shown.
-            IsOkAnd (symbol_version (whole_versions self.now) symbol) (λ found. IsSomeAnd found (λ version. Shows
+            IsOkAnd (checked_version (whole_versions self.now) symbol) (λ found. IsSomeAnd found (λ version. Shows
             version shown))) }
     {
         let Ok(index) = self.table.get_index(symbol) else {
             return None;
         };
         match index.index() {
-            0 => Some(SymbolVersion::Local),
-            1 => Some(SymbolVersion::Global),
+            0 => Some(WholeVersion::Local),
+            1 => Some(WholeVersion::Global),
             _ => match self.required(symbol, &index) {
-                Some(required) => Some(SymbolVersion::Required(required)),
-                None => Some(SymbolVersion::Defined(WholeDefinition::new(self.defined(
+                Some(required) => Some(WholeVersion::Required(required)),
+                None => Some(WholeVersion::Defined(WholeDefinition::new(self.defined(
                     symbol, &index,
                 )))),
             },

@@ -9,4 +9,4 @@ abbrev pub invariant-loop-index : goal.invariant-loop-index
 invariant-loop-index g l =
     let serving = serves_in (option_map (λ table. g.V.SymbolVersions.versions table.now) l.versions) l.rule in
     (goal.iterator-loop-index g).can_next l.index-iterator × (goal.iterator-loop-index g).is_finite l.index-iterator ×
-    (first_serving serving (named_left l.index-iterator) ≡ first_serving serving (named_left l.fn.named))
+    (first_serving l.kind serving (named_left l.index-iterator) ≡ first_serving l.kind serving (named_left l.fn.named))

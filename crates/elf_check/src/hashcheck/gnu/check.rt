@@ -6,14 +6,14 @@ ghost use Rattle.elf_records.specs.StringTable.{strings_view};
 ghost use Rattle.elf_records.specs.Table.{table_view};
 ghost use Rattle.elf_check.specs.CheckedTable.{checked_gnu_view, gnu_indexed};
 ghost use Rattle.elf_check.specs.Faults.{IsTrueOfGnu};
-ghost use Rattle.elf_check.specs.Reads.{counted, gnu_reads, read_count, symbols_of};
+ghost use Rattle.elf_check.specs.Reads.{count_after, gnu_reads, read_count, symbols_of};
 ghost use Rattle.elf_check.specs.SoundGnu.{HasBothBits, InRun, SoundGnu, SoundWord};
 ghost use Rattle.elf_check.specs.Verdict.{GivesVerdict, OnFaulty, OnSound, gnu_chain_count};
 ghost use Rattle.elf_check.specs.WithSymbols.{bloom, gnu_with, with_symbols, word};
 ghost use Rattle.elf_check.specs.inner.GnuRun.{RunBegins};
 
 use crate::hashcheck::gnu::CheckedGnuHash;
-use crate::hashcheck::words::{word_below, word_count};
+use crate::hashcheck::table_words::{word_below, word_count};
 use crate::hashcheck::{Checked, HashFault, Reads};
 use elf_parts::endian::EndianParse;
 use elf_parts::file::Class;
@@ -90,7 +90,7 @@ fn fault_at<'data, E: EndianParse>(
     requires begins { RunBegins (gnu_view table.now) start place }
     ensures verdict { let s = gnu_with table.now symtab.now strtab.now in
         MatchOption result (SoundWord s place chain_word) (IsTrueOfGnu s) }
-    ensures count { read_count reads.new ≡ counted (read_count reads.old) 1 }
+    ensures count { read_count reads.new ≡ count_after (read_count reads.old) 1 }
     ensures names { IfSome result (λ fault. gnu_reads (gnu_view table.now) fault ≡ place + 1) }
 {
     let index = table.hdr.table_start_idx as usize + place;
@@ -121,14 +121,14 @@ fn first_fault<'data, E: EndianParse>(
         MatchOption result (SoundGnu s) (λ fault. (¬ SoundGnu s) × IsTrueOfGnu s fault) }
     ensures at_most { read_count reads.new ≤ read_count reads.old + word_count (gnu_view table.now).chains }
     ensures at_least { IfNone result
-        (counted (read_count reads.old) (word_count (gnu_view table.now).chains) ≤ read_count reads.new) }
+        (count_after (read_count reads.old) (word_count (gnu_view table.now).chains) ≤ read_count reads.new) }
     ensures never_less { read_count reads.old ≤ read_count reads.new }
     ensures at_fault { IfSome result (λ fault.
-        counted (read_count reads.old) (symbols_of fault) ≤ read_count reads.new) }
+        count_after (read_count reads.old) (symbols_of fault) ≤ read_count reads.new) }
     ensures exact { IfNone result
-        (read_count reads.new ≡ counted (read_count reads.old) (word_count (gnu_view table.now).chains)) }
+        (read_count reads.new ≡ count_after (read_count reads.old) (word_count (gnu_view table.now).chains)) }
     ensures exact_at_fault { IfSome result (λ fault.
-        read_count reads.new ≡ counted (read_count reads.old) (gnu_reads (gnu_view table.now) fault)) }
+        read_count reads.new ≡ count_after (read_count reads.old) (gnu_reads (gnu_view table.now) fault)) }
 {
     if table.hdr.nshift >= 32 {
         return Some(HashFault::ShiftTooLarge);
@@ -166,15 +166,15 @@ pub fn check_gnu_counted<'data, E: EndianParse>(
     ensures at_most { let cut = gnu_section (E.little endian) class section.now in
         read_count reads.new ≤ read_count reads.old + gnu_chain_count cut }
     ensures at_least { OnSound result (λ checked.
-        counted (read_count reads.old) (gnu_indexed checked) ≤ read_count reads.new) }
+        count_after (read_count reads.old) (gnu_indexed checked) ≤ read_count reads.new) }
     ensures never_less { read_count reads.old ≤ read_count reads.new }
     ensures at_fault { OnFaulty result (λ fault.
-        counted (read_count reads.old) (symbols_of fault) ≤ read_count reads.new) }
+        count_after (read_count reads.old) (symbols_of fault) ≤ read_count reads.new) }
     ensures exact { OnSound result (λ checked.
-        read_count reads.new ≡ counted (read_count reads.old) (gnu_indexed checked)) }
+        read_count reads.new ≡ count_after (read_count reads.old) (gnu_indexed checked)) }
     ensures exact_at_fault { let cut = gnu_section (E.little endian) class section.now in
         IfOk cut (λ table. OnFaulty result (λ fault.
-        read_count reads.new ≡ counted (read_count reads.old) (gnu_reads table fault))) }
+        read_count reads.new ≡ count_after (read_count reads.old) (gnu_reads table fault))) }
 {
     let table = GnuHashTable::new(endian, class, section)?;
     gnu_words_can_be_read(section);

@@ -11,13 +11,13 @@ ghost use Rattle.elf_records.specs.Table.{table_view};
 ghost use Rattle.elf_check.specs.CheckedTable.{checked_sysv_view, sysv_indexed};
 ghost use Rattle.elf_check.specs.Faults.{IsTrueOfSysv};
 ghost use Rattle.elf_check.specs.Indexed.{chain_lengths};
-ghost use Rattle.elf_check.specs.Reads.{BelongBefore, IsCountAt, IsFaultAt, counted, read_count, symbols_of};
+ghost use Rattle.elf_check.specs.Reads.{BelongBefore, IsCountAt, IsFaultAt, count_after, read_count, symbols_of};
 ghost use Rattle.elf_check.specs.SoundSysv.{EndsAt, SoundSysv};
 ghost use Rattle.elf_check.specs.Verdict.{GivesVerdict, OnFaulty, OnSound, sysv_chain_count};
 ghost use Rattle.elf_check.specs.WithSymbols.{sysv_with, with_symbols};
 
 use crate::hashcheck::sysv::CheckedSysvHash;
-use crate::hashcheck::words::{word_below, word_count};
+use crate::hashcheck::table_words::{word_below, word_count};
 use crate::hashcheck::{Checked, HashFault, Reads};
 use elf_parts::endian::EndianParse;
 use elf_parts::file::Class;
@@ -39,13 +39,13 @@ fn chain_length<'data, E: EndianParse>(
     ensures verdict { let s = sysv_with table.now symtab.now strtab.now in
         MatchResult result (EndsAt s bucket) (IsTrueOfSysv s) }
     ensures at_most { read_count reads.new ≤ read_count reads.old + word_count (sysv_view table.now).chains }
-    ensures exact { IfOk result (λ length. read_count reads.new ≡ counted (read_count reads.old) length) }
+    ensures exact { IfOk result (λ length. read_count reads.new ≡ count_after (read_count reads.old) length) }
     ensures never_less { read_count reads.old ≤ read_count reads.new }
     ensures at_fault { IfErr result (λ fault.
-        counted (read_count reads.old) (symbols_of fault) ≤ read_count reads.new) }
+        count_after (read_count reads.old) (symbols_of fault) ≤ read_count reads.new) }
     ensures stops { let s = sysv_with table.now symtab.now strtab.now in
         IfErr result (λ fault. (j : ℕ) × BelongBefore s bucket j × IsFaultAt s bucket j fault
-        × (read_count reads.new ≡ counted (read_count reads.old) (j + symbols_of fault))) }
+        × (read_count reads.new ≡ count_after (read_count reads.old) (j + symbols_of fault))) }
     ensures short { word_count (sysv_view table.now).chains < 2 ^ 62 }
 {
     let buckets = table.buckets();
@@ -87,11 +87,11 @@ fn first_fault<'data, E: EndianParse>(
         (λ indexed. SoundSysv s × (indexed ≡ chain_lengths s.table (word_count s.table.buckets)))
         (λ fault. (¬ SoundSysv s) × IsTrueOfSysv s fault) }
     ensures at_most { read_count reads.new ≤ read_count reads.old + 2 * word_count (sysv_view table.now).chains }
-    ensures at_least { IfOk result (λ indexed. counted (read_count reads.old) indexed ≤ read_count reads.new) }
+    ensures at_least { IfOk result (λ indexed. count_after (read_count reads.old) indexed ≤ read_count reads.new) }
     ensures never_less { read_count reads.old ≤ read_count reads.new }
     ensures at_fault { IfErr result (λ fault.
-        counted (read_count reads.old) (symbols_of fault) ≤ read_count reads.new) }
-    ensures exact { IfOk result (λ indexed. read_count reads.new ≡ counted (read_count reads.old) indexed) }
+        count_after (read_count reads.old) (symbols_of fault) ≤ read_count reads.new) }
+    ensures exact { IfOk result (λ indexed. read_count reads.new ≡ count_after (read_count reads.old) indexed) }
     ensures exact_at_fault { let s = sysv_with table.now symtab.now strtab.now in
         IfErr result (λ fault. IsCountAt s fault (read_count reads.old) (read_count reads.new)) }
 {
@@ -124,12 +124,12 @@ pub fn check_sysv_counted<'data, E: EndianParse>(
     ensures at_most { let cut = sysv_section (E.little endian) class section.now in
         read_count reads.new ≤ read_count reads.old + 2 * sysv_chain_count cut }
     ensures at_least { OnSound result (λ checked.
-        counted (read_count reads.old) (sysv_indexed checked) ≤ read_count reads.new) }
+        count_after (read_count reads.old) (sysv_indexed checked) ≤ read_count reads.new) }
     ensures never_less { read_count reads.old ≤ read_count reads.new }
     ensures at_fault { OnFaulty result (λ fault.
-        counted (read_count reads.old) (symbols_of fault) ≤ read_count reads.new) }
+        count_after (read_count reads.old) (symbols_of fault) ≤ read_count reads.new) }
     ensures exact { OnSound result (λ checked.
-        read_count reads.new ≡ counted (read_count reads.old) (sysv_indexed checked)) }
+        read_count reads.new ≡ count_after (read_count reads.old) (sysv_indexed checked)) }
     ensures exact_at_fault { let cut = sysv_section (E.little endian) class section.now in
         IfOk (with_symbols (table_view symtab.entry) (strings_view strtab.entry) cut) (λ s.
         OnFaulty result (λ fault. IsCountAt s fault (read_count reads.old) (read_count reads.new))) }

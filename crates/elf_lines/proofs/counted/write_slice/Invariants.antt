@@ -1,5 +1,5 @@
 use Rattle.std.proofs.Common.{◌≡◌, ◌++◌, [], Some, drop, length}
-use Rattle.elf_lines.specs.Counted.{end_line, numbered}
+use Rattle.elf_lines.specs.Counted.{end_line, numbered_lines}
 use Rattle.elf_lines.proofs.Adding.{Leads}
 use Rattle.elf_lines.proofs.counted.write_slice.Given as goal
 
@@ -9,4 +9,4 @@ invariant-loop-item g l =
     let line = g.L.Line.line l.line in
     let end = end_line (length l.items) in
     (l.number ≡ l.item-index)
-    × Leads (g.W.Write.contents l.initial.out) (Some []) (g.W.Write.contents l.out) l.lines (numbered line l.item-index (drop l.item-index l.items) ++ end) (numbered line 0 l.items ++ end)
+    × Leads (g.W.Write.contents l.initial.out) (Some []) (g.W.Write.contents l.out) l.lines (numbered_lines line l.item-index (drop l.item-index l.items) ++ end) (numbered_lines line 0 l.items ++ end)

@@ -3,4 +3,4 @@ use Rattle.elf_lines.proofs.versions.add_found_def.Goals as goal
 
 pub returns : goal.returns
 returns g c =
-    adds_end _ _ _ _ _ _ _ _ (adds_more _ _ _ _ _ _ _ _ _ (adds_more _ _ _ _ _ _ _ _ _ (adds_begin _ _ _) c.word.ensures) c.add_version_fields.ensures) c.add_version_names.ensures
+    adds_end _ _ _ _ _ _ _ _ (adds_more _ _ _ _ _ _ _ _ _ (adds_more _ _ _ _ _ _ _ _ _ (adds_begin _ _ _) c.text.ensures) c.add_version_fields.ensures) c.add_version_names.ensures

@@ -18,4 +18,4 @@ returns-in-Err g c =
     let needed = requirement (g.V.SymbolVersions.versions c.args.versions.now) c.args.symbol in
     let is : c.get_requirement.result ≡ Err c.in-Err.field-0 = search rules in
     let read = need_is_shown needed c.get_requirement.result c.get_requirement.ensures ∙ ap need_shown is in
-    subst (λ text. Adds (contents c.args.out.now) c.args.lines.now (contents c.word-in-Err.new.out) c.word-in-Err.new.self text) (sym read) c.word-in-Err.ensures
+    subst (λ text. Adds (contents c.args.out.now) c.args.lines.now (contents c.text-in-Err.new.out) c.text-in-Err.new.self text) (sym read) c.text-in-Err.ensures

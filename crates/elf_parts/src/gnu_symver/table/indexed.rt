@@ -1,18 +1,15 @@
 //! The versions of the symbols of a file, looked up by version index without a walk.
 ghost use Rattle.std.specs.Prelude.{◌≡◌, ◌≤◌, ◌^◌, if◌then◌else◌, [], false, is_some, length, vec_capacity};
 ghost use Rattle.std.specs.Prelude.{IfOk, IsNone, IsOk};
-ghost use Rattle.std.specs.Option.{option_map};
-ghost use Rattle.elf_records.specs.Number.{ok_map};
-ghost use Rattle.elf_parts.specs.gnu_symver.Table.{definition, definition_view, index_of, requirement, versions_view};
-ghost use Rattle.elf_parts.specs.gnu_symver.Table.{GivesRequirement, HasFewNames};
+ghost use Rattle.elf_parts.specs.gnu_symver.Table.{versions_view};
 ghost use Rattle.elf_parts.specs.gnu_symver.Records.{version_index_reads};
 ghost use Rattle.elf_parts.specs.inner.Placed.{place_count};
 ghost use Rattle.elf_records.specs.Table.{table_items, table_view};
 
 use super::placed::{definition_by_places, place_definitions, place_needs, requirement_by_places};
 use super::{
-    Needed, SymbolDefinition, SymbolRequirement, SymbolVersionTable, VerDefIterator, VersionIndex,
-    VersionIndexTable,
+    Needed, SymbolDefinition, SymbolRequirement, SymbolVersionTable, SymbolVersions,
+    VerDefIterator, VersionIndex, VersionIndexTable,
 };
 use crate::endian::EndianParse;
 use crate::parse::ParseError;
@@ -82,6 +79,13 @@ impl<'a, 'data, E: EndianParse, A: Allocator + Copy> IndexedVersions<'a, 'data, 
     /// Builds both tables: goes over the version indexes, over the needs and over the definitions once. Each table has
     /// a place for each version index up to the greatest that a symbol has. If an allocation fails, the error is
     /// `AllocError`. Nothing is allocated if there are no version indexes, or neither needs nor definitions.
+    ///
+    /// ```rust
+    /// if let Some(table) = file.symbol_version_table()? {
+    ///     let versions = IndexedVersions::new(rt.alloc(), &table)?;
+    ///     println!(rt; "{}", versions.get_requirement(1)?.is_some())?;
+    /// }
+    /// ```
     pub fn new(alloc: A, versions: &'a SymbolVersionTable<'data, E>) -> Result<Self, AllocError>
         ensures versions { IfOk result (λ indexed. indexed ≡ versions_view versions.now) }
         ensures no_entries { IsNone (versions_view versions.now).needs →
@@ -101,32 +105,19 @@ impl<'a, 'data, E: EndianParse, A: Allocator + Copy> IndexedVersions<'a, 'data, 
     }
 }
 
-impl<'a, 'data, E: EndianParse, A: Allocator> IndexedVersions<'a, 'data, E, A> {
-    /// Returns what `SymbolVersionTable::get_index` returns, value or error.
-    pub fn get_index(&self, symbol: usize) -> Result<VersionIndex, ParseError>
-        ensures { result ≡ index_of self.now symbol }
-    {
+impl<'a, 'data, E: EndianParse, A: Allocator> SymbolVersions<E>
+    for IndexedVersions<'a, 'data, E, A> {
+    ghost versions = { λ s. s };
+
+    fn get_index(&self, symbol: usize) -> Result<VersionIndex, ParseError> {
         self.versions.get_index(symbol)
     }
 
-    /// Returns what `SymbolVersionTable::get_requirement` returns, value or error, without a walk.
-    pub fn get_requirement(
-        &self,
-        symbol: usize,
-    ) -> Result<Option<SymbolRequirement<'_>>, ParseError>
-        ensures { GivesRequirement (requirement self.now symbol) result }
-    {
+    fn get_requirement(&self, symbol: usize) -> Result<Option<SymbolRequirement<'_>>, ParseError> {
         requirement_by_places(self.versions, &self.needed, symbol)
     }
 
-    /// Returns what `SymbolVersionTable::get_definition` returns, value or error, without a walk.
-    pub fn get_definition(
-        &self,
-        symbol: usize,
-    ) -> Result<Option<SymbolDefinition<'_, E>>, ParseError>
-        ensures value { ok_map (option_map definition_view) result ≡ definition self.now symbol }
-        ensures few { HasFewNames result }
-    {
+    fn get_definition(&self, symbol: usize) -> Result<Option<SymbolDefinition<'_, E>>, ParseError> {
         definition_by_places(self.versions, &self.defined, symbol)
     }
 }

@@ -5,13 +5,9 @@ ghost use Rattle.elf_records.specs.Number.{ok_map};
 ghost use Rattle.elf_parts.specs.gnu_symver.Table.{Versions, definition, definition_view, index_of, requirement};
 ghost use Rattle.elf_parts.specs.gnu_symver.Table.{GivesRequirement, HasFewNames, versions_view};
 
-use super::{
-    IndexedVersions, PlacedVersions, SymbolDefinition, SymbolRequirement, SymbolVersionTable,
-    VersionIndex,
-};
+use super::{SymbolDefinition, SymbolRequirement, SymbolVersionTable, VersionIndex};
 use crate::endian::EndianParse;
 use crate::parse::ParseError;
-use std::alloc::Allocator;
 
 /// The versions of the symbols of a file. Every implementation returns the same values and the same errors for the
 /// same versions; what a look-up costs may differ.
@@ -48,38 +44,5 @@ impl<'data, E: EndianParse> SymbolVersions<E> for SymbolVersionTable<'data, E> {
 
     fn get_definition(&self, symbol: usize) -> Result<Option<SymbolDefinition<'_, E>>, ParseError> {
         SymbolVersionTable::get_definition(self, symbol)
-    }
-}
-
-impl<'a, 'data, E: EndianParse, A: Allocator> SymbolVersions<E>
-    for IndexedVersions<'a, 'data, E, A> {
-    ghost versions = { λ s. s };
-
-    fn get_index(&self, symbol: usize) -> Result<VersionIndex, ParseError> {
-        IndexedVersions::get_index(self, symbol)
-    }
-
-    fn get_requirement(&self, symbol: usize) -> Result<Option<SymbolRequirement<'_>>, ParseError> {
-        IndexedVersions::get_requirement(self, symbol)
-    }
-
-    fn get_definition(&self, symbol: usize) -> Result<Option<SymbolDefinition<'_, E>>, ParseError> {
-        IndexedVersions::get_definition(self, symbol)
-    }
-}
-
-impl<'a, 'data, E: EndianParse> SymbolVersions<E> for PlacedVersions<'a, 'data, E> {
-    ghost versions = { λ s. s };
-
-    fn get_index(&self, symbol: usize) -> Result<VersionIndex, ParseError> {
-        PlacedVersions::get_index(self, symbol)
-    }
-
-    fn get_requirement(&self, symbol: usize) -> Result<Option<SymbolRequirement<'_>>, ParseError> {
-        PlacedVersions::get_requirement(self, symbol)
-    }
-
-    fn get_definition(&self, symbol: usize) -> Result<Option<SymbolDefinition<'_, E>>, ParseError> {
-        PlacedVersions::get_definition(self, symbol)
     }
 }

@@ -5,15 +5,15 @@ ghost use Rattle.elf_parts.specs.inner.Placed.{HoldDefined, HoldDefinitions, Hol
 ghost use Rattle.elf_records.specs.Number.{ok_map};
 ghost use Rattle.elf_parts.specs.gnu_symver.Lists.{ver_defs_left, ver_needs_left};
 ghost use Rattle.elf_parts.specs.gnu_symver.Table.{defined_version, definition, definition_view, definitions_view};
-ghost use Rattle.elf_parts.specs.gnu_symver.Table.{index_of, needed_of, needed_version, needs_view};
+ghost use Rattle.elf_parts.specs.gnu_symver.Table.{needed_of, needed_version, needs_view};
 ghost use Rattle.elf_parts.specs.gnu_symver.Table.{requirement, versions_view};
 ghost use Rattle.elf_parts.specs.gnu_symver.Table.{GivesRequirement, HasFewNames};
 
 use super::walked::{STRETCHES, Stretch, put_versions};
 use super::{
-    Needed, SymbolDefinition, SymbolRequirement, SymbolVersionTable, VerDefIterator,
-    VerNeedIterator, VersionIndex, first_defined, first_needed, kept, read_definition,
-    read_requirement,
+    Needed, SymbolDefinition, SymbolRequirement, SymbolVersionTable, SymbolVersions,
+    VerDefIterator, VerNeedIterator, VersionIndex, first_defined, first_needed, needed_entry,
+    read_definition, read_requirement,
 };
 use crate::endian::EndianParse;
 use crate::parse::ParseError;
@@ -156,7 +156,7 @@ fn find_needed<E: EndianParse>(
     // An empty place says that no need has the index, and takes no walk.
     prove!(slots.len() <= index as usize);
     let (need, version) = first_needed(needs, index)?;
-    Some(kept(need.vn_file, &version))
+    Some(needed_entry(need.vn_file, &version))
 }
 
 // An iterator that yields the first definition with an index before any other with that index, if there is one.
@@ -236,34 +236,20 @@ impl<'a, 'data, E: EndianParse> PlacedVersions<'a, 'data, E> {
             defined,
         }
     }
+}
 
-    /// Returns what `SymbolVersionTable::get_index` returns, value or error.
-    pub fn get_index(&self, symbol: usize) -> Result<VersionIndex, ParseError>
-        ensures { result ≡ index_of self.now symbol }
-    {
+impl<'a, 'data, E: EndianParse> SymbolVersions<E> for PlacedVersions<'a, 'data, E> {
+    ghost versions = { λ s. s };
+
+    fn get_index(&self, symbol: usize) -> Result<VersionIndex, ParseError> {
         self.versions.get_index(symbol)
     }
 
-    /// Returns what `SymbolVersionTable::get_requirement` returns, value or error, without a walk if the version index
-    /// has a place.
-    pub fn get_requirement(
-        &self,
-        symbol: usize,
-    ) -> Result<Option<SymbolRequirement<'_>>, ParseError>
-        ensures { GivesRequirement (requirement self.now symbol) result }
-    {
+    fn get_requirement(&self, symbol: usize) -> Result<Option<SymbolRequirement<'_>>, ParseError> {
         requirement_by_places(self.versions, self.needed, symbol)
     }
 
-    /// Returns what `SymbolVersionTable::get_definition` returns, value or error, without a walk if the version index
-    /// has a place.
-    pub fn get_definition(
-        &self,
-        symbol: usize,
-    ) -> Result<Option<SymbolDefinition<'_, E>>, ParseError>
-        ensures value { ok_map (option_map definition_view) result ≡ definition self.now symbol }
-        ensures few { HasFewNames result }
-    {
+    fn get_definition(&self, symbol: usize) -> Result<Option<SymbolDefinition<'_, E>>, ParseError> {
         definition_by_places(self.versions, self.defined, symbol)
     }
 }

@@ -8,7 +8,7 @@ ghost use Rattle.elf_parts.specs.gnu_symver.Links.{links_view};
 ghost use Rattle.elf_records.specs.Clones.{ClonesExactly};
 
 use super::placed::put;
-use super::{Needed, kept};
+use super::{Needed, needed_entry};
 use crate::endian::EndianParse;
 use crate::gnu_symver::links::Links;
 use crate::gnu_symver::records::VerNeedAux;
@@ -67,7 +67,7 @@ fn put_next<E: EndianParse>(
         ≡ held_or_left slots.old file (links_view left.old) k (suc n) left.old.offset }
 {
     if let Some(version) = left.step() {
-        put(slots, version.vna_other, kept(file, &version));
+        put(slots, version.vna_other, needed_entry(file, &version));
     }
 }
 

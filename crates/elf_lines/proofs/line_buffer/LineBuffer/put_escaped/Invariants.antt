@@ -1,5 +1,5 @@
 use Rattle.std.proofs.Common.{drop}
-use Rattle.elf_lines.specs.Pieces.{escaped}
+use Rattle.elf_lines.specs.Pieces.{escaped_text}
 use Rattle.elf_lines.proofs.Adding.{Leads}
 use Rattle.elf_lines.proofs.line_buffer.LineBuffer.put_escaped.Given as goal
 
@@ -7,4 +7,4 @@ use Rattle.elf_lines.proofs.line_buffer.LineBuffer.put_escaped.Given as goal
 abbrev pub invariant-loop-byte : goal.invariant-loop-byte
 invariant-loop-byte g l =
     Leads (g.W.Write.contents l.initial.out) l.initial.self (g.W.Write.contents l.out) l.self
-    (escaped (drop l.byte-index l.text)) (escaped l.text)
+    (escaped_text (drop l.byte-index l.text)) (escaped_text l.text)

@@ -1,6 +1,6 @@
 use Rattle.std.proofs.Common.{◌≡◌, ap, sym}
 use Rattle.elf_records.specs.declared.file.FileHeader.{FileHeader}
-use Rattle.elf.specs.ElfStream.{Seen}
+use Rattle.elf.specs.ElfStream.{StreamView}
 use Rattle.std.specs.Option.{option_map}
 use Rattle.elf.specs.Answers.{dynamic_symbol_table, symbol_version_table}
 use Rattle.elf.specs.Ranges.{headers_alone, symbols_ranges}
@@ -20,7 +20,7 @@ returns-clause-parts g c =
     let one = c.read_hash-hash.new.stream in
     let two = c.read_symbols-symbols.new.stream in
     let three = c.read_versions-versions.new.stream in
-    let header : old.headers.ehdr ≡ c.stream.inside.ehdr = sym (ap (λ (s : Seen g.row.E.Denot). s.headers.ehdr) c.stream.view_is) in
+    let header : old.headers.ehdr ≡ c.stream.inside.ehdr = sym (ap (λ (s : StreamView g.row.E.Denot). s.headers.ehdr) c.stream.view_is) in
     let first = c.read_hash-hash.ensures.reads.keeps in
     let second = keeps_then old one two first c.read_symbols-symbols.ensures.reads.keeps in
     let symbols = reads_of_file little old one two c.read_symbols-symbols.result (λ l k. option_map (symbols_in l k)) dynamic_symbol_table first c.read_symbols-symbols.ensures.reads in

@@ -2,7 +2,7 @@ use Rattle.std.proofs.Common.{◌≡◌, ◌==◌, if◌then◌else◌, Ok, Err,
 use Rattle.elf_parts.specs.gnu_symver.Records.{version_index_layout}
 use Rattle.elf_records.specs.Record.{size_by}
 use Rattle.elf_records.specs.declared.file.FileHeader.{FileHeader}
-use Rattle.elf.specs.ElfStream.{Seen}
+use Rattle.elf.specs.ElfStream.{StreamView}
 use Rattle.std.specs.Prelude.{IsErr}
 use Rattle.std.specs.Option.{option_map}
 use Rattle.std.proofs.lemmas.Result.{err_from_is_err_and}
@@ -60,7 +60,7 @@ returns-in_err-definitions-clause-used g c =
     let chosen = c.version_sections-chosen.result in
     let at : chosen.indexes ≡ Some s = c.in-Some.is in
     let sized = subst (λ (h : FileHeader g.row.E.Denot). Ok c.in_ok-validate_entsize.field-0 ≡ (if s.sh_entsize == size_by version_index_layout h.class then Ok s.sh_entsize else Err (BadEntsize (s.sh_entsize, size_by version_index_layout h.class))))
-    (ap (λ (seen : Seen g.row.E.Denot). seen.headers.ehdr) c.stream.view_is) c.in_ok-validate_entsize.ensures in
+    (ap (λ (seen : StreamView g.row.E.Denot). seen.headers.ehdr) c.stream.view_is) c.in_ok-validate_entsize.ensures in
     versions_used g.E.EndianParse.little old c.read_range.new.stream c.read_entries_if.new.stream c.read_entries_if-2.new.stream chosen s c.in_ok-validate_entsize.field-0
     c.version_sections-chosen.ensures at sized c.in_ok-indexes.ensures.reads.keeps c.in_ok-needs.ensures.needs.keeps
     c.in_ok-indexes.ensures.used c.in_ok-needs.ensures.used c.in_err-definitions.ensures.used
@@ -72,7 +72,7 @@ returns-clause-used g c =
     let chosen = c.version_sections-chosen.result in
     let at : chosen.indexes ≡ Some s = c.in-Some.is in
     let sized = subst (λ (h : FileHeader g.row.E.Denot). Ok c.in_ok-validate_entsize.field-0 ≡ (if s.sh_entsize == size_by version_index_layout h.class then Ok s.sh_entsize else Err (BadEntsize (s.sh_entsize, size_by version_index_layout h.class))))
-    (ap (λ (seen : Seen g.row.E.Denot). seen.headers.ehdr) c.stream.view_is) c.in_ok-validate_entsize.ensures in
+    (ap (λ (seen : StreamView g.row.E.Denot). seen.headers.ehdr) c.stream.view_is) c.in_ok-validate_entsize.ensures in
     versions_used g.E.EndianParse.little old c.read_range.new.stream c.read_entries_if.new.stream c.read_entries_if-2.new.stream chosen s c.in_ok-validate_entsize.field-0
     c.version_sections-chosen.ensures at sized c.in_ok-indexes.ensures.reads.keeps c.in_ok-needs.ensures.needs.keeps
     c.in_ok-indexes.ensures.used c.in_ok-needs.ensures.used c.in_ok-definitions.ensures.used

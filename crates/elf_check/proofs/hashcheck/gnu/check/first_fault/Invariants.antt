@@ -1,5 +1,5 @@
 use Rattle.std.proofs.Common.{◌≡◌, ℕ, ◌<◌, Some}
-use Rattle.elf_check.specs.Reads.{counted}
+use Rattle.elf_check.specs.Reads.{count_after}
 use Rattle.elf_check.specs.SoundGnu.{SoundWord}
 use Rattle.elf_check.specs.WithSymbols.{gnu_with, word}
 use Rattle.elf_check.specs.inner.GnuRun.{RunBegins}
@@ -11,5 +11,5 @@ abbrev pub invariant-loop-place : goal.invariant-loop-place
 invariant-loop-place g l = record {
   sound : (k w : ℕ) → k < l.place → word (gnu_view l.table).chains k ≡ Some w → SoundWord (gnu_with l.table l.symtab l.strtab) k w;
   begins : RunBegins (gnu_view l.table) l.start l.place;
-  reads : l.reads.count ≡ counted l.fn.reads.count l.place;
+  reads : l.reads.count ≡ count_after l.fn.reads.count l.place;
 }

@@ -1,6 +1,6 @@
 use Rattle.std.proofs.Common.{◌≡◌, ℕ, ◌<◌}
 use Rattle.elf_check.specs.Indexed.{chain_lengths}
-use Rattle.elf_check.specs.Reads.{counted}
+use Rattle.elf_check.specs.Reads.{count_after}
 use Rattle.elf_check.specs.SoundSysv.{EndsAt}
 use Rattle.elf_check.specs.WithSymbols.{sysv_with}
 use Rattle.elf_parts.specs.SysvFind.{sysv_view}
@@ -11,5 +11,5 @@ abbrev pub invariant-loop-bucket : goal.invariant-loop-bucket
 invariant-loop-bucket g l = record {
   sound : (b : ℕ) → b < l.bucket → (j : ℕ) × EndsAt (sysv_with l.table l.symtab l.strtab) b j;
   total : l.indexed ≡ chain_lengths (sysv_view l.table) l.bucket;
-  reads : l.reads.count ≡ counted l.fn.reads.count l.indexed;
+  reads : l.reads.count ≡ count_after l.fn.reads.count l.indexed;
 }

@@ -7,7 +7,7 @@ use Rattle.elf_parts.proofs.gnu_symver.table.walked.put_next.Goals as goal
 pub returns-in-Some-clause-passes : goal.returns-in-Some-clause-passes
 returns-in-Some-clause-passes g c = λ n k below empty.
     let left = c.args.left.now in
-    read_passes (links_view left) k n left.offset c.step.new.self.offset c.in-Some.version c.kept.result c.step.result
+    read_passes (links_view left) k n left.offset c.step.new.self.offset c.in-Some.version c.needed_entry.result c.step.result
     (slot c.args.slots.now k) (slot c.put.new.slots k) (c.step.ensures.items n) c.in-Some.is
     (c.put.ensures.values k below) empty
 

@@ -1,0 +1,161 @@
+//! The names of sections, and sections by their names.
+ghost use Rattle.std.specs.Prelude.{◌≡◌, is_some, position};
+ghost use Rattle.std.specs.Option.{option_map};
+ghost use Rattle.elf_records.specs.Number.{ok_map};
+ghost use Rattle.elf_records.specs.Section.{section_header_reads};
+ghost use Rattle.elf_records.specs.Table.{table_in, table_items};
+ghost use Rattle.elf.specs.Answers.{section_header_by_name};
+ghost use Rattle.elf.specs.Names.{has_name, name_table};
+ghost use Rattle.elf_c.specs.File.{file_of_c};
+ghost use Rattle.elf_c.specs.Records.{section_shown};
+ghost use Rattle.elf_c.specs.SectionNames.{names_view, some_or};
+ghost use Rattle.elf_c.specs.Status.{IsWritten, status_of, written};
+ghost use Rattle.elf_c.specs.Tables.{table_of_c};
+
+use crate::file::{NugwierFile, file_in};
+use crate::records::NugwierSection;
+use crate::status::{NugwierStatus, done, refused};
+use crate::symbols::section_range;
+use crate::table::{ForC, NugwierTable, records_in};
+use elf::ParseError;
+use elf::headers::Headers;
+use elf_parts::endian::{BigEndian, EndianParse, LittleEndian};
+use elf_parts::file::Class;
+use elf_parts::section::{SectionHeader, SectionHeaderTable};
+use elf_parts::string_table::{StringTable, TerminatedStrings};
+use elf_records::laws::tables::iter_gives_whatever_get_gives;
+
+/// The strings with the names of the sections of a file, if it has any.
+#[repr(C)]
+#[derive(Drop)]
+pub struct NugwierSectionNames<'data> {
+    pub found: bool,
+    pub strings: &'data [u8],
+}
+
+// The strings with the names of the sections.
+#[tactic(auto, unfolding(elf::specs::Names::name_table))]
+fn names_in<'data>(file: &NugwierFile<'data>) -> Result<Option<&'data [u8]>, ParseError>
+    ensures { ok_map (option_map (λ bytes. bytes.now)) result ≡ name_table (file_of_c file.now) }
+{
+    match file_in(file).name_section()? {
+        Some(shdr) => section_range(file, &shdr).map(Some),
+        None => Ok(None),
+    }
+}
+
+/// Finds the strings with the names of the sections of a file. If there are none, `found` is false, and nothing else is
+/// written. An error leaves `names` as it is; the errors are those of `ElfBytes::section_headers_with_strtab`.
+#[unsafe(no_mangle)]
+pub extern "C" fn nugwier_section_names<'data>(
+    file: &NugwierFile<'data>,
+    names: &mut NugwierSectionNames<'data>,
+) -> NugwierStatus
+    ensures status { result ≡ status_of (name_table (file_of_c file.now)) }
+    ensures names { IsWritten names_view names.new names.old (name_table (file_of_c file.now)) }
+{
+    match names_in(file) {
+        Ok(Some(strings)) => {
+            *names = NugwierSectionNames {
+                found: true,
+                strings,
+            };
+            done()
+        }
+        Ok(None) => {
+            names.found = false;
+            done()
+        }
+        Err(error) => refused(&error),
+    }
+}
+
+// Whether a section has this name.
+#[inline(always)]
+fn is_named(names: &TerminatedStrings<'_>, name: &[u8], shdr: &SectionHeader) -> bool
+    ensures { result ≡ has_name names.now name.now shdr.now }
+{
+    match names.is(shdr.sh_name as usize, name) {
+        Ok(is_named) => is_named,
+        Err(_) => false,
+    }
+}
+
+// The index of the first section header with this name. Inlined, so the compiler knows the byte order and the class. Of
+// each header only the offset of its name is used, so it reads no other field.
+#[inline(always)]
+fn index_in<E: EndianParse>(
+    endian: E,
+    class: Class,
+    bytes: &[u8],
+    names: &TerminatedStrings<'_>,
+    name: &[u8],
+) -> Option<usize>
+    ensures { result ≡ position (has_name names.now name.now)
+        (table_items section_header_reads (table_in (E.little endian) class bytes.now)) }
+{
+    let shdrs = SectionHeaderTable::<'_, E>::new(endian, class, bytes);
+    shdrs.iter().position(|shdr| is_named(names, name, &shdr))
+}
+
+// The same in a table of either byte order and class.
+fn index_of(table: &NugwierTable<'_>, names: &TerminatedStrings<'_>, name: &[u8]) -> Option<usize>
+    ensures { result ≡ position (has_name names.now name.now)
+        (table_items section_header_reads (table_of_c table.now)) }
+{
+    match (table.little, table.is_64) {
+        (true, true) => index_in(LittleEndian, Class::ELF64, table.bytes, names, name),
+        (true, false) => index_in(LittleEndian, Class::ELF32, table.bytes, names, name),
+        (false, true) => index_in(BigEndian, Class::ELF64, table.bytes, names, name),
+        (false, false) => index_in(BigEndian, Class::ELF32, table.bytes, names, name),
+    }
+}
+
+// The first section with a name.
+#[tactic(auto, using(crate::proofs::Positions::found_at, crate::proofs::Positions::found_nowhere))]
+fn section_named(file: &NugwierFile<'_>, name: &[u8]) -> Result<Option<SectionHeader>, ParseError>
+    ensures { result ≡ section_header_by_name (file_of_c file.now) name.now }
+{
+    let Some(strings) = names_in(file)? else {
+        return Ok(None);
+    };
+    if !file.has_sections {
+        return Ok(None);
+    }
+    let names = TerminatedStrings::new(&StringTable::new(strings));
+    let Some(index) = index_of(&file.sections, &names, name) else {
+        return Ok(None);
+    };
+    let shdrs = records_in::<SectionHeader>(&file.sections);
+    iter_gives_whatever_get_gives(&shdrs, index);
+    Ok(shdrs.get(index).ok())
+}
+
+/// Finds the first section of a file whose name has exactly these bytes. `found` says whether there is one; if there is
+/// none, `section` stays as it is. An error leaves both as they are; the errors are those of
+/// `ElfBytes::section_header_by_name`.
+#[unsafe(no_mangle)]
+pub extern "C" fn nugwier_section_by_name(
+    file: &NugwierFile<'_>,
+    name: &[u8],
+    found: &mut bool,
+    section: &mut NugwierSection,
+) -> NugwierStatus
+    ensures status { result ≡ status_of (section_header_by_name (file_of_c file.now) name.now) }
+    ensures found { found.new ≡ written is_some found.old (section_header_by_name (file_of_c file.now) name.now) }
+    ensures section { section.new ≡ written (some_or section.old) section.old
+        (ok_map (option_map section_shown) (section_header_by_name (file_of_c file.now) name.now)) }
+{
+    match section_named(file, name) {
+        Ok(Some(header)) => {
+            *found = true;
+            *section = header.show();
+            done()
+        }
+        Ok(None) => {
+            *found = false;
+            done()
+        }
+        Err(error) => refused(&error),
+    }
+}

@@ -1,0 +1,63 @@
+//! All faults of a file.
+ghost use Rattle.std.specs.Prelude.{◌≡◌, ◌++◌, IfOk, OnOk, option_to_list};
+ghost use Rattle.elf.specs.ElfBytes.{view};
+ghost use Rattle.elf.specs.ObjectFile.{object_file};
+ghost use Rattle.elf_whole.specs.AllFaults.{AreAllFaults};
+
+use crate::faults::FileFault;
+use crate::sections::{add_sections, section_count};
+use crate::segments::add_segments;
+use crate::versions::add_versions;
+use elf::ElfBytes;
+use elf::endian::EndianParse;
+use elf::gnu_symver::{Needed, VerDefIterator};
+use std::alloc::{AllocError, Global};
+
+// Adds a fault, if there is one.
+pub(crate) fn add(fault: Option<FileFault>, faults: &mut Vec<FileFault>) -> Result<(), AllocError>
+    ensures { OnOk result (faults.new.items ≡ faults.old.items ++ option_to_list fault) }
+{
+    match fault {
+        Some(fault) => faults.push(fault)?,
+        None => {}
+    }
+    Ok(())
+}
+
+/// Returns all faults of a file, in the order in which `check_file` looks for them: none exactly if the file is sound.
+/// The only error is a failed allocation.
+///
+/// Of each of these the first fault is among them, if it is not sound: the names of the sections; each type of which
+/// there is to be one section; each section; the needs, the definitions and the indexes of versions; each type of which
+/// there is to be one segment; `PT_PHDR`, which is to come before the loaded segments; each segment; the order of the
+/// loaded segments. If the names of the sections cannot be read, the sections are checked for all but their names. The
+/// version indexes are looked up only if the needs and the definitions are sound, since else it is not known which
+/// versions there are.
+///
+/// The version of each symbol is looked up by a walk over the needs and the definitions. `all_faults_in` takes no such
+/// walks.
+pub fn all_faults<E: EndianParse>(
+    alloc: Global,
+    file: &ElfBytes<'_, E>,
+) -> Result<Vec<FileFault>, AllocError>
+    ensures { IfOk result (λ faults. AreAllFaults (object_file E.little (view file.now)) faults.items) }
+{
+    all_faults_in(alloc, file, &mut [], &mut [])
+}
+
+/// Returns what `all_faults` does. Two slices that the caller provides hold places for versions, as in `check_file_in`,
+/// and the time grows with the same as there.
+pub fn all_faults_in<'data, E: EndianParse>(
+    alloc: Global,
+    file: &ElfBytes<'data, E>,
+    needed: &mut [Option<Needed>],
+    defined: &mut [Option<VerDefIterator<'data, E>>],
+) -> Result<Vec<FileFault>, AllocError>
+    ensures { IfOk result (λ faults. AreAllFaults (object_file E.little (view file.now)) faults.items) }
+{
+    let mut faults = Vec::new(alloc);
+    add_sections(file, section_count(file), &mut faults)?;
+    add_versions(file, needed, defined, &mut faults)?;
+    add_segments(file, &mut faults)?;
+    Ok(faults)
+}
