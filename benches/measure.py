@@ -1,4 +1,5 @@
 """Running programs, and telling what a run costs."""
+import glob
 import hashlib
 import os
 import re
@@ -9,6 +10,7 @@ HERE = os.path.dirname(os.path.realpath(__file__))
 TOP = os.path.dirname(HERE)
 PROGRAM = os.path.join(TOP, "elfshow")
 BUILT = os.path.join(TOP, "crates", "elfshow_cli", "out", "elfshow_cli")
+NUGWIER = os.path.join(TOP, "crates", "nugwier", "out", "nugwier")
 RUNS = 7
 # How often our library program checks a section in one run, as it goes over the symbols.
 CHECKS = 20
@@ -20,6 +22,27 @@ def built():
     """The program, which has to be there before it is timed."""
     subprocess.run([PROGRAM], stderr=subprocess.DEVNULL)
     return BUILT
+
+
+def built_nugwier():
+    """The program for people, which has to be there before it is timed."""
+    subprocess.run([os.path.join(TOP, "nugwier"), "--version"], stdout=subprocess.DEVNULL, stderr=subprocess.DEVNULL)
+    return NUGWIER
+
+
+def program_with_most_libraries():
+    """The program of the machine for which ldd names the most libraries."""
+    def libraries(path):
+        return len(subprocess.run(["ldd", path], capture_output=True, text=True).stdout.splitlines())
+
+    return max((path for path in glob.glob("/usr/bin/*") if is_elf(path)), key=libraries)
+
+
+def is_elf(path):
+    if not os.path.isfile(path):
+        return False
+    with open(path, "rb") as file:
+        return file.read(4) == b"\x7fELF"
 
 
 def built_callers():
@@ -56,22 +79,23 @@ def build_program(name, folder):
     return built
 
 
-def processor_seconds(command):
+def processor_seconds(command, statuses):
     """What one run takes of the processors; its text goes nowhere."""
-    pid = os.posix_spawn(command[0], command, os.environ, file_actions=[(os.POSIX_SPAWN_OPEN, 1, "/dev/null", os.O_WRONLY, 0)])
+    actions = [(os.POSIX_SPAWN_OPEN, number, "/dev/null", os.O_WRONLY, 0) for number in ((1, 2) if 1 in statuses else (1,))]
+    pid = os.posix_spawn(command[0], command, os.environ, file_actions=actions)
     _, status, usage = os.wait4(pid, 0)
-    if status != 0:
+    if os.waitstatus_to_exitcode(status) not in statuses:
         raise SystemExit(f"{' '.join(command)[:200]}: status {status}")
     return usage.ru_utime + usage.ru_stime
 
 
-def least_seconds(commands):
-    """The least that each command takes of some runs, by turns."""
+def least_seconds(commands, statuses=(0,)):
+    """The least that each command takes of some runs, by turns. A run has to end with one of the statuses."""
     least = [float("inf")] * len(commands)
     total = 0
     for _ in range(RUNS):
         for number, command in enumerate(commands):
-            seconds = processor_seconds(command)
+            seconds = processor_seconds(command, statuses)
             least[number] = min(least[number], seconds)
             total += seconds
         if total > SECONDS:
