@@ -70,7 +70,7 @@ rels_left rels = items_left rel_reads rels
 abbrev pub relas_left : {E : Type 0} → ParsingIterator E Rela → List Rela
 relas_left relas = items_left rela_reads relas
 
--- the bytes of a segment in the file: p_filesz of them from p_offset on
+-- the bytes of a segment in the file: p_filesz of them, starting at p_offset
 abbrev pub segment_data : ObjectFile → ProgramHeader → Result (List ℕ) ParseError
 segment_data file p = bytes_at p.p_filesz file.bytes p.p_offset
 

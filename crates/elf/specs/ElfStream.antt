@@ -57,7 +57,7 @@ abbrev pub IsNeeded : {E : Type 0} → List ℕ → StreamView E → List (ℕ �
 IsNeeded bytes s [] = ⊥
 IsNeeded bytes s (r ∷ rs) = IsOk (bytes_at r.1 bytes r.0) × (IsCached s r.0 (r.0 + r.1) → IsNeeded bytes s rs)
 
--- the source fails and memory is refused only if they are needed
+-- the source or an allocation fails only if the source or memory is needed
 abbrev pub IsFor : Type 0 → Kind → Type 0
 IsFor need SourceFailure = need
 IsFor need AllocationFailure = need

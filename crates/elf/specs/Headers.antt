@@ -18,7 +18,7 @@ abbrev pub section_at : Option Table → ℕ → Result SectionHeader ParseError
 section_at None i = Err (BadOffset i)
 section_at (Some t) i = table_get section_header_reads t i
 
--- the bytes of a section: sh_size of them from sh_offset on
+-- the bytes of a section: sh_size of them, starting at sh_offset
 abbrev pub section_range : List ℕ → SectionHeader → Result (List ℕ) ParseError
 section_range bytes s = bytes_at s.sh_size bytes s.sh_offset
 

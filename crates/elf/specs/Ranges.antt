@@ -28,7 +28,7 @@ range_of_segment p = (p.p_offset, p.p_filesz)
 abbrev pub section_ranges : SectionHeader → List (ℕ × ℕ)
 section_ranges s = if s.sh_type == sht_nobits then [] else range_of_section s ∷ []
 
--- its typed views: a section of another type is refused before it is read
+-- its typed views: for a section of another type they return an error before they read it
 abbrev pub typed_section_ranges : ℕ → SectionHeader → List (ℕ × ℕ)
 typed_section_ranges t s = if s.sh_type == t then section_ranges s else []
 
@@ -36,7 +36,7 @@ typed_section_ranges t s = if s.sh_type == t then section_ranges s else []
 abbrev pub segment_ranges : ProgramHeader → List (ℕ × ℕ)
 segment_ranges p = range_of_segment p ∷ []
 
--- segment_data_as_notes: a segment of another type than PT_NOTE is refused before it is read
+-- segment_data_as_notes: for a segment of a type other than PT_NOTE it returns an error before it reads it
 abbrev pub segment_notes_ranges : ProgramHeader → List (ℕ × ℕ)
 segment_notes_ranges p = if p.p_type == pt_note then segment_ranges p else []
 
@@ -51,7 +51,7 @@ abbrev pub if_there : {A : Type 0} → (A → List (ℕ × ℕ)) → Option A �
 if_there requested None = []
 if_there requested (Some header) = requested header
 
--- the same of a choice that may be refused
+-- the ranges for the result of a choice, which may be an error
 abbrev pub if_chosen : {A : Type 0} → (A → List (ℕ × ℕ)) → Result (Option A) ParseError → List (ℕ × ℕ)
 if_chosen requested (Ok chosen) = if_there requested chosen
 if_chosen requested (Err e) = []
@@ -71,7 +71,7 @@ names_ranges file = if_chosen whole_section (name_section file)
 abbrev pub symbols_ranges : ℕ → ObjectFile → List (ℕ × ℕ)
 symbols_ranges t file = if_chosen both_sections (symbol_sections t file)
 
--- the dynamic entries of a section: where its entry size is not that of an entry it is refused before it is read
+-- the dynamic entries of a section: with an entry size that is not that of an entry, the error comes before the read
 abbrev pub section_dynamic_ranges : ObjectFile → SectionHeader → List (ℕ × ℕ)
 section_dynamic_ranges file s = if s.sh_entsize == size_by dyn_layout file.class then section_ranges s else []
 

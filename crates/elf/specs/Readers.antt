@@ -98,11 +98,11 @@ requested_ranges SymbolVersionTable file = versions_ranges file
 
 -- ---- two object files
 
--- the same value, or both are refused, for whatever reason
+-- the same value, or both are errors, whichever these are
 abbrev pub AreAlike : {A : Type 0} → Result A ParseError → Result A ParseError → Type 0
 AreAlike one other = result_ok one ≡ result_ok other
 
--- the same headers, the same names of sections, and alike answers of each method
+-- both have the same headers and the same names of sections, and each method answers alike
 pub record SameAnswers (one other : ObjectFile) : Type 0 where
   pub segments : one.segments ≡ other.segments
   pub section_headers : one.sections ≡ other.sections
@@ -127,8 +127,7 @@ AreMade little s (call ∷ calls) =
     (λ bytes. answer call.method (stream_file little old bytes)) old call.new call.result
     × AreMade little call.new calls
 
--- the same value; or where the content is refused the other refuses too, and else the source failed or memory was
--- refused
+-- the same value; or an error: then the other answer is an error too, unless the source or an allocation failed
 abbrev pub IsSame : {A : Type 0} → Result A ParseError → Result A ParseError → Type 0
 IsSame other (Ok x) = other ≡ Ok x
 IsSame other (Err e) = kind e ≡ Kind.Refusal → IsErr other

@@ -1,4 +1,4 @@
--- Values and their names as lists of rows, and what a look-up in such a list answers.
+-- Values and their names as lists of rows, and the result of a look-up in a list.
 use Rattle.std.specs.Prelude.{◌≡◌, ℕ, ◌++◌, ◌&&◌, Bool, true, false, List, []}
 use Rattle.std.specs.Prelude.{◌∷◌, codes, map, Contains, Option, Some, None, nat_eq, unwrap_or, if◌then◌else◌}
 use Rattle.std.specs.Borrow.{Bor}

@@ -1479,7 +1479,7 @@ pub const R_ARM_THM_BF18: u32 = 138;
 
 pub const R_ARM_IRELATIVE: u32 = 160;
 
-// AArch64 supplement: `sh_type`, and the name of such a section.
+// AArch64 supplement: `sh_type`, and the name of a section of this type.
 
 pub const SHT_AARCH64_ATTRIBUTES: u32 = 0x70000003;
 
@@ -2283,7 +2283,7 @@ pub const EF_RISCV_RVE: u32 = 0x0008;
 
 pub const EF_RISCV_TSO: u32 = 0x0010;
 
-// RISC-V supplement: `sh_type`, and the name of such a section.
+// RISC-V supplement: `sh_type`, and the name of a section of this type.
 
 pub const SHT_RISCV_ATTRIBUTES: u32 = 0x70000003;
 

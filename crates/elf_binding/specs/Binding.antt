@@ -1,5 +1,5 @@
--- Which symbol of which object a reference binds to, where symbols have versions: the rules of GNU symbol versioning
--- (LSB, "Symbol Versioning"), and where they say nothing, what the dynamic linker of the GNU C library does.
+-- Which symbol of which object a reference binds to, if symbols have versions: by the rules of GNU symbol versioning
+-- (LSB, "Symbol Versioning"), and by the dynamic linker of the GNU C library in the cases that these rules leave open.
 use Rattle.std.specs.Prelude.{◌≡◌, ℕ, ◌<◌, if◌then◌else◌, ◌==◌, ◌&&◌, ◌||◌, not, nat_lt, Bool, bit_and}
 use Rattle.std.specs.Prelude.{List, [], ◌∷◌, length, slice_get, Option, Some, None, ok_or, Result, Ok, Err, MatchBool}
 use Rattle.std.specs.Option.{IsSomeAnd, option_map}
@@ -160,7 +160,7 @@ serves_in None rule i = Ok Bool.true
 
 -- ---- what a reference binds to in one object
 
--- the first of these symbols that is a definition and serves; refused where that cannot be known of an earlier one
+-- the first of these symbols that is a definition and serves; an error if that cannot be known of an earlier one
 abbrev pub first_serving : ReferenceKind → (ℕ → Result Bool Unreadable) → List (ℕ × Symbol) →
     Result (Option (ℕ × Symbol)) Unreadable
 first_serving kind serving [] = Ok None
@@ -209,8 +209,8 @@ IsFoundAt kind place object name wanted result =
 
 -- ---- what it binds to in a list of objects
 
--- of places in order, each of which has a result: the first that has a symbol, and that symbol; or that none has one; or
--- the first of which that cannot be known
+-- Places in order, each with a result: the first place that has a symbol, with that symbol; or none, if no place has
+-- one; or the first place for which that cannot be known.
 module _ (At : ℕ → Result (Option (ℕ × Symbol)) Unreadable → Type 0) (count : ℕ) where
   abbrev pub NoneBefore : ℕ → Type 0
   NoneBefore place = (k : ℕ) → k < place → At k (Ok None)
@@ -225,7 +225,7 @@ module _ {C : Type 0} (view : C → VersionedObject) (objects : List C) (name : 
   abbrev pub ChosenAt : ℕ → Result (Option (ℕ × Symbol)) Unreadable → Type 0
   ChosenAt place result = IsSomeAnd (slice_get objects place) (λ object. IsChosen (view object) name wanted result)
 
-  -- the first object with a symbol that serves; or that no object has one; or the first of which that cannot be known
+  -- the first object with a symbol that serves; or none, if no object has one; or the first for which that is not known
   abbrev pub IsBinding : Result (Option (ℕ × ℕ × Symbol)) BindingFault → Type 0
   IsBinding result = IsFirst ChosenAt (length objects) result
 

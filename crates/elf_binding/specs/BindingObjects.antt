@@ -29,7 +29,7 @@ GivesVersioned view file (Err fault) =
     IsSomeAnd (object_of file) (λ object. IsFaultOf object fault)
     ⊎ (HasSoundTable file × IsErrAnd (symbol_version_table file) (λ e. fault ≡ Read e))
 
--- the version of symbol i, where its file has versions at all
+-- the version of symbol i, if its file has versions at all
 abbrev pub version_in : Option Versions → ℕ → Result (Option NamedVersion) Unreadable
 version_in (Some versions) i = version_of versions i
 version_in None i = Ok None

@@ -65,7 +65,7 @@ fn is_linkage_entry(symbol: &Symbol) -> bool
 }
 
 /// Whether references of a kind can bind to the symbol. `JumpSlot` takes what `is_definition` takes. The other kinds
-/// also take an undefined symbol with a value that has such a type, binding and visibility and is not thread-local:
+/// also take an undefined symbol with a value that has the same type, binding and visibility and is not thread-local:
 /// the value is the address at which a program without position-independent code has the function.
 pub fn is_definition_for(kind: ReferenceKind, symbol: &Symbol) -> bool
     ensures { result ≡ is_definition_for kind symbol.now }

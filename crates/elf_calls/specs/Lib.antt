@@ -3,7 +3,7 @@ pub mod Verdicts
 pub mod Hashes
 -- the question of a call
 pub mod Question
--- the text of a call over an object file, or why it is refused
+-- the text of a call over an object file, or its error
 pub mod Text
 -- the ranges that a call requests of a stream
 pub mod Ranges

@@ -39,7 +39,7 @@ RanOne answer old new can_fail before now (Err (stop.Write e)) = now ≡ before
 
 -- ---- what a call uses
 
--- the source fails, and memory is refused, only if they are needed
+-- the source fails only if it is needed, and so does an allocation
 abbrev pub IsUse : Type 0 → Type 0 → Kind → Type 0
 IsUse source memory SourceFailure = source
 IsUse source memory AllocationFailure = memory

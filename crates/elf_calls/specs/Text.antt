@@ -1,4 +1,4 @@
--- The text of a list of calls over an object file: of each call what it writes, or why it is refused.
+-- The text of a list of calls over an object file: what each call writes, or its error.
 use Rattle.std.specs.Prelude.{ℕ, List, length, Option, Some, None, Result, Ok, Err, slice_get}
 use Rattle.std.specs.List.{flat_map}
 use Rattle.elf_records.specs.Dynamic.{dyn_reads}
@@ -89,7 +89,7 @@ module _ {E : Type 0} (header : FileHeader E) (file : ObjectFile) where
   abbrev pub of_segment : ℕ → (ProgramHeader → Result (List ℕ) ParseError) → Result (List ℕ) ParseError
   of_segment i answer = unless_absent answer (slice_get file.segments i)
 
-  -- the text that a call writes, or why it is refused
+  -- the text that a call writes, or its error
   abbrev pub call_answer : Question → Result (List ℕ) ParseError
   call_answer Header = Ok (header_line file.little header)
   call_answer Sections = ok_map (λ names. counted_lines (section_line names) file.sections) (name_table file)
@@ -111,7 +111,7 @@ module _ {E : Type 0} (header : FileHeader E) (file : ObjectFile) where
       ok_map (unless_none (versions_listed (symbol_count symbols))) (symbol_version_table file)
   call_answer (Hash kind i) = of_section i (λ s. ok_map (unless_none verdict_line) (checked_as kind file s))
 
--- the text, or where the call is refused the line that says so
+-- the text, or if the call has an error the line that says so
 abbrev pub or_refused : Result (List ℕ) ParseError → List ℕ
 or_refused (Ok text) = text
 or_refused (Err e) = refused_line

@@ -14,9 +14,9 @@ use std::io;
 use std::str::SplitWhitespace;
 
 /// `check KIND ORDER CLASS SECTION SYMBOLS STRINGS LEAST MOST NAME..`: how many symbols the section indexes and what it
-/// finds for each name if it is sound, what it lacks if it is not, or why it is refused; and whether from LEAST
-/// to MOST symbols were read for it.
-/// `verdict ..`: the same without what the section lacks, where that is several things.
+/// finds for each name if it is sound, its fault if it is not, or the error; and whether from LEAST to MOST symbols
+/// were read for it.
+/// `verdict ..`: the same without the fault, for a section that has several.
 pub(crate) fn show_check(
     rt: &HostRuntime,
     is_fault_named: bool,

@@ -1,4 +1,4 @@
-//! How many items iterators give, and that they stay ended.
+//! How many items iterators yield, and that they stay ended.
 ghost use Rattle.std.specs.Iterator.{IsFinite};
 
 use crate::row_words::Words;
@@ -16,10 +16,10 @@ use elf::string_table::StringTable;
 use elf::symbol::Symbol;
 use std::io;
 
-/// `ends KIND ORDER CLASS COUNT BYTES`: whether the iterator over the bytes from each place on gives no more items than
-/// bytes, and no more linked records than the count, and then `None` three times. Of notes the count is the alignment,
-/// of records of a table it is not looked at. Linked records are also looked for at the greatest offset, if there is
-/// none.
+/// `ends KIND ORDER CLASS COUNT BYTES`: whether the iterator over the bytes starting at each place yields no more items
+/// than bytes, and no more linked records than the count, and then `None` three times. For notes the count is the
+/// alignment, for records of a table it is ignored. For linked records the greatest offset, which has none, is tried
+/// too.
 pub(crate) fn show_ends(rt: &HostRuntime, words: &mut Words<'_>) -> io::Result<()> {
     let kind = words.word();
     let order = words.order();
@@ -45,7 +45,7 @@ struct Row {
     count: u64,
 }
 
-/// The first place from which on an iterator gives too many items or does not stay ended.
+/// The first place at which an iterator starts that yields too many items or does not stay ended.
 fn first_that_goes_on(row: Row, kind: &str, data: &[u8]) -> Option<usize> {
     for place in 0..=data.len() {
         let (_, rest) = data.split_at(place);

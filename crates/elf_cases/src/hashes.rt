@@ -16,9 +16,8 @@ pub(crate) fn show_hashes(rt: &HostRuntime, words: &mut Words<'_>) -> io::Result
     print!(rt; "sysv {sysv} gnu {gnu}")
 }
 
-/// `find KIND ORDER CLASS NAME SECTION SYMBOLS STRINGS SET..`: what the section finds for the name, or why it is
-/// refused.
-/// A SET, as `nbloom=2`, changes a field of the header of a GNU hash table.
+/// `find KIND ORDER CLASS NAME SECTION SYMBOLS STRINGS SET..`: what the section finds for the name, or the error. A
+/// SET, as `nbloom=2`, changes a field of the header of a GNU hash table.
 pub(crate) fn show_find(rt: &HostRuntime, words: &mut Words<'_>) -> io::Result<()> {
     let kind = words.word();
     let order = words.order();

@@ -4,8 +4,8 @@ use elf::endian::AnyEndian;
 use elf::file::Class;
 use std::str::{FromStr, SplitWhitespace};
 
-/// The words of a row that are still to be read, and what was wrong with one that was read. Such a word is read as a
-/// word of no letters, 0 or no bytes, so that the functions that read continue; `end` returns its error.
+/// The words of a row that are still to be read, and the error of one that was wrong. A wrong word is read as a word of
+/// no letters, 0 or no bytes, so that the functions that read continue; `end` returns its error.
 #[derive(Drop)]
 pub(crate) struct Words<'a> {
     left: &'a str,

@@ -11,17 +11,17 @@ use Rattle.elf_check.specs.declared.hashcheck.HashFault.{HashFault}
 
 -- a type C of checked tables, and the view of each: what was checked
 module _ {S C : Type 0} (view : C → S) (IsSound : S → Type 0) (IsTrueOf : S → HashFault → Type 0) where
-  -- sound exactly where the section is, else a fault that is true
+  -- sound exactly if the section is, otherwise a fault that is true of it
   abbrev pub IsVerdict : S → Checked C → Type 0
   IsVerdict s (Sound checked) = IsSound s × (view checked ≡ s)
   IsVerdict s (Faulty fault) = (¬ IsSound s) × IsTrueOf s fault
 
-  -- refused exactly where the section holds no table
+  -- an error exactly if the section holds no table
   abbrev pub GivesVerdict : Result S ParseError → Result (Checked C) ParseError → Type 0
   GivesVerdict (Err e) result = result ≡ Err e
   GivesVerdict (Ok s) result = IsOkAnd result (IsVerdict s)
 
--- where the answer is a checked table, this is so of it
+-- if the answer is a checked table, this is true of it
 abbrev pub OnSound : {C : Type 0} → Result (Checked C) ParseError → (C → Type 0) → Type 0
 OnSound (Ok (Sound checked)) P = P checked
 OnSound (Ok (Faulty fault)) P = Unit {0}

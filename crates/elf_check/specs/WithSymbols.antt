@@ -1,5 +1,5 @@
--- A hash table with the symbols that it is for: what is checked. What can be read of it, of the symbols and of their
--- names; how a read is refused does not matter here.
+-- A hash table with the symbols that it is for, which is what is checked: what can be read of the table, of the symbols
+-- and of their names. With which error a read fails does not matter here.
 use Rattle.std.specs.Prelude.{ℕ, List, Option, Result}
 use Rattle.std.specs.Option.{option_map}
 use Rattle.std.specs.Result.{result_ok}

@@ -2,7 +2,7 @@
 use Rattle.std.specs.Prelude.{ℕ, List, codes}
 use Rattle.elf_lines.specs.Pieces.{◌⧺◌, newline}
 
--- the reader refuses the call
+-- the reader returns an error for the call
 abbrev pub refused_line : List ℕ
 refused_line = codes "refused" ⧺ newline
 

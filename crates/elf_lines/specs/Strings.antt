@@ -15,7 +15,7 @@ abbrev pub behind_string : ℕ → Result (List ℕ) ParseError → ℕ
 behind_string o (Ok string) = o + length string + 1
 behind_string o (Err e) = o
 
--- the strings from o on, each with its offset, up to the first that cannot be read, and no more than the limit
+-- the strings starting at o, each with its offset, up to the first that cannot be read, and no more than the limit
 abbrev pub strings_from : ℕ → List ℕ → ℕ → List (ℕ × List ℕ)
 strings_from zero bytes o = []
 strings_from (suc limit) bytes o =

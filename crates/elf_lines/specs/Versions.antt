@@ -9,7 +9,7 @@ use Rattle.elf_records.specs.declared.parse.ParseError.{ParseError}
 use Rattle.elf_lines.specs.Pieces.{◌⧺◌, newline, escaped_text, hex}
 use Rattle.elf_lines.specs.Counted.{end_line}
 
--- what a text that was read shows, if it was not refused
+-- the text of a read, if it has no error
 abbrev pub text_shown : Result (Bor (List ℕ)) ParseError → Option (List ℕ)
 text_shown (Ok text) = Some text.now
 text_shown (Err e) = None

@@ -71,7 +71,7 @@ impl LineBuffer {
     }
 
     /// Adds bytes.
-    // Inlined, so that the length of a label is known where it is copied.
+    // Inlined, so that the length of a label is a constant when it is copied.
     #[inline(always)]
     fn put<W: Write>(&mut self, text: &[u8], out: &mut W)
         ensures { Adds (W.contents out.old) self.old (W.contents out.new) self.new text.now }
@@ -234,7 +234,7 @@ impl LineBuffer {
         self.used = end;
     }
 
-    // Adds two digits for each byte, where they do not all fit any more.
+    // Adds two digits for each byte, if they do not all fit any more.
     #[inline(never)]
     fn put_many_pairs<W: Write>(&mut self, bytes: &[u8], out: &mut W)
         ensures { Adds (W.contents out.old) self.old (W.contents out.new) self.new (hex_of bytes.now) }
@@ -269,7 +269,7 @@ fn write_both<W: Write>(first: &[u8], second: &[u8], out: &mut W) -> io::Result<
 }
 
 /// Fills the end of `room` with the digits of a number, and returns where they begin.
-// Inlined, so that the base is known where numbers are divided by it.
+// Inlined, so that the base is a constant when numbers are divided by it.
 #[tactic(auto, using(crate::proofs::Digits::digits_more, crate::proofs::Digits::digits_end))]
 #[inline(always)]
 fn fill_digits(base: u64, n: u64, room: &mut [u8; MAX_DIGITS]) -> usize

@@ -27,7 +27,7 @@ pub fn add_name<W: Write>(
     }
 }
 
-/// The same for an item whose strings are known to exist.
+/// Adds the name of an item whose strings are known to exist.
 pub fn add_name_in<W: Write>(
     names: &TerminatedStrings<'_>,
     offset: u32,

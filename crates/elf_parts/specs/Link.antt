@@ -15,14 +15,14 @@ abbrev pub links_from : {A : Type 0} → (ℕ → A → Option ℕ) → ℕ → 
 links_from follow o (Ok x) behind = (o, x) ∷ from_next (follow o x) behind
 links_from follow o (Err e) behind = []
 
--- the records with the offsets where they begin: the first at `start`, each next one where the one before it says, up
--- to one that has no next one or that cannot be read, and no more than the count
+-- the records with their offsets: the first is at `start`, each later one at the offset that the one before it gives,
+-- up to one that has no next one or that cannot be read, and no more than the count
 abbrev pub links : {A : Type 0} → (ℕ → Result A ParseError) → (ℕ → A → Option ℕ) → ℕ → ℕ → List (ℕ × A)
 links gives follow zero start = []
 links gives follow (suc count) start = links_from follow start (gives start) (links gives follow count)
 
--- what the list has to be, said without a count of steps: the first record begins at the place, each is the one that
--- is read there, and those after it begin where it says
+-- what the list has to be, without a count of steps: the first record begins at the place, each is the one that is read
+-- at its offset, and the next one begins at the offset that it gives
 abbrev pub AreLinked : {A : Type 0} → (ℕ → Result A ParseError) → (ℕ → A → Option ℕ) → Option ℕ → List (ℕ × A) → Type 0
 AreLinked gives follow place [] = ⊤
 AreLinked gives follow place (link ∷ behind) =

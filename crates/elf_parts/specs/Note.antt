@@ -78,7 +78,7 @@ pub data NoteContent : Type 0 where
 abbrev pub is_gnu : List ℕ → Bool
 is_gnu name = pointwise (λ a b. a == b) name (71 ∷ 78 ∷ 85 ∷ 0 ∷ [])
 
--- what a note of this type, name and descriptor says; a tag whose descriptor is too short is refused
+-- what a note of this type, name and descriptor says; an error for a tag whose descriptor is too short
 unfoldable pub content_of : Bool → ℕ → List ℕ → List ℕ → Result NoteContent ParseError
 content_of little n_type name descriptor =
     if is_gnu name && n_type == nt_gnu_abi_tag then ok_map AbiTag (record_by abi_tag_layout little ELF32 descriptor 0)
@@ -110,20 +110,20 @@ note_at little align bytes o =
     content_of little header.n_type name descriptor >>= λ note.
     Ok (note, next)
 
--- the notes from o on with the offsets where they begin, each next one where the one before it says, up to one that
+-- the notes starting at o with their offsets, each later one at the offset that the one before it gives, up to one that
 -- does not fit; since a note has a byte at least, there are no more notes than bytes
 unfoldable pub note_links : Bool → ℕ → List ℕ → ℕ → List (ℕ × (NoteContent × ℕ))
 note_links little align bytes o = links (note_at little align bytes) (λ _ note. Some note.1) (length bytes - o) o
 
--- these are all notes of the bytes: the first begins at 0, each is the one that lies there, and each next one begins
--- where the one before it says; and any other such notes are the front of these
+-- these are all notes of the bytes: the first begins at 0, each is the one at its offset, and each later one begins at
+-- the offset that the one before it gives; and any other notes with these properties are the front of these
 abbrev pub AreAllNotes : Bool → ℕ → List ℕ → List (ℕ × (NoteContent × ℕ)) → Type 0
 AreAllNotes little align bytes list =
     AreLinked (note_at little align bytes) (λ _ note. Some note.1) (Some 0) list
     × ((others : List (ℕ × (NoteContent × ℕ))) →
     AreLinked (note_at little align bytes) (λ _ note. Some note.1) (Some 0) others → others ≡ take (length others) list)
 
--- what the notes say that lie from o on
+-- what the notes say, starting at o
 abbrev pub notes_from : Bool → ℕ → List ℕ → ℕ → List NoteContent
 notes_from little align bytes o = map (λ (link : ℕ × (NoteContent × ℕ)). link.1.0) (note_links little align bytes o)
 

@@ -241,7 +241,7 @@ impl<'data, E: EndianParse> Iterator for NoteIterator<'data, E> {
 
     ghost remaining = { item_count notes_left };
 
-    // Inlined, so that the caller takes the note where it is made.
+    // Inlined, so that the caller takes the note without a copy.
     #[inline(always)]
     fn next(&mut self) -> Option<Note<'data>> {
         match note_at(self.little, self.align, self.offset, self.data) {

@@ -16,7 +16,7 @@ pub record Piece : Type 0 where
 abbrev pub covers : ℕ → ℕ → Piece → Bool
 covers start end p = nat_le p.start start && nat_le end (p.start + length p.bytes)
 
--- where it starts and where it ends
+-- its start and its end
 abbrev pub range_of : Piece → ℕ × ℕ
 range_of p = (p.start, p.start + length p.bytes)
 
@@ -36,7 +36,7 @@ pub record IsSoundCache (content : Option (List ℕ)) (size : ℕ) (pieces : Lis
   pub len : IfSome content (λ bytes. size ≡ length bytes)
   pub parts : IfSome content (λ bytes. All (IsOf bytes) pieces)
 
--- where it ends
+-- its end
 abbrev pub end_of : Piece → ℕ
 end_of p = p.start + length p.bytes
 

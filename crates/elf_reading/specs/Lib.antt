@@ -2,7 +2,7 @@
 
 -- what the calls of a source do, and what a source in memory holds
 pub mod Source
--- why a call that reads a source is refused
+-- why a call that reads a source returns an error
 pub mod Refusals
 -- the parts of a source that are cached
 pub mod Cache

@@ -1,9 +1,9 @@
--- Why a call that reads a source is refused.
+-- Why a call that reads a source returns an error.
 use Rattle.std.specs.Prelude.{◌≡◌, ℕ, ◌<◌, Bool, IsTrue, Result, Ok, Err, IsErr, IsOk}
 use Rattle.elf_records.specs.declared.parse.ParseError.{ParseError}
 use Rattle.elf_records.specs.declared.parse.ParseError.TheVariants.{IOError, OutOfMemory}
 
--- the source failed, memory was refused, or the content has no answer
+-- the source failed, an allocation failed, or the content has no answer
 pub data Kind : Type 0 where
   SourceFailure : Kind
   AllocationFailure : Kind
@@ -14,7 +14,7 @@ kind (IOError _) = SourceFailure
 kind OutOfMemory = AllocationFailure
 kind _ = Refusal
 
--- a failure of the source raises its count, and nothing else does; the content is refused only if it has no answer
+-- A failure of the source raises its count, and nothing else does. An error of the content means that it has no answer.
 abbrev pub IsRefused : ℕ → ℕ → Bool → Type 0 → Kind → Type 0
 IsRefused before now can_fail none SourceFailure = (before < now) × IsTrue can_fail
 IsRefused before now can_fail none AllocationFailure = now ≡ before

@@ -22,6 +22,6 @@ pub record HasCause {T E : Type 0} (before now : ℕ) (can_fail : Bool) (r : Res
 abbrev pub mem_bytes : MemSource → List ℕ
 mem_bytes s = s.bytes.now
 
--- where its next read begins
+-- the offset of its next read
 abbrev pub mem_position : MemSource → ℕ
 mem_position s = s.at

@@ -39,7 +39,7 @@ impl VersionSections {
         }
     }
 
-    /// The same with one more section, which replaces an earlier one of its type.
+    /// Adds a section, which replaces an earlier one of its type.
     pub fn with(mut self, shdr: SectionHeader) -> Self
         ensures { result ≡ with_version_section self shdr }
     {

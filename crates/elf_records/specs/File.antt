@@ -42,8 +42,8 @@ version_in bytes =
     byte_in bytes ei_version >>= λ version.
     if version == ev_current then Ok tt else Err (UnsupportedVersion (version, ev_current))
 
--- the identification at the front of the bytes, or the first of these that is refused: magic, version, class, order,
--- and the bytes after them
+-- the identification at the front of the bytes, or the first error of these: magic, version, class, order, and the
+-- bytes after them
 unfoldable pub ident_of : {E : Type 0} → (ℕ → Option E) → List ℕ → Result (Ident E) ParseError
 ident_of of_byte bytes =
     magic_in bytes >>= λ _. version_in bytes >>= λ _.
@@ -111,6 +111,6 @@ file_header ident n = record {
 abbrev pub tail_layout : {E : Type 0} → Ident E → Layout (FileHeader E)
 tail_layout ident = record { fields = tail_fields; make = λ _. file_header ident }
 
--- the header whose tail these bytes begin with, or the error of the first field that is refused
+-- the header whose tail these bytes begin with, or the error of the first field that has one
 abbrev pub header_with_tail : {E : Type 0} → (E → Bool) → Ident E → List ℕ → Result (FileHeader E) ParseError
 header_with_tail little ident tail = record_by (tail_layout ident) (little ident.0) ident.1 tail 0

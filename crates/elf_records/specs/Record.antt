@@ -34,7 +34,7 @@ abbrev pub field_value : Option ℕ → ℕ → Result ℕ ParseError
 field_value None n = Ok n
 field_value (Some version) n = if n == version then Ok n else Err (UnsupportedVersion (n, version))
 
--- the numbers of the record at o, or the error of the first field that is refused
+-- the numbers of the record at o, or the error of the first field that has one
 unfoldable pub numbers_at : Bool → List Field → List ℕ → ℕ → Result (List ℕ) ParseError
 numbers_at little [] bytes o = Ok []
 numbers_at little (f ∷ fs) bytes o =
@@ -47,7 +47,7 @@ abbrev pub after_field : ℕ → Field → Result ℕ ParseError → ℕ → ℕ
 after_field o f (Err e) next = o + f.place
 after_field o f (Ok x) next = if is_ok (field_value f.version x) then next else o + f.place + f.width
 
--- where the read of a record leaves an offset o: after the record, or where the first field that is refused leaves it
+-- where the read of a record leaves an offset o: after the record, or where the first field with an error leaves it
 unfoldable pub numbers_end : Bool → ℕ → List Field → List ℕ → ℕ → ℕ
 numbers_end little size [] bytes o = o + size
 numbers_end little size (f ∷ fs) bytes o =
@@ -86,7 +86,7 @@ ReadsOnly {A = A} size gives =
     gives little class bytes o ≡ Ok x → gives little class others p ≡ Ok y →
     take (size class) (drop o bytes) ≡ take (size class) (drop p others) → x ≡ y
 
--- the bytes of a record alone decide: it is read where it lies exactly if these bytes by themselves give it
+-- the bytes of a record alone decide: it is read at its offset exactly if it is read from these bytes alone
 abbrev pub ReadsLocally : {A : Type 0} → (Class → ℕ) → (Bool → Class → List ℕ → ℕ → Result A ParseError) → Type 0
 ReadsLocally {A = A} size gives =
     (little : Bool) (class : Class) (bytes : List ℕ) (o : ℕ) (x : A) →

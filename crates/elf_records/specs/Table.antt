@@ -32,13 +32,13 @@ abbrev pub unless_refused : {A : Type 0} → Result A ParseError → List A → 
 unless_refused (Ok x) xs = x ∷ xs
 unless_refused (Err e) xs = []
 
--- the records at o, o + size and so on, up to the first that is refused, and no more than the limit
+-- the records at o, o + size and so on, up to the first that cannot be read, and no more than the limit
 abbrev pub items_from : {A : Type 0} → (List ℕ → ℕ → Result A ParseError) → ℕ → ℕ → List ℕ → ℕ → List A
 items_from gives size zero bytes o = []
 items_from gives size (suc limit) bytes o =
     unless_refused (gives bytes o) (items_from gives size limit bytes (o + size))
 
--- all records of the bytes up to the first that is refused; since a record has a byte at least, there are no more
+-- all records of the bytes up to the first that cannot be read; since a record has a byte at least, there are no more
 -- records than bytes
 abbrev pub items : {A : Type 0} → (List ℕ → ℕ → Result A ParseError) → ℕ → List ℕ → List A
 items gives size bytes = items_from gives size (length bytes) bytes 0
@@ -54,7 +54,7 @@ module _ {A : Type 0} (reads : RecordType A) where
   abbrev pub table_get : Table → ℕ → Result A ParseError
   table_get t i = item_at (reads.record_at t.little t.class) (reads.size t.class) t.bytes i
 
-  -- the records up to the first that is refused
+  -- the records up to the first that cannot be read
   abbrev pub table_items : Table → List A
   table_items t = items (reads.record_at t.little t.class) (reads.size t.class) t.bytes
 

@@ -150,8 +150,8 @@ pub trait ParseAt: Sized {
     fn size_for(class: Class) -> usize
         ensures { result ≡ reads.size class };
 
-    /// Returns whether the bytes of a record alone decide whether it can be read, wherever they lie. The tables read
-    /// such a record from a slice of its own bytes, with one check of the bounds for all its fields. A record with a
+    /// Returns whether the bytes of a record alone decide whether it can be read, wherever they lie. If so, tables read
+    /// the record from a slice of its own bytes, with one check of the bounds for all its fields. A record with a
     /// field table may return `true`; `false` is right for every record.
     fn is_local() -> bool
         ensures { result ≡ true → reads.local ≡ true }

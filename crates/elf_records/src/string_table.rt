@@ -16,7 +16,7 @@ use std::str::from_utf8;
 // How many bytes are compared with 0 at once, if fewer than `WIDE` are left.
 const LANES: usize = 16;
 
-// How many of the `LANES` bytes from start on come before the first 0 byte.
+// How many of the `LANES` bytes starting at start come before the first 0 byte.
 fn count_before_nul(bytes: &[u8], start: usize) -> usize
     requires { start + LANES ≤ length bytes.now }
     ensures { result ≡ prefix_len (λ byte. not (byte == 0)) (take LANES (drop start bytes.now)) }
@@ -56,7 +56,7 @@ fn first_nul_of_some(bytes: &[u8]) -> Option<usize>
 // How many bytes are compared with 0 at once, if that many are left: most names end in the first group.
 const WIDE: usize = 64;
 
-// How many of the `WIDE` bytes from start on come before the first 0 byte.
+// How many of the `WIDE` bytes starting at start come before the first 0 byte.
 #[inline(always)]
 fn count_wide_before_nul(bytes: &[u8], start: usize) -> usize
     requires { start + WIDE ≤ length bytes.now }

@@ -1,4 +1,4 @@
-//! What only a test can see: writers that fail, memory that is refused, and a user's own types and callers.
+//! What only a test can see: writers and allocations that fail, and a user's own types and callers.
 #![tactic(auto)]
 
 #[cfg(test)]

@@ -1,4 +1,4 @@
-//! Memory that is refused.
+//! Allocations that fail.
 use std::alloc::{AllocError, Global};
 
 /// More blocks than fill the memory of a process.

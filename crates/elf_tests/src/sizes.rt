@@ -1,4 +1,4 @@
-//! Inputs of which a caller takes much memory: none gives up although there is memory.
+//! Inputs for which a caller takes much memory: none returns an error while there is memory.
 use elf::endian::LittleEndian;
 use elf::file::Class;
 use elf::gnu_symver::{

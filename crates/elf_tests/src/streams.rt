@@ -423,7 +423,7 @@ fn answer_of(stream: &mut Halted<'_>, file: &Bytes<'_>, request: Request) -> Ans
     }
 }
 
-/// Whether a call was refused, as it may be. Called again, the call answers as `ElfBytes` does.
+/// Whether a call returned this error. Called again, the call answers as `ElfBytes` does.
 fn call_is_refused(
     rt: &(impl Abort + AllocGlobal),
     stream: &mut Halted<'_>,
@@ -440,7 +440,7 @@ fn call_is_refused(
     true
 }
 
-/// How many of all calls were refused.
+/// How many of all calls returned this error.
 fn refused_calls(
     rt: &(impl Abort + AllocGlobal),
     stream: &mut Halted<'_>,
@@ -632,7 +632,7 @@ fn open<'a>(
     Halted::open_stream(alloc, Halting::new(bytes, 1, calls_left))
 }
 
-/// Whether the first call of a stream is refused, where its source fails after a number of calls.
+/// Whether the first call of a stream returns an error if its source fails after a number of calls.
 fn first_call_fails(
     rt: &(impl Abort + AllocGlobal),
     bytes: &[u8],
@@ -685,7 +685,7 @@ fn the_first_call_may_fail(rt: HostRuntime) -> Result<(), ParseError> {
     Ok(())
 }
 
-/// The stream that was opened, or where memory was refused, that of a second try; and whether there was one.
+/// The stream that was opened, or that of a second try if an allocation failed; and whether there was a second try.
 fn opened<'a>(
     alloc: Global,
     bytes: &'a [u8],
@@ -699,8 +699,8 @@ fn opened<'a>(
     }
 }
 
-/// All calls over a file. One may fail for an allocation. `tests/refused-memory` runs this with
-/// each allocation refused.
+/// All calls over a file. One may fail for an allocation: `tests/refused-memory` runs this once for each allocation,
+/// which then fails.
 fn assert_answered(rt: &(impl Abort + AllocGlobal), bytes: &[u8]) -> Result<usize, ParseError> {
     let file = ElfBytes::minimal_parse(bytes)?;
     let calls_left = Cell::new(u64::MAX);
@@ -734,7 +734,7 @@ fn starved_answer(
     Ok(found)
 }
 
-/// A stream that is opened while no memory is left, or else while there is some; and whether it was refused first.
+/// A stream that is opened while no memory is left, or if that fails while there is some; and whether it failed first.
 fn starved_opening<'a>(
     alloc: Global,
     bytes: &'a [u8],
@@ -760,7 +760,7 @@ fn cached_answer(
     Ok(cached)
 }
 
-/// Whether a call is refused while no memory is left. Called again while there is some, it answers, and then also while
+/// Whether a call fails while no memory is left. Called again while there is some, it answers, and it still does when
 /// none is left again and the source would fail.
 fn is_starved(
     rt: &(impl Abort + AllocGlobal),
@@ -780,8 +780,8 @@ fn is_starved(
     Ok(first == Answer::Starved)
 }
 
-/// How many of the opening and the calls with no header are refused while no memory is left. To take all memory and
-/// give it back costs a tenth of a second and more, so not all calls are tried.
+/// How many of the opening and the calls with no header fail while no memory is left. To take all memory and give it
+/// back costs a tenth of a second and more, so not all calls are tried.
 fn starved_calls(rt: &(impl Abort + AllocGlobal), bytes: &[u8]) -> Result<usize, Fail> {
     let file = ElfBytes::minimal_parse(bytes)?;
     let calls_left = Cell::new(u64::MAX);

@@ -1,4 +1,4 @@
-//! Texts of values where memory is refused, and that no value has two names.
+//! Texts of values when allocations fail, and that no value has two names.
 use crate::memory::all_memory;
 use elf::to_str;
 use std::alloc::{AllocError, Global};

@@ -1,5 +1,5 @@
 -- The build id of a file: the first among the notes of its segments of type PT_NOTE, and then of its sections of
--- type SHT_NOTE. What is refused before it is found is the answer.
+-- type SHT_NOTE. An error that comes before it is found is the answer.
 use Rattle.std.specs.Prelude.{ℕ, ◌==◌, if◌then◌else◌, List, [], ◌∷◌, map, Option, Some, None, Result, Ok}
 use Rattle.elf_abi.specs.Values.{pt_note, sht_note}
 use Rattle.elf_parts.specs.Note.{NoteContent, AbiTag, BuildId, Other}

@@ -14,7 +14,7 @@ use Rattle.elf_tools.specs.declared.functions.FunctionVersion.{FunctionVersion}
 abbrev pub is_function : Symbol → Bool
 is_function s = symbol_type s == stt_func || symbol_type s == stt_gnu_ifunc
 
--- a section defines it, it is not local (STB_LOCAL, 0), and it is such a function
+-- a section defines it, it is not local (STB_LOCAL, 0), and it is a function in this sense
 abbrev pub is_defined_function : Symbol → Bool
 is_defined_function s = not (s.st_shndx == shn_undef) && not (symbol_binding s == stb_local) && is_function s
 

@@ -29,7 +29,7 @@ mappings segments = map mapping_of (filter (λ p. p.p_type == pt_load) segments)
 abbrev pub fits : Mapping → Bool
 fits m = nat_le m.file_size m.memory_size
 
--- these bytes lie in a file of so many bytes
+-- these bytes lie in a file with this number of bytes
 abbrev pub lies_in : ℕ → Mapping → Bool
 lies_in count m = nat_le (m.offset + m.file_size) count
 
@@ -66,7 +66,7 @@ ApartBefore all place = (k : ℕ) → k < place → IfSome (slice_get all k) (λ
 abbrev pub IsPlan : Class → ℕ → List Mapping → Type 0
 IsPlan class count all = LoadableBefore class count all (length all) × ApartBefore all (length all)
 
--- mapping k is the first that is not loadable, and it is such a one; and the first that overlaps an earlier one
+-- mapping k is the first that is not loadable, and has this fault; and the first that overlaps an earlier one
 abbrev pub IsFirstFaulty : Class → ℕ → List Mapping → (Mapping → Type 0) → ℕ → Type 0
 IsFirstFaulty class count all faulty k = IsSomeAnd (slice_get all k) faulty × LoadableBefore class count all k
 

@@ -73,7 +73,7 @@ name_of strings entry = or_error Unnamed (string_at strings (d_un_view entry))
 abbrev pub first_name : List ℕ → ℤ → List Dyn → Result (Option (List ℕ)) NamesError
 first_name strings tag entries = if_found (name_of strings) (first_entry tag entries)
 
--- the names of entries, in order, or why the first that cannot be read is refused
+-- the names of entries, in order, or the error of the first that cannot be read
 abbrev pub names_of_all : List ℕ → List Dyn → Result (List (List ℕ)) NamesError
 names_of_all strings [] = Ok []
 names_of_all strings (entry ∷ entries) =

@@ -62,7 +62,7 @@ module _ {C : Type 0} (view : C → VersionedObject) (objects : List C) where
         IsOk (string_at strings one.1.st_name) × IsReference versions one.0 (Err e)
     IsSymbolBound kind one (Err (Object fault)) = IsNamedBound kind one (Err fault)
 
--- exactly if there is such a reference
+-- exactly if there is a reference of the kind
 abbrev pub IsBoundIf : Bool → (Result Bound SymbolFault → Type 0) → Option (Result Bound SymbolFault) → Type 0
 IsBoundIf is_used Is None = is_used ≡ false
 IsBoundIf is_used Is (Some result) = (is_used ≡ true) × Is result

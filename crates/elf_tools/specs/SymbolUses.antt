@@ -32,7 +32,7 @@ uses_at uses i = if nat_lt i (length uses) then slice_index_or uses i no_uses el
 
 -- ---- after relocations, each by the index of its symbol and its type
 
--- with one of symbol i, if there is such a symbol
+-- with one of symbol i, if there is a symbol i
 abbrev pub use_added : List SymbolUses → ℕ → ReferenceKind → List SymbolUses
 use_added uses i kind =
     if nat_lt i (length uses) then slice_set uses i (with_use kind (slice_index_or uses i no_uses)) else uses

@@ -20,7 +20,7 @@ abbrev pub even_byte_at : Bool → Class → List ℕ → ℕ → Result EvenByt
 even_byte_at little class bytes o =
     if o % 2 == 0 then ok_map even_byte (number_at little 1 bytes o) else Err (BadOffset o)
 
--- a refused read leaves the offset
+-- a read with an error leaves the offset
 abbrev pub even_byte_end : Bool → Class → List ℕ → ℕ → ℕ
 even_byte_end little class bytes o = moved_by 1 (even_byte_at little class bytes o) o
 

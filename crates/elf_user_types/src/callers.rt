@@ -79,7 +79,7 @@ pub fn count_aux_records<E: EndianParse>(
     VerDefAuxIterator::new(endian, class, count, start, data).count()
 }
 
-/// How many names come, refused ones included.
+/// How many names the iterator yields, including errors.
 pub fn count_names<E: EndianParse>(names: SymbolNamesIterator<'_, E>) -> u64
     requires { length (names_left names) < 2 ^ 64 }
     ensures { result ≡ length (names_left names.entry) }
@@ -106,7 +106,8 @@ pub fn count_names_of<E: EndianParse, V: SymbolVersions<E>>(
     }
 }
 
-/// The same, by an index of these versions. The outer error is a failed allocation.
+/// How many names the definition of a symbol has, by an index of these versions. The outer error is a failed
+/// allocation.
 pub fn count_names_by_index<E: EndianParse>(
     alloc: Global,
     versions: &SymbolVersionTable<'_, E>,

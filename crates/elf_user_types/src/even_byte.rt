@@ -3,7 +3,7 @@ use elf::endian::EndianParse;
 use elf::file::Class;
 use elf::parse::{ParseAt, ParseError};
 
-/// A byte that lies at an even offset; one at an odd offset is refused.
+/// A byte that lies at an even offset; at an odd offset the read returns an error.
 #[derive(Clone, Copy, Debug, PartialEq, Eq)]
 pub struct EvenByte {
     pub value: u8,

@@ -24,7 +24,7 @@ pub fn all_items<E: EndianParse, P: ParseAt + Drop>(
     table.iter().collect(alloc)
 }
 
-/// The record at an index that lies below the table's length, where no record is refused for what it holds.
+/// The record at an index below the table's length, of a type whose fields may have any value.
 pub fn item_below<E: EndianParse, P: PlainRecord>(
     table: &ParsingTable<'_, E, P>,
     index: usize,

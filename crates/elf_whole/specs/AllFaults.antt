@@ -34,7 +34,7 @@ use Rattle.elf_whole.specs.declared.segments.faults.SegmentsFault.TheVariants.{S
 pub data Subject : Type 0 where
   -- the names of the sections
   SectionNames : Subject
-  -- the sections of a type of which there is to be one at most
+  -- the sections of a type that at most one section may have
   SingleType : ℕ → Subject
   -- the section of an index
   SectionAt : ℕ → Subject
@@ -42,7 +42,7 @@ pub data Subject : Type 0 where
   Needs : Subject
   Definitions : Subject
   Indexes : Subject
-  -- the segments of a type of which there is to be one at most
+  -- the segments of a type that at most one segment may have
   SingleInterp : Subject
   SingleDynamic : Subject
   SinglePhdr : Subject
@@ -113,7 +113,7 @@ IsVersionsFault file IsTrue fault =
     let chosen = version_sections file.sections in
     (own : VersionsFault) × (fault ≡ Versions own) × IsSomeAnd chosen.indexes (λ s. IsTrue chosen s own)
 
--- a fault of two segments of these types, the second of which comes after the first
+-- a fault of two segments of these types, the first before the second
 abbrev pub IsPairFault : (ℕ → ℕ → SegmentsFault) → ℕ → ℕ → List ProgramHeader → FileFault → Type 0
 IsPairFault pair earlier later segments fault =
     (first : ℕ) × (index : ℕ) × (fault ≡ Segments (pair first index)) × IsFirstPair earlier later segments first index

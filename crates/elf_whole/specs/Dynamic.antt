@@ -32,7 +32,7 @@ names_string entry =
 abbrev pub has_its_string : List ℕ → Dyn → Bool
 has_its_string strings entry = not (names_string entry) || is_ok (string_at strings (d_un_view entry))
 
--- a whole number of entries, one of which has the tag DT_NULL; each one before it has its string
+-- There is a whole number of entries. One has the tag DT_NULL, and each one before it has its string.
 pub record SoundEntries (strings : List ℕ) (t : Table) : Type 0 where
   pub whole : length t.bytes % size_by dyn_layout t.class ≡ 0
   pub ends : IsTrue (list_any (has_tag dt_null) (table_items dyn_reads t))

@@ -37,7 +37,7 @@ is_mips None = false
 is_mips (Some e_machine) = e_machine == 8
 
 -- In little-endian files of 64-bit MIPS r_info is not one number: its first four bytes are the symbol (64-bit ELF
--- supplement for MIPS, "Relocation"). Of such a file the gABI's r_sym is no symbol, so what it names is neither checked
+-- supplement for MIPS, "Relocation"). In these files the gABI's r_sym is no symbol, so what it names is neither checked
 -- nor shown.
 abbrev pub has_other_info : ObjectFile → Bool
 has_other_info file = file.little && (address_bits file.class == 64) && is_mips (machine file)
@@ -81,12 +81,12 @@ abbrev pub rela_with_symbol : ObjectFile → SectionHeader → ℕ → Result (R
 rela_with_symbol file s i = relocation_with_symbol rela_reads (λ r. r.r_sym) file s i
 
 module _ {R : Type 0} (reads : RecordType R) (symbol_of : R → ℕ) where
-  -- a whole number of relocations, each of which names a symbol below this number
+  -- a whole number of relocations, and each names a symbol below this number
   pub record SoundRelocationTable (symbols : ℕ) (t : Table) : Type 0 where
     pub whole : length t.bytes % reads.size t.class ≡ 0
     pub named : AllSound (table_get reads t) (λ r. symbol_of r < symbols)
 
-  -- the section has the entry size of relocations, is linked to symbols or to none, and holds such a table
+  -- the section has the entry size of relocations, is linked to symbols or to none, and holds a sound table of them
   pub record SoundRelocations (file : ObjectFile) (s : SectionHeader) : Type 0 where
     pub size : s.sh_entsize ≡ reads.size file.class
     pub table : IsSomeAnd (symbols_to_name file s) (λ symbols. IsOkAnd (content file s) (λ bytes.

@@ -27,9 +27,9 @@ use Rattle.elf_whole.specs.declared.faults.SectionFault.{SectionFault}
 use Rattle.elf_whole.specs.declared.faults.SectionFault.TheVariants.{Compressed, Dynamic, Hash, NoBytes, NoLastNul}
 use Rattle.elf_whole.specs.declared.faults.SectionFault.TheVariants.{NoName, NoNote, Relocations, Symbols}
 
--- ---- types of which a file has one section at most
+-- ---- types that at most one section of a file has
 
--- the gABI says so of SHT_SYMTAB, SHT_DYNSYM and SHT_DYNAMIC; of the sections of versions readers take one of each
+-- the gABI says so of SHT_SYMTAB, SHT_DYNSYM and SHT_DYNAMIC; readers take one section of versions of each type
 abbrev pub single_types : List ℕ
 single_types =
     sht_symtab ∷ sht_dynsym ∷ sht_dynamic ∷ sht_gnu_versym ∷ sht_gnu_verneed ∷ sht_gnu_verdef ∷ []
@@ -64,7 +64,7 @@ is_structural s =
 abbrev pub is_compressed : SectionHeader → Bool
 is_compressed s = not (bit_and s.sh_flags shf_compressed == 0)
 
--- such a section is not compressed
+-- a section that is read as it lies in the file is not compressed
 abbrev pub IsPlain : SectionHeader → Type 0
 IsPlain s = IsTrue (is_structural s) → IsTrue (not (is_compressed s))
 

@@ -80,8 +80,8 @@ pub record IsFirstUnsound (file : ObjectFile) (index p_type : ℕ) (fault : Segm
   pub here : IsSomeAnd (slice_get file.segments index) (λ p. (p.p_type ≡ p_type) × IsTrueOfSegment file p fault)
   pub before : SoundBelow file index
 
--- two loaded segments, the second of which begins before the first one ends; no loaded one lies between them, and those
--- before the second rise
+-- two loaded segments: the second begins before the first one ends. No loaded one comes between them, and the addresses
+-- of those before the second ascend.
 pub record IsFirstOverlap (segments : List ProgramHeader) (first index : ℕ) : Type 0 where
   pub here : IsSomeAnd (slice_get segments first) (λ p. (p.p_type ≡ pt_load)
       × IsSomeAnd (slice_get segments index) (λ q. (q.p_type ≡ pt_load) × (q.p_vaddr < memory_end p)))

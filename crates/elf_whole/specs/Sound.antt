@@ -7,8 +7,8 @@ use Rattle.elf_whole.specs.Sections.{SoundSection, repeated_type}
 use Rattle.elf_whole.specs.Segments.{SoundSegments}
 use Rattle.elf_whole.specs.versions.InFile.{SoundVersions}
 
--- the names of the sections can be read, no type of which there is to be one section has two, each section is sound,
--- and so are the versions of symbols and the segments
+-- the names of the sections can be read, no type that one section may have has two, each section is sound, and so are
+-- the versions of symbols and the segments
 pub record SoundFile (file : ObjectFile) : Type 0 where
   pub names : IsOk (name_table file)
   pub single : repeated_type file ≡ None

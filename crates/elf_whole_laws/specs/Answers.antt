@@ -1,5 +1,5 @@
--- What the listing of a sound file answers: no call on a section of its type is refused, each name is a name, and each
--- hash section is sound.
+-- What the listing of a sound file answers: no call on a section of its type has an error, each name can be read, and
+-- each hash section is sound.
 use Rattle.std.specs.Prelude.{◌≡◌, ⊤, ℕ, false, List, [], ◌∷◌, ◌++◌, codes, Option, Result, Ok, IfSome, IsOk, slice_get}
 use Rattle.std.specs.Fmt.{decimal}
 use Rattle.std.specs.Result.{IsOkAnd}

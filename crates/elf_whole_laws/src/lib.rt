@@ -1,6 +1,6 @@
 //! Laws of files that were checked: of their listing, and of look-ups over them. They are theorems for the proofs of
-//! callers. Each is the contract of a function that computes nothing; a caller uses the law by calling it. The objects of
-//! such a look-up are made by `checked_object`.
+//! callers. Each is the contract of a function that computes nothing; a caller uses the law by calling it.
+//! `checked_object` makes the objects of a look-up.
 #![tactic(auto)]
 
 ghost use Rattle.std.specs.Prelude.{◌≡◌, ℕ, List, Ok, slice_get};

@@ -124,7 +124,7 @@ pub record CanWrite (h : GnuHashHeader) (nbucket : ℕ) (names : List (List ℕ)
   -- without a bucket or a bloom word there is no place for a symbol
   pub some_bucket : 0 < nbucket
   pub some_bloom : 0 < h.nbloom
-  -- a hash has 32 bits, and a larger shift is refused
+  -- a hash has 32 bits, and a larger shift is an error
   pub shift : h.nshift < 32
   -- the run of a bucket would end before the others of it
   pub grouped : AreGrouped nbucket (gnu_hashes names)

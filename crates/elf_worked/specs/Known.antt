@@ -71,7 +71,7 @@ two_header_with shstrndx = record {
 abbrev pub two_table : Table
 two_table = table_in true ELF32 (null_section (zeros 4) ++ names_section (in_four 1))
 
--- what it shows, and with another e_shstrndx in the standing header
+-- its view, with an e_shstrndx that may be another than the one in the bytes
 abbrev pub two_view_with : ℕ → FileView AnyEndian
 two_view_with shstrndx = record {
   ehdr = two_header_with shstrndx;

@@ -62,7 +62,7 @@ module _ {E : Type 0} (little : E → Bool) (h : FileHeader E) where
       h.e_phoff h.e_phentsize (declared_segments h sections)
 
   -- the bytes of a file with this header and these tables. In its e_ident a byte gives the order, and the last
-  -- seven bytes are any; what else the file holds, and where its tables lie, is open
+  -- seven bytes are any. The other bytes and the places of the tables are any, too.
   pub record IsWritten (of_byte : ℕ → Option E) (sections : List SectionHeader) (segments : Option (List ProgramHeader))
       (bytes : List ℕ) : Type 0 where
     pub small : length bytes < 2 ^ 64
@@ -78,7 +78,7 @@ module _ {E : Type 0} (little : E → Bool) (h : FileHeader E) where
     pub sections_lie : SectionsLie sections bytes
     pub segments_lie : SegmentsLie sections segments bytes
 
-  -- the tables, and the view of such a file
+  -- the tables and the view of a file that is written so
   abbrev pub written_sections : List SectionHeader → Option Table
   written_sections [] = None
   written_sections (first ∷ rest) =

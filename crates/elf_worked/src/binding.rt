@@ -59,9 +59,9 @@ pub fn kinds_of_relocations()
     ensures mips { reference_kind 8 3 ≡ JumpSlot }
 {}
 
-/// The version of a symbol goes by its version index without bit 15. What is defined for the file itself is no version,
-/// and a version without a name that can be read is refused, as is a symbol without a version index. A symbol whose
-/// index no definition has has the version that it needs.
+/// The version of a symbol goes by its version index without bit 15. What is defined for the file itself is no version.
+/// A version whose name cannot be read is an error, and so is a symbol without a version index. A symbol whose index no
+/// definition has has the version that it needs.
 pub fn versions_of_symbols()
     ensures hidden { version_of library_versions 0 ≡ Ok (Some v) }
     ensures shown { version_of library_versions 1 ≡ Ok (Some w) }

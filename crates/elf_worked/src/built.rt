@@ -115,7 +115,7 @@ pub fn found_in_built_sysv<'data, E: EndianParse>(
     }
 }
 
-/// The same in a GNU section.
+/// A look-up in a GNU section that a linker built: the checker accepts the section, and the name is found.
 pub fn found_in_built_gnu<'data, E: EndianParse>(
     endian: E,
     class: Class,

@@ -29,7 +29,7 @@ pub fn names_looked_up()
         ) }
 {}
 
-/// The strings and the bytes of a section; one of another type is refused, and one that there is not is absent.
+/// The strings and the bytes of a section; the line is `refused` for one of another type, `absent` if there is none.
 pub fn sections_shown()
     ensures strings { listing two_sections (Strings 1 ∷ Strings 0 ∷ Strings 2 ∷ []) ≡ Ok (
         codes "string 0 name=\n"

@@ -18,8 +18,8 @@ ghost use Rattle.elf_worked.specs.Records.{versioned_layout};
 
 // ---- identifications
 
-/// Three bytes are too few for the magic number, also if they are its first three; four bytes that
-/// are another number are refused as such.
+/// Three bytes are too few for the magic number, even if they are its first three; four bytes that are another number
+/// have an error of their own.
 pub fn ident_magic()
     ensures none { ident_of any_of_byte [] ≡ Err (SliceReadError (0, 16)) }
     ensures three { ident_of any_of_byte (0x7f ∷ 0x45 ∷ 0x4c ∷ []) ≡ Err (SliceReadError (0, 16)) }
@@ -59,7 +59,7 @@ pub fn ident_accepted()
         ≡ Ok (Big, ELF64, 9, 7) }
 {}
 
-/// A type that has one order refuses the byte of the other.
+/// A type with one order returns an error for the byte of the other.
 pub fn ident_of_one_order()
     ensures little { ident_of little_of_byte (0x7f ∷ 0x45 ∷ 0x4c ∷ 0x46 ∷ 2 ∷ 1 ∷ 1 ∷ 9 ∷ 7 ∷ [])
         ≡ Ok (record {}, ELF64, 9, 7) }
@@ -222,7 +222,7 @@ pub fn refused_records()
         ≡ Err (SliceReadError (18446744073709551611, 18446744073709551615)) }
 {}
 
-/// A refused record leaves the offset at the field of the error.
+/// A record with an error leaves the offset at the field of the error.
 pub fn offsets_of_refused_records()
     ensures fourth_field { offset_by section_header_layout true ELF64 (take 20 counted_file) 0 ≡ 16 }
     ensures fourth_field_later { offset_by section_header_layout true ELF64 (take 20 counted_file) 3 ≡ 19 }
@@ -300,7 +300,7 @@ pub fn tail_of_counted_bytes()
     }) }
 {}
 
-/// A tail that is cut is refused at the first field that does not fit.
+/// A tail that is cut has the error of the first field that does not fit.
 pub fn tail_that_is_cut()
     ensures none { header_with_tail any_is_little (Little, ELF64, 0, 0) []
         ≡ Err (SliceReadError (0, 2)) }

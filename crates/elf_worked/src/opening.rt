@@ -94,8 +94,8 @@ pub fn names_without_sections()
     ensures undeclared { names_in small_view ≡ Ok None }
 {}
 
-/// The small file with e_phoff 64: its e_phentsize, 0, is refused also for a table of no records. With 56
-/// the table is declared and empty, and at 65, which lies past the end, it is refused.
+/// The small file with e_phoff 64: its e_phentsize, 0, is an error even for a table of no records. With 56 the table is
+/// declared and empty, and at 65, past the end, it is an error.
 pub fn segment_tables()
     ensures entry_size { opening (small_with (in_eight 64) (zeros 2) (zeros 2))
         ≡ Err (BadEntsize (0, 56)) }
@@ -191,7 +191,7 @@ pub fn names_by_standing_header()
     ensures empty { names_in (two_view_with 0xffff) ≡ Ok (Some []) }
 {}
 
-/// A type that has one order refuses a file of the other.
+/// A type with one order returns an error for a file of the other.
 pub fn files_of_one_order()
     ensures not_little { opened_file (λ _. true) little_of_byte two_sections_big
         ≡ Err (UnsupportedElfEndianness 2) }

@@ -33,8 +33,8 @@ pub fn of_no_bytes()
     ensures later { string_at [] 1 ≡ Err (BadOffset 1) }
 {}
 
-/// The string "ELF" is a text: whatever is answered for it as a text is that text. Where the string is
-/// refused, so is the text, for the same reason.
+/// The string "ELF" is a text: any answer for it as a text is that text. If the string has an error, the text has the
+/// same error.
 pub fn a_string_as_text()
     ensures accepted { (answer : Result (Bor (List ℕ)) ParseError) →
         GivesText (string_at (0x00 ∷ 0x45 ∷ 0x4c ∷ 0x46 ∷ 0x00 ∷ []) 1) answer →

@@ -10,8 +10,8 @@ ghost use Rattle.elf_records.specs.declared.parse.ParseError.TheVariants.{BadOff
 ghost use Rattle.elf_worked.specs.Files.{first_eight};
 ghost use Rattle.elf_worked.specs.Records.{three_byte_layout, three_byte_reads, word_reads};
 
-/// Numbers of four bytes in the bytes 00 to 07. The item at their end is read and refused; one further
-/// on has a bad offset, and one whose offset passes 64 bits overflows.
+/// Numbers of four bytes in the bytes 00 to 07. The item at their end has the error of its read; one further on has a
+/// bad offset, and one whose offset passes 64 bits overflows.
 pub fn words()
     ensures first { item_at (number_at true 4) 4 first_eight 0 ≡ Ok 0x03020100 }
     ensures second { item_at (number_at true 4) 4 first_eight 1 ≡ Ok 0x07060504 }
@@ -35,8 +35,8 @@ pub fn words_in_big_order()
         ≡ 0x00010203 ∷ 0x04050607 ∷ [] }
 {}
 
-/// The bytes 00 01 are too few for one number of four bytes: the table is empty, and its first item is
-/// refused as it is read.
+/// The bytes 00 01 are too few for one number of four bytes: the table is empty, and its first item has the error of
+/// its read.
 pub fn too_few_bytes()
     ensures len { table_len word_reads (table_in true ELF32 (0 ∷ 1 ∷ [])) ≡ 0 }
     ensures first { table_get word_reads (table_in true ELF32 (0 ∷ 1 ∷ [])) 0

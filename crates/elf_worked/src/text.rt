@@ -98,8 +98,8 @@ pub fn section_without_names()
         ) }
 {}
 
-/// The file whose table has no records and whose e_shstrndx is 1: the call is refused, in a line, and
-/// the calls after it are written.
+/// The file whose table has no records and whose e_shstrndx is 1: the call writes the line `refused`, and the calls
+/// after it are written.
 pub fn refused_call_listed()
     ensures { listing (counted_by_size (zeros 8)) (Sections ∷ Header ∷ []) ≡ Ok (
         codes "refused\n"

@@ -1,5 +1,5 @@
 //! Runs test cases of `nugwier`: each line of the file `cases` is the words of a command line, which name files beside
-//! the program. Prints the line, what is listed, what is told on standard error, and the exit status.
+//! the program. Prints the line, what is listed, what is printed on standard error, and the exit status.
 #![tactic(auto)]
 
 ghost use Rattle.std.specs.Prelude.{None};

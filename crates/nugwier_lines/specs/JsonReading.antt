@@ -4,8 +4,8 @@ use Rattle.std.specs.Char.{digit_value}
 use Rattle.std.specs.Option.{option_map}
 use Rattle.std.specs.Str.{chars, encode_utf8_all}
 
--- where a string is read: before it, at one of its characters, after a backslash, or among the digits after `\u`, of
--- which so many follow the next one and the others say this number
+-- Where a reader of a string is: before it, at one of its characters, after a backslash, or at a digit after `\u`, with
+-- how many digits follow this one and the number that those before it make.
 pub data Reading : Type 0 where
   before : Reading
   at_character : Reading

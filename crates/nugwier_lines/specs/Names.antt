@@ -38,7 +38,7 @@ name_wrong part strings i symbol =
 abbrev pub is_function : Symbol → Bool
 is_function symbol = symbol_type symbol == stt_func || symbol_type symbol == stt_gnu_ifunc
 
--- a section defines it, it is not local, and it is such a function
+-- a section defines it, it is not local, and it is a function in this sense
 abbrev pub is_export : Symbol → Bool
 is_export symbol =
     not (symbol.st_shndx == shn_undef) && not (symbol_binding symbol == stb_local) && is_function symbol

@@ -48,8 +48,8 @@ pub enum Value<'a> {
     Word(Option<&'static str>),
     /// A character, if there is one.
     Character(Option<char>),
-    /// A text of the file, if it can be read. If it is not UTF-8, the digits of its bytes stand there, and the key has
-    /// `_hex` at its end.
+    /// A text of the file, if it can be read. If it is not UTF-8, the digits of its bytes are written instead, and the
+    /// key ends with `_hex`.
     Text(Option<&'a [u8]>),
     /// Bytes, as two digits each. The key has `_hex` at its end.
     Bytes(&'a [u8]),

@@ -15,7 +15,7 @@ use thiserror::Error;
 /// A part of a file. Sections and segments are counted from 0.
 #[derive(Debug, Clone, Copy)]
 pub enum Part {
-    /// The file as a whole. It has no text of its own, since the file's name stands before.
+    /// The file as a whole. It has no text of its own, since the file's name comes before it.
     File,
     /// The names of the sections.
     SectionNames,

@@ -65,7 +65,7 @@ fn is_block_plain(bytes: &[u8]) -> bool
     plain
 }
 
-/// Whether a byte is a graphic character of ASCII other than the backslash: such a byte needs no escape.
+/// Whether a byte is a graphic character of ASCII other than the backslash, so that it needs no escape.
 pub(super) fn is_plain(byte: u8) -> bool
     ensures { result ≡ is_plain byte }
 {

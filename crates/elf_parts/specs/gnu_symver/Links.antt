@@ -7,7 +7,7 @@ use Rattle.elf_records.specs.declared.file.Class.{Class}
 use Rattle.elf_parts.specs.declared.gnu_symver.links.Links.{Links}
 use Rattle.elf_records.specs.declared.parse.ParseError.{ParseError}
 
--- where the next record begins, if there is one: not where the distance to it is 0, nor where it would lie past 64 bits
+-- where the next record begins, if there is one: there is none if the distance is 0 or its offset exceeds 64 bits
 abbrev pub next_start : ℕ → ℕ → Option ℕ
 next_start o distance = if distance == 0 || nat_le (2 ^ 64) (o + distance) then None else Some (o + distance)
 
@@ -18,7 +18,7 @@ module _ {A : Type 0} (record_at : Bool → Class → List ℕ → ℕ → Resul
   unfoldable pub links_in : Table → ℕ → ℕ → List (ℕ × A)
   links_in t count start = links (record_at t.little t.class t.bytes) (λ o x. next_start o (distance x)) count start
 
--- the records alone, without the offsets where they begin
+-- the records alone, without their offsets
 abbrev pub records_of : {A : Type 0} → List (ℕ × A) → List A
 records_of {A = A} list = map (λ (link : ℕ × A). link.1) list
 

@@ -55,8 +55,8 @@ fn fold_top(hash: u32) -> u32
     hash ^ ((hash >> 24) & 0xf0)
 }
 
-/// Returns the hash of a name, given without its 0 byte, in a SysV hash section (gABI, chapter "Hash Table"): 32 bits,
-/// of which the upper four are 0.
+/// Returns the hash of a name, given without its 0 byte, in a SysV hash section (gABI, chapter "Hash Table"): 32 bits
+/// with the upper four 0.
 ///
 /// ```rust
 /// println!(rt; "{:#x}", sysv_hash(b"printf"))?; // 0x77905a6

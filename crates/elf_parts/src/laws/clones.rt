@@ -15,7 +15,7 @@ pub fn clones_of_hash_headers()
     ensures gnu { ClonesExactly ⟦<GnuHashHeader as Clone>⟧.is_clone ⟦<GnuHashHeader as Clone>⟧.is_infallible }
 {}
 
-/// The same of needed versions, ABI tags and build ids.
+/// The clone of a needed version, an ABI tag or a build id is the same value, and cloning it cannot fail.
 pub fn clones_of_needed_and_notes()
     ensures needed { ClonesExactly ⟦<Needed as Clone>⟧.is_clone ⟦<Needed as Clone>⟧.is_infallible }
     ensures abi_tag { ClonesExactly ⟦<NoteGnuAbiTag as Clone>⟧.is_clone ⟦<NoteGnuAbiTag as Clone>⟧.is_infallible }
@@ -23,7 +23,8 @@ pub fn clones_of_needed_and_notes()
         ⟦<NoteGnuBuildId<'static> as Clone>⟧.is_clone ⟦<NoteGnuBuildId<'static> as Clone>⟧.is_infallible }
 {}
 
-/// The same of the two version iterators that can be cloned. A cloned iterator continues at the same place.
+/// The clone of either version iterator that can be cloned is the same value, so it continues at the same place, and
+/// cloning it cannot fail.
 pub fn clones_of_version_iterators<E: EndianParse>()
     ensures needs { ClonesExactly
         ⟦<VerNeedIterator<'static, E> as Clone>⟧.is_clone ⟦<VerNeedIterator<'static, E> as Clone>⟧.is_infallible }

@@ -58,97 +58,98 @@ pub fn section_headers_are_read_back()
     ensures { IsStruct section_header_layout section_header_struct }
 {}
 
-/// The same of program headers, as `section_headers_are_read_back` says it of section headers.
+/// Program headers are read back, in the sense of `section_headers_are_read_back`.
 #[tactic(auto, using(crate::proofs::ReadStructs::program_header_is_struct))]
 pub fn program_headers_are_read_back()
     ensures { IsStruct program_header_layout program_header_struct }
 {}
 
-/// The same of symbols, as `section_headers_are_read_back` says it of section headers.
+/// Symbols are read back, in the sense of `section_headers_are_read_back`.
 #[tactic(auto, using(crate::proofs::ReadStructs::symbol_is_struct))]
 pub fn symbols_are_read_back()
     ensures { IsStruct symbol_layout symbol_struct }
 {}
 
-/// The same of relocations without an addend, as `section_headers_are_read_back` says it of section headers.
+/// Relocations without an addend are read back, in the sense of `section_headers_are_read_back`.
 #[tactic(auto, using(crate::proofs::ReadStructs::rel_is_struct))]
 pub fn rels_are_read_back()
     ensures { IsStruct rel_layout rel_struct }
 {}
 
-/// The same of relocations with an addend, as `section_headers_are_read_back` says it of section headers.
+/// Relocations with an addend are read back, in the sense of `section_headers_are_read_back`.
 #[tactic(auto, using(crate::proofs::ReadStructs::rela_is_struct))]
 pub fn relas_are_read_back()
     ensures { IsStruct rela_layout rela_struct }
 {}
 
-/// The same of dynamic entries, as `section_headers_are_read_back` says it of section headers.
+/// Dynamic entries are read back, in the sense of `section_headers_are_read_back`.
 #[tactic(auto, using(crate::proofs::ReadStructs::dyn_is_struct))]
 pub fn dynamic_entries_are_read_back()
     ensures { IsStruct dyn_layout dyn_struct }
 {}
 
-/// The same of headers of notes, as `section_headers_are_read_back` says it of section headers.
+/// Headers of notes are read back, in the sense of `section_headers_are_read_back`.
 #[tactic(auto, using(crate::proofs::ReadStructs::note_header_is_struct))]
 pub fn note_headers_are_read_back()
     ensures { IsStruct note_header_layout (λ _. note_header_struct) }
 {}
 
-/// The same of ABI tags, as `section_headers_are_read_back` says it of section headers.
+/// ABI tags are read back, in the sense of `section_headers_are_read_back`.
 #[tactic(auto, using(crate::proofs::ReadStructs::abi_tag_is_struct))]
 pub fn abi_tags_are_read_back()
     ensures { IsStruct abi_tag_layout (λ _. abi_tag_struct) }
 {}
 
-/// The same of needs, as `section_headers_are_read_back` says it of section headers.
+/// Needs are read back, in the sense of `section_headers_are_read_back`.
 #[tactic(auto, using(crate::proofs::ReadStructs::ver_need_is_struct))]
 pub fn ver_needs_are_read_back()
     ensures { IsStruct ver_need_layout (λ _. ver_need_struct) }
 {}
 
-/// The same of needed versions, as `section_headers_are_read_back` says it of section headers.
+/// Needed versions are read back, in the sense of `section_headers_are_read_back`.
 #[tactic(auto, using(crate::proofs::ReadStructs::ver_need_aux_is_struct))]
 pub fn ver_need_auxs_are_read_back()
     ensures { IsStruct ver_need_aux_layout (λ _. ver_need_aux_struct) }
 {}
 
-/// The same of definitions of versions, as `section_headers_are_read_back` says it of section headers.
+/// Definitions of versions are read back, in the sense of `section_headers_are_read_back`.
 #[tactic(auto, using(crate::proofs::ReadStructs::ver_def_is_struct))]
 pub fn ver_defs_are_read_back()
     ensures { IsStruct ver_def_layout (λ _. ver_def_struct) }
 {}
 
-/// The same of names of definitions, as `section_headers_are_read_back` says it of section headers.
+/// Names of definitions are read back, in the sense of `section_headers_are_read_back`.
 #[tactic(auto, using(crate::proofs::ReadStructs::ver_def_aux_is_struct))]
 pub fn ver_def_auxs_are_read_back()
     ensures { IsStruct ver_def_aux_layout (λ _. ver_def_aux_struct) }
 {}
 
-/// The same of version indexes, as `section_headers_are_read_back` says it of section headers.
+/// Version indexes are read back, in the sense of `section_headers_are_read_back`.
 #[tactic(auto, using(crate::proofs::ReadStructs::version_index_is_struct))]
 pub fn version_indexes_are_read_back()
     ensures { IsStruct version_index_layout (λ _. version_index_struct) }
 {}
 
-/// The same of headers of SysV hash sections, as `section_headers_are_read_back` says it of section headers.
+/// Headers of SysV hash sections are read back, in the sense of `section_headers_are_read_back`.
 #[tactic(auto, using(crate::proofs::ReadStructs::sysv_header_is_struct))]
 pub fn sysv_headers_are_read_back()
     ensures { IsStruct sysv_header_layout (λ _. sysv_header_struct) }
 {}
 
-/// The same of headers of GNU hash sections, as `section_headers_are_read_back` says it of section headers.
+/// Headers of GNU hash sections are read back, in the sense of `section_headers_are_read_back`.
 #[tactic(auto, using(crate::proofs::ReadStructs::gnu_header_is_struct))]
 pub fn gnu_headers_are_read_back()
     ensures { IsStruct gnu_header_layout (λ _. gnu_header_struct) }
 {}
 
-/// The same of compression headers, whatever the reserved word is.
+/// Compression headers are read back, whatever the reserved word is, in the sense of `section_headers_are_read_back`.
 #[tactic(auto, using(crate::proofs::ReadStructs::compression_header_is_struct))]
 pub fn compression_headers_are_read_back()
     ensures { (reserved : ℕ) → IsStruct compression_header_layout (compression_header_struct reserved) }
 {}
 
-/// The same of words of four and of eight bytes, as hash sections have them.
+/// Words of four and of eight bytes, as hash sections have them, are read back, in the sense of
+/// `section_headers_are_read_back`.
 #[tactic(auto, using(crate::proofs::ReadStructs::u32_is_struct, crate::proofs::ReadStructs::u64_is_struct))]
 pub fn words_are_read_back()
     ensures four { IsStruct u32_layout (λ _ n. word n ∷ []) }

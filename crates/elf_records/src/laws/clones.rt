@@ -20,7 +20,8 @@ pub fn clones_of_kinds()
     ensures big { ClonesExactly ⟦<BigEndian as Clone>⟧.is_clone ⟦<BigEndian as Clone>⟧.is_infallible }
 {}
 
-/// The same of file headers, section headers, program headers and compression headers.
+/// The clone of a file header, section header, program header or compression header is the same value, and cloning it
+/// cannot fail.
 pub fn clones_of_headers<E: EndianParse>()
     ensures file { ClonesExactly ⟦<FileHeader<E> as Clone>⟧.is_clone ⟦<FileHeader<E> as Clone>⟧.is_infallible }
     ensures section { ClonesExactly ⟦<SectionHeader as Clone>⟧.is_clone ⟦<SectionHeader as Clone>⟧.is_infallible }
@@ -29,7 +30,7 @@ pub fn clones_of_headers<E: EndianParse>()
         ⟦<CompressionHeader as Clone>⟧.is_clone ⟦<CompressionHeader as Clone>⟧.is_infallible }
 {}
 
-/// The same of symbols, relocations and dynamic entries.
+/// The clone of a symbol, a relocation or a dynamic entry is the same value, and cloning it cannot fail.
 pub fn clones_of_records()
     ensures symbol { ClonesExactly ⟦<Symbol as Clone>⟧.is_clone ⟦<Symbol as Clone>⟧.is_infallible }
     ensures rel { ClonesExactly ⟦<Rel as Clone>⟧.is_clone ⟦<Rel as Clone>⟧.is_infallible }
@@ -37,12 +38,12 @@ pub fn clones_of_records()
     ensures entry { ClonesExactly ⟦<Dyn as Clone>⟧.is_clone ⟦<Dyn as Clone>⟧.is_infallible }
 {}
 
-/// The same of string tables.
+/// The clone of a string table is the same value, and cloning it cannot fail.
 pub fn clones_of_strings()
     ensures { ClonesExactly ⟦<StringTable<'static> as Clone>⟧.is_clone ⟦<StringTable<'static> as Clone>⟧.is_infallible }
 {}
 
-/// The same of tables of records.
+/// The clone of a table of records is the same value, and cloning it cannot fail.
 pub fn clones_of_tables<E: EndianParse, P: ParseAt>()
     ensures { ClonesExactly
         ⟦<ParsingTable<'static, E, P> as Clone>⟧.is_clone ⟦<ParsingTable<'static, E, P> as Clone>⟧.is_infallible }

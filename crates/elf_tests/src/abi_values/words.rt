@@ -1,4 +1,4 @@
-//! Constants of 32 bits, but for relocation types, each with the value that it must have.
+//! Constants of 32 bits, except relocation types, each with the value that it must have.
 
 use elf_abi::abi;
 

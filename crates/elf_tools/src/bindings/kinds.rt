@@ -136,7 +136,7 @@ pub fn bind_symbol<E: EndianParse, V: SymbolVersions<E>>(
     }
 }
 
-// What it binds to by a kind of reference, if there is such a reference.
+// What it binds to by a kind of reference, if there is a reference of this kind.
 fn bind_if<E: EndianParse, V: SymbolVersions<E>>(
     is_used: bool,
     objects: &[VersionedObject<'_, E, V>],

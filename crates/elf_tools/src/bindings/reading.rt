@@ -183,7 +183,7 @@ fn read_entries<E: EndianParse, S: StreamSource>(
     })
 }
 
-// The same if there is a section.
+// The entries of a section, if there is one.
 fn read_entries_if<E: EndianParse, S: StreamSource>(
     alloc: Global,
     stream: &mut ElfStream<E, S, Global>,

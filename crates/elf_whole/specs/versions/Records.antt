@@ -45,7 +45,7 @@ need_links t count = links_in (record_by ver_need_layout) (λ x. x.vn_next) t co
 abbrev pub need_extent : VerNeed → ℕ
 need_extent need = need.vn_cnt * 16
 
--- exactly as many needs as the section declares, each of which is sound; their versions do not take more bytes than
+-- There are exactly as many needs as the section declares, each sound, and their versions do not take more bytes than
 -- there are. So a check of them all is linear. A few may lie in the same bytes, as linkers write it.
 pub record SoundNeeds (strings : List ℕ) (t : Table) (count : ℕ) : Type 0 where
   pub fit : total_extent need_extent (need_links t count) ≤ length t.bytes
@@ -72,8 +72,8 @@ def_links t count = links_in (record_by ver_def_layout) (λ x. x.vd_next) t coun
 abbrev pub def_extent : VerDef → ℕ
 def_extent definition = definition.vd_cnt * 8
 
--- exactly as many definitions as the section declares, each of which is sound; their names do not take more bytes than
--- there are
+-- There are exactly as many definitions as the section declares, each sound, and their names do not take more bytes
+-- than there are.
 pub record SoundDefs (strings : List ℕ) (t : Table) (count : ℕ) : Type 0 where
   pub fit : total_extent def_extent (def_links t count) ≤ length t.bytes
   pub chain : SoundChain (λ x. x.vd_next) (SoundDef strings t) count (def_links t count)
