@@ -262,6 +262,16 @@ impl<'data, E: EndianParse, P: ParseAt> ParsingTable<'data, E, P> {
         self.len() == 0
     }
 
+    /// Returns the record at `index`, counted from 0, or `None` if it cannot be read; `get` has the error.
+    #[inline(always)]
+    pub fn get_quickly(&self, index: usize) -> Option<P>
+        ensures value { IfSome result (λ x. table_get P.reads (table_view self.now) index ≡ Ok x) }
+        ensures refused { IfNone result (IsErr (table_get P.reads (table_view self.now) index)) }
+    {
+        let start = index.checked_mul(P::size_for(self.class))?;
+        read_quickly(self.little, self.class, start, self.data)
+    }
+
     /// Returns the record at `index`, counted from 0.
     ///
     /// Errors, in order: `BadOffset(index)` if the table has no bytes; `IntegerOverflow` if the offset of the
