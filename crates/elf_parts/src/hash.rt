@@ -1,5 +1,5 @@
 //! Hash sections, which find symbols by name: SysV (gABI, chapter "Hash Table") and GNU.
-ghost use Rattle.std.specs.Prelude.{◌≡◌, ◌<◌, ◌^◌, None};
+ghost use Rattle.std.specs.Prelude.{◌≡◌, ◌<◌, ◌^◌, IfNone, IfSome, IsErr, None, Ok};
 ghost use Rattle.elf_parts.specs.Hash.{if_named, named_symbol, word_at, word_count};
 ghost use Rattle.elf_records.specs.Number.{ok_map};
 ghost use Rattle.elf_records.specs.Table.{table_view};
@@ -21,16 +21,18 @@ type U32Table<'data, E> = ParsingTable<'data, E, u32>;
 /// What a look-up returns: the index and the symbol, if there is one.
 type Found = Result<Option<(usize, Symbol)>, ParseError>;
 
-// The reads of a look-up are inlined, and return their errors by `refused_word` and `refused_symbol`, which read once
-// more: a `ParseError` is large, and to carry one that is not there through each read costs more than the look-up.
+// The reads of a look-up are inlined, and return `None` for an error; `refused_word` and `refused_symbol` read once more
+// and return it. A `ParseError` is large: to carry one that is not there through each read costs more than the look-up.
 
-// A word of a table.
+// A word of a table, or `None` if it cannot be read.
 #[tactic(auto, unfolding(crate::specs::Hash::word_at))]
 #[inline(always)]
-fn word<E: EndianParse>(words: &U32Table<'_, E>, index: usize) -> Result<usize, ParseError>
-    ensures { result ≡ word_at (table_view words.now) index }
+fn word<E: EndianParse>(words: &U32Table<'_, E>, index: usize) -> Option<usize>
+    ensures value { IfSome result (λ n. word_at (table_view words.now) index ≡ Ok n) }
+    ensures refused { IfNone result (IsErr (word_at (table_view words.now) index)) }
 {
-    Ok(words.get(index)? as usize)
+    let word = words.get_quickly(index)?;
+    Some(word as usize)
 }
 
 // How many words a table holds.
@@ -56,7 +58,7 @@ fn named_symbol<'data, E: EndianParse>(
     Ok((symbol, name))
 }
 
-// An index and its symbol, where that has the name.
+// An index and its symbol, where that has the name, or `None` if it cannot be read.
 #[tactic(auto, unfolding(crate::specs::Hash::named_symbol))]
 #[inline(always)]
 fn if_named<'data, E: EndianParse>(
@@ -64,23 +66,27 @@ fn if_named<'data, E: EndianParse>(
     strings: &TerminatedStrings<'data>,
     name: &[u8],
     index: usize,
-) -> Found
-    ensures { result ≡ ok_map (if_named name.now index) (named_symbol (table_view symtab.now) strings.now index) }
+) -> Option<Option<(usize, Symbol)>>
+    ensures value { IfSome result (λ found.
+        ok_map (if_named name.now index) (named_symbol (table_view symtab.now) strings.now index) ≡ Ok found) }
+    ensures refused { IfNone result
+        (IsErr (ok_map (if_named name.now index) (named_symbol (table_view symtab.now) strings.now index))) }
 {
-    let symbol = symtab.get(index)?;
-    if strings.is(symbol.st_name as usize, name)? {
-        Ok(Some((index, symbol)))
+    let symbol = symtab.get_quickly(index)?;
+    if strings.is_quickly(symbol.st_name as usize, name)? {
+        Some(Some((index, symbol)))
     } else {
-        Ok(None)
+        Some(None)
     }
 }
 
 // The error of a word that cannot be read.
+#[tactic(auto, unfolding(crate::specs::Hash::word_at))]
 #[inline(never)]
 fn refused_word<E: EndianParse>(words: &U32Table<'_, E>, index: usize) -> Found
     ensures { result ≡ ok_map (λ _. None) (word_at (table_view words.now) index) }
 {
-    word(words, index)?;
+    words.get(index)?;
     Ok(None)
 }
 

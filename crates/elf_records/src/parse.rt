@@ -18,7 +18,7 @@ use thiserror::Error;
 mod integers;
 mod table;
 
-pub use table::{ParsingIterator, ParsingTable, read_record};
+pub use table::{ParsingIterator, ParsingTable, read_quickly, read_record};
 
 /// An error of the library. A pair of numbers is (found, expected), or (start, end) of a range of bytes whose end
 /// is not included.

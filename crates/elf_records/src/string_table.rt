@@ -1,5 +1,6 @@
 //! Tables of strings (gABI, chapter "String Table").
-ghost use Rattle.std.specs.Prelude.{◌≡◌, ◌≢◌, ◌==◌, ◌+◌, ◌-◌, ◌<◌, ◌≤◌, Err, List, None, Some, ℕ};
+ghost use Rattle.std.specs.Prelude.{◌≡◌, ◌≢◌, ◌==◌, ◌+◌, ◌-◌, ◌<◌, ◌≤◌, Err, List, None, Ok, Some, ℕ};
+ghost use Rattle.std.specs.Prelude.{IfNone, IfSome, IsErr};
 ghost use Rattle.std.specs.Prelude.{drop, length, not, position, slice_get, take};
 ghost use Rattle.std.specs.Bool.{Decides};
 ghost use Rattle.std.specs.List.{prefix_len};
@@ -240,6 +241,19 @@ impl<'data> TerminatedStrings<'data> {
             return Err(self.table.refused(offset));
         }
         self.table.get_raw(offset)
+    }
+
+    /// Returns whether the string at `offset`, in bytes, is this name, or `None` if it cannot be read; `is` has the error.
+    #[tactic(auto, unfolding(crate::specs::StringTable::string_at))]
+    #[inline(always)]
+    pub fn is_quickly(&self, offset: usize, name: &[u8]) -> Option<bool>
+        ensures value { IfSome result (λ same. ok_map (λ bytes. bytes_eq bytes name.now) (string_at self.now offset) ≡ Ok same) }
+        ensures refused { IfNone result (IsErr (string_at self.now offset)) }
+    {
+        if offset >= self.terminated {
+            return None;
+        }
+        Some(first_string_is(&self.table.data[offset..], name))
     }
 
     /// Returns whether the string at `offset`, in bytes, is this name. The error is that of `StringTable::get_raw`. The

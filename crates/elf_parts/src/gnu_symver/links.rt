@@ -8,7 +8,7 @@ ghost use Rattle.elf_records.specs.Table.{Table, table_in};
 
 use crate::endian::EndianParse;
 use crate::file::Class;
-use crate::parse::{ParseAt, read_record};
+use crate::parse::{ParseAt, read_quickly, read_record};
 use std::alloc::AllocError;
 use std::marker::PhantomData;
 
@@ -108,23 +108,6 @@ impl<'data, E: EndianParse, R: Linked> Links<'data, E, R> {
         Links::new(self.little, self.class, count as u64, offset, self.data)
     }
 
-    // Goes on to the record `distance` bytes after this one, or to the end.
-    #[tactic(auto, using(crate::proofs::LinkedRecords::links_none))]
-    fn follow(&mut self, distance: u32)
-        ensures items { links_left R.reads.record_at R.next_distance self.new
-            ≡ from_next (next_start self.old.offset distance)
-            (links_in R.reads.record_at R.next_distance (links_view self.old) (self.old.count - 1)) }
-        ensures view { links_view self.new ≡ links_view self.old }
-    {
-        match next_start(self.offset, distance) {
-            Some(offset) => {
-                self.count = self.count.saturating_sub(1);
-                self.offset = offset;
-            }
-            None => self.count = 0,
-        }
-    }
-
     /// Returns the offset of the next record, in bytes.
     pub fn offset(&self) -> usize
         ensures { result ≡ self.now.offset }
@@ -199,18 +182,18 @@ impl<'data, E: EndianParse, R: Linked> Iterator for Links<'data, E, R> {
 
     ghost remaining = { item_count (links_left R.reads.record_at R.next_distance) };
 
+    #[inline(always)]
     fn next(&mut self) -> Option<(usize, R)> {
         if self.count == 0 {
             return None;
         }
         let start = self.offset;
-        let mut end = start;
-        match read_record::<R>(self.little, self.class, &mut end, self.data) {
-            Ok(record) => {
-                self.follow(record.distance());
+        match read_quickly::<R>(self.little, self.class, start, self.data) {
+            Some(record) => {
+                self.skip_to(self.behind(record.distance()), 1);
                 Some((start, record))
             }
-            Err(_) => {
+            None => {
                 self.count = 0;
                 None
             }

@@ -62,6 +62,7 @@ impl<'data, E: EndianParse, A: Linked> Iterator for AuxIterator<'data, E, A> {
 
     ghost remaining = { item_count (aux_left A.reads.record_at A.next_distance) };
 
+    #[inline(always)]
     fn next(&mut self) -> Option<A> {
         let (_, record) = self.links.next()?;
         Some(record)
@@ -116,6 +117,7 @@ impl<'data, E: EndianParse, V: VersionEntry> EntryIterator<'data, E, V> {
     }
 
     /// The next entry, with the links to its auxiliary entries, which lie in the same data.
+    #[inline(always)]
     pub(super) fn next_links(&mut self) -> Option<(V, Links<'data, E, V::Aux>)>
         ensures steps { YieldsFirstBy (links_entry V.Aux.reads.record_at V.Aux.next_distance)
             (entries_left V.reads.record_at V.next_distance V.with_aux) self.old result self.new }
@@ -136,6 +138,7 @@ impl<'data, E: EndianParse, V: VersionEntry> Iterator for EntryIterator<'data, E
 
     ghost remaining = { item_count (entries_left V.reads.record_at V.next_distance V.with_aux) };
 
+    #[inline(always)]
     fn next(&mut self) -> Option<(V, AuxIterator<'data, E, V::Aux>)> {
         let (entry, links) = self.next_links()?;
         Some((entry, AuxIterator { links }))

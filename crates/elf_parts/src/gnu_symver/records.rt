@@ -44,6 +44,7 @@ impl ParseAt for VerNeed {
     ghost reads = { ver_need_reads };
 
     #[tactic(auto, unfolding(elf_records::specs::Record::numbers_at, elf_records::specs::Record::numbers_end))]
+    #[inline(always)]
     fn parse_at<E: EndianParse>(
         endian: E,
         _class: Class,
@@ -115,6 +116,7 @@ impl ParseAt for VerNeedAux {
     ghost reads = { ver_need_aux_reads };
 
     #[tactic(auto, unfolding(elf_records::specs::Record::numbers_at, elf_records::specs::Record::numbers_end))]
+    #[inline(always)]
     fn parse_at<E: EndianParse>(
         endian: E,
         _class: Class,
@@ -183,6 +185,7 @@ impl ParseAt for VerDef {
     ghost reads = { ver_def_reads };
 
     #[tactic(auto, unfolding(elf_records::specs::Record::numbers_at, elf_records::specs::Record::numbers_end))]
+    #[inline(always)]
     fn parse_at<E: EndianParse>(
         endian: E,
         _class: Class,
@@ -253,6 +256,7 @@ impl ParseAt for VerDefAux {
     ghost reads = { ver_def_aux_reads };
 
     #[tactic(auto, unfolding(elf_records::specs::Record::numbers_at, elf_records::specs::Record::numbers_end))]
+    #[inline(always)]
     fn parse_at<E: EndianParse>(
         endian: E,
         _class: Class,
@@ -295,6 +299,7 @@ impl ParseAt for VersionIndex {
     ghost reads = { version_index_reads };
 
     #[tactic(auto, unfolding(elf_records::specs::Record::numbers_at, elf_records::specs::Record::numbers_end))]
+    #[inline(always)]
     fn parse_at<E: EndianParse>(
         endian: E,
         _class: Class,

@@ -126,6 +126,25 @@ fn first_needed<E: EndianParse>(
     None
 }
 
+// The definitions from the first one with this index on, or none. Of those before it only what is compared is read.
+#[tactic(auto, unfolding(crate::specs::gnu_symver::Table::defined_version))]
+fn skip_to_defined<'data, E: EndianParse>(
+    definitions: VerDefIterator<'data, E>,
+    index: u16,
+) -> VerDefIterator<'data, E>
+    ensures { defined_version index (ver_defs_left result) ≡ defined_version index (ver_defs_left definitions.entry) }
+{
+    let mut first = definitions;
+    let mut left = definitions;
+    while let Some((next, _)) = left.next() {
+        if next.vd_ndx == index {
+            return first;
+        }
+        first = left;
+    }
+    first
+}
+
 // The first definition with this index, and its names.
 #[tactic(auto, unfolding(crate::specs::gnu_symver::Table::defined_version))]
 fn first_defined<'data, E: EndianParse>(
@@ -134,7 +153,7 @@ fn first_defined<'data, E: EndianParse>(
 ) -> Option<(VerDef, VerDefAuxIterator<'data, E>)>
     ensures { option_map ver_def_view result ≡ defined_version index (ver_defs_left definitions.entry) }
 {
-    for (definition, names) in definitions {
+    for (definition, names) in skip_to_defined(definitions, index) {
         if definition.vd_ndx == index {
             return Some((definition, names));
         }

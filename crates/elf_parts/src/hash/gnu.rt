@@ -1,5 +1,5 @@
 //! GNU hash sections.
-ghost use Rattle.std.specs.Prelude.{◌≡◌, ◌-◌, ◌%◌, ◌<◌, ◌≤◌, None};
+ghost use Rattle.std.specs.Prelude.{◌≡◌, ◌-◌, ◌%◌, ◌<◌, ◌≤◌, IfNone, IfSome, IsErr, None, Ok};
 ghost use Rattle.elf_records.specs.Class.{address_bits};
 ghost use Rattle.elf_parts.specs.GnuFind.{bloom_word, find_by_hash, find_in_run, gnu_find, gnu_section};
 ghost use Rattle.elf_parts.specs.GnuFind.{gnu_view, passes, word_decides};
@@ -213,7 +213,8 @@ impl<'data, E: EndianParse> GnuHashTable<'data, E> {
         Ok(None)
     }
 
-    // What a chain word decides for a name with this hash. `index` is that of the word's symbol.
+    // What a chain word decides for a name with this hash, or `None` if its symbol cannot be read. `index` is that of the
+    // symbol.
     #[inline(always)]
     fn decide(
         &self,
@@ -223,14 +224,17 @@ impl<'data, E: EndianParse> GnuHashTable<'data, E> {
         word: usize,
         symtab: &SymbolTable<'data, E>,
         strings: &TerminatedStrings<'data>,
-    ) -> Found
+    ) -> Option<Option<(usize, Symbol)>>
         requires { hash ≡ gnu_hash_of name.now }
-        ensures { result ≡ word_decides (gnu_view self.now) (table_view symtab.now) strings.now name.now index word }
+        ensures value { IfSome result (λ found.
+            word_decides (gnu_view self.now) (table_view symtab.now) strings.now name.now index word ≡ Ok found) }
+        ensures refused { IfNone result
+            (IsErr (word_decides (gnu_view self.now) (table_view symtab.now) strings.now name.now index word)) }
     {
         if word / 2 == hash / 2 {
             if_named(symtab, strings, name, index)
         } else {
-            Ok(None)
+            Some(None)
         }
     }
 
@@ -250,13 +254,13 @@ impl<'data, E: EndianParse> GnuHashTable<'data, E> {
     {
         let first = self.hdr.table_start_idx as usize;
         for place in start..word_count(&self.chains) {
-            let Ok(word) = word(&self.chains, place) else {
+            let Some(word) = word(&self.chains, place) else {
                 return refused_word(&self.chains, place);
             };
             match self.decide(hash, name, first + place, word, symtab, strings) {
-                Ok(Some(found)) => return Ok(Some(found)),
-                Ok(None) => {}
-                Err(_) => return refused_symbol(symtab, strings, first + place),
+                Some(Some(found)) => return Ok(Some(found)),
+                Some(None) => {}
+                None => return refused_symbol(symtab, strings, first + place),
             }
             if word % 2 == 1 {
                 return Ok(None);
@@ -280,7 +284,7 @@ impl<'data, E: EndianParse> GnuHashTable<'data, E> {
     {
         let first = self.hdr.table_start_idx as usize;
         let bucket = hash % word_count(&self.buckets);
-        let Ok(start) = word(&self.buckets, bucket) else {
+        let Some(start) = word(&self.buckets, bucket) else {
             return refused_word(&self.buckets, bucket);
         };
         if start < first {

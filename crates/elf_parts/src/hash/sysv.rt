@@ -132,11 +132,11 @@ impl<'data, E: EndianParse> SysVHashTable<'data, E> {
                 return Ok(None);
             }
             match if_named(symtab, strings, name, index) {
-                Ok(Some(found)) => return Ok(Some(found)),
-                Ok(None) => {}
-                Err(_) => return refused_symbol(symtab, strings, index),
+                Some(Some(found)) => return Ok(Some(found)),
+                Some(None) => {}
+                None => return refused_symbol(symtab, strings, index),
             }
-            let Ok(next) = word(&self.chains, index) else {
+            let Some(next) = word(&self.chains, index) else {
                 return refused_word(&self.chains, index);
             };
             index = next;
@@ -178,9 +178,9 @@ impl<'data, E: EndianParse> SysVHashTable<'data, E> {
         }
         let bucket = sysv_hash(name) as usize % nbucket;
         match word(&self.buckets, bucket) {
-            Ok(0) => Ok(None),
-            Ok(index) => self.find_along(index, name, symtab, &TerminatedStrings::new(strtab)),
-            Err(_) => refused_word(&self.buckets, bucket),
+            Some(0) => Ok(None),
+            Some(index) => self.find_along(index, name, symtab, &TerminatedStrings::new(strtab)),
+            None => refused_word(&self.buckets, bucket),
         }
     }
 }

@@ -68,10 +68,10 @@ fn read_part<P: ParseAt>(little: bool, class: Class, offset: usize, data: &[u8])
     read_or_none(little, class, 0, data.get(offset..end)?)
 }
 
-// Reads a record, or returns `None` if it cannot be read. In each arm of a local record the class, and so the size, is
-// known to the compiler.
+/// Reads a record, or returns `None` if it cannot be read: a loop that needs no error carries no room for one.
+// In each arm of a local record the class, and so the size, is known to the compiler.
 #[inline(always)]
-fn read_quickly<P: ParseAt>(little: bool, class: Class, offset: usize, data: &[u8]) -> Option<P>
+pub fn read_quickly<P: ParseAt>(little: bool, class: Class, offset: usize, data: &[u8]) -> Option<P>
     ensures value { IfSome result (λ x. P.reads.record_at little class «data».now offset ≡ Ok x) }
     ensures within { IfSome result (λ x. offset + P.reads.size class ≤ length «data».now) }
     ensures refused { IfNone result (IsErr (P.reads.record_at little class «data».now offset)) }
@@ -260,6 +260,16 @@ impl<'data, E: EndianParse, P: ParseAt> ParsingTable<'data, E, P> {
         ensures { result ≡ (table_len P.reads (table_view self.now) == 0) }
     {
         self.len() == 0
+    }
+
+    /// Returns the record at `index`, counted from 0, or `None` if it cannot be read; `get` has the error.
+    #[inline(always)]
+    pub fn get_quickly(&self, index: usize) -> Option<P>
+        ensures value { IfSome result (λ x. table_get P.reads (table_view self.now) index ≡ Ok x) }
+        ensures refused { IfNone result (IsErr (table_get P.reads (table_view self.now) index)) }
+    {
+        let start = index.checked_mul(P::size_for(self.class))?;
+        read_quickly(self.little, self.class, start, self.data)
     }
 
     /// Returns the record at `index`, counted from 0.

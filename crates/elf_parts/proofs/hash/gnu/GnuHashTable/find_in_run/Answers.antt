@@ -1,4 +1,5 @@
 use Rattle.std.proofs.Common.{◌≡◌, ◌+◌, ◌-◌, sym, ◌∙◌, arith, rules}
+use Rattle.elf_records.proofs.Items.{refusal}
 use Rattle.elf_records.specs.Table.{table_view}
 use Rattle.elf_parts.specs.Hash.{word_count}
 use Rattle.elf_parts.specs.GnuFind.{gnu_view}
@@ -7,30 +8,32 @@ use Rattle.elf_parts.proofs.hash.gnu.GnuHashTable.find_in_run.Goals as goal
 
 pub returns-in_default : goal.returns-in_default
 returns-in_default g c =
-    let step = run_cut (gnu_view c.args.self.now) (table_view c.args.symtab.now) c.args.strings.now c.args.name.now (word_count (gnu_view c.args.self.now).chains - c.loop-place.place) c.loop-place.place _ (omega arith) (sym c.in_default.ensures) in
+    let error = refusal _ c.in_default.ensures.refused in
+    let step = run_cut (gnu_view c.args.self.now) (table_view c.args.symtab.now) c.args.strings.now c.args.name.now (word_count (gnu_view c.args.self.now).chains - c.loop-place.place) c.loop-place.place _ (omega arith) error.1 in
     let all = sym step ∙ c.loop-place.invariant in
     search (rules, all)
 
-pub returns-in-Err : goal.returns-in-Err
-returns-in-Err g c =
-    let step = run_refused (gnu_view c.args.self.now) (table_view c.args.symtab.now) c.args.strings.now c.args.name.now (word_count (gnu_view c.args.self.now).chains - c.loop-place.place) c.loop-place.place c.in-Ok.word _ (omega arith) (sym c.in-Ok.ensures) (sym c.in-Err.ensures) in
+pub returns-in-None : goal.returns-in-None
+returns-in-None g c =
+    let error = refusal _ c.in-None.ensures.refused in
+    let step = run_refused (gnu_view c.args.self.now) (table_view c.args.symtab.now) c.args.strings.now c.args.name.now (word_count (gnu_view c.args.self.now).chains - c.loop-place.place) c.loop-place.place c.in-Some.word _ (omega arith) c.in-Some.ensures.value error.1 in
     let all = sym step ∙ c.loop-place.invariant in
-    let refused = decides_refused (gnu_view c.args.self.now) (table_view c.args.symtab.now) c.args.strings.now c.args.name.now _ c.in-Ok.word _ (sym c.in-Err.ensures) in
+    let refused = decides_refused (gnu_view c.args.self.now) (table_view c.args.symtab.now) c.args.strings.now c.args.name.now _ c.in-Some.word _ error.1 in
     search (rules, all, refused)
 
-pub returns-in-Ok-Some : goal.returns-in-Ok-Some
-returns-in-Ok-Some g c =
-    let step = run_found (gnu_view c.args.self.now) (table_view c.args.symtab.now) c.args.strings.now c.args.name.now (word_count (gnu_view c.args.self.now).chains - c.loop-place.place) c.loop-place.place c.in-Ok.word c.in-Ok-Some.found (omega arith) (sym c.in-Ok.ensures) (cc (c.in-Ok-Some.ensures, c.in-Ok-Some.field-0-is)) in
+pub returns-in-Some-Some : goal.returns-in-Some-Some
+returns-in-Some-Some g c =
+    let step = run_found (gnu_view c.args.self.now) (table_view c.args.symtab.now) c.args.strings.now c.args.name.now (word_count (gnu_view c.args.self.now).chains - c.loop-place.place) c.loop-place.place c.in-Some.word c.in-Some-Some.found (omega arith) c.in-Some.ensures.value (cc (c.in-Some-Some.ensures.value, c.in-Some-Some.field-0-is)) in
     sym step ∙ c.loop-place.invariant
 
 pub returns-then-word-eq1 : goal.returns-then-word-eq1
 returns-then-word-eq1 g c =
-    let step = run_ended (gnu_view c.args.self.now) (table_view c.args.symtab.now) c.args.strings.now c.args.name.now (word_count (gnu_view c.args.self.now).chains - c.loop-place.place) c.loop-place.place c.in-Ok.word (sym c.in-Ok.ensures) (cc (c.in-Ok-None.ensures, c.in-Ok-None.field-0-is)) (omega arith) in
+    let step = run_ended (gnu_view c.args.self.now) (table_view c.args.symtab.now) c.args.strings.now c.args.name.now (word_count (gnu_view c.args.self.now).chains - c.loop-place.place) c.loop-place.place c.in-Some.word c.in-Some.ensures.value (cc (c.in-Some-None.ensures.value, c.in-Some-None.field-0-is)) (omega arith) in
     sym step ∙ c.loop-place.invariant
 
 pub loop-place-preserved : goal.loop-place-preserved
 loop-place-preserved g c =
-    let step = run_next (gnu_view c.args.self.now) (table_view c.args.symtab.now) c.args.strings.now c.args.name.now (word_count (gnu_view c.args.self.now).chains - c.loop-place.place) c.loop-place.place c.in-Ok.word (omega arith) (sym c.in-Ok.ensures) (cc (c.in-Ok-None.ensures, c.in-Ok-None.field-0-is)) (omega arith) in
+    let step = run_next (gnu_view c.args.self.now) (table_view c.args.symtab.now) c.args.strings.now c.args.name.now (word_count (gnu_view c.args.self.now).chains - c.loop-place.place) c.loop-place.place c.in-Some.word (omega arith) c.in-Some.ensures.value (cc (c.in-Some-None.ensures.value, c.in-Some-None.field-0-is)) (omega arith) in
     let less : word_count (gnu_view c.args.self.now).chains - c.loop-place.place - 1 ≡ word_count (gnu_view c.args.self.now).chains - (c.loop-place.place + 1) = omega arith in
     sym (rw less at step) ∙ c.loop-place.invariant
 
