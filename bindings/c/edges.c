@@ -42,6 +42,32 @@ static void read_notes(const struct nugwier_notes *notes)
     expect(before == end, "many notes leave another offset");
 }
 
+/* An opened section answers as the section does. */
+static void read_opened(const struct nugwier_data *part, const struct nugwier_symbol_table *table, bool gnu,
+                        struct nugwier_status looked, const struct nugwier_found *found)
+{
+    struct nugwier_gnu opened_gnu;
+    struct nugwier_sysv opened_sysv;
+    struct nugwier_found again;
+    memset(&opened_gnu, 0, sizeof opened_gnu);
+    memset(&opened_sysv, 0, sizeof opened_sysv);
+    memset(&again, 0, sizeof again);
+    bool little = table->symbols.little, is_64 = table->symbols.is_64;
+    const uint8_t *name = (const uint8_t *)"printf";
+    struct nugwier_status status =
+        gnu ? nugwier_gnu_open(little, is_64, part->bytes, part->bytes_len, &opened_gnu)
+            : nugwier_sysv_open(little, is_64, part->bytes, part->bytes_len, &opened_sysv);
+    if (!status.code)
+        status = gnu ? nugwier_gnu_look_up(&opened_gnu, &table->symbols, table->strings, table->strings_len, name, 6,
+                                           &again)
+                     : nugwier_sysv_look_up(&opened_sysv, &table->symbols, table->strings, table->strings_len, name, 6,
+                                            &again);
+    expect(status.code == looked.code && status.first == looked.first && status.second == looked.second,
+           "an opened section has another error");
+    expect(again.found == found->found && again.index == found->index && again.symbol.value == found->symbol.value,
+           "an opened section finds another symbol");
+}
+
 static void read_hash(const struct nugwier_data *part, const struct nugwier_symbol_table *table, bool gnu)
 {
     struct nugwier_found found = {0};
@@ -52,6 +78,7 @@ static void read_hash(const struct nugwier_data *part, const struct nugwier_symb
     struct nugwier_status checked = nugwier_hash_check(gnu, part->bytes, part->bytes_len, &table->symbols,
                                                        table->strings, table->strings_len, &verdict);
     if (!checked.code && verdict.sound) expect(looked.code == 0, "a look-up in a sound section failed");
+    read_opened(part, table, gnu, looked, &found);
 }
 
 static void read_section(const struct nugwier_file *file, const struct nugwier_section *section,
@@ -94,6 +121,27 @@ static void read_versions(const struct nugwier_file *file)
             touch(name.bytes, name.bytes_len);
         }
     }
+}
+
+static void read_common(const struct nugwier_file *file)
+{
+    struct nugwier_common common;
+    memset(&common, 0, sizeof common);
+    common.has_gnu = true;
+    if (nugwier_common(file, &common).code) {
+        expect(common.has_gnu && !common.symbols.found, "an error changed what was found");
+        return;
+    }
+    struct nugwier_found found = {0};
+    const uint8_t *name = (const uint8_t *)"free";
+    const struct nugwier_symbol_table *table = &common.dynamic_symbols;
+    if (table->found) touch(table->strings, table->strings_len < 64 ? table->strings_len : 64);
+    if (common.has_gnu)
+        nugwier_gnu_look_up(&common.gnu, &table->symbols, table->strings, table->strings_len, name, 4, &found);
+    if (common.has_sysv)
+        nugwier_sysv_look_up(&common.sysv, &table->symbols, table->strings, table->strings_len, name, 4, &found);
+    struct nugwier_dynamic entries[4];
+    if (common.dynamics.found) nugwier_dynamics(&common.dynamics.entries, 0, entries, 4);
 }
 
 static void read_all(const uint8_t *bytes, size_t length)
@@ -150,6 +198,41 @@ static void read_all(const uint8_t *bytes, size_t length)
         if (!nugwier_segment_notes(&file, &segment, &notes).code) read_notes(&notes);
     }
     read_versions(&file);
+    read_common(&file);
+}
+
+/* The texts are those that the Rust crate `elf` 0.8.0 prints of these errors. */
+static void texts(void)
+{
+    static const struct {
+        struct nugwier_status status;
+        const char *text;
+    } all[] = {
+        {{0, 0, 0}, ""},
+        {{1, 0xff000a7f, 0}, "Invalid Magic Bytes: [7F, A, 0, FF]"},
+        {{2, 200, 0}, "Unsupported ELF Class: 200"},
+        {{3, 201, 0}, "Unsupported ELF Endianness: 201"},
+        {{4, 11, 1}, "Unsupported ELF Version field found: 11 expected: 1"},
+        {{5, 0xabcd, 0}, "Bad offset: 0xABCD"},
+        {{6, 0xbeef, 0}, "Could not find terminating NUL byte starting at offset: 0xBEEF"},
+        {{7, 0x1f, 0x18}, "Invalid entsize. Expected: 0x18, Found: 0x1F"},
+        {{8, 12, 3}, "Could not interpret section of type 12 as type 3"},
+        {{9, 13, 2}, "Could not interpret section of type 13 as type 2"},
+        {{10, 15, 0}, "Could not interpret section with unexpected alignment of 15"},
+        {{11, 0x2c, 0x3d}, "Could not read bytes in range [0x2C, 0x3D)"},
+        {{12, 0, 0}, "Integer overflow detected"},
+    };
+    for (size_t i = 0; i < sizeof all / sizeof *all; i++) {
+        uint8_t text[100];
+        size_t length = strlen(all[i].text);
+        memset(text, '~', sizeof text);
+        expect(nugwier_error_text(&all[i].status, text, sizeof text) == length, "the length of a text");
+        expect(!memcmp(text, all[i].text, length) && text[length] == '~', "the text of an error");
+        memset(text, '~', sizeof text);
+        expect(nugwier_error_text(&all[i].status, text, length / 2) == length, "the length of a text without room");
+        expect(!memcmp(text, all[i].text, length / 2) && text[length / 2] == '~', "the front of a text");
+        expect(nugwier_error_text(&all[i].status, NULL, 0) == length, "the length of a text without a place");
+    }
 }
 
 static void nothing(void)
@@ -187,7 +270,29 @@ static void nothing(void)
     expect(nugwier_string((const uint8_t *)"", 1, 0, &string).code == 0 && string.bytes_len == 0, "the empty string");
     expect(nugwier_note(&notes, &offset, &note).code != 0 && offset == 0, "a note of no bytes");
     expect(nugwier_gnu_find(NULL, 0, &table, NULL, 0, NULL, 0, &one).code != 0, "a hash section of no bytes");
+    struct nugwier_gnu gnu;
+    struct nugwier_sysv sysv;
+    struct nugwier_common common;
+    memset(&gnu, 0, sizeof gnu);
+    memset(&sysv, 0, sizeof sysv);
+    memset(&common, 0, sizeof common);
+    expect(nugwier_gnu_open(true, true, NULL, 0, &gnu).code == NUGWIER_SLICE_READ_ERROR, "a hash section of no bytes");
+    expect(nugwier_sysv_open(true, true, NULL, 0, &sysv).code == NUGWIER_SLICE_READ_ERROR, "a section of no bytes");
+    expect(!nugwier_gnu_look_up(&gnu, &table, NULL, 0, NULL, 0, &one).code && !one.found, "a name in no buckets");
+    expect(!nugwier_sysv_look_up(&sysv, &table, NULL, 0, NULL, 0, &one).code && !one.found, "a name in no buckets");
+    /* numbers that a caller changed */
+    gnu.little = gnu.is_64 = true;
+    gnu.nbucket = gnu.nbloom = 0xffffffff;
+    gnu.buckets = gnu.chains = gnu.bloom = (const uint8_t *)"\xff\xff\xff\xff\xff\xff\xff\xff";
+    gnu.buckets_len = gnu.chains_len = gnu.bloom_len = 8;
+    expect(nugwier_gnu_look_up(&gnu, &table, NULL, 0, (const uint8_t *)"a", 1, &one).code == NUGWIER_BAD_OFFSET,
+           "a bloom word that is not there");
+    gnu.nbloom = 1;
+    gnu.nshift = 32;
+    expect(nugwier_gnu_look_up(&gnu, &table, NULL, 0, (const uint8_t *)"a", 1, &one).code == NUGWIER_INTEGER_OVERFLOW,
+           "a shift of 32 bits");
     /* a handle of zeros is a file with no headers */
+    expect(nugwier_common(&file, &common).code == 0 && !common.has_gnu, "a hash section of a file without any");
     expect(nugwier_section(&file, 0, &section).code == NUGWIER_BAD_OFFSET, "a section of a file without any");
     expect(nugwier_symbol_table(&file, true, &symbols).code == 0 && !symbols.found, "symbols of a file without any");
     expect(nugwier_dynamic_table(&file, &dynamics).code == 0 && !dynamics.found, "entries of a file without any");
@@ -205,6 +310,7 @@ static void nothing(void)
 int main(int argc, char **argv)
 {
     nothing();
+    texts();
     if (argc < 2) return 0;
     FILE *file = fopen(argv[1], "rb");
     if (!file || fseek(file, 0, SEEK_END)) return perror(argv[1]), 1;

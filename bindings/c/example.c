@@ -25,8 +25,10 @@ static const uint8_t *bytes_of(const char *text) { return (const uint8_t *)text;
 
 static int fail(const char *what, struct nugwier_status status)
 {
-    fprintf(stderr, "%s: error %" PRIu32 " (%" PRIu64 ", %" PRIu64 ")\n", what, status.code, status.first,
-            status.second);
+    char text[128];
+    size_t length = nugwier_error_text(&status, (uint8_t *)text, sizeof text);
+    if (length > sizeof text) length = sizeof text;
+    fprintf(stderr, "%s: %.*s\n", what, (int)length, text);
     return 1;
 }
 
@@ -192,15 +194,16 @@ static int section_bytes(const struct nugwier_file *file, const char *name, stru
 
 static int find_by_hash(const struct nugwier_file *file, const struct nugwier_symbol_table *table, const char *name)
 {
-    struct nugwier_data part = {0};
+    static struct nugwier_common common;
     struct nugwier_found found = {0};
-    struct nugwier_status status;
-    if (section_bytes(file, ".gnu.hash", &part))
-        status = nugwier_gnu_find(part.bytes, part.bytes_len, &table->symbols, table->strings, table->strings_len,
-                                  bytes_of(name), strlen(name), &found);
-    else if (section_bytes(file, ".hash", &part))
-        status = nugwier_sysv_find(part.bytes, part.bytes_len, &table->symbols, table->strings, table->strings_len,
-                                   bytes_of(name), strlen(name), &found);
+    struct nugwier_status status = nugwier_common(file, &common);
+    if (status.code) return fail("symbols and hash sections", status);
+    if (common.has_gnu)
+        status = nugwier_gnu_look_up(&common.gnu, &table->symbols, table->strings, table->strings_len, bytes_of(name),
+                                     strlen(name), &found);
+    else if (common.has_sysv)
+        status = nugwier_sysv_look_up(&common.sysv, &table->symbols, table->strings, table->strings_len,
+                                      bytes_of(name), strlen(name), &found);
     else
         return fputs("no hash section\n", stderr), 1;
     if (status.code) return fail("look-up", status);

@@ -328,6 +328,61 @@ struct nugwier_status nugwier_sysv_find(const uint8_t *section, size_t section_l
                                         const uint8_t *strings, size_t strings_len, const uint8_t *name,
                                         size_t name_len, struct nugwier_found *found);
 
+/* A hash section that was opened, so that a look-up does not open it anew. It belongs to the caller, and holds nothing
+ * that has to be freed. */
+struct nugwier_gnu {
+    bool little;
+    bool is_64;
+    uint32_t nbucket;
+    uint32_t first;
+    uint32_t nbloom;
+    uint32_t nshift;
+    const uint8_t *bloom;
+    size_t bloom_len;
+    const uint8_t *buckets;
+    size_t buckets_len;
+    const uint8_t *chains;
+    size_t chains_len;
+};
+
+struct nugwier_sysv {
+    bool little;
+    bool is_64;
+    const uint8_t *buckets;
+    size_t buckets_len;
+    const uint8_t *chains;
+    size_t chains_len;
+};
+
+/* Opens a hash section of a file with this byte order and class. An error leaves the handle as it is. */
+struct nugwier_status nugwier_gnu_open(bool little, bool is_64, const uint8_t *section, size_t section_len,
+                                       struct nugwier_gnu *gnu);
+struct nugwier_status nugwier_sysv_open(bool little, bool is_64, const uint8_t *section, size_t section_len,
+                                        struct nugwier_sysv *sysv);
+
+/* The symbol of a name, by an opened hash section and the symbols that it is for. */
+struct nugwier_status nugwier_gnu_look_up(const struct nugwier_gnu *gnu, const struct nugwier_table *symbols,
+                                          const uint8_t *strings, size_t strings_len, const uint8_t *name,
+                                          size_t name_len, struct nugwier_found *found);
+struct nugwier_status nugwier_sysv_look_up(const struct nugwier_sysv *sysv, const struct nugwier_table *symbols,
+                                           const uint8_t *strings, size_t strings_len, const uint8_t *name,
+                                           size_t name_len, struct nugwier_found *found);
+
+/* The symbols, the dynamic entries and the hash sections of a file, each if the file has it. What it does not have is
+ * empty. */
+struct nugwier_common {
+    struct nugwier_symbol_table symbols;
+    struct nugwier_symbol_table dynamic_symbols;
+    struct nugwier_dynamic_table dynamics;
+    bool has_sysv;
+    bool has_gnu;
+    struct nugwier_sysv sysv;
+    struct nugwier_gnu gnu;
+};
+
+/* All of these in one pass over the sections, each from the last section of its type. */
+struct nugwier_status nugwier_common(const struct nugwier_file *file, struct nugwier_common *common);
+
 /* Whether a hash section is sound for these symbols. On one that is, a look-up returns no error, and finds a symbol
  * exactly if one that the section indexes has the name. */
 struct nugwier_status nugwier_hash_check(bool gnu, const uint8_t *section, size_t section_len,
@@ -422,6 +477,11 @@ void nugwier_d_tag_name(int64_t d_tag, struct nugwier_name *name);
 
 /* The name of the error with the code of a status, as BadMagic. */
 void nugwier_error_name(uint32_t code, struct nugwier_name *name);
+
+/* The text of the error of a status with its numbers, as "Bad offset: 0x40", without a 0 byte at its end. It is written
+ * over the front of `text`, as far as there is room; the call returns the length of the whole text. NUGWIER_OK has no
+ * text. */
+size_t nugwier_error_text(const struct nugwier_status *status, uint8_t *text, size_t text_len);
 
 #ifdef __cplusplus
 }

@@ -27,13 +27,16 @@ _ERRORS = {
 
 
 class ElfError(Exception):
-    """An error of the library: its kind, and the numbers that belong to it."""
+    """An error of the library: its kind, the numbers that belong to it, and its text."""
 
-    def __init__(self, code, first, second):
-        self.kind = _ERRORS.get(code, str(code))
-        self.first = first
-        self.second = second
-        super().__init__(f"{self.kind}({first:#x}, {second:#x})")
+    def __init__(self, status):
+        self.kind = _ERRORS.get(status.code, str(status.code))
+        self.first = status.first
+        self.second = status.second
+        room = 256
+        text = ctypes.create_string_buffer(room)
+        length = _library.nugwier_error_text(byref(status), text, room)
+        super().__init__(text.raw[:length].decode())
 
 
 def _struct(name, *fields):
@@ -68,6 +71,9 @@ _Data = _struct("Data", *_bytes("bytes"), ("compression", _Compression))
 _Symbols = _struct("Symbols", ("found", c_bool), ("symbols", _Table), *_bytes("strings"))
 _Names = _struct("Names", ("found", c_bool), *_bytes("strings"))
 _Found = _struct("Found", ("found", c_bool), ("index", c_size_t), ("symbol", _Symbol))
+_Gnu = _struct("Gnu", ("little", c_bool), ("is_64", c_bool), ("nbucket", c_uint32), ("first", c_uint32),
+               ("nbloom", c_uint32), ("nshift", c_uint32), *_bytes("bloom"), *_bytes("buckets"), *_bytes("chains"))
+_Sysv = _struct("Sysv", ("little", c_bool), ("is_64", c_bool), *_bytes("buckets"), *_bytes("chains"))
 _Verdict = _struct("Verdict", ("sound", c_bool), ("indexed", c_size_t))
 
 Section = namedtuple("Section", "index name kind flags addr offset size link info addralign entsize")
@@ -89,8 +95,10 @@ def _load():
         "segment_data": (POINTER(_File), POINTER(_Segment), POINTER(_Bytes)),
         "symbol_table": (POINTER(_File), c_bool, POINTER(_Symbols)),
         "string": (*raw, c_size_t, POINTER(_Bytes)),
-        "gnu_find": (*raw, POINTER(_Table), *raw, *raw, POINTER(_Found)),
-        "sysv_find": (*raw, POINTER(_Table), *raw, *raw, POINTER(_Found)),
+        "gnu_open": (c_bool, c_bool, *raw, POINTER(_Gnu)),
+        "sysv_open": (c_bool, c_bool, *raw, POINTER(_Sysv)),
+        "gnu_look_up": (POINTER(_Gnu), POINTER(_Table), *raw, *raw, POINTER(_Found)),
+        "sysv_look_up": (POINTER(_Sysv), POINTER(_Table), *raw, *raw, POINTER(_Found)),
         "hash_check": (c_bool, *raw, POINTER(_Table), *raw, POINTER(_Verdict)),
     }
     for name, kinds in parameters.items():
@@ -99,6 +107,8 @@ def _load():
         function.restype = _Status
     library.nugwier_symbols.argtypes = (POINTER(_Table), c_size_t, POINTER(_Symbol), c_size_t)
     library.nugwier_symbols.restype = c_size_t
+    library.nugwier_error_text.argtypes = (POINTER(_Status), *raw)
+    library.nugwier_error_text.restype = c_size_t
     for name in ("section_count", "segment_count", "symbol_count"):
         function = getattr(library, "nugwier_" + name)
         function.argtypes = (POINTER(_Table),)
@@ -112,7 +122,7 @@ _library = None
 def _call(name, *arguments):
     status = getattr(_library, "nugwier_" + name)(*arguments)
     if status.code:
-        raise ElfError(status.code, status.first, status.second)
+        raise ElfError(status)
 
 
 def _copy(pointer, length):
@@ -141,6 +151,7 @@ class ElfFile:
                                       prot=mmap.PROT_READ | mmap.PROT_WRITE)
         self._view = (c_uint8 * size).from_buffer(self._map) if size else None
         self._file = _File()
+        self._looked_up = None
         address = ctypes.addressof(self._view) if size else None
         try:
             _call("open", address, size, byref(self._file))
@@ -156,6 +167,7 @@ class ElfFile:
 
     def close(self):
         self._file = None
+        self._looked_up = None
         self._view = None
         if self._map is not None:
             self._map.close()
@@ -256,17 +268,31 @@ class ElfFile:
                 return gnu, part
         return None
 
+    def _look_up_table(self):
+        """The dynamic symbols and the opened hash section, which are found at the first look-up, or None."""
+        if self._looked_up is None:
+            table, section = self._symbols(True), self._hash_section()
+            if table is None or section is None:
+                return None
+            gnu, part = section
+            word, opened = ("gnu", _Gnu()) if gnu else ("sysv", _Sysv())
+            header = self._file.header
+            _call(word + "_open", header.little, header.is_64, part.bytes, part.bytes_len, byref(opened))
+            self._looked_up = table, word, opened
+        return self._looked_up
+
     def find(self, name):
         """The dynamic symbol of a name by the file's hash section, or None."""
+        self._opened()
         wanted = name.encode() if isinstance(name, str) else name
-        table, section = self._symbols(True), self._hash_section()
-        if table is None or section is None:
+        looked_up = self._look_up_table()
+        if looked_up is None:
             return None
-        gnu, part = section
+        table, word, opened = looked_up
         found = _Found()
         buffer = ctypes.create_string_buffer(wanted, len(wanted)) if wanted else None
-        _call("gnu_find" if gnu else "sysv_find", part.bytes, part.bytes_len, byref(table.symbols), table.strings,
-              table.strings_len, buffer, len(wanted), byref(found))
+        _call(word + "_look_up", byref(opened), byref(table.symbols), table.strings, table.strings_len, buffer,
+              len(wanted), byref(found))
         return self._symbol(found.index, found.symbol, table) if found.found else None
 
     def check(self):

@@ -9,12 +9,12 @@ use crate::gnu_symver::SymbolVersionTable;
 use crate::hash::{GnuHashTable, SysVHashTable};
 use crate::note::NoteIterator;
 use crate::parse::sealed::Record;
-use crate::parse::{checked, ParseAt, ParseError, ParsingTable};
+use crate::parse::{checked, ParseError, ParsingTable};
 use crate::relocation::{RelIterator, RelaIterator};
 use crate::section::{SectionHeader, SectionHeaderTable};
 use crate::segment::{ProgramHeader, SegmentTable};
 use crate::string_table::StringTable;
-use crate::symbol::{Symbol, SymbolTable};
+use crate::symbol::SymbolTable;
 
 /// An ELF file in a slice of bytes, with its header and its two tables of headers.
 #[derive(Debug)]
@@ -193,12 +193,7 @@ impl<'data, E: EndianParse> ElfBytes<'data, E> {
     fn symbols(&self, dynamic: bool) -> Result<Option<SymbolsWithStrings<'data, E>>, ParseError> {
         let mut table = ffi::SymbolTable::default();
         checked(ffi::symbol_table(&self.handle(), dynamic, &mut table))?;
-        Ok(table.found.then(|| {
-            (
-                ParsingTable::of(table.symbols),
-                StringTable::new(table.strings.get()),
-            )
-        }))
+        Ok(with_strings(&table))
     }
 
     /// The symbols of the first section of type `SHT_SYMTAB`, and their strings.
@@ -218,69 +213,33 @@ impl<'data, E: EndianParse> ElfBytes<'data, E> {
         Ok(versions.found.then(|| SymbolVersionTable::of(versions)))
     }
 
-    // The bytes in the range of a section, whatever its type and its flags are.
-    fn range(&self, shdr: &SectionHeader) -> Result<&'data [u8], ParseError> {
-        let plain = SectionHeader {
-            sh_type: abi::SHT_PROGBITS,
-            sh_flags: 0,
-            ..*shdr
-        };
-        Ok(self.section_data(&plain)?.0)
-    }
-
-    fn symbols_of(&self, shdr: &SectionHeader) -> Result<SymbolsWithStrings<'data, E>, ParseError> {
-        let mut linked = ffi::Section::default();
-        checked(ffi::section(
-            &self.handle(),
-            shdr.sh_link as usize,
-            &mut linked,
-        ))?;
-        Symbol::validate_entsize(self.ehdr.class, shdr.sh_entsize as usize)?;
-        let symbols = self.range(shdr)?;
-        let strings = self.range(&SectionHeader::of(&linked))?;
-        let table = SymbolTable::new(self.ehdr.endianness, self.ehdr.class, symbols);
-        Ok((table, StringTable::new(strings)))
-    }
-
     /// The symbols, the dynamic entries and the hash sections, found in one pass over the sections.
     pub fn find_common_data(&self) -> Result<CommonElfData<'data, E>, ParseError> {
-        let mut found = CommonElfData::default();
-        let (endian, class) = (self.ehdr.endianness, self.ehdr.class);
-        for shdr in self.section_headers().into_iter().flatten() {
-            match shdr.sh_type {
-                abi::SHT_SYMTAB => {
-                    let (symbols, strings) = self.symbols_of(&shdr)?;
-                    found.symtab = Some(symbols);
-                    found.symtab_strs = Some(strings);
-                }
-                abi::SHT_DYNSYM => {
-                    let (symbols, strings) = self.symbols_of(&shdr)?;
-                    found.dynsyms = Some(symbols);
-                    found.dynsyms_strs = Some(strings);
-                }
-                abi::SHT_DYNAMIC => {
-                    crate::dynamic::Dyn::validate_entsize(class, shdr.sh_entsize as usize)?;
-                    found.dynamic = Some(DynamicTable::new(
-                        endian,
-                        class,
-                        self.section_data(&shdr)?.0,
-                    ));
-                }
-                abi::SHT_HASH => {
-                    found.sysv_hash = Some(SysVHashTable::new(endian, class, self.range(&shdr)?)?)
-                }
-                abi::SHT_GNU_HASH => {
-                    found.gnu_hash = Some(GnuHashTable::new(endian, class, self.range(&shdr)?)?)
-                }
-                _ => {}
-            }
-        }
-        if found.dynamic.is_none() {
-            let mut segments = self.segments().into_iter().flatten();
-            if let Some(phdr) = segments.find(|phdr| phdr.p_type == abi::PT_DYNAMIC) {
-                found.dynamic = Some(DynamicTable::new(endian, class, self.segment_data(&phdr)?));
-            }
-        }
-        Ok(found)
+        let mut found = ffi::Common::default();
+        checked(ffi::common(&self.handle(), &mut found))?;
+        let (symtab, symtab_strs) = with_strings(&found.symbols).unzip();
+        let (dynsyms, dynsyms_strs) = with_strings(&found.dynamic_symbols).unzip();
+        let dynamic = found.dynamics;
+        Ok(CommonElfData {
+            symtab,
+            symtab_strs,
+            dynsyms,
+            dynsyms_strs,
+            dynamic: dynamic.found.then(|| ParsingTable::of(dynamic.entries)),
+            sysv_hash: found.has_sysv.then(|| SysVHashTable::of(found.sysv)),
+            gnu_hash: found.has_gnu.then(|| GnuHashTable::of(found.gnu)),
+        })
     }
+}
+
+/// A table of symbols and their strings, if it was found.
+fn with_strings<'data, E: EndianParse>(
+    table: &ffi::SymbolTable<'data>,
+) -> Option<SymbolsWithStrings<'data, E>> {
+    table.found.then(|| {
+        (
+            ParsingTable::of(table.symbols),
+            StringTable::new(table.strings.get()),
+        )
+    })
 }

@@ -243,9 +243,37 @@ pub struct Found {
 
 #[repr(C)]
 #[derive(Clone, Copy, Debug, Default)]
-pub struct Verdict {
-    pub sound: bool,
-    pub indexed: usize,
+pub struct Gnu<'a> {
+    pub little: bool,
+    pub is_64: bool,
+    pub nbucket: u32,
+    pub first: u32,
+    pub nbloom: u32,
+    pub nshift: u32,
+    pub bloom: Bytes<'a>,
+    pub buckets: Bytes<'a>,
+    pub chains: Bytes<'a>,
+}
+
+#[repr(C)]
+#[derive(Clone, Copy, Debug, Default)]
+pub struct Sysv<'a> {
+    pub little: bool,
+    pub is_64: bool,
+    pub buckets: Bytes<'a>,
+    pub chains: Bytes<'a>,
+}
+
+#[repr(C)]
+#[derive(Clone, Copy, Debug, Default)]
+pub struct Common<'a> {
+    pub symbols: SymbolTable<'a>,
+    pub dynamic_symbols: SymbolTable<'a>,
+    pub dynamics: DynamicTable<'a>,
+    pub has_sysv: bool,
+    pub has_gnu: bool,
+    pub sysv: Sysv<'a>,
+    pub gnu: Gnu<'a>,
 }
 
 #[repr(C)]
@@ -327,9 +355,22 @@ extern "C" {
     fn nugwier_open(bytes: *const u8, bytes_len: usize, file: &mut File<'_>) -> Status;
     fn nugwier_section(file: &File<'_>, index: usize, section: &mut Section) -> Status;
     fn nugwier_segment(file: &File<'_>, index: usize, segment: &mut Segment) -> Status;
-    fn nugwier_gnu_find(
+    fn nugwier_gnu_open(
+        little: bool,
+        is_64: bool,
         section: *const u8,
         section_len: usize,
+        gnu: &mut Gnu<'_>,
+    ) -> Status;
+    fn nugwier_sysv_open(
+        little: bool,
+        is_64: bool,
+        section: *const u8,
+        section_len: usize,
+        sysv: &mut Sysv<'_>,
+    ) -> Status;
+    fn nugwier_gnu_look_up(
+        gnu: &Gnu<'_>,
         symbols: &Table<'_>,
         strings: *const u8,
         strings_len: usize,
@@ -337,9 +378,8 @@ extern "C" {
         name_len: usize,
         found: &mut Found,
     ) -> Status;
-    fn nugwier_sysv_find(
-        section: *const u8,
-        section_len: usize,
+    fn nugwier_sysv_look_up(
+        sysv: &Sysv<'_>,
         symbols: &Table<'_>,
         strings: *const u8,
         strings_len: usize,
@@ -347,15 +387,7 @@ extern "C" {
         name_len: usize,
         found: &mut Found,
     ) -> Status;
-    fn nugwier_hash_check(
-        gnu: bool,
-        section: *const u8,
-        section_len: usize,
-        symbols: &Table<'_>,
-        strings: *const u8,
-        strings_len: usize,
-        verdict: &mut Verdict,
-    ) -> Status;
+    fn nugwier_common(file: &File<'_>, common: &mut Common<'_>) -> Status;
     fn nugwier_e_osabi_name(e_osabi: u8, name: &mut Name<'static>);
     fn nugwier_e_type_name(e_type: u16, name: &mut Name<'static>);
     fn nugwier_e_machine_name(e_machine: u16, name: &mut Name<'static>);
@@ -506,69 +538,43 @@ pub fn segment(file: &File<'_>, index: usize, segment: &mut Segment) -> Status {
     unsafe { nugwier_segment(file, index, segment) }
 }
 
-pub fn gnu_find(
-    section: Bytes<'_>,
+pub fn gnu_open<'a>(little: bool, is_64: bool, section: Bytes<'a>, gnu: &mut Gnu<'a>) -> Status {
+    // SAFETY: the export accepts all values of these types, and writes values of these types.
+    unsafe { nugwier_gnu_open(little, is_64, section.at, section.len, gnu) }
+}
+
+pub fn sysv_open<'a>(little: bool, is_64: bool, section: Bytes<'a>, sysv: &mut Sysv<'a>) -> Status {
+    // SAFETY: the export accepts all values of these types, and writes values of these types.
+    unsafe { nugwier_sysv_open(little, is_64, section.at, section.len, sysv) }
+}
+
+pub fn gnu_look_up(
+    gnu: &Gnu<'_>,
     symbols: &Table<'_>,
     strings: Bytes<'_>,
     name: Bytes<'_>,
     found: &mut Found,
 ) -> Status {
+    let (at, len) = (strings.at, strings.len);
     // SAFETY: the export accepts all values of these types, and writes values of these types.
-    unsafe {
-        nugwier_gnu_find(
-            section.at,
-            section.len,
-            symbols,
-            strings.at,
-            strings.len,
-            name.at,
-            name.len,
-            found,
-        )
-    }
+    unsafe { nugwier_gnu_look_up(gnu, symbols, at, len, name.at, name.len, found) }
 }
 
-pub fn sysv_find(
-    section: Bytes<'_>,
+pub fn sysv_look_up(
+    sysv: &Sysv<'_>,
     symbols: &Table<'_>,
     strings: Bytes<'_>,
     name: Bytes<'_>,
     found: &mut Found,
 ) -> Status {
+    let (at, len) = (strings.at, strings.len);
     // SAFETY: the export accepts all values of these types, and writes values of these types.
-    unsafe {
-        nugwier_sysv_find(
-            section.at,
-            section.len,
-            symbols,
-            strings.at,
-            strings.len,
-            name.at,
-            name.len,
-            found,
-        )
-    }
+    unsafe { nugwier_sysv_look_up(sysv, symbols, at, len, name.at, name.len, found) }
 }
 
-pub fn hash_check(
-    gnu: bool,
-    section: Bytes<'_>,
-    symbols: &Table<'_>,
-    strings: Bytes<'_>,
-    verdict: &mut Verdict,
-) -> Status {
+pub fn common<'a>(file: &File<'a>, common: &mut Common<'a>) -> Status {
     // SAFETY: the export accepts all values of these types, and writes values of these types.
-    unsafe {
-        nugwier_hash_check(
-            gnu,
-            section.at,
-            section.len,
-            symbols,
-            strings.at,
-            strings.len,
-            verdict,
-        )
-    }
+    unsafe { nugwier_common(file, common) }
 }
 
 pub fn e_osabi_name(e_osabi: u8, name: &mut Name<'static>) {

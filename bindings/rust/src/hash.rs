@@ -23,88 +23,37 @@ pub fn gnu_hash(name: &[u8]) -> u32 {
     })
 }
 
-/// The bytes of a hash section, of which it is known that a table can be made.
-#[derive(Clone, Copy, Debug)]
-struct Section<'data> {
-    gnu: bool,
-    little: bool,
-    is_64: bool,
-    bytes: ffi::Bytes<'data>,
-}
-
-impl<'data> Section<'data> {
-    fn new<E: EndianParse>(
-        gnu: bool,
-        endian: E,
-        class: Class,
-        data: &'data [u8],
-    ) -> Result<Self, ParseError> {
-        let section = Section {
-            gnu,
-            little: endian.is_little(),
-            is_64: class == Class::ELF64,
-            bytes: ffi::Bytes::new(data),
-        };
-        // a check is an error exactly if no table can be made of the section
-        let none = ffi::Table {
-            little: section.little,
-            is_64: section.is_64,
-            bytes: ffi::Bytes::default(),
-        };
-        let mut verdict = ffi::Verdict::default();
-        checked(ffi::hash_check(
-            gnu,
-            section.bytes,
-            &none,
-            ffi::Bytes::default(),
-            &mut verdict,
-        ))?;
-        Ok(section)
-    }
-
-    fn find(
-        &self,
-        name: &[u8],
-        symbols: ffi::Bytes<'_>,
-        strings: &StringTable<'_>,
-    ) -> Result<Option<(usize, Symbol)>, ParseError> {
-        let table = ffi::Table {
-            little: self.little,
-            is_64: self.is_64,
-            bytes: symbols,
-        };
-        let mut found = ffi::Found::default();
-        let find = if self.gnu {
-            ffi::gnu_find
-        } else {
-            ffi::sysv_find
-        };
-        checked(find(
-            self.bytes,
-            &table,
-            strings.bytes(),
-            ffi::Bytes::new(name),
-            &mut found,
-        ))?;
-        Ok(found
-            .found
-            .then(|| (found.index, Symbol::of(&found.symbol))))
-    }
+/// What a look-up found, if anything.
+fn found_in(found: &ffi::Found) -> Option<(usize, Symbol)> {
+    found
+        .found
+        .then(|| (found.index, Symbol::of(&found.symbol)))
 }
 
 /// The table of a SysV hash section.
 #[derive(Debug)]
 pub struct SysVHashTable<'data, E: EndianParse> {
-    section: Section<'data>,
+    table: ffi::Sysv<'data>,
     order: PhantomData<E>,
 }
 
 impl<'data, E: EndianParse> SysVHashTable<'data, E> {
     pub fn new(endian: E, class: Class, data: &'data [u8]) -> Result<Self, ParseError> {
-        Ok(SysVHashTable {
-            section: Section::new(false, endian, class, data)?,
+        let mut table = ffi::Sysv::default();
+        checked(ffi::sysv_open(
+            endian.is_little(),
+            class == Class::ELF64,
+            ffi::Bytes::new(data),
+            &mut table,
+        ))?;
+        Ok(SysVHashTable::of(table))
+    }
+
+    pub(crate) fn of(table: ffi::Sysv<'data>) -> Self {
+        SysVHashTable {
+            table,
             order: PhantomData,
-        })
+        }
     }
 
     /// The index and the symbol of a name.
@@ -114,7 +63,15 @@ impl<'data, E: EndianParse> SysVHashTable<'data, E> {
         symtab: &SymbolTable<'data, E>,
         strtab: &StringTable<'data>,
     ) -> Result<Option<(usize, Symbol)>, ParseError> {
-        self.section.find(name, symtab.raw().bytes, strtab)
+        let mut found = ffi::Found::default();
+        checked(ffi::sysv_look_up(
+            &self.table,
+            symtab.raw(),
+            strtab.bytes(),
+            ffi::Bytes::new(name),
+            &mut found,
+        ))?;
+        Ok(found_in(&found))
     }
 }
 
@@ -131,34 +88,61 @@ pub struct GnuHashHeader {
 #[derive(Debug)]
 pub struct GnuHashTable<'data, E: EndianParse> {
     pub hdr: GnuHashHeader,
-    section: Section<'data>,
+    table: ffi::Gnu<'data>,
     order: PhantomData<E>,
 }
 
 impl<'data, E: EndianParse> GnuHashTable<'data, E> {
     pub fn new(endian: E, class: Class, data: &'data [u8]) -> Result<Self, ParseError> {
-        let section = Section::new(true, endian, class, data)?;
-        let mut offset = 0;
-        let hdr = GnuHashHeader {
-            nbucket: endian.parse_u32_at(&mut offset, data)?,
-            table_start_idx: endian.parse_u32_at(&mut offset, data)?,
-            nbloom: endian.parse_u32_at(&mut offset, data)?,
-            nshift: endian.parse_u32_at(&mut offset, data)?,
-        };
-        Ok(GnuHashTable {
-            hdr,
-            section,
-            order: PhantomData,
-        })
+        let mut table = ffi::Gnu::default();
+        checked(ffi::gnu_open(
+            endian.is_little(),
+            class == Class::ELF64,
+            ffi::Bytes::new(data),
+            &mut table,
+        ))?;
+        Ok(GnuHashTable::of(table))
     }
 
-    /// The index and the symbol of a name. A change of `hdr` has no effect.
+    pub(crate) fn of(table: ffi::Gnu<'data>) -> Self {
+        GnuHashTable {
+            hdr: GnuHashHeader {
+                nbucket: table.nbucket,
+                table_start_idx: table.first,
+                nbloom: table.nbloom,
+                nshift: table.nshift,
+            },
+            table,
+            order: PhantomData,
+        }
+    }
+
+    /// The table with the current numbers of `hdr`.
+    fn handle(&self) -> ffi::Gnu<'data> {
+        ffi::Gnu {
+            nbucket: self.hdr.nbucket,
+            first: self.hdr.table_start_idx,
+            nbloom: self.hdr.nbloom,
+            nshift: self.hdr.nshift,
+            ..self.table
+        }
+    }
+
+    /// The index and the symbol of a name.
     pub fn find(
         &self,
         name: &[u8],
         symtab: &SymbolTable<'data, E>,
         strtab: &StringTable<'data>,
     ) -> Result<Option<(usize, Symbol)>, ParseError> {
-        self.section.find(name, symtab.raw().bytes, strtab)
+        let mut found = ffi::Found::default();
+        checked(ffi::gnu_look_up(
+            &self.handle(),
+            symtab.raw(),
+            strtab.bytes(),
+            ffi::Bytes::new(name),
+            &mut found,
+        ))?;
+        Ok(found_in(&found))
     }
 }

@@ -115,10 +115,21 @@ impl From<std::io::Error> for ParseError {
 }
 
 /// The error that a status stands for, if it does not stand for success.
+// Inlined, so that a call that succeeds makes room for no error.
+#[inline(always)]
 pub(crate) fn checked(status: ffi::Status) -> Result<(), ParseError> {
+    if status.code == 0 {
+        return Ok(());
+    }
+    Err(refused(status))
+}
+
+/// The error that a status stands for.
+#[cold]
+#[inline(never)]
+fn refused(status: ffi::Status) -> ParseError {
     let (first, second) = (status.first, status.second);
-    Err(match status.code {
-        0 => return Ok(()),
+    match status.code {
         1 => ParseError::BadMagic((first as u32).to_le_bytes()),
         2 => ParseError::UnsupportedElfClass(first as u8),
         3 => ParseError::UnsupportedElfEndianness(first as u8),
@@ -133,7 +144,7 @@ pub(crate) fn checked(status: ffi::Status) -> Result<(), ParseError> {
         12 => ParseError::IntegerOverflow,
         // no export returns the others, which hold errors of Rust's library
         code => unreachable!("status {code}"),
-    })
+    }
 }
 
 /// A record that a table holds.

@@ -57,6 +57,21 @@ fn symbols_are_found_by_their_names() {
 }
 
 #[test]
+fn look_ups_use_the_current_header_of_a_hash_section() {
+    let bytes = own_file();
+    let file = ElfBytes::<AnyEndian>::minimal_parse(&bytes).unwrap();
+    let common = file.find_common_data().unwrap();
+    let (symbols, strings) = (common.dynsyms.unwrap(), common.dynsyms_strs.unwrap());
+    let mut hash = common.gnu_hash.unwrap();
+    // no name passes where there are no bloom words
+    hash.hdr.nbloom = 0;
+    for symbol in symbols.iter() {
+        let name = strings.get_raw(symbol.st_name as usize).unwrap();
+        assert!(hash.find(name, &symbols, &strings).unwrap().is_none());
+    }
+}
+
+#[test]
 fn named_symbols_are_those_of_the_walk() {
     let bytes = own_file();
     let file = ElfBytes::<AnyEndian>::minimal_parse(&bytes).unwrap();

@@ -6,3 +6,5 @@ pub mod Least
 pub mod Definitions
 pub mod Files
 pub mod NoteFilling
+pub mod Lines
+pub mod LookUps

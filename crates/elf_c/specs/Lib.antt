@@ -10,12 +10,16 @@ pub mod Records
 pub mod Named
 -- look-ups by hash sections
 pub mod Find
+-- hash sections that C holds open
+pub mod HashTables
 -- hash sections that are checked
 pub mod Sound
 -- notes
 pub mod Notes
 -- the versions of symbols
 pub mod Versions
+-- the texts of errors
+pub mod Texts
 -- the names of values
 pub mod Names
 -- files that C holds open
@@ -24,6 +28,8 @@ pub mod File
 pub mod Data
 -- symbols and dynamic entries
 pub mod Symbols
+-- what is looked up most often
+pub mod Common
 -- the names of sections
 pub mod SectionNames
 -- what only implementations cite

@@ -49,6 +49,24 @@ pub(crate) fn found_shown(found: &Option<(usize, Symbol)>) -> NugwierFound
     }
 }
 
+// Writes what was found, and returns the status.
+#[inline(never)]
+pub(crate) fn write_found(
+    answer: &Result<Option<(usize, Symbol)>, ParseError>,
+    place: &mut NugwierFound,
+) -> NugwierStatus
+    ensures status { result ≡ status_of answer.now }
+    ensures place { place.new ≡ written found_shown place.old answer.now }
+{
+    match answer {
+        Ok(found) => {
+            *place = found_shown(found);
+            done()
+        }
+        Err(error) => refused(error),
+    }
+}
+
 // The symbol of a name, by a GNU hash section.
 #[inline(always)]
 fn gnu_found(

@@ -2,9 +2,12 @@
 //! two calls.
 #![tactic(auto)]
 
+pub mod common;
 pub mod data;
 pub mod file;
 pub mod find;
+pub mod gnu;
+pub mod hash_tables;
 pub mod named;
 pub mod names;
 pub mod notes;
@@ -13,6 +16,8 @@ pub mod section_names;
 pub mod status;
 pub mod strings;
 pub mod symbols;
+pub mod sysv;
 pub mod table;
+pub mod texts;
 pub mod version_table;
 pub mod versions;
