@@ -1,4 +1,4 @@
-use Rattle.std.proofs.Common.{◌<◌, Some, length, ap, sym, rules, ◌∙◌}
+use Rattle.std.proofs.Common.{◌≡◌, ◌<◌, Some, length, ap, arith, sym, rules, ◌∙◌}
 use Rattle.std.proofs.lemmas.Option.{slice_get-get_or}
 use Rattle.elf_tools.specs.Resolver.{HasTable, IsTable}
 use Rattle.elf_tools.proofs.Tables.{below_next, faulty, first_has, missing, paired_push, table_sound}
@@ -47,3 +47,13 @@ returns-in-Err-clause-refused g c =
     let inside : place < length files = c.loop-library-test.true in
     let at = slice_get-get_or files place file inside ∙ ap Some (sym c.index-files-library.is) in
     faulty g.E.EndianParse.little files place file _ at c.in-Err.ensures c.loop-library.invariant.2
+
+pub loop-library-init : goal.loop-library-init
+loop-library-init g c =
+    (ap length c.new-tables.ensures.items, λ k less. absurd (omega (arith, less)), λ k less. absurd (omega (arith, less)))
+
+pub returns-clause-tables : goal.returns-clause-tables
+returns-clause-tables g c =
+    let before = c.loop-library.invariant in
+    let all : c.loop-library.library ≡ length c.args.files.now = omega arith in
+    (before.0 ∙ all, λ k less. before.1 k (omega (arith, less, all)))
