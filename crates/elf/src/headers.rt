@@ -118,8 +118,8 @@ pub trait Headers {
 pub(crate) fn has_name(names: &TerminatedStrings<'_>, name: &str, shdr: &SectionHeader) -> bool
     ensures { result ≡ has_name names.now name.now shdr.now }
 {
-    match names.is(shdr.sh_name as usize, name.as_bytes()) {
-        Ok(is_named) => is_named,
-        Err(_) => false,
+    match names.is_quickly(shdr.sh_name as usize, name.as_bytes()) {
+        Some(is_named) => is_named,
+        None => false,
     }
 }

@@ -21,8 +21,8 @@ type U32Table<'data, E> = ParsingTable<'data, E, u32>;
 /// What a look-up returns: the index and the symbol, if there is one.
 type Found = Result<Option<(usize, Symbol)>, ParseError>;
 
-// The reads of a look-up are inlined, and return `None` for an error; `refused_word` and `refused_symbol` read once more
-// and return it. A `ParseError` is large: to carry one that is not there through each read costs more than the look-up.
+// The reads of a look-up are inlined, and return `None` for an error. `refused_word` and `refused_symbol` read again
+// and return it: a `ParseError` is large, and to carry one that is not there costs more than the look-up.
 
 // A word of a table, or `None` if it cannot be read.
 #[tactic(auto, unfolding(crate::specs::Hash::word_at))]

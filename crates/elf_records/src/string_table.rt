@@ -243,11 +243,13 @@ impl<'data> TerminatedStrings<'data> {
         self.table.get_raw(offset)
     }
 
-    /// Returns whether the string at `offset`, in bytes, is this name, or `None` if it cannot be read; `is` has the error.
+    /// Returns whether the string at `offset`, in bytes, is this name, or `None` if it cannot be read. `is` has the
+    /// error.
     #[tactic(auto, unfolding(crate::specs::StringTable::string_at))]
     #[inline(always)]
     pub fn is_quickly(&self, offset: usize, name: &[u8]) -> Option<bool>
-        ensures value { IfSome result (λ same. ok_map (λ bytes. bytes_eq bytes name.now) (string_at self.now offset) ≡ Ok same) }
+        ensures value { IfSome result (λ same.
+            ok_map (λ bytes. bytes_eq bytes name.now) (string_at self.now offset) ≡ Ok same) }
         ensures refused { IfNone result (IsErr (string_at self.now offset)) }
     {
         if offset >= self.terminated {

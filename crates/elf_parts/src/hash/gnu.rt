@@ -213,8 +213,8 @@ impl<'data, E: EndianParse> GnuHashTable<'data, E> {
         Ok(None)
     }
 
-    // What a chain word decides for a name with this hash, or `None` if its symbol cannot be read. `index` is that of the
-    // symbol.
+    // What a chain word decides for a name with this hash, or `None` if its symbol cannot be read. `index` is that of
+    // the symbol.
     #[inline(always)]
     fn decide(
         &self,
