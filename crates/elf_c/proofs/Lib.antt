@@ -6,5 +6,4 @@ pub mod Least
 pub mod Definitions
 pub mod Files
 pub mod NoteFilling
-pub mod Lines
 pub mod LookUps

@@ -18,8 +18,6 @@ pub mod Sound
 pub mod Notes
 -- the versions of symbols
 pub mod Versions
--- the texts of errors
-pub mod Texts
 -- the names of values
 pub mod Names
 -- files that C holds open

@@ -7,5 +7,3 @@ pub mod DefinitionLinks
 -- what look-ups in hash sections answer where something cannot be read
 pub mod GnuStops
 pub mod SysvStops
--- text that is written piece by piece
-pub mod Lines

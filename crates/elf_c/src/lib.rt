@@ -18,6 +18,5 @@ pub mod strings;
 pub mod symbols;
 pub mod sysv;
 pub mod table;
-pub mod texts;
 pub mod version_table;
 pub mod versions;
