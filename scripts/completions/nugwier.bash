@@ -4,7 +4,7 @@ _nugwier() {
     COMPREPLY=()
     if [ "$COMP_CWORD" -eq 1 ]; then
         mapfile -t COMPREPLY < <(compgen -W \
-            "list symbols needed exports build-id plan check address tree --help --version" -- "$word")
+            "list symbols needed exports build-id plan check address tree bindings --help --version" -- "$word")
         return
     fi
     if [ "${COMP_WORDS[1]}" = list ]; then
@@ -17,12 +17,14 @@ _nugwier() {
                 return
                 ;;
         esac
-    elif [ "${COMP_WORDS[1]}" = tree ] && [ "$before" = --search ]; then
-        mapfile -t COMPREPLY < <(compgen -d -- "$word")
-        return
-    elif [ "${COMP_WORDS[1]}" = tree ] && [ "${word#-}" != "$word" ]; then
-        mapfile -t COMPREPLY < <(compgen -W "--search --help" -- "$word")
-        return
+    elif [ "${COMP_WORDS[1]}" = tree ] || [ "${COMP_WORDS[1]}" = bindings ]; then
+        if [ "$before" = --search ]; then
+            mapfile -t COMPREPLY < <(compgen -d -- "$word")
+            return
+        elif [ "${word#-}" != "$word" ]; then
+            mapfile -t COMPREPLY < <(compgen -W "--search --json --help" -- "$word")
+            return
+        fi
     elif [ "${word#-}" != "$word" ]; then
         mapfile -t COMPREPLY < <(compgen -W "--json --help" -- "$word")
         return

@@ -1,5 +1,5 @@
 # Completion of nugwier for fish: commands, options and files.
-set -l commands list symbols needed exports build-id plan check address tree
+set -l commands list symbols needed exports build-id plan check address tree bindings
 complete -c nugwier -n "not __fish_seen_subcommand_from $commands" -f
 complete -c nugwier -n "not __fish_seen_subcommand_from $commands" -a list -d "headers, tables and contents"
 complete -c nugwier -n "not __fish_seen_subcommand_from $commands" -a symbols -d "symbols for dynamic linking"
@@ -10,6 +10,7 @@ complete -c nugwier -n "not __fish_seen_subcommand_from $commands" -a plan -d "w
 complete -c nugwier -n "not __fish_seen_subcommand_from $commands" -a check -d "whether a file is sound"
 complete -c nugwier -n "not __fish_seen_subcommand_from $commands" -a address -d "symbols at addresses"
 complete -c nugwier -n "not __fish_seen_subcommand_from $commands" -a tree -d "libraries that a program loads"
+complete -c nugwier -n "not __fish_seen_subcommand_from $commands" -a bindings -d "what symbols bind to"
 complete -c nugwier -n "not __fish_seen_subcommand_from $commands" -l version -d "the version"
 complete -c nugwier -l help -d "how it is called"
 complete -c nugwier -n "__fish_seen_subcommand_from $commands" -l json -d "objects of JSON"
@@ -26,4 +27,4 @@ complete -c nugwier -n "__fish_seen_subcommand_from list" -s V -d versions
 complete -c nugwier -n "__fish_seen_subcommand_from list" -s a -d all
 complete -c nugwier -n "__fish_seen_subcommand_from list" -s x -x -d "bytes of a section"
 complete -c nugwier -n "__fish_seen_subcommand_from list" -s p -x -d "strings of a section"
-complete -c nugwier -n "__fish_seen_subcommand_from tree" -l search -x -a "(__fish_complete_directories)" -d "folder of libraries"
+complete -c nugwier -n "__fish_seen_subcommand_from tree bindings" -l search -x -a "(__fish_complete_directories)" -d "folder of libraries"

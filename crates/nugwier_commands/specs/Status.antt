@@ -9,17 +9,19 @@ use Rattle.nugwier_commands.specs.Check.{IsFaultOf, fault_wrong}
 use Rattle.nugwier_commands.specs.Wrong.{answer_wrong, dynamic_symbols_wrong, needed_of, whole}
 use Rattle.nugwier_commands.specs.declared.words.Command.{Command}
 use Rattle.nugwier_commands.specs.declared.words.Command.TheVariants.{Address, BuildId, Check, Exports, List as ListCommand}
-use Rattle.nugwier_commands.specs.declared.words.Command.TheVariants.{Needed, Plan, Symbols, Tree}
+use Rattle.nugwier_commands.specs.declared.words.Command.TheVariants.{Bindings, Needed, Plan, Symbols, Tree}
 use Rattle.nugwier_lines.specs.Names.{is_export}
 use Rattle.nugwier_lines.specs.declared.problem.Part.TheVariants.{BuildId as BuildIdPart, DynamicSymbols}
 use Rattle.nugwier_lines.specs.declared.problem.Place.{Place}
 use Rattle.nugwier_lines.specs.declared.problem.Stop.{Stop}
 
--- the places after a command, by those before it; of `list` and `plan` nothing is said, and `tree` lists no one file
+-- the places after a command, by those before it; of `list` and `plan` nothing is said, and `tree` and
+-- `bindings` list no one file
 abbrev pub IsWrongFor : Command → List ℕ → ObjectFile → List Place → List Place → Type 0
 IsWrongFor ListCommand addresses file before after = ⊤
 IsWrongFor Plan addresses file before after = ⊤
 IsWrongFor Tree addresses file before after = ⊤
+IsWrongFor Bindings addresses file before after = ⊤
 IsWrongFor Symbols addresses file before after =
     after ≡ before ++ dynamic_symbols_wrong (whole DynamicSymbols ∷ []) (λ i symbol. not (i == 0)) file
 IsWrongFor Exports addresses file before after =

@@ -18,6 +18,7 @@ usage: nugwier COMMAND [OPTION..] FILE..
   check       whether a file is sound, or its first fault
   address     the symbols at addresses
   tree        the libraries that a program loads, and the files that are found for them
+  bindings    what the symbols of a program and of its libraries bind to
 
   COMMAND --help    how the command is called
   COMMAND --json    an object of JSON for each record, one a line, in place of lines for people
@@ -101,7 +102,7 @@ says so if the address lies past its end. An address is in hexadecimal, with or 
 list -s or, if the file has none, those for dynamic linking.";
 
 const TREE: &str = "\
-usage: nugwier tree [--search FOLDER].. FILE..
+usage: nugwier tree [--json] [--search FOLDER].. FILE..
 
 Prints the program, and below it each library that it loads: the name by which it is needed, and the path of the file
 that is found, or 'not found'. A library stands below the one that needs it first. Nothing is run.
@@ -112,6 +113,21 @@ Libraries are looked for as the dynamic linker does: in the folders of DT_RPATH 
 loaders, those of --search, those of DT_RUNPATH of the object, and the usual ones of its machine, such as
 /lib/x86_64-linux-gnu, /lib64 and /usr/lib. $ORIGIN is the folder of the object's path. LD_LIBRARY_PATH, ld.so.conf and
 the cache of the dynamic linker are not read.";
+
+const BINDINGS: &str = "\
+usage: nugwier bindings [--json] [--search FOLDER].. FILE..
+
+Prints what the symbols of a program and of the libraries that it loads bind to, as the dynamic linker binds them.
+Nothing is run. The libraries are those of tree, with the same option. Under the path of each file there is a line for
+each symbol that another file has to define, and for each that is copied into the program:
+
+  NAME@VERSION => PATH: NAME@@VERSION   the file that has the symbol, with the version there
+  NAME@VERSION => weak                  no file has it, and it may be missing
+  NAME@VERSION => missing               no file has it
+  NAME@VERSION => unknown               a version that decides it cannot be read
+
+If the calls of a function go elsewhere than to its address, the address has a second line, with (address) at its end.
+With --json each kind of reference has an object. What is missing or unknown is told on standard error, too.";
 
 /// How the program, or one of its commands, is called.
 pub(crate) fn help(command: Option<Command>) -> &'static str {
@@ -126,5 +142,6 @@ pub(crate) fn help(command: Option<Command>) -> &'static str {
         Some(Command::Check) => CHECK,
         Some(Command::Address) => ADDRESS,
         Some(Command::Tree) => TREE,
+        Some(Command::Bindings) => BINDINGS,
     }
 }

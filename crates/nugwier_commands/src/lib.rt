@@ -3,6 +3,7 @@
 #![tactic(auto)]
 
 mod addresses;
+mod bindings;
 mod by_parts;
 mod check;
 mod contents;

@@ -6,6 +6,7 @@ ghost use Rattle.nugwier_commands.specs.Status.{IsWrongFor, ended_status};
 ghost use Rattle.nugwier_lines.specs.declared.problem.Place.{Place};
 
 use crate::addresses::list_addresses;
+use crate::bindings::run_bindings;
 use crate::by_parts::{list_by_parts, wants_only_headers};
 use crate::check::check;
 use crate::files::Files;
@@ -128,22 +129,17 @@ fn run_file<F: Files, W: Write, V: Write>(
         }
     }
     match files.read(path) {
-        Ok(data) => match job.command {
-            Command::Tree => {
-                let searches = job.searches.as_slice();
-                run_tree(
-                    alloc,
-                    searches,
-                    format_of(job, path),
-                    files,
-                    path,
-                    data,
-                    out,
-                    err,
-                )
+        Ok(data) => {
+            let format = format_of(job, path);
+            let searches = job.searches.as_slice();
+            match job.command {
+                Command::Tree => run_tree(alloc, searches, format, files, path, data, out, err),
+                Command::Bindings => {
+                    run_bindings(alloc, searches, format, files, path, data, out, err)
+                }
+                _ => run_bytes(alloc, job, path, data.as_slice(), out, err),
             }
-            _ => run_bytes(alloc, job, path, data.as_slice(), out, err),
-        },
+        }
         Err(error) => {
             out.flush()?;
             let path = Escaped(path.as_bytes());
@@ -237,7 +233,7 @@ fn run_command<E: EndianParse, W: Write>(
             let addresses = job.addresses.as_slice();
             list_addresses(alloc, format, file, addresses, out, problems)
         }
-        // It reads other files too, so `run_tree` lists it.
-        Command::Tree => Ok(()),
+        // They read other files too, so `run_tree` and `run_bindings` list them.
+        Command::Tree | Command::Bindings => Ok(()),
     }
 }

@@ -27,15 +27,8 @@ pub(crate) fn run_tree<L: Libraries, W: Write, V: Write>(
     out: &mut W,
     err: &mut V,
 ) -> Result<bool, Stop> {
-    let program = match LoadedFile::open(alloc, Vec::from_slice(alloc, path.as_bytes())?, data) {
-        Ok(program) => program,
-        Err(OpenError::Memory) => return Err(Stop::Memory),
-        Err(OpenError::Open(error)) => {
-            out.flush()?;
-            let path = Escaped(path.as_bytes());
-            let _ = writeln!(err, "nugwier: {path}: {error}");
-            return Ok(false);
-        }
+    let Some(program) = open_program(alloc, path, data, out, err)? else {
+        return Ok(false);
     };
     let objects = objects(alloc, searches, libraries, program)?;
     list_objects(alloc, format, &objects, out)?;
@@ -44,8 +37,28 @@ pub(crate) fn run_tree<L: Libraries, W: Write, V: Write>(
     Ok(are_complete(&objects))
 }
 
-// The program with its libraries, in the order in which they are loaded.
-fn objects<L: Libraries>(
+/// Opens a program. Returns `None` if that is not possible, and tells why.
+pub(crate) fn open_program<W: Write, V: Write>(
+    alloc: Global,
+    path: &str,
+    data: Vec<u8>,
+    out: &mut W,
+    err: &mut V,
+) -> Result<Option<LoadedFile>, Stop> {
+    match LoadedFile::open(alloc, Vec::from_slice(alloc, path.as_bytes())?, data) {
+        Ok(program) => Ok(Some(program)),
+        Err(OpenError::Memory) => Err(Stop::Memory),
+        Err(OpenError::Open(error)) => {
+            out.flush()?;
+            let path = Escaped(path.as_bytes());
+            let _ = writeln!(err, "nugwier: {path}: {error}");
+            Ok(None)
+        }
+    }
+}
+
+/// Returns the program with its libraries, in the order in which they are loaded.
+pub(crate) fn objects<L: Libraries>(
     alloc: Global,
     searches: &[&str],
     libraries: &L,
@@ -72,8 +85,8 @@ fn library_path(alloc: Global, searches: &[&str]) -> Result<Vec<u8>, AllocError>
     Ok(path)
 }
 
-// Whether all were found, and the names of each are known.
-fn are_complete(objects: &[Object]) -> bool
+/// Whether all were found, and the names of each are known.
+pub(crate) fn are_complete(objects: &[Object]) -> bool
     ensures { result ≡ list_all is_complete (map entry_view objects.now) }
 {
     for object in objects {
@@ -179,8 +192,12 @@ fn write_library<'a, W: Write>(
     write_object(path, "object", &members, out)
 }
 
-// Tells which libraries are missing, and of which the names are not known.
-fn tell_missing<V: Write>(objects: &[Object], path: &str, err: &mut V) -> io::Result<()> {
+/// Tells which libraries are missing, and of which the names are not known.
+pub(crate) fn tell_missing<V: Write>(
+    objects: &[Object],
+    path: &str,
+    err: &mut V,
+) -> io::Result<()> {
     let path = Escaped(path.as_bytes());
     for object in objects {
         let name = Escaped(&object.name);

@@ -18,6 +18,7 @@ pub enum Command {
     Check,
     Address,
     Tree,
+    Bindings,
 }
 
 impl Command {
@@ -33,7 +34,13 @@ impl Command {
             Command::Check => "check",
             Command::Address => "address",
             Command::Tree => "tree",
+            Command::Bindings => "bindings",
         }
+    }
+
+    // Whether libraries are searched for.
+    fn finds_libraries(self) -> bool {
+        matches!(self, Command::Tree | Command::Bindings)
     }
 }
 
@@ -95,7 +102,7 @@ pub struct Job<'a> {
     pub addresses: Vec<u64>,
     /// Whether records are listed as objects of JSON.
     pub is_json: bool,
-    /// The folders in which `tree` searches for libraries, before the usual ones.
+    /// The folders in which `tree` and `bindings` search for libraries, before the usual ones.
     pub searches: Vec<&'a str>,
 }
 
@@ -212,6 +219,7 @@ fn parse_command(word: &str) -> Option<Command> {
         "check" => Some(Command::Check),
         "address" => Some(Command::Address),
         "tree" => Some(Command::Tree),
+        "bindings" => Some(Command::Bindings),
         _ => None,
     }
 }
@@ -332,7 +340,7 @@ enum Waiting {
     Folder,
 }
 
-// The options so far, all but one of them for `list` and `tree`. The last one may wait for its word.
+// The options so far, all but one of them for `list`, `tree` and `bindings`. The last one may wait for its word.
 #[derive(Drop)]
 struct Options<'a> {
     parts: Parts,
@@ -365,7 +373,7 @@ impl<'a> Options<'a> {
 
     // Adds the options of a word: of `list` a letter each.
     fn add(&mut self, command: Command, word: &'a str) -> Result<(), WordError<'a>> {
-        if command == Command::Tree && word == "--search" {
+        if command.finds_libraries() && word == "--search" {
             self.waiting = Some((Waiting::Folder, word));
             return Ok(());
         }

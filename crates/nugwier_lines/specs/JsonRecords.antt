@@ -2,6 +2,7 @@
 -- field; a name of its value follows it.
 use Rattle.std.specs.Prelude.{ℕ, ℤ, Bool, List, [], ◌∷◌, Option, Some, None, codes, nat_eq}
 use Rattle.std.specs.Fmt.{decimal, signed_decimal}
+use Rattle.std.specs.Option.{option_copied}
 use Rattle.std.specs.Ordering.{int_eq}
 use Rattle.elf_abi.specs.DynamicNames.{d_tag_names}
 use Rattle.elf_abi.specs.Names.{name_of}
@@ -11,7 +12,13 @@ use Rattle.elf_records.specs.declared.dynamic.Dyn.{Dyn}
 use Rattle.elf_records.specs.declared.section.SectionHeader.{SectionHeader}
 use Rattle.elf_records.specs.declared.segment.ProgramHeader.{ProgramHeader}
 use Rattle.elf_records.specs.Dynamic.{d_un_view}
-use Rattle.nugwier_lines.specs.Json.{optional_text, pair, word_value}
+use Rattle.nugwier_lines.specs.Json.{member, optional_text, pair, word_value}
+use Rattle.nugwier_lines.specs.declared.bindings.BoundSymbol.{BoundSymbol}
+use Rattle.nugwier_lines.specs.declared.bindings.Target.{Target}
+use Rattle.nugwier_lines.specs.declared.bindings.Target.TheVariants.{Missing, Symbol, Unknown, Weak}
+use Rattle.nugwier_lines.specs.declared.json.Value.{Value}
+use Rattle.nugwier_lines.specs.declared.json.Value.TheVariants.{Flag, Null, Number}
+use Rattle.nugwier_lines.specs.declared.versions.ShownVersion.{ShownVersion}
 use Prim.Native.String.{String}
 
 abbrev pub number : String → ℕ → List ℕ
@@ -78,4 +85,55 @@ entry_members i entry name =
     ∷ word "d_tag_name" (d_tag_name entry.d_tag)
     ∷ number "d_un" (d_un_view entry)
     ∷ text "name" name
+    ∷ []
+
+-- ---- what a symbol binds to
+
+abbrev pub version_name : Option ShownVersion → Option (List ℕ)
+version_name None = None
+version_name (Some version) = Some version.name.now
+
+-- whether it is the default one, if there is one
+abbrev pub default_value : Option ShownVersion → Value
+default_value None = Null
+default_value (Some version) = Flag version.is_default
+
+abbrev pub target_word : Target → List ℕ
+target_word (Symbol path index version) = codes "bound"
+target_word Weak = codes "weak"
+target_word Missing = codes "missing"
+target_word Unknown = codes "unknown"
+
+-- the path, the index and the version of the symbol, if it binds to one
+abbrev pub target_path : Target → Option (List ℕ)
+target_path (Symbol path index version) = Some path.now
+target_path Weak = None
+target_path Missing = None
+target_path Unknown = None
+
+abbrev pub target_index : Target → Value
+target_index (Symbol path index version) = Number index
+target_index Weak = Null
+target_index Missing = Null
+target_index Unknown = Null
+
+abbrev pub target_version : Target → Option ShownVersion
+target_version (Symbol path index version) = version.0
+target_version Weak = None
+target_version Missing = None
+target_version Unknown = None
+
+-- a symbol with the version that it requests, the kind of the references to it, and what these bind to
+abbrev pub binding_members : BoundSymbol → List ℕ → Target → List (List ℕ)
+binding_members symbol kind target =
+    text "object" (Some symbol.path.now)
+    ∷ number "index" symbol.index
+    ∷ text "name" (option_copied symbol.name.0)
+    ∷ text "version" (version_name symbol.version.0)
+    ∷ word "reference" (Some kind)
+    ∷ word "result" (Some (target_word target))
+    ∷ text "path" (target_path target)
+    ∷ member (codes "symbol") (target_index target)
+    ∷ text "symbol_version" (version_name (target_version target))
+    ∷ member (codes "symbol_version_is_default") (default_value (target_version target))
     ∷ []

@@ -8,7 +8,7 @@ use crate::json::{Format, Value, write_object};
 use crate::named::{Name, Named};
 use crate::problem::{Item, Part, Place, Problems, Stop};
 use crate::rows::Row;
-use crate::versions::{ShownVersion, Suffix, shown_version};
+use crate::versions::{Suffix, shown_version};
 use elf_abi::{abi, to_str};
 use elf_parts::endian::EndianParse;
 use elf_parts::file::Class;
@@ -189,7 +189,6 @@ fn write_symbol<'a, W: Write>(
         st_size,
     } = *symbol;
     let (binding, kind, visibility) = (symbol.st_bind(), symbol.st_symtype(), symbol.st_vis());
-    let (version, is_default) = version_values(version);
     let members = [
         ("table", Value::Word(table_of(line.part))),
         ("index", Value::Number(line.number)),
@@ -210,21 +209,11 @@ fn write_symbol<'a, W: Write>(
         ("st_shndx_name", Value::Word(special_section(st_shndx))),
         ("st_value", Value::Number(st_value)),
         ("st_size", Value::Number(st_size)),
-        ("version", version),
-        ("version_is_default", is_default),
+        ("version", Value::Text(version.name())),
+        ("version_is_default", version.default_value()),
         ("letter", Value::Character(line.letter)),
     ];
     write_object(path, "symbol", &members, out)
-}
-
-// The name of a version, and whether it is the default one.
-fn version_values(version: Suffix<'_>) -> (Value<'_>, Value<'_>) {
-    match version.0 {
-        Some(ShownVersion { name, is_default }) => {
-            (Value::Text(Some(name.as_bytes())), Value::Flag(is_default))
-        }
-        None => (Value::Null, Value::Null),
-    }
 }
 
 // The type of the section that has a table of symbols.

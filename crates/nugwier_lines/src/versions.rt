@@ -1,10 +1,13 @@
 //! The versions of symbols.
 ghost use Rattle.std.specs.Prelude.{◌≡◌};
+ghost use Rattle.std.specs.Option.{option_copied};
 ghost use Rattle.elf_parts.specs.gnu_symver.Table.{definition, definition_view, requirement};
+ghost use Rattle.nugwier_lines.specs.JsonRecords.{default_value, version_name};
 ghost use Rattle.nugwier_lines.specs.Places.{is_error};
 ghost use Rattle.nugwier_lines.specs.Versions.{is_definition_bad, is_requirement_bad, is_version_bad};
 
 use crate::escape::Escaped;
+use crate::json::Value;
 use elf_abi::abi;
 use elf_parts::endian::EndianParse;
 use elf_parts::gnu_symver::{SymbolDefinition, SymbolVersions};
@@ -23,6 +26,28 @@ pub struct ShownVersion<'a> {
 /// A version after its symbol: `@name`, or `@@name` of a default version.
 #[derive(Clone, Copy)]
 pub struct Suffix<'a>(pub Option<ShownVersion<'a>>);
+
+impl<'a> Suffix<'a> {
+    /// The name of the version, if there is one.
+    pub(crate) fn name(self) -> Option<&'a [u8]>
+        ensures { option_copied result ≡ version_name self.entry.0 }
+    {
+        match self.0 {
+            Some(version) => Some(version.name.as_bytes()),
+            None => None,
+        }
+    }
+
+    /// Whether the version is the default one, if there is one.
+    pub(crate) fn default_value(self) -> Value<'static>
+        ensures { result ≡ default_value self.entry.0 }
+    {
+        match self.0 {
+            Some(version) => Value::Flag(version.is_default),
+            None => Value::Null,
+        }
+    }
+}
 
 impl fmt::Display for Suffix<'_> {
     fn fmt<W: fmt::Write>(&self, f: &mut fmt::Formatter<W>) -> fmt::Result {
