@@ -42,7 +42,7 @@ IsNoteWritten new old (Ok found) = IsNote new found.0
 abbrev pub next_note : NugwierNotes → ℕ → Result ℕ ParseError
 next_note notes o = ok_map (λ found. found.1) (note_of_c notes o)
 
--- the offset after n notes, the first of which begins at o
+-- the offset after n notes, the first at o
 abbrev pub note_after : NugwierNotes → ℕ → ℕ → Result ℕ ParseError
 note_after notes zero o = Ok o
 note_after notes (suc n) o = note_after notes n o >>= next_note notes

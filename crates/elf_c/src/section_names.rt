@@ -98,7 +98,7 @@ fn index_in<E: EndianParse>(
     shdrs.iter().position(|shdr| is_named(names, name, &shdr))
 }
 
-// The same in a table of either byte order and class.
+// The index of a section by its name, in a table of either byte order and class.
 fn index_of(table: &NugwierTable<'_>, names: &TerminatedStrings<'_>, name: &[u8]) -> Option<usize>
     ensures { result ≡ position (has_name names.now name.now)
         (table_items section_header_reads (table_of_c table.now)) }
@@ -132,7 +132,7 @@ fn section_named(file: &NugwierFile<'_>, name: &[u8]) -> Result<Option<SectionHe
 }
 
 /// Finds the first section of a file whose name has exactly these bytes. `found` says whether there is one; if there is
-/// none, `section` stays as it is. An error leaves both as they are; the errors are those of
+/// none, `section` does not change. An error changes neither; the errors are those of
 /// `ElfBytes::section_header_by_name`.
 #[unsafe(no_mangle)]
 pub extern "C" fn nugwier_section_by_name(

@@ -27,12 +27,11 @@ pub(crate) fn add(fault: Option<FileFault>, faults: &mut Vec<FileFault>) -> Resu
 /// Returns all faults of a file, in the order in which `check_file` looks for them: none exactly if the file is sound.
 /// The only error is a failed allocation.
 ///
-/// Of each of these the first fault is among them, if it is not sound: the names of the sections; each type of which
-/// there is to be one section; each section; the needs, the definitions and the indexes of versions; each type of which
-/// there is to be one segment; `PT_PHDR`, which is to come before the loaded segments; each segment; the order of the
-/// loaded segments. If the names of the sections cannot be read, the sections are checked for all but their names. The
-/// version indexes are looked up only if the needs and the definitions are sound, since else it is not known which
-/// versions there are.
+/// The faults are the first ones of each of these that is not sound: the names of the sections; each type that one
+/// section may have; each section; the needs, the definitions and the indexes of versions; each type that one segment
+/// may have; `PT_PHDR`, which has to come before the loaded segments; each segment; the order of the loaded segments.
+/// If the names of the sections cannot be read, they are not checked, but the rest of each section is. The version
+/// indexes are looked up only if the needs and the definitions are sound, since otherwise the versions are not known.
 ///
 /// The version of each symbol is looked up by a walk over the needs and the definitions. `all_faults_in` takes no such
 /// walks.

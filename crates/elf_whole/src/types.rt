@@ -1,4 +1,4 @@
-//! The types of which a file has one section at most.
+//! The types that at most one section of a file may have.
 ghost use Rattle.std.specs.Prelude.{◌≡◌};
 ghost use Rattle.elf.specs.ElfBytes.{view};
 ghost use Rattle.elf.specs.ObjectFile.{object_file};
@@ -17,7 +17,7 @@ pub(crate) fn is_repeated<E: EndianParse>(file: &ElfBytes<'_, E>, sh_type: u32) 
     }
 }
 
-// The first type that more than one section has, of those of which a file has one section at most.
+// The first type that more than one section has, of those that at most one may have.
 pub(crate) fn repeated_type<E: EndianParse>(file: &ElfBytes<'_, E>) -> Option<u32>
     ensures { result ≡ repeated_type (object_file E.little (view file.now)) }
 {

@@ -2,7 +2,7 @@
 pub mod Wrong
 -- the fault of a file that is not sound
 pub mod Check
--- the addresses of which no symbol is known
+-- the addresses for which no symbol is known
 pub mod Addresses
 -- what a command finds wrong, and the exit status
 pub mod Status

@@ -1,4 +1,4 @@
-//! Files of which only the headers are listed. They are read by parts, so a large file is not read whole.
+//! Files whose headers alone are listed. They are read by parts, so a large file is not read whole.
 use crate::words::{Command, Job, Parts};
 use elf::endian::AnyEndian;
 use elf::headers::Headers;

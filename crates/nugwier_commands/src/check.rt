@@ -94,7 +94,7 @@ fn list_sound<W: Write>(format: Format<'_>, out: &mut W) -> io::Result<()> {
     }
 }
 
-// People are told the fault on standard error alone.
+// For people the fault is on standard error alone.
 fn list_fault<W: Write>(format: Format<'_>, part: Part, text: &str, out: &mut W) -> io::Result<()> {
     match format {
         Format::Text => writeln!(out, "FAULT"),

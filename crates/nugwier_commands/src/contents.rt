@@ -79,7 +79,7 @@ fn list_heading<W: Write>(format: Format<'_>, wanted: &Wanted<'_>, out: &mut W) 
     }
 }
 
-// The section of a name; or of a number, if no section has such a name.
+// The section of a name; or of a number, if no section has this text as its name.
 fn find<E: EndianParse>(file: &ElfBytes<'_, E>, wanted: &str) -> Option<(usize, SectionHeader)> {
     let sections = file.section_headers()?;
     if let Some(names) = readable_names(file) {

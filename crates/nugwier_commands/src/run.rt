@@ -64,8 +64,8 @@ fn print<W: Write>(text: &str, out: &mut W) -> Result<bool, Stop> {
     Ok(true)
 }
 
-// The exit status of a run, by whether all was read. A writer whose reader has gone is no news; any other reason to
-// stop is told.
+// The exit status of a run, by whether all was read. That the reader of the output has gone is not reported; any other
+// reason to stop is.
 fn ended<V: Write>(ran: Result<bool, Stop>, err: &mut V) -> u8
     ensures { result ≡ ended_status ran }
 {

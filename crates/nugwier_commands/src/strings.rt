@@ -90,7 +90,7 @@ fn first_in<E: EndianParse>(
         .find(|segment| holds(segment, address, size))
 }
 
-// The same of the segments of a file.
+// The first segment of a file that holds this many bytes from an address on.
 fn first_holding<E: EndianParse>(
     file: &ElfBytes<'_, E>,
     address: u64,

@@ -192,7 +192,7 @@ fn write_library<'a, W: Write>(
     write_object(path, "object", &members, out)
 }
 
-/// Tells which libraries are missing, and of which the names are not known.
+/// Reports which libraries are missing, and which have names that are not known.
 pub(crate) fn tell_missing<V: Write>(
     objects: &[Object],
     path: &str,

@@ -40,7 +40,7 @@ fn add_names<'data, E: EndianParse>(
     }
 }
 
-// The fault of a type of which there is to be one section at most.
+// The fault of a type that at most one section may have.
 fn type_fault<E: EndianParse>(file: &ElfBytes<'_, E>, sh_type: u32) -> Option<FileFault>
     ensures { IsFaultIfAny (object_file E.little (view file.now)) (SingleType sh_type) result }
 {

@@ -47,7 +47,7 @@ fn pair_in<E: EndianParse>(
     first_pair(&segment_table(file), earlier, later)
 }
 
-// The fault of each type of which there is to be one segment at most.
+// The fault of each type that at most one segment may have.
 fn second_interp<E: EndianParse>(file: &ElfBytes<'_, E>) -> Option<FileFault>
     ensures { IsFaultIfAny (object_file E.little (view file.now)) SingleInterp result }
 {

@@ -17,9 +17,9 @@ use elf::string_table::TerminatedStrings;
 
 /// Checks whether a file is sound: whether what its headers declare can be read. Allocates nothing.
 ///
-/// A fault is the first one in this order: the names of the sections; a type of which there is to be one section, and
-/// there are two; the sections in order, of each its name, its bytes, compression, and its content; the needs, the
-/// definitions and the indexes of versions; the segments, in the order of `segments_fault`.
+/// A fault is the first one in this order: the names of the sections; a type that one section may have, and two have;
+/// the sections in order, of each its name, its bytes, compression, and its content; the needs, the definitions and the
+/// indexes of versions; the segments, in the order of `segments_fault`.
 ///
 /// The version of each symbol is looked up by a walk over the needs and the definitions. `check_file_in` takes no such
 /// walks.

@@ -1,4 +1,4 @@
-//! The symbols of a section, one after the other.
+//! The symbols of a section, in order.
 ghost use Rattle.std.specs.Prelude.{◌≡◌};
 ghost use Rattle.std.specs.Iterator.{YieldsFirstBy, item_count};
 ghost use Rattle.elf_records.specs.Table.{items_left};

@@ -13,7 +13,7 @@ use elf::abi;
 use elf::endian::EndianParse;
 use elf::string_table::StringTable;
 
-/// Strings of which the last one ends: at each offset within them is a string.
+/// Strings whose last byte is 0, so that at each offset within them is a string.
 #[derive(Debug, Drop)]
 pub struct WholeStrings<'data> {
     strings: StringTable<'data>,
