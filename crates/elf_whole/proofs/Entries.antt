@@ -1,12 +1,13 @@
 -- Dynamic entries whose strings can be read.
-use Rattle.std.proofs.Common.{◌≡◌, ℕ, ◌+◌, Bool, true, false, not, List, [], ◌∷◌, ◌&&◌, Option, Some, None, IsTrue, refl, ap, sym, ◌∙◌, subst, if◌then◌else◌}
-use Rattle.std.specs.List.{list_all, position, position_from, take_while}
+use Rattle.std.proofs.Common.{◌≡◌, ℕ, ◌+◌, ◌<◌, ◌≤◌, Bool, true, false, not, List, [], ◌∷◌, ◌&&◌, length, drop, take, Option, Some, None, refl, ap, sym, ◌∙◌, subst, if◌then◌else◌, arith}
+use Rattle.std.specs.List.{list_all, position, position_from, slice_get, take_while}
 use Rattle.std.proofs.lemmas.Iterator.Adapters.{position_from-zero}
-use Rattle.std.proofs.lemmas.List.Sums.{take_while-cons}
-use Rattle.elf_records.specs.Dynamic.{has_tag}
+use Rattle.std.proofs.lemmas.List.{get_or-take, length-take}
+use Rattle.std.proofs.lemmas.List.Sums.{AllPass-from_list_all, take_while-cons}
+use Rattle.std.proofs.lemmas.Option.{get_or_from_slice_get, slice_get_read, slice_get_within}
 use Rattle.elf_records.specs.declared.dynamic.Dyn.{Dyn}
-use Rattle.elf_abi.specs.Values.{dt_null}
-use Rattle.elf_whole.specs.Dynamic.{before_null, has_its_string}
+use Rattle.elf_whole.specs.Dynamic.{entries_with_strings, string_of}
+use Rattle.elf_whole.proofs.Relocated.{drop_here}
 
 -- ---- the first one that fails a test
 
@@ -35,18 +36,37 @@ one_fails p xs k e all = some_from p 0 xs k (sym (position_from-zero (λ x. not 
 
 -- ---- entries before DT_NULL
 
-both_true : (a b : Bool) → (a && b) ≡ true → a ≡ true
-both_true true b e = refl
-both_true false b e = e
+step_taken : {A : Type 0} (p : A → Bool) (x : A) (xs : List A) (b : Bool) → p x ≡ b → take (length (take_while p xs)) xs ≡ take_while p xs → take (length (take_while p (x ∷ xs))) (x ∷ xs) ≡ take_while p (x ∷ xs)
+step_taken {A = A} p x xs true e rest =
+    let front : take_while p (x ∷ xs) ≡ x ∷ take_while p xs =
+    take_while-cons p x xs ∙ ap (λ (b : Bool). if b then x ∷ take_while p xs else []) e in
+    subst (λ (ys : List A). take (length ys) (x ∷ xs) ≡ ys) (sym front) (ap (λ (ys : List A). x ∷ ys) rest)
+step_taken {A = A} p x xs false e rest =
+    let none : take_while p (x ∷ xs) ≡ [] =
+    take_while-cons p x xs ∙ ap (λ (b : Bool). if b then x ∷ take_while p xs else []) e in
+    subst (λ (ys : List A). take (length ys) (x ∷ xs) ≡ ys) (sym none) refl
 
--- the first entry, which does not end the table
-pub first_read : (strings : List ℕ) (ended : Bool) (entry : Dyn) (olds news : List Dyn) → ended ≡ false → olds ≡ entry ∷ news → has_tag dt_null entry ≡ false → IsTrue (list_all (has_its_string strings) (if ended then [] else before_null olds)) → IsTrue (has_its_string strings entry)
-first_read strings true entry olds news none e some all = absurd (cc none)
-first_read strings false entry olds news none e some all =
-    let goes = λ (x : Dyn). not (has_tag dt_null x) in
-    let here : not (has_tag dt_null entry) ≡ true = ap not some in
-    let front : before_null olds ≡ (if not (has_tag dt_null entry) then entry ∷ take_while goes news else []) =
-    ap (take_while goes) e ∙ take_while-cons goes entry news in
-    let more : before_null olds ≡ entry ∷ take_while goes news =
-    front ∙ ap (λ (b : Bool). if b then entry ∷ take_while goes news else []) here in
-    both_true (has_its_string strings entry) (list_all (has_its_string strings) (take_while goes news)) (subst (λ (xs : List Dyn). list_all (has_its_string strings) xs ≡ true) more all)
+-- they are as many as they are, from the front on
+pub taken : {A : Type 0} (p : A → Bool) (xs : List A) → take (length (take_while p xs)) xs ≡ take_while p xs
+taken p [] = refl
+taken p (x ∷ xs) = step_taken p x xs (p x) refl (taken p xs)
+
+pub taken_within : {A : Type 0} (p : A → Bool) (xs : List A) → length (take_while p xs) ≤ length xs
+taken_within p xs = omega (arith, length-take (length (take_while p xs)) xs, ap length (taken p xs))
+
+-- one of the first ones of a list
+pub taken_at : {A : Type 0} (count : ℕ) (xs : List A) (i : ℕ) (x : A) → i < count → slice_get xs i ≡ Some x → slice_get (take count xs) i ≡ Some x
+taken_at count xs i x less e =
+    let here = slice_get_within xs i x e in
+    slice_get_read (take count xs) (length (take count xs)) i x refl (omega (arith, length-take count xs, less, here))
+    (sym (get_or-take count xs i x less ∙ get_or_from_slice_get xs i x x e))
+
+pub passes_at : {A : Type 0} (p : A → Bool) (xs : List A) (i : ℕ) (x : A) → slice_get xs i ≡ Some x → list_all p xs ≡ true → p x ≡ true
+passes_at p xs i x e all =
+    ap p (sym (get_or_from_slice_get xs i x x e)) ∙ AllPass-from_list_all p xs all i x (slice_get_within xs i x e)
+
+-- the next one, with its string
+pub next_entry : (strings : List ℕ) (xs : List Dyn) (next : ℕ) (entry : Dyn) (string : Option (List ℕ)) → slice_get xs next ≡ Some entry → string ≡ string_of strings entry → entries_with_strings strings (drop next xs) ≡ (entry, string) ∷ entries_with_strings strings (drop (next + 1) xs)
+next_entry strings xs next entry string e same =
+    ap (entries_with_strings strings) (drop_here xs next entry e)
+    ∙ ap (λ (y : Option (List ℕ)). (entry, y) ∷ entries_with_strings strings (drop (next + 1) xs)) (sym same)

@@ -24,3 +24,4 @@ pub mod TrueSubjects
 pub mod Adding
 pub mod SoundSubjects
 pub mod FirstOfAll
+pub mod Plans

@@ -1,16 +1,18 @@
 -- What is found among the segments of a file that are sound.
-use Rattle.std.proofs.Common.{◌≡◌, ℕ, suc, ◌==◌, Bool, true, false, List, [], ◌∷◌, Option, Some, None, Result, Ok, Err, refl, ap, sym, ◌∙◌, subst, rules, tests, if◌then◌else◌}
+use Rattle.std.proofs.Common.{◌≡◌, ℕ, ◌+◌, ◌==◌, Bool, true, false, List, [], ◌∷◌, drop, Option, Some, None, Result, Ok, Err, refl, ap, sym, ◌∙◌, subst, rules, tests, if◌then◌else◌}
 use Rattle.std.proofs.lemmas.Option.{slice_get_within}
 use Rattle.std.specs.List.{find, slice_get}
 use Rattle.std.specs.Option.{IsSome, MatchOption, option_map}
-use Rattle.std.specs.Result.{IsOk, IsOkAnd, result_ok}
+use Rattle.std.specs.Result.{IsOk, IsOkAnd, result_ok, result_unwrap_or}
 use Rattle.elf_records.specs.Number.{ok_map}
+use Rattle.elf_records.specs.declared.parse.ParseError.{ParseError}
 use Rattle.elf_records.specs.declared.segment.ProgramHeader.{ProgramHeader}
 use Rattle.elf.specs.Headers.{first_segment_of}
 use Rattle.elf.specs.ObjectFile.{ObjectFile}
-use Rattle.elf_whole.specs.SegmentsBytes.{AllRead}
-use Rattle.elf_whole.specs.Segments.{SoundSegment, SoundSegments}
+use Rattle.elf_whole.specs.SegmentsBytes.{AllRead, with_bytes}
+use Rattle.elf_whole.specs.Segments.{SoundSegment, SoundSegments, segment_bytes}
 use Rattle.elf_whole.proofs.Firsts.{found_at}
+use Rattle.elf_whole.proofs.Relocated.{drop_here}
 
 pub member_sound : (file : ObjectFile) (i : ℕ) (p : ProgramHeader) → slice_get file.segments i ≡ Some p → SoundSegments file → SoundSegment file p
 member_sound file i p e sound = sound.each i p (slice_get_within file.segments i p e) e
@@ -42,14 +44,13 @@ pub ok_of_shown : {A B E : Type 0} (f : A → B) (r : Result A E) (shown : Resul
 ok_of_shown f (Ok x) shown e ok = refl
 ok_of_shown f (Err d) shown e ok = cc
 
--- ---- segments that an iterator has left to yield
+-- ---- segments that an iterator yields
 
-later_read : (file : ObjectFile) (p : ProgramHeader) (olds news : List ProgramHeader) → olds ≡ p ∷ news → AllRead file olds → AllRead file news
-later_read file p olds news e all = λ i q d. all (suc i) q (ap (λ (xs : List ProgramHeader). slice_get xs (suc i)) e ∙ d)
-
-pub read_after : (file : ObjectFile) (r : Option ProgramHeader) (olds news : List ProgramHeader) → MatchOption r ((olds ≡ []) × (news ≡ [])) (λ p. olds ≡ p ∷ news) → AllRead file olds → AllRead file news
-read_after file None olds news steps all = subst (λ (xs : List ProgramHeader). AllRead file xs) (sym steps.1) (λ i p e. absurd (cc))
-read_after file (Some p) olds news steps all = later_read file p olds news steps all
+-- the next one, with its bytes
+pub next_segment : (file : ObjectFile) (ps : List ProgramHeader) (next : ℕ) (p : ProgramHeader) (bytes : List ℕ) → slice_get ps next ≡ Some p → segment_bytes file p ≡ Ok bytes → with_bytes file (drop next ps) ≡ (p, bytes) ∷ with_bytes file (drop (next + 1) ps)
+next_segment file ps next p bytes e read =
+    ap (with_bytes file) (drop_here ps next p e)
+    ∙ ap (λ (r : Result (List ℕ) ParseError). (p, result_unwrap_or r []) ∷ with_bytes file (drop (next + 1) ps)) read
 
 pub all_read : (file : ObjectFile) (segments : List ProgramHeader) → segments ≡ file.segments → SoundSegments file → AllRead file segments
 all_read file segments is sound = λ i p e. (member_sound file i p (subst (λ (xs : List ProgramHeader). slice_get xs i ≡ Some p) is e) sound).bytes

@@ -19,6 +19,8 @@ pub mod Segments
 pub mod SegmentsFaults
 pub mod SegmentsBytes
 pub mod SegmentsWhole
+-- what a loader maps
+pub mod LoadPlan
 -- the build id
 pub mod BuildId
 -- when a file is sound, what each fault says, and what a check says

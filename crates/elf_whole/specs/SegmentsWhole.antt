@@ -1,19 +1,17 @@
 -- What the segments of a file that was checked show.
-use Rattle.std.specs.Prelude.{ℕ, Bool, if◌then◌else◌, List, Option, Some, None, Result, Ok}
+use Rattle.std.specs.Prelude.{ℕ, Bool, if◌then◌else◌, List, drop, Option, Some, None, Result, Ok}
 use Rattle.std.specs.declared.cmp.PartialEq.{Ghosts as PartialEqGhosts}
 use Rattle.std.specs.declared.default.Default.{Ghosts as DefaultGhosts}
 use Rattle.elf_records.specs.Number.{ok_map}
 use Rattle.elf_records.specs.Record.{◌>>=◌}
-use Rattle.elf_records.specs.Segment.{program_header_reads}
 use Rattle.elf_records.specs.StringTable.{string_at}
-use Rattle.elf_records.specs.Table.{items_left}
 use Rattle.elf_records.specs.declared.endian.EndianParse.{Ghosts as EndianGhosts}
 use Rattle.elf_records.specs.declared.parse.ParseError.{ParseError}
 use Rattle.elf_records.specs.declared.segment.ProgramHeader.{ProgramHeader}
 use Rattle.elf.specs.ElfBytes.{view}
 use Rattle.elf.specs.Headers.{first_segment_of}
 use Rattle.elf.specs.ObjectFile.{ObjectFile, object_file}
-use Rattle.elf_whole.specs.Segments.{is_emptied, pt_interp, segment_bytes}
+use Rattle.elf_whole.specs.Segments.{headers_in, is_emptied, pt_interp, segment_bytes}
 use Rattle.elf_whole.specs.SegmentsBytes.{with_bytes}
 use Rattle.elf_whole.specs.declared.segments.iter.WholeSegmentsIter.{WholeSegmentsIter}
 use Rattle.elf_whole.specs.declared.segments.whole.WholeSegments.{WholeSegments}
@@ -43,4 +41,4 @@ module _ {E : Type 0} {order : EndianGhosts E} {default : DefaultGhosts E} {equa
 
   -- the segments that an iterator has left to yield
   abbrev pub segments_left : (E → Bool) → WholeSegmentsIter E order default equal → List (ProgramHeader × List ℕ)
-  segments_left little s = with_bytes (object_file little (view s.file.now)) (items_left program_header_reads s.headers)
+  segments_left little s = with_bytes (object_file little (view s.file.now)) (drop s.next (headers_in s.headers))

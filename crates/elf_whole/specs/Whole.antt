@@ -1,5 +1,5 @@
 -- What a file that was checked shows, and its sections and symbols.
-use Rattle.std.specs.Prelude.{ℕ, Bool, List, Option}
+use Rattle.std.specs.Prelude.{ℕ, Bool, List, drop, Option}
 use Rattle.std.specs.Option.{option_map}
 use Rattle.std.specs.declared.cmp.PartialEq.{Ghosts as PartialEqGhosts}
 use Rattle.std.specs.declared.default.Default.{Ghosts as DefaultGhosts}
@@ -9,7 +9,7 @@ use Rattle.elf_records.specs.Symbol.{symbol_reads}
 use Rattle.elf_records.specs.declared.endian.EndianParse.{Ghosts as EndianGhosts}
 use Rattle.elf_records.specs.declared.section.SectionHeader.{SectionHeader}
 use Rattle.elf_records.specs.declared.symbol.Symbol.{Symbol}
-use Rattle.elf_records.specs.Table.{Table, items_left, table_view}
+use Rattle.elf_records.specs.Table.{Table, table_items, table_view}
 use Rattle.elf.specs.ElfBytes.{view}
 use Rattle.elf.specs.ObjectFile.{ObjectFile, object_file}
 use Rattle.elf_whole.specs.declared.whole.WholeFile.{WholeFile}
@@ -54,4 +54,4 @@ module _ {E : Type 0} {order : EndianGhosts E} {default : DefaultGhosts E} {equa
 
   -- the symbols that an iterator has left to yield
   abbrev pub named_left : WholeSymbolsIter E order default equal → List (Symbol × List ℕ)
-  named_left s = with_names (strings_view s.strings) (items_left symbol_reads s.symbols)
+  named_left s = with_names (strings_view s.strings) (drop s.next (table_items symbol_reads (table_view s.symbols)))

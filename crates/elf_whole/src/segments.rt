@@ -19,6 +19,7 @@ mod each;
 mod faults;
 mod iter;
 mod loads;
+mod plan;
 mod table;
 mod types;
 mod whole;
@@ -26,6 +27,7 @@ mod whole;
 pub(crate) use all::add_segments;
 pub use faults::{SegmentFault, SegmentsFault};
 pub use iter::WholeSegmentsIter;
+pub use plan::WholeLoads;
 pub use whole::WholeSegments;
 pub(crate) use whole::notes_of;
 

@@ -10,12 +10,13 @@ ghost use Rattle.elf.specs.Headers.{first_section_of};
 ghost use Rattle.elf.specs.Names.{name_table};
 ghost use Rattle.elf.specs.ObjectFile.{object_file};
 ghost use Rattle.elf.specs.Answers.{dynamic_symbol_table, symbol_table, symbol_version_table, symbols_view};
+ghost use Rattle.elf_whole.specs.LoadPlan.{IsPlan, load_plan};
 ghost use Rattle.elf_whole.specs.Sound.{SoundFile};
 ghost use Rattle.elf_whole.specs.Symbols.{SoundSymbolTable};
 ghost use Rattle.elf_whole.specs.inner.SoundProps.{HasNameTable, HasNameTable-prop, SoundFile-prop};
 
 use crate::listed::sections_are_listed;
-use crate::segments::WholeSegments;
+use crate::segments::{WholeLoads, WholeSegments};
 use elf::endian::EndianParse;
 use elf::headers::Headers;
 use elf::string_table::StringTable;
@@ -56,7 +57,8 @@ pub use versions::{WholeDefinition, WholeVersion, WholeVersions};
 ///   `hash_table`, each `None` for other types;
 /// - the symbols, dynamic entries, versions and the hash table of a file: `symbols`, `dynamic_symbols`, `dynamic`,
 ///   `versions`, `hash_table`;
-/// - segments: `segments`, and of these `WholeSegments::get`, `iter`, `notes`, `dynamic` and `interpreter`.
+/// - segments: `segments`, and of these `WholeSegments::get`, `iter`, `notes`, `dynamic` and `interpreter`;
+///   what a loader maps: `load_plan`.
 #[derive(Debug, Drop)]
 pub struct WholeFile<'a, 'data, E: EndianParse> {
     file: &'a ElfBytes<'data, E>,
@@ -72,6 +74,7 @@ pub struct WholeFile<'a, 'data, E: EndianParse> {
 
 impl<'a, 'data, E: EndianParse> WholeFile<'a, 'data, E> {
     ghost use Rattle.elf_whole.specs.DynamicViews.{entries_left};
+    ghost use Rattle.elf_whole.specs.LoadPlan.{loads_left};
     ghost use Rattle.elf_whole.specs.Whole.{section_file, section_header, whole_symbols, whole_view};
     ghost use Rattle.elf_whole.specs.versions.Views.{whole_versions};
     ghost use Rattle.elf_whole.specs.SegmentsWhole.{segments_file};
@@ -130,6 +133,15 @@ impl<'a, 'data, E: EndianParse> WholeFile<'a, 'data, E> {
         ensures { segments_file E.little result ≡ whole_view E.little self.now }
     {
         WholeSegments::new(self.file)
+    }
+
+    /// What a loader maps: the segments of type `PT_LOAD` in the order of their addresses, each with its bytes in the
+    /// file. Each has memory for its bytes, and addresses of the file's class, and no address belongs to two.
+    pub fn load_plan(&self) -> WholeLoads<'a, 'data, E>
+        ensures items { loads_left E.little result ≡ load_plan (whole_view E.little self.now) }
+        ensures plan { let whole = whole_view E.little self.now in IsPlan whole.class (load_plan whole) }
+    {
+        self.segments().load_plan()
     }
 
     /// The first section of a type, or `None` exactly if there is none.

@@ -3,13 +3,11 @@ use Rattle.std.specs.Prelude.{ℕ, Bool, List}
 use Rattle.std.specs.Coded.{Coded-set, codes, le_prop}
 use Rattle.std.specs.Result.{IsOkAnd-prop}
 use Rattle.elf_records.specs.declared.segment.ProgramHeader.{ProgramHeader}
-use Rattle.elf_records.specs.Segment.{program_header_reads}
-use Rattle.elf_records.specs.Table.{items_left}
-use Rattle.elf_records.specs.declared.parse.table.ParsingIterator.{ParsingIterator}
+use Rattle.elf_records.specs.declared.parse.table.ParsingTable.{ParsingTable}
 use Rattle.elf.specs.ObjectFile.{ObjectFile, object_file}
 use Rattle.elf_reading.specs.Opening.{FileView}
 use Rattle.elf_whole.specs.SegmentsBytes.{AllRead}
-use Rattle.elf_whole.specs.Segments.{EndsWithNul, SoundDynamicSegment, SoundSegment, SoundSegments, SoundTypes}
+use Rattle.elf_whole.specs.Segments.{EndsWithNul, SoundDynamicSegment, SoundSegment, SoundSegments, SoundTypes, headers_in}
 use Rattle.elf_whole.specs.inner.VersionProps.{IfSome-prop}
 
 EndsWithNul-prop : (bytes : List ℕ) → IsProp (EndsWithNul bytes)
@@ -38,11 +36,11 @@ SoundView little v = SoundSegments (object_file little v)
 pub SoundView-prop : {E : Type 0} (little : E → Bool) (v : FileView E) → IsProp (SoundView little v)
 SoundView-prop little v = SoundSegments-prop (object_file little v)
 
--- the bytes of each segment can be read that an iterator has left to yield
-abbrev pub ReadsLeft : {E : Type 0} → (E → Bool) → FileView E → ParsingIterator E ProgramHeader → Type 0
-ReadsLeft little v headers = AllRead (object_file little v) (items_left program_header_reads headers)
+-- the bytes of each segment of a table can be read
+abbrev pub ReadsTable : {E : Type 0} → (E → Bool) → FileView E → ParsingTable E ProgramHeader → Type 0
+ReadsTable little v headers = AllRead (object_file little v) (headers_in headers)
 
-pub ReadsLeft-prop :
-    {E : Type 0} (little : E → Bool) (v : FileView E) (headers : ParsingIterator E ProgramHeader) →
-    IsProp (ReadsLeft little v headers)
-ReadsLeft-prop little v headers = AllRead-prop (object_file little v) (items_left program_header_reads headers)
+pub ReadsTable-prop :
+    {E : Type 0} (little : E → Bool) (v : FileView E) (headers : ParsingTable E ProgramHeader) →
+    IsProp (ReadsTable little v headers)
+ReadsTable-prop little v headers = AllRead-prop (object_file little v) (headers_in headers)

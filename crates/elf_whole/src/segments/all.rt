@@ -14,7 +14,7 @@ ghost use Rattle.elf_whole.specs.inner.Adding.{Adds, IsFaultIfAny};
 use super::each::segment_fault;
 use super::faults::SegmentsFault;
 use super::loads::first_overlap;
-use super::table::{first_pair, segment_below, segment_count};
+use super::table::{first_pair, segment_below, segment_count, segment_table};
 use crate::all::add;
 use crate::faults::FileFault;
 use elf::endian::EndianParse;
@@ -23,16 +23,6 @@ use elf::section::SectionHeader;
 use elf::segment::SegmentTable;
 use elf::{ElfBytes, abi};
 use std::alloc::AllocError;
-
-// The program headers of a file: none if it declares no table of them.
-fn segment_table<'data, E: EndianParse>(file: &ElfBytes<'data, E>) -> SegmentTable<'data, E>
-    ensures { headers_in result ≡ (object_file E.little (view file.now)).segments }
-{
-    match file.segments() {
-        Some(table) => table,
-        None => SegmentTable::new(file.ehdr.endianness, file.ehdr.class, &[]),
-    }
-}
 
 // The first segment of type `earlier`, and the first of type `later` after it.
 fn pair_in<E: EndianParse>(

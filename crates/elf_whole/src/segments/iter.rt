@@ -1,40 +1,41 @@
 //! The segments of a file that was checked, in the order of the table.
 ghost use Rattle.std.specs.Prelude.{◌≡◌};
 ghost use Rattle.std.specs.Iterator.{YieldsFirstBy, item_count};
-ghost use Rattle.elf_records.specs.Segment.{program_header_reads};
-ghost use Rattle.elf_records.specs.Table.{items_left};
 ghost use Rattle.elf.specs.ElfBytes.{view};
 ghost use Rattle.elf.specs.ObjectFile.{object_file};
+ghost use Rattle.elf_whole.specs.Segments.{headers_in};
 ghost use Rattle.elf_whole.specs.SegmentsBytes.{with_bytes};
-ghost use Rattle.elf_whole.specs.inner.SegmentsProps.{ReadsLeft, ReadsLeft-prop};
+ghost use Rattle.elf_whole.specs.inner.SegmentsProps.{ReadsTable, ReadsTable-prop};
 
 use super::each::segment_bytes;
+use super::table::{segment_below, segment_count};
 use elf::ElfBytes;
 use elf::endian::EndianParse;
-use elf::parse::ParsingIterator;
-use elf::segment::ProgramHeader;
+use elf::segment::{ProgramHeader, SegmentTable};
 
-/// Segments in the order of the table: each program header with the bytes of its segment in the file. After its first
-/// `None` it keeps returning `None`.
+/// Segments in the order of the table: each program header with the bytes of its segment in the file. It knows their
+/// number. After its first `None` it keeps returning `None`.
 #[derive(Debug, Drop)]
 pub struct WholeSegmentsIter<'a, 'data, E: EndianParse> {
     file: &'a ElfBytes<'data, E>,
-    headers: ParsingIterator<'data, E, ProgramHeader>,
-    ghost read: { ReadsLeft E.little (view file.now) headers } by { ReadsLeft-prop E.little (view file.now) headers },
+    headers: SegmentTable<'data, E>,
+    next: usize,
+    ghost read: { ReadsTable E.little (view file.now) headers } by { ReadsTable-prop E.little (view file.now) headers },
 }
 
 impl<'a, 'data, E: EndianParse> WholeSegmentsIter<'a, 'data, E> {
     ghost use Rattle.elf_whole.specs.SegmentsWhole.{segments_left};
 
-    pub(super) fn new(
-        file: &'a ElfBytes<'data, E>,
-        headers: ParsingIterator<'data, E, ProgramHeader>,
-    ) -> Self
-        requires { ReadsLeft E.little (view file.now) headers }
+    pub(super) fn new(file: &'a ElfBytes<'data, E>, headers: SegmentTable<'data, E>) -> Self
+        requires { ReadsTable E.little (view file.now) headers }
         ensures { segments_left E.little result
-            ≡ with_bytes (object_file E.little (view file.now)) (items_left program_header_reads headers.entry) }
+            ≡ with_bytes (object_file E.little (view file.now)) (headers_in headers.entry) }
     {
-        WholeSegmentsIter { file, headers }
+        WholeSegmentsIter {
+            file,
+            headers,
+            next: 0,
+        }
     }
 }
 
@@ -48,12 +49,23 @@ impl<'a, 'data, E: EndianParse> Iterator for WholeSegmentsIter<'a, 'data, E> {
     ghost remaining = { item_count (segments_left E.little) };
 
     fn next(&mut self) -> Option<(ProgramHeader, &'data [u8])> {
-        match self.headers.next() {
-            Some(phdr) => {
-                let bytes = segment_bytes(self.file, &phdr).unwrap();
-                Some((phdr, bytes))
-            }
-            None => None,
+        if self.next >= segment_count(&self.headers) {
+            return None;
         }
+        let phdr = segment_below(&self.headers, self.next);
+        let bytes = segment_bytes(self.file, &phdr).unwrap();
+        self.next += 1;
+        Some((phdr, bytes))
+    }
+
+    fn size_hint(&self) -> (usize, Option<usize>) {
+        let left = self.len();
+        (left, Some(left))
+    }
+}
+
+impl<'a, 'data, E: EndianParse> ExactSizeIterator for WholeSegmentsIter<'a, 'data, E> {
+    fn len(&self) -> usize {
+        segment_count(&self.headers).saturating_sub(self.next)
     }
 }

@@ -1,12 +1,27 @@
 //! Segments by their index in the table.
 ghost use Rattle.std.specs.Prelude.{◌≡◌, ◌+◌, ◌<◌, ◌^◌, length, slice_get, IfSome, MatchOption, Some};
+ghost use Rattle.elf.specs.ElfBytes.{view};
+ghost use Rattle.elf.specs.ObjectFile.{object_file};
 ghost use Rattle.elf_whole.specs.Segments.{NoneFollows, headers_in};
 ghost use Rattle.elf_whole.specs.SegmentsFaults.{IsFirstFrom, IsFirstPair, NoneFrom};
 
+use elf::ElfBytes;
 use elf::endian::EndianParse;
 use elf::laws::lists::list_is_what_get_gives;
 use elf::laws::tables::{get_succeeds_below_len, iter_gives_len_records};
 use elf::segment::{ProgramHeader, SegmentTable};
+
+// The program headers of a file: none if it declares no table of them.
+pub(super) fn segment_table<'data, E: EndianParse>(
+    file: &ElfBytes<'data, E>,
+) -> SegmentTable<'data, E>
+    ensures { headers_in result ≡ (object_file E.little (view file.now)).segments }
+{
+    match file.segments() {
+        Some(table) => table,
+        None => SegmentTable::new(file.ehdr.endianness, file.ehdr.class, &[]),
+    }
+}
 
 // How many segments there are.
 pub(super) fn segment_count<E: EndianParse>(table: &SegmentTable<'_, E>) -> usize

@@ -4,8 +4,7 @@ ghost use Rattle.std.specs.Option.{IsSomeAnd, option_and_then, option_map};
 ghost use Rattle.elf_abi.specs.Values.{pt_dynamic};
 ghost use Rattle.elf_records.specs.Number.{ok_map};
 ghost use Rattle.elf_parts.specs.Note.{notes_left};
-ghost use Rattle.elf_records.specs.Segment.{program_header_reads};
-ghost use Rattle.elf_records.specs.Table.{items_left, table_view};
+ghost use Rattle.elf_records.specs.Table.{table_view};
 ghost use Rattle.elf.specs.ElfBytes.{view};
 ghost use Rattle.elf.specs.Headers.{first_segment_of};
 ghost use Rattle.elf.specs.ObjectFile.{object_file, table_of};
@@ -16,27 +15,14 @@ ghost use Rattle.elf_whole.specs.inner.SegmentsProps.{SoundView, SoundView-prop}
 use super::dynamic::is_emptied;
 use super::each::segment_bytes;
 use super::iter::WholeSegmentsIter;
-use super::table::{segment_below, segment_count};
+use super::table::{segment_below, segment_count, segment_table};
 use elf::dynamic::DynamicTable;
 use elf::endian::EndianParse;
 use elf::headers::Headers;
 use elf::note::NoteIterator;
-use elf::parse::ParsingIterator;
 use elf::segment::ProgramHeader;
 use elf::string_table::StringTable;
 use elf::{ElfBytes, abi};
-
-// The program headers of a file: none if it declares no table of them.
-fn program_headers<'data, E: EndianParse>(
-    file: &ElfBytes<'data, E>,
-) -> ParsingIterator<'data, E, ProgramHeader>
-    ensures { items_left program_header_reads result ≡ (object_file E.little (view file.now)).segments }
-{
-    match file.segments() {
-        Some(table) => table.iter(),
-        None => ParsingIterator::new(file.ehdr.endianness, file.ehdr.class, &[]),
-    }
-}
 
 // The notes of a segment of type `PT_NOTE` with these bytes, or `None` if it has another type.
 pub(crate) fn notes_of<'data, E: EndianParse>(
@@ -113,7 +99,7 @@ impl<'a, 'data, E: EndianParse> WholeSegments<'a, 'data, E> {
         ensures { segments_left E.little result
             ≡ with_bytes (segments_file E.little self.now) (segments_file E.little self.now).segments }
     {
-        WholeSegmentsIter::new(self.file, program_headers(self.file))
+        WholeSegmentsIter::new(self.file, segment_table(self.file))
     }
 
     /// Returns the notes of the segment of an index, which has the type `PT_NOTE`, or `None` exactly if there is no

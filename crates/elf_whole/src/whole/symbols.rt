@@ -95,6 +95,6 @@ impl<'data, E: EndianParse> WholeSymbols<'data, E> {
         list_is_what_get_gives::<Symbol>();
         iter_gives_len_records(&self.symbols);
         let _ = self.symbols.len();
-        WholeSymbolsIter::new(self.symbols.iter(), self.strings)
+        WholeSymbolsIter::new(self.symbols, self.strings)
     }
 }

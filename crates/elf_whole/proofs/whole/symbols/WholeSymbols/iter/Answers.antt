@@ -1,8 +1,5 @@
-use Rattle.std.proofs.Common.{List, subst, sym}
 use Rattle.elf_records.specs.Table.{table_view}
 use Rattle.elf_records.specs.StringTable.{strings_view}
-use Rattle.elf_records.specs.declared.symbol.Symbol.{Symbol}
-use Rattle.elf_whole.specs.Symbols.{AllNamed}
 use Rattle.elf_whole.proofs.Named.{named_items}
 use Rattle.elf_whole.proofs.whole.symbols.WholeSymbols.iter.Goals as goal
 
@@ -10,8 +7,7 @@ pub new-requires : goal.new-requires
 new-requires g c =
     let s = c.args.self.now in
     let t = table_view s.symbols in
-    let all = named_items s.sections t (strings_view s.strings) (λ i. c.list_is_what_get_gives.ensures t i c.len.ensures.short) s.sound in
-    subst (λ (xs : List Symbol). AllNamed (strings_view s.strings) xs) (sym c.iter.ensures.items) all
+    named_items s.sections t (strings_view s.strings) (λ i. c.list_is_what_get_gives.ensures t i c.len.ensures.short) s.sound
 
 pub returns-clause-names : goal.returns-clause-names
 returns-clause-names g c =
