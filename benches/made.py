@@ -329,3 +329,20 @@ def sections_of_ranges(count, size, is_falling):
     headers.append(SECTION.pack(7, SHT_STRTAB, 0, 0, behind, len(names), 0, 0, 1, 0))
     head = file_header(0, 0, 64, 0, count + 1 if count + 1 < 0xFF00 else 0)
     return head + b"".join(headers) + names + bytes(size * count)
+
+
+def whole_library(megabytes):
+    """A sound file of about this size: of each million bytes 10,000 symbols, 2,500 dynamic symbols with both hash sections
+    and versions, and 5,000 relocations of these; the rest is code."""
+    made = Made()
+    made.add(b".text", SHT_PROGBITS, bytes(megabytes * 366_000))
+    add_notes(made, 2)
+    add_symbols(made, megabytes * 10_000)
+    add_hashes(made, megabytes * 2_500)
+    add_versions(made, megabytes * 2_500, 20, 20)
+    dynsym = made.first(SHT_DYNSYM)
+    relas = b"".join(struct.pack("<QQq", 8 * k, (k // 2 << 32) + 7, 0) for k in range(megabytes * 5_000))
+    made.add(b".rela.dyn", SHT_RELA, relas, dynsym, 0, 24)
+    entries = struct.pack("<qQqQ", DT_NEEDED, 1, DT_NULL, 0)
+    made.add(b".dynamic", SHT_DYNAMIC, entries, made.sections[dynsym][3], 0, 16)
+    return made

@@ -1,9 +1,13 @@
 //! Runs test cases of `nugwier`: each line of the file `cases` is the words of a command line, which name files beside
-//! the program. Prints the line, what is listed, what is printed on standard error, and the exit status.
+//! the program. Prints the line, what is listed, what is printed on standard error, and the exit status. The word
+//! `NAME,62=0063` names the file NAME with other bytes from offset 62 on (`changes`).
 #![tactic(auto)]
 
 ghost use Rattle.std.specs.Prelude.{None};
 
+mod changes;
+
+use changes::change;
 use elf::FileSource;
 use nugwier_commands::files::{Files, Libraries};
 use nugwier_commands::run::run;
@@ -28,7 +32,14 @@ impl Files for CaseFiles<'_> {
     }
 
     fn read(&self, path: &str) -> io::Result<Vec<u8>> {
-        fs::read(self.rt, path)
+        match path.split_once(',') {
+            Some((name, changes)) => {
+                let mut data = fs::read(self.rt, name)?;
+                change(data.as_mut_slice(), changes)?;
+                Ok(data)
+            }
+            None => fs::read(self.rt, path),
+        }
     }
 }
 

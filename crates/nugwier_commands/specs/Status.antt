@@ -1,11 +1,12 @@
 -- What a command finds wrong with a file, and the exit status of a run.
-use Rattle.std.specs.Prelude.{ℕ, ◌≡◌, ◌==◌, not, true, false, ⊤, Bool, List, [], ◌∷◌, ◌++◌, Option, Result, Ok, Err}
+use Rattle.std.specs.Prelude.{ℕ, ◌≡◌, ◌==◌, not, true, false, ⊤, Bool, List, [], ◌∷◌, ◌++◌, Result, Ok, Err}
 use Rattle.elf.specs.Answers.{symbol_table}
 use Rattle.elf.specs.ObjectFile.{ObjectFile}
 use Rattle.elf_tools.specs.BuildId.{build_id}
+use Rattle.elf_whole.specs.AllFaults.{AreAllFaults}
 use Rattle.elf_whole.specs.declared.faults.FileFault.{FileFault}
 use Rattle.nugwier_commands.specs.Addresses.{AddressesWrong, all_symbols}
-use Rattle.nugwier_commands.specs.Check.{IsFaultOf, fault_wrong}
+use Rattle.nugwier_commands.specs.Check.{faults_wrong}
 use Rattle.nugwier_commands.specs.Wrong.{answer_wrong, dynamic_symbols_wrong, needed_of, whole}
 use Rattle.nugwier_commands.specs.declared.words.Command.{Command}
 use Rattle.nugwier_commands.specs.declared.words.Command.TheVariants.{Address, BuildId, Check, Exports, List as ListCommand}
@@ -29,7 +30,7 @@ IsWrongFor Exports addresses file before after =
 IsWrongFor Needed addresses file before after = after ≡ before ++ needed_of file
 IsWrongFor BuildId addresses file before after = after ≡ before ++ answer_wrong BuildIdPart (build_id file)
 IsWrongFor Check addresses file before after =
-    (fault : Option FileFault) × IsFaultOf file fault × (after ≡ before ++ fault_wrong fault)
+    (faults : List FileFault) × AreAllFaults file faults × (after ≡ before ++ faults_wrong faults)
 IsWrongFor Address addresses file before after =
     (places : List Place) × AddressesWrong addresses places (all_symbols file (symbol_table file))
     × (after ≡ before ++ places)

@@ -15,7 +15,7 @@ usage: nugwier COMMAND [OPTION..] FILE..
   exports     the functions that a file defines for others, with their versions
   build-id    the build id
   plan        what a loader maps into memory, and where
-  check       whether a file is sound, or its first fault
+  check       whether a file is sound, or its faults
   address     the symbols at addresses
   tree        the libraries that a program loads, and the files that are found for them
   bindings    what the symbols of a program and of its libraries bind to
@@ -90,9 +90,10 @@ memory is 0. Tells why, if a file cannot be mapped so.";
 const CHECK: &str = "\
 usage: nugwier check [--json] FILE..
 
-Prints sound if all that the headers of a file declare can be read: the sections and their names, symbols, strings,
-relocations, hash tables, notes, dynamic entries, versions and segments. Otherwise prints FAULT, and tells the first
-fault on standard error.";
+Prints FILE: sound if all that the headers of a file declare can be read: the sections and their names, symbols,
+strings, relocations, hash tables, notes, dynamic entries, versions and segments. Otherwise tells its faults on standard
+error, one a line with the file's name: the first one of each section, of each segment, and of each other part. Files
+have no headings.";
 
 const ADDRESS: &str = "\
 usage: nugwier address [--json] FILE ADDRESS..

@@ -95,13 +95,21 @@ fn run_job<F: Files, W: Write, V: Write>(
 ) -> Result<bool, Stop> {
     let mut is_read = true;
     for (place, path) in job.files.as_slice().iter().enumerate() {
-        if job.files.len() > 1 && !job.is_json {
+        if has_headings(job) {
             list_heading(place, *path, out)?;
         }
         is_read &= run_file(alloc, job, files, *path, out, err)?;
     }
     out.flush()?;
     Ok(is_read)
+}
+
+// Whether each file has a heading: if there are several, and their lines do not name them.
+fn has_headings(job: &Job<'_>) -> bool {
+    match job.command {
+        Command::Check => false,
+        _ => job.files.len() > 1 && !job.is_json,
+    }
 }
 
 // The heading of one of several files, after an empty line.
@@ -184,7 +192,7 @@ fn run_file_command<E: EndianParse, W: Write, V: Write>(
         × (is_read ≡ (length places == 0))) }
 {
     let mut problems = Problems::none(alloc);
-    run_command(alloc, job, format_of(job, path), file, out, &mut problems)?;
+    run_command(alloc, job, path, file, out, &mut problems)?;
     if problems.is_empty() {
         return Ok(true);
     }
@@ -205,7 +213,7 @@ fn format_of<'a>(job: &Job<'_>, path: &'a str) -> Format<'a> {
 fn run_command<E: EndianParse, W: Write>(
     alloc: Global,
     job: &Job<'_>,
-    format: Format<'_>,
+    path: &str,
     file: &ElfBytes<'_, E>,
     out: &mut W,
     problems: &mut Problems,
@@ -213,6 +221,7 @@ fn run_command<E: EndianParse, W: Write>(
     ensures { OnOk result (IsWrongFor job.now.command job.now.addresses.items (object_file E.little (view file.now))
         problems.old problems.new) }
 {
+    let format = format_of(job, path);
     match job.command {
         Command::List => list(alloc, job, format, file, out, problems),
         Command::Symbols => {
@@ -228,7 +237,7 @@ fn run_command<E: EndianParse, W: Write>(
         Command::Needed => list_needed(alloc, format, file, out, problems),
         Command::BuildId => list_build_id(format, file, out, problems),
         Command::Plan => list_plan(alloc, format, file, out, problems),
-        Command::Check => check(alloc, format, file, out, problems),
+        Command::Check => check(alloc, path, format, file, out, problems),
         Command::Address => {
             let addresses = job.addresses.as_slice();
             list_addresses(alloc, format, file, addresses, out, problems)
