@@ -1,6 +1,5 @@
 -- What the check of a file as a whole adds to what is wrong.
 use Rattle.std.specs.Prelude.{List, map}
-use Rattle.elf.specs.ObjectFile.{ObjectFile}
 use Rattle.elf_whole.specs.declared.faults.FileFault.{FileFault}
 use Rattle.elf_whole.specs.declared.faults.FileFault.TheVariants.{NoNames, Repeated, Section, Segments, Versions}
 use Rattle.nugwier_commands.specs.Wrong.{whole}
