@@ -110,7 +110,6 @@ impl<'data> Parts<'data> {
     }
 
     // The error of a look-up that stopped: what could not be read is read once more.
-    #[inline(never)]
     fn refusal(
         &self,
         stop: Stop,
@@ -133,6 +132,25 @@ impl<'data> Parts<'data> {
     }
 }
 
+// The error of a look-up that stopped. It takes nothing that lies in memory for it alone, so the look-up itself keeps its
+// parts in registers.
+#[inline(never)]
+fn refuse(
+    sysv: &NugwierSysv<'_>,
+    symbols: SymbolTable<'_, AnyEndian>,
+    strings: &[u8],
+    stop: Stop,
+    found: &mut NugwierFound,
+) -> NugwierStatus
+    ensures status { result ≡ status_of (stopped (sysv_of_c sysv.now) (table_view symbols.entry) strings.now stop) }
+    ensures found { found.new ≡ written found_shown found.old
+        (stopped (sysv_of_c sysv.now) (table_view symbols.entry) strings.now stop) }
+{
+    let parts = parts_in(sysv, sysv.little, sysv.is_64);
+    let strings = TerminatedStrings::new(&StringTable::new(strings));
+    write_found(&parts.refusal(stop, &symbols, &strings), found)
+}
+
 // The symbol of a name, and what the call returns. The byte order and the class are those of the handle.
 #[inline(always)]
 fn look_up(
@@ -140,24 +158,24 @@ fn look_up(
     little: bool,
     is_64: bool,
     symbols: &SymbolTable<'_, AnyEndian>,
-    strings: &[u8],
+    bytes: &[u8],
     name: &[u8],
     found: &mut NugwierFound,
 ) -> NugwierStatus
     requires order { little ≡ sysv.now.little }
     requires class { is_64 ≡ sysv.now.is_64 }
-    ensures status { result ≡ status_of (sysv_find (sysv_of_c sysv.now) (table_view symbols.now) strings.now name.now) }
+    ensures status { result ≡ status_of (sysv_find (sysv_of_c sysv.now) (table_view symbols.now) bytes.now name.now) }
     ensures found { found.new ≡ written found_shown found.old
-        (sysv_find (sysv_of_c sysv.now) (table_view symbols.now) strings.now name.now) }
+        (sysv_find (sysv_of_c sysv.now) (table_view symbols.now) bytes.now name.now) }
 {
     let parts = parts_in(sysv, little, is_64);
-    let strings = TerminatedStrings::new(&StringTable::new(strings));
+    let strings = TerminatedStrings::new(&StringTable::new(bytes));
     match parts.find(name, symbols, &strings) {
         Ok(one) => {
             *found = found_shown(&one);
             done()
         }
-        Err(stop) => write_found(&parts.refusal(stop, symbols, &strings), found),
+        Err(stop) => refuse(sysv, *symbols, bytes, stop, found),
     }
 }
 
