@@ -17,7 +17,7 @@ use elf_parts::symbol::{Symbol, SymbolTable};
 
 /// A symbol that was looked up, and its index. If there is none, all numbers are 0.
 #[repr(C)]
-#[derive(Clone, Copy, Debug, PartialEq, Eq)]
+#[derive(Clone, Copy)]
 pub struct NugwierFound {
     pub found: bool,
     pub index: usize,
@@ -146,7 +146,7 @@ pub extern "C" fn nugwier_sysv_find(
 
 /// What a check says of a hash section: whether it is sound, and then how many symbols it indexes, otherwise 0.
 #[repr(C)]
-#[derive(Clone, Copy, Debug, PartialEq, Eq)]
+#[derive(Clone, Copy)]
 pub struct NugwierVerdict {
     pub sound: bool,
     pub indexed: usize,
