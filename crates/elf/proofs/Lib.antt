@@ -3,3 +3,4 @@ pub mod Alike
 pub mod Same
 pub mod Calls
 pub mod stream
+pub mod Positions

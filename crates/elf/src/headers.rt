@@ -2,21 +2,26 @@
 //!
 //! `ElfBytes` and `ElfStream` implement the trait `Headers`. A stream has its headers in lists, so none of these calls
 //! reads its source.
-ghost use Rattle.std.specs.Prelude.{◌≡◌, ◌&&◌, IfErr, is_some};
-ghost use Rattle.elf.specs.Answers.{symbol_sections, with_linked};
+ghost use Rattle.std.specs.Prelude.{◌≡◌, ◌&&◌, IfErr, Some, is_some, position};
+ghost use Rattle.elf.specs.Answers.{first_named, symbol_sections, with_linked};
 ghost use Rattle.elf_reading.specs.Refusals.{Kind, kind};
 ghost use Rattle.elf.specs.Headers.{first_section_of, first_segment_of};
 ghost use Rattle.elf.specs.Names.{has_name, name_index, name_section};
 ghost use Rattle.elf.specs.ObjectFile.{ObjectFile};
+ghost use Rattle.elf_reading.specs.Opening.{section_list};
 ghost use Rattle.elf_reading.specs.Versions.{version_sections};
+ghost use Rattle.elf_records.specs.Section.{section_header_reads};
+ghost use Rattle.elf_records.specs.Table.{table_in, table_items, table_view};
 
 use elf_abi::abi;
+use elf_parts::endian::{BigEndian, EndianParse, LittleEndian};
 use elf_parts::file::Class;
 use elf_parts::parse::{ParseAt, ParseError};
-use elf_parts::section::SectionHeader;
+use elf_parts::section::{SectionHeader, SectionHeaderTable};
 use elf_parts::segment::ProgramHeader;
 use elf_parts::string_table::TerminatedStrings;
 use elf_parts::symbol::Symbol;
+use elf_records::laws::tables::iter_gives_whatever_get_gives;
 pub use elf_reading::versions::{VersionSections, clones_of_version_sections};
 
 /// A section, and the section that its `sh_link` names.
@@ -115,11 +120,62 @@ pub trait Headers {
 }
 
 // Whether a section has this name.
-pub(crate) fn has_name(names: &TerminatedStrings<'_>, name: &str, shdr: &SectionHeader) -> bool
+#[inline(always)]
+pub(crate) fn has_name(names: &TerminatedStrings<'_>, name: &[u8], shdr: &SectionHeader) -> bool
     ensures { result ≡ has_name names.now name.now shdr.now }
 {
-    match names.is_quickly(shdr.sh_name as usize, name.as_bytes()) {
+    match names.is_quickly(shdr.sh_name as usize, name) {
         Some(is_named) => is_named,
         None => false,
     }
+}
+
+// The index of the first section header with this name. Inlined, so the compiler knows the byte order and the class. Of
+// each header only the offset of its name is used, so it reads no other field.
+#[inline(always)]
+fn index_in<E: EndianParse>(
+    endian: E,
+    class: Class,
+    bytes: &[u8],
+    names: &TerminatedStrings<'_>,
+    name: &[u8],
+) -> Option<usize>
+    ensures { result ≡ position (has_name names.now name.now)
+        (table_items section_header_reads (table_in (E.little endian) class bytes.now)) }
+{
+    let shdrs = SectionHeaderTable::<'_, E>::new(endian, class, bytes);
+    shdrs.iter().position(|shdr| has_name(names, name, &shdr))
+}
+
+// The index of the first section header with this name, in a table of either byte order and class.
+fn index_of<E: EndianParse>(
+    shdrs: &SectionHeaderTable<'_, E>,
+    names: &TerminatedStrings<'_>,
+    name: &[u8],
+) -> Option<usize>
+    ensures { result ≡ position (has_name names.now name.now)
+        (table_items section_header_reads (table_view shdrs.now)) }
+{
+    let bytes = shdrs.bytes();
+    match (shdrs.is_little(), shdrs.class()) {
+        (true, Class::ELF64) => index_in(LittleEndian, Class::ELF64, bytes, names, name),
+        (true, Class::ELF32) => index_in(LittleEndian, Class::ELF32, bytes, names, name),
+        (false, Class::ELF64) => index_in(BigEndian, Class::ELF64, bytes, names, name),
+        (false, Class::ELF32) => index_in(BigEndian, Class::ELF32, bytes, names, name),
+    }
+}
+
+/// Returns the first section header of a table whose name, a string of `names`, has exactly these bytes. A section whose
+/// name cannot be read is skipped.
+#[tactic(auto, using(crate::proofs::Positions::found_at, crate::proofs::Positions::found_nowhere))]
+pub fn first_named<E: EndianParse>(
+    shdrs: &SectionHeaderTable<'_, E>,
+    names: &TerminatedStrings<'_>,
+    name: &[u8],
+) -> Option<SectionHeader>
+    ensures { result ≡ first_named (section_list (Some (table_view shdrs.now))) name.now (Some names.now) }
+{
+    let index = index_of(shdrs, names, name)?;
+    iter_gives_whatever_get_gives(shdrs, index);
+    shdrs.get(index).ok()
 }

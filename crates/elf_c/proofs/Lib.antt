@@ -1,7 +1,6 @@
 pub mod Filling
 pub mod OwnBytes
 pub mod NamedFilling
-pub mod Positions
 pub mod Least
 pub mod Definitions
 pub mod Files

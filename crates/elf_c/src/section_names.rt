@@ -1,29 +1,23 @@
 //! The names of sections, and sections by their names.
-ghost use Rattle.std.specs.Prelude.{◌≡◌, is_some, position};
+ghost use Rattle.std.specs.Prelude.{◌≡◌, is_some};
 ghost use Rattle.std.specs.Option.{option_map};
 ghost use Rattle.elf_records.specs.Number.{ok_map};
-ghost use Rattle.elf_records.specs.Section.{section_header_reads};
-ghost use Rattle.elf_records.specs.Table.{table_in, table_items};
 ghost use Rattle.elf.specs.Answers.{section_header_by_name};
-ghost use Rattle.elf.specs.Names.{has_name, name_table};
+ghost use Rattle.elf.specs.Names.{name_table};
 ghost use Rattle.elf_c.specs.File.{file_of_c};
 ghost use Rattle.elf_c.specs.Records.{section_shown};
 ghost use Rattle.elf_c.specs.SectionNames.{names_view, some_or};
 ghost use Rattle.elf_c.specs.Status.{IsWritten, status_of, written};
-ghost use Rattle.elf_c.specs.Tables.{table_of_c};
 
 use crate::file::{NugwierFile, file_in};
 use crate::records::NugwierSection;
 use crate::status::{NugwierStatus, done, refused};
 use crate::symbols::section_range;
-use crate::table::{ForC, NugwierTable, records_in};
+use crate::table::{ForC, records_in};
 use elf::ParseError;
-use elf::headers::Headers;
-use elf_parts::endian::{BigEndian, EndianParse, LittleEndian};
-use elf_parts::file::Class;
-use elf_parts::section::{SectionHeader, SectionHeaderTable};
+use elf::headers::{Headers, first_named};
+use elf_parts::section::SectionHeader;
 use elf_parts::string_table::{StringTable, TerminatedStrings};
-use elf_records::laws::tables::iter_gives_whatever_get_gives;
 
 /// The strings with the names of the sections of a file, if it has any.
 #[repr(C)]
@@ -70,49 +64,7 @@ pub extern "C" fn nugwier_section_names<'data>(
     }
 }
 
-// Whether a section has this name.
-#[inline(always)]
-fn is_named(names: &TerminatedStrings<'_>, name: &[u8], shdr: &SectionHeader) -> bool
-    ensures { result ≡ has_name names.now name.now shdr.now }
-{
-    match names.is(shdr.sh_name as usize, name) {
-        Ok(is_named) => is_named,
-        Err(_) => false,
-    }
-}
-
-// The index of the first section header with this name. Inlined, so the compiler knows the byte order and the class. Of
-// each header only the offset of its name is used, so it reads no other field.
-#[inline(always)]
-fn index_in<E: EndianParse>(
-    endian: E,
-    class: Class,
-    bytes: &[u8],
-    names: &TerminatedStrings<'_>,
-    name: &[u8],
-) -> Option<usize>
-    ensures { result ≡ position (has_name names.now name.now)
-        (table_items section_header_reads (table_in (E.little endian) class bytes.now)) }
-{
-    let shdrs = SectionHeaderTable::<'_, E>::new(endian, class, bytes);
-    shdrs.iter().position(|shdr| is_named(names, name, &shdr))
-}
-
-// The index of a section by its name, in a table of either byte order and class.
-fn index_of(table: &NugwierTable<'_>, names: &TerminatedStrings<'_>, name: &[u8]) -> Option<usize>
-    ensures { result ≡ position (has_name names.now name.now)
-        (table_items section_header_reads (table_of_c table.now)) }
-{
-    match (table.little, table.is_64) {
-        (true, true) => index_in(LittleEndian, Class::ELF64, table.bytes, names, name),
-        (true, false) => index_in(LittleEndian, Class::ELF32, table.bytes, names, name),
-        (false, true) => index_in(BigEndian, Class::ELF64, table.bytes, names, name),
-        (false, false) => index_in(BigEndian, Class::ELF32, table.bytes, names, name),
-    }
-}
-
 // The first section with a name.
-#[tactic(auto, using(crate::proofs::Positions::found_at, crate::proofs::Positions::found_nowhere))]
 fn section_named(file: &NugwierFile<'_>, name: &[u8]) -> Result<Option<SectionHeader>, ParseError>
     ensures { result ≡ section_header_by_name (file_of_c file.now) name.now }
 {
@@ -123,12 +75,8 @@ fn section_named(file: &NugwierFile<'_>, name: &[u8]) -> Result<Option<SectionHe
         return Ok(None);
     }
     let names = TerminatedStrings::new(&StringTable::new(strings));
-    let Some(index) = index_of(&file.sections, &names, name) else {
-        return Ok(None);
-    };
     let shdrs = records_in::<SectionHeader>(&file.sections);
-    iter_gives_whatever_get_gives(&shdrs, index);
-    Ok(shdrs.get(index).ok())
+    Ok(first_named(&shdrs, &names, name))
 }
 
 /// Finds the first section of a file whose name has exactly these bytes. `found` says whether there is one; if there is

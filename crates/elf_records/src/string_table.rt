@@ -18,6 +18,7 @@ use std::str::from_utf8;
 const LANES: usize = 16;
 
 // How many of the `LANES` bytes starting at start come before the first 0 byte.
+#[inline(always)]
 fn count_before_nul(bytes: &[u8], start: usize) -> usize
     requires { start + LANES ≤ length bytes.now }
     ensures { result ≡ prefix_len (λ byte. not (byte == 0)) (take LANES (drop start bytes.now)) }
@@ -54,7 +55,7 @@ fn first_nul_of_some(bytes: &[u8]) -> Option<usize>
     Some(start + count)
 }
 
-// How many bytes are compared with 0 at once, if that many are left: most names end in the first group.
+// How many bytes are compared with 0 at once, if that many are left: most longer names end in the first group.
 const WIDE: usize = 64;
 
 // How many of the `WIDE` bytes starting at start come before the first 0 byte.
@@ -72,11 +73,19 @@ fn count_wide_before_nul(bytes: &[u8], start: usize) -> usize
     }
 }
 
-// The place of the first 0 byte. Bytes are compared in groups of `WIDE`, then of `LANES`, then one by one.
+// The place of the first 0 byte. Bytes are compared in groups of `WIDE`, then of `LANES`, then one by one. A short name
+// ends in the first `LANES` bytes: then no byte after them is read, which may lie in memory that is not cached.
 fn first_nul(bytes: &[u8]) -> Option<usize>
     ensures { result ≡ position (λ byte. byte == 0) bytes.now }
 {
     let mut start = 0;
+    if LANES <= bytes.len() {
+        let count = count_before_nul(bytes, 0);
+        if count < LANES {
+            return Some(count);
+        }
+        start = LANES;
+    }
     while WIDE <= bytes.len() - start {
         let count = count_wide_before_nul(bytes, start);
         if count < WIDE {

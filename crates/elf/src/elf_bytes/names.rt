@@ -1,31 +1,18 @@
 //! The names of sections.
-ghost use Rattle.std.specs.Prelude.{◌≡◌, Some};
+ghost use Rattle.std.specs.Prelude.{◌≡◌};
 ghost use Rattle.elf_records.specs.Number.{ok_map};
-ghost use Rattle.elf_records.specs.Table.{table_view};
-ghost use Rattle.elf.specs.Answers.{first_named, section_header_by_name};
+ghost use Rattle.elf.specs.Answers.{section_header_by_name};
 ghost use Rattle.elf.specs.Names.{beside, name_table, named_view};
 ghost use Rattle.elf.specs.ObjectFile.{object_file};
 ghost use Rattle.elf.specs.ElfBytes.{view};
-ghost use Rattle.elf_reading.specs.Opening.{section_list};
 
 use super::ElfBytes;
 use super::data::section_range;
-use crate::headers::{Headers, has_name};
+use crate::headers::{Headers, first_named};
 use elf_parts::endian::EndianParse;
 use elf_parts::parse::ParseError;
 use elf_parts::section::{SectionHeader, SectionHeaderTable};
 use elf_parts::string_table::{StringTable, TerminatedStrings};
-
-// The first section header with a name.
-fn first_named_in<E: EndianParse>(
-    shdrs: SectionHeaderTable<'_, E>,
-    names: &TerminatedStrings<'_>,
-    name: &str,
-) -> Option<SectionHeader>
-    ensures { result ≡ first_named (section_list (Some (table_view shdrs.entry))) name.now (Some names.now) }
-{
-    shdrs.iter().find(|shdr| has_name(names, name, shdr))
-}
 
 impl<'data, E: EndianParse> ElfBytes<'data, E> {
     /// Returns the section headers, or `None` if the file declares none, and the table of their names (gABI, chapters
@@ -80,6 +67,6 @@ impl<'data, E: EndianParse> ElfBytes<'data, E> {
             return Ok(None);
         };
         let names = TerminatedStrings::new(&names);
-        Ok(first_named_in(shdrs, &names, name))
+        Ok(first_named(&shdrs, &names, name.as_bytes()))
     }
 }

@@ -25,7 +25,9 @@ fn first_named_in<'a>(
 ) -> Option<&'a SectionHeader>
     ensures { option_copied result ≡ first_named shdrs.now name.now (Some names.now) }
 {
-    shdrs.iter().find(|shdr| has_name(names, name, *shdr))
+    shdrs
+        .iter()
+        .find(|shdr| has_name(names, name.as_bytes(), *shdr))
 }
 
 impl<E: EndianParse, S: StreamSource, A: Allocator + Copy> ElfStream<E, S, A> {

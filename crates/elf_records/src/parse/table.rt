@@ -241,6 +241,20 @@ impl<'data, E: EndianParse, P: ParseAt> ParsingTable<'data, E, P> {
         self.data
     }
 
+    /// Returns the class of the records.
+    pub fn class(&self) -> Class
+        ensures { result ≡ (table_view self.now).class }
+    {
+        self.class
+    }
+
+    /// Returns whether the byte order is the little one.
+    pub fn is_little(&self) -> bool
+        ensures { result ≡ (table_view self.now).little }
+    {
+        self.little
+    }
+
     /// Returns how many records fit: the table's bytes divided by the size of a record, rounded down.
     ///
     /// ```rust

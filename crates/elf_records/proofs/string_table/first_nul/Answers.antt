@@ -1,8 +1,20 @@
-use Rattle.std.proofs.Common.{ℕ, List, ap, ◌∙◌, arith, rules}
+use Rattle.std.proofs.Common.{ℕ, List, ap, ◌∙◌, ◌≤◌, length, subst, sym, arith, rules}
 use Rattle.std.specs.Prelude.{position}
 use Rattle.std.proofs.lemmas.List.{take_rest}
-use Rattle.elf_records.proofs.Nuls.{found_behind, found_here, is_nul, none_behind, none_here}
+use Rattle.elf_records.proofs.Nuls.{NoneBefore, found_behind, found_here, is_nul, none_behind, none_here}
 use Rattle.elf_records.proofs.string_table.first_nul.Goals as goal
+use Rattle.elf_records.proofs.string_table.first_nul.Goals.{then-bytes-ge-LANES+else-count-lt-LANES, else-bytes-ge-LANES}
+
+pub loop-start-init : goal.loop-start-init
+loop-start-init c =
+    let bytes = c.args.bytes.now in
+    elim c.if-bytes-ge-LANES.branch [
+      | then-bytes-ge-LANES+else-count-lt-LANES w ↦
+          let none = none_here bytes 0 16 (omega arith) (λ k early. absurd (omega arith)) 16 (omega (arith, w.count_before_nul-count.ensures)) (omega arith) in
+          subst (λ (start : ℕ). (start ≤ length bytes) × NoneBefore bytes start) (sym w.start-is) (omega arith, none)
+      | else-bytes-ge-LANES w ↦
+          subst (λ (start : ℕ). (start ≤ length bytes) × NoneBefore bytes start) (sym w.start-is) (omega arith, λ k early. absurd (omega arith))
+    ]
 
 pub returns-then-count-lt-WIDE : goal.returns-then-count-lt-WIDE
 returns-then-count-lt-WIDE c =

@@ -4,7 +4,7 @@ use Rattle.std.proofs.lemmas.Iterator.Search.{position_from_yields_List}
 use Rattle.elf_records.specs.Section.{section_header_reads}
 use Rattle.elf_records.specs.Table.{Table, items_left, table_in, table_items}
 use Rattle.elf.specs.Names.{has_name}
-use Rattle.elf_c.proofs.section_names.index_in.Goals as goal
+use Rattle.elf.proofs.headers.index_in.Goals as goal
 
 pub returns : goal.returns
 returns g c =
