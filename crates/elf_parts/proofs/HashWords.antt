@@ -3,11 +3,11 @@ use Rattle.std.proofs.Common.{◌≡◌, ℕ, ◌+◌, ◌*◌, ◌/◌, ◌^◌
 use Rattle.std.specs.Result.{IsOk}
 use Rattle.std.proofs.lemmas.Grind.{common_steps}
 use Rattle.elf_records.specs.Class.{address_size}
-use Rattle.elf_parts.specs.GnuFind.{GnuTable, ReadsBloom, bloom_word, bloom_word_by, gnu_section}
+use Rattle.elf_parts.specs.GnuFind.{GnuTable, ReadsBloom, bloom_word, bloom_word_by, gnu_of_parts, gnu_section}
 use Rattle.elf_parts.specs.Hash.{ReadsBelowCount, gnu_header_layout, long_word_at, sysv_header_layout, word_at}
 use Rattle.elf_records.specs.Number.{bytes_at}
 use Rattle.elf_records.specs.Record.{◌>>=◌, record_by}
-use Rattle.elf_parts.specs.SysvFind.{SysvTable, sysv_section}
+use Rattle.elf_parts.specs.SysvFind.{SysvTable, sysv_of_parts, sysv_section}
 use Rattle.elf_records.specs.Table.{Table, table_in}
 use Rattle.elf_records.specs.Word.{u32_layout, u32_reads, u64_layout, u64_reads}
 use Rattle.elf_records.specs.inner.RecordLaws.{bind-ok, bytes_at-ok, wherever_by}
@@ -53,14 +53,11 @@ record Cut (bytes : List ℕ) (t : GnuTable) : Type 0 where
   pub buckets_within : length t.buckets.bytes ≤ length bytes
   pub chains_within : length t.chains.bytes ≤ length bytes
 
--- the table of these parts
+-- the table of these parts, whose chain words are the rest of the bytes
 abbrev gnu_parts : Bool → Class → List ℕ → GnuHashHeader → List ℕ → List ℕ → GnuTable
-gnu_parts little class bytes header bloom buckets = record {
-  hdr = header;
-  bloom = table_in little class bloom;
-  buckets = table_in little class buckets;
-  chains = table_in little class (drop (16 + address_size class * header.nbloom + 4 * header.nbucket) bytes);
-}
+gnu_parts little class bytes header bloom buckets =
+    gnu_of_parts little class header bloom buckets
+    (drop (16 + address_size class * header.nbloom + 4 * header.nbucket) bytes)
 
 cut_parts : (little : Bool) (class : Class) (bytes : List ℕ) (t : GnuTable) (header : GnuHashHeader) (bloom buckets : List ℕ) → bytes_at (address_size class * header.nbloom) bytes 16 ≡ Ok bloom → bytes_at (4 * header.nbucket) bytes (16 + address_size class * header.nbloom) ≡ Ok buckets → gnu_parts little class bytes header bloom buckets ≡ t → Cut bytes t
 cut_parts little class bytes t header bloom buckets e d same =
@@ -100,19 +97,15 @@ gnu_section_read little class bytes t short e =
 
 -- ---- the table of a SysV section
 
--- the table of these parts
-abbrev sysv_parts : Bool → Class → List ℕ → List ℕ → SysvTable
-sysv_parts little class buckets chains = record { buckets = table_in little class buckets; chains = table_in little class chains }
-
-of_chains : (little : Bool) (class : Class) (bytes : List ℕ) (t : SysvTable) (w o : ℕ) (buckets : List ℕ) → length bytes < 2 ^ 64 → length buckets ≤ length bytes → (bytes_at w bytes o >>= λ chains. Ok (sysv_parts little class buckets chains)) ≡ Ok t → ReadsBelowCount t.buckets × ReadsBelowCount t.chains
+of_chains : (little : Bool) (class : Class) (bytes : List ℕ) (t : SysvTable) (w o : ℕ) (buckets : List ℕ) → length bytes < 2 ^ 64 → length buckets ≤ length bytes → (bytes_at w bytes o >>= λ chains. Ok (sysv_of_parts little class buckets chains)) ≡ Ok t → ReadsBelowCount t.buckets × ReadsBelowCount t.chains
 of_chains little class bytes t w o buckets short small e =
     let k = bind-ok {A = List ℕ} {B = SysvTable} (bytes_at w bytes o) _ t e in
     let size = length-bytes_at w bytes o k.0 k.1 in
-    let same : sysv_parts little class buckets k.0 ≡ t = cc k.2 in
+    let same : sysv_of_parts little class buckets k.0 ≡ t = cc k.2 in
     let P : SysvTable → Type 0 = λ u. ReadsBelowCount u.buckets × ReadsBelowCount u.chains in
     subst P same (words_read (table_in little class buckets) (omega (arith, small, short)), words_read (table_in little class k.0) (omega (arith, size, short)))
 
-of_buckets : (little : Bool) (class : Class) (bytes : List ℕ) (t : SysvTable) (header : SysVHashHeader) → length bytes < 2 ^ 64 → (bytes_at (4 * header.nbucket) bytes 8 >>= λ buckets. bytes_at (4 * header.nchain) bytes (8 + 4 * header.nbucket) >>= λ chains. Ok (sysv_parts little class buckets chains)) ≡ Ok t → ReadsBelowCount t.buckets × ReadsBelowCount t.chains
+of_buckets : (little : Bool) (class : Class) (bytes : List ℕ) (t : SysvTable) (header : SysVHashHeader) → length bytes < 2 ^ 64 → (bytes_at (4 * header.nbucket) bytes 8 >>= λ buckets. bytes_at (4 * header.nchain) bytes (8 + 4 * header.nbucket) >>= λ chains. Ok (sysv_of_parts little class buckets chains)) ≡ Ok t → ReadsBelowCount t.buckets × ReadsBelowCount t.chains
 of_buckets little class bytes t header short e =
     let b = bind-ok {A = List ℕ} {B = SysvTable} (bytes_at (4 * header.nbucket) bytes 8) _ t e in
     let size = length-bytes_at (4 * header.nbucket) bytes 8 b.0 b.1 in

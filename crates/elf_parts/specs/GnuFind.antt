@@ -24,6 +24,15 @@ pub record GnuTable : Type 0 where
   pub buckets : Table
   pub chains : Table
 
+-- the table of these parts, whose words all have this order and class
+abbrev pub gnu_of_parts : Bool → Class → GnuHashHeader → List ℕ → List ℕ → List ℕ → GnuTable
+gnu_of_parts little class header bloom buckets chains = record {
+  hdr = header;
+  bloom = table_in little class bloom;
+  buckets = table_in little class buckets;
+  chains = table_in little class chains;
+}
+
 abbrev pub gnu_view : {E : Type 0} → GnuHashTable E → GnuTable
 gnu_view t = record {
   hdr = t.hdr;
@@ -47,12 +56,8 @@ gnu_section little class bytes =
     record_by gnu_header_layout little class bytes 0 >>= λ header.
     bytes_at (address_size class * header.nbloom) bytes 16 >>= λ bloom.
     bytes_at (4 * header.nbucket) bytes (16 + address_size class * header.nbloom) >>= λ buckets.
-    Ok (record {
-      hdr = header;
-      bloom = table_in little class bloom;
-      buckets = table_in little class buckets;
-      chains = table_in little class (drop (16 + address_size class * header.nbloom + 4 * header.nbucket) bytes);
-    })
+    Ok (gnu_of_parts little class header bloom buckets
+    (drop (16 + address_size class * header.nbloom + 4 * header.nbucket) bytes))
 
 -- the rest of a run, after a word that does not end it
 abbrev pub run_on : Result ℕ ParseError → List ℕ → List ℕ

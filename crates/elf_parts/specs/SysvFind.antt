@@ -15,6 +15,11 @@ pub record SysvTable : Type 0 where
   pub buckets : Table
   pub chains : Table
 
+-- the table of these parts, whose words all have this order and class
+abbrev pub sysv_of_parts : Bool → Class → List ℕ → List ℕ → SysvTable
+sysv_of_parts little class buckets chains =
+    record { buckets = table_in little class buckets; chains = table_in little class chains }
+
 abbrev pub sysv_view : {E : Type 0} → SysVHashTable E → SysvTable
 sysv_view t = record { buckets = table_view t.buckets; chains = table_view t.chains }
 
@@ -24,7 +29,7 @@ sysv_section little class bytes =
     record_by sysv_header_layout little class bytes 0 >>= λ header.
     bytes_at (4 * header.nbucket) bytes 8 >>= λ buckets.
     bytes_at (4 * header.nchain) bytes (8 + 4 * header.nbucket) >>= λ chains.
-    Ok (record { buckets = table_in little class buckets; chains = table_in little class chains })
+    Ok (sysv_of_parts little class buckets chains)
 
 -- the first answer of a list that is an error or finds something
 abbrev pub first_decided : {A : Type 0} → List (Result (Option A) ParseError) → Result (Option A) ParseError

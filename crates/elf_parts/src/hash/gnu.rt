@@ -1,7 +1,7 @@
 //! GNU hash sections.
 ghost use Rattle.std.specs.Prelude.{◌≡◌, ◌-◌, ◌%◌, ◌<◌, ◌≤◌, IfNone, IfSome, IsErr, None, Ok};
 ghost use Rattle.elf_records.specs.Class.{address_bits};
-ghost use Rattle.elf_parts.specs.GnuFind.{bloom_word, find_by_hash, find_in_run, gnu_find, gnu_section};
+ghost use Rattle.elf_parts.specs.GnuFind.{bloom_word, find_by_hash, find_in_run, gnu_find, gnu_of_parts, gnu_section};
 ghost use Rattle.elf_parts.specs.GnuFind.{gnu_view, passes, word_decides};
 ghost use Rattle.elf_parts.specs.Hash.{gnu_hash_of, word_count};
 ghost use Rattle.elf_records.specs.Number.{ok_map};
@@ -66,7 +66,7 @@ impl ParseAt for GnuHashHeader {
 /// chain words, which are the hashes of symbols in order, apart from bit 0.
 ///
 /// `hdr` may be changed: `find` uses its current number of bloom words, first index and shift. The bloom words, buckets
-/// and chain words remain those that `new` found.
+/// and chain words remain those that the table was made with.
 #[derive(Debug, Drop)]
 pub struct GnuHashTable<'data, E: EndianParse> {
     pub hdr: GnuHashHeader,
@@ -141,14 +141,32 @@ impl<'data, E: EndianParse> GnuHashTable<'data, E> {
         let buckets_size = 4 * hdr.nbucket as usize;
         let buckets = get_bytes(data, 16 + bloom_size, buckets_size)?;
         let (_, chains) = data.split_at(16 + bloom_size + buckets_size);
-        Ok(GnuHashTable {
+        Ok(Self::from_parts(endian, class, hdr, bloom, buckets, chains))
+    }
+
+    /// Returns the table with these parts: the header, and the bytes of the bloom words, of the buckets and of the chain
+    /// words. So a section that was opened elsewhere is not opened again. Nothing is checked: with the header that `new`
+    /// reads and the parts that it finds this is the table of `new`, and with any others each method answers by what
+    /// they say.
+    #[inline(always)]
+    pub fn from_parts(
+        endian: E,
+        class: Class,
+        hdr: GnuHashHeader,
+        bloom: &'data [u8],
+        buckets: &'data [u8],
+        chains: &'data [u8],
+    ) -> Self
+        ensures { gnu_view result ≡ gnu_of_parts (E.little endian) class hdr bloom.now buckets.now chains.now }
+    {
+        GnuHashTable {
             hdr,
             little: endian.is_little(),
             class,
             bloom,
             buckets: U32Table::new(endian, class, buckets),
             chains: U32Table::new(endian, class, chains),
-        })
+        }
     }
 
     /// Returns the class of the section. A bloom word has 32 bits in `ELF32`, 64 bits in `ELF64`.
@@ -156,6 +174,14 @@ impl<'data, E: EndianParse> GnuHashTable<'data, E> {
         ensures { result ≡ (gnu_view self.now).bloom.class }
     {
         self.class
+    }
+
+    /// Returns the bytes of the bloom words.
+    #[inline(always)]
+    pub fn bloom(&self) -> &'data [u8]
+        ensures { result.now ≡ (gnu_view self.now).bloom.bytes }
+    {
+        self.bloom
     }
 
     /// Returns a bloom word, counted from 0, or the error of `ParsingTable::get`. The numbers in `hdr` do not matter.

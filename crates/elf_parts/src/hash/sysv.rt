@@ -3,7 +3,7 @@ ghost use Rattle.std.specs.Prelude.{◌≡◌, ◌%◌, ◌^◌};
 ghost use Rattle.elf_parts.specs.Hash.{hash_fold, sysv_hash_of, word_count};
 ghost use Rattle.elf_records.specs.Number.{ok_map};
 ghost use Rattle.elf_records.specs.StringTable.{strings_view};
-ghost use Rattle.elf_parts.specs.SysvFind.{find_along, sysv_find, sysv_section, sysv_view};
+ghost use Rattle.elf_parts.specs.SysvFind.{find_along, sysv_find, sysv_of_parts, sysv_section, sysv_view};
 ghost use Rattle.elf_records.specs.Table.{table_view};
 
 use crate::endian::EndianParse;
@@ -93,10 +93,20 @@ impl<'data, E: EndianParse> SysVHashTable<'data, E> {
         let buckets_size = 4 * hdr.nbucket as usize;
         let buckets = get_bytes(data, 8, buckets_size)?;
         let chains = get_bytes(data, 8 + buckets_size, 4 * hdr.nchain as usize)?;
-        Ok(SysVHashTable {
+        Ok(Self::from_parts(endian, class, buckets, chains))
+    }
+
+    /// Returns the table with these parts: the bytes of the buckets and of the chain words. So a section that was opened
+    /// elsewhere is not opened again. Nothing is checked: with the parts that `new` finds this is the table of `new`,
+    /// and with any others each method answers by what they say.
+    #[inline(always)]
+    pub fn from_parts(endian: E, class: Class, buckets: &'data [u8], chains: &'data [u8]) -> Self
+        ensures { sysv_view result ≡ sysv_of_parts (E.little endian) class buckets.now chains.now }
+    {
+        SysVHashTable {
             buckets: U32Table::new(endian, class, buckets),
             chains: U32Table::new(endian, class, chains),
-        })
+        }
     }
 
     /// Returns the words of the buckets. Each is the first symbol index of the bucket's chain, or 0 if the chain is
