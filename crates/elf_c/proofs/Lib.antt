@@ -5,4 +5,4 @@ pub mod Least
 pub mod Definitions
 pub mod Files
 pub mod NoteFilling
-pub mod LookUps
+pub mod HashTables

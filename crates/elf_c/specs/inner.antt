@@ -4,6 +4,3 @@
 pub mod OwnTables
 -- the definitions of versions as linked records
 pub mod DefinitionLinks
--- what look-ups in hash sections answer where something cannot be read
-pub mod GnuStops
-pub mod SysvStops

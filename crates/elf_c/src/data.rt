@@ -24,7 +24,7 @@ use elf_parts::compression::CompressionHeader;
 
 /// What the compression header of a section says. If it has none, all numbers are 0.
 #[repr(C)]
-#[derive(Clone, Copy, Debug, PartialEq, Eq)]
+#[derive(Clone, Copy)]
 pub struct NugwierCompression {
     pub compressed: bool,
     pub kind: u32,

@@ -21,7 +21,7 @@ use elf_parts::segment::ProgramHeader;
 
 /// The header of a file.
 #[repr(C)]
-#[derive(Clone, Copy, Debug, PartialEq, Eq)]
+#[derive(Clone, Copy)]
 pub struct NugwierHeader {
     pub little: bool,
     pub is_64: bool,

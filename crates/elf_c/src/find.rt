@@ -7,17 +7,17 @@ ghost use Rattle.elf_c.specs.Status.{status_of, written};
 
 use crate::records::NugwierSymbol;
 use crate::status::{NugwierStatus, done, refused};
-use crate::table::{ForC, NugwierTable, class_in, order_in};
+use crate::table::{ForC, NugwierTable, class_in, order_in, records_in};
 use elf_check::hashcheck::laws::{gnu_find_on_sound, sysv_find_on_sound};
 use elf_check::hashcheck::{Checked, HashKind, check_any};
 use elf_parts::hash::{GnuHashTable, SysVHashTable};
 use elf_parts::parse::ParseError;
 use elf_parts::string_table::StringTable;
-use elf_parts::symbol::{Symbol, SymbolTable};
+use elf_parts::symbol::Symbol;
 
 /// A symbol that was looked up, and its index. If there is none, all numbers are 0.
 #[repr(C)]
-#[derive(Clone, Copy, Debug, PartialEq, Eq)]
+#[derive(Clone, Copy)]
 pub struct NugwierFound {
     pub found: bool,
     pub index: usize,
@@ -50,7 +50,7 @@ pub(crate) fn found_shown(found: &Option<(usize, Symbol)>) -> NugwierFound
 }
 
 // Writes what was found, and returns the status.
-#[inline(never)]
+#[inline(always)]
 pub(crate) fn write_found(
     answer: &Result<Option<(usize, Symbol)>, ParseError>,
     place: &mut NugwierFound,
@@ -77,14 +77,8 @@ fn gnu_found(
 ) -> Result<Option<(usize, Symbol)>, ParseError>
     ensures { result ≡ gnu_found section.now symbols.now strings.now name.now }
 {
-    let endian = order_in(symbols.little);
-    let class = class_in(symbols.is_64);
-    let table = GnuHashTable::new(endian, class, section)?;
-    table.find(
-        name,
-        &SymbolTable::new(endian, class, symbols.bytes),
-        &StringTable::new(strings),
-    )
+    let table = GnuHashTable::new(order_in(symbols.little), class_in(symbols.is_64), section)?;
+    table.find(name, &records_in(symbols), &StringTable::new(strings))
 }
 
 // The symbol of a name, by a SysV hash section.
@@ -97,14 +91,8 @@ fn sysv_found(
 ) -> Result<Option<(usize, Symbol)>, ParseError>
     ensures { result ≡ sysv_found section.now symbols.now strings.now name.now }
 {
-    let endian = order_in(symbols.little);
-    let class = class_in(symbols.is_64);
-    let table = SysVHashTable::new(endian, class, section)?;
-    table.find(
-        name,
-        &SymbolTable::new(endian, class, symbols.bytes),
-        &StringTable::new(strings),
-    )
+    let table = SysVHashTable::new(order_in(symbols.little), class_in(symbols.is_64), section)?;
+    table.find(name, &records_in(symbols), &StringTable::new(strings))
 }
 
 /// Looks a name up in a GNU hash section, for these symbols and their strings. An error leaves `found` as it is; the
@@ -126,13 +114,7 @@ pub extern "C" fn nugwier_gnu_find(
         (λ s. FindsLeast s name.now result found.new) }
 {
     gnu_find_on_sound(section);
-    match gnu_found(section, symbols, strings, name) {
-        Ok(one) => {
-            *found = found_shown(&one);
-            done()
-        }
-        Err(error) => refused(&error),
-    }
+    write_found(&gnu_found(section, symbols, strings, name), found)
 }
 
 /// Looks a name up in a SysV hash section, for these symbols and their strings. An error leaves `found` as it is; the
@@ -153,18 +135,12 @@ pub extern "C" fn nugwier_sysv_find(
         (λ s. FindsFirst s name.now result found.new) }
 {
     sysv_find_on_sound(section);
-    match sysv_found(section, symbols, strings, name) {
-        Ok(one) => {
-            *found = found_shown(&one);
-            done()
-        }
-        Err(error) => refused(&error),
-    }
+    write_found(&sysv_found(section, symbols, strings, name), found)
 }
 
 /// What a check says of a hash section: whether it is sound, and then how many symbols it indexes, otherwise 0.
 #[repr(C)]
-#[derive(Clone, Copy, Debug, PartialEq, Eq)]
+#[derive(Clone, Copy)]
 pub struct NugwierVerdict {
     pub sound: bool,
     pub indexed: usize,
@@ -183,16 +159,13 @@ pub extern "C" fn nugwier_hash_check(
     ensures status { result ≡ status_of (hash_object gnu section.now symbols.now strings.now) }
     ensures verdict { IsVerdict verdict.new verdict.old (hash_object gnu section.now symbols.now strings.now) }
 {
-    let endian = order_in(symbols.little);
-    let class = class_in(symbols.is_64);
     let kind = if gnu { HashKind::Gnu } else { HashKind::Sysv };
-    let symtab = SymbolTable::new(endian, class, symbols.bytes);
     match check_any(
         kind,
-        endian,
-        class,
+        order_in(symbols.little),
+        class_in(symbols.is_64),
         section,
-        symtab,
+        records_in(symbols),
         StringTable::new(strings),
     ) {
         Ok(Checked::Sound(table)) => {

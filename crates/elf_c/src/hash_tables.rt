@@ -1,24 +1,22 @@
 //! Hash sections that were opened, and look-ups in them, which do not open them anew.
-ghost use Rattle.std.specs.Prelude.{◌≡◌, ◌<◌, ◌^◌, None};
-ghost use Rattle.elf_parts.specs.GnuFind.{gnu_section};
-ghost use Rattle.elf_parts.specs.Hash.{if_named, named_symbol, word_at, word_count};
-ghost use Rattle.elf_parts.specs.SysvFind.{sysv_section};
-ghost use Rattle.elf_records.specs.Class.{address_size};
+ghost use Rattle.std.specs.Prelude.{◌≡◌};
+ghost use Rattle.elf_parts.specs.GnuFind.{gnu_find, gnu_section, gnu_view};
+ghost use Rattle.elf_parts.specs.SysvFind.{sysv_find, sysv_section, sysv_view};
 ghost use Rattle.elf_records.specs.Number.{ok_map};
-ghost use Rattle.elf_records.specs.Table.{table_view};
+ghost use Rattle.elf_c.specs.Find.{found_shown};
 ghost use Rattle.elf_c.specs.HashTables.{gnu_of_c, sysv_of_c};
-ghost use Rattle.elf_c.specs.Status.{IsWritten, status_of};
-ghost use Rattle.elf_c.specs.Tables.{class_in};
+ghost use Rattle.elf_c.specs.Status.{IsWritten, status_of, written};
+ghost use Rattle.elf_c.specs.Tables.{class_in, table_of_c};
 
+use crate::find::{NugwierFound, write_found};
 use crate::status::{NugwierStatus, done, refused};
-use crate::table::{class_in, order_in};
+use crate::table::{NugwierTable, class_in, order_in, records_in};
 use elf_parts::endian::AnyEndian;
 use elf_parts::file::Class;
-use elf_parts::hash::{GnuHashHeader, SysVHashHeader};
-use elf_parts::parse::{ParseAt, ParseError, ParsingTable};
-use elf_parts::string_table::TerminatedStrings;
-use elf_parts::symbol::{Symbol, SymbolTable};
-use elf_records::parse::get_bytes;
+use elf_parts::hash::{GnuHashHeader, GnuHashTable, SysVHashTable};
+use elf_parts::parse::ParseError;
+use elf_parts::string_table::StringTable;
+use elf_parts::symbol::SymbolTable;
 
 /// A GNU hash section that was opened: the numbers of its header, its bloom words, the words of its buckets, and its
 /// chain words. It belongs to the caller, and holds nothing that has to be freed.
@@ -47,18 +45,8 @@ pub struct NugwierSysv<'data> {
     pub chains: &'data [u8],
 }
 
-// How many bytes an address has.
-fn address_size(class: Class) -> usize
-    ensures { result ≡ address_size class }
-{
-    match class {
-        Class::ELF32 => 4,
-        Class::ELF64 => 8,
-    }
-}
-
 // The parts of a GNU hash section.
-#[tactic(auto, unfolding(elf_parts::specs::GnuFind::gnu_section))]
+#[tactic(auto, using(crate::proofs::HashTables::gnu_own, crate::proofs::Files::is_little_in))]
 pub(crate) fn gnu_opened<'data>(
     little: bool,
     is_64: bool,
@@ -66,29 +54,22 @@ pub(crate) fn gnu_opened<'data>(
 ) -> Result<NugwierGnu<'data>, ParseError>
     ensures { ok_map gnu_of_c result ≡ gnu_section little (class_in is_64) section.now }
 {
-    let class = class_in(is_64);
-    let mut offset = 0;
-    let hdr = GnuHashHeader::parse_at(order_in(little), class, &mut offset, section)?;
-    let bloom_size = address_size(class) * hdr.nbloom as usize;
-    let bloom = get_bytes(section, 16, bloom_size)?;
-    let buckets_size = 4 * hdr.nbucket as usize;
-    let buckets = get_bytes(section, 16 + bloom_size, buckets_size)?;
-    let (_, chains) = section.split_at(16 + bloom_size + buckets_size);
+    let table = GnuHashTable::new(order_in(little), class_in(is_64), section)?;
     Ok(NugwierGnu {
         little,
         is_64,
-        nbucket: hdr.nbucket,
-        first: hdr.table_start_idx,
-        nbloom: hdr.nbloom,
-        nshift: hdr.nshift,
-        bloom,
-        buckets,
-        chains,
+        nbucket: table.hdr.nbucket,
+        first: table.hdr.table_start_idx,
+        nbloom: table.hdr.nbloom,
+        nshift: table.hdr.nshift,
+        bloom: table.bloom(),
+        buckets: table.buckets().bytes(),
+        chains: table.chains().bytes(),
     })
 }
 
 // The parts of a SysV hash section.
-#[tactic(auto, unfolding(elf_parts::specs::SysvFind::sysv_section))]
+#[tactic(auto, using(crate::proofs::HashTables::sysv_own, crate::proofs::Files::is_little_in))]
 pub(crate) fn sysv_opened<'data>(
     little: bool,
     is_64: bool,
@@ -96,16 +77,12 @@ pub(crate) fn sysv_opened<'data>(
 ) -> Result<NugwierSysv<'data>, ParseError>
     ensures { ok_map sysv_of_c result ≡ sysv_section little (class_in is_64) section.now }
 {
-    let mut offset = 0;
-    let hdr = SysVHashHeader::parse_at(order_in(little), class_in(is_64), &mut offset, section)?;
-    let buckets_size = 4 * hdr.nbucket as usize;
-    let buckets = get_bytes(section, 8, buckets_size)?;
-    let chains = get_bytes(section, 8 + buckets_size, 4 * hdr.nchain as usize)?;
+    let table = SysVHashTable::new(order_in(little), class_in(is_64), section)?;
     Ok(NugwierSysv {
         little,
         is_64,
-        buckets,
-        chains,
+        buckets: table.buckets().bytes(),
+        chains: table.chains().bytes(),
     })
 }
 
@@ -151,57 +128,98 @@ pub extern "C" fn nugwier_sysv_open<'data>(
     }
 }
 
-pub(crate) type Words<'data> = ParsingTable<'data, AnyEndian, u32>;
-
-pub(crate) type Found = Result<Option<(usize, Symbol)>, ParseError>;
-
-// A word of a table.
-#[tactic(auto, unfolding(elf_parts::specs::Hash::word_at))]
+// The table whose parts a handle holds. The byte order and the class are given, so a caller can state them, and the
+// compiler knows them.
 #[inline(always)]
-pub(crate) fn word(words: &Words<'_>, index: usize) -> Result<usize, ParseError>
-    ensures { result ≡ word_at (table_view words.now) index }
+fn gnu_table<'data>(
+    gnu: &NugwierGnu<'data>,
+    little: bool,
+    is_64: bool,
+) -> GnuHashTable<'data, AnyEndian>
+    requires order { little ≡ gnu.now.little }
+    requires class { is_64 ≡ gnu.now.is_64 }
+    ensures { gnu_view result ≡ gnu_of_c gnu.now }
 {
-    Ok(words.get(index)? as usize)
+    let hdr = GnuHashHeader {
+        nbucket: gnu.nbucket,
+        table_start_idx: gnu.first,
+        nbloom: gnu.nbloom,
+        nshift: gnu.nshift,
+    };
+    GnuHashTable::from_parts(
+        order_in(little),
+        class_in(is_64),
+        hdr,
+        gnu.bloom,
+        gnu.buckets,
+        gnu.chains,
+    )
 }
 
-// How many words a table holds.
+// The same of a SysV hash section.
 #[inline(always)]
-pub(crate) fn word_count(words: &Words<'_>) -> usize
-    ensures count { result ≡ word_count (table_view words.now) }
-    ensures bound { result < 2 ^ 62 }
+fn sysv_table<'data>(
+    sysv: &NugwierSysv<'data>,
+    little: bool,
+    is_64: bool,
+) -> SysVHashTable<'data, AnyEndian>
+    requires order { little ≡ sysv.now.little }
+    requires class { is_64 ≡ sysv.now.is_64 }
+    ensures { sysv_view result ≡ sysv_of_c sysv.now }
 {
-    words.len()
+    SysVHashTable::from_parts(order_in(little), class_in(is_64), sysv.buckets, sysv.chains)
 }
 
-// An index and its symbol, where that has the name.
-#[tactic(auto, unfolding(elf_parts::specs::Hash::named_symbol))]
-#[inline(always)]
-pub(crate) fn if_named(
-    symbols: &SymbolTable<'_, AnyEndian>,
-    strings: &TerminatedStrings<'_>,
+/// Looks a name up in a GNU hash section that was opened, for these symbols and their strings. An error leaves `found`
+/// as it is; the errors are those of `GnuHashTable::find`.
+// In the first arm the byte order and the class are known to the compiler.
+#[unsafe(no_mangle)]
+pub extern "C" fn nugwier_gnu_look_up(
+    gnu: &NugwierGnu<'_>,
+    symbols: &NugwierTable<'_>,
+    strings: &[u8],
     name: &[u8],
-    index: usize,
-) -> Found
-    ensures { result ≡ ok_map (if_named name.now index) (named_symbol (table_view symbols.now) strings.now index) }
+    found: &mut NugwierFound,
+) -> NugwierStatus
+    ensures status { result ≡ status_of (gnu_find (gnu_of_c gnu.now) (table_of_c symbols.now) strings.now name.now) }
+    ensures found { found.new ≡ written found_shown found.old
+        (gnu_find (gnu_of_c gnu.now) (table_of_c symbols.now) strings.now name.now) }
 {
-    let symbol = symbols.get(index)?;
-    if strings.is(symbol.st_name as usize, name)? {
-        Ok(Some((index, symbol)))
+    let strtab = StringTable::new(strings);
+    if gnu.little && gnu.is_64 && symbols.little && symbols.is_64 {
+        let symtab = SymbolTable::new(AnyEndian::Little, Class::ELF64, symbols.bytes);
+        let table = gnu_table(gnu, true, true);
+        write_found(&table.find(name, &symtab, &strtab), found)
     } else {
-        Ok(None)
+        let symtab = records_in(symbols);
+        let table = gnu_table(gnu, gnu.little, gnu.is_64);
+        write_found(&table.find(name, &symtab, &strtab), found)
     }
 }
 
-// The error of a symbol or a name that cannot be read.
-#[tactic(auto, unfolding(elf_parts::specs::Hash::named_symbol))]
-pub(crate) fn refused_symbol(
-    symbols: &SymbolTable<'_, AnyEndian>,
-    strings: &TerminatedStrings<'_>,
-    index: usize,
-) -> Found
-    ensures { result ≡ ok_map (λ _. None) (named_symbol (table_view symbols.now) strings.now index) }
+/// Looks a name up in a SysV hash section that was opened, for these symbols and their strings. An error leaves `found`
+/// as it is; the errors are those of `SysVHashTable::find`.
+// In the first arm the byte order and the class are known to the compiler.
+#[unsafe(no_mangle)]
+pub extern "C" fn nugwier_sysv_look_up(
+    sysv: &NugwierSysv<'_>,
+    symbols: &NugwierTable<'_>,
+    strings: &[u8],
+    name: &[u8],
+    found: &mut NugwierFound,
+) -> NugwierStatus
+    ensures status { result ≡ status_of (sysv_find (sysv_of_c sysv.now) (table_of_c symbols.now) strings.now name.now) }
+    ensures found { found.new ≡ written found_shown found.old
+        (sysv_find (sysv_of_c sysv.now) (table_of_c symbols.now) strings.now name.now) }
 {
-    let symbol = symbols.get(index)?;
-    strings.get_raw(symbol.st_name as usize)?;
-    Ok(None)
+    let strtab = StringTable::new(strings);
+    if sysv.little && sysv.is_64 && symbols.little && symbols.is_64 {
+        let symtab = SymbolTable::new(AnyEndian::Little, Class::ELF64, symbols.bytes);
+        let table = sysv_table(sysv, true, true);
+        write_found(&table.find(name, &symtab, &strtab), found)
+    } else {
+        let symtab = records_in(symbols);
+        let table = sysv_table(sysv, sysv.little, sysv.is_64);
+        write_found(&table.find(name, &symtab, &strtab), found)
+    }
 }

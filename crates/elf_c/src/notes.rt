@@ -19,7 +19,7 @@ pub struct NugwierNotes<'data> {
 
 /// The oldest version of an operating system that a program runs on.
 #[repr(C)]
-#[derive(Clone, Copy, Debug, PartialEq, Eq)]
+#[derive(Clone, Copy)]
 pub struct NugwierAbiTag {
     pub os: u32,
     pub major: u32,

@@ -22,7 +22,7 @@ use elf_parts::symbol::Symbol;
 
 /// A symbol.
 #[repr(C)]
-#[derive(Clone, Copy, Debug, PartialEq, Eq)]
+#[derive(Clone, Copy)]
 pub struct NugwierSymbol {
     pub name: u32,
     pub info: u8,
@@ -53,7 +53,7 @@ impl ForC for Symbol {
 
 /// A section header.
 #[repr(C)]
-#[derive(Clone, Copy, Debug, PartialEq, Eq)]
+#[derive(Clone, Copy)]
 pub struct NugwierSection {
     pub name: u32,
     pub kind: u32,
@@ -92,7 +92,7 @@ impl ForC for SectionHeader {
 
 /// A program header.
 #[repr(C)]
-#[derive(Clone, Copy, Debug, PartialEq, Eq)]
+#[derive(Clone, Copy)]
 pub struct NugwierSegment {
     pub kind: u32,
     pub flags: u32,
@@ -127,7 +127,7 @@ impl ForC for ProgramHeader {
 
 /// A relocation: `symbol` is the index of the symbol, `kind` the type.
 #[repr(C)]
-#[derive(Clone, Copy, Debug, PartialEq, Eq)]
+#[derive(Clone, Copy)]
 pub struct NugwierRel {
     pub offset: u64,
     pub symbol: u32,
@@ -152,7 +152,7 @@ impl ForC for Rel {
 
 /// A relocation with an addend: `symbol` is the index of the symbol, `kind` the type.
 #[repr(C)]
-#[derive(Clone, Copy, Debug, PartialEq, Eq)]
+#[derive(Clone, Copy)]
 pub struct NugwierRela {
     pub offset: u64,
     pub addend: i64,
@@ -179,7 +179,7 @@ impl ForC for Rela {
 
 /// A dynamic entry: its tag, and its value or address.
 #[repr(C)]
-#[derive(Clone, Copy, Debug, PartialEq, Eq)]
+#[derive(Clone, Copy)]
 pub struct NugwierDynamic {
     pub tag: i64,
     pub value: u64,

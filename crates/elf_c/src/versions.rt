@@ -50,7 +50,7 @@ pub struct NugwierVersions<'data> {
 
 /// The version index of a symbol: the lower 15 bits, and whether bit 15 is set, which hides the version.
 #[repr(C)]
-#[derive(Clone, Copy, Debug, PartialEq, Eq)]
+#[derive(Clone, Copy)]
 pub struct NugwierVersion {
     pub index: u16,
     pub hidden: bool,

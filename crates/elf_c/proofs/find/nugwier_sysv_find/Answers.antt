@@ -1,21 +1,13 @@
-use Rattle.std.proofs.Common.{rules, Ok, Err}
 use Rattle.elf_parts.specs.SysvFind.{sysv_section}
 use Rattle.elf_c.specs.Tables.{class_in, table_of_c}
 use Rattle.elf_c.proofs.Least.{finds_first}
 use Rattle.elf_c.proofs.find.nugwier_sysv_find.Goals as goal
 
-pub returns-in-Ok-clause-first : goal.returns-in-Ok-clause-first
-returns-in-Ok-clause-first c =
+pub returns-clause-first : goal.returns-clause-first
+returns-clause-first c =
     let a = c.args in
-    finds_first (sysv_section a.symbols.now.little (class_in a.symbols.now.is_64) a.section.now) (table_of_c a.symbols.now)
-    a.strings.now a.name.now (Ok c.in-Ok.one) a.found.now c.found_shown.result c.done.result
+    let section = sysv_section a.symbols.now.little (class_in a.symbols.now.is_64) a.section.now in
+    finds_first section (table_of_c a.symbols.now) a.strings.now a.name.now c.sysv_found.result a.found.now
+    c.write_found.new.place c.write_found.result
     (λ s e sound. c.sysv_find_on_sound.ensures a.symbols.now.little (class_in a.symbols.now.is_64) s a.name.now e sound)
-    (search rules) c.done.ensures c.found_shown.ensures
-
-pub returns-in-Err-clause-first : goal.returns-in-Err-clause-first
-returns-in-Err-clause-first c =
-    let a = c.args in
-    finds_first (sysv_section a.symbols.now.little (class_in a.symbols.now.is_64) a.section.now) (table_of_c a.symbols.now)
-    a.strings.now a.name.now (Err c.in-Err.error) a.found.now a.found.now c.refused.result
-    (λ s e sound. c.sysv_find_on_sound.ensures a.symbols.now.little (class_in a.symbols.now.is_64) s a.name.now e sound)
-    (search rules) c.refused.ensures (search rules)
+    c.sysv_found.ensures c.write_found.ensures.status c.write_found.ensures.place
