@@ -8,10 +8,10 @@ ghost use Rattle.elf_c.specs.HashTables.{gnu_of_c, sysv_of_c};
 ghost use Rattle.elf_c.specs.Status.{IsWritten, status_of, written};
 ghost use Rattle.elf_c.specs.Tables.{class_in, table_of_c};
 
-use crate::find::{NugwierFound, write_found};
+use crate::find::{NugwierFound, find_by_gnu, find_by_sysv, write_found};
 use crate::status::{NugwierStatus, done, refused};
-use crate::table::{NugwierTable, class_in, order_in, records_in};
-use elf_parts::endian::AnyEndian;
+use crate::table::{NugwierTable, class_in, order_in};
+use elf_parts::endian::{EndianParse, LittleEndian};
 use elf_parts::file::Class;
 use elf_parts::hash::{GnuHashHeader, GnuHashTable, SysVHashTable};
 use elf_parts::parse::ParseError;
@@ -128,16 +128,16 @@ pub extern "C" fn nugwier_sysv_open<'data>(
     }
 }
 
-// The table whose parts a handle holds. The byte order and the class are given, so a caller can state them, and the
-// compiler knows them.
+// The table whose parts a handle holds. A caller can state the byte order and the class, so that the compiler knows
+// them.
 #[inline(always)]
-fn gnu_table<'data>(
+fn gnu_table<'data, E: EndianParse>(
+    endian: E,
+    class: Class,
     gnu: &NugwierGnu<'data>,
-    little: bool,
-    is_64: bool,
-) -> GnuHashTable<'data, AnyEndian>
-    requires order { little ≡ gnu.now.little }
-    requires class { is_64 ≡ gnu.now.is_64 }
+) -> GnuHashTable<'data, E>
+    requires order { E.little endian ≡ gnu.now.little }
+    requires class { class ≡ class_in gnu.now.is_64 }
     ensures { gnu_view result ≡ gnu_of_c gnu.now }
 {
     let hdr = GnuHashHeader {
@@ -146,28 +146,21 @@ fn gnu_table<'data>(
         nbloom: gnu.nbloom,
         nshift: gnu.nshift,
     };
-    GnuHashTable::from_parts(
-        order_in(little),
-        class_in(is_64),
-        hdr,
-        gnu.bloom,
-        gnu.buckets,
-        gnu.chains,
-    )
+    GnuHashTable::from_parts(endian, class, hdr, gnu.bloom, gnu.buckets, gnu.chains)
 }
 
 // The same of a SysV hash section.
 #[inline(always)]
-fn sysv_table<'data>(
+fn sysv_table<'data, E: EndianParse>(
+    endian: E,
+    class: Class,
     sysv: &NugwierSysv<'data>,
-    little: bool,
-    is_64: bool,
-) -> SysVHashTable<'data, AnyEndian>
-    requires order { little ≡ sysv.now.little }
-    requires class { is_64 ≡ sysv.now.is_64 }
+) -> SysVHashTable<'data, E>
+    requires order { E.little endian ≡ sysv.now.little }
+    requires class { class ≡ class_in sysv.now.is_64 }
     ensures { sysv_view result ≡ sysv_of_c sysv.now }
 {
-    SysVHashTable::from_parts(order_in(little), class_in(is_64), sysv.buckets, sysv.chains)
+    SysVHashTable::from_parts(endian, class, sysv.buckets, sysv.chains)
 }
 
 /// Looks a name up in a GNU hash section that was opened, for these symbols and their strings. An error leaves `found`
@@ -185,15 +178,16 @@ pub extern "C" fn nugwier_gnu_look_up(
     ensures found { found.new ≡ written found_shown found.old
         (gnu_find (gnu_of_c gnu.now) (table_of_c symbols.now) strings.now name.now) }
 {
-    let strtab = StringTable::new(strings);
     if gnu.little && gnu.is_64 && symbols.little && symbols.is_64 {
-        let symtab = SymbolTable::new(AnyEndian::Little, Class::ELF64, symbols.bytes);
-        let table = gnu_table(gnu, true, true);
-        write_found(&table.find(name, &symtab, &strtab), found)
+        let table = gnu_table(LittleEndian, Class::ELF64, gnu);
+        let symtab = SymbolTable::new(LittleEndian, Class::ELF64, symbols.bytes);
+        write_found(
+            &table.find(name, &symtab, &StringTable::new(strings)),
+            found,
+        )
     } else {
-        let symtab = records_in(symbols);
-        let table = gnu_table(gnu, gnu.little, gnu.is_64);
-        write_found(&table.find(name, &symtab, &strtab), found)
+        let table = gnu_table(order_in(gnu.little), class_in(gnu.is_64), gnu);
+        find_by_gnu(&table, symbols, strings, name, found)
     }
 }
 
@@ -212,14 +206,15 @@ pub extern "C" fn nugwier_sysv_look_up(
     ensures found { found.new ≡ written found_shown found.old
         (sysv_find (sysv_of_c sysv.now) (table_of_c symbols.now) strings.now name.now) }
 {
-    let strtab = StringTable::new(strings);
     if sysv.little && sysv.is_64 && symbols.little && symbols.is_64 {
-        let symtab = SymbolTable::new(AnyEndian::Little, Class::ELF64, symbols.bytes);
-        let table = sysv_table(sysv, true, true);
-        write_found(&table.find(name, &symtab, &strtab), found)
+        let table = sysv_table(LittleEndian, Class::ELF64, sysv);
+        let symtab = SymbolTable::new(LittleEndian, Class::ELF64, symbols.bytes);
+        write_found(
+            &table.find(name, &symtab, &StringTable::new(strings)),
+            found,
+        )
     } else {
-        let symtab = records_in(symbols);
-        let table = sysv_table(sysv, sysv.little, sysv.is_64);
-        write_found(&table.find(name, &symtab, &strtab), found)
+        let table = sysv_table(order_in(sysv.little), class_in(sysv.is_64), sysv);
+        find_by_sysv(&table, symbols, strings, name, found)
     }
 }
