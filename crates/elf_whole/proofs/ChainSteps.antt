@@ -45,8 +45,8 @@ module _ {A : Type 0} (P : A → Type 0) where
 
 module _ {A : Type 0} (distance : A → ℕ) (IsSound : ℕ × A → Type 0) where
   pub true_chain : (count : ℕ) (list : List (ℕ × A)) (fault : ChainFault) → IsTrueOfChain distance IsSound count list fault → SoundChain distance IsSound count list → ⊥
-  true_chain count list (Short found) holds sound = omega (arith, holds.0, holds.1, sound.all)
-  true_chain count list NotLast holds sound = holds sound.ends
+  true_chain count list (Short found) holds sound = omega (arith, holds.1, holds.2, sound.all)
+  true_chain count list NotLast holds sound = holds.2 sound.ends
   true_chain count list (At index) holds sound = bad_at IsSound list index sound.each holds.0
 
   verdict : (count : ℕ) (list : List (ℕ × A)) (r : Option ChainFault) (b : Bool) → is_some r ≡ not b → MatchOption r (SoundChain distance IsSound count list) (IsTrueOfChain distance IsSound count list) → IsTrue b ↔ SoundChain distance IsSound count list

@@ -1,27 +1,24 @@
 -- The first of all faults is true also by what is checked before it.
 use Rattle.std.proofs.Common.{◌≡◌, ◌↔◌, ◌⊎◌, ℕ, zero, suc, ◌<◌, Bool, cond, List, [], ◌∷◌, ◌++◌, length, map, Option, Some, None, Result, Ok, Err, ap, sym, ◌∙◌, subst, inl, inr, arith}
 use Rattle.std.specs.List.{AllByRecursion, find}
-use Rattle.std.specs.Option.{IsSomeAnd, MatchOption}
+use Rattle.std.specs.Option.{IfSome, IsSomeAnd, MatchOption}
 use Rattle.std.specs.Result.{IsOk, IsOkAnd, result_ok}
 use Rattle.elf_records.specs.declared.section.SectionHeader.{SectionHeader}
 use Rattle.elf_reading.specs.Versions.{version_sections}
 use Rattle.elf_reading.specs.declared.versions.VersionSections.{VersionSections}
 use Rattle.elf.specs.Names.{name_table}
 use Rattle.elf.specs.ObjectFile.{ObjectFile}
-use Rattle.elf.specs.Versions.{versions_of}
 use Rattle.elf_whole.specs.AllFaults.{AreFaults, IsFaultOfSubject, IsTrueByItself, LoadOrder, SectionAt, SectionNames, SegmentAt, SingleType, SoundSubject, StartsAsChecked, Subject, below, section_subjects, segment_subjects, subjects, type_subjects, version_subjects}
 use Rattle.elf_whole.specs.Faults.{IsTrueOfFile}
 use Rattle.elf_whole.specs.Members.{AllSound}
 use Rattle.elf_whole.specs.Sections.{IsTrueOfSection, IsTrueOfUnnamed, SoundSection, is_repeated, repeated_type, single_types}
 use Rattle.elf_whole.specs.Segments.{EachSound, SoundTypes}
 use Rattle.elf_whole.specs.SegmentsFaults.{IsTrueOfSegments}
-use Rattle.elf_whole.specs.versions.InFile.{IsTrueOfDefs, IsTrueOfIndexSection, IsTrueOfNeeds, IsTrueOfVersions, IsTrueOfVersionsOf, SoundVersions}
+use Rattle.elf_whole.specs.versions.InFile.{IsTrueOfDefs, IsTrueOfIndexSection, IsTrueOfNeeds, IsTrueOfVersions, IsTrueOfVersionsOf, SoundDefsOf, SoundNeedsOf, SoundVersions}
 use Rattle.elf_whole.specs.declared.faults.FileFault.{FileFault}
 use Rattle.elf_whole.specs.declared.faults.FileFault.TheVariants.{Repeated, Section, Segments, Versions}
 use Rattle.elf_whole.specs.declared.faults.SectionFault.{SectionFault}
 use Rattle.elf_whole.specs.declared.faults.VersionsFault.{VersionsFault}
-use Rattle.elf_whole.specs.declared.faults.VersionsFault.TheVariants.{CountOfIndexes, DefinitionsTooLong, DefinitionsUnreadable, FaultyDefinitions, FaultyNeeds}
-use Rattle.elf_whole.specs.declared.faults.VersionsFault.TheVariants.{IndexesUnreadable, NeedsTooLong, NeedsUnreadable, NoDynamicSymbols, PartOfIndex, UnknownIndex}
 use Rattle.elf_whole.specs.declared.segments.faults.SegmentsFault.{SegmentsFault}
 use Rattle.elf_whole.specs.declared.segments.faults.SegmentsFault.TheVariants.{OverlappingLoad, PhdrAfterLoad, SecondDynamic, SecondInterp, SecondPhdr, SecondTls, Segment as OfSegment}
 use Rattle.elf_whole.proofs.SoundSubjects.{all_below, all_left, all_right, none_repeated, sections_of, sections_sound, segments_sound, types_sound, versions_from}
@@ -104,53 +101,13 @@ some_map : {A : Type 0} (P Q : A → Type 0) (o : Option A) → ((x : A) → P x
 some_map P Q (Some x) f p = f x p
 some_map P Q None f p = p
 
-none_there : {A : Type 0} (o : Option A) → IsSomeAnd o (λ x. ⊥) → ⊥
-none_there (Some x) p = p
-none_there None p = p
+some_both : {A : Type 0} (P Q R : A → Type 0) (o : Option A) → ((x : A) → P x → Q x → R x) → IfSome o P → IsSomeAnd o Q → IsSomeAnd o R
+some_both P Q R (Some x) f p q = f x p q
+some_both P Q R None f p q = q
 
-none_read : {A E : Type 0} (r : Result A E) → IsOkAnd r (λ x. ⊥) → ⊥
-none_read (Ok x) p = p
-none_read (Err e) p = p
-
-module _ (file : ObjectFile) (chosen : VersionSections) (s : SectionHeader) where
-  needs_true : (fault : VersionsFault) → IsSomeAnd chosen.needs (λ n. IsTrueOfNeeds file n fault) → IsTrueOfVersionsOf file chosen s fault
-  needs_true NeedsUnreadable t = t
-  needs_true NeedsTooLong t = t
-  needs_true (FaultyNeeds f) t = t
-  needs_true DefinitionsUnreadable t = absurd (none_there chosen.needs t)
-  needs_true DefinitionsTooLong t = absurd (none_there chosen.needs t)
-  needs_true (FaultyDefinitions f) t = absurd (none_there chosen.needs t)
-  needs_true PartOfIndex t = absurd (none_there chosen.needs t)
-  needs_true IndexesUnreadable t = absurd (none_there chosen.needs t)
-  needs_true NoDynamicSymbols t = absurd (none_there chosen.needs t)
-  needs_true CountOfIndexes t = absurd (none_there chosen.needs t)
-  needs_true (UnknownIndex i) t = absurd (none_there chosen.needs t)
-
-  definitions_true : (fault : VersionsFault) → IsSomeAnd chosen.definitions (λ d. IsTrueOfDefs file d fault) → IsTrueOfVersionsOf file chosen s fault
-  definitions_true DefinitionsUnreadable t = t
-  definitions_true DefinitionsTooLong t = t
-  definitions_true (FaultyDefinitions f) t = t
-  definitions_true NeedsUnreadable t = absurd (none_there chosen.definitions t)
-  definitions_true NeedsTooLong t = absurd (none_there chosen.definitions t)
-  definitions_true (FaultyNeeds f) t = absurd (none_there chosen.definitions t)
-  definitions_true PartOfIndex t = absurd (none_there chosen.definitions t)
-  definitions_true IndexesUnreadable t = absurd (none_there chosen.definitions t)
-  definitions_true NoDynamicSymbols t = absurd (none_there chosen.definitions t)
-  definitions_true CountOfIndexes t = absurd (none_there chosen.definitions t)
-  definitions_true (UnknownIndex i) t = absurd (none_there chosen.definitions t)
-
-  indexes_true : (fault : VersionsFault) → IsTrueOfIndexSection file chosen s fault → IsTrueOfVersionsOf file chosen s fault
-  indexes_true PartOfIndex t = t
-  indexes_true IndexesUnreadable t = t.2
-  indexes_true NoDynamicSymbols t = t.2
-  indexes_true CountOfIndexes t = t.2
-  indexes_true (UnknownIndex i) t = t.2
-  indexes_true NeedsUnreadable t = absurd (none_read (versions_of file chosen s) t.2)
-  indexes_true NeedsTooLong t = absurd (none_read (versions_of file chosen s) t.2)
-  indexes_true (FaultyNeeds f) t = absurd (none_read (versions_of file chosen s) t.2)
-  indexes_true DefinitionsUnreadable t = absurd (none_read (versions_of file chosen s) t.2)
-  indexes_true DefinitionsTooLong t = absurd (none_read (versions_of file chosen s) t.2)
-  indexes_true (FaultyDefinitions f) t = absurd (none_read (versions_of file chosen s) t.2)
+both_if : {A : Type 0} (P Q : A → Type 0) (o : Option A) → IfSome o P → IfSome o Q → IfSome o (λ x. P x × Q x)
+both_if P Q (Some x) p q = (p, q)
+both_if P Q None p q = tt
 
 -- a fault of versions that is the first one of the three
 abbrev VersionsTrue : ObjectFile → FileFault → Type 0
@@ -159,14 +116,17 @@ VersionsTrue file fault = (own : VersionsFault) × (fault ≡ Versions own) × I
 first_of_versions : (file : ObjectFile) (fault : FileFault) → FirstIn file version_subjects fault → VersionsTrue file fault
 first_of_versions file fault (inl t) =
     let chosen = version_sections file.sections in
-    (t.0, t.1, some_map (λ s. IsSomeAnd chosen.needs (λ n. IsTrueOfNeeds file n t.0)) (λ s. IsTrueOfVersionsOf file chosen s t.0) chosen.indexes (λ s. needs_true file chosen s t.0) t.2)
-first_of_versions file fault (inr (sound, inl t)) =
+    (t.0, t.1, some_map (λ s. IsSomeAnd chosen.needs (λ n. IsTrueOfNeeds file n t.0)) (λ s. IsTrueOfVersionsOf file chosen s t.0) chosen.indexes (λ s bad. inl bad) t.2)
+first_of_versions file fault (inr (needs, inl t)) =
     let chosen = version_sections file.sections in
-    (t.0, t.1, some_map (λ s. IsSomeAnd chosen.definitions (λ d. IsTrueOfDefs file d t.0)) (λ s. IsTrueOfVersionsOf file chosen s t.0) chosen.indexes (λ s. definitions_true file chosen s t.0) t.2)
-first_of_versions file fault (inr (sound, inr (sound', inl t))) =
+    let N : SectionHeader → Type 0 = λ s. IfSome chosen.needs (SoundNeedsOf file) in
+    (t.0, t.1, some_both N (λ s. IsSomeAnd chosen.definitions (λ d. IsTrueOfDefs file d t.0)) (λ s. IsTrueOfVersionsOf file chosen s t.0) chosen.indexes (λ s sound bad. inr (inl (sound, bad))) needs t.2)
+first_of_versions file fault (inr (needs, inr (definitions, inl t))) =
     let chosen = version_sections file.sections in
-    (t.0, t.1, some_map (λ s. IsTrueOfIndexSection file chosen s t.0) (λ s. IsTrueOfVersionsOf file chosen s t.0) chosen.indexes (λ s. indexes_true file chosen s t.0) t.2)
-first_of_versions file fault (inr (sound, inr (sound', inr none))) = absurd none.1
+    let N : SectionHeader → Type 0 = λ s. IfSome chosen.needs (SoundNeedsOf file) in
+    let D : SectionHeader → Type 0 = λ s. IfSome chosen.definitions (SoundDefsOf file) in
+    (t.0, t.1, some_both (λ s. N s × D s) (λ s. IsTrueOfIndexSection file chosen s t.0) (λ s. IsTrueOfVersionsOf file chosen s t.0) chosen.indexes (λ s known bad. inr (inr (known, bad))) (both_if N D chosen.indexes needs definitions) t.2)
+first_of_versions file fault (inr (needs, inr (definitions, inr none))) = absurd none.1
 
 -- ---- the segments
 

@@ -25,3 +25,4 @@ pub mod Adding
 pub mod SoundSubjects
 pub mod FirstOfAll
 pub mod Plans
+pub mod Kept

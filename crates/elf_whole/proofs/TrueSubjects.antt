@@ -10,20 +10,17 @@ use Rattle.elf_reading.specs.declared.versions.VersionSections.{VersionSections}
 use Rattle.elf.specs.Data.{section_data}
 use Rattle.elf.specs.Names.{name_table}
 use Rattle.elf.specs.ObjectFile.{ObjectFile}
-use Rattle.elf.specs.Versions.{versions_of}
 use Rattle.elf_whole.specs.AllFaults.{Definitions, Indexes, IsFaultOfSubject, IsTrueByItself, LoadOrder, Needs, PhdrFirst, SectionAt, SectionNames, SegmentAt, SingleDynamic, SingleInterp, SinglePhdr, SingleTls, SingleType, SoundByItself, SoundSubject, Subject}
 use Rattle.elf_whole.specs.Sections.{IsTrueOfSection, IsTrueOfUnnamed, SoundSection, SoundUnnamed, is_repeated}
 use Rattle.elf_whole.specs.Segments.{SoundSegment, pt_interp, pt_phdr, pt_tls}
 use Rattle.elf_whole.specs.SegmentsFaults.{IsTrueOfSegment}
-use Rattle.elf_whole.specs.versions.InFile.{IsTrueOfDefs, IsTrueOfIndexSection, IsTrueOfIndexes, IsTrueOfNeeds, SoundDefsOf, SoundIndexSection, SoundIndexesOf, SoundNeedsOf}
+use Rattle.elf_whole.specs.versions.InFile.{IsTrueOfDefs, IsTrueOfIndexSection, IsTrueOfNeeds, SoundDefsOf, SoundIndexSection, SoundNeedsOf}
 use Rattle.elf_whole.specs.declared.faults.FileFault.{FileFault}
 use Rattle.elf_whole.specs.declared.faults.SectionFault.{SectionFault}
 use Rattle.elf_whole.specs.declared.faults.SectionFault.TheVariants.{Compressed, Dynamic, Hash, NoBytes, NoLastNul, NoName, NoNote, Relocations, Symbols}
-use Rattle.elf_whole.specs.declared.faults.VersionsFault.{VersionsFault}
-use Rattle.elf_whole.specs.declared.faults.VersionsFault.TheVariants.{IndexesUnreadable, PartOfIndex}
 use Rattle.elf_whole.proofs.SegmentsVerdicts.{not_both, true_overlap, true_pair, true_segment}
 use Rattle.elf_whole.proofs.Verdicts.{ok_not_err, true_content, true_section}
-use Rattle.elf_whole.proofs.VersionFaults.{and_not_err, both_and, both_some, true_defs, true_indexes, true_needs}
+use Rattle.elf_whole.proofs.VersionFaults.{both_some, true_defs, true_index_section, true_needs}
 
 -- ---- a section
 
@@ -48,14 +45,6 @@ true_by_itself file s fault t sound = by_names file s fault (result_ok (name_tab
 true_at : {A E : Type 0} (P Q : A → Type 0) (r : Result A E) → IsOkAnd r P → IfOk r Q → ((x : A) → P x → Q x → ⊥) → ⊥
 true_at P Q (Ok x) p q none = none x p q
 true_at P Q (Err e) p q none = p
-
--- ---- the versions
-
-true_index_section : (file : ObjectFile) (chosen : VersionSections) (s : SectionHeader) (fault : VersionsFault) → SoundIndexSection file chosen s → IsTrueOfIndexSection file chosen s fault → ⊥
-true_index_section file chosen s PartOfIndex sound t = t sound.whole
-true_index_section file chosen s IndexesUnreadable sound t = and_not_err (SoundIndexesOf file) (versions_of file chosen s) (sound.indexes t.1) t.2
-true_index_section file chosen s fault sound t =
-    both_and (SoundIndexesOf file) (λ v. IsTrueOfIndexes file v fault) (versions_of file chosen s) (sound.indexes t.1) t.2 (λ v. true_indexes file v fault)
 
 -- ---- a subject
 

@@ -110,14 +110,14 @@ true_symbol : (sections : ℕ) (strings : List ℕ) (symbol : Symbol) (fault : S
 true_symbol sections strings symbol (NoName name) t sound =
     ok_not_err (string_at strings name) (subst (λ (n : ℕ). IsOk (string_at strings n)) t.0 sound.name) t.1
 true_symbol sections strings symbol (NoSection section) t sound =
-    let below : section < shn_loreserve → section < sections = subst (λ (n : ℕ). n < shn_loreserve → n < sections) t.0 sound.section in
-    absurd (omega (arith, below t.1, t.2))
+    let below : section < shn_loreserve → section < sections = subst (λ (n : ℕ). n < shn_loreserve → n < sections) t.1 sound.section in
+    absurd (omega (arith, below t.2, t.3))
 
 module _ {R : Type 0} (reads : RecordType R) (symbol_of : R → ℕ) where
   true_table : (symbols : ℕ) (t : Table) (fault : RelocationsFault) → IsTrueOfTable reads symbol_of symbols t fault → SoundRelocationTable reads symbol_of symbols t → ⊥
   true_table symbols t PartOfRelocation true sound = true sound.whole
   true_table symbols t (NoSymbol i symbol) true sound =
-      no_first (table_get reads t) (λ r. symbol_of r < symbols) (NamesNone reads symbol_of symbols) i symbol (λ r past below. absurd (omega (arith, past.0, past.1, below))) true sound.named
+      no_first (table_get reads t) (λ r. symbol_of r < symbols) (NamesNone reads symbol_of symbols) i symbol (λ r past below. absurd (omega (arith, past.0, past.1, below))) true.1 sound.named
   true_table symbols t EntrySize true sound = true
   true_table symbols t NoLink true sound = true
 
@@ -129,25 +129,25 @@ module _ {R : Type 0} (reads : RecordType R) (symbol_of : R → ℕ) where
 
   pub true_relocations : (file : ObjectFile) (s : SectionHeader) (fault : RelocationsFault) → IsTrueOfRelocations reads symbol_of file s fault → SoundRelocations reads symbol_of file s → ⊥
   true_relocations file s EntrySize true sound = true sound.size
-  true_relocations file s NoLink true sound = none_and (symbols_to_name file s) _ true sound.table
-  true_relocations file s PartOfRelocation true sound = both_there file s PartOfRelocation sound true
-  true_relocations file s (NoSymbol i symbol) true sound = both_there file s (NoSymbol i symbol) sound true
+  true_relocations file s NoLink true sound = none_and (symbols_to_name file s) _ true.1 sound.table
+  true_relocations file s PartOfRelocation true sound = both_there file s PartOfRelocation sound true.1
+  true_relocations file s (NoSymbol i symbol) true sound = both_there file s (NoSymbol i symbol) sound true.1
 
 true_hash : (kind : HashKind) (file : ObjectFile) (s : SectionHeader) (fault : HashSectionFault) → IsTrueOfHash kind file s fault → SoundHash kind file s → ⊥
 true_hash kind file s NotLinked true sound =
     true (weaker (λ linked. IsTrue (holds_symbols linked) × IsOkAnd (hash_object kind file s linked) IsSound) (λ linked. IsTrue (holds_symbols linked)) (file.section_at s.sh_link) (λ linked h. h.0) sound)
 true_hash kind file s NoTable true sound =
-    both_and (λ linked. IsTrue (holds_symbols linked) × IsOkAnd (hash_object kind file s linked) IsSound) (λ linked. IsErr (hash_object kind file s linked)) (file.section_at s.sh_link) sound true
-    (λ linked e h err. and_not_err IsSound (hash_object kind file s linked) h.1 err)
+    both_and (λ linked. IsTrue (holds_symbols linked) × IsOkAnd (hash_object kind file s linked) IsSound) (λ linked. IsTrue (holds_symbols linked) × IsErr (hash_object kind file s linked)) (file.section_at s.sh_link) sound true
+    (λ linked e h err. and_not_err IsSound (hash_object kind file s linked) h.1 err.1)
 true_hash kind file s (Unsound fault) true sound =
-    both_and (λ linked. IsTrue (holds_symbols linked) × IsOkAnd (hash_object kind file s linked) IsSound) (λ linked. IsOkAnd (hash_object kind file s linked) (λ object. (¬ IsSound object) × IsTrueOfObject object fault)) (file.section_at s.sh_link) sound true
-    (λ linked e h bad. both_and IsSound (λ object. (¬ IsSound object) × IsTrueOfObject object fault) (hash_object kind file s linked) h.1 bad (λ object d is not. not.0 is))
+    both_and (λ linked. IsTrue (holds_symbols linked) × IsOkAnd (hash_object kind file s linked) IsSound) (λ linked. IsTrue (holds_symbols linked) × IsOkAnd (hash_object kind file s linked) (λ object. (¬ IsSound object) × IsTrueOfObject object fault)) (file.section_at s.sh_link) sound true
+    (λ linked e h bad. both_and IsSound (λ object. (¬ IsSound object) × IsTrueOfObject object fault) (hash_object kind file s linked) h.1 bad.1 (λ object d is not. not.0 is))
 
 true_entries : (strings : List ℕ) (t : Table) (fault : DynamicFault) → IsTrueOfEntries strings t fault → SoundEntries strings t → ⊥
 true_entries strings t PartOfEntry true sound = true sound.whole
-true_entries strings t NoNull true sound = true sound.ends
+true_entries strings t NoNull true sound = true.1 sound.ends
 true_entries strings t (NoString i) true sound =
-    one_fails (has_its_string strings) (before_null (table_items dyn_reads t)) i true sound.read
+    one_fails (has_its_string strings) (before_null (table_items dyn_reads t)) i true.2 sound.read
 true_entries strings t EntrySizeOfDynamic true sound = true
 true_entries strings t NotLinkedOfDynamic true sound = true
 true_entries strings t NoStrings true sound = true
@@ -165,11 +165,11 @@ no_strings file s sound none =
 
 true_dynamic : (file : ObjectFile) (s : SectionHeader) (fault : DynamicFault) → IsTrueOfDynamic file s fault → SoundDynamic file s → ⊥
 true_dynamic file s EntrySizeOfDynamic true sound = true sound.size
-true_dynamic file s NotLinkedOfDynamic true sound = true sound.linked
-true_dynamic file s NoStrings true sound = no_strings file s sound true
-true_dynamic file s PartOfEntry true sound = both_entries file s PartOfEntry sound true
-true_dynamic file s NoNull true sound = both_entries file s NoNull sound true
-true_dynamic file s (NoString i) true sound = both_entries file s (NoString i) sound true
+true_dynamic file s NotLinkedOfDynamic true sound = true.1 sound.linked
+true_dynamic file s NoStrings true sound = no_strings file s sound true.2
+true_dynamic file s PartOfEntry true sound = both_entries file s PartOfEntry sound true.2
+true_dynamic file s NoNull true sound = both_entries file s NoNull sound true.2
+true_dynamic file s (NoString i) true sound = both_entries file s (NoString i) sound true.2
 
 true_symbols : (file : ObjectFile) (s : SectionHeader) (fault : SymbolsFault) → IsTrueOfSymbols file s fault → SoundSymbols file s → ⊥
 true_symbols file s BadLink t sound =
@@ -177,11 +177,11 @@ true_symbols file s BadLink t sound =
 true_symbols file s LinkedToNoStrings t sound =
     both_and (λ pair. pair.1.sh_type ≡ sht_strtab) (λ pair. pair.1.sh_type ≢ sht_strtab) (with_linked file s) sound.linked t (λ pair e is not. not is)
 true_symbols file s NoSymbols t sound =
-    and_not_err (λ (f : Table × List ℕ). SoundSymbolTable (length file.sections) f.0 f.1) (symbols_of file s) sound.symbols t
-true_symbols file s PartOfSymbol t sound = t sound.whole
+    and_not_err (λ (f : Table × List ℕ). SoundSymbolTable (length file.sections) f.0 f.1) (symbols_of file s) sound.symbols t.2
+true_symbols file s PartOfSymbol t sound = t.1 sound.whole
 true_symbols file s (At i fault) t sound =
     let n = length file.sections in
-    both_and (λ (f : Table × List ℕ). SoundSymbolTable n f.0 f.1) (λ found. IsFirstFault (symbol_at found.0) (SoundSymbol n found.1) (IsTrueOfSymbol n found.1) i fault) (symbols_of file s) sound.symbols t
+    both_and (λ (f : Table × List ℕ). SoundSymbolTable n f.0 f.1) (λ found. IsFirstFault (symbol_at found.0) (SoundSymbol n found.1) (IsTrueOfSymbol n found.1) i fault) (symbols_of file s) sound.symbols t.2
     (λ found e all first. no_first (symbol_at found.0) (SoundSymbol n found.1) (IsTrueOfSymbol n found.1) i fault (λ x. true_symbol n found.1 x fault) first all)
 
 pub true_content : (file : ObjectFile) (s : SectionHeader) (fault : SectionFault) → IsTrueOfContent file s fault → SoundContent file s → ⊥

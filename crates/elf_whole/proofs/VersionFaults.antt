@@ -1,5 +1,5 @@
 -- A fault of versions that is true means that the versions are not sound; and what is read of versions that are.
-use Rattle.std.proofs.Common.{◌≡◌, ◌≢◌, ◌↔◌, ℕ, ◌<◌, ◌%◌, ◌^◌, length, Option, Some, None, Result, Ok, Err, MatchOption, refl, ap, sym, ◌∙◌, subst, arith}
+use Rattle.std.proofs.Common.{◌≡◌, ◌≢◌, ◌↔◌, ℕ, ◌<◌, ◌≤◌, ◌%◌, ◌^◌, length, Option, Some, None, Result, Ok, Err, MatchOption, refl, ap, sym, ◌∙◌, subst, inl, inr, arith}
 use Rattle.std.specs.Option.{IfSome, IsSome, IsSomeAnd}
 use Rattle.std.specs.Result.{IsErr, IsOk, IsOkAnd}
 use Rattle.elf_records.specs.Number.{ok_map}
@@ -45,22 +45,7 @@ read_versions file chosen s v same here e =
     let one : k.0 ≡ v = cc k.2 in
     k.1 ∙ ap Ok one
 
-pub all_parts : (file : ObjectFile) (chosen : VersionSections) (s : SectionHeader) (v : Versions) (r : Option VersionsFault) → IfSome chosen.needs (SoundNeedsOf file) → IfSome chosen.definitions (SoundDefsOf file) → s.sh_size % version_index_reads.size file.class ≡ 0 → versions_of file chosen s ≡ Ok v → MatchOption r (SoundIndexesOf file v) (IsTrueOfIndexes file v) → MatchOption r (SoundVersionsOf file chosen s) (IsTrueOfVersionsOf file chosen s)
-all_parts file chosen s v None needs defs whole e h =
-    record { needs = needs; definitions = defs; whole = whole; indexes = ok_and (SoundIndexesOf file) (versions_of file chosen s) v e h }
-all_parts file chosen s v (Some NoDynamicSymbols) needs defs whole e h = ok_and (λ x. IsTrueOfIndexes file x NoDynamicSymbols) (versions_of file chosen s) v e h
-all_parts file chosen s v (Some CountOfIndexes) needs defs whole e h = ok_and (λ x. IsTrueOfIndexes file x CountOfIndexes) (versions_of file chosen s) v e h
-all_parts file chosen s v (Some (UnknownIndex i)) needs defs whole e h = ok_and (λ x. IsTrueOfIndexes file x (UnknownIndex i)) (versions_of file chosen s) v e h
-all_parts file chosen s v (Some NeedsUnreadable) needs defs whole e h = absurd h
-all_parts file chosen s v (Some NeedsTooLong) needs defs whole e h = absurd h
-all_parts file chosen s v (Some DefinitionsTooLong) needs defs whole e h = absurd h
-all_parts file chosen s v (Some (FaultyNeeds f)) needs defs whole e h = absurd h
-all_parts file chosen s v (Some DefinitionsUnreadable) needs defs whole e h = absurd h
-all_parts file chosen s v (Some (FaultyDefinitions f)) needs defs whole e h = absurd h
-all_parts file chosen s v (Some PartOfIndex) needs defs whole e h = absurd h
-all_parts file chosen s v (Some IndexesUnreadable) needs defs whole e h = absurd h
-
--- the same of the section of indexes alone
+-- of the section of indexes alone
 pub index_section : (file : ObjectFile) (chosen : VersionSections) (s : SectionHeader) (v : Versions) (r : Option VersionsFault) → KnowsVersions file chosen → s.sh_size % version_index_reads.size file.class ≡ 0 → versions_of file chosen s ≡ Ok v → MatchOption r (SoundIndexesOf file v) (IsTrueOfIndexes file v) → MatchOption r (SoundIndexSection file chosen s) (IsTrueOfIndexSection file chosen s)
 index_section file chosen s v None known whole e h =
     record { whole = whole; indexes = λ k. ok_and (SoundIndexesOf file) (versions_of file chosen s) v e h }
@@ -75,6 +60,13 @@ index_section file chosen s v (Some DefinitionsUnreadable) known whole e h = abs
 index_section file chosen s v (Some (FaultyDefinitions f)) known whole e h = absurd h
 index_section file chosen s v (Some PartOfIndex) known whole e h = absurd h
 index_section file chosen s v (Some IndexesUnreadable) known whole e h = absurd h
+
+-- the same after the needs and the definitions
+pub all_parts : (file : ObjectFile) (chosen : VersionSections) (s : SectionHeader) (v : Versions) (r : Option VersionsFault) → KnowsVersions file chosen → s.sh_size % version_index_reads.size file.class ≡ 0 → versions_of file chosen s ≡ Ok v → MatchOption r (SoundIndexesOf file v) (IsTrueOfIndexes file v) → MatchOption r (SoundVersionsOf file chosen s) (IsTrueOfVersionsOf file chosen s)
+all_parts file chosen s v None known whole e h =
+    record { needs = known.0; definitions = known.1; whole = whole; indexes = ok_and (SoundIndexesOf file) (versions_of file chosen s) v e h }
+all_parts file chosen s v (Some fault) known whole e h =
+    inr (inr (known, index_section file chosen s v (Some fault) known whole e h))
 
 -- ---- a true fault
 
@@ -102,8 +94,8 @@ not_some P (Err e) h = h
 pub true_needs : (file : ObjectFile) (s : SectionHeader) (fault : VersionsFault) → SoundNeedsOf file s → IsTrueOfNeeds file s fault → ⊥
 true_needs file s NeedsUnreadable sound t = and_not_err _ (with_strings file s) sound t
 true_needs file s (FaultyNeeds fault) sound t =
-    both_and (λ found. SoundNeeds found.1 (table_of file found.0) s.sh_info) (λ found. IsTrueOfChain (λ x. x.vn_next) (SoundNeed found.1 (table_of file found.0)) s.sh_info (need_links (table_of file found.0) s.sh_info) fault) (with_strings file s) sound t
-    (λ found is not. true_chain (λ x. x.vn_next) (SoundNeed found.1 (table_of file found.0)) s.sh_info (need_links (table_of file found.0) s.sh_info) fault not is.chain)
+    both_and (λ found. SoundNeeds found.1 (table_of file found.0) s.sh_info) (λ found. (total_extent need_extent (need_links (table_of file found.0) s.sh_info) ≤ length found.0) × IsTrueOfChain (λ x. x.vn_next) (SoundNeed found.1 (table_of file found.0)) s.sh_info (need_links (table_of file found.0) s.sh_info) fault) (with_strings file s) sound t
+    (λ found is not. true_chain (λ x. x.vn_next) (SoundNeed found.1 (table_of file found.0)) s.sh_info (need_links (table_of file found.0) s.sh_info) fault not.1 is.chain)
 true_needs file s NeedsTooLong sound t =
     both_and (λ found. SoundNeeds found.1 (table_of file found.0) s.sh_info) (λ found. length found.0 < total_extent need_extent (need_links (table_of file found.0) s.sh_info)) (with_strings file s) sound t
     (λ found is not. let fit = is.fit in absurd (omega (arith, fit, not)))
@@ -123,8 +115,8 @@ true_defs file s DefinitionsTooLong sound t =
     (λ found is not. let fit = is.fit in absurd (omega (arith, fit, not)))
 true_defs file s NeedsTooLong sound t = t
 true_defs file s (FaultyDefinitions fault) sound t =
-    both_and (λ found. SoundDefs found.1 (table_of file found.0) s.sh_info) (λ found. IsTrueOfChain (λ x. x.vd_next) (SoundDef found.1 (table_of file found.0)) s.sh_info (def_links (table_of file found.0) s.sh_info) fault) (with_strings file s) sound t
-    (λ found is not. true_chain (λ x. x.vd_next) (SoundDef found.1 (table_of file found.0)) s.sh_info (def_links (table_of file found.0) s.sh_info) fault not is.chain)
+    both_and (λ found. SoundDefs found.1 (table_of file found.0) s.sh_info) (λ found. (total_extent def_extent (def_links (table_of file found.0) s.sh_info) ≤ length found.0) × IsTrueOfChain (λ x. x.vd_next) (SoundDef found.1 (table_of file found.0)) s.sh_info (def_links (table_of file found.0) s.sh_info) fault) (with_strings file s) sound t
+    (λ found is not. true_chain (λ x. x.vd_next) (SoundDef found.1 (table_of file found.0)) s.sh_info (def_links (table_of file found.0) s.sh_info) fault not.1 is.chain)
 true_defs file s NeedsUnreadable sound t = t
 true_defs file s (FaultyNeeds f) sound t = t
 true_defs file s PartOfIndex sound t = t
@@ -142,7 +134,7 @@ true_indexes file v NoDynamicSymbols sound t = t (not_some _ (dynamic_symbol_tab
 true_indexes file v CountOfIndexes sound t =
     both_and (λ found. IsSomeAnd found (λ symbols. table_len symbol_reads symbols.0 ≡ table_len version_index_reads v.indexes)) (λ found. IsSomeAnd found (λ symbols. table_len symbol_reads symbols.0 ≢ table_len version_index_reads v.indexes)) (dynamic_symbol_table file) sound.many t
     (λ found is not. both_there (λ symbols. table_len symbol_reads symbols.0 ≡ table_len version_index_reads v.indexes) (λ symbols. table_len symbol_reads symbols.0 ≢ table_len version_index_reads v.indexes) found is not (λ x same other. other same))
-true_indexes file v (UnknownIndex i) sound t = known_here v i (index_of v i) refl sound.known t.here
+true_indexes file v (UnknownIndex i) sound t = known_here v i (index_of v i) refl sound.known t.1.here
 true_indexes file v NeedsUnreadable sound t = t
 true_indexes file v NeedsTooLong sound t = t
 true_indexes file v DefinitionsTooLong sound t = t
@@ -152,22 +144,19 @@ true_indexes file v (FaultyDefinitions f) sound t = t
 true_indexes file v PartOfIndex sound t = t
 true_indexes file v IndexesUnreadable sound t = t
 
-of_indexes : (file : ObjectFile) (chosen : VersionSections) (s : SectionHeader) (fault : VersionsFault) → SoundVersionsOf file chosen s → IsOkAnd (versions_of file chosen s) (λ v. IsTrueOfIndexes file v fault) → ⊥
-of_indexes file chosen s fault sound t =
-    both_and (SoundIndexesOf file) (λ v. IsTrueOfIndexes file v fault) (versions_of file chosen s) sound.indexes t (λ v is not. true_indexes file v fault is not)
+pub true_index_section : (file : ObjectFile) (chosen : VersionSections) (s : SectionHeader) (fault : VersionsFault) → SoundIndexSection file chosen s → IsTrueOfIndexSection file chosen s fault → ⊥
+true_index_section file chosen s PartOfIndex sound t = t sound.whole
+true_index_section file chosen s IndexesUnreadable sound t = and_not_err (SoundIndexesOf file) (versions_of file chosen s) (sound.indexes t.1) t.2
+true_index_section file chosen s fault sound t =
+    both_and (SoundIndexesOf file) (λ v. IsTrueOfIndexes file v fault) (versions_of file chosen s) (sound.indexes t.1) t.2 (λ v. true_indexes file v fault)
 
 true_of : (file : ObjectFile) (chosen : VersionSections) (s : SectionHeader) (fault : VersionsFault) → SoundVersionsOf file chosen s → IsTrueOfVersionsOf file chosen s fault → ⊥
-true_of file chosen s NeedsUnreadable sound t = both_some (SoundNeedsOf file) (λ n. IsTrueOfNeeds file n NeedsUnreadable) chosen.needs sound.needs t (λ n is not. true_needs file n NeedsUnreadable is not)
-true_of file chosen s (FaultyNeeds f) sound t = both_some (SoundNeedsOf file) (λ n. IsTrueOfNeeds file n (FaultyNeeds f)) chosen.needs sound.needs t (λ n is not. true_needs file n (FaultyNeeds f) is not)
-true_of file chosen s DefinitionsUnreadable sound t = both_some (SoundDefsOf file) (λ n. IsTrueOfDefs file n DefinitionsUnreadable) chosen.definitions sound.definitions t (λ n is not. true_defs file n DefinitionsUnreadable is not)
-true_of file chosen s (FaultyDefinitions f) sound t = both_some (SoundDefsOf file) (λ n. IsTrueOfDefs file n (FaultyDefinitions f)) chosen.definitions sound.definitions t (λ n is not. true_defs file n (FaultyDefinitions f) is not)
-true_of file chosen s NeedsTooLong sound t = both_some (SoundNeedsOf file) (λ n. IsTrueOfNeeds file n NeedsTooLong) chosen.needs sound.needs t (λ n is not. true_needs file n NeedsTooLong is not)
-true_of file chosen s DefinitionsTooLong sound t = both_some (SoundDefsOf file) (λ n. IsTrueOfDefs file n DefinitionsTooLong) chosen.definitions sound.definitions t (λ n is not. true_defs file n DefinitionsTooLong is not)
-true_of file chosen s PartOfIndex sound t = t sound.whole
-true_of file chosen s IndexesUnreadable sound t = and_not_err (SoundIndexesOf file) (versions_of file chosen s) sound.indexes t
-true_of file chosen s NoDynamicSymbols sound t = of_indexes file chosen s NoDynamicSymbols sound t
-true_of file chosen s CountOfIndexes sound t = of_indexes file chosen s CountOfIndexes sound t
-true_of file chosen s (UnknownIndex i) sound t = of_indexes file chosen s (UnknownIndex i) sound t
+true_of file chosen s fault sound (inl t) =
+    both_some (SoundNeedsOf file) (λ n. IsTrueOfNeeds file n fault) chosen.needs sound.needs t (λ n. true_needs file n fault)
+true_of file chosen s fault sound (inr (inl t)) =
+    both_some (SoundDefsOf file) (λ d. IsTrueOfDefs file d fault) chosen.definitions sound.definitions t.1 (λ d. true_defs file d fault)
+true_of file chosen s fault sound (inr (inr t)) =
+    true_index_section file chosen s fault (record { whole = sound.whole; indexes = λ known. sound.indexes }) t.1
 
 pub true_versions : (file : ObjectFile) (fault : VersionsFault) → IsTrueOfVersions file fault → SoundVersions file → ⊥
 true_versions file fault t sound =

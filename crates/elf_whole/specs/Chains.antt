@@ -22,8 +22,12 @@ module _ {A : Type 0} (distance : A → ℕ) (IsSound : ℕ × A → Type 0) whe
     pub ends : last_distance distance 0 list ≡ 0
     pub each : AllByRecursion IsSound list
 
+  -- The faults, in the order in which they are looked for: each record, then their number, then that the last one is
+  -- the last. Each case says that those before it are not there.
   abbrev pub IsTrueOfChain : ℕ → List (ℕ × A) → ChainFault → Type 0
-  IsTrueOfChain count list (Short found) = (length list ≡ found) × (found < count)
-  IsTrueOfChain count list NotLast = last_distance distance 0 list ≢ 0
   IsTrueOfChain count list (At index) =
       IsSomeAnd (slice_get list index) (λ link. ¬ IsSound link) × AllByRecursion IsSound (take index list)
+  IsTrueOfChain count list (Short found) =
+      AllByRecursion IsSound list × (length list ≡ found) × (found < count)
+  IsTrueOfChain count list NotLast =
+      AllByRecursion IsSound list × (length list ≡ count) × (last_distance distance 0 list ≢ 0)

@@ -1,5 +1,5 @@
 -- When dynamic entries are sound (gABI, chapter "Dynamic Section").
-use Rattle.std.specs.Prelude.{◌≡◌, ◌≢◌, ℕ, ◌%◌, ◌||◌, Bool, not, if◌then◌else◌, List, length, map, Option, Some, None}
+use Rattle.std.specs.Prelude.{◌≡◌, ℕ, ◌%◌, ◌||◌, Bool, not, if◌then◌else◌, List, length, map, Option, Some, None}
 use Rattle.std.specs.Prelude.{Result, Ok, IsTrue, is_ok}
 use Rattle.std.specs.List.{list_all, list_any, position, take_while}
 use Rattle.std.specs.Result.{IsErr, IsOkAnd, result_ok}
@@ -32,10 +32,18 @@ names_string entry =
 abbrev pub has_its_string : List ℕ → Dyn → Bool
 has_its_string strings entry = not (names_string entry) || is_ok (string_at strings (d_un_view entry))
 
--- There is a whole number of entries. One has the tag DT_NULL, and each one before it has its string.
+-- the bytes are a whole number of entries
+abbrev pub IsWhole : Table → Type 0
+IsWhole t = length t.bytes % size_by dyn_layout t.class ≡ 0
+
+-- one of the entries has the tag DT_NULL
+abbrev pub HasNull : Table → Type 0
+HasNull t = IsTrue (list_any (has_tag dt_null) (table_items dyn_reads t))
+
+-- there is a whole number of entries, one has the tag DT_NULL, and each one before it has its string
 pub record SoundEntries (strings : List ℕ) (t : Table) : Type 0 where
-  pub whole : length t.bytes % size_by dyn_layout t.class ≡ 0
-  pub ends : IsTrue (list_any (has_tag dt_null) (table_items dyn_reads t))
+  pub whole : IsWhole t
+  pub ends : HasNull t
   pub read : IsTrue (list_all (has_its_string strings) (before_null (table_items dyn_reads t)))
 
 -- the string that an entry names, if it names one
@@ -48,10 +56,18 @@ entries_with_strings strings entries = map (λ entry. (entry, string_of strings 
 
 -- ---- sections
 
--- the section has the entry size of dynamic entries, is linked to strings, and its entries are sound
+-- the section has the entry size of dynamic entries
+abbrev pub HasEntrySize : ObjectFile → SectionHeader → Type 0
+HasEntrySize file s = s.sh_entsize ≡ size_by dyn_layout file.class
+
+-- it is linked to strings
+abbrev pub LinksToStrings : ObjectFile → SectionHeader → Type 0
+LinksToStrings file s = IsOkAnd (file.section_at s.sh_link) (λ linked. linked.sh_type ≡ sht_strtab)
+
+-- so it is, and its entries are sound
 pub record SoundDynamic (file : ObjectFile) (s : SectionHeader) : Type 0 where
-  pub size : s.sh_entsize ≡ size_by dyn_layout file.class
-  pub linked : IsOkAnd (file.section_at s.sh_link) (λ linked. linked.sh_type ≡ sht_strtab)
+  pub size : HasEntrySize file s
+  pub linked : LinksToStrings file s
   pub entries : IsOkAnd (content file s) (λ bytes. IsOkAnd (linked_strings file s) (λ strings.
       SoundEntries strings (table_of file bytes)))
 
@@ -61,25 +77,23 @@ dynamic_entries file s =
     content file s >>= λ bytes. linked_strings file s >>= λ strings.
     Ok (entries_with_strings strings (before_null (table_items dyn_reads (table_of file bytes))))
 
--- ---- faults
+-- ---- faults, in the order in which they are looked for: each case says that those before it are not there
 
+-- of entries: whether they are whole, whether they end, and then their strings
 abbrev pub IsTrueOfEntries : List ℕ → Table → DynamicFault → Type 0
-IsTrueOfEntries strings t PartOfEntry = length t.bytes % size_by dyn_layout t.class ≢ 0
-IsTrueOfEntries strings t NoNull = ¬ IsTrue (list_any (has_tag dt_null) (table_items dyn_reads t))
+IsTrueOfEntries strings t PartOfEntry = ¬ IsWhole t
+IsTrueOfEntries strings t NoNull = IsWhole t × (¬ HasNull t)
 IsTrueOfEntries strings t (NoString index) =
-    position (λ entry. not (has_its_string strings entry)) (before_null (table_items dyn_reads t)) ≡ Some index
+    IsWhole t × HasNull t
+    × (position (λ entry. not (has_its_string strings entry)) (before_null (table_items dyn_reads t)) ≡ Some index)
 IsTrueOfEntries strings t fault = ⊥
 
+-- of a section: its entry size, its link, the bytes of the strings, and then its entries
 abbrev pub IsTrueOfDynamic : ObjectFile → SectionHeader → DynamicFault → Type 0
-IsTrueOfDynamic file s EntrySize = s.sh_entsize ≢ size_by dyn_layout file.class
-IsTrueOfDynamic file s NotLinked = ¬ IsOkAnd (file.section_at s.sh_link) (λ linked. linked.sh_type ≡ sht_strtab)
-IsTrueOfDynamic file s NoStrings = IsErr (linked_strings file s)
-IsTrueOfDynamic file s PartOfEntry =
-    IsOkAnd (content file s) (λ bytes. IsOkAnd (linked_strings file s) (λ strings.
-    IsTrueOfEntries strings (table_of file bytes) PartOfEntry))
-IsTrueOfDynamic file s NoNull =
-    IsOkAnd (content file s) (λ bytes. IsOkAnd (linked_strings file s) (λ strings.
-    IsTrueOfEntries strings (table_of file bytes) NoNull))
-IsTrueOfDynamic file s (NoString index) =
-    IsOkAnd (content file s) (λ bytes. IsOkAnd (linked_strings file s) (λ strings.
-    IsTrueOfEntries strings (table_of file bytes) (NoString index)))
+IsTrueOfDynamic file s EntrySize = ¬ HasEntrySize file s
+IsTrueOfDynamic file s NotLinked = HasEntrySize file s × (¬ LinksToStrings file s)
+IsTrueOfDynamic file s NoStrings = HasEntrySize file s × LinksToStrings file s × IsErr (linked_strings file s)
+IsTrueOfDynamic file s fault =
+    HasEntrySize file s × LinksToStrings file s
+    × IsOkAnd (content file s) (λ bytes. IsOkAnd (linked_strings file s) (λ strings.
+    IsTrueOfEntries strings (table_of file bytes) fault))

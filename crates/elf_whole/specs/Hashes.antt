@@ -47,12 +47,15 @@ look_up_section file =
 abbrev pub IsObjectOfSection : ObjectFile → SectionHeader → Object → Type 0
 IsObjectOfSection file s object = IsSomeAnd (hash_kind s) (λ kind. IsObjectOf kind file s object)
 
--- ---- faults
+-- ---- faults, in the order in which they are looked for: each case says that those before it are not there
 
+-- of a section: its link, then whether it holds a table, and then the table
 abbrev pub IsTrueOfHash : HashKind → ObjectFile → SectionHeader → HashSectionFault → Type 0
 IsTrueOfHash kind file s NotLinked = ¬ IsOkAnd (file.section_at s.sh_link) (λ linked. IsTrue (holds_symbols linked))
-IsTrueOfHash kind file s NoTable = IsOkAnd (file.section_at s.sh_link) (λ linked. IsErr (hash_object kind file s
-    linked))
+IsTrueOfHash kind file s NoTable =
+    IsOkAnd (file.section_at s.sh_link) (λ linked.
+    IsTrue (holds_symbols linked) × IsErr (hash_object kind file s linked))
 IsTrueOfHash kind file s (Unsound fault) =
-    IsOkAnd (file.section_at s.sh_link) (λ linked. IsOkAnd (hash_object kind file s linked) (λ object.
+    IsOkAnd (file.section_at s.sh_link) (λ linked.
+    IsTrue (holds_symbols linked) × IsOkAnd (hash_object kind file s linked) (λ object.
     (¬ IsSound object) × IsTrueOfObject object fault))

@@ -92,26 +92,26 @@ module _ {R : Type 0} (reads : RecordType R) (symbol_of : R → ℕ) where
     pub table : IsSomeAnd (symbols_to_name file s) (λ symbols. IsOkAnd (content file s) (λ bytes.
         SoundRelocationTable symbols (table_of file bytes)))
 
-  -- ---- faults
+  -- ---- faults, in the order in which they are looked for: each case says that those before it are not there
 
   -- of a relocation with this number of symbols to name: it names another one
   abbrev pub NamesNone : ℕ → R → ℕ → Type 0
   NamesNone symbols r symbol = (symbol_of r ≡ symbol) × (symbols ≤ symbol)
 
-  -- of the relocations of a section with this number of symbols to name
+  -- of the relocations of a section with this number of symbols to name: whether they are whole, and then each
   abbrev pub IsTrueOfTable : ℕ → Table → RelocationsFault → Type 0
   IsTrueOfTable symbols t PartOfRelocation = length t.bytes % reads.size t.class ≢ 0
   IsTrueOfTable symbols t (NoSymbol index symbol) =
-      IsFirstFault (table_get reads t) (λ r. symbol_of r < symbols) (NamesNone symbols) index symbol
+      (length t.bytes % reads.size t.class ≡ 0)
+      × IsFirstFault (table_get reads t) (λ r. symbol_of r < symbols) (NamesNone symbols) index symbol
   IsTrueOfTable symbols t EntrySize = ⊥
   IsTrueOfTable symbols t NoLink = ⊥
 
+  -- of a section: its entry size, its link, and then its relocations
   abbrev pub IsTrueOfRelocations : ObjectFile → SectionHeader → RelocationsFault → Type 0
   IsTrueOfRelocations file s EntrySize = s.sh_entsize ≢ reads.size file.class
-  IsTrueOfRelocations file s NoLink = symbols_to_name file s ≡ None
-  IsTrueOfRelocations file s PartOfRelocation =
-      IsSomeAnd (symbols_to_name file s) (λ symbols. IsOkAnd (content file s) (λ bytes.
-      IsTrueOfTable symbols (table_of file bytes) PartOfRelocation))
-  IsTrueOfRelocations file s (NoSymbol index symbol) =
-      IsSomeAnd (symbols_to_name file s) (λ symbols. IsOkAnd (content file s) (λ bytes.
-      IsTrueOfTable symbols (table_of file bytes) (NoSymbol index symbol)))
+  IsTrueOfRelocations file s NoLink = (s.sh_entsize ≡ reads.size file.class) × (symbols_to_name file s ≡ None)
+  IsTrueOfRelocations file s fault =
+      (s.sh_entsize ≡ reads.size file.class)
+      × IsSomeAnd (symbols_to_name file s) (λ symbols. IsOkAnd (content file s) (λ bytes.
+      IsTrueOfTable symbols (table_of file bytes) fault))

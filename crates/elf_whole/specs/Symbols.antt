@@ -32,11 +32,18 @@ pub record SoundSymbol (sections : ℕ) (strings : List ℕ) (symbol : Symbol) :
 abbrev pub SoundSymbolTable : ℕ → Table → List ℕ → Type 0
 SoundSymbolTable sections symbols strings = AllSound (symbol_at symbols) (SoundSymbol sections strings)
 
--- the section is linked to strings and has the entry size of symbols, it holds a whole number of them, and each is
--- sound
+-- the section has the entry size of symbols and is linked to strings
+abbrev pub LinksToStrings : ObjectFile → SectionHeader → Type 0
+LinksToStrings file s = IsOkAnd (with_linked file s) (λ pair. pair.1.sh_type ≡ sht_strtab)
+
+-- its bytes are a whole number of symbols
+abbrev pub IsWhole : ObjectFile → SectionHeader → Type 0
+IsWhole file s = s.sh_size % size_by symbol_layout file.class ≡ 0
+
+-- so it is, and each symbol is sound
 pub record SoundSymbols (file : ObjectFile) (s : SectionHeader) : Type 0 where
-  pub linked : IsOkAnd (with_linked file s) (λ pair. pair.1.sh_type ≡ sht_strtab)
-  pub whole : s.sh_size % size_by symbol_layout file.class ≡ 0
+  pub linked : LinksToStrings file s
+  pub whole : IsWhole file s
   pub symbols : IsOkAnd (symbols_of file s) (λ found. SoundSymbolTable (length file.sections) found.0 found.1)
 
 abbrev pub HoldsSymbols : SectionHeader → Type 0
@@ -61,22 +68,25 @@ name_of strings symbol = result_unwrap_or (string_at strings symbol.st_name) []
 abbrev pub with_names : List ℕ → List Symbol → List (Symbol × List ℕ)
 with_names strings symbols = map (λ symbol. (symbol, name_of strings symbol)) symbols
 
--- ---- faults
+-- ---- faults, in the order in which they are looked for: each case says that those before it are not there
 
+-- of a symbol: its name, and then its section
 abbrev pub IsTrueOfSymbol : ℕ → List ℕ → Symbol → SymbolFault → Type 0
 IsTrueOfSymbol sections strings symbol (NoName name) = (symbol.st_name ≡ name) × IsErr (string_at strings name)
 IsTrueOfSymbol sections strings symbol (NoSection section) =
-    (symbol.st_shndx ≡ section) × (section < shn_loreserve) × (sections ≤ section)
+    IsOk (string_at strings symbol.st_name) × (symbol.st_shndx ≡ section) × (section < shn_loreserve) × (sections ≤ section)
 
 -- the first symbol that is not sound
 abbrev pub IsFirstOfTable : ℕ → Table → List ℕ → ℕ → SymbolFault → Type 0
 IsFirstOfTable sections symbols strings index fault =
     IsFirstFault (symbol_at symbols) (SoundSymbol sections strings) (IsTrueOfSymbol sections strings) index fault
 
+-- of a section: its entry size and its link, its size, the bytes of symbols and strings, and then each symbol
 abbrev pub IsTrueOfSymbols : ObjectFile → SectionHeader → SymbolsFault → Type 0
 IsTrueOfSymbols file s BadLink = IsErr (with_linked file s)
 IsTrueOfSymbols file s LinkedToNoStrings = IsOkAnd (with_linked file s) (λ pair. pair.1.sh_type ≢ sht_strtab)
-IsTrueOfSymbols file s PartOfSymbol = s.sh_size % size_by symbol_layout file.class ≢ 0
-IsTrueOfSymbols file s NoSymbols = IsErr (symbols_of file s)
+IsTrueOfSymbols file s PartOfSymbol = LinksToStrings file s × (¬ IsWhole file s)
+IsTrueOfSymbols file s NoSymbols = LinksToStrings file s × IsWhole file s × IsErr (symbols_of file s)
 IsTrueOfSymbols file s (At index fault) =
-    IsOkAnd (symbols_of file s) (λ found. IsFirstOfTable (length file.sections) found.0 found.1 index fault)
+    LinksToStrings file s × IsWhole file s
+    × IsOkAnd (symbols_of file s) (λ found. IsFirstOfTable (length file.sections) found.0 found.1 index fault)

@@ -4,3 +4,4 @@ pub mod StringProps
 pub mod SegmentsProps
 pub mod SoundProps
 pub mod Adding
+pub mod Kept

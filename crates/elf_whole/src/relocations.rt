@@ -55,7 +55,7 @@ pub(crate) fn record_below<E: EndianParse, P: PlainRecord>(
     ensures { table_get P.reads (table_view table.now) index ≡ Ok result }
 {
     get_succeeds_below_len(table, index);
-    table.get(index).unwrap()
+    table.get_quickly(index).unwrap()
 }
 
 // The first relocation that names no symbol below this number, and the symbol that it names.

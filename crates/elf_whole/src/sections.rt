@@ -22,7 +22,7 @@ use crate::faults::{SectionFault, SymbolsFault};
 use crate::hashes::hash_fault;
 use crate::notes::notes_fault;
 use crate::relocations::relocations_fault;
-use crate::strings::{ends_in_nul, has_string};
+use crate::strings::{end_of_strings, ends_in_nul, has_string};
 use crate::symbols::first_bad_symbol;
 pub(crate) use all::add_sections;
 use elf::endian::EndianParse;
@@ -116,7 +116,8 @@ fn symbols_fault<E: EndianParse>(
     let Some((symbols, strings)) = symbols_in(file, &pair) else {
         return Some(SymbolsFault::NoSymbols);
     };
-    match first_bad_symbol(&symbols, &TerminatedStrings::new(&strings), sections) {
+    let end = end_of_strings(&strings);
+    match first_bad_symbol(&symbols, &TerminatedStrings::new(&strings), end, sections) {
         Some((index, fault)) => Some(SymbolsFault::At { index, fault }),
         None => None,
     }

@@ -1,5 +1,5 @@
 -- When the versions of a file are sound (GNU symbol versioning), and what each fault says.
-use Rattle.std.specs.Prelude.{◌≡◌, ◌≢◌, ℕ, ◌%◌, ◌<◌, List, length, Result, IsErr, IfSome, IsSome}
+use Rattle.std.specs.Prelude.{◌≡◌, ◌≢◌, ◌⊎◌, ℕ, ◌%◌, ◌<◌, ◌≤◌, List, length, Result, IsErr, IfSome, IsSome}
 use Rattle.std.specs.Option.{IsSomeAnd}
 use Rattle.std.specs.Result.{IsOkAnd}
 use Rattle.elf_records.specs.Number.{ok_map}
@@ -51,10 +51,14 @@ pub record SoundIndexesOf (file : ObjectFile) (versions : Versions) : Type 0 whe
   pub many : AreAsMany file versions
   pub known : SoundIndexes versions
 
+-- the bytes are a whole number of version indexes
+abbrev pub IsWhole : ObjectFile → SectionHeader → Type 0
+IsWhole file s = s.sh_size % size_by version_index_layout file.class ≡ 0
+
 pub record SoundVersionsOf (file : ObjectFile) (chosen : VersionSections) (s : SectionHeader) : Type 0 where
   pub needs : IfSome chosen.needs (SoundNeedsOf file)
   pub definitions : IfSome chosen.definitions (SoundDefsOf file)
-  pub whole : s.sh_size % size_by version_index_layout file.class ≡ 0
+  pub whole : IsWhole file s
   pub indexes : IsOkAnd (versions_of file chosen s) (SoundIndexesOf file)
 
 -- the sections that the versions are taken from, if there are version indexes
@@ -69,67 +73,59 @@ KnowsVersions file chosen = IfSome chosen.needs (SoundNeedsOf file) × IfSome ch
 -- a section of version indexes, whatever the needs and the definitions are: the indexes themselves are checked if it
 -- is known which versions there are
 pub record SoundIndexSection (file : ObjectFile) (chosen : VersionSections) (s : SectionHeader) : Type 0 where
-  pub whole : s.sh_size % size_by version_index_layout file.class ≡ 0
+  pub whole : IsWhole file s
   pub indexes : KnowsVersions file chosen → IsOkAnd (versions_of file chosen s) (SoundIndexesOf file)
 
--- ---- faults
+-- ---- faults, in the order in which they are looked for: each case says that those before it are not there
 
+-- of needs: their bytes and strings, how many bytes their versions take, and then each need
 abbrev pub IsTrueOfNeeds : ObjectFile → SectionHeader → VersionsFault → Type 0
 IsTrueOfNeeds file s NeedsUnreadable = IsErr (with_strings file s)
-IsTrueOfNeeds file s (FaultyNeeds fault) = IsOkAnd (with_strings file s) (λ found.
-    let t = table_of file found.0 in IsTrueOfChain (λ x. x.vn_next) (SoundNeed found.1 t) s.sh_info (need_links t
-    s.sh_info) fault)
 IsTrueOfNeeds file s NeedsTooLong = IsOkAnd (with_strings file s) (λ found.
     length found.0 < total_extent need_extent (need_links (table_of file found.0) s.sh_info))
+IsTrueOfNeeds file s (FaultyNeeds fault) = IsOkAnd (with_strings file s) (λ found.
+    let t = table_of file found.0 in
+    (total_extent need_extent (need_links t s.sh_info) ≤ length found.0)
+    × IsTrueOfChain (λ x. x.vn_next) (SoundNeed found.1 t) s.sh_info (need_links t s.sh_info) fault)
 IsTrueOfNeeds file s fault = ⊥
 
+-- of definitions, in the same order
 abbrev pub IsTrueOfDefs : ObjectFile → SectionHeader → VersionsFault → Type 0
 IsTrueOfDefs file s DefinitionsUnreadable = IsErr (with_strings file s)
-IsTrueOfDefs file s (FaultyDefinitions fault) = IsOkAnd (with_strings file s) (λ found.
-    let t = table_of file found.0 in IsTrueOfChain (λ x. x.vd_next) (SoundDef found.1 t) s.sh_info (def_links t
-    s.sh_info) fault)
 IsTrueOfDefs file s DefinitionsTooLong = IsOkAnd (with_strings file s) (λ found.
     length found.0 < total_extent def_extent (def_links (table_of file found.0) s.sh_info))
+IsTrueOfDefs file s (FaultyDefinitions fault) = IsOkAnd (with_strings file s) (λ found.
+    let t = table_of file found.0 in
+    (total_extent def_extent (def_links t s.sh_info) ≤ length found.0)
+    × IsTrueOfChain (λ x. x.vd_next) (SoundDef found.1 t) s.sh_info (def_links t s.sh_info) fault)
 IsTrueOfDefs file s fault = ⊥
 
+-- of version indexes: the dynamic symbols, whether they are as many, and then each index
 abbrev pub IsTrueOfIndexes : ObjectFile → Versions → VersionsFault → Type 0
 IsTrueOfIndexes file versions NoDynamicSymbols = ¬ IsOkAnd (dynamic_symbol_table file) (λ found. IsSome found)
 IsTrueOfIndexes file versions CountOfIndexes =
     IsOkAnd (dynamic_symbol_table file) (λ found. IsSomeAnd found (λ symbols.
     table_len symbol_reads symbols.0 ≢ table_len version_index_reads versions.indexes))
-IsTrueOfIndexes file versions (UnknownIndex symbol) = IsFirstUnknown versions symbol
+IsTrueOfIndexes file versions (UnknownIndex symbol) = AreAsMany file versions × IsFirstUnknown versions symbol
 IsTrueOfIndexes file versions fault = ⊥
 
+-- of a section of version indexes, whatever the needs and the definitions are: its size, whether it can be read, and
+-- then the indexes
+abbrev pub IsTrueOfIndexSection : ObjectFile → VersionSections → SectionHeader → VersionsFault → Type 0
+IsTrueOfIndexSection file chosen s PartOfIndex = ¬ IsWhole file s
+IsTrueOfIndexSection file chosen s IndexesUnreadable =
+    IsWhole file s × KnowsVersions file chosen × IsErr (versions_of file chosen s)
+IsTrueOfIndexSection file chosen s fault =
+    IsWhole file s × KnowsVersions file chosen × IsOkAnd (versions_of file chosen s) (λ v. IsTrueOfIndexes file v fault)
+
+-- of all three: the needs, the definitions, and then the indexes
 abbrev pub IsTrueOfVersionsOf : ObjectFile → VersionSections → SectionHeader → VersionsFault → Type 0
-IsTrueOfVersionsOf file chosen s NeedsUnreadable = IsSomeAnd chosen.needs (λ n. IsTrueOfNeeds file n NeedsUnreadable)
-IsTrueOfVersionsOf file chosen s (FaultyNeeds fault) = IsSomeAnd chosen.needs (λ n. IsTrueOfNeeds file n (FaultyNeeds
-    fault))
-IsTrueOfVersionsOf file chosen s DefinitionsUnreadable = IsSomeAnd chosen.definitions (λ d. IsTrueOfDefs file d
-    DefinitionsUnreadable)
-IsTrueOfVersionsOf file chosen s (FaultyDefinitions fault) = IsSomeAnd chosen.definitions (λ d. IsTrueOfDefs file d
-    (FaultyDefinitions fault))
-IsTrueOfVersionsOf file chosen s NeedsTooLong = IsSomeAnd chosen.needs (λ n. IsTrueOfNeeds file n NeedsTooLong)
-IsTrueOfVersionsOf file chosen s DefinitionsTooLong =
-    IsSomeAnd chosen.definitions (λ d. IsTrueOfDefs file d DefinitionsTooLong)
-IsTrueOfVersionsOf file chosen s PartOfIndex = s.sh_size % size_by version_index_layout file.class ≢ 0
-IsTrueOfVersionsOf file chosen s IndexesUnreadable = IsErr (versions_of file chosen s)
-IsTrueOfVersionsOf file chosen s NoDynamicSymbols = IsOkAnd (versions_of file chosen s) (λ v. IsTrueOfIndexes file v
-    NoDynamicSymbols)
-IsTrueOfVersionsOf file chosen s CountOfIndexes = IsOkAnd (versions_of file chosen s) (λ v. IsTrueOfIndexes file v
-    CountOfIndexes)
-IsTrueOfVersionsOf file chosen s (UnknownIndex symbol) = IsOkAnd (versions_of file chosen s) (λ v. IsTrueOfIndexes
-    file v (UnknownIndex symbol))
+IsTrueOfVersionsOf file chosen s fault =
+    IsSomeAnd chosen.needs (λ n. IsTrueOfNeeds file n fault)
+    ⊎ (IfSome chosen.needs (SoundNeedsOf file) × IsSomeAnd chosen.definitions (λ d. IsTrueOfDefs file d fault))
+    ⊎ (KnowsVersions file chosen × IsTrueOfIndexSection file chosen s fault)
 
 abbrev pub IsTrueOfVersions : ObjectFile → VersionsFault → Type 0
 IsTrueOfVersions file fault =
     let chosen = version_sections file.sections in IsSomeAnd chosen.indexes (λ s. IsTrueOfVersionsOf file chosen s
     fault)
-
-abbrev pub IsTrueOfIndexSection : ObjectFile → VersionSections → SectionHeader → VersionsFault → Type 0
-IsTrueOfIndexSection file chosen s PartOfIndex = s.sh_size % size_by version_index_layout file.class ≢ 0
-IsTrueOfIndexSection file chosen s IndexesUnreadable =
-    (s.sh_size % size_by version_index_layout file.class ≡ 0) × KnowsVersions file chosen
-    × IsErr (versions_of file chosen s)
-IsTrueOfIndexSection file chosen s fault =
-    (s.sh_size % size_by version_index_layout file.class ≡ 0) × KnowsVersions file chosen
-    × IsOkAnd (versions_of file chosen s) (λ v. IsTrueOfIndexes file v fault)

@@ -1,6 +1,7 @@
 //! The check of version indexes.
 ghost use Rattle.std.specs.Prelude.{◌≡◌, ◌<◌, ◌↔◌, ℕ, Ok, IsOk, MatchOption, is_some};
 ghost use Rattle.elf_parts.specs.gnu_symver.Table.{index_of};
+ghost use Rattle.elf_whole.specs.inner.Kept.{AreKnown};
 ghost use Rattle.elf_whole.specs.versions.Indexes.{IsFirstUnknown, SoundIndexes, version_with_index};
 
 use elf::endian::EndianParse;
@@ -27,6 +28,33 @@ fn is_known<E: EndianParse, V: SymbolVersions<E>>(
     }
 }
 
+// How many numbers of versions are kept.
+const KEPT: usize = 64;
+
+// The same. A number that is kept was known, and is not looked up again.
+fn is_kept_or_known<E: EndianParse, V: SymbolVersions<E>>(
+    table: &V,
+    symbol: usize,
+    index: VersionIndex,
+    kept: &mut [u16],
+) -> bool
+    requires index { index_of (V.versions table.now) symbol ≡ Ok index }
+    requires known { AreKnown (V.versions table.now) kept.old }
+    ensures value { result ≡ is_some (version_with_index (V.versions table.now) index) }
+    ensures known { AreKnown (V.versions table.now) kept.new }
+{
+    let number = index.0;
+    let place = number as usize % KEPT;
+    if place < kept.len() && kept[place] == number {
+        return true;
+    }
+    let is_known = is_known::<E, V>(table, symbol, index);
+    if is_known && place < kept.len() {
+        kept[place] = number;
+    }
+    is_known
+}
+
 // The index of a symbol below their number.
 fn index_below<E: EndianParse, V: SymbolVersions<E>>(
     table: &V,
@@ -48,9 +76,10 @@ pub(super) fn first_unknown<E: EndianParse, V: SymbolVersions<E>>(
     requires { (i : ℕ) → IsOk (index_of (V.versions table.now) i) ↔ (i < symbols) }
     ensures { MatchOption result (SoundIndexes (V.versions table.now)) (IsFirstUnknown (V.versions table.now)) }
 {
+    let mut kept = [0; KEPT];
     for symbol in 0..symbols {
         let index = index_below::<E, V>(table, symbol, symbols);
-        if !is_known::<E, V>(table, symbol, index) {
+        if !is_kept_or_known::<E, V>(table, symbol, index, &mut kept) {
             return Some(symbol);
         }
     }
