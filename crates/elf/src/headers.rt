@@ -21,8 +21,8 @@ use elf_parts::section::{SectionHeader, SectionHeaderTable};
 use elf_parts::segment::ProgramHeader;
 use elf_parts::string_table::TerminatedStrings;
 use elf_parts::symbol::Symbol;
-use elf_records::laws::tables::iter_gives_whatever_get_gives;
 pub use elf_reading::versions::{VersionSections, clones_of_version_sections};
+use elf_records::laws::tables::iter_gives_whatever_get_gives;
 
 /// A section, and the section that its `sh_link` names.
 pub type LinkedSections = (SectionHeader, SectionHeader);
