@@ -1,18 +1,15 @@
 //! Look-ups by name in hash sections, and the check of hash sections.
-ghost use Rattle.std.specs.Prelude.{◌≡◌, IfOk};
-ghost use Rattle.elf_parts.specs.GnuFind.{gnu_find, gnu_view};
-ghost use Rattle.elf_parts.specs.SysvFind.{sysv_find, sysv_view};
+ghost use Rattle.std.specs.Prelude.{◌≡◌, ◌↔◌, IfOk, IsTrue};
+ghost use Rattle.elf_check.specs.Object.{IsSound};
 ghost use Rattle.elf_c.specs.Find.{found_shown, gnu_found, sysv_found};
 ghost use Rattle.elf_c.specs.Sound.{FindsFirst, FindsLeast, IsVerdict, gnu_object, hash_object, sysv_object};
 ghost use Rattle.elf_c.specs.Status.{status_of, written};
-ghost use Rattle.elf_c.specs.Tables.{table_of_c};
 
 use crate::records::NugwierSymbol;
 use crate::status::{NugwierStatus, done, refused};
 use crate::table::{ForC, NugwierTable, class_in, order_in, records_in};
 use elf_check::hashcheck::laws::{gnu_find_on_sound, sysv_find_on_sound};
 use elf_check::hashcheck::{Checked, HashKind, check_any};
-use elf_parts::endian::AnyEndian;
 use elf_parts::hash::{GnuHashTable, SysVHashTable};
 use elf_parts::parse::ParseError;
 use elf_parts::string_table::StringTable;
@@ -70,43 +67,32 @@ pub(crate) fn write_found(
     }
 }
 
-// Looks a name up in a GNU hash section of any byte order and class, and writes what was found. Not inlined: it is
-// large, and two exports use it.
-#[inline(never)]
-pub(crate) fn find_by_gnu(
-    table: &GnuHashTable<'_, AnyEndian>,
+// The symbol of a name, by a GNU hash section.
+#[inline(always)]
+fn gnu_found(
+    section: &[u8],
     symbols: &NugwierTable<'_>,
     strings: &[u8],
     name: &[u8],
-    found: &mut NugwierFound,
-) -> NugwierStatus
-    ensures status { result ≡ status_of (gnu_find (gnu_view table.now) (table_of_c symbols.now) strings.now name.now) }
-    ensures found { found.new ≡ written found_shown found.old
-        (gnu_find (gnu_view table.now) (table_of_c symbols.now) strings.now name.now) }
+) -> Result<Option<(usize, Symbol)>, ParseError>
+    ensures { result ≡ gnu_found section.now symbols.now strings.now name.now }
 {
-    write_found(
-        &table.find(name, &records_in(symbols), &StringTable::new(strings)),
-        found,
-    )
+    let table = GnuHashTable::new(order_in(symbols.little), class_in(symbols.is_64), section)?;
+    table.find(name, &records_in(symbols), &StringTable::new(strings))
 }
 
-// The same in a SysV hash section.
-#[inline(never)]
-pub(crate) fn find_by_sysv(
-    table: &SysVHashTable<'_, AnyEndian>,
+// The symbol of a name, by a SysV hash section.
+#[inline(always)]
+fn sysv_found(
+    section: &[u8],
     symbols: &NugwierTable<'_>,
     strings: &[u8],
     name: &[u8],
-    found: &mut NugwierFound,
-) -> NugwierStatus
-    ensures status { result ≡ status_of (sysv_find (sysv_view table.now) (table_of_c symbols.now) strings.now name.now) }
-    ensures found { found.new ≡ written found_shown found.old
-        (sysv_find (sysv_view table.now) (table_of_c symbols.now) strings.now name.now) }
+) -> Result<Option<(usize, Symbol)>, ParseError>
+    ensures { result ≡ sysv_found section.now symbols.now strings.now name.now }
 {
-    write_found(
-        &table.find(name, &records_in(symbols), &StringTable::new(strings)),
-        found,
-    )
+    let table = SysVHashTable::new(order_in(symbols.little), class_in(symbols.is_64), section)?;
+    table.find(name, &records_in(symbols), &StringTable::new(strings))
 }
 
 /// Looks a name up in a GNU hash section, for these symbols and their strings. An error leaves `found` as it is; the
@@ -128,11 +114,7 @@ pub extern "C" fn nugwier_gnu_find(
         (λ s. FindsLeast s name.now result found.new) }
 {
     gnu_find_on_sound(section);
-    let (endian, class) = (order_in(symbols.little), class_in(symbols.is_64));
-    match GnuHashTable::new(endian, class, section) {
-        Ok(table) => find_by_gnu(&table, symbols, strings, name, found),
-        Err(error) => refused(&error),
-    }
+    write_found(&gnu_found(section, symbols, strings, name), found)
 }
 
 /// Looks a name up in a SysV hash section, for these symbols and their strings. An error leaves `found` as it is; the
@@ -153,11 +135,7 @@ pub extern "C" fn nugwier_sysv_find(
         (λ s. FindsFirst s name.now result found.new) }
 {
     sysv_find_on_sound(section);
-    let (endian, class) = (order_in(symbols.little), class_in(symbols.is_64));
-    match SysVHashTable::new(endian, class, section) {
-        Ok(table) => find_by_sysv(&table, symbols, strings, name, found),
-        Err(error) => refused(&error),
-    }
+    write_found(&sysv_found(section, symbols, strings, name), found)
 }
 
 /// What a check says of a hash section: whether it is sound, and then how many symbols it indexes, otherwise 0.

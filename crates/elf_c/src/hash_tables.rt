@@ -8,9 +8,9 @@ ghost use Rattle.elf_c.specs.HashTables.{gnu_of_c, sysv_of_c};
 ghost use Rattle.elf_c.specs.Status.{IsWritten, status_of, written};
 ghost use Rattle.elf_c.specs.Tables.{class_in, table_of_c};
 
-use crate::find::{NugwierFound, find_by_gnu, find_by_sysv, write_found};
+use crate::find::{NugwierFound, write_found};
 use crate::status::{NugwierStatus, done, refused};
-use crate::table::{NugwierTable, class_in, order_in};
+use crate::table::{NugwierTable, class_in, order_in, records_in};
 use elf_parts::endian::{EndianParse, LittleEndian};
 use elf_parts::file::Class;
 use elf_parts::hash::{GnuHashHeader, GnuHashTable, SysVHashTable};
@@ -165,7 +165,8 @@ fn sysv_table<'data, E: EndianParse>(
 
 /// Looks a name up in a GNU hash section that was opened, for these symbols and their strings. An error leaves `found`
 /// as it is; the errors are those of `GnuHashTable::find`.
-// In the first arm the byte order and the class are known to the compiler.
+// In the first arm the byte order and the class are known to the compiler. `LittleEndian` gives it a copy of `find` of
+// its own, since of one that several places share the compiler inlines less.
 #[unsafe(no_mangle)]
 pub extern "C" fn nugwier_gnu_look_up(
     gnu: &NugwierGnu<'_>,
@@ -178,22 +179,22 @@ pub extern "C" fn nugwier_gnu_look_up(
     ensures found { found.new ≡ written found_shown found.old
         (gnu_find (gnu_of_c gnu.now) (table_of_c symbols.now) strings.now name.now) }
 {
+    let strtab = StringTable::new(strings);
     if gnu.little && gnu.is_64 && symbols.little && symbols.is_64 {
-        let table = gnu_table(LittleEndian, Class::ELF64, gnu);
         let symtab = SymbolTable::new(LittleEndian, Class::ELF64, symbols.bytes);
-        write_found(
-            &table.find(name, &symtab, &StringTable::new(strings)),
-            found,
-        )
+        let table = gnu_table(LittleEndian, Class::ELF64, gnu);
+        write_found(&table.find(name, &symtab, &strtab), found)
     } else {
+        let symtab = records_in(symbols);
         let table = gnu_table(order_in(gnu.little), class_in(gnu.is_64), gnu);
-        find_by_gnu(&table, symbols, strings, name, found)
+        write_found(&table.find(name, &symtab, &strtab), found)
     }
 }
 
 /// Looks a name up in a SysV hash section that was opened, for these symbols and their strings. An error leaves `found`
 /// as it is; the errors are those of `SysVHashTable::find`.
-// In the first arm the byte order and the class are known to the compiler.
+// In the first arm the byte order and the class are known to the compiler. `LittleEndian` gives it a copy of `find` of
+// its own, since of one that several places share the compiler inlines less.
 #[unsafe(no_mangle)]
 pub extern "C" fn nugwier_sysv_look_up(
     sysv: &NugwierSysv<'_>,
@@ -206,15 +207,14 @@ pub extern "C" fn nugwier_sysv_look_up(
     ensures found { found.new ≡ written found_shown found.old
         (sysv_find (sysv_of_c sysv.now) (table_of_c symbols.now) strings.now name.now) }
 {
+    let strtab = StringTable::new(strings);
     if sysv.little && sysv.is_64 && symbols.little && symbols.is_64 {
-        let table = sysv_table(LittleEndian, Class::ELF64, sysv);
         let symtab = SymbolTable::new(LittleEndian, Class::ELF64, symbols.bytes);
-        write_found(
-            &table.find(name, &symtab, &StringTable::new(strings)),
-            found,
-        )
+        let table = sysv_table(LittleEndian, Class::ELF64, sysv);
+        write_found(&table.find(name, &symtab, &strtab), found)
     } else {
+        let symtab = records_in(symbols);
         let table = sysv_table(order_in(sysv.little), class_in(sysv.is_64), sysv);
-        find_by_sysv(&table, symbols, strings, name, found)
+        write_found(&table.find(name, &symtab, &strtab), found)
     }
 }
