@@ -2,7 +2,7 @@
 ghost use Rattle.std.specs.Prelude.{◌≡◌, ◌++◌, OnOk};
 ghost use Rattle.elf.specs.ElfBytes.{view};
 ghost use Rattle.elf.specs.ObjectFile.{object_file};
-ghost use Rattle.nugwier_commands.specs.Listing.{headers_wrong};
+ghost use Rattle.nugwier_commands.specs.Listing.{headers_wrong, list_wrong, tables_wrong};
 ghost use Rattle.nugwier_commands.specs.Wrong.{sections_wrong};
 
 use crate::contents::list_contents;
@@ -32,7 +32,10 @@ pub(crate) fn list<E: EndianParse, W: Write>(
     file: &ElfBytes<'_, E>,
     out: &mut W,
     problems: &mut Problems,
-) -> Result<(), Stop> {
+) -> Result<(), Stop>
+    ensures { OnOk result (problems.new ≡ problems.old
+        ++ list_wrong job.now.parts job.now.contents.items (object_file E.little (view file.now))) }
+{
     list_headers(job, format, file, out, problems)?;
     list_tables(alloc, job, format, file, out, problems)?;
     list_contents(alloc, format, file, &job.contents, out, problems)
@@ -67,7 +70,10 @@ fn list_tables<E: EndianParse, W: Write>(
     file: &ElfBytes<'_, E>,
     out: &mut W,
     problems: &mut Problems,
-) -> Result<(), Stop> {
+) -> Result<(), Stop>
+    ensures { OnOk result (problems.new ≡ problems.old
+        ++ tables_wrong job.now.parts (object_file E.little (view file.now))) }
+{
     if job.parts.symbols {
         list_symbols(format, file, out, problems)?;
     }
