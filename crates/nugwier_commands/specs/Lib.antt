@@ -4,7 +4,15 @@ pub mod Wrong
 pub mod Check
 -- the addresses for which no symbol is known
 pub mod Addresses
--- what a command finds wrong, and the exit status
-pub mod Status
+-- the sections whose content cannot be listed
+pub mod Contents
+-- the parts of a file, as `list` lists them
+pub mod Listing
+-- the files that cannot be mapped
+pub mod Plan
 -- the objects of a program that are complete
 pub mod Tree
+-- what the words ask for
+pub mod Words
+-- what a command finds wrong, and the exit status
+pub mod Status

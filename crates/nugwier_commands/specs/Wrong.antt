@@ -2,7 +2,9 @@
 use Rattle.std.specs.Prelude.{ℕ, Bool, true, false, ◌==◌, ◌||◌, if◌then◌else◌, List, [], ◌∷◌, ◌++◌}
 use Rattle.std.specs.Prelude.{Option, Some, None, Result, Ok, Err}
 use Rattle.std.specs.Result.{result_ok}
-use Rattle.elf_abi.specs.Values.{pt_note, sht_dynsym, sht_note, sht_rel, sht_rela, sht_symtab}
+use Rattle.elf_abi.specs.Values.{pt_note, sht_dynsym, sht_gnu_verdef, sht_gnu_verneed, sht_note, sht_rel, sht_rela}
+use Rattle.elf_abi.specs.Values.{sht_symtab}
+use Rattle.elf_parts.specs.gnu_symver.Lists.{ver_defs, ver_needs}
 use Rattle.elf_parts.specs.gnu_symver.Table.{Versions}
 use Rattle.elf_records.specs.Dynamic.{dyn_reads}
 use Rattle.elf_records.specs.Number.{ok_map}
@@ -17,13 +19,15 @@ use Rattle.elf_records.specs.declared.symbol.Symbol.{Symbol}
 use Rattle.elf.specs.Answers.{dynamic, dynamic_symbol_table, section_data_as_notes, section_data_as_relas}
 use Rattle.elf.specs.Answers.{section_data_as_rels, segment_data, segment_data_as_notes, symbol_table}
 use Rattle.elf.specs.Answers.{symbol_version_table, symbols_of}
+use Rattle.elf.specs.Data.{content}
 use Rattle.elf.specs.Names.{name_table}
-use Rattle.elf.specs.ObjectFile.{ObjectFile}
+use Rattle.elf.specs.ObjectFile.{ObjectFile, table_of}
 use Rattle.elf_tools.specs.Needed.{entries_in, or_error, string_part}
 use Rattle.elf_tools.specs.declared.needed.NamesError.{NamesError}
 use Rattle.elf_tools.specs.declared.needed.NamesError.TheVariants.{Read}
 use Rattle.nugwier_lines.specs.Names.{entry_wrong, needed_wrong, relocation_wrong, section_wrong, symbol_wrong}
 use Rattle.nugwier_lines.specs.Places.{at_if, is_error, numbered_places}
+use Rattle.nugwier_lines.specs.VersionRecords.{definitions_wrong, needs_wrong}
 use Rattle.nugwier_lines.specs.declared.problem.Item.TheVariants.{Whole, Symbols as ItemSymbols}
 use Rattle.nugwier_lines.specs.declared.problem.Part.{Part}
 use Rattle.nugwier_lines.specs.declared.problem.Part.TheVariants.{Dynamic, DynamicStrings, DynamicSymbols, Section, SectionNames}
@@ -169,3 +173,35 @@ abbrev pub notes_wrong : ObjectFile → List Place
 notes_wrong file =
     if file.declares_sections then numbered_places
     (section_notes_wrong file) 0 file.sections else segment_notes_wrong file
+
+-- ---- versions
+
+-- the strings of the section that a section links to
+abbrev pub linked_content : ObjectFile → SectionHeader → Result (List ℕ) ParseError
+linked_content file s = file.section_at s.sh_link >>= content file
+
+-- the data of a section of versions, and the strings that these name
+abbrev pub version_content : ObjectFile → SectionHeader → Result (List ℕ × List ℕ) ParseError
+version_content file s =
+    content file s >>= λ bytes. linked_content file s >>= λ strings. Ok (bytes, strings)
+
+-- of the definitions or the needs in these bytes; sh_info is their number
+abbrev pub version_names_wrong : ObjectFile → Part → SectionHeader → List ℕ → List ℕ → List Place
+version_names_wrong file part s bytes strings =
+    if s.sh_type == sht_gnu_verdef
+    then definitions_wrong part strings (ver_defs (table_of file bytes) s.sh_info 0)
+    else needs_wrong part strings (ver_needs (table_of file bytes) s.sh_info 0)
+
+-- each name, or the section as a whole
+abbrev pub names_in_versions : ObjectFile → ℕ → SectionHeader → Result (List ℕ × List ℕ) ParseError → List Place
+names_in_versions file i s (Ok found) = version_names_wrong file (Section i) s found.0 found.1
+names_in_versions file i s (Err e) = whole (Section i) ∷ []
+
+-- of section i, if it defines or needs versions
+abbrev pub versions_in : ObjectFile → ℕ → SectionHeader → List Place
+versions_in file i s =
+    if s.sh_type == sht_gnu_verdef || s.sh_type == sht_gnu_verneed
+    then names_in_versions file i s (version_content file s) else []
+
+abbrev pub versions_wrong : ObjectFile → List Place
+versions_wrong file = numbered_places (versions_in file) 0 file.sections

@@ -1,10 +1,23 @@
 //! The content of a section.
+ghost use Rattle.std.specs.Prelude.{◌≡◌, ◌++◌, OnOk, Some};
+ghost use Rattle.elf.specs.Data.{section_data};
+ghost use Rattle.elf.specs.ElfBytes.{view};
+ghost use Rattle.elf.specs.Names.{has_name, name_table};
+ghost use Rattle.elf.specs.ObjectFile.{object_file};
+ghost use Rattle.elf_reading.specs.Opening.{section_list};
+ghost use Rattle.elf_records.specs.Table.{table_view};
+ghost use Rattle.nugwier_commands.specs.Contents.{content_wrong, contents_wrong, first_named, number_in, numbered};
+ghost use Rattle.nugwier_commands.specs.Contents.{section_of};
+ghost use Rattle.nugwier_commands.specs.Wrong.{readable, whole};
+ghost use Rattle.nugwier_lines.specs.Places.{at_if, is_error};
+
 use crate::names::readable_names;
 use crate::words::{Form, Wanted};
+use elf::ElfBytes;
 use elf::endian::EndianParse;
-use elf::section::SectionHeader;
+use elf::headers::Headers;
+use elf::section::{SectionHeader, SectionHeaderTable};
 use elf::string_table::TerminatedStrings;
-use elf::{ElfBytes, ParseError};
 use nugwier_lines::dump::{list_bytes, list_strings, write_bytes};
 use nugwier_lines::escape::Escaped;
 use nugwier_lines::json::Format;
@@ -13,16 +26,37 @@ use std::alloc::Global;
 use std::io;
 use std::io::Write;
 
-/// Lists the content of a section, by its name or its number. It is wrong if there is no such section.
-pub(crate) fn list_content<E: EndianParse, W: Write>(
+/// Lists the contents of sections, in order.
+pub(crate) fn list_contents<E: EndianParse, W: Write>(
+    alloc: Global,
+    format: Format<'_>,
+    file: &ElfBytes<'_, E>,
+    contents: &[Wanted<'_>],
+    out: &mut W,
+    problems: &mut Problems,
+) -> Result<(), Stop>
+    ensures { OnOk result (problems.new ≡ problems.old
+        ++ contents_wrong (object_file E.little (view file.now)) contents.now) }
+{
+    for wanted in contents {
+        list_content(alloc, format, file, wanted, out, problems)?;
+    }
+    Ok(())
+}
+
+// Lists the content of a section, by its name or its number. It is wrong if there is no such section.
+fn list_content<E: EndianParse, W: Write>(
     alloc: Global,
     format: Format<'_>,
     file: &ElfBytes<'_, E>,
     wanted: &Wanted<'_>,
     out: &mut W,
     problems: &mut Problems,
-) -> Result<(), Stop> {
-    match find(file, wanted.section) {
+) -> Result<(), Stop>
+    ensures { let opened = object_file E.little (view file.now) in
+        OnOk result (problems.new ≡ problems.old ++ content_wrong opened (section_of opened wanted.now.section.now)) }
+{
+    match section_of(file, wanted.section) {
         Some((number, section)) => list_found(
             format,
             file,
@@ -51,7 +85,10 @@ fn list_found<E: EndianParse, W: Write>(
     wanted: &Wanted<'_>,
     out: &mut W,
     problems: &mut Problems,
-) -> Result<(), Stop> {
+) -> Result<(), Stop>
+    ensures { OnOk result (problems.new ≡ problems.old
+        ++ at_if (is_error (section_data (object_file E.little (view file.now)) section.now)) (whole (Part.Section number))) }
+{
     let place = Place {
         part: Part::Section(number),
         item: Item::Whole,
@@ -79,26 +116,72 @@ fn list_heading<W: Write>(format: Format<'_>, wanted: &Wanted<'_>, out: &mut W) 
     }
 }
 
-// The section of a name; or of a number, if no section has this text as its name.
-fn find<E: EndianParse>(file: &ElfBytes<'_, E>, wanted: &str) -> Option<(usize, SectionHeader)> {
-    let sections = file.section_headers()?;
-    if let Some(names) = readable_names(file) {
-        let named = sections
-            .iter()
-            .enumerate()
-            .find(|one| has_name(&names, &one.1, wanted));
-        if named.is_some() {
-            return named;
-        }
+// The first section that has the word as its name; or if none has, the one whose number it is.
+fn section_of<E: EndianParse>(
+    file: &ElfBytes<'_, E>,
+    word: &str,
+) -> Option<(usize, SectionHeader)>
+    ensures { result ≡ section_of (object_file E.little (view file.now)) word.now }
+{
+    match first_named(file, word) {
+        Some(one) => Some(one),
+        None => numbered(file, number_in(word)?),
     }
-    let number: usize = wanted.parse().ok()?;
-    let section: SectionHeader = sections.get(number).ok()?;
-    Some((number, section))
 }
 
-fn has_name(names: &TerminatedStrings<'_>, section: &SectionHeader, name: &str) -> bool {
+// The first section of a name, with its number, if there are names.
+fn first_named<E: EndianParse>(
+    file: &ElfBytes<'_, E>,
+    name: &str,
+) -> Option<(usize, SectionHeader)>
+    ensures { let opened = object_file E.little (view file.now) in
+        result ≡ first_named opened.sections name.now (readable (name_table opened)) }
+{
+    let names = readable_names(file)?;
+    match file.section_headers() {
+        Some(sections) => first_in(&sections, &names, name),
+        None => None,
+    }
+}
+
+fn first_in<E: EndianParse>(
+    sections: &SectionHeaderTable<'_, E>,
+    names: &TerminatedStrings<'_>,
+    name: &str,
+) -> Option<(usize, SectionHeader)>
+    ensures { result ≡ first_named (section_list (Some (table_view sections.now))) name.now (Some names.now) }
+{
+    sections
+        .iter()
+        .enumerate()
+        .find(|one| has_name(names, &one.1, name))
+}
+
+fn has_name(names: &TerminatedStrings<'_>, section: &SectionHeader, name: &str) -> bool
+    ensures { result ≡ has_name names.now name.now section.now }
+{
     match names.is(section.sh_name as usize, name.as_bytes()) {
         Ok(is_same) => is_same,
         Err(_) => false,
+    }
+}
+
+// The number that a word is.
+fn number_in(word: &str) -> Option<usize>
+    ensures { result ≡ number_in word.now }
+{
+    word.parse().ok()
+}
+
+// The section of a number.
+fn numbered<E: EndianParse>(
+    file: &ElfBytes<'_, E>,
+    number: usize,
+) -> Option<(usize, SectionHeader)>
+    ensures { result ≡ numbered (object_file E.little (view file.now)) number }
+{
+    match file.section_at(number) {
+        Ok(section) => Some((number, section)),
+        Err(_) => None,
     }
 }

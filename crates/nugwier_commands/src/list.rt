@@ -2,9 +2,10 @@
 ghost use Rattle.std.specs.Prelude.{◌≡◌, ◌++◌, OnOk};
 ghost use Rattle.elf.specs.ElfBytes.{view};
 ghost use Rattle.elf.specs.ObjectFile.{object_file};
+ghost use Rattle.nugwier_commands.specs.Listing.{headers_wrong, list_wrong, tables_wrong};
 ghost use Rattle.nugwier_commands.specs.Wrong.{sections_wrong};
 
-use crate::contents::list_content;
+use crate::contents::list_contents;
 use crate::names::name_table;
 use crate::notes::list_notes;
 use crate::relocations::list_relocations;
@@ -31,13 +32,13 @@ pub(crate) fn list<E: EndianParse, W: Write>(
     file: &ElfBytes<'_, E>,
     out: &mut W,
     problems: &mut Problems,
-) -> Result<(), Stop> {
+) -> Result<(), Stop>
+    ensures { OnOk result (problems.new ≡ problems.old
+        ++ list_wrong job.now.parts job.now.contents.items (object_file E.little (view file.now))) }
+{
     list_headers(job, format, file, out, problems)?;
     list_tables(alloc, job, format, file, out, problems)?;
-    for wanted in &job.contents {
-        list_content(alloc, format, file, wanted, out, problems)?;
-    }
-    Ok(())
+    list_contents(alloc, format, file, &job.contents, out, problems)
 }
 
 fn list_headers<E: EndianParse, W: Write>(
@@ -46,7 +47,10 @@ fn list_headers<E: EndianParse, W: Write>(
     file: &ElfBytes<'_, E>,
     out: &mut W,
     problems: &mut Problems,
-) -> Result<(), Stop> {
+) -> Result<(), Stop>
+    ensures { OnOk result (problems.new ≡ problems.old
+        ++ headers_wrong job.now.parts (object_file E.little (view file.now))) }
+{
     if job.parts.header {
         list_header(format, &file.ehdr, out)?;
     }
@@ -66,7 +70,10 @@ fn list_tables<E: EndianParse, W: Write>(
     file: &ElfBytes<'_, E>,
     out: &mut W,
     problems: &mut Problems,
-) -> Result<(), Stop> {
+) -> Result<(), Stop>
+    ensures { OnOk result (problems.new ≡ problems.old
+        ++ tables_wrong job.now.parts (object_file E.little (view file.now))) }
+{
     if job.parts.symbols {
         list_symbols(format, file, out, problems)?;
     }

@@ -3,6 +3,7 @@ ghost use Rattle.std.specs.Prelude.{◌≡◌};
 ghost use Rattle.elf.specs.ElfBytes.{view};
 ghost use Rattle.elf.specs.Names.{name_table};
 ghost use Rattle.elf.specs.ObjectFile.{object_file};
+ghost use Rattle.nugwier_commands.specs.Wrong.{readable};
 
 use elf::endian::EndianParse;
 use elf::section::SectionHeader;
@@ -25,7 +26,9 @@ pub(crate) fn name_table<'data, E: EndianParse>(
 /// Returns the names of the sections, if they can be read.
 pub(crate) fn readable_names<'data, E: EndianParse>(
     file: &ElfBytes<'data, E>,
-) -> Option<TerminatedStrings<'data>> {
+) -> Option<TerminatedStrings<'data>>
+    ensures { result ≡ readable (name_table (object_file E.little (view file.now))) }
+{
     match name_table(file) {
         Ok(names) => names,
         Err(_) => None,

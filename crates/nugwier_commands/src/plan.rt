@@ -1,4 +1,9 @@
 //! What a loader maps.
+ghost use Rattle.std.specs.Prelude.{OnOk};
+ghost use Rattle.elf.specs.ElfBytes.{view};
+ghost use Rattle.elf.specs.ObjectFile.{object_file};
+ghost use Rattle.nugwier_commands.specs.Plan.{IsPlanWrong};
+
 use elf::ElfBytes;
 use elf::endian::EndianParse;
 use elf_tools::load_plan::{Mapping, PlanError, load_plan};
@@ -16,7 +21,9 @@ pub(crate) fn list_plan<E: EndianParse, W: Write>(
     file: &ElfBytes<'_, E>,
     out: &mut W,
     problems: &mut Problems,
-) -> Result<(), Stop> {
+) -> Result<(), Stop>
+    ensures { OnOk result (IsPlanWrong (object_file E.little (view file.now)) problems.old problems.new) }
+{
     let place = Place {
         part: Part::LoadPlan,
         item: Item::Whole,

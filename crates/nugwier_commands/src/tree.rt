@@ -1,8 +1,8 @@
 //! The libraries that a program loads.
 ghost use Rattle.std.specs.Prelude.{◌≡◌, IfOk, map};
 ghost use Rattle.std.specs.List.{list_all};
-ghost use Rattle.elf_tools.specs.Tree.{entry_view};
-ghost use Rattle.nugwier_commands.specs.Tree.{is_complete};
+ghost use Rattle.elf_tools.specs.Tree.{entry_view, file_of, found_view};
+ghost use Rattle.nugwier_commands.specs.Tree.{AreObjects, IsProgram, IsTreeComplete, is_complete, library_path};
 
 use crate::files::Libraries;
 use crate::usual::usual_folders;
@@ -26,7 +26,9 @@ pub(crate) fn run_tree<L: Libraries, W: Write, V: Write>(
     data: Vec<u8>,
     out: &mut W,
     err: &mut V,
-) -> Result<bool, Stop> {
+) -> Result<bool, Stop>
+    ensures { IfOk result (IsTreeComplete (L.contents libraries.now) searches.now (file_of path.now «data».items)) }
+{
     let Some(program) = open_program(alloc, path, data, out, err)? else {
         return Ok(false);
     };
@@ -44,7 +46,9 @@ pub(crate) fn open_program<W: Write, V: Write>(
     data: Vec<u8>,
     out: &mut W,
     err: &mut V,
-) -> Result<Option<LoadedFile>, Stop> {
+) -> Result<Option<LoadedFile>, Stop>
+    ensures { IfOk result (IsProgram (file_of path.now «data».items)) }
+{
     match LoadedFile::open(alloc, Vec::from_slice(alloc, path.as_bytes())?, data) {
         Ok(program) => Ok(Some(program)),
         Err(OpenError::Memory) => Err(Stop::Memory),
@@ -63,7 +67,10 @@ pub(crate) fn objects<L: Libraries>(
     searches: &[&str],
     libraries: &L,
     program: LoadedFile,
-) -> Result<Vec<Object>, AllocError> {
+) -> Result<Vec<Object>, AllocError>
+    ensures { IfOk result (λ objects. AreObjects (L.contents libraries.now) searches.now (found_view program)
+        (map entry_view objects.items)) }
+{
     let library_path = library_path(alloc, searches)?;
     let usual_folders = usual_folders(alloc, program.kind)?;
     let surroundings = Surroundings {
@@ -73,13 +80,16 @@ pub(crate) fn objects<L: Libraries>(
     load_order(alloc, libraries, &surroundings, program)
 }
 
-// The folders as the value of `LD_LIBRARY_PATH`.
-fn library_path(alloc: Global, searches: &[&str]) -> Result<Vec<u8>, AllocError> {
-    let mut path = Vec::new(alloc);
-    for search in searches {
-        if !path.is_empty() {
-            path.push(b':')?;
-        }
+// The folders as the value of `LD_LIBRARY_PATH`: with colons between them.
+fn library_path(alloc: Global, searches: &[&str]) -> Result<Vec<u8>, AllocError>
+    ensures { IfOk result (λ path. path.items ≡ library_path searches.now) }
+{
+    let [first, others @ ..] = searches else {
+        return Ok(Vec::new(alloc));
+    };
+    let mut path = Vec::from_slice(alloc, first.as_bytes())?;
+    for search in others {
+        path.push(b':')?;
         path.extend_from_slice(search.as_bytes())?;
     }
     Ok(path)

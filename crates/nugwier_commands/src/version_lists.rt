@@ -1,14 +1,25 @@
 //! The versions that a file defines, and those that it needs of other files.
+ghost use Rattle.std.specs.Prelude.{◌≡◌, ◌++◌, OnOk};
+ghost use Rattle.elf.specs.Data.{content};
+ghost use Rattle.elf.specs.ElfBytes.{view};
+ghost use Rattle.elf.specs.ObjectFile.{object_file};
+ghost use Rattle.elf_records.specs.Number.{ok_map};
+ghost use Rattle.nugwier_commands.specs.Wrong.{linked_content, names_in_versions, version_content, version_names_wrong};
+ghost use Rattle.nugwier_commands.specs.Wrong.{versions_in, versions_wrong};
+
 use crate::names::{name_of, readable_names};
 use elf::endian::EndianParse;
 use elf::gnu_symver::{VerDefIterator, VerNeedIterator};
+use elf::headers::Headers;
 use elf::section::SectionHeader;
 use elf::string_table::{StringTable, TerminatedStrings};
 use elf::{ElfBytes, ParseError, abi};
 use nugwier_lines::escape::Escaped;
 use nugwier_lines::json::Format;
 use nugwier_lines::problem::{Fault, Item, Part, Place, Problems, Stop};
+use nugwier_lines::rows::{Row, list_records};
 use nugwier_lines::version_records::{VersionNames, list_definitions, list_needs};
+use std::io;
 use std::io::Write;
 
 /// Lists the versions of each section that defines or needs some.
@@ -17,16 +28,70 @@ pub(crate) fn list_versions<E: EndianParse, W: Write>(
     file: &ElfBytes<'_, E>,
     out: &mut W,
     problems: &mut Problems,
-) -> Result<(), Stop> {
-    let Some(sections) = file.section_headers() else {
-        return Ok(());
-    };
+) -> Result<(), Stop>
+    ensures { OnOk result (problems.new ≡ problems.old ++ versions_wrong (object_file E.little (view file.now))) }
+{
     let names = readable_names(file);
-    for (number, section) in sections.iter().enumerate() {
-        let name = name_of(&names, &section);
-        list_section(format, file, number as u64, &section, name, out, problems)?;
+    match file.section_headers() {
+        Some(sections) => list_records(
+            sections.iter(),
+            &VersionSections {
+                format,
+                file,
+                names,
+            },
+            out,
+            problems,
+        ),
+        None => Ok(()),
     }
-    Ok(())
+}
+
+// The versions of a section, for people under a heading; nothing of a section of another type.
+#[derive(Drop)]
+struct VersionSections<'p, 'f, 'data, E: EndianParse> {
+    format: Format<'p>,
+    file: &'f ElfBytes<'data, E>,
+    names: Option<TerminatedStrings<'data>>,
+}
+
+impl<'p, 'f, 'data, E: EndianParse> Row for VersionSections<'p, 'f, 'data, E> {
+    type Item = SectionHeader;
+
+    ghost wrong = { λ row number section. versions_in (object_file E.little (view row.file.now)) number section };
+
+    fn list<W: Write>(
+        &self,
+        number: u64,
+        section: &SectionHeader,
+        out: &mut W,
+        problems: &mut Problems,
+    ) -> Result<(), Stop> {
+        if section.sh_type != abi::SHT_GNU_VERDEF && section.sh_type != abi::SHT_GNU_VERNEED {
+            return Ok(());
+        }
+        list_title(self.format, &self.names, number, section, out)?;
+        list_section(self.format, self.file, number, section, out, problems)
+    }
+}
+
+fn list_title<W: Write>(
+    format: Format<'_>,
+    names: &Option<TerminatedStrings<'_>>,
+    number: u64,
+    section: &SectionHeader,
+    out: &mut W,
+) -> io::Result<()> {
+    if !format.is_text() {
+        return Ok(());
+    }
+    let title = if section.sh_type == abi::SHT_GNU_VERDEF {
+        "Versions defined"
+    } else {
+        "Versions needed"
+    };
+    let name = Escaped(name_of(names, section));
+    writeln!(out, "{title}, of section {number} ({name}):")
 }
 
 fn list_section<E: EndianParse, W: Write>(
@@ -34,31 +99,26 @@ fn list_section<E: EndianParse, W: Write>(
     file: &ElfBytes<'_, E>,
     number: u64,
     section: &SectionHeader,
-    name: &[u8],
     out: &mut W,
     problems: &mut Problems,
-) -> Result<(), Stop> {
-    let title = match section.sh_type {
-        abi::SHT_GNU_VERDEF => "Versions defined",
-        abi::SHT_GNU_VERNEED => "Versions needed",
-        _ => return Ok(()),
-    };
-    if format.is_text() {
-        let name = Escaped(name);
-        writeln!(out, "{title}, of section {number} ({name}):")?;
-    }
-    match section_bytes(file, section) {
+) -> Result<(), Stop>
+    ensures { let opened = object_file E.little (view file.now) in
+        OnOk result (problems.new ≡ problems.old
+        ++ names_in_versions opened number section.now (version_content opened section.now)) }
+{
+    let part = Part::Section(number);
+    match version_content(file, section) {
         Ok((bytes, strings)) => {
             let names = VersionNames {
                 format,
-                part: Part::Section(number),
+                part,
                 strings,
             };
-            list_entries(file, section, bytes, &names, out, problems)
+            list_names(file, section, bytes, &names, out, problems)
         }
         Err(error) => {
             let place = Place {
-                part: Part::Section(number),
+                part,
                 item: Item::Whole,
             };
             problems.add(place, Fault::Read(error))
@@ -66,28 +126,53 @@ fn list_section<E: EndianParse, W: Write>(
     }
 }
 
-// The bytes of a section, and the strings of the section that it links to.
-fn section_bytes<'data, E: EndianParse>(
+// The data of a section, and the strings of the section that it links to.
+fn version_content<'data, E: EndianParse>(
     file: &ElfBytes<'data, E>,
     section: &SectionHeader,
-) -> Result<(&'data [u8], TerminatedStrings<'data>), ParseError> {
-    let (bytes, _) = file.section_data(section)?;
-    let Some(sections) = file.section_headers() else {
-        return Err(ParseError::BadOffset(section.sh_link as u64));
-    };
-    let linked = sections.get(section.sh_link as usize)?;
-    let (strings, _) = file.section_data(&linked)?;
+) -> Result<(&'data [u8], TerminatedStrings<'data>), ParseError>
+    ensures { ok_map (λ found. (found.0.now, found.1)) result
+        ≡ version_content (object_file E.little (view file.now)) section.now }
+{
+    let bytes = content(file, section)?;
+    let strings = linked_content(file, section)?;
     Ok((bytes, TerminatedStrings::new(&StringTable::new(strings))))
 }
 
-fn list_entries<E: EndianParse, W: Write>(
+fn linked_content<'data, E: EndianParse>(
+    file: &ElfBytes<'data, E>,
+    section: &SectionHeader,
+) -> Result<&'data [u8], ParseError>
+    ensures { ok_map (λ bytes. bytes.now) result ≡ linked_content (object_file E.little (view file.now)) section.now }
+{
+    let linked = file.section_at(section.sh_link as usize)?;
+    content(file, &linked)
+}
+
+// The data of a section, without its compression header.
+fn content<'data, E: EndianParse>(
+    file: &ElfBytes<'data, E>,
+    section: &SectionHeader,
+) -> Result<&'data [u8], ParseError>
+    ensures { ok_map (λ bytes. bytes.now) result ≡ content (object_file E.little (view file.now)) section.now }
+{
+    match file.section_data(section) {
+        Ok((bytes, _)) => Ok(bytes),
+        Err(error) => Err(error),
+    }
+}
+
+fn list_names<E: EndianParse, W: Write>(
     file: &ElfBytes<'_, E>,
     section: &SectionHeader,
     bytes: &[u8],
     names: &VersionNames<'_, '_>,
     out: &mut W,
     problems: &mut Problems,
-) -> Result<(), Stop> {
+) -> Result<(), Stop>
+    ensures { OnOk result (problems.new ≡ problems.old
+        ++ version_names_wrong (object_file E.little (view file.now)) names.now.part section.now bytes.now names.now.strings) }
+{
     let order = file.ehdr.endianness;
     let class = file.ehdr.class;
     let count = section.sh_info as u64;

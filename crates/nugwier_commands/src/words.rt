@@ -1,6 +1,8 @@
 //! What the words of a command line ask for.
+ghost use Rattle.nugwier_commands.specs.Words.{IsErrorOf, IsOfCommand, IsOfFirst, IsOfWords, command_of, files_among};
+ghost use Rattle.nugwier_commands.specs.Words.{files_of, is_waiting, kind_of, letters_wait, option_waits};
 ghost use Rattle.nugwier_commands.specs.declared.words.WordError.TheVariants.{Memory as IsMemory};
-ghost use Rattle.std.specs.Prelude.{◌≡◌};
+ghost use Rattle.std.specs.Prelude.{◌≡◌, ◌<◌, drop, false, take, true, vec_len, is_some, IfErr, IfOk, IsNone, OnOk};
 
 use nugwier_lines::escape::Escaped;
 use std::alloc::{AllocFailed, Global};
@@ -36,11 +38,6 @@ impl Command {
             Command::Tree => "tree",
             Command::Bindings => "bindings",
         }
-    }
-
-    // Whether libraries are searched for.
-    fn finds_libraries(self) -> bool {
-        matches!(self, Command::Tree | Command::Bindings)
     }
 }
 
@@ -194,21 +191,35 @@ impl fmt::Display for WordError<'_> {
 /// Errors, in order: `NoCommand` without words; `Command` if the first word is no command; then, of the first word
 /// that is wrong, `Option` or `NoValue`; `NoFile` if no word is a file; of `address`, `Address` for the first word after
 /// the file that is no address, and `NoAddress` if there is no such word. `Memory` if an allocation failed.
-pub fn parse_words<'a>(alloc: Global, words: &[&'a str]) -> Result<Request<'a>, WordError<'a>> {
+pub fn parse_words<'a>(alloc: Global, words: &[&'a str]) -> Result<Request<'a>, WordError<'a>>
+    ensures { IsOfWords words.now result }
+{
     let [first, rest @ ..] = words else {
         return Err(WordError::NoCommand);
     };
-    match *first {
+    parse_from(alloc, *first, rest)
+}
+
+fn parse_from<'a>(
+    alloc: Global,
+    first: &'a str,
+    words: &[&'a str],
+) -> Result<Request<'a>, WordError<'a>>
+    ensures { IsOfFirst first.entry words.now result }
+{
+    match first {
         "--help" => Ok(Request::Help(None)),
         "--version" => Ok(Request::Version),
         word => match parse_command(word) {
-            Some(command) => parse_rest(alloc, command, rest),
+            Some(command) => parse_rest(alloc, command, words),
             None => Err(WordError::Command(word)),
         },
     }
 }
 
-fn parse_command(word: &str) -> Option<Command> {
+fn parse_command(word: &str) -> Option<Command>
+    ensures { result ≡ command_of word.now }
+{
     match word {
         "list" => Some(Command::List),
         "symbols" => Some(Command::Symbols),
@@ -234,8 +245,10 @@ enum Word {
     Letters,
 }
 
-fn kind_of(word: &str, has_ended: bool) -> Word {
-    if has_ended || word == "-" || !word.starts_with('-') {
+fn kind_of(word: &str, has_ended: bool) -> Word
+    ensures { result ≡ kind_of word.now has_ended }
+{
+    if has_ended || word == "-" || !word.as_bytes().starts_with(b"-") {
         return Word::File;
     }
     match word {
@@ -250,7 +263,9 @@ fn parse_rest<'a>(
     alloc: Global,
     command: Command,
     words: &[&'a str],
-) -> Result<Request<'a>, WordError<'a>> {
+) -> Result<Request<'a>, WordError<'a>>
+    ensures { IsOfCommand command (files_among command false false words.now) result }
+{
     let mut options = Options {
         parts: Parts::each(false),
         contents: Vec::new(alloc),
@@ -280,18 +295,16 @@ fn finish<'a>(
     command: Command,
     options: Options<'a>,
     mut files: Vec<&'a str>,
-) -> Result<Request<'a>, WordError<'a>> {
+) -> Result<Request<'a>, WordError<'a>>
+    ensures { IsOfCommand command files.entry.items result }
+{
     if let Some((_, word)) = options.waiting {
         return Err(WordError::NoValue(command, word));
     }
     if files.is_empty() {
         return Err(WordError::NoFile(command));
     }
-    let addresses = if command == Command::Address {
-        take_addresses(alloc, &mut files)?
-    } else {
-        Vec::new(alloc)
-    };
+    let addresses = addresses_for(alloc, command, &mut files)?;
     let parts = if options.is_empty() {
         Parts::each(true)
     } else {
@@ -308,8 +321,28 @@ fn finish<'a>(
     }))
 }
 
+// The addresses for a command: of `address` the words after the first one, and else none.
+fn addresses_for<'a>(
+    alloc: Global,
+    command: Command,
+    words: &mut Vec<&'a str>,
+) -> Result<Vec<u64>, WordError<'a>>
+    ensures left { OnOk result (words.new.items ≡ files_of command words.old.items) }
+    ensures some { OnOk result (0 < vec_len words.old → 0 < vec_len words.new) }
+    ensures error { IfErr result (IsErrorOf command) }
+{
+    match command {
+        Command::Address => take_addresses(alloc, words),
+        _ => Ok(Vec::new(alloc)),
+    }
+}
+
 // Takes the words after the first one, which are addresses.
-fn take_addresses<'a>(alloc: Global, words: &mut Vec<&'a str>) -> Result<Vec<u64>, WordError<'a>> {
+fn take_addresses<'a>(alloc: Global, words: &mut Vec<&'a str>) -> Result<Vec<u64>, WordError<'a>>
+    ensures left { OnOk result (words.new.items ≡ take 1 words.old.items) }
+    ensures some { OnOk result (0 < vec_len words.old → 0 < vec_len words.new) }
+    ensures error { IfErr result (IsErrorOf Command.Address) }
+{
     let mut addresses = Vec::new(alloc);
     for word in words.as_slice().iter().skip(1) {
         match parse_address(*word) {
@@ -351,8 +384,12 @@ struct Options<'a> {
 }
 
 impl<'a> Options<'a> {
-    // Takes a word that an option waits for.
-    fn takes(&mut self, word: &'a str) -> Result<bool, WordError<'a>> {
+    // Takes a word that an option waits for. Then none waits any more.
+    fn takes(&mut self, word: &'a str) -> Result<bool, WordError<'a>>
+        ensures taken { IfOk result (λ is_taken. is_taken ≡ is_some self.old.waiting) }
+        ensures waiting { OnOk result (IsNone self.new.waiting) }
+        ensures error { IfErr result (λ e. e ≡ IsMemory) }
+    {
         match self.waiting {
             Some((Waiting::Section(form), _)) => {
                 self.waiting = None;
@@ -372,24 +409,50 @@ impl<'a> Options<'a> {
     }
 
     // Adds the options of a word: of `list` a letter each.
-    fn add(&mut self, command: Command, word: &'a str) -> Result<(), WordError<'a>> {
-        if command.finds_libraries() && word == "--search" {
-            self.waiting = Some((Waiting::Folder, word));
-            return Ok(());
+    fn add(&mut self, command: Command, word: &'a str) -> Result<(), WordError<'a>>
+        requires { IsNone self.old.waiting }
+        ensures waiting { OnOk result (is_some self.new.waiting ≡ option_waits command word.now) }
+        ensures error { IfErr result (IsErrorOf command) }
+    {
+        match command {
+            Command::List => self.add_letters(word),
+            Command::Tree | Command::Bindings => self.add_search(command, word),
+            _ => Err(WordError::Option(command, word)),
         }
-        if command != Command::List {
+    }
+
+    fn add_search(&mut self, command: Command, word: &'a str) -> Result<(), WordError<'a>>
+        ensures waiting { OnOk result (is_some self.new.waiting ≡ true) }
+        ensures error { IfErr result (IsErrorOf command) }
+    {
+        if word != "--search" {
             return Err(WordError::Option(command, word));
         }
-        for letter in word.as_bytes().iter().skip(1) {
+        self.waiting = Some((Waiting::Folder, word));
+        Ok(())
+    }
+
+    fn add_letters(&mut self, word: &'a str) -> Result<(), WordError<'a>>
+        requires { IsNone self.old.waiting }
+        ensures waiting { OnOk result (is_some self.new.waiting ≡ letters_wait false (drop 1 word.now)) }
+        ensures error { IfErr result (IsErrorOf Command.List) }
+    {
+        let [_, letters @ ..] = word.as_bytes() else {
+            return Ok(());
+        };
+        for letter in letters {
             if self.waiting.is_some() || !self.add_letter(*letter, word) {
-                return Err(WordError::Option(command, word));
+                return Err(WordError::Option(Command::List, word));
             }
         }
         Ok(())
     }
 
     // Adds an option, and returns whether it is one.
-    fn add_letter(&mut self, letter: u8, word: &'a str) -> bool {
+    fn add_letter(&mut self, letter: u8, word: &'a str) -> bool
+        requires { IsNone self.old.waiting }
+        ensures { result ≡ true → is_some self.new.waiting ≡ is_waiting letter }
+    {
         match letter {
             b'x' => self.waiting = Some((Waiting::Section(Form::Bytes), word)),
             b'p' => self.waiting = Some((Waiting::Section(Form::Strings), word)),
@@ -399,7 +462,9 @@ impl<'a> Options<'a> {
         true
     }
 
-    fn add_part(&mut self, letter: u8) -> bool {
+    fn add_part(&mut self, letter: u8) -> bool
+        ensures { self.new.waiting ≡ self.old.waiting }
+    {
         let parts = &mut self.parts;
         match letter {
             b'h' => parts.header = true,

@@ -2,6 +2,8 @@
 pub mod Places
 -- the versions that cannot be read
 pub mod Versions
+-- the names of versions that cannot be read
+pub mod VersionRecords
 -- the names that cannot be read
 pub mod Names
 -- the characters that are shown

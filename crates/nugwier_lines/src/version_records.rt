@@ -1,8 +1,8 @@
 //! The lines of the versions that a file defines, and of those that it needs of other files.
 ghost use Rattle.std.specs.Prelude.{◌≡◌, ◌++◌, OnOk};
-ghost use Rattle.elf_records.specs.StringTable.{string_at};
-ghost use Rattle.nugwier_lines.specs.Places.{at_if, is_error};
-ghost use Rattle.nugwier_lines.specs.declared.problem.Item.TheVariants.{VersionName};
+ghost use Rattle.elf_parts.specs.gnu_symver.Lists.{ver_def_aux_left, ver_defs_left, ver_need_aux_left, ver_needs_left};
+ghost use Rattle.nugwier_lines.specs.VersionRecords.{definition_wrong, definitions_wrong, names_wrong};
+ghost use Rattle.nugwier_lines.specs.VersionRecords.{need_wrong, needs_wrong, version_name_wrong, versions_wrong};
 
 use crate::json::{Format, Value, part_member, write_object};
 use crate::named::Name;
@@ -29,8 +29,7 @@ impl<'p, 'a> VersionNames<'p, 'a> {
     // The name at this offset, for a version of this index. Adds a problem if it cannot be read.
     fn name(&self, index: u16, offset: u32, problems: &mut Problems) -> Result<Name<'a>, Stop>
         ensures { OnOk result (problems.new ≡ problems.old
-            ++ at_if (is_error (string_at self.now.strings offset))
-            (record { part = self.now.part; item = VersionName index })) }
+            ++ version_name_wrong self.now.part self.now.strings index offset) }
     {
         let place = Place {
             part: self.part,
@@ -47,15 +46,12 @@ pub fn list_definitions<E: EndianParse, W: Write>(
     names: &VersionNames<'_, '_>,
     out: &mut W,
     problems: &mut Problems,
-) -> Result<(), Stop> {
+) -> Result<(), Stop>
+    ensures { OnOk result (problems.new ≡ problems.old
+        ++ definitions_wrong names.now.part names.now.strings (ver_defs_left definitions.entry)) }
+{
     for (definition, records) in definitions {
-        match names.format {
-            Format::Text => list_definition(&definition, records, names, out, problems)?,
-            Format::Json(path) => {
-                write_definition(path, names.part, &definition, out)?;
-                write_names(path, definition.vd_ndx, records, names, out, problems)?;
-            }
-        }
+        list_definition(&definition, records, names, out, problems)?;
     }
     Ok(())
 }
@@ -66,12 +62,35 @@ fn list_definition<E: EndianParse, W: Write>(
     names: &VersionNames<'_, '_>,
     out: &mut W,
     problems: &mut Problems,
-) -> Result<(), Stop> {
+) -> Result<(), Stop>
+    ensures { OnOk result (problems.new ≡ problems.old
+        ++ definition_wrong names.now.part names.now.strings (definition.now, ver_def_aux_left records.entry)) }
+{
+    match names.format {
+        Format::Text => write_line(definition, records, names, out, problems),
+        Format::Json(path) => {
+            write_definition(path, names.part, definition, out)?;
+            write_names(path, definition.vd_ndx, records, names, out, problems)
+        }
+    }
+}
+
+// Writes a definition as a line for people.
+fn write_line<E: EndianParse, W: Write>(
+    definition: &VerDef,
+    records: VerDefAuxIterator<'_, E>,
+    names: &VersionNames<'_, '_>,
+    out: &mut W,
+    problems: &mut Problems,
+) -> Result<(), Stop>
+    ensures { OnOk result (problems.new ≡ problems.old
+        ++ definition_wrong names.now.part names.now.strings (definition.now, ver_def_aux_left records.entry)) }
+{
     let index = definition.vd_ndx;
     let flags = definition.vd_flags;
     write!(out, "  {index:>5} flags {flags:#x} ")?;
-    for record in records {
-        let name = names.name(index, record.vda_name, problems)?;
+    for aux in records {
+        let name = names.name(index, aux.vda_name, problems)?;
         write!(out, " {name}")?;
     }
     writeln!(out)?;
@@ -102,13 +121,16 @@ fn write_names<E: EndianParse, W: Write>(
     names: &VersionNames<'_, '_>,
     out: &mut W,
     problems: &mut Problems,
-) -> Result<(), Stop> {
-    for record in records {
-        let name = names.name(index, record.vda_name, problems)?;
+) -> Result<(), Stop>
+    ensures { OnOk result (problems.new ≡ problems.old
+        ++ names_wrong names.now.part names.now.strings index (ver_def_aux_left records.entry)) }
+{
+    for aux in records {
+        let name = names.name(index, aux.vda_name, problems)?;
         let members = [
             part_member(names.part),
             ("vd_ndx", Value::Number(index as u64)),
-            ("vda_name", Value::Number(record.vda_name as u64)),
+            ("vda_name", Value::Number(aux.vda_name as u64)),
             ("name", Value::Text(name.0)),
         ];
         write_object(path, "verdaux", &members, out)?;
@@ -123,16 +145,32 @@ pub fn list_needs<E: EndianParse, W: Write>(
     names: &VersionNames<'_, '_>,
     out: &mut W,
     problems: &mut Problems,
-) -> Result<(), Stop> {
+) -> Result<(), Stop>
+    ensures { OnOk result (problems.new ≡ problems.old
+        ++ needs_wrong names.now.part names.now.strings (ver_needs_left needs.entry)) }
+{
     for (need, records) in needs {
-        let file = names.name(0, need.vn_file, problems)?;
-        match names.format {
-            Format::Text => writeln!(out, "  of {file}")?,
-            Format::Json(path) => write_need(path, names.part, &need, file, out)?,
-        }
-        list_needed(need.vn_file, records, names, out, problems)?;
+        list_need(&need, records, names, out, problems)?;
     }
     Ok(())
+}
+
+fn list_need<E: EndianParse, W: Write>(
+    need: &VerNeed,
+    records: VerNeedAuxIterator<'_, E>,
+    names: &VersionNames<'_, '_>,
+    out: &mut W,
+    problems: &mut Problems,
+) -> Result<(), Stop>
+    ensures { OnOk result (problems.new ≡ problems.old
+        ++ need_wrong names.now.part names.now.strings (need.now, ver_need_aux_left records.entry)) }
+{
+    let file = names.name(0, need.vn_file, problems)?;
+    match names.format {
+        Format::Text => writeln!(out, "  of {file}")?,
+        Format::Json(path) => write_need(path, names.part, need, file, out)?,
+    }
+    list_needed(need.vn_file, records, names, out, problems)
 }
 
 fn write_need<W: Write>(
@@ -158,26 +196,32 @@ fn list_needed<E: EndianParse, W: Write>(
     names: &VersionNames<'_, '_>,
     out: &mut W,
     problems: &mut Problems,
-) -> Result<(), Stop> {
-    for record in records {
-        list_needed_version(file, &record, names, out, problems)?;
+) -> Result<(), Stop>
+    ensures { OnOk result (problems.new ≡ problems.old
+        ++ versions_wrong names.now.part names.now.strings (ver_need_aux_left records.entry)) }
+{
+    for aux in records {
+        list_needed_version(file, &aux, names, out, problems)?;
     }
     Ok(())
 }
 
 fn list_needed_version<W: Write>(
     file: u32,
-    record: &VerNeedAux,
+    version: &VerNeedAux,
     names: &VersionNames<'_, '_>,
     out: &mut W,
     problems: &mut Problems,
-) -> Result<(), Stop> {
-    let index = record.vna_other;
-    let flags = record.vna_flags;
-    let name = names.name(index, record.vna_name, problems)?;
+) -> Result<(), Stop>
+    ensures { OnOk result (problems.new ≡ problems.old
+        ++ version_name_wrong names.now.part names.now.strings version.now.vna_other version.now.vna_name) }
+{
+    let index = version.vna_other;
+    let flags = version.vna_flags;
+    let name = names.name(index, version.vna_name, problems)?;
     match names.format {
         Format::Text => writeln!(out, "  {index:>5} flags {flags:#x}  {name}")?,
-        Format::Json(path) => write_needed_version(path, names.part, file, record, name, out)?,
+        Format::Json(path) => write_needed_version(path, names.part, file, version, name, out)?,
     }
     Ok(())
 }

@@ -1,0 +1,18 @@
+-- Whether a loader can map a file.
+use Rattle.std.specs.Prelude.{◌≡◌, ◌<◌, ◌⊎◌, List, [], ◌∷◌, ◌++◌, length}
+use Rattle.elf.specs.ObjectFile.{ObjectFile}
+use Rattle.elf_tools.specs.LoadPlan.{IsPlan, mappings}
+use Rattle.nugwier_commands.specs.Wrong.{whole}
+use Rattle.nugwier_lines.specs.declared.problem.Part.TheVariants.{LoadPlan}
+use Rattle.nugwier_lines.specs.declared.problem.Place.{Place}
+
+-- there is something to map, and all of it can be mapped as it is declared
+abbrev pub HasPlan : ObjectFile → Type 0
+HasPlan file =
+    let all = mappings file.segments in
+    (0 < length all) × IsPlan file.class (length file.bytes) all
+
+-- the places after, by those before: one more exactly if a file has no plan
+abbrev pub IsPlanWrong : ObjectFile → List Place → List Place → Type 0
+IsPlanWrong file before after =
+    (HasPlan file × (after ≡ before)) ⊎ ((¬ (HasPlan file)) × (after ≡ before ++ whole LoadPlan ∷ []))
