@@ -59,10 +59,14 @@ abbrev pub part_at : List ProgramHeader → ℕ → ℕ → Result ProgramHeader
 part_at segments address size =
     ok_or (option_map (part_of address size) (find (holds address size) segments)) (NotLoaded address)
 
-abbrev pub string_part : List ProgramHeader → List Dyn → Result ProgramHeader NamesError
-string_part segments entries =
+-- the address and the size that the entries give
+abbrev pub string_range : List Dyn → Result (ℕ × ℕ) NamesError
+string_range entries =
     ok_or (first_entry dt_strtab entries) NoAddress >>= λ start. ok_or (first_entry dt_strsz entries) NoSize >>= λ size.
-    part_at segments (d_un_view start) (d_un_view size)
+    Ok (d_un_view start, d_un_view size)
+
+abbrev pub string_part : List ProgramHeader → List Dyn → Result ProgramHeader NamesError
+string_part segments entries = string_range entries >>= λ range. part_at segments range.0 range.1
 
 -- ---- the names: the number of an entry is the offset of its string in the string table
 
@@ -123,6 +127,10 @@ IsGiven shown answer (Err e) = answer ≡ Err e
 -- its dynamic entries, if it has any
 abbrev pub entries_of : ObjectFile → Result (Option (List Dyn)) NamesError
 entries_of file = or_error Read (ok_map (option_map entries_in) (dynamic file))
+
+-- the string table of the entries
+abbrev pub strings_by : ObjectFile → List Dyn → Result (List ℕ) NamesError
+strings_by file entries = string_part file.segments entries >>= λ part. or_error Read (segment_data file part)
 
 -- the names that entries give in the strings of a part of the file
 abbrev pub names_of_part : ObjectFile → ProgramHeader → List Dyn → Result Named NamesError

@@ -1,5 +1,5 @@
 //! The names by which the dynamic linker finds a file and the libraries that it needs.
-ghost use Rattle.std.specs.Prelude.{◌≡◌, ◌≢◌, Err, IfOk, IfSome, IsTrue, None, Ok, map, option_copied};
+ghost use Rattle.std.specs.Prelude.{◌≡◌, ◌≢◌, Err, IfOk, IfSome, IsTrue, None, Ok, Some, map, option_copied};
 ghost use Rattle.std.specs.List.{find};
 ghost use Rattle.std.specs.Option.{option_map};
 ghost use Rattle.elf_records.specs.Dynamic.{has_tag};
@@ -7,16 +7,19 @@ ghost use Rattle.elf_records.specs.Number.{ok_map};
 ghost use Rattle.elf_records.specs.Table.{table_view};
 ghost use Rattle.elf.specs.ElfBytes.{view};
 ghost use Rattle.elf.specs.ObjectFile.{object_file};
+ghost use Rattle.elf.specs.Answers.{dynamic};
 ghost use Rattle.elf.specs.StreamFile.{stream_file};
+ghost use Rattle.elf_reading.specs.Opening.{segment_list};
 ghost use Rattle.elf_tools.specs.Needed.{GivesNames, IsAnswered, IsGiven};
 ghost use Rattle.elf_tools.specs.Needed.{all_names, entries_in, entries_of, first_entry, first_name};
 ghost use Rattle.elf_tools.specs.Needed.{holds, name_bytes, name_of, names, names_by, names_in, names_of_part};
-ghost use Rattle.elf_tools.specs.Needed.{names_view, part_of, string_part};
+ghost use Rattle.elf_tools.specs.Needed.{names_view, part_of, string_part, string_range, strings_by};
+ghost use Rattle.elf_tools.specs.Readings.{ReadsFile};
 ghost use Rattle.elf_tools.specs.declared.needed.NamesError.TheVariants.{Memory as IsMemory};
 
 use elf::dynamic::{Dyn, DynamicTable};
 use elf::endian::EndianParse;
-use elf::segment::ProgramHeader;
+use elf::segment::{ProgramHeader, SegmentTable};
 use elf::string_table::{StringTable, TerminatedStrings};
 use elf::{ElfBytes, ElfStream, ParseError, StreamSource, abi};
 use std::alloc::{AllocError, AllocFailed, Allocator, Global};
@@ -101,8 +104,9 @@ fn has_tag(entry: &Dyn, tag: i64) -> bool
     entry.d_tag == tag
 }
 
-// The entries of a table up to the first with the tag `DT_NULL`.
-fn entries_in<E: EndianParse>(
+/// Returns the entries of a table before the first with the tag `DT_NULL`, which ends it. The only error is a failed
+/// allocation.
+pub fn entries_in<E: EndianParse>(
     alloc: Global,
     table: &DynamicTable<'_, E>,
 ) -> Result<Vec<Dyn>, AllocError>
@@ -143,6 +147,33 @@ fn first_holding(segments: &[ProgramHeader], address: u64, size: u64) -> Option<
         .find(|segment| holds(segment, address, size))
 }
 
+// The first segment of a table that holds this many bytes from an address on.
+fn first_in<E: EndianParse>(
+    segments: SegmentTable<'_, E>,
+    address: u64,
+    size: u64,
+) -> Option<ProgramHeader>
+    ensures { result ≡ find (holds address size) (segment_list (Some (table_view segments.entry))) }
+{
+    segments
+        .iter()
+        .find(|segment| holds(segment, address, size))
+}
+
+// The first segment of a file in memory that holds this many bytes from an address on.
+fn first_in_memory<E: EndianParse>(
+    file: &ElfBytes<'_, E>,
+    address: u64,
+    size: u64,
+) -> Option<ProgramHeader>
+    ensures { result ≡ find (holds address size) (object_file E.little (view file.now)).segments }
+{
+    match file.segments() {
+        Some(segments) => first_in(segments, address, size),
+        None => None,
+    }
+}
+
 // The part of a segment at these addresses, as a segment.
 fn part_of(segment: &ProgramHeader, address: u64, size: u64) -> ProgramHeader
     requires { IsTrue (holds address size segment.now) }
@@ -155,10 +186,10 @@ fn part_of(segment: &ProgramHeader, address: u64, size: u64) -> ProgramHeader
     }
 }
 
-// The part of a segment that is the string table, as a segment.
-fn string_part(segments: &[ProgramHeader], entries: &[Dyn]) -> Result<ProgramHeader, NamesError>
-    ensures value { result ≡ string_part segments.now entries.now }
-    ensures plain { IsGiven (λ part. part) (string_part segments.now entries.now) result }
+// The address of the string table, and its size.
+fn string_range(entries: &[Dyn]) -> Result<(u64, u64), NamesError>
+    ensures value { result ≡ string_range entries.now }
+    ensures plain { IsGiven (λ range. range) (string_range entries.now) result }
 {
     let Some(start) = first_entry(entries, abi::DT_STRTAB) else {
         return Err(NamesError::NoAddress);
@@ -166,10 +197,60 @@ fn string_part(segments: &[ProgramHeader], entries: &[Dyn]) -> Result<ProgramHea
     let Some(length) = first_entry(entries, abi::DT_STRSZ) else {
         return Err(NamesError::NoSize);
     };
-    let (address, size) = (start.d_ptr(), length.d_val());
+    Ok((start.d_ptr(), length.d_val()))
+}
+
+/// Returns the part of a segment that is the string table of the entries, as a segment. Their address is one of memory,
+/// and the segments of type `PT_LOAD` say which bytes of the file are loaded there.
+///
+/// Errors, in order: `NoAddress` and `NoSize` if no entry gives the address or the size of the string table;
+/// `NotLoaded` if no segment of type `PT_LOAD` holds it.
+pub fn string_part(segments: &[ProgramHeader], entries: &[Dyn]) -> Result<ProgramHeader, NamesError>
+    ensures value { result ≡ string_part segments.now entries.now }
+    ensures plain { IsGiven (λ part. part) (string_part segments.now entries.now) result }
+{
+    let (address, size) = match string_range(entries) {
+        Ok(range) => range,
+        Err(error) => return Err(error),
+    };
     match first_holding(segments, address, size) {
         Some(segment) => Ok(part_of(segment, address, size)),
         None => Err(NamesError::NotLoaded(address)),
+    }
+}
+
+// The part of a segment of a file in memory that is the string table of the entries, as a segment.
+fn part_in_memory<E: EndianParse>(
+    file: &ElfBytes<'_, E>,
+    entries: &[Dyn],
+) -> Result<ProgramHeader, NamesError>
+    ensures { result ≡ string_part (object_file E.little (view file.now)).segments entries.now }
+{
+    let (address, size) = match string_range(entries) {
+        Ok(range) => range,
+        Err(error) => return Err(error),
+    };
+    match first_in_memory(file, address, size) {
+        Some(segment) => Ok(part_of(&segment, address, size)),
+        None => Err(NamesError::NotLoaded(address)),
+    }
+}
+
+/// Returns the string table of the dynamic entries of a file in memory. The errors are those of `string_part`, then
+/// `Read` if the bytes cannot be read.
+pub fn strings_of<'data, E: EndianParse>(
+    file: &ElfBytes<'data, E>,
+    entries: &[Dyn],
+) -> Result<&'data [u8], NamesError>
+    ensures { ok_map (λ bytes. bytes.now) result ≡ strings_by (object_file E.little (view file.now)) entries.now }
+{
+    let part = match part_in_memory(file, entries) {
+        Ok(part) => part,
+        Err(error) => return Err(error),
+    };
+    match file.segment_data(&part) {
+        Ok(bytes) => Ok(bytes),
+        Err(error) => Err(NamesError::Read(error)),
     }
 }
 
@@ -233,6 +314,25 @@ fn names_in(alloc: Global, table: &[u8], entries: &[Dyn]) -> Result<Names, Names
         runpath,
         rpath,
     })
+}
+
+/// Returns the dynamic entries of a file before the first with the tag `DT_NULL`, copied, or `None` if it has none. The
+/// errors are those of `dynamic`, then `OutOfMemory` if an allocation failed.
+pub fn read_entries<E: EndianParse, S: StreamSource, A: Allocator + Copy>(
+    alloc: Global,
+    stream: &mut ElfStream<E, S, A>,
+) -> Result<Option<Vec<Dyn>>, ParseError>
+    ensures { ReadsFile stream.old stream.new result (option_map (λ entries. entries.items))
+        (λ bytes. ok_map (option_map entries_in) (dynamic (stream_file E.little stream.old bytes))) }
+{
+    match stream.dynamic() {
+        Ok(Some(table)) => {
+            let entries = entries_in(alloc, &table)?;
+            Ok(Some(entries))
+        }
+        Ok(None) => Ok(None),
+        Err(error) => Err(error),
+    }
 }
 
 // The dynamic entries of a file, copied.
@@ -318,19 +418,6 @@ pub fn dynamic_names<E: EndianParse, S: StreamSource, A: Allocator + Copy>(
     }
 }
 
-// The segments of a file in memory, copied.
-fn segments_of<E: EndianParse>(
-    alloc: Global,
-    file: &ElfBytes<'_, E>,
-) -> Result<Vec<ProgramHeader>, AllocError>
-    ensures { IfOk result (λ segments. segments.items ≡ (object_file E.little (view file.now)).segments) }
-{
-    match file.segments() {
-        Some(segments) => segments.iter().collect(alloc),
-        None => Ok(Vec::new(alloc)),
-    }
-}
-
 // The names that the entries of a file in memory give.
 fn names_in_memory<E: EndianParse>(
     alloc: Global,
@@ -339,8 +426,7 @@ fn names_in_memory<E: EndianParse>(
 ) -> Result<Names, NamesError>
     ensures { IsAnswered names_view (names_by (object_file E.little (view file.now)) entries.now) result }
 {
-    let segments = segments_of(alloc, file)?;
-    let part = match string_part(segments.as_slice(), entries) {
+    let part = match part_in_memory(file, entries) {
         Ok(part) => part,
         Err(error) => return Err(error),
     };

@@ -12,7 +12,7 @@ ghost use Rattle.elf_binding.specs.VersionedView.{versioned_view};
 ghost use Rattle.elf_tools.specs.Library.{GivesFrom, IsLibraryFault, IsLibraryOf, library_hash};
 ghost use Rattle.elf_tools.specs.Library.{part_result, shown_hash, stored_entries};
 ghost use Rattle.elf_tools.specs.Library.{library_object, library_symbols, library_versions, object_result};
-ghost use Rattle.elf_tools.specs.Library.{versions_in};
+ghost use Rattle.elf_tools.specs.Library.{symbols_in, versions_in};
 ghost use Rattle.elf_tools.specs.declared.bindings.library.LibraryFault.TheVariants.{Unread as IsUnread};
 
 use elf::ParseError;
@@ -41,6 +41,22 @@ pub struct HashBytes {
 pub struct SymbolBytes {
     pub symbols: Vec<u8>,
     pub strings: Vec<u8>,
+}
+
+impl SymbolBytes {
+    /// Returns the symbols and their strings, of a file of this order and this class.
+    pub fn table<E: EndianParse>(
+        &self,
+        endianness: E,
+        class: Class,
+    ) -> (SymbolTable<'_, E>, StringTable<'_>)
+        ensures { symbols_view result ≡ symbols_in (E.little endianness) class self.now }
+    {
+        (
+            SymbolTable::new(endianness, class, self.symbols.as_slice()),
+            StringTable::new(self.strings.as_slice()),
+        )
+    }
 }
 
 /// The bytes of a section of needs or of definitions, at most `count`, and those of its strings.
@@ -107,10 +123,7 @@ impl<E: EndianParse> Library<E> {
         ensures { part_result (option_map symbols_view) result ≡ library_symbols E.little self.now }
     {
         match &self.symbols {
-            Ok(Some(bytes)) => Ok(Some((
-                SymbolTable::new(self.endianness, self.class, bytes.symbols.as_slice()),
-                StringTable::new(bytes.strings.as_slice()),
-            ))),
+            Ok(Some(bytes)) => Ok(Some(bytes.table(self.endianness, self.class))),
             Ok(None) => Ok(None),
             Err(error) => Err(error),
         }

@@ -139,8 +139,10 @@ fn read_symbols_of<E: EndianParse, S: StreamSource>(
     Ok(SymbolBytes { symbols, strings })
 }
 
-// The dynamic symbols of the first section of them, if there is one.
-fn read_symbols<E: EndianParse, S: StreamSource>(
+/// Reads the symbols for dynamic linking with their strings, or returns `None` if there are none. Of the stream it
+/// requests the ranges that `dynamic_symbol_table` requests, and its errors are those, or `OutOfMemory` if an allocation
+/// failed.
+pub fn read_symbols<E: EndianParse, S: StreamSource>(
     alloc: Global,
     stream: &mut ElfStream<E, S, Global>,
 ) -> Result<Option<SymbolBytes>, ParseError>

@@ -6,5 +6,5 @@ use Rattle.elf_tools.proofs.needed.string_part.Goals as goal
 
 pub part_of-requires : goal.part_of-requires
 part_of-requires c =
-    found_passes (holds c.d_ptr-address.result c.d_val-size.result) c.args.segments.now c.in-Some-first_holding.segment.now
-    (sym c.first_holding.ensures ∙ ap option_copied c.in-Some-first_holding.is)
+    found_passes (holds c.in-Ok.range.0 c.in-Ok.range.1) c.args.segments.now c.in-Some.segment.now
+    (sym c.first_holding.ensures ∙ ap option_copied c.in-Some.is)
