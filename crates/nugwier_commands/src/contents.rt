@@ -117,10 +117,7 @@ fn list_heading<W: Write>(format: Format<'_>, wanted: &Wanted<'_>, out: &mut W) 
 }
 
 // The first section that has the word as its name; or if none has, the one whose number it is.
-fn section_of<E: EndianParse>(
-    file: &ElfBytes<'_, E>,
-    word: &str,
-) -> Option<(usize, SectionHeader)>
+fn section_of<E: EndianParse>(file: &ElfBytes<'_, E>, word: &str) -> Option<(usize, SectionHeader)>
     ensures { result ≡ section_of (object_file E.little (view file.now)) word.now }
 {
     match first_named(file, word) {
@@ -130,10 +127,7 @@ fn section_of<E: EndianParse>(
 }
 
 // The first section of a name, with its number, if there are names.
-fn first_named<E: EndianParse>(
-    file: &ElfBytes<'_, E>,
-    name: &str,
-) -> Option<(usize, SectionHeader)>
+fn first_named<E: EndianParse>(file: &ElfBytes<'_, E>, name: &str) -> Option<(usize, SectionHeader)>
     ensures { let opened = object_file E.little (view file.now) in
         result ≡ first_named opened.sections name.now (readable (name_table opened)) }
 {
@@ -174,10 +168,7 @@ fn number_in(word: &str) -> Option<usize>
 }
 
 // The section of a number.
-fn numbered<E: EndianParse>(
-    file: &ElfBytes<'_, E>,
-    number: usize,
-) -> Option<(usize, SectionHeader)>
+fn numbered<E: EndianParse>(file: &ElfBytes<'_, E>, number: usize) -> Option<(usize, SectionHeader)>
     ensures { result ≡ numbered (object_file E.little (view file.now)) number }
 {
     match file.section_at(number) {
