@@ -1,9 +1,8 @@
 //! Runs the program, apart from the operating system.
-ghost use Rattle.std.specs.Prelude.{◌≡◌, ◌==◌, List, [], length, IfOk, OnOk};
+ghost use Rattle.std.specs.Prelude.{◌≡◌, IfOk, OnOk};
 ghost use Rattle.elf.specs.ElfBytes.{view};
 ghost use Rattle.elf.specs.ObjectFile.{object_file};
-ghost use Rattle.nugwier_commands.specs.Status.{IsWrongFor, ended_status};
-ghost use Rattle.nugwier_lines.specs.declared.problem.Place.{Place};
+ghost use Rattle.nugwier_commands.specs.Status.{IsRightFor, IsWrongFor, ended_status};
 
 use crate::addresses::list_addresses;
 use crate::bindings::run_bindings;
@@ -187,9 +186,7 @@ fn run_file_command<E: EndianParse, W: Write, V: Write>(
     out: &mut W,
     err: &mut V,
 ) -> Result<bool, Stop>
-    ensures { IfOk result (λ is_read. (places : List Place)
-        × IsWrongFor job.now.command job.now.addresses.items (object_file E.little (view file.now)) [] places
-        × (is_read ≡ (length places == 0))) }
+    ensures { IfOk result (IsRightFor job.now (object_file E.little (view file.now))) }
 {
     let mut problems = Problems::none(alloc);
     run_command(alloc, job, path, file, out, &mut problems)?;
@@ -218,8 +215,7 @@ fn run_command<E: EndianParse, W: Write>(
     out: &mut W,
     problems: &mut Problems,
 ) -> Result<(), Stop>
-    ensures { OnOk result (IsWrongFor job.now.command job.now.addresses.items (object_file E.little (view file.now))
-        problems.old problems.new) }
+    ensures { OnOk result (IsWrongFor job.now (object_file E.little (view file.now)) problems.old problems.new) }
 {
     let format = format_of(job, path);
     match job.command {
