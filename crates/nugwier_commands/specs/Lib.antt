@@ -6,5 +6,7 @@ pub mod Check
 pub mod Addresses
 -- what a command finds wrong, and the exit status
 pub mod Status
+-- the places at which a file that is read by parts is wrong
+pub mod ByParts
 -- the objects of a program that are complete
 pub mod Tree
