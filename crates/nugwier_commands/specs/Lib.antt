@@ -10,6 +10,8 @@ pub mod Contents
 pub mod Listing
 -- the files that cannot be mapped
 pub mod Plan
+-- the places at which a file that is read by parts is wrong
+pub mod ByParts
 -- the objects of a program that are complete
 pub mod Tree
 -- what the words ask for

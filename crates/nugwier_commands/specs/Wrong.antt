@@ -1,6 +1,7 @@
 -- The places at which a file is wrong, by what the library answers.
 use Rattle.std.specs.Prelude.{ℕ, Bool, true, false, ◌==◌, ◌||◌, if◌then◌else◌, List, [], ◌∷◌, ◌++◌}
 use Rattle.std.specs.Prelude.{Option, Some, None, Result, Ok, Err}
+use Rattle.std.specs.Option.{option_map}
 use Rattle.std.specs.Result.{result_ok}
 use Rattle.elf_abi.specs.Values.{pt_note, sht_dynsym, sht_gnu_verdef, sht_gnu_verneed, sht_note, sht_rel, sht_rela}
 use Rattle.elf_abi.specs.Values.{sht_symtab}
@@ -17,14 +18,15 @@ use Rattle.elf_records.specs.declared.section.SectionHeader.{SectionHeader}
 use Rattle.elf_records.specs.declared.segment.ProgramHeader.{ProgramHeader}
 use Rattle.elf_records.specs.declared.symbol.Symbol.{Symbol}
 use Rattle.elf.specs.Answers.{dynamic, dynamic_symbol_table, section_data_as_notes, section_data_as_relas}
-use Rattle.elf.specs.Answers.{section_data_as_rels, segment_data, segment_data_as_notes, symbol_table}
+use Rattle.elf.specs.Answers.{section_data_as_rels, segment_data_as_notes, symbol_table}
 use Rattle.elf.specs.Answers.{symbol_version_table, symbols_of}
 use Rattle.elf.specs.Data.{content}
 use Rattle.elf.specs.Names.{name_table}
 use Rattle.elf.specs.ObjectFile.{ObjectFile, table_of}
-use Rattle.elf_tools.specs.Needed.{entries_in, or_error, string_part}
+use Rattle.elf_tools.specs.Needed.{entries_in, strings_by}
 use Rattle.elf_tools.specs.declared.needed.NamesError.{NamesError}
-use Rattle.elf_tools.specs.declared.needed.NamesError.TheVariants.{Read}
+use Rattle.nugwier_commands.specs.declared.strings.Shown.{Shown}
+use Rattle.nugwier_commands.specs.declared.strings.Shown.TheVariants.{Entries, Names}
 use Rattle.nugwier_lines.specs.Names.{entry_wrong, needed_wrong, relocation_wrong, section_wrong, symbol_wrong}
 use Rattle.nugwier_lines.specs.Places.{at_if, is_error, numbered_places}
 use Rattle.nugwier_lines.specs.VersionRecords.{definitions_wrong, needs_wrong}
@@ -38,10 +40,13 @@ use Rattle.nugwier_lines.specs.declared.problem.Place.{Place}
 abbrev pub whole : Part → Place
 whole part = record { part = part; item = Whole }
 
--- a part that has to be there: it is wrong if it cannot be read, and if there is none
+-- a part that has to be there: it is wrong if there is none, and if it cannot be read
+abbrev pub missing_wrong : {A : Type 0} → Part → Option A → List Place
+missing_wrong part (Some x) = []
+missing_wrong part None = whole part ∷ []
+
 abbrev pub answer_wrong : {A E : Type 0} → Part → Result (Option A) E → List Place
-answer_wrong part (Ok (Some x)) = []
-answer_wrong part (Ok None) = whole part ∷ []
+answer_wrong part (Ok found) = missing_wrong part found
 answer_wrong part (Err e) = whole part ∷ []
 
 -- what was read, if it was
@@ -80,36 +85,39 @@ symbols_wrong file = part_wrong Symbols [] (table_wrong (λ i symbol. true) Symb
 
 -- ---- dynamic entries
 
--- the strings that the entries name, by their address
-abbrev pub strings_by : ObjectFile → List Dyn → Result (List ℕ) NamesError
-strings_by file entries = string_part file.segments entries >>= λ part. or_error Read (segment_data file part)
-
 -- of the names that a list of needed libraries shows, if the strings can be read
 abbrev pub names_wrong : List Dyn → Option (List ℕ) → List Place
 names_wrong entries None = []
 names_wrong entries (Some strings) = numbered_places (needed_wrong strings) 0 entries
 
--- the strings, then the names
-abbrev pub needed_in : ObjectFile → Table → List Place
-needed_in file table =
-    let entries = entries_in table in
-    let strings = strings_by file entries in
-    at_if (is_error strings) (whole DynamicStrings) ++ names_wrong entries (result_ok strings)
+-- of what is listed of entries: their names, or each
+abbrev pub rows_wrong : Shown → List Dyn → Option (List ℕ) → List Place
+rows_wrong Names entries strings = names_wrong entries strings
+rows_wrong Entries entries strings = numbered_places (entry_wrong strings) 0 entries
 
--- those of a list of all entries
-abbrev pub listed_in : ObjectFile → Table → List Place
-listed_in file table =
-    let entries = entries_in table in
-    let strings = strings_by file entries in
-    at_if (is_error strings) (whole DynamicStrings) ++ numbered_places (entry_wrong (result_ok strings)) 0 entries
+-- the strings, then the rows
+abbrev pub shown_wrong : Shown → List Dyn → Result (List ℕ) NamesError → List Place
+shown_wrong shown entries strings =
+    at_if (is_error strings) (whole DynamicStrings) ++ rows_wrong shown entries (result_ok strings)
+
+-- if there are no entries: names need some
+abbrev pub none_wrong : Shown → List Place
+none_wrong Names = whole Dynamic ∷ []
+none_wrong Entries = []
+
+-- of entries with their strings, which are found by their address
+abbrev pub dynamic_wrong : Shown → ObjectFile → List Place
+dynamic_wrong shown file =
+    part_wrong Dynamic (none_wrong shown) (λ entries. shown_wrong shown entries (strings_by file entries))
+    (ok_map (option_map entries_in) (dynamic file))
 
 -- of the names and search paths, for which there have to be dynamic entries
 abbrev pub needed_of : ObjectFile → List Place
-needed_of file = part_wrong Dynamic (whole Dynamic ∷ []) (needed_in file) (dynamic file)
+needed_of file = dynamic_wrong Names file
 
 -- of all entries, if there are any
 abbrev pub entries_of : ObjectFile → List Place
-entries_of file = part_wrong Dynamic [] (listed_in file) (dynamic file)
+entries_of file = dynamic_wrong Entries file
 
 -- ---- sections
 

@@ -6,7 +6,7 @@ ghost use Rattle.nugwier_commands.specs.Status.{IsRightFor, IsWrongFor, ended_st
 
 use crate::addresses::list_addresses;
 use crate::bindings::run_bindings;
-use crate::by_parts::{list_by_parts, wants_only_headers};
+use crate::by_parts::run_by_parts;
 use crate::check::check;
 use crate::files::Files;
 use crate::help::{VERSION, help};
@@ -129,15 +129,12 @@ fn run_file<F: Files, W: Write, V: Write>(
     out: &mut W,
     err: &mut V,
 ) -> Result<bool, Stop> {
-    if wants_only_headers(job) {
-        let format = format_of(job, path);
-        if list_by_parts(alloc, job, format, files.open(path), out)? {
-            return Ok(true);
-        }
+    let format = format_of(job, path);
+    if let Some(is_read) = run_by_parts(alloc, job, format, files, path, out, err)? {
+        return Ok(is_read);
     }
     match files.read(path) {
         Ok(data) => {
-            let format = format_of(job, path);
             let searches = job.searches.as_slice();
             match job.command {
                 Command::Tree => run_tree(alloc, searches, format, files, path, data, out, err),

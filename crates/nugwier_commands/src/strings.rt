@@ -1,30 +1,30 @@
 //! The dynamic entries of a file, and the strings that they name.
-ghost use Rattle.std.specs.Prelude.{◌≡◌, ◌++◌, IfOk, IsTrue, OnOk, Some};
-ghost use Rattle.std.specs.List.{find};
-ghost use Rattle.std.specs.Option.{option_map};
+ghost use Rattle.std.specs.Prelude.{◌≡◌, ◌++◌, IfOk, IfSome, OnOk};
 ghost use Rattle.std.specs.Result.{result_ok};
+ghost use Rattle.elf.specs.Answers.{segment_data};
 ghost use Rattle.elf.specs.ElfBytes.{view};
 ghost use Rattle.elf.specs.ObjectFile.{object_file};
-ghost use Rattle.elf_records.specs.Dynamic.{has_tag};
+ghost use Rattle.elf.specs.StreamFile.{stream_file};
 ghost use Rattle.elf_records.specs.Number.{ok_map};
-ghost use Rattle.elf_records.specs.Table.{table_view};
-ghost use Rattle.elf_reading.specs.Opening.{segment_list};
-ghost use Rattle.elf_tools.specs.Needed.{entries_in, first_entry, holds, part_of, string_part};
-ghost use Rattle.nugwier_commands.specs.Wrong.{entries_of, listed_in, needed_in, needed_of, strings_by, whole};
+ghost use Rattle.elf_tools.specs.Needed.{or_error, strings_by};
+ghost use Rattle.elf_tools.specs.declared.needed.NamesError.TheVariants.{Read as IsRead};
+ghost use Rattle.nugwier_commands.specs.Wrong.{dynamic_wrong, entries_of, names_wrong, needed_of};
+ghost use Rattle.nugwier_commands.specs.Wrong.{none_wrong, shown_wrong, whole};
 ghost use Rattle.nugwier_lines.specs.Places.{at_if, is_error};
 ghost use Rattle.nugwier_lines.specs.declared.problem.Part.TheVariants.{DynamicStrings};
 
-use elf::dynamic::{Dyn, DynamicTable};
+use crate::by_parts::Unlisted;
+use elf::dynamic::Dyn;
 use elf::endian::EndianParse;
-use elf::segment::{ProgramHeader, SegmentTable};
+use elf::segment::ProgramHeader;
 use elf::string_table::{StringTable, TerminatedStrings};
-use elf::{ElfBytes, ParseError, abi};
-use elf_tools::needed::NamesError;
+use elf::{ElfBytes, ElfStream, ParseError, StreamSource};
+use elf_tools::needed::{NamesError, entries_in, read_entries, string_part, strings_of};
 use nugwier_lines::dynamic::{EntryRow, NeededRow, list_heading};
 use nugwier_lines::json::Format;
 use nugwier_lines::problem::{Fault, Item, Part, Place, Problems, Stop};
 use nugwier_lines::rows::list_slice;
-use std::alloc::{AllocError, Global};
+use std::alloc::Global;
 use std::io::Write;
 
 const ENTRIES: Place = Place {
@@ -37,117 +37,13 @@ const STRINGS: Place = Place {
     item: Item::Whole,
 };
 
-// The entries of a table before the first with the tag `DT_NULL`, which ends it.
-fn entries_in<E: EndianParse>(
-    alloc: Global,
-    table: &DynamicTable<'_, E>,
-) -> Result<Vec<Dyn>, AllocError>
-    ensures { IfOk result (λ entries. entries.items ≡ entries_in (table_view table.now)) }
-{
-    table
-        .iter()
-        .take_while(|entry| !has_tag(entry, abi::DT_NULL))
-        .collect(alloc)
-}
-
-// Whether the entry has a tag, one of `DT_*`.
-fn has_tag(entry: &Dyn, tag: i64) -> bool
-    ensures { result ≡ has_tag tag entry.now }
-{
-    entry.d_tag == tag
-}
-
-// The first entry with a tag.
-fn first_entry(entries: &[Dyn], tag: i64) -> Option<&Dyn>
-    ensures { option_map (λ entry. entry.now) result ≡ first_entry tag entries.now }
-{
-    entries.iter().find(|entry| has_tag(entry, tag))
-}
-
-// Whether the segment is loaded and has the bytes of these addresses in the file.
-fn holds(segment: &ProgramHeader, address: u64, size: u64) -> bool
-    ensures { result ≡ holds address size segment.now }
-{
-    if segment.p_type != abi::PT_LOAD || address < segment.p_vaddr {
-        return false;
-    }
-    let before = address - segment.p_vaddr;
-    before <= segment.p_filesz
-        && size <= segment.p_filesz - before
-        && before <= u64::MAX - segment.p_offset
-}
-
-// The first segment of a table that holds this many bytes from an address on.
-fn first_in<E: EndianParse>(
-    segments: SegmentTable<'_, E>,
-    address: u64,
-    size: u64,
-) -> Option<ProgramHeader>
-    ensures { result ≡ find (holds address size) (segment_list (Some (table_view segments.entry))) }
-{
-    segments
-        .iter()
-        .find(|segment| holds(segment, address, size))
-}
-
-// The first segment of a file that holds this many bytes from an address on.
-fn first_holding<E: EndianParse>(
-    file: &ElfBytes<'_, E>,
-    address: u64,
-    size: u64,
-) -> Option<ProgramHeader>
-    ensures { result ≡ find (holds address size) (object_file E.little (view file.now)).segments }
-{
-    match file.segments() {
-        Some(segments) => first_in(segments, address, size),
-        None => None,
-    }
-}
-
-// The part of a segment at these addresses, as a segment.
-fn part_of(segment: &ProgramHeader, address: u64, size: u64) -> ProgramHeader
-    requires { IsTrue (holds address size segment.now) }
-    ensures { result ≡ part_of address size segment.now }
-{
-    ProgramHeader {
-        p_offset: segment.p_offset + (address - segment.p_vaddr),
-        p_filesz: size,
-        ..*segment
-    }
-}
-
-// The part of a segment that is the strings which the entries name, as a segment. Their address is one of memory.
-fn string_part<E: EndianParse>(
-    file: &ElfBytes<'_, E>,
-    entries: &[Dyn],
-) -> Result<ProgramHeader, NamesError>
-    ensures { result ≡ string_part (object_file E.little (view file.now)).segments entries.now }
-{
-    let Some(start) = first_entry(entries, abi::DT_STRTAB) else {
-        return Err(NamesError::NoAddress);
-    };
-    let Some(length) = first_entry(entries, abi::DT_STRSZ) else {
-        return Err(NamesError::NoSize);
-    };
-    let (address, size) = (start.d_ptr(), length.d_val());
-    match first_holding(file, address, size) {
-        Some(segment) => Ok(part_of(&segment, address, size)),
-        None => Err(NamesError::NotLoaded(address)),
-    }
-}
-
-// The strings that the entries name.
-fn strings_of<'data, E: EndianParse>(
-    file: &ElfBytes<'data, E>,
-    entries: &[Dyn],
-) -> Result<&'data [u8], NamesError>
-    ensures { ok_map (λ bytes. bytes.now) result ≡ strings_by (object_file E.little (view file.now)) entries.now }
-{
-    let part = string_part(file, entries)?;
-    match file.segment_data(&part) {
-        Ok(bytes) => Ok(bytes),
-        Err(error) => Err(NamesError::Read(error)),
-    }
+/// What is listed of dynamic entries.
+#[derive(Clone, Copy)]
+pub(crate) enum Shown {
+    /// The names and search paths. There have to be entries.
+    Names,
+    /// Each entry, for people under a heading.
+    Entries,
 }
 
 // The fault of strings that cannot be found.
@@ -162,21 +58,95 @@ fn fault_of(error: NamesError) -> Fault {
 }
 
 // The strings that the entries name. Adds a problem if they cannot be found.
-fn found_strings<'data, E: EndianParse>(
-    file: &ElfBytes<'data, E>,
-    entries: &[Dyn],
+fn found_strings<'data>(
+    strings: Result<&'data [u8], NamesError>,
     problems: &mut Problems,
 ) -> Result<Option<TerminatedStrings<'data>>, Stop>
-    ensures { let strings = strings_by (object_file E.little (view file.now)) entries.now in
+    ensures { let strings = ok_map (λ bytes. bytes.now) strings.entry in
         IfOk result (λ found. (found ≡ result_ok strings)
         × (problems.new ≡ problems.old ++ at_if (is_error strings) (whole DynamicStrings))) }
 {
-    match strings_of(file, entries) {
+    match strings {
         Ok(bytes) => Ok(Some(TerminatedStrings::new(&StringTable::new(bytes)))),
         Err(error) => {
             problems.add(STRINGS, fault_of(error))?;
             Ok(None)
         }
+    }
+}
+
+// Lists entries with the strings that they name. Adds a problem if the strings cannot be found.
+fn list_shown<W: Write>(
+    shown: Shown,
+    format: Format<'_>,
+    entries: &[Dyn],
+    strings: Result<&[u8], NamesError>,
+    out: &mut W,
+    problems: &mut Problems,
+) -> Result<(), Stop>
+    ensures { OnOk result (problems.new ≡ problems.old
+        ++ shown_wrong shown entries.now (ok_map (λ bytes. bytes.now) strings.entry)) }
+{
+    let strings = found_strings(strings, problems)?;
+    match shown {
+        Shown::Names => list_names(format, entries, strings, out, problems),
+        Shown::Entries => {
+            list_heading(format, out)?;
+            let row = EntryRow { format, strings };
+            list_slice(entries, &row, out, problems)
+        }
+    }
+}
+
+// Lists the names and search paths, if their strings can be found.
+fn list_names<W: Write>(
+    format: Format<'_>,
+    entries: &[Dyn],
+    strings: Option<TerminatedStrings<'_>>,
+    out: &mut W,
+    problems: &mut Problems,
+) -> Result<(), Stop>
+    ensures { OnOk result (problems.new ≡ problems.old ++ names_wrong entries.now strings.entry) }
+{
+    match strings {
+        Some(strings) => {
+            let row = NeededRow { format, strings };
+            list_slice(entries, &row, out, problems)
+        }
+        None => Ok(()),
+    }
+}
+
+// That there are no entries.
+fn list_none(shown: Shown, problems: &mut Problems) -> Result<(), Stop>
+    ensures { OnOk result (problems.new ≡ problems.old ++ none_wrong shown) }
+{
+    match shown {
+        Shown::Names => problems.add(ENTRIES, Fault::Missing),
+        Shown::Entries => Ok(()),
+    }
+}
+
+// Lists the dynamic entries of a file in memory.
+fn list_dynamic<E: EndianParse, W: Write>(
+    alloc: Global,
+    shown: Shown,
+    format: Format<'_>,
+    file: &ElfBytes<'_, E>,
+    out: &mut W,
+    problems: &mut Problems,
+) -> Result<(), Stop>
+    ensures { OnOk result (problems.new ≡ problems.old
+        ++ dynamic_wrong shown (object_file E.little (view file.now))) }
+{
+    match file.dynamic() {
+        Ok(Some(table)) => {
+            let entries = entries_in(alloc, &table)?;
+            let strings = strings_of(file, entries.as_slice());
+            list_shown(shown, format, entries.as_slice(), strings, out, problems)
+        }
+        Ok(None) => list_none(shown, problems),
+        Err(error) => problems.add(ENTRIES, Fault::Read(error)),
     }
 }
 
@@ -190,32 +160,7 @@ pub(crate) fn list_needed<E: EndianParse, W: Write>(
 ) -> Result<(), Stop>
     ensures { OnOk result (problems.new ≡ problems.old ++ needed_of (object_file E.little (view file.now))) }
 {
-    match file.dynamic() {
-        Ok(Some(table)) => list_named(alloc, format, file, &table, out, problems),
-        Ok(None) => problems.add(ENTRIES, Fault::Missing),
-        Err(error) => problems.add(ENTRIES, Fault::Read(error)),
-    }
-}
-
-fn list_named<'data, E: EndianParse, W: Write>(
-    alloc: Global,
-    format: Format<'_>,
-    file: &ElfBytes<'data, E>,
-    table: &DynamicTable<'data, E>,
-    out: &mut W,
-    problems: &mut Problems,
-) -> Result<(), Stop>
-    ensures { OnOk result (problems.new ≡ problems.old
-        ++ needed_in (object_file E.little (view file.now)) (table_view table.now)) }
-{
-    let entries = entries_in(alloc, table)?;
-    match found_strings(file, entries.as_slice(), problems)? {
-        Some(strings) => {
-            let row = NeededRow { format, strings };
-            list_slice(entries.as_slice(), &row, out, problems)
-        }
-        None => Ok(()),
-    }
+    list_dynamic(alloc, Shown::Names, format, file, out, problems)
 }
 
 /// Lists the dynamic entries, if there are any, for people under a heading.
@@ -228,27 +173,87 @@ pub(crate) fn list_entries<E: EndianParse, W: Write>(
 ) -> Result<(), Stop>
     ensures { OnOk result (problems.new ≡ problems.old ++ entries_of (object_file E.little (view file.now))) }
 {
-    match file.dynamic() {
-        Ok(Some(table)) => list_all(alloc, format, file, &table, out, problems),
-        Ok(None) => Ok(()),
-        Err(error) => problems.add(ENTRIES, Fault::Read(error)),
+    list_dynamic(alloc, Shown::Entries, format, file, out, problems)
+}
+
+/// Lists the dynamic entries of a file that is read by parts. Nothing is written before all that is needed was read.
+pub(crate) fn list_dynamic_by_parts<E: EndianParse, S: StreamSource, W: Write>(
+    alloc: Global,
+    shown: Shown,
+    format: Format<'_>,
+    stream: &mut ElfStream<E, S, Global>,
+    out: &mut W,
+    problems: &mut Problems,
+) -> Result<(), Unlisted>
+    ensures { OnOk result (IfSome stream.old.content (λ bytes. problems.new ≡ problems.old
+        ++ dynamic_wrong shown (stream_file E.little stream.old bytes))) }
+{
+    match read_entries(alloc, stream)? {
+        Some(entries) => list_found(shown, format, stream, entries.as_slice(), out, problems),
+        None => {
+            list_none(shown, problems)?;
+            Ok(())
+        }
     }
 }
 
-fn list_all<'data, E: EndianParse, W: Write>(
-    alloc: Global,
+// Lists entries with the strings that they name.
+fn list_found<E: EndianParse, S: StreamSource, W: Write>(
+    shown: Shown,
     format: Format<'_>,
-    file: &ElfBytes<'data, E>,
-    table: &DynamicTable<'data, E>,
+    stream: &mut ElfStream<E, S, Global>,
+    entries: &[Dyn],
     out: &mut W,
     problems: &mut Problems,
-) -> Result<(), Stop>
-    ensures { OnOk result (problems.new ≡ problems.old
-        ++ listed_in (object_file E.little (view file.now)) (table_view table.now)) }
+) -> Result<(), Unlisted>
+    ensures { OnOk result (IfSome stream.old.content (λ bytes. problems.new ≡ problems.old
+        ++ shown_wrong shown entries.now (strings_by (stream_file E.little stream.old bytes) entries.now))) }
 {
-    let entries = entries_in(alloc, table)?;
-    let strings = found_strings(file, entries.as_slice(), problems)?;
-    list_heading(format, out)?;
-    let row = EntryRow { format, strings };
-    list_slice(entries.as_slice(), &row, out, problems)
+    match string_part(stream.segments().as_slice(), entries) {
+        Ok(part) => list_with_part(shown, format, stream, entries, &part, out, problems),
+        Err(error) => {
+            list_shown(shown, format, entries, Err(error), out, problems)?;
+            Ok(())
+        }
+    }
+}
+
+// Lists entries with the strings of a part of the file.
+fn list_with_part<E: EndianParse, S: StreamSource, W: Write>(
+    shown: Shown,
+    format: Format<'_>,
+    stream: &mut ElfStream<E, S, Global>,
+    entries: &[Dyn],
+    part: &ProgramHeader,
+    out: &mut W,
+    problems: &mut Problems,
+) -> Result<(), Unlisted>
+    ensures { OnOk result (IfSome stream.old.content (λ bytes. problems.new ≡ problems.old
+        ++ shown_wrong shown entries.now
+        (or_error IsRead (segment_data (stream_file E.little stream.old bytes) part.now)))) }
+{
+    match stream.segment_data(part) {
+        Ok(bytes) => {
+            list_shown(shown, format, entries, Ok(bytes), out, problems)?;
+            Ok(())
+        }
+        Err(error) => Err(Unlisted::Unread(error)),
+    }
+}
+
+/// Whether the dynamic entries and their strings can be read, if there are any. They are cached then.
+pub(crate) fn can_read_entries<E: EndianParse, S: StreamSource>(
+    alloc: Global,
+    stream: &mut ElfStream<E, S, Global>,
+) -> bool {
+    let Ok(entries) = read_entries(alloc, stream) else {
+        return false;
+    };
+    let Some(entries) = entries else {
+        return true;
+    };
+    match string_part(stream.segments().as_slice(), entries.as_slice()) {
+        Ok(part) => stream.segment_data(&part).is_ok(),
+        Err(_) => true,
+    }
 }

@@ -1,18 +1,20 @@
 //! The symbols of a file.
-ghost use Rattle.std.specs.Prelude.{◌≡◌, ◌++◌, [], ◌∷◌, true, OnOk};
+ghost use Rattle.std.specs.Prelude.{◌≡◌, ◌++◌, [], ◌∷◌, true, IfSome, OnOk};
 ghost use Rattle.std.specs.Option.{option_map};
 ghost use Rattle.elf.specs.Answers.{symbols_view};
 ghost use Rattle.elf.specs.ElfBytes.{view};
 ghost use Rattle.elf.specs.ObjectFile.{object_file};
+ghost use Rattle.elf.specs.StreamFile.{stream_file};
 ghost use Rattle.nugwier_commands.specs.Wrong.{dynamic_symbols_wrong, symbols_wrong, table_wrong, versioned_wrong, whole};
 ghost use Rattle.nugwier_lines.specs.Names.{is_listed};
 ghost use Rattle.nugwier_lines.specs.declared.problem.Part.TheVariants.{DynamicSymbols};
 
+use crate::by_parts::Unlisted;
 use elf::endian::EndianParse;
 use elf::gnu_symver::{IndexedVersions, SymbolVersionTable};
 use elf::string_table::{StringTable, TerminatedStrings};
 use elf::symbol::SymbolTable;
-use elf::{ElfBytes, ParseError};
+use elf::{ElfBytes, ElfStream, ParseError, StreamSource};
 use elf_tools::versions::indexed;
 use nugwier_lines::json::Format;
 use nugwier_lines::problem::{Fault, Item, Part, Place, Problems, Stop};
@@ -77,6 +79,7 @@ fn list_versioned<'data, E: EndianParse, W: Write>(
     list_rows(format, part, symbols, versions, form, out, problems)
 }
 
+// Lists symbols. If all their fields are listed, they have a heading for people.
 fn list_rows<'a, 'data, E: EndianParse, W: Write>(
     format: Format<'_>,
     part: Part,
@@ -88,6 +91,9 @@ fn list_rows<'a, 'data, E: EndianParse, W: Write>(
 ) -> Result<(), Stop>
     ensures { OnOk result (problems.new ≡ problems.old ++ table_wrong (is_listed form.entry) part (option_map (λ index. index) versions.entry) (symbols_view symbols.entry)) }
 {
+    if let Form::Fields = form {
+        list_heading(format, title_of(part), out)?;
+    }
     let (table, strings) = symbols;
     let names = Names {
         part,
@@ -103,6 +109,13 @@ fn list_rows<'a, 'data, E: EndianParse, W: Write>(
     list_records(table.iter(), &row, out, problems)
 }
 
+fn title_of(part: Part) -> &'static str {
+    match part {
+        Part::DynamicSymbols => "Symbols for dynamic linking",
+        _ => "Symbols",
+    }
+}
+
 /// Lists the symbols of the section of type `SHT_SYMTAB`, if there is one, for people under a heading.
 pub(crate) fn list_symbols<E: EndianParse, W: Write>(
     format: Format<'_>,
@@ -115,7 +128,6 @@ pub(crate) fn list_symbols<E: EndianParse, W: Write>(
 {
     match file.symbol_table() {
         Ok(Some(symbols)) => {
-            list_heading(format, "Symbols", out)?;
             let part = Part::Symbols;
             list_rows(format, part, symbols, None, Form::Fields, out, problems)
         }
@@ -137,10 +149,31 @@ pub(crate) fn list_linked<E: EndianParse, W: Write>(
 {
     match file.dynamic_symbol_table() {
         Ok(Some(symbols)) => {
-            list_heading(format, "Symbols for dynamic linking", out)?;
             list_versioned(alloc, format, file, symbols, Form::Fields, out, problems)
         }
         Ok(None) => Ok(()),
         Err(error) => problems.add(whole(Part::DynamicSymbols), Fault::Read(error)),
+    }
+}
+
+/// Lists the symbols of the section of type `SHT_SYMTAB` of a file that is read by parts, if there is one. Nothing is
+/// written before all that is needed was read.
+pub(crate) fn list_symbols_by_parts<E: EndianParse, S: StreamSource, W: Write>(
+    format: Format<'_>,
+    stream: &mut ElfStream<E, S, Global>,
+    out: &mut W,
+    problems: &mut Problems,
+) -> Result<(), Unlisted>
+    ensures { OnOk result (IfSome stream.old.content (λ bytes. problems.new ≡ problems.old
+        ++ symbols_wrong (stream_file E.little stream.old bytes))) }
+{
+    match stream.symbol_table() {
+        Ok(Some(symbols)) => {
+            let part = Part::Symbols;
+            list_rows(format, part, symbols, None, Form::Fields, out, problems)?;
+            Ok(())
+        }
+        Ok(None) => Ok(()),
+        Err(error) => Err(Unlisted::Unread(error)),
     }
 }
