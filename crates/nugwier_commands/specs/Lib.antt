@@ -8,6 +8,8 @@ pub mod Addresses
 pub mod Contents
 -- the parts of a file, as `list` lists them
 pub mod Listing
+-- the headers of a file that is read by parts
+pub mod Parted
 -- the files that cannot be mapped
 pub mod Plan
 -- the objects of a program that are complete

@@ -1,7 +1,18 @@
 //! Files whose headers alone are listed. They are read by parts, so a large file is not read whole.
+ghost use Rattle.std.specs.Prelude.{◌≡◌, [], true, IfOk, IfSome};
+ghost use Rattle.elf.specs.ObjectFile.{ObjectFile};
+ghost use Rattle.elf.specs.StreamFile.{stream_file};
+ghost use Rattle.elf_records.specs.Endian.{any_is_little};
+ghost use Rattle.nugwier_commands.specs.Listing.{headers_wrong, wants_tables};
+ghost use Rattle.nugwier_commands.specs.Parted.{AreHeadersRight, IsListedIf, are_named};
+ghost use Rattle.nugwier_commands.specs.Status.{IsWrongFor};
+ghost use Rattle.nugwier_commands.specs.Wrong.{sections_wrong};
+
 use crate::words::{Command, Job, Parts};
 use elf::endian::AnyEndian;
 use elf::headers::Headers;
+use elf::readers::list_answers_as_table;
+use elf::section::SectionHeader;
 use elf::string_table::TerminatedStrings;
 use elf::{ElfStream, ParseError, StreamSource};
 use nugwier_lines::header::list_header;
@@ -17,18 +28,24 @@ use std::io::Write;
 type Parted<S> = ElfStream<AnyEndian, S, Global>;
 
 /// Whether a job asks for nothing but the headers of files, and the names of sections.
-pub(crate) fn wants_only_headers(job: &Job<'_>) -> bool {
-    let Parts {
-        symbols,
-        dynamic_symbols,
-        dynamic,
-        relocations,
-        notes,
-        versions,
-        ..
-    } = job.parts;
-    let wants_more = symbols || dynamic_symbols || dynamic || relocations || notes || versions;
-    job.command == Command::List && job.contents.is_empty() && !wants_more
+pub(crate) fn wants_only_headers(job: &Job<'_>) -> bool
+    ensures { result ≡ true → (file : ObjectFile) → IsWrongFor job.now file [] (headers_wrong job.now.parts file) }
+{
+    match job.command {
+        Command::List => job.contents.is_empty() && !wants_tables(&job.parts),
+        _ => false,
+    }
+}
+
+fn wants_tables(parts: &Parts) -> bool
+    ensures { result ≡ wants_tables parts.now }
+{
+    parts.symbols
+        || parts.dynamic_symbols
+        || parts.dynamic
+        || parts.relocations
+        || parts.notes
+        || parts.versions
 }
 
 /// Lists the headers that a job asks for, if there is a source, from which the headers and the names of the sections can
@@ -39,7 +56,9 @@ pub(crate) fn list_by_parts<S: StreamSource, W: Write>(
     format: Format<'_>,
     source: Option<S>,
     out: &mut W,
-) -> Result<bool, Stop> {
+) -> Result<bool, Stop>
+    ensures { IfOk result (IsListedIf S.content job.now.parts source) }
+{
     match source {
         Some(source) => list_headers(alloc, job, format, source, out),
         None => Ok(false),
@@ -52,24 +71,53 @@ fn list_headers<S: StreamSource, W: Write>(
     format: Format<'_>,
     source: S,
     out: &mut W,
-) -> Result<bool, Stop> {
+) -> Result<bool, Stop>
+    ensures { IfOk result (λ was_listed. was_listed ≡ true → IfSome (S.content source) (AreHeadersRight job.now.parts)) }
+{
     let opened: Result<Parted<S>, ParseError> = ElfStream::open_stream(alloc, source);
     let Ok(mut file) = opened else {
         return Ok(false);
     };
-    if !has_segments(&file) || (job.parts.sections && !has_names(&mut file)) {
+    list_answers_as_table::<AnyEndian>();
+    if !can_list(&job.parts, &mut file) {
         return Ok(false);
     }
+    list_opened(alloc, job, format, &mut file, out)?;
+    Ok(true)
+}
+
+// Whether the headers can be listed, and nothing is wrong with them.
+fn can_list<S: StreamSource>(parts: &Parts, file: &mut Parted<S>) -> bool
+    ensures { result ≡ true → IfSome file.old.content (λ bytes.
+        headers_wrong parts.now (stream_file any_is_little file.old bytes) ≡ []) }
+{
+    if !has_segments(file) {
+        return false;
+    }
+    if parts.sections {
+        has_names(file)
+    } else {
+        true
+    }
+}
+
+fn list_opened<S: StreamSource, W: Write>(
+    alloc: Global,
+    job: &Job<'_>,
+    format: Format<'_>,
+    file: &mut Parted<S>,
+    out: &mut W,
+) -> Result<(), Stop> {
     if job.parts.header {
         list_header(format, &file.ehdr, out)?;
     }
     if job.parts.sections && file.declares_sections() {
-        list_sections(alloc, format, &mut file, out)?;
+        list_sections(alloc, format, file, out)?;
     }
     if job.parts.segments && !file.segments().is_empty() {
         segments::list_slice(format, file.segments().as_slice(), out)?;
     }
-    Ok(true)
+    Ok(())
 }
 
 // Whether a file has segments, if it declares some. A file may declare them and count none.
@@ -78,17 +126,23 @@ fn has_segments<S: StreamSource>(file: &Parted<S>) -> bool {
 }
 
 // Whether each section has a name that can be read, or none has.
-fn has_names<S: StreamSource>(file: &mut Parted<S>) -> bool {
+fn has_names<S: StreamSource>(file: &mut Parted<S>) -> bool
+    ensures { result ≡ true → IfSome file.old.content (λ bytes.
+        sections_wrong (stream_file any_is_little file.old bytes) ≡ []) }
+{
     match file.section_headers_with_strtab() {
-        Ok((shdrs, Some(names))) => {
-            let names = TerminatedStrings::new(&names);
-            shdrs
-                .iter()
-                .all(|shdr| names.get_raw(shdr.sh_name as usize).is_ok())
-        }
+        Ok((shdrs, Some(names))) => are_named(shdrs, &TerminatedStrings::new(&names)),
         Ok((_, None)) => true,
         Err(_) => false,
     }
+}
+
+fn are_named(shdrs: &[SectionHeader], names: &TerminatedStrings<'_>) -> bool
+    ensures { result ≡ are_named names.now shdrs.now }
+{
+    shdrs
+        .iter()
+        .all(|shdr| names.get_raw(shdr.sh_name as usize).is_ok())
 }
 
 fn list_sections<S: StreamSource, W: Write>(

@@ -1,8 +1,12 @@
 //! Runs the program, apart from the operating system.
-ghost use Rattle.std.specs.Prelude.{◌≡◌, IfOk, OnOk};
+ghost use Rattle.std.specs.Prelude.{◌≡◌, IfOk, OnOk, Result};
 ghost use Rattle.elf.specs.ElfBytes.{view};
 ghost use Rattle.elf.specs.ObjectFile.{object_file};
-ghost use Rattle.nugwier_commands.specs.Status.{IsRightFor, IsWrongFor, ended_status};
+ghost use Rattle.nugwier_commands.specs.Status.{AreBytesRight, AreFilesRight, IsDoneBy, IsFileRight, IsRightFor};
+ghost use Rattle.nugwier_commands.specs.Status.{IsStatusOf, IsWholeRight, IsWrongFor, ended_status};
+ghost use Rattle.nugwier_commands.specs.Words.{IsOfWords};
+ghost use Rattle.nugwier_commands.specs.declared.words.Request.{Request};
+ghost use Rattle.nugwier_commands.specs.declared.words.WordError.{WordError};
 
 use crate::addresses::list_addresses;
 use crate::bindings::run_bindings;
@@ -39,8 +43,25 @@ pub fn run<F: Files, W: Write, V: Write>(
     files: &F,
     out: &mut W,
     err: &mut V,
-) -> u8 {
-    match parse_words(alloc, words) {
+) -> u8
+    ensures { (parsed : Result Request WordError) × IsOfWords words.now parsed
+        × IsStatusOf (F.reads files.now) (F.opens files.now) F.Source.content (F.contents files.now) parsed result }
+{
+    run_request(alloc, parse_words(alloc, words), files, out, err)
+}
+
+// Does what is asked for, or tells why the words are wrong.
+fn run_request<F: Files, W: Write, V: Write>(
+    alloc: Global,
+    parsed: Result<Request<'_>, WordError<'_>>,
+    files: &F,
+    out: &mut W,
+    err: &mut V,
+) -> u8
+    ensures { IsStatusOf (F.reads files.now) (F.opens files.now) F.Source.content (F.contents files.now) parsed.entry
+        result }
+{
+    match parsed {
         Ok(Request::Help(command)) => ended(print(help(command), out), err),
         Ok(Request::Version) => ended(print(VERSION, out), err),
         Ok(Request::Run(job)) => {
@@ -91,7 +112,10 @@ fn run_job<F: Files, W: Write, V: Write>(
     files: &F,
     out: &mut W,
     err: &mut V,
-) -> Result<bool, Stop> {
+) -> Result<bool, Stop>
+    ensures { IfOk result (AreFilesRight (F.reads files.now) (F.opens files.now) F.Source.content
+        (F.contents files.now) job.now job.now.files.items) }
+{
     let mut is_read = true;
     for (place, path) in job.files.as_slice().iter().enumerate() {
         if has_headings(job) {
@@ -128,31 +152,60 @@ fn run_file<F: Files, W: Write, V: Write>(
     path: &str,
     out: &mut W,
     err: &mut V,
-) -> Result<bool, Stop> {
+) -> Result<bool, Stop>
+    ensures { IfOk result (IsFileRight (F.reads files.now) (F.opens files.now) F.Source.content
+        (F.contents files.now) job.now path.now) }
+{
     if wants_only_headers(job) {
         let format = format_of(job, path);
         if list_by_parts(alloc, job, format, files.open(path), out)? {
             return Ok(true);
         }
     }
+    run_whole(alloc, job, files, path, out, err)
+}
+
+// Lists a file that is read whole.
+fn run_whole<F: Files, W: Write, V: Write>(
+    alloc: Global,
+    job: &Job<'_>,
+    files: &F,
+    path: &str,
+    out: &mut W,
+    err: &mut V,
+) -> Result<bool, Stop>
+    ensures { IfOk result (IsWholeRight (F.reads files.now) (F.opens files.now) F.Source.content
+        (F.contents files.now) job.now path.now) }
+{
     match files.read(path) {
-        Ok(data) => {
-            let format = format_of(job, path);
-            let searches = job.searches.as_slice();
-            match job.command {
-                Command::Tree => run_tree(alloc, searches, format, files, path, data, out, err),
-                Command::Bindings => {
-                    run_bindings(alloc, searches, format, files, path, data, out, err)
-                }
-                _ => run_bytes(alloc, job, path, data.as_slice(), out, err),
-            }
-        }
+        Ok(data) => run_read(alloc, job, files, path, data, out, err),
         Err(error) => {
             out.flush()?;
             let path = Escaped(path.as_bytes());
             let _ = writeln!(err, "nugwier: {path}: {error}");
             Ok(false)
         }
+    }
+}
+
+// Lists a file that was read.
+fn run_read<F: Files, W: Write, V: Write>(
+    alloc: Global,
+    job: &Job<'_>,
+    files: &F,
+    path: &str,
+    data: Vec<u8>,
+    out: &mut W,
+    err: &mut V,
+) -> Result<bool, Stop>
+    ensures { IfOk result (IsDoneBy job.now.command (F.contents files.now) job.now path.now «data».items) }
+{
+    let format = format_of(job, path);
+    let searches = job.searches.as_slice();
+    match job.command {
+        Command::Tree => run_tree(alloc, searches, format, files, path, data, out, err),
+        Command::Bindings => run_bindings(alloc, searches, format, files, path, data, out, err),
+        _ => run_bytes(alloc, job, path, data.as_slice(), out, err),
     }
 }
 
@@ -163,7 +216,9 @@ fn run_bytes<W: Write, V: Write>(
     data: &[u8],
     out: &mut W,
     err: &mut V,
-) -> Result<bool, Stop> {
+) -> Result<bool, Stop>
+    ensures { IfOk result (AreBytesRight job.now «data».now) }
+{
     let opened: Result<ElfBytes<'_, AnyEndian>, ParseError> = ElfBytes::minimal_parse(data);
     let file = match opened {
         Ok(file) => file,
