@@ -101,24 +101,24 @@ module _ (s : WithSymbols SysvTable) where
   -- ---- the count
 
   at_one_place : (fault : HashFault) (old m n : ℕ) (x : IsCountAt s fault old m) (y : IsCountAt s fault old n) → x.0 ≡ y.0 → x.1 ≡ y.1 → m ≡ n
-  at_one_place fault old m n x y bucket place = cc (x.5, y.5, bucket, place)
+  at_one_place fault old m n x y bucket place = cc (x.3, y.3, bucket, place)
 
   pub one_count : (fault : HashFault) (old m n : ℕ) → IsTrueOfSysv s fault → IsCountAt s fault old m → IsCountAt s fault old n → m ≡ n
   unfolding AreSound
   one_count (Endless b) old m n h x y =
-      at_one_place (Endless b) old m n x y (sym x.4.0 ∙ y.4.0) (x.4.1 ∙ sym y.4.1)
+      at_one_place (Endless b) old m n x y (sym x.2.2.0 ∙ y.2.2.0) (x.2.2.1 ∙ sym y.2.2.1)
   one_count (PastChains b index) old m n h x y =
-      let bucket = sym x.4.0 ∙ y.4.0 in
-      let place = same_in_chain x.0 y.0 x.1 y.1 bucket x.3 y.3 (past x.0 b x.1 index h.0 h.1 x.4.1) (past y.0 b y.1 index h.0 h.1 y.4.1) in
+      let bucket = sym x.2.2.0 ∙ y.2.2.0 in
+      let place = same_in_chain x.0 y.0 x.1 y.1 bucket x.2.1 y.2.1 (past x.0 b x.1 index h.0 h.1 x.2.2.1.1) (past y.0 b y.1 index h.0 h.1 y.2.2.1.1) in
       at_one_place (PastChains b index) old m n x y bucket place
   one_count (Unreadable index) old m n h x y =
-      let left = unreadable x.0 h.0.0 x.1 index h.0.1 h.1 x.4 in
-      let right = unreadable y.0 h.0.0 y.1 index h.0.1 h.1 y.4 in
-      let bucket = same_bucket x.0 y.0 x.1 y.1 x.2 y.2 x.3 y.3 left right in
-      at_one_place (Unreadable index) old m n x y bucket (same_in_chain x.0 y.0 x.1 y.1 bucket x.3 y.3 left right)
+      let left = unreadable x.0 h.0.0 x.1 index h.0.1 h.1 x.2.2.1.1 in
+      let right = unreadable y.0 h.0.0 y.1 index h.0.1 h.1 y.2.2.1.1 in
+      let bucket = same_bucket x.0 y.0 x.1 y.1 x.2.0 y.2.0 x.2.1 y.2.1 left right in
+      at_one_place (Unreadable index) old m n x y bucket (same_in_chain x.0 y.0 x.1 y.1 bucket x.2.1 y.2.1 left right)
   one_count (WrongBucket b index) old m n h x y =
-      let bucket = sym x.4.0 ∙ y.4.0 in
-      let place = same_in_chain x.0 y.0 x.1 y.1 bucket x.3 y.3 (wrong x.0 b x.1 index x.4.0 h x.4.1) (wrong y.0 b y.1 index y.4.0 h y.4.1) in
+      let bucket = sym x.2.2.0 ∙ y.2.2.0 in
+      let place = same_in_chain x.0 y.0 x.1 y.1 bucket x.2.1 y.2.1 (wrong x.0 b x.1 index x.2.2.0 h x.2.2.2.1) (wrong y.0 b y.1 index y.2.2.0 h y.2.2.2.1) in
       at_one_place (WrongBucket b index) old m n x y bucket place
   one_count ShiftTooLarge old m n h x y = absurd h
   one_count (WrongHash index) old m n h x y = absurd h

@@ -10,6 +10,8 @@ pub mod Faults
 -- what a checker says, and how many symbols it reads
 pub mod Verdict
 pub mod Reads
+-- which fault is the first one
+pub mod First
 -- an object: a table of either kind
 pub mod Object
 -- the view of a checked table

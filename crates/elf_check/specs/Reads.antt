@@ -51,21 +51,30 @@ module _ (s : WithSymbols SysvTable) where
   BelongBefore bucket j =
       (i : ℕ) → i < j → IsSomeAnd (value s.table bucket i) (λ index. (0 < index) × Belongs s bucket index)
 
+  -- value j of a bucket's chain is an index, after fewer others than there are chain words
+  abbrev pub IsIndexAt : ℕ → ℕ → ℕ → Type 0
+  IsIndexAt bucket j index = (j < word_count s.table.chains) × (value s.table bucket j ≡ Some index)
+
   -- a fault is found at value j of a bucket's chain: at the index that it names, or at the value after as many others
-  -- as there are chain words
+  -- as there are chain words. The name of an index is read only if it has a chain word.
   abbrev pub IsFaultAt : ℕ → ℕ → HashFault → Type 0
   IsFaultAt bucket j (Endless b) = (b ≡ bucket) × (j ≡ word_count s.table.chains)
-  IsFaultAt bucket j (PastChains b index) = (b ≡ bucket) × (value s.table bucket j ≡ Some index)
-  IsFaultAt bucket j (Unreadable index) = value s.table bucket j ≡ Some index
-  IsFaultAt bucket j (WrongBucket b index) = (b ≡ bucket) × (value s.table bucket j ≡ Some index)
+  IsFaultAt bucket j (PastChains b index) = (b ≡ bucket) × IsIndexAt bucket j index
+  IsFaultAt bucket j (Unreadable index) = (index < word_count s.table.chains) × IsIndexAt bucket j index
+  IsFaultAt bucket j (WrongBucket b index) =
+      (b ≡ bucket) × (index < word_count s.table.chains) × IsIndexAt bucket j index
   IsFaultAt bucket j ShiftTooLarge = ⊥
   IsFaultAt bucket j (WrongHash index) = ⊥
   IsFaultAt bucket j (NoBloomBit index) = ⊥
   IsFaultAt bucket j (NotInRun index) = ⊥
 
-  -- a count was `old` before the check and is `new` at its fault: read were the chains of the buckets before, which
-  -- all end, the indexes before the faulty value in its chain, and the symbol that the fault names, if it was read
+  -- it is the first one: the chains of the buckets before all end, and the values before it in its chain belong there
+  abbrev pub IsFirstAt : ℕ → ℕ → HashFault → Type 0
+  IsFirstAt bucket j fault =
+      ((b : ℕ) → b < bucket → (k : ℕ) × EndsAt s b k) × BelongBefore bucket j × IsFaultAt bucket j fault
+
+  -- a count was `old` before the check and is `new` at its fault: read were the chains of the buckets before, the
+  -- indexes before the faulty value in its chain, and the symbol that the fault names, if it was read
   abbrev pub IsCountAt : HashFault → ℕ → ℕ → Type 0
   IsCountAt fault old new =
-      (bucket : ℕ) × (j : ℕ) × ((b : ℕ) → b < bucket → (k : ℕ) × EndsAt s b k) × BelongBefore bucket j
-      × IsFaultAt bucket j fault × (new ≡ count_after old (chain_lengths s.table bucket + j + symbols_of fault))
+      (bucket : ℕ) × (j : ℕ) × IsFirstAt bucket j fault × (new ≡ count_after old (chain_lengths s.table bucket + j + symbols_of fault))

@@ -46,7 +46,7 @@ impl Reads {
         ensures count { read_count self.new ≡ count_after (read_count self.old) 1 }
     {
         self.count = self.count.saturating_add(1);
-        let symbol = symtab.get(index).ok()?;
+        let symbol = symtab.get_quickly(index)?;
         strtab.get_raw(symbol.st_name as usize).ok()
     }
 }

@@ -8,7 +8,10 @@ use Rattle.elf_check.proofs.hashcheck.gnu.check.first_fault.Goals as goal
 
 pub returns-in-Some-clause-verdict : goal.returns-in-Some-clause-verdict
 returns-in-Some-clause-verdict g c =
-    (λ sound. true_fault (gnu_with c.args.table.now c.args.symtab.now c.args.strtab.now) sound c.in-Some.fault c.in-Some.ensures.verdict, c.in-Some.ensures.verdict)
+    let names = c.in-Some.ensures.names in (
+      λ sound. true_fault (gnu_with c.args.table.now c.args.symtab.now c.args.strtab.now) sound c.in-Some.fault c.in-Some.ensures.verdict,
+      (c.in-Some.ensures.verdict, λ k w less e. c.loop-place.invariant.sound k w (omega (arith, less, names)) e),
+    )
 
 pub returns-clause-verdict : goal.returns-clause-verdict
 returns-clause-verdict g c =
