@@ -98,7 +98,7 @@ IsErrorOf command (NotAddress word) = command ≡ Address
 IsErrorOf command NoAddress = command ≡ Address
 IsErrorOf command Memory = Unit {0}
 
--- the help of a command, or that it is run on these files, of which there is one at least
+-- the help of a command, or that it is run on these files, one or more
 abbrev pub IsOfCommand : Command → List (Bor (List ℕ)) → Result Request WordError → Type 0
 IsOfCommand command files (Ok (HelpRequest None)) = ⊥
 IsOfCommand command files (Ok (HelpRequest (Some other))) = other ≡ command

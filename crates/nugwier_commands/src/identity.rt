@@ -24,8 +24,8 @@ const BUILD_ID: Place = Place {
     item: Item::Whole,
 };
 
-// The most segments and sections of notes of which a file is read by parts: each stays in memory, and a file may declare
-// many that overlap.
+// A file with more segments and sections of notes than this is read whole: by parts each stays in memory, and a file may
+// declare many that overlap.
 const MOST_NOTES: usize = 16;
 
 /// Lists the build id. It is wrong if there is none.
