@@ -7,6 +7,8 @@ pub mod SoundGnu
 pub mod Indexed
 -- what each fault says
 pub mod Faults
+-- which fault is the first one
+pub mod First
 -- what a checker says, and how many symbols it reads
 pub mod Verdict
 pub mod Reads

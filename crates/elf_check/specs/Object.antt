@@ -9,6 +9,7 @@ use Rattle.elf_records.specs.declared.file.Class.{Class}
 use Rattle.elf_records.specs.declared.parse.ParseError.{ParseError}
 use Rattle.elf_records.specs.declared.symbol.Symbol.{Symbol}
 use Rattle.elf_check.specs.Faults.{IsTrueOfGnu, IsTrueOfSysv}
+use Rattle.elf_check.specs.First.{ComesFirstOfGnu, ComesFirstOfSysv}
 use Rattle.elf_check.specs.Indexed.{IndexedGnu, IndexedSysv, IsFirstNamed, IsLeastNamed, ScanGnu, ScanSysv}
 use Rattle.elf_check.specs.Indexed.{chain_lengths}
 use Rattle.elf_check.specs.SoundGnu.{SoundGnu}
@@ -55,6 +56,15 @@ IsSound (ByGnu s) = SoundGnu s
 abbrev pub IsTrueOfObject : Object → HashFault → Type 0
 IsTrueOfObject (BySysv s) = IsTrueOfSysv s
 IsTrueOfObject (ByGnu s) = IsTrueOfGnu s
+
+-- no fault comes before this one in the order of the check
+abbrev pub ComesFirst : Object → HashFault → Type 0
+ComesFirst (BySysv s) = ComesFirstOfSysv s
+ComesFirst (ByGnu s) = ComesFirstOfGnu s
+
+-- the first fault
+abbrev pub IsFirstOfObject : Object → HashFault → Type 0
+IsFirstOfObject object fault = IsTrueOfObject object fault × ComesFirst object fault
 
 -- some indexed symbol has the name
 abbrev pub Has : List ℕ → Object → Type 0

@@ -1,11 +1,9 @@
 -- How many symbols a checker has read: a count that stops at 2 ^ 64 - 1.
-use Rattle.std.specs.Prelude.{◌≡◌, ℕ, ◌+◌, ◌-◌, ◌^◌, ◌<◌, Some, min}
-use Rattle.std.specs.Option.{IsSomeAnd}
+use Rattle.std.specs.Prelude.{◌≡◌, ℕ, ◌+◌, ◌-◌, ◌^◌, min}
 use Rattle.elf_parts.specs.GnuFind.{GnuTable}
-use Rattle.elf_parts.specs.Hash.{word_count}
 use Rattle.elf_parts.specs.SysvFind.{SysvTable}
+use Rattle.elf_check.specs.First.{IsFirstAt}
 use Rattle.elf_check.specs.Indexed.{chain_lengths}
-use Rattle.elf_check.specs.SoundSysv.{Belongs, EndsAt, value}
 use Rattle.elf_check.specs.WithSymbols.{WithSymbols}
 use Rattle.elf_check.specs.declared.hashcheck.HashFault.{HashFault}
 use Rattle.elf_check.specs.declared.hashcheck.HashFault.TheVariants.{Endless, NoBloomBit, NotInRun, PastChains}
@@ -44,28 +42,10 @@ gnu_reads t (Endless bucket) = 0
 gnu_reads t (PastChains bucket index) = 0
 gnu_reads t (WrongBucket bucket index) = 0
 
--- of a SysV section one for each index, the chains of the buckets in order
-module _ (s : WithSymbols SysvTable) where
-  -- the values of a bucket's chain before value j belong to the bucket, and none of them is 0
-  abbrev pub BelongBefore : ℕ → ℕ → Type 0
-  BelongBefore bucket j =
-      (i : ℕ) → i < j → IsSomeAnd (value s.table bucket i) (λ index. (0 < index) × Belongs s bucket index)
-
-  -- a fault is found at value j of a bucket's chain: at the index that it names, or at the value after as many others
-  -- as there are chain words
-  abbrev pub IsFaultAt : ℕ → ℕ → HashFault → Type 0
-  IsFaultAt bucket j (Endless b) = (b ≡ bucket) × (j ≡ word_count s.table.chains)
-  IsFaultAt bucket j (PastChains b index) = (b ≡ bucket) × (value s.table bucket j ≡ Some index)
-  IsFaultAt bucket j (Unreadable index) = value s.table bucket j ≡ Some index
-  IsFaultAt bucket j (WrongBucket b index) = (b ≡ bucket) × (value s.table bucket j ≡ Some index)
-  IsFaultAt bucket j ShiftTooLarge = ⊥
-  IsFaultAt bucket j (WrongHash index) = ⊥
-  IsFaultAt bucket j (NoBloomBit index) = ⊥
-  IsFaultAt bucket j (NotInRun index) = ⊥
-
-  -- a count was `old` before the check and is `new` at its fault: read were the chains of the buckets before, which
-  -- all end, the indexes before the faulty value in its chain, and the symbol that the fault names, if it was read
-  abbrev pub IsCountAt : HashFault → ℕ → ℕ → Type 0
-  IsCountAt fault old new =
-      (bucket : ℕ) × (j : ℕ) × ((b : ℕ) → b < bucket → (k : ℕ) × EndsAt s b k) × BelongBefore bucket j
-      × IsFaultAt bucket j fault × (new ≡ count_after old (chain_lengths s.table bucket + j + symbols_of fault))
+-- of a SysV section one for each index, the chains of the buckets in order. A count was `old` before the check and is
+-- `new` at its fault: read were the chains of the buckets before, the indexes before the faulty value in its chain, and
+-- the symbol that the fault names, if it was read.
+abbrev pub IsCountAt : WithSymbols SysvTable → HashFault → ℕ → ℕ → Type 0
+IsCountAt s fault old new =
+    (bucket : ℕ) × (j : ℕ) × IsFirstAt s bucket j fault
+    × (new ≡ count_after old (chain_lengths s.table bucket + j + symbols_of fault))

@@ -10,11 +10,11 @@ use Rattle.elf_check.specs.declared.hashcheck.Checked.TheVariants.{Faulty, Sound
 use Rattle.elf_check.specs.declared.hashcheck.HashFault.{HashFault}
 
 -- a type C of checked tables, and the view of each: what was checked
-module _ {S C : Type 0} (view : C → S) (IsSound : S → Type 0) (IsTrueOf : S → HashFault → Type 0) where
-  -- sound exactly if the section is, otherwise a fault that is true of it
+module _ {S C : Type 0} (view : C → S) (IsSound : S → Type 0) (IsFault : S → HashFault → Type 0) where
+  -- sound exactly if the section is, otherwise a fault that it has, as the checkers say: its first one
   abbrev pub IsVerdict : S → Checked C → Type 0
   IsVerdict s (Sound checked) = IsSound s × (view checked ≡ s)
-  IsVerdict s (Faulty fault) = (¬ IsSound s) × IsTrueOf s fault
+  IsVerdict s (Faulty fault) = (¬ IsSound s) × IsFault s fault
 
   -- an error exactly if the section holds no table
   abbrev pub GivesVerdict : Result S ParseError → Result (Checked C) ParseError → Type 0

@@ -41,13 +41,13 @@ alike : {P Q : Type 0} → (P → Q) → (Q → P) → Decided P → Decided Q
 alike forth back (inl p) = inl (forth p)
 alike forth back (inr other) = inr (λ q. other (back q))
 
-less : (a b : ℕ) → Decided (a < b)
+pub less : (a b : ℕ) → Decided (a < b)
 less a b = elim (cases_lt a b) [ inl h ↦ inl h | inr h ↦ inr (λ l. absurd (omega (arith, h, l))) ]
 
 at_most : (a b : ℕ) → Decided (a ≤ b)
 at_most a b = elim (cases_lt b a) [ inl h ↦ inr (λ l. absurd (omega (arith, h, l))) | inr h ↦ inl h ]
 
-equal : (a b : ℕ) → Decided (a ≡ b)
+pub equal : (a b : ℕ) → Decided (a ≡ b)
 equal a b =
     elim (cases_lt a b) [
       | inl h ↦ inr (λ e. absurd (omega (arith, h, e)))
@@ -103,7 +103,7 @@ unfolding word word_at
 word_begins words k w e = grind (arith, common_steps)
 
 module _ (t : GnuTable) where
-  has_both_bits : (hash : ℕ) → Decided (HasBothBits t hash)
+  pub has_both_bits : (hash : ℕ) → Decided (HasBothBits t hash)
   has_both_bits hash =
       both (less 0 t.hdr.nbloom)
       (is_some_and

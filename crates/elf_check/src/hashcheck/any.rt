@@ -4,7 +4,7 @@ ghost use Rattle.elf_records.specs.StringTable.{strings_view};
 ghost use Rattle.elf_records.specs.Table.{table_view};
 ghost use Rattle.elf_check.specs.CheckedTable.{object_view};
 ghost use Rattle.elf_check.specs.Indexed.{IsNumberOf};
-ghost use Rattle.elf_check.specs.Object.{IsSound, IsTrueOfObject, object_in};
+ghost use Rattle.elf_check.specs.Object.{IsFirstOfObject, IsSound, object_in};
 ghost use Rattle.elf_check.specs.Verdict.{GivesVerdict};
 
 use crate::hashcheck::{
@@ -95,8 +95,8 @@ impl<'data, E: EndianParse> HashSection<CheckedSysvHash<'data, E>, CheckedGnuHas
 
 /// Checks the bytes of a hash section of either kind as `check_sysv` or `check_gnu` does. The symbols are those of the
 /// section that `sh_link` of the hash section names, with their strings: usually those of `dynamic_symbol_table`.
-/// Returns the checked table exactly if the section is sound for these symbols, and otherwise a fault that is true of
-/// it. Returns an error exactly if `new` of the table does, and that error.
+/// Returns the checked table exactly if the section is sound for these symbols, and otherwise its first fault.
+/// Returns an error exactly if `new` of the table does, and that error.
 ///
 /// ```rust
 /// if let Some(section) = file.section_header_by_name(".gnu.hash")?
@@ -120,7 +120,7 @@ pub fn check_any<'data, E: EndianParse>(
 ) -> Result<Checked<AnyChecked<'data, E>>, ParseError>
     ensures { let object = object_in kind (E.little endian) class section.now
         (table_view symtab.entry) (strings_view strtab.entry) in
-        GivesVerdict object_view IsSound IsTrueOfObject object result }
+        GivesVerdict object_view IsSound IsFirstOfObject object result }
 {
     match kind {
         HashKind::Sysv => match check_sysv(endian, class, section, symtab, strtab) {

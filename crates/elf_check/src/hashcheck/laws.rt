@@ -10,6 +10,7 @@ ghost use Rattle.elf_parts.specs.SysvFind.{SysvTable, sysv_find, sysv_section};
 ghost use Rattle.elf_records.specs.declared.file.Class.{Class};
 ghost use Rattle.elf_check.specs.Faults.{IsTrueOfSysv};
 ghost use Rattle.elf_check.specs.Indexed.{IsFirstNamed, IsLeastNamed};
+ghost use Rattle.elf_check.specs.Object.{IsFirstOfObject, Object};
 ghost use Rattle.elf_check.specs.Reads.{IsCountAt, read_count};
 ghost use Rattle.elf_check.specs.SoundGnu.{SoundGnu};
 ghost use Rattle.elf_check.specs.SoundSysv.{Belongs, SoundSysv, value};
@@ -53,6 +54,12 @@ pub fn sound_sysv_needs_some_end()
 pub fn one_count_at_a_sysv_fault()
     ensures { (s : WithSymbols SysvTable) (fault : HashFault) (old one other : ℕ) → IsTrueOfSysv s fault →
         IsCountAt s fault old one → IsCountAt s fault old other → one ≡ other }
+{}
+
+/// A section has at most one first fault: two that come first are equal.
+pub fn one_first_fault()
+    ensures { (object : Object) (one other : HashFault) → IsFirstOfObject object one → IsFirstOfObject object other →
+        one ≡ other }
 {}
 
 /// Two faults are equal exactly if they are the same fault with the same bucket and index.

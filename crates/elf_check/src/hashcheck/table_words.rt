@@ -15,7 +15,7 @@ pub(crate) type U32Table<'data, E> = ParsingTable<'data, E, u32>;
 pub(crate) fn word_of<E: EndianParse>(words: &U32Table<'_, E>, index: usize) -> Option<u32>
     ensures { result ≡ word (table_view words.now) index }
 {
-    words.get(index).ok()
+    words.get_quickly(index)
 }
 
 // A word below the count.

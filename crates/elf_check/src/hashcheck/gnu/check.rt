@@ -6,6 +6,7 @@ ghost use Rattle.elf_records.specs.StringTable.{strings_view};
 ghost use Rattle.elf_records.specs.Table.{table_view};
 ghost use Rattle.elf_check.specs.CheckedTable.{checked_gnu_view, gnu_indexed};
 ghost use Rattle.elf_check.specs.Faults.{IsTrueOfGnu};
+ghost use Rattle.elf_check.specs.First.{IsFirstOfGnu};
 ghost use Rattle.elf_check.specs.Reads.{count_after, gnu_reads, read_count, symbols_of};
 ghost use Rattle.elf_check.specs.SoundGnu.{HasBothBits, InRun, SoundGnu, SoundWord};
 ghost use Rattle.elf_check.specs.Verdict.{GivesVerdict, OnFaulty, OnSound, gnu_chain_count};
@@ -118,7 +119,7 @@ fn first_fault<'data, E: EndianParse>(
     reads: &mut Reads,
 ) -> Option<HashFault>
     ensures verdict { let s = gnu_with table.now symtab.now strtab.now in
-        MatchOption result (SoundGnu s) (λ fault. (¬ SoundGnu s) × IsTrueOfGnu s fault) }
+        MatchOption result (SoundGnu s) (λ fault. (¬ SoundGnu s) × IsFirstOfGnu s fault) }
     ensures at_most { read_count reads.new ≤ read_count reads.old + word_count (gnu_view table.now).chains }
     ensures at_least { IfNone result
         (count_after (read_count reads.old) (word_count (gnu_view table.now).chains) ≤ read_count reads.new) }
@@ -162,7 +163,7 @@ pub fn check_gnu_counted<'data, E: EndianParse>(
 ) -> Result<Checked<CheckedGnuHash<'data, E>>, ParseError>
     ensures verdict { let cut = gnu_section (E.little endian) class section.now in
         let checked = with_symbols (table_view symtab.entry) (strings_view strtab.entry) cut in
-        GivesVerdict checked_gnu_view SoundGnu IsTrueOfGnu checked result }
+        GivesVerdict checked_gnu_view SoundGnu IsFirstOfGnu checked result }
     ensures at_most { let cut = gnu_section (E.little endian) class section.now in
         read_count reads.new ≤ read_count reads.old + gnu_chain_count cut }
     ensures at_least { OnSound result (λ checked.
@@ -192,7 +193,7 @@ pub fn check_gnu_counted<'data, E: EndianParse>(
     }
 }
 
-/// Checks whether a GNU hash section is sound for its symbols. Returns its table, or a fault that is true of it.
+/// Checks whether a GNU hash section is sound for its symbols. Returns its table, or its first fault.
 /// Returns an error exactly if `GnuHashTable::new` does, and that error.
 pub fn check_gnu<'data, E: EndianParse>(
     endian: E,
@@ -203,7 +204,7 @@ pub fn check_gnu<'data, E: EndianParse>(
 ) -> Result<Checked<CheckedGnuHash<'data, E>>, ParseError>
     ensures { let cut = gnu_section (E.little endian) class section.now in
         let checked = with_symbols (table_view symtab.entry) (strings_view strtab.entry) cut in
-        GivesVerdict checked_gnu_view SoundGnu IsTrueOfGnu checked result }
+        GivesVerdict checked_gnu_view SoundGnu IsFirstOfGnu checked result }
 {
     check_gnu_counted(endian, class, section, symtab, strtab, &mut Reads::new())
 }

@@ -10,8 +10,9 @@ ghost use Rattle.elf_parts.specs.SysvFind.{sysv_section, sysv_view};
 ghost use Rattle.elf_records.specs.Table.{table_view};
 ghost use Rattle.elf_check.specs.CheckedTable.{checked_sysv_view, sysv_indexed};
 ghost use Rattle.elf_check.specs.Faults.{IsTrueOfSysv};
+ghost use Rattle.elf_check.specs.First.{BelongBefore, IsFaultAt, IsFirstOfSysv};
 ghost use Rattle.elf_check.specs.Indexed.{chain_lengths};
-ghost use Rattle.elf_check.specs.Reads.{BelongBefore, IsCountAt, IsFaultAt, count_after, read_count, symbols_of};
+ghost use Rattle.elf_check.specs.Reads.{IsCountAt, count_after, read_count, symbols_of};
 ghost use Rattle.elf_check.specs.SoundSysv.{EndsAt, SoundSysv};
 ghost use Rattle.elf_check.specs.Verdict.{GivesVerdict, OnFaulty, OnSound, sysv_chain_count};
 ghost use Rattle.elf_check.specs.WithSymbols.{sysv_with, with_symbols};
@@ -85,7 +86,7 @@ fn first_fault<'data, E: EndianParse>(
     ensures verdict { let s = sysv_with table.now symtab.now strtab.now in
         MatchResult result
         (λ indexed. SoundSysv s × (indexed ≡ chain_lengths s.table (word_count s.table.buckets)))
-        (λ fault. (¬ SoundSysv s) × IsTrueOfSysv s fault) }
+        (λ fault. (¬ SoundSysv s) × IsFirstOfSysv s fault) }
     ensures at_most { read_count reads.new ≤ read_count reads.old + 2 * word_count (sysv_view table.now).chains }
     ensures at_least { IfOk result (λ indexed. count_after (read_count reads.old) indexed ≤ read_count reads.new) }
     ensures never_less { read_count reads.old ≤ read_count reads.new }
@@ -120,7 +121,7 @@ pub fn check_sysv_counted<'data, E: EndianParse>(
 ) -> Result<Checked<CheckedSysvHash<'data, E>>, ParseError>
     ensures verdict { let cut = sysv_section (E.little endian) class section.now in
         let checked = with_symbols (table_view symtab.entry) (strings_view strtab.entry) cut in
-        GivesVerdict checked_sysv_view SoundSysv IsTrueOfSysv checked result }
+        GivesVerdict checked_sysv_view SoundSysv IsFirstOfSysv checked result }
     ensures at_most { let cut = sysv_section (E.little endian) class section.now in
         read_count reads.new ≤ read_count reads.old + 2 * sysv_chain_count cut }
     ensures at_least { OnSound result (λ checked.
@@ -147,7 +148,7 @@ pub fn check_sysv_counted<'data, E: EndianParse>(
     }
 }
 
-/// Checks whether a SysV hash section is sound for its symbols. Returns its table, or a fault that is true of it.
+/// Checks whether a SysV hash section is sound for its symbols. Returns its table, or its first fault.
 /// Returns an error exactly if `SysVHashTable::new` does, and that error.
 pub fn check_sysv<'data, E: EndianParse>(
     endian: E,
@@ -158,7 +159,7 @@ pub fn check_sysv<'data, E: EndianParse>(
 ) -> Result<Checked<CheckedSysvHash<'data, E>>, ParseError>
     ensures { let cut = sysv_section (E.little endian) class section.now in
         let checked = with_symbols (table_view symtab.entry) (strings_view strtab.entry) cut in
-        GivesVerdict checked_sysv_view SoundSysv IsTrueOfSysv checked result }
+        GivesVerdict checked_sysv_view SoundSysv IsFirstOfSysv checked result }
 {
     check_sysv_counted(endian, class, section, symtab, strtab, &mut Reads::new())
 }

@@ -2,13 +2,17 @@ use Rattle.std.proofs.Common.{ap, arith, subst}
 use Rattle.elf_parts.specs.Hash.{ReadsBelowCount, word_count}
 use Rattle.elf_records.specs.Table.{Table, table_view}
 use Rattle.elf_check.specs.WithSymbols.{gnu_with}
-use Rattle.elf_check.proofs.GnuVerdicts.{true_fault}
+use Rattle.elf_check.proofs.GnuVerdicts.{before_place, true_fault}
 use Rattle.elf_check.proofs.Reading.{word_inside}
 use Rattle.elf_check.proofs.hashcheck.gnu.check.first_fault.Goals as goal
 
 pub returns-in-Some-clause-verdict : goal.returns-in-Some-clause-verdict
 returns-in-Some-clause-verdict g c =
-    (λ sound. true_fault (gnu_with c.args.table.now c.args.symtab.now c.args.strtab.now) sound c.in-Some.fault c.in-Some.ensures.verdict, c.in-Some.ensures.verdict)
+    let s = gnu_with c.args.table.now c.args.symtab.now c.args.strtab.now in
+    let before = before_place s c.in-Some.fault in (
+      λ sound. true_fault s sound c.in-Some.fault c.in-Some.ensures.verdict,
+      (c.in-Some.ensures.verdict, λ k w after e. c.loop-place.invariant.sound k w (before k _ c.in-Some.ensures.names after) e),
+    )
 
 pub returns-clause-verdict : goal.returns-clause-verdict
 returns-clause-verdict g c =

@@ -20,7 +20,10 @@ overflow_add-indexed g c =
 pub returns-in-Err-clause-verdict : goal.returns-in-Err-clause-verdict
 returns-in-Err-clause-verdict g c =
     let s = sysv_with c.args.table.now c.args.symtab.now c.args.strtab.now in
-    (λ sound. true_fault s sound c.in-Err.fault c.in-Err.ensures.verdict, c.in-Err.ensures.verdict)
+    let stops = c.in-Err.ensures.stops in (
+      λ sound. true_fault s sound c.in-Err.fault c.in-Err.ensures.verdict,
+      (c.in-Err.ensures.verdict, (c.loop-bucket.bucket, stops.0, (c.loop-bucket.invariant.sound, stops.1, stops.2))),
+    )
 
 pub returns-in-Err-clause-at_most : goal.returns-in-Err-clause-at_most
 returns-in-Err-clause-at_most g c =
@@ -32,7 +35,7 @@ pub returns-in-Err-clause-exact_at_fault : goal.returns-in-Err-clause-exact_at_f
 returns-in-Err-clause-exact_at_fault g c =
     let stops = c.in-Err.ensures.stops in
     let seen = c.loop-bucket.invariant in
-    (c.loop-bucket.bucket, stops.0, seen.sound, stops.1, stops.2, omega (arith, stops.3, seen.reads, seen.total))
+    (c.loop-bucket.bucket, stops.0, (seen.sound, stops.1, stops.2), omega (arith, stops.3, seen.reads, seen.total))
 
 pub loop-bucket-preserved : goal.loop-bucket-preserved
 loop-bucket-preserved g c =
