@@ -1,7 +1,7 @@
 //! Tables of strings (gABI, chapter "String Table").
 ghost use Rattle.std.specs.Prelude.{◌≡◌, ◌≢◌, ◌==◌, ◌+◌, ◌-◌, ◌<◌, ◌≤◌, Err, List, None, Ok, Some, ℕ};
 ghost use Rattle.std.specs.Prelude.{IfNone, IfSome, IsErr};
-ghost use Rattle.std.specs.Prelude.{drop, length, not, position, slice_get, take};
+ghost use Rattle.std.specs.Prelude.{drop, is_ok, length, not, position, slice_get, take};
 ghost use Rattle.std.specs.Bool.{Decides};
 ghost use Rattle.std.specs.List.{prefix_len};
 ghost use Rattle.std.specs.Str.{bytes_eq};
@@ -250,6 +250,14 @@ impl<'data> TerminatedStrings<'data> {
             return Err(self.table.refused(offset));
         }
         self.table.get_raw(offset)
+    }
+
+    /// Returns whether there is a string at `offset`, in bytes. No byte is read.
+    #[inline(always)]
+    pub fn has_string_at(&self, offset: usize) -> bool
+        ensures { result ≡ is_ok (string_at self.now offset) }
+    {
+        offset < self.terminated
     }
 
     /// Returns whether the string at `offset`, in bytes, is this name, or `None` if it cannot be read. `is` has the

@@ -22,7 +22,7 @@ use crate::faults::{SectionFault, SymbolsFault};
 use crate::hashes::hash_fault;
 use crate::notes::notes_fault;
 use crate::relocations::relocations_fault;
-use crate::strings::{end_of_strings, ends_in_nul, has_string};
+use crate::strings::ends_in_nul;
 use crate::symbols::first_bad_symbol;
 pub(crate) use all::add_sections;
 use elf::endian::EndianParse;
@@ -116,8 +116,7 @@ fn symbols_fault<E: EndianParse>(
     let Some((symbols, strings)) = symbols_in(file, &pair) else {
         return Some(SymbolsFault::NoSymbols);
     };
-    let end = end_of_strings(&strings);
-    match first_bad_symbol(&symbols, &TerminatedStrings::new(&strings), end, sections) {
+    match first_bad_symbol(&symbols, &TerminatedStrings::new(&strings), sections) {
         Some((index, fault)) => Some(SymbolsFault::At { index, fault }),
         None => None,
     }
@@ -128,7 +127,7 @@ fn has_readable_name(names: &Option<TerminatedStrings<'_>>, shdr: &SectionHeader
     ensures { result ≡ is_ok (name_in shdr.now names.now) }
 {
     match names {
-        Some(names) => has_string(names, shdr.sh_name as usize),
+        Some(names) => names.has_string_at(shdr.sh_name as usize),
         None => true,
     }
 }

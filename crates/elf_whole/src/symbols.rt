@@ -1,14 +1,12 @@
 //! The check of symbols.
-ghost use Rattle.std.specs.Prelude.{◌≡◌, ◌<◌, ℕ, IsOk, MatchOption, Ok};
+ghost use Rattle.std.specs.Prelude.{◌≡◌, ◌<◌, MatchOption, Ok};
 ghost use Rattle.elf_parts.specs.Hash.{symbol_at};
-ghost use Rattle.elf_records.specs.StringTable.{string_at};
 ghost use Rattle.elf_records.specs.Table.{table_len, table_view};
 ghost use Rattle.elf_records.specs.Symbol.{symbol_reads};
 ghost use Rattle.elf_whole.specs.Symbols.{IsFirstOfTable, IsTrueOfSymbol, SoundSymbol};
 ghost use Rattle.elf_whole.specs.Members.{AllSound};
 
 use crate::faults::SymbolFault;
-use crate::strings::has_string_before;
 use elf::abi;
 use elf::endian::EndianParse;
 use elf::laws::tables::get_succeeds_below_len;
@@ -28,15 +26,13 @@ pub(crate) fn symbol_below<E: EndianParse>(symbols: &SymbolTable<'_, E>, index: 
 fn symbol_fault(
     symbol: &Symbol,
     strings: &TerminatedStrings<'_>,
-    end: usize,
     sections: usize,
 ) -> Option<SymbolFault>
-    requires { (offset : ℕ) → offset < end → IsOk (string_at strings.now offset) }
     ensures { MatchOption result (SoundSymbol sections strings.now symbol.now)
         (IsTrueOfSymbol sections strings.now symbol.now) }
 {
     let name = symbol.st_name;
-    if !has_string_before(strings, end, name as usize) {
+    if !strings.has_string_at(name as usize) {
         return Some(SymbolFault::NoName { name });
     }
     let section = symbol.st_shndx;
@@ -46,21 +42,19 @@ fn symbol_fault(
     None
 }
 
-// The first symbol that is not sound, and what it lacks. There is a string at each offset before `end`.
+// The first symbol that is not sound, and what it lacks.
 pub(crate) fn first_bad_symbol<E: EndianParse>(
     symbols: &SymbolTable<'_, E>,
     strings: &TerminatedStrings<'_>,
-    end: usize,
     sections: usize,
 ) -> Option<(usize, SymbolFault)>
-    requires { (offset : ℕ) → offset < end → IsOk (string_at strings.now offset) }
     ensures { let table = table_view symbols.now in
         MatchOption result (AllSound (symbol_at table) (SoundSymbol sections strings.now))
         (λ bad. IsFirstOfTable sections table strings.now bad.0 bad.1) }
 {
     for index in 0..symbols.len() {
         let symbol = symbol_below(symbols, index);
-        match symbol_fault(&symbol, strings, end, sections) {
+        match symbol_fault(&symbol, strings, sections) {
             Some(fault) => return Some((index, fault)),
             None => {}
         }

@@ -8,7 +8,6 @@ ghost use Rattle.elf_records.specs.Table.{table_in, table_items, table_view};
 ghost use Rattle.elf_whole.specs.Dynamic.{IsTrueOfEntries, SoundEntries, before_null, has_its_string, names_string};
 
 use crate::faults::DynamicFault;
-use crate::strings::has_string;
 use elf::abi;
 use elf::dynamic::{Dyn, DynamicTable};
 use elf::endian::EndianParse;
@@ -44,7 +43,7 @@ pub(crate) fn names_string(entry: &Dyn) -> bool
 fn has_its_string(strings: &TerminatedStrings<'_>, entry: &Dyn) -> bool
     ensures { result ≡ has_its_string strings.now entry.now }
 {
-    !names_string(entry) || has_string(strings, entry.d_val() as usize)
+    !names_string(entry) || strings.has_string_at(entry.d_val() as usize)
 }
 
 // Whether one of the entries ends the table.
