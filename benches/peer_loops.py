@@ -141,7 +141,8 @@ class Peers:
         return {level: least[word] / max(1, items) for level, word in self.words(loop).items()}
 
     def instructions(self, file):
-        """The same in instructions, less those of a run without a turn. `None` if valgrind is not there."""
+        """The same in instructions, less those of a run without a turn. A turn has one pass more, which is not timed.
+        `None` if valgrind is not there."""
         if not shutil.which("valgrind"):
             return None
         before = {"ours": collected([self.ours, *file.words, "0", "opening=1"])}
@@ -154,7 +155,7 @@ class Peers:
                     program = self.ours if level == "ours" else self.theirs
                     passes = file.passes(loop, COUNTED_ITEMS)
                     run = collected([program, *file.words, "1", f"{word}={passes}"]) - before[level]
-                    counted[word] = run / max(1, file.items[loop.items] * passes)
+                    counted[word] = run / max(1, file.items[loop.items] * (passes + 1))
         return [{level: counted[word] for level, word in self.words(loop).items()} for loop in LOOPS]
 
 
