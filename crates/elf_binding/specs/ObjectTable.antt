@@ -14,7 +14,7 @@ use Rattle.elf.specs.Answers.{dynamic_symbol_table, symbols_view}
 use Rattle.elf.specs.Data.{section_data}
 use Rattle.elf.specs.Headers.{first_section_of}
 use Rattle.elf.specs.ObjectFile.{ObjectFile}
-use Rattle.elf_check.specs.Object.{IsSound, IsTrueOfObject, Object, object_in}
+use Rattle.elf_check.specs.Object.{IsFirstOfObject, IsSound, Object, object_in}
 use Rattle.elf_check.specs.declared.hashcheck.any.HashKind.{HashKind}
 use Rattle.elf_check.specs.declared.hashcheck.any.HashKind.TheVariants.{Gnu, Sysv}
 use Rattle.elf_binding.specs.declared.resolve.ObjectFault.{ObjectFault}
@@ -57,10 +57,10 @@ object_by file None None = None
 abbrev pub object_of : ObjectFile → Option (Result Object ObjectFault)
 object_of file = object_by file (first_section_of sht_gnu_hash file.sections) (first_section_of sht_hash file.sections)
 
--- the fault of an object that gives no checked table: of a section that there is, a fault that is true of it
+-- the fault of an object that gives no checked table: of a section that there is, its first fault
 abbrev pub IsFaultOf : Result Object ObjectFault → ObjectFault → Type 0
 IsFaultOf (Err first) fault = fault ≡ first
-IsFaultOf (Ok object) (Faulty fault) = (¬ IsSound object) × IsTrueOfObject object fault
+IsFaultOf (Ok object) (Faulty fault) = (¬ IsSound object) × IsFirstOfObject object fault
 IsFaultOf (Ok object) (Read e) = ⊥
 IsFaultOf (Ok object) NoSymbols = ⊥
 

@@ -13,7 +13,7 @@ use Rattle.elf_records.specs.declared.parse.ParseError.{ParseError}
 use Rattle.elf_records.specs.declared.section.SectionHeader.{SectionHeader}
 use Rattle.elf_records.specs.declared.symbol.Symbol.{Symbol}
 use Rattle.elf_parts.specs.Hash.{symbol_at}
-use Rattle.elf_check.specs.Object.{IsSound, IsTrueOfObject}
+use Rattle.elf_check.specs.Object.{IsFirstOfObject, IsSound}
 use Rattle.elf_check.specs.declared.hashcheck.any.HashKind.{HashKind}
 use Rattle.elf_check.specs.declared.hashcheck.any.HashKind.TheVariants.{Gnu, Sysv}
 use Rattle.elf.specs.Answers.{symbols_in, symbols_of, with_linked}
@@ -140,8 +140,8 @@ true_hash kind file s NoTable true sound =
     both_and (λ linked. IsTrue (holds_symbols linked) × IsOkAnd (hash_object kind file s linked) IsSound) (λ linked. IsTrue (holds_symbols linked) × IsErr (hash_object kind file s linked)) (file.section_at s.sh_link) sound true
     (λ linked e h err. and_not_err IsSound (hash_object kind file s linked) h.1 err.1)
 true_hash kind file s (Unsound fault) true sound =
-    both_and (λ linked. IsTrue (holds_symbols linked) × IsOkAnd (hash_object kind file s linked) IsSound) (λ linked. IsTrue (holds_symbols linked) × IsOkAnd (hash_object kind file s linked) (λ object. (¬ IsSound object) × IsTrueOfObject object fault)) (file.section_at s.sh_link) sound true
-    (λ linked e h bad. both_and IsSound (λ object. (¬ IsSound object) × IsTrueOfObject object fault) (hash_object kind file s linked) h.1 bad.1 (λ object d is not. not.0 is))
+    both_and (λ linked. IsTrue (holds_symbols linked) × IsOkAnd (hash_object kind file s linked) IsSound) (λ linked. IsTrue (holds_symbols linked) × IsOkAnd (hash_object kind file s linked) (λ object. (¬ IsSound object) × IsFirstOfObject object fault)) (file.section_at s.sh_link) sound true
+    (λ linked e h bad. both_and IsSound (λ object. (¬ IsSound object) × IsFirstOfObject object fault) (hash_object kind file s linked) h.1 bad.1 (λ object d is not. not.0 is))
 
 true_entries : (strings : List ℕ) (t : Table) (fault : DynamicFault) → IsTrueOfEntries strings t fault → SoundEntries strings t → ⊥
 true_entries strings t PartOfEntry true sound = true sound.whole

@@ -6,7 +6,7 @@ use Rattle.elf_abi.specs.Values.{sht_gnu_hash, sht_hash}
 use Rattle.elf_records.specs.Record.{◌>>=◌}
 use Rattle.elf_records.specs.declared.parse.ParseError.{ParseError}
 use Rattle.elf_records.specs.declared.section.SectionHeader.{SectionHeader}
-use Rattle.elf_check.specs.Object.{IsSound, IsTrueOfObject, Object, object_in}
+use Rattle.elf_check.specs.Object.{IsFirstOfObject, IsSound, Object, object_in}
 use Rattle.elf_check.specs.declared.hashcheck.any.HashKind.{HashKind}
 use Rattle.elf_check.specs.declared.hashcheck.any.HashKind.TheVariants.{Gnu, Sysv}
 use Rattle.elf.specs.Answers.{symbols_of}
@@ -58,4 +58,4 @@ IsTrueOfHash kind file s NoTable =
 IsTrueOfHash kind file s (Unsound fault) =
     IsOkAnd (file.section_at s.sh_link) (λ linked.
     IsTrue (holds_symbols linked) × IsOkAnd (hash_object kind file s linked) (λ object.
-    (¬ IsSound object) × IsTrueOfObject object fault))
+    (¬ IsSound object) × IsFirstOfObject object fault))

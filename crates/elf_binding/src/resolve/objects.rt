@@ -38,8 +38,8 @@ fn section_parts<'data, E: EndianParse>(
 /// is not checked.
 ///
 /// Errors, in order: `Read` if the bytes of the section cannot be read; `Read` if the dynamic symbols cannot be read;
-/// `NoSymbols` if there are none; `Read` if `new` of the table returns an error; `Faulty` with a fault that is true of
-/// the section.
+/// `NoSymbols` if there are none; `Read` if `new` of the table returns an error; `Faulty` with the first fault of the
+/// section.
 pub fn section_table<'data, E: EndianParse>(
     file: &ElfBytes<'data, E>,
     kind: HashKind,
