@@ -9,3 +9,13 @@ pub mod VersionsKnown
 pub mod FileVersions
 pub mod Bindings
 pub mod Objects
+pub mod Once
+pub mod OneOfHash
+pub mod OneOfRecords
+pub mod OneOfEntries
+pub mod OneOfSection
+pub mod OneOfSegment
+pub mod OneOfSegments
+pub mod OneOfVersions
+pub mod OneOfFile
+pub mod OneOfAll

@@ -1,5 +1,5 @@
-//! Laws of files that were checked: of their listing, and of look-ups over them. They are theorems for the proofs of
-//! callers. Each is the contract of a function that computes nothing; a caller uses the law by calling it.
+//! Laws of files that were checked: of their faults, of their listing, and of look-ups over them. They are theorems for
+//! the proofs of callers. Each is the contract of a function that computes nothing; a caller uses the law by calling it.
 //! `checked_object` makes the objects of a look-up.
 #![tactic(auto)]
 
@@ -7,10 +7,13 @@ ghost use Rattle.std.specs.Prelude.{◌≡◌, ℕ, List, Ok, slice_get};
 ghost use Rattle.std.specs.List.{AllByRecursion};
 ghost use Rattle.std.specs.Result.{result_ok};
 ghost use Rattle.elf.specs.ElfBytes.{view};
-ghost use Rattle.elf.specs.ObjectFile.{object_file};
+ghost use Rattle.elf.specs.ObjectFile.{ObjectFile, object_file};
 ghost use Rattle.elf_calls.specs.Question.{DynSyms, Question, Symbols, Versions};
 ghost use Rattle.elf_calls.specs.Text.{text};
 ghost use Rattle.elf_records.specs.declared.file.FileHeader.{FileHeader as IsFileHeader};
+ghost use Rattle.elf_whole.specs.AllFaults.{AreAllFaults};
+ghost use Rattle.elf_whole.specs.Faults.{IsTrueOfFile};
+ghost use Rattle.elf_whole.specs.declared.faults.FileFault.{FileFault};
 ghost use Rattle.elf_whole.specs.Whole.{whole_view};
 ghost use Rattle.elf_parts.specs.gnu_symver.Table.{versions_view};
 ghost use Rattle.elf_binding.specs.BindingObjects.{GivesVersioned};
@@ -25,6 +28,7 @@ use elf::laws::lists::list_is_what_get_gives;
 use elf::section::SectionHeader;
 use elf_binding::resolve::ObjectFault;
 use elf_binding::{VersionedObject, versioned_object};
+use elf_check::hashcheck::laws::one_first_fault;
 use elf_whole::WholeFile;
 
 // Section i of the list is the section of index i.
@@ -109,6 +113,24 @@ pub fn texts_are_answered<E: EndianParse>(file: &WholeFile<'_, '_, E>)
         sure_texts header whole calls ≡ Ok (text header whole calls) }
 {
     calls_are_answered(file);
+}
+
+/// A file has at most one first fault: two faults that are true of it, by `IsTrueOfFile`, are equal. So `check_file`
+/// cannot return another one.
+pub fn one_fault_of_a_file()
+    ensures { (file : ObjectFile) (one other : FileFault) →
+        IsTrueOfFile file one → IsTrueOfFile file other → one ≡ other }
+{
+    one_first_fault();
+}
+
+/// A file has one list of all faults: two lists for which `AreAllFaults` holds are equal. So `all_faults` cannot return
+/// another one.
+pub fn one_list_of_faults()
+    ensures { (file : ObjectFile) (one other : List FileFault) →
+        AreAllFaults file one → AreAllFaults file other → one ≡ other }
+{
+    one_first_fault();
 }
 
 /// What a reference binds to is known, if each object of a list is the hash table of a file that is sound with the
