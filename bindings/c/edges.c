@@ -201,6 +201,42 @@ static void read_all(const uint8_t *bytes, size_t length)
     read_common(&file);
 }
 
+/* The texts are those that the Rust crate `elf` 0.8.0 prints of these errors. */
+static void texts(void)
+{
+    static const struct {
+        struct nugwier_status status;
+        const char *text;
+    } all[] = {
+        {{0, 0, 0}, ""},
+        {{1, 0xff000a7f, 0}, "Invalid Magic Bytes: [7F, A, 0, FF]"},
+        {{2, 200, 0}, "Unsupported ELF Class: 200"},
+        {{3, 201, 0}, "Unsupported ELF Endianness: 201"},
+        {{4, 11, 1}, "Unsupported ELF Version field found: 11 expected: 1"},
+        {{5, 0xabcd, 0}, "Bad offset: 0xABCD"},
+        {{5, 0, 0}, "Bad offset: 0x0"},
+        {{5, UINT64_MAX, 0}, "Bad offset: 0xFFFFFFFFFFFFFFFF"},
+        {{6, 0xbeef, 0}, "Could not find terminating NUL byte starting at offset: 0xBEEF"},
+        {{7, 0x1f, 0x18}, "Invalid entsize. Expected: 0x18, Found: 0x1F"},
+        {{8, 12, 3}, "Could not interpret section of type 12 as type 3"},
+        {{9, 13, 2}, "Could not interpret section of type 13 as type 2"},
+        {{10, 15, 0}, "Could not interpret section with unexpected alignment of 15"},
+        {{11, 0x2c, 0x3d}, "Could not read bytes in range [0x2C, 0x3D)"},
+        {{12, 0, 0}, "Integer overflow detected"},
+    };
+    for (size_t i = 0; i < sizeof all / sizeof *all; i++) {
+        uint8_t text[100];
+        size_t length = strlen(all[i].text);
+        memset(text, '~', sizeof text);
+        expect(nugwier_error_text(&all[i].status, text, sizeof text) == length, "the length of a text");
+        expect(!memcmp(text, all[i].text, length) && text[length] == '~', "the text of an error");
+        memset(text, '~', sizeof text);
+        expect(nugwier_error_text(&all[i].status, text, length / 2) == length, "the length of a text without room");
+        expect(!memcmp(text, all[i].text, length / 2) && text[length / 2] == '~', "the front of a text");
+        expect(nugwier_error_text(&all[i].status, NULL, 0) == length, "the length of a text without a place");
+    }
+}
+
 static void nothing(void)
 {
     struct nugwier_file file = {0};
@@ -276,6 +312,7 @@ static void nothing(void)
 int main(int argc, char **argv)
 {
     nothing();
+    texts();
     if (argc < 2) return 0;
     FILE *file = fopen(argv[1], "rb");
     if (!file || fseek(file, 0, SEEK_END)) return perror(argv[1]), 1;

@@ -25,8 +25,10 @@ static const uint8_t *bytes_of(const char *text) { return (const uint8_t *)text;
 
 static int fail(const char *what, struct nugwier_status status)
 {
-    fprintf(stderr, "%s: error %" PRIu32 " (%" PRIu64 ", %" PRIu64 ")\n", what, status.code, status.first,
-            status.second);
+    char text[128];
+    size_t length = nugwier_error_text(&status, (uint8_t *)text, sizeof text);
+    if (length > sizeof text) length = sizeof text;
+    fprintf(stderr, "%s: %.*s\n", what, (int)length, text);
     return 1;
 }
 

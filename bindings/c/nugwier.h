@@ -478,6 +478,11 @@ void nugwier_d_tag_name(int64_t d_tag, struct nugwier_name *name);
 /* The name of the error with the code of a status, as BadMagic. */
 void nugwier_error_name(uint32_t code, struct nugwier_name *name);
 
+/* The text of the error of a status with its numbers, as "Bad offset: 0x40", without a 0 byte at its end. It is written
+ * over the front of `text`, as far as there is room; the call returns the length of the whole text. NUGWIER_OK has no
+ * text. */
+size_t nugwier_error_text(const struct nugwier_status *status, uint8_t *text, size_t text_len);
+
 #ifdef __cplusplus
 }
 #endif

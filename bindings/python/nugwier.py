@@ -27,13 +27,16 @@ _ERRORS = {
 
 
 class ElfError(Exception):
-    """An error of the library: its kind, and the numbers that belong to it."""
+    """An error of the library: its kind, the numbers that belong to it, and its text."""
 
-    def __init__(self, code, first, second):
-        self.kind = _ERRORS.get(code, str(code))
-        self.first = first
-        self.second = second
-        super().__init__(f"{self.kind}({first:#x}, {second:#x})")
+    def __init__(self, status):
+        self.kind = _ERRORS.get(status.code, str(status.code))
+        self.first = status.first
+        self.second = status.second
+        room = 256
+        text = ctypes.create_string_buffer(room)
+        length = _library.nugwier_error_text(byref(status), text, room)
+        super().__init__(text.raw[:length].decode())
 
 
 def _struct(name, *fields):
@@ -104,6 +107,8 @@ def _load():
         function.restype = _Status
     library.nugwier_symbols.argtypes = (POINTER(_Table), c_size_t, POINTER(_Symbol), c_size_t)
     library.nugwier_symbols.restype = c_size_t
+    library.nugwier_error_text.argtypes = (POINTER(_Status), *raw)
+    library.nugwier_error_text.restype = c_size_t
     for name in ("section_count", "segment_count", "symbol_count"):
         function = getattr(library, "nugwier_" + name)
         function.argtypes = (POINTER(_Table),)
@@ -117,7 +122,7 @@ _library = None
 def _call(name, *arguments):
     status = getattr(_library, "nugwier_" + name)(*arguments)
     if status.code:
-        raise ElfError(status.code, status.first, status.second)
+        raise ElfError(status)
 
 
 def _copy(pointer, length):

@@ -57,6 +57,7 @@ class Reading(unittest.TestCase):
             with self.assertRaises(nugwier.ElfError) as caught:
                 nugwier.open(other.name)
             self.assertEqual(caught.exception.kind, "BadMagic")
+            self.assertEqual(str(caught.exception), "Invalid Magic Bytes: [6E, 6F, 20, 45]")
 
     def test_closed(self):
         file = nugwier.open(FILE)

@@ -400,6 +400,7 @@ extern "C" {
     fn nugwier_note_abi_tag_os_name(os: u32, name: &mut Name<'static>);
     fn nugwier_d_tag_name(d_tag: i64, name: &mut Name<'static>);
     fn nugwier_error_name(code: u32, name: &mut Name<'static>);
+    fn nugwier_error_text(status: &Status, text: *mut u8, text_len: usize) -> usize;
     fn nugwier_note(notes: &Notes<'_>, offset: &mut usize, note: &mut Note<'_>) -> Status;
     fn nugwier_symbol(table: &Table<'_>, index: usize, symbol: &mut Symbol) -> Status;
     fn nugwier_rel(table: &Table<'_>, index: usize, rel: &mut Rel) -> Status;
@@ -635,6 +636,12 @@ pub fn d_tag_name(d_tag: i64, name: &mut Name<'static>) {
 pub fn error_name(code: u32, name: &mut Name<'static>) {
     // SAFETY: the export accepts all values of these types, and writes values of these types.
     unsafe { nugwier_error_name(code, name) }
+}
+
+/// Writes the text of an error over the front of `text`, as far as there is room. Returns the length of the whole text.
+pub fn error_text(status: &Status, text: &mut [u8]) -> usize {
+    // SAFETY: the export writes bytes within this slice, which overlaps nothing.
+    unsafe { nugwier_error_text(status, text.as_mut_ptr(), text.len()) }
 }
 
 pub fn note<'a>(notes: &Notes<'a>, offset: &mut usize, note: &mut Note<'a>) -> Status {

@@ -28,53 +28,36 @@ pub enum ParseError {
 
 impl fmt::Display for ParseError {
     fn fmt(&self, f: &mut fmt::Formatter<'_>) -> fmt::Result {
-        match self {
-            ParseError::BadMagic(magic) => write!(f, "Invalid Magic Bytes: {magic:X?}"),
-            ParseError::UnsupportedElfClass(class) => write!(f, "Unsupported ELF Class: {class}"),
-            ParseError::UnsupportedElfEndianness(order) => {
-                write!(f, "Unsupported ELF Endianness: {order}")
+        let (code, first, second) = match self {
+            ParseError::BadMagic(magic) => (1, u32::from_le_bytes(*magic).into(), 0),
+            ParseError::UnsupportedElfClass(class) => (2, (*class).into(), 0),
+            ParseError::UnsupportedElfEndianness(order) => (3, (*order).into(), 0),
+            ParseError::UnsupportedVersion((found, expected)) => (4, *found, *expected),
+            ParseError::BadOffset(offset) => (5, *offset, 0),
+            ParseError::StringTableMissingNul(offset) => (6, *offset, 0),
+            ParseError::BadEntsize((found, expected)) => (7, *found, *expected),
+            ParseError::UnexpectedSectionType((found, expected)) => {
+                (8, (*found).into(), (*expected).into())
             }
-            ParseError::UnsupportedVersion((found, expected)) => {
-                write!(
-                    f,
-                    "Unsupported ELF Version field found: {found} expected: {expected}"
-                )
+            ParseError::UnexpectedSegmentType((found, expected)) => {
+                (9, (*found).into(), (*expected).into())
             }
-            ParseError::BadOffset(offset) => write!(f, "Bad offset: {offset:#X}"),
-            ParseError::StringTableMissingNul(offset) => {
-                write!(
-                    f,
-                    "Could not find terminating NUL byte starting at offset: {offset:#X}"
-                )
-            }
-            ParseError::BadEntsize((found, expected)) => {
-                write!(
-                    f,
-                    "Invalid entsize. Expected: {expected:#X}, Found: {found:#X}"
-                )
-            }
-            ParseError::UnexpectedSectionType((found, expected))
-            | ParseError::UnexpectedSegmentType((found, expected)) => {
-                write!(
-                    f,
-                    "Could not interpret section of type {found} as type {expected}"
-                )
-            }
-            ParseError::UnexpectedAlignment(align) => {
-                write!(
-                    f,
-                    "Could not interpret section with unexpected alignment of {align}"
-                )
-            }
-            ParseError::SliceReadError((start, end)) => {
-                write!(f, "Could not read bytes in range [{start:#X}, {end:#X})")
-            }
-            ParseError::IntegerOverflow => f.write_str("Integer overflow detected"),
-            ParseError::Utf8Error(error) => error.fmt(f),
-            ParseError::TryFromSliceError(error) => error.fmt(f),
-            ParseError::TryFromIntError(error) => error.fmt(f),
-            ParseError::IOError(error) => error.fmt(f),
-        }
+            ParseError::UnexpectedAlignment(align) => (10, *align as u64, 0),
+            ParseError::SliceReadError((start, end)) => (11, *start as u64, *end as u64),
+            ParseError::IntegerOverflow => (12, 0, 0),
+            ParseError::Utf8Error(error) => return error.fmt(f),
+            ParseError::TryFromSliceError(error) => return error.fmt(f),
+            ParseError::TryFromIntError(error) => return error.fmt(f),
+            ParseError::IOError(error) => return error.fmt(f),
+        };
+        let status = ffi::Status {
+            code,
+            first,
+            second,
+        };
+        let mut text = [0; 128];
+        let length = ffi::error_text(&status, &mut text).min(text.len());
+        f.write_str(&String::from_utf8_lossy(&text[..length]))
     }
 }
 

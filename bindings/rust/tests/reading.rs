@@ -161,6 +161,57 @@ fn errors_are_those_of_the_first_step() {
 }
 
 #[test]
+fn errors_have_texts() {
+    let texts = [
+        (
+            ParseError::BadMagic([0x7f, 10, 0, 255]),
+            "Invalid Magic Bytes: [7F, A, 0, FF]",
+        ),
+        (
+            ParseError::UnsupportedElfClass(200),
+            "Unsupported ELF Class: 200",
+        ),
+        (
+            ParseError::UnsupportedElfEndianness(201),
+            "Unsupported ELF Endianness: 201",
+        ),
+        (
+            ParseError::UnsupportedVersion((11, u64::MAX)),
+            "Unsupported ELF Version field found: 11 expected: 18446744073709551615",
+        ),
+        (ParseError::BadOffset(0xabcd), "Bad offset: 0xABCD"),
+        (
+            ParseError::StringTableMissingNul(0),
+            "Could not find terminating NUL byte starting at offset: 0x0",
+        ),
+        (
+            ParseError::BadEntsize((0x1f, 0x18)),
+            "Invalid entsize. Expected: 0x18, Found: 0x1F",
+        ),
+        (
+            ParseError::UnexpectedSectionType((12, 3)),
+            "Could not interpret section of type 12 as type 3",
+        ),
+        (
+            ParseError::UnexpectedSegmentType((13, 2)),
+            "Could not interpret section of type 13 as type 2",
+        ),
+        (
+            ParseError::UnexpectedAlignment(15),
+            "Could not interpret section with unexpected alignment of 15",
+        ),
+        (
+            ParseError::SliceReadError((0x2c, 0x3d)),
+            "Could not read bytes in range [0x2C, 0x3D)",
+        ),
+        (ParseError::IntegerOverflow, "Integer overflow detected"),
+    ];
+    for (error, text) in texts {
+        assert_eq!(error.to_string(), text);
+    }
+}
+
+#[test]
 fn values_have_names() {
     assert_eq!(nugwier::to_str::e_machine_to_str(62), Some("EM_X86_64"));
     assert_eq!(

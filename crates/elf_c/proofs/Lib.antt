@@ -6,3 +6,4 @@ pub mod Definitions
 pub mod Files
 pub mod NoteFilling
 pub mod HashTables
+pub mod Writing

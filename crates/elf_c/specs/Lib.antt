@@ -20,6 +20,8 @@ pub mod Notes
 pub mod Versions
 -- the names of values
 pub mod Names
+-- the texts of errors
+pub mod Texts
 -- files that C holds open
 pub mod File
 -- the bytes of sections and segments

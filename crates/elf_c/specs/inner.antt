@@ -4,3 +4,5 @@
 pub mod OwnTables
 -- the definitions of versions as linked records
 pub mod DefinitionLinks
+-- text that is written piece by piece
+pub mod Writing

@@ -16,5 +16,6 @@ pub mod status;
 pub mod strings;
 pub mod symbols;
 pub mod table;
+pub mod texts;
 pub mod version_table;
 pub mod versions;
