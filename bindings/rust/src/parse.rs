@@ -50,7 +50,11 @@ impl fmt::Display for ParseError {
             ParseError::TryFromIntError(error) => return error.fmt(f),
             ParseError::IOError(error) => return error.fmt(f),
         };
-        let status = ffi::Status { code, first, second };
+        let status = ffi::Status {
+            code,
+            first,
+            second,
+        };
         let mut text = [0; 128];
         let length = ffi::error_text(&status, &mut text).min(text.len());
         f.write_str(&String::from_utf8_lossy(&text[..length]))

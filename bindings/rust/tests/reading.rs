@@ -163,9 +163,18 @@ fn errors_are_those_of_the_first_step() {
 #[test]
 fn errors_have_texts() {
     let texts = [
-        (ParseError::BadMagic([0x7f, 10, 0, 255]), "Invalid Magic Bytes: [7F, A, 0, FF]"),
-        (ParseError::UnsupportedElfClass(200), "Unsupported ELF Class: 200"),
-        (ParseError::UnsupportedElfEndianness(201), "Unsupported ELF Endianness: 201"),
+        (
+            ParseError::BadMagic([0x7f, 10, 0, 255]),
+            "Invalid Magic Bytes: [7F, A, 0, FF]",
+        ),
+        (
+            ParseError::UnsupportedElfClass(200),
+            "Unsupported ELF Class: 200",
+        ),
+        (
+            ParseError::UnsupportedElfEndianness(201),
+            "Unsupported ELF Endianness: 201",
+        ),
         (
             ParseError::UnsupportedVersion((11, u64::MAX)),
             "Unsupported ELF Version field found: 11 expected: 18446744073709551615",

@@ -1,5 +1,5 @@
 -- What is looked up most often, as C sees it.
-use Rattle.std.specs.Prelude.{Option, Some, None, if◌then◌else◌}
+use Rattle.std.specs.Prelude.{Some, None, if◌then◌else◌}
 use Rattle.std.specs.Option.{option_map}
 use Rattle.elf.specs.Common.{CommonData}
 use Rattle.elf_c.specs.HashTables.{gnu_of_c, sysv_of_c}

@@ -28,7 +28,7 @@ abbrev pub type_text : ℕ → ℕ → List ℕ
 type_text found expected =
     codes "Could not interpret section of type " ++ decimal found ++ codes " as type " ++ decimal expected
 
--- of a status, what its error shows by `{}`
+-- the text that the error of a status prints by `{}`
 abbrev pub error_text : NugwierStatus → List ℕ
 error_text s =
     if s.code == 1 then magic_text s.first

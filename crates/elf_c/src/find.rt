@@ -5,12 +5,13 @@ ghost use Rattle.elf_c.specs.Find.{found_shown, gnu_found, sysv_found};
 ghost use Rattle.elf_c.specs.Sound.{FindsFirst, FindsLeast, IsVerdict, gnu_object, hash_object, sysv_object};
 ghost use Rattle.elf_c.specs.Status.{status_of, written};
 
+use crate::hash_tables::{look_up_in_sysv, sysv_opened};
 use crate::records::NugwierSymbol;
 use crate::status::{NugwierStatus, done, refused};
 use crate::table::{ForC, NugwierTable, class_in, order_in, records_in};
 use elf_check::hashcheck::laws::{gnu_find_on_sound, sysv_find_on_sound};
 use elf_check::hashcheck::{Checked, HashKind, check_any};
-use elf_parts::hash::{GnuHashTable, SysVHashTable};
+use elf_parts::hash::GnuHashTable;
 use elf_parts::parse::ParseError;
 use elf_parts::string_table::StringTable;
 use elf_parts::symbol::Symbol;
@@ -81,18 +82,24 @@ fn gnu_found(
     table.find(name, &records_in(symbols), &StringTable::new(strings))
 }
 
-// The symbol of a name, by a SysV hash section.
+// Opens a SysV hash section and looks a name up in it. The look-up is that of the export that takes an opened section: in
+// a copy for each of the two exports the compiler inlines less.
 #[inline(always)]
-fn sysv_found(
+fn find_in_sysv(
     section: &[u8],
     symbols: &NugwierTable<'_>,
     strings: &[u8],
     name: &[u8],
-) -> Result<Option<(usize, Symbol)>, ParseError>
-    ensures { result ≡ sysv_found section.now symbols.now strings.now name.now }
+    found: &mut NugwierFound,
+) -> NugwierStatus
+    ensures status { result ≡ status_of (sysv_found section.now symbols.now strings.now name.now) }
+    ensures found { found.new ≡ written found_shown found.old
+        (sysv_found section.now symbols.now strings.now name.now) }
 {
-    let table = SysVHashTable::new(order_in(symbols.little), class_in(symbols.is_64), section)?;
-    table.find(name, &records_in(symbols), &StringTable::new(strings))
+    match sysv_opened(symbols.little, symbols.is_64, section) {
+        Ok(sysv) => look_up_in_sysv(&sysv, symbols, strings, name, found),
+        Err(error) => refused(&error),
+    }
 }
 
 /// Looks a name up in a GNU hash section, for these symbols and their strings. An error leaves `found` as it is; the
@@ -135,7 +142,7 @@ pub extern "C" fn nugwier_sysv_find(
         (λ s. FindsFirst s name.now result found.new) }
 {
     sysv_find_on_sound(section);
-    write_found(&sysv_found(section, symbols, strings, name), found)
+    find_in_sysv(section, symbols, strings, name, found)
 }
 
 /// What a check says of a hash section: whether it is sound, and then how many symbols it indexes, otherwise 0.

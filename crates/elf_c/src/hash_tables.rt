@@ -191,12 +191,11 @@ pub extern "C" fn nugwier_gnu_look_up(
     }
 }
 
-/// Looks a name up in a SysV hash section that was opened, for these symbols and their strings. An error leaves `found`
-/// as it is; the errors are those of `SysVHashTable::find`.
-// In the first arm the byte order and the class are known to the compiler. `LittleEndian` gives it a copy of `find` of
-// its own, since of one that several places share the compiler inlines less.
-#[unsafe(no_mangle)]
-pub extern "C" fn nugwier_sysv_look_up(
+// Looks a name up in a SysV hash section that was opened, and writes what was found. In the first arm the byte order and
+// the class are known to the compiler. `LittleEndian` gives it a copy of `find` of its own, since of one that several
+// places share the compiler inlines less. So both exports call this function, which is not inlined.
+#[inline(never)]
+pub(crate) fn look_up_in_sysv(
     sysv: &NugwierSysv<'_>,
     symbols: &NugwierTable<'_>,
     strings: &[u8],
@@ -217,4 +216,21 @@ pub extern "C" fn nugwier_sysv_look_up(
         let table = sysv_table(order_in(sysv.little), class_in(sysv.is_64), sysv);
         write_found(&table.find(name, &symtab, &strtab), found)
     }
+}
+
+/// Looks a name up in a SysV hash section that was opened, for these symbols and their strings. An error leaves `found`
+/// as it is; the errors are those of `SysVHashTable::find`.
+#[unsafe(no_mangle)]
+pub extern "C" fn nugwier_sysv_look_up(
+    sysv: &NugwierSysv<'_>,
+    symbols: &NugwierTable<'_>,
+    strings: &[u8],
+    name: &[u8],
+    found: &mut NugwierFound,
+) -> NugwierStatus
+    ensures status { result ≡ status_of (sysv_find (sysv_of_c sysv.now) (table_of_c symbols.now) strings.now name.now) }
+    ensures found { found.new ≡ written found_shown found.old
+        (sysv_find (sysv_of_c sysv.now) (table_of_c symbols.now) strings.now name.now) }
+{
+    look_up_in_sysv(sysv, symbols, strings, name, found)
 }

@@ -125,7 +125,7 @@ fn write_bytes(place: &mut [u8], index: usize, number: u64) -> usize
     write_number(place, end, number / 0x100_0000 % 0x100, 16)
 }
 
-// Writes the text of an error of the first four bytes, of which the first one is the lowest byte of the number.
+// Writes the text of an error of the first four bytes. The first one is the lowest byte of the number.
 fn write_magic(place: &mut [u8], number: u64) -> usize
     ensures { IsWritten 0 (magic_text number) place.old place.new result }
 {
@@ -203,7 +203,7 @@ fn write_error(place: &mut [u8], status: &NugwierStatus) -> usize
 }
 
 /// Writes the text of the error that a status stands for over the front of `text`, as far as there is room, and returns
-/// the length of the whole text. It is what `ParseError` shows by `{}`. The status of success has no text; neither have
+/// the length of the whole text. `ParseError` prints the same by `{}`. The status of success has no text; neither have
 /// the codes 13 to 16, which no call returns.
 #[unsafe(no_mangle)]
 pub extern "C" fn nugwier_error_text(status: &NugwierStatus, text: &mut [u8]) -> usize
