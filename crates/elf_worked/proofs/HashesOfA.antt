@@ -8,11 +8,12 @@ use Rattle.elf_records.specs.Record.{numbers_at}
 use Rattle.elf_records.specs.StringTable.{string_at}
 use Rattle.elf_check.proofs.SysvVerdicts.{true_fault}
 use Rattle.elf_check.specs.Faults.{IsTrueOfSysv}
+use Rattle.elf_check.specs.First.{ComesFirstOfSysv}
 use Rattle.elf_check.specs.SoundGnu.{SoundGnu, SoundWord}
 use Rattle.elf_check.specs.SoundSysv.{SoundSysv, value}
 use Rattle.elf_check.specs.WithSymbols.{bloom, symbol_and_name, word}
 use Rattle.elf_check.specs.declared.hashcheck.HashFault.TheVariants.{Endless}
-use Rattle.elf_worked.proofs.Below.{below_one, below_three, suc_other}
+use Rattle.elf_worked.proofs.Below.{below_one, below_three, below_two, suc_other}
 use Rattle.elf_worked.proofs.GnuSound.{word_begins}
 use Rattle.elf_worked.proofs.SysvSound.{IsVisit}
 use Rattle.elf_worked.specs.HashesOfA.{gnu_of_a, sysv_of_a}
@@ -29,6 +30,13 @@ pub cyclic : IsTrueOfSysv (sysv_of_a 1) (Endless 0)
 unfolding word word_at bytes_at number_at numbers_at
 cyclic =
     (lit≤ tt, λ j most. below_three (λ i. IsSomeAnd (value (sysv_of_a 1).table 0 i) (λ index. index ≢ 0)) (suc_other 0) (suc_other 0) (suc_other 0) j (omega (arith, most)))
+
+-- and no fault comes before: its two values belong to the bucket
+pub cyclic_first : ComesFirstOfSysv (sysv_of_a 1) (Endless 0)
+unfolding word word_at symbol_and_name named_symbol string_at bytes_at number_at numbers_at sysv_hash_of
+cyclic_first =
+    let visit : IsVisit (sysv_of_a 1) 0 0 = (lit≤ tt, (lit≤ tt, refl)) in
+    (0, 2, (λ b less. absurd (omega (arith, less)), below_two (IsVisit (sysv_of_a 1) 0) visit (lit≤ tt, (lit≤ tt, refl)), (refl, refl)))
 
 pub sysv_of_a_cyclic : SoundSysv (sysv_of_a 1) → ⊥
 sysv_of_a_cyclic sound = true_fault (sysv_of_a 1) sound (Endless 0) cyclic
