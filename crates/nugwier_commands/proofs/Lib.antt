@@ -1,2 +1,4 @@
 pub mod Numbers
 pub mod Listed
+pub mod Parted
+pub mod NothingTold

@@ -1,5 +1,5 @@
 -- The places at which a file is wrong, by what the library answers.
-use Rattle.std.specs.Prelude.{ℕ, Bool, true, false, ◌==◌, ◌||◌, if◌then◌else◌, List, [], ◌∷◌, ◌++◌}
+use Rattle.std.specs.Prelude.{ℕ, Bool, true, ◌==◌, ◌||◌, if◌then◌else◌, List, [], ◌∷◌, ◌++◌}
 use Rattle.std.specs.Prelude.{Option, Some, None, Result, Ok, Err}
 use Rattle.std.specs.Option.{option_map}
 use Rattle.std.specs.Result.{result_ok}
@@ -7,7 +7,6 @@ use Rattle.elf_abi.specs.Values.{pt_note, sht_dynsym, sht_gnu_verdef, sht_gnu_ve
 use Rattle.elf_abi.specs.Values.{sht_symtab}
 use Rattle.elf_parts.specs.gnu_symver.Lists.{ver_defs, ver_needs}
 use Rattle.elf_parts.specs.gnu_symver.Table.{Versions}
-use Rattle.elf_records.specs.Dynamic.{dyn_reads}
 use Rattle.elf_records.specs.Number.{ok_map}
 use Rattle.elf_records.specs.Record.{◌>>=◌}
 use Rattle.elf_records.specs.Symbol.{symbol_reads}
@@ -35,6 +34,8 @@ use Rattle.nugwier_lines.specs.declared.problem.Part.{Part}
 use Rattle.nugwier_lines.specs.declared.problem.Part.TheVariants.{Dynamic, DynamicStrings, DynamicSymbols, Section, SectionNames}
 use Rattle.nugwier_lines.specs.declared.problem.Part.TheVariants.{Segment, Symbols, Versions as VersionPart}
 use Rattle.nugwier_lines.specs.declared.problem.Place.{Place}
+use Rattle.nugwier_lines.specs.declared.symbols.Form.{Form}
+use Rattle.nugwier_lines.specs.declared.symbols.Form.TheVariants.{Export, Fields, Letter}
 
 -- a part as a whole
 abbrev pub whole : Part → Place
@@ -78,6 +79,12 @@ versioned_wrong has_row file symbols =
 abbrev pub dynamic_symbols_wrong : List Place → (ℕ → Symbol → Bool) → ObjectFile → List Place
 dynamic_symbols_wrong none has_row file =
     part_wrong DynamicSymbols none (versioned_wrong has_row file) (dynamic_symbol_table file)
+
+-- if there are no symbols for dynamic linking: a listing of all their fields needs none
+abbrev pub none_listed : {E : Type 0} → Form E → List Place
+none_listed Fields = []
+none_listed (Letter class sections) = whole DynamicSymbols ∷ []
+none_listed Export = whole DynamicSymbols ∷ []
 
 -- of the other symbols, if there are any
 abbrev pub symbols_wrong : ObjectFile → List Place

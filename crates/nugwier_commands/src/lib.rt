@@ -10,6 +10,7 @@ mod contents;
 pub mod files;
 mod help;
 mod identity;
+pub mod laws;
 mod list;
 mod names;
 mod notes;

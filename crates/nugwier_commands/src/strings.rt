@@ -3,11 +3,13 @@ ghost use Rattle.std.specs.Prelude.{◌≡◌, ◌++◌, IfOk, IfSome, OnOk};
 ghost use Rattle.std.specs.Result.{result_ok};
 ghost use Rattle.elf.specs.Answers.{segment_data};
 ghost use Rattle.elf.specs.ElfBytes.{view};
+ghost use Rattle.elf.specs.ElfStream.{Keeps};
 ghost use Rattle.elf.specs.ObjectFile.{object_file};
 ghost use Rattle.elf.specs.StreamFile.{stream_file};
 ghost use Rattle.elf_records.specs.Number.{ok_map};
 ghost use Rattle.elf_tools.specs.Needed.{or_error, strings_by};
 ghost use Rattle.elf_tools.specs.declared.needed.NamesError.TheVariants.{Read as IsRead};
+ghost use Rattle.nugwier_commands.specs.ByParts.{IfUnread};
 ghost use Rattle.nugwier_commands.specs.Wrong.{dynamic_wrong, entries_of, names_wrong, needed_of};
 ghost use Rattle.nugwier_commands.specs.Wrong.{none_wrong, shown_wrong, whole};
 ghost use Rattle.nugwier_lines.specs.Places.{at_if, is_error};
@@ -185,8 +187,10 @@ pub(crate) fn list_dynamic_by_parts<E: EndianParse, S: StreamSource, W: Write>(
     out: &mut W,
     problems: &mut Problems,
 ) -> Result<(), Unlisted>
-    ensures { OnOk result (IfSome stream.old.content (λ bytes. problems.new ≡ problems.old
+    ensures keeps { Keeps stream.old stream.new }
+    ensures places { OnOk result (IfSome stream.old.content (λ bytes. problems.new ≡ problems.old
         ++ dynamic_wrong shown (stream_file E.little stream.old bytes))) }
+    ensures unread { IfUnread result (problems.new ≡ problems.old) }
 {
     match read_entries(alloc, stream)? {
         Some(entries) => list_found(shown, format, stream, entries.as_slice(), out, problems),
@@ -206,8 +210,10 @@ fn list_found<E: EndianParse, S: StreamSource, W: Write>(
     out: &mut W,
     problems: &mut Problems,
 ) -> Result<(), Unlisted>
-    ensures { OnOk result (IfSome stream.old.content (λ bytes. problems.new ≡ problems.old
+    ensures keeps { Keeps stream.old stream.new }
+    ensures places { OnOk result (IfSome stream.old.content (λ bytes. problems.new ≡ problems.old
         ++ shown_wrong shown entries.now (strings_by (stream_file E.little stream.old bytes) entries.now))) }
+    ensures unread { IfUnread result (problems.new ≡ problems.old) }
 {
     match string_part(stream.segments().as_slice(), entries) {
         Ok(part) => list_with_part(shown, format, stream, entries, &part, out, problems),
@@ -228,9 +234,11 @@ fn list_with_part<E: EndianParse, S: StreamSource, W: Write>(
     out: &mut W,
     problems: &mut Problems,
 ) -> Result<(), Unlisted>
-    ensures { OnOk result (IfSome stream.old.content (λ bytes. problems.new ≡ problems.old
+    ensures keeps { Keeps stream.old stream.new }
+    ensures places { OnOk result (IfSome stream.old.content (λ bytes. problems.new ≡ problems.old
         ++ shown_wrong shown entries.now
         (or_error IsRead (segment_data (stream_file E.little stream.old bytes) part.now)))) }
+    ensures unread { IfUnread result (problems.new ≡ problems.old) }
 {
     match stream.segment_data(part) {
         Ok(bytes) => {
@@ -245,14 +253,26 @@ fn list_with_part<E: EndianParse, S: StreamSource, W: Write>(
 pub(crate) fn can_read_entries<E: EndianParse, S: StreamSource>(
     alloc: Global,
     stream: &mut ElfStream<E, S, Global>,
-) -> bool {
+) -> bool
+    ensures { Keeps stream.old stream.new }
+{
     let Ok(entries) = read_entries(alloc, stream) else {
         return false;
     };
     let Some(entries) = entries else {
         return true;
     };
-    match string_part(stream.segments().as_slice(), entries.as_slice()) {
+    can_read_strings(stream, entries.as_slice())
+}
+
+// Whether the strings that the entries name can be read, if their place is known.
+fn can_read_strings<E: EndianParse, S: StreamSource>(
+    stream: &mut ElfStream<E, S, Global>,
+    entries: &[Dyn],
+) -> bool
+    ensures { Keeps stream.old stream.new }
+{
+    match string_part(stream.segments().as_slice(), entries) {
         Ok(part) => stream.segment_data(&part).is_ok(),
         Err(_) => true,
     }

@@ -3,9 +3,14 @@ ghost use Rattle.std.specs.Prelude.{◌≡◌, ◌++◌, [], ◌∷◌, true, If
 ghost use Rattle.std.specs.Option.{option_map};
 ghost use Rattle.elf.specs.Answers.{symbols_view};
 ghost use Rattle.elf.specs.ElfBytes.{view};
+ghost use Rattle.elf.specs.ElfStream.{Keeps};
 ghost use Rattle.elf.specs.ObjectFile.{object_file};
 ghost use Rattle.elf.specs.StreamFile.{stream_file};
-ghost use Rattle.nugwier_commands.specs.Wrong.{dynamic_symbols_wrong, symbols_wrong, table_wrong, versioned_wrong, whole};
+ghost use Rattle.elf_parts.specs.gnu_symver.Table.{versions_view};
+ghost use Rattle.elf_tools.specs.Library.{symbols_in};
+ghost use Rattle.nugwier_commands.specs.ByParts.{IfUnread};
+ghost use Rattle.nugwier_commands.specs.Wrong.{dynamic_symbols_wrong, none_listed, symbols_wrong, table_wrong};
+ghost use Rattle.nugwier_commands.specs.Wrong.{versioned_wrong, whole};
 ghost use Rattle.nugwier_lines.specs.Names.{is_listed};
 ghost use Rattle.nugwier_lines.specs.declared.problem.Part.TheVariants.{DynamicSymbols};
 
@@ -15,6 +20,8 @@ use elf::gnu_symver::{IndexedVersions, SymbolVersionTable};
 use elf::string_table::{StringTable, TerminatedStrings};
 use elf::symbol::SymbolTable;
 use elf::{ElfBytes, ElfStream, ParseError, StreamSource};
+use elf_tools::bindings::library::SymbolBytes;
+use elf_tools::bindings::reading::read_symbols;
 use elf_tools::versions::indexed;
 use nugwier_lines::json::Format;
 use nugwier_lines::problem::{Fault, Item, Part, Place, Problems, Stop};
@@ -74,9 +81,7 @@ fn list_versioned<'data, E: EndianParse, W: Write>(
         Some(versions) => versions,
         None => None,
     };
-    let versions = indexed(alloc, versions.as_ref())?;
-    let part = Part::DynamicSymbols;
-    list_rows(format, part, symbols, versions, form, out, problems)
+    list_with_versions(alloc, format, symbols, versions, form, out, problems)
 }
 
 // Lists symbols. If all their fields are listed, they have a heading for people.
@@ -164,8 +169,10 @@ pub(crate) fn list_symbols_by_parts<E: EndianParse, S: StreamSource, W: Write>(
     out: &mut W,
     problems: &mut Problems,
 ) -> Result<(), Unlisted>
-    ensures { OnOk result (IfSome stream.old.content (λ bytes. problems.new ≡ problems.old
+    ensures keeps { Keeps stream.old stream.new }
+    ensures places { OnOk result (IfSome stream.old.content (λ bytes. problems.new ≡ problems.old
         ++ symbols_wrong (stream_file E.little stream.old bytes))) }
+    ensures unread { IfUnread result (problems.new ≡ problems.old) }
 {
     match stream.symbol_table() {
         Ok(Some(symbols)) => {
@@ -176,4 +183,94 @@ pub(crate) fn list_symbols_by_parts<E: EndianParse, S: StreamSource, W: Write>(
         Ok(None) => Ok(()),
         Err(error) => Err(Unlisted::Unread(error)),
     }
+}
+
+/// Lists the symbols for dynamic linking of a file that is read by parts, with their versions. It is wrong if there are
+/// none, unless all fields are listed. Nothing is written before all that is needed was read.
+pub(crate) fn list_dynamic_symbols_by_parts<E: EndianParse, S: StreamSource, W: Write>(
+    alloc: Global,
+    format: Format<'_>,
+    stream: &mut ElfStream<E, S, Global>,
+    form: Form<'_, E>,
+    out: &mut W,
+    problems: &mut Problems,
+) -> Result<(), Unlisted>
+    ensures keeps { Keeps stream.old stream.new }
+    ensures places { OnOk result (IfSome stream.old.content (λ bytes. problems.new ≡ problems.old
+        ++ dynamic_symbols_wrong (none_listed form.entry) (is_listed form.entry)
+        (stream_file E.little stream.old bytes))) }
+    ensures unread { IfUnread result (problems.new ≡ problems.old) }
+{
+    match read_symbols(alloc, stream)? {
+        Some(symbols) => list_read(alloc, format, stream, &symbols, form, out, problems),
+        None => {
+            list_none(&form, problems)?;
+            Ok(())
+        }
+    }
+}
+
+// That there are no symbols for dynamic linking.
+fn list_none<E: EndianParse>(form: &Form<'_, E>, problems: &mut Problems) -> Result<(), Stop>
+    ensures { OnOk result (problems.new ≡ problems.old ++ none_listed form.now) }
+{
+    match form {
+        Form::Fields => Ok(()),
+        _ => problems.add(whole(Part::DynamicSymbols), Fault::Missing),
+    }
+}
+
+// Lists symbols for dynamic linking that were read, with their versions.
+fn list_read<E: EndianParse, S: StreamSource, W: Write>(
+    alloc: Global,
+    format: Format<'_>,
+    stream: &mut ElfStream<E, S, Global>,
+    symbols: &SymbolBytes,
+    form: Form<'_, E>,
+    out: &mut W,
+    problems: &mut Problems,
+) -> Result<(), Unlisted>
+    ensures keeps { Keeps stream.old stream.new }
+    ensures places { OnOk result (IfSome stream.old.content (λ bytes. problems.new ≡ problems.old
+        ++ versioned_wrong (is_listed form.entry) (stream_file E.little stream.old bytes)
+        (symbols_in (E.little stream.old.headers.ehdr.endianness) stream.old.headers.ehdr.class symbols.now))) }
+    ensures unread { IfUnread result (problems.new ≡ problems.old) }
+{
+    let symbols = table_of(stream, symbols);
+    match stream.symbol_version_table() {
+        Ok(versions) => {
+            list_with_versions(alloc, format, symbols, versions, form, out, problems)?;
+            Ok(())
+        }
+        Err(error) => Err(Unlisted::Unread(error)),
+    }
+}
+
+// Symbols that were read, in the order and the class of the file.
+fn table_of<'a, E: EndianParse, S: StreamSource>(
+    stream: &ElfStream<E, S, Global>,
+    symbols: &'a SymbolBytes,
+) -> Symbols<'a, E>
+    ensures { symbols_view result ≡ symbols_in (E.little stream.now.headers.ehdr.endianness)
+        stream.now.headers.ehdr.class symbols.now }
+{
+    symbols.table(stream.ehdr.endianness, stream.ehdr.class)
+}
+
+// Lists symbols for dynamic linking with these versions.
+fn list_with_versions<'data, E: EndianParse, W: Write>(
+    alloc: Global,
+    format: Format<'_>,
+    symbols: Symbols<'data, E>,
+    versions: Option<SymbolVersionTable<'data, E>>,
+    form: Form<'data, E>,
+    out: &mut W,
+    problems: &mut Problems,
+) -> Result<(), Stop>
+    ensures { OnOk result (problems.new ≡ problems.old
+        ++ table_wrong (is_listed form.entry) DynamicSymbols (option_map versions_view versions.entry) (symbols_view symbols.entry)) }
+{
+    let versions = indexed(alloc, versions.as_ref())?;
+    let part = Part::DynamicSymbols;
+    list_rows(format, part, symbols, versions, form, out, problems)
 }
