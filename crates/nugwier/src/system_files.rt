@@ -1,5 +1,5 @@
 //! The files of the operating system.
-ghost use Rattle.std.specs.Prelude.{None};
+ghost use Rattle.std.specs.Prelude.{None, ⊤};
 
 use elf::FileSource;
 use nugwier_commands::files::{Files, Libraries};
@@ -24,6 +24,11 @@ impl<'a> SystemFiles<'a> {
 
 impl Files for SystemFiles<'_> {
     type Source = FileSource;
+
+    // Files may change, so nothing is known of what is read.
+    ghost reads = { λ _ _ _. ⊤ };
+
+    ghost opens = { λ _ _ _. ⊤ };
 
     // Only a regular file is read by parts: a pipe is read once, from its start.
     fn open(&self, path: &str) -> Option<FileSource> {

@@ -3,7 +3,7 @@
 //! `NAME,62=0063` names the file NAME with other bytes from offset 62 on (`changes`).
 #![tactic(auto)]
 
-ghost use Rattle.std.specs.Prelude.{None};
+ghost use Rattle.std.specs.Prelude.{None, ⊤};
 
 mod changes;
 
@@ -25,6 +25,10 @@ struct CaseFiles<'a> {
 
 impl Files for CaseFiles<'_> {
     type Source = FileSource;
+
+    ghost reads = { λ _ _ _. ⊤ };
+
+    ghost opens = { λ _ _ _. ⊤ };
 
     fn open(&self, path: &str) -> Option<FileSource> {
         let file = File::open(self.rt, path).ok()?;

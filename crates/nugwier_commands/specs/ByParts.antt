@@ -1,7 +1,12 @@
 -- What a command finds wrong with a file that is read by parts.
-use Rattle.std.specs.Prelude.{◌≡◌, ◌⊎◌, ◌==◌, ◌||◌, ◌&&◌, not, ⊤, IsTrue, Bool, true, false, length}
+use Rattle.std.specs.Prelude.{◌≡◌, ◌⊎◌, ◌==◌, ◌||◌, ◌&&◌, not, ⊤, IsTrue, Bool, true, false, ℕ, length}
 use Rattle.std.specs.Prelude.{List, [], ◌∷◌, ◌++◌, Result, Ok, Err}
+use Rattle.elf_records.specs.Endian.{any_is_little, any_of_byte}
+use Rattle.elf_records.specs.declared.endian.AnyEndian.{AnyEndian}
+use Rattle.elf_records.specs.declared.parse.ParseError.{ParseError}
+use Rattle.elf_reading.specs.Opening.{FileView, headers_of, opened_file}
 use Rattle.elf.specs.ObjectFile.{ObjectFile}
+use Rattle.elf.specs.StreamFile.{listed_file}
 use Rattle.elf_tools.specs.BuildId.{build_id}
 use Rattle.nugwier_commands.specs.Wrong.{answer_wrong, dynamic_symbols_wrong, entries_of, needed_of, sections_wrong}
 use Rattle.nugwier_commands.specs.Wrong.{symbols_wrong, whole}
@@ -94,3 +99,16 @@ IsWrongAs Bindings job file before after = ⊥
 -- the places after a command that was listed by parts, by those before it; the other commands are not read by parts
 abbrev pub IsWrongByParts : Job → ObjectFile → List Place → List Place → Type 0
 IsWrongByParts job file before after = IsWrongAs job.command job file before after
+
+-- nothing is wrong with the file
+abbrev pub IsRightByParts : Job → ObjectFile → Bool → Type 0
+IsRightByParts job file is_right =
+    (places : List Place) × IsWrongByParts job file [] places × (is_right ≡ (length places == 0))
+
+-- bytes that are no ELF file are not read by parts; the headers of one are lists
+abbrev pub IsListedRight : Job → List ℕ → Result (FileView AnyEndian) ParseError → Bool → Type 0
+IsListedRight job bytes (Ok v) is_right = IsRightByParts job (listed_file any_is_little (headers_of v) bytes) is_right
+IsListedRight job bytes (Err e) is_right = ⊥
+
+abbrev pub ArePartsRight : Job → List ℕ → Bool → Type 0
+ArePartsRight job bytes are_right = IsListedRight job bytes (opened_file any_is_little any_of_byte bytes) are_right

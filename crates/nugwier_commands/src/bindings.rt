@@ -1,4 +1,8 @@
 //! What the symbols of a program and of its libraries bind to.
+ghost use Rattle.std.specs.Prelude.{IfOk};
+ghost use Rattle.elf_tools.specs.Tree.{file_of};
+ghost use Rattle.nugwier_commands.specs.Tree.{IsBoundIfComplete};
+
 mod objects;
 mod rows;
 mod targets;
@@ -26,7 +30,9 @@ pub(crate) fn run_bindings<L: Libraries, W: Write, V: Write>(
     data: Vec<u8>,
     out: &mut W,
     err: &mut V,
-) -> Result<bool, Stop> {
+) -> Result<bool, Stop>
+    ensures { IfOk result (IsBoundIfComplete (L.contents libraries.now) searches.now (file_of path.now «data».items)) }
+{
     let Some(program) = open_program(alloc, path, data, out, err)? else {
         return Ok(false);
     };

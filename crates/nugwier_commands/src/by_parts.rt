@@ -7,8 +7,9 @@ ghost use Rattle.std.specs.Option.{option_map};
 ghost use Rattle.elf_records.specs.StringTable.{strings_view};
 ghost use Rattle.elf.specs.ElfStream.{Keeps};
 ghost use Rattle.elf.specs.StreamFile.{stream_file};
-ghost use Rattle.nugwier_commands.specs.ByParts.{AreTold, IfUnread, IsTold, IsToldAs, IsWrongByParts, is_parted};
-ghost use Rattle.nugwier_commands.specs.ByParts.{parts_of, tables_of};
+ghost use Rattle.nugwier_commands.specs.ByParts.{AreTold, ArePartsRight, IfUnread, IsTold, IsToldAs};
+ghost use Rattle.nugwier_commands.specs.ByParts.{IsWrongByParts, is_parted, parts_of, tables_of};
+ghost use Rattle.nugwier_commands.specs.Status.{IsPartedRight};
 ghost use Rattle.nugwier_commands.specs.Wrong.{dynamic_symbols_wrong, entries_of, sections_wrong, symbols_wrong, whole};
 ghost use Rattle.nugwier_commands.specs.declared.by_parts.Unlisted.TheVariants.{Stopped as IsStopped, Unread as IsUnread};
 ghost use Rattle.nugwier_lines.specs.Names.{section_wrong};
@@ -115,15 +116,35 @@ pub(crate) fn run_by_parts<F: Files, W: Write, V: Write>(
     path: &str,
     out: &mut W,
     err: &mut V,
-) -> Result<Option<bool>, Stop> {
+) -> Result<Option<bool>, Stop>
+    ensures { IfOk result (λ found. IfSome found (IsPartedRight (F.reads files.now) (F.opens files.now)
+        (F.contents files.now) job.now path.now)) }
+{
     if !is_by_parts(job) {
         return Ok(None);
     }
-    let Some(source) = files.open(path) else {
-        return Ok(None);
-    };
-    let opened: Result<ElfStream<AnyEndian, F::Source, Global>, ParseError> =
-        ElfStream::open_stream(alloc, source);
+    match files.open(path) {
+        Some(source) => run_source(alloc, job, format, path, source, out, err),
+        None => Ok(None),
+    }
+}
+
+// The same of the source of a file.
+fn run_source<S: StreamSource, W: Write, V: Write>(
+    alloc: Global,
+    job: &Job<'_>,
+    format: Format<'_>,
+    path: &str,
+    source: S,
+    out: &mut W,
+    err: &mut V,
+) -> Result<Option<bool>, Stop>
+    ensures { IfOk result (λ found. IfSome found (λ is_read. IfSome (S.content source) (λ bytes.
+        ArePartsRight job.now bytes is_read))) }
+{
+    let opened: Result<ElfStream<AnyEndian, S, Global>, ParseError> = ElfStream::open_stream(
+        alloc, source,
+    );
     match opened {
         Ok(mut stream) => run_stream(alloc, job, format, path, &mut stream, out, err),
         Err(_) => Ok(None),

@@ -1,8 +1,12 @@
 //! Runs the program, apart from the operating system.
-ghost use Rattle.std.specs.Prelude.{◌≡◌, IfOk, OnOk};
+ghost use Rattle.std.specs.Prelude.{◌≡◌, false, IfOk, OnOk, Result};
 ghost use Rattle.elf.specs.ElfBytes.{view};
 ghost use Rattle.elf.specs.ObjectFile.{object_file};
-ghost use Rattle.nugwier_commands.specs.Status.{IsRightFor, IsWrongFor, ended_status};
+ghost use Rattle.nugwier_commands.specs.Status.{AreBytesRight, AreFilesRight, IsFileRight, IsRightBy, IsRightFor};
+ghost use Rattle.nugwier_commands.specs.Status.{IsStatusOf, IsWholeRight, IsWrongFor, ended_status};
+ghost use Rattle.nugwier_commands.specs.Words.{IsOfWords};
+ghost use Rattle.nugwier_commands.specs.declared.words.Request.{Request};
+ghost use Rattle.nugwier_commands.specs.declared.words.WordError.{WordError};
 
 use crate::addresses::list_addresses;
 use crate::bindings::run_bindings;
@@ -25,6 +29,7 @@ use nugwier_lines::json::Format;
 use nugwier_lines::problem::{Problems, Stop};
 use nugwier_lines::symbols::Form;
 use std::alloc::Global;
+use std::fmt::Display;
 use std::io;
 use std::io::Write;
 
@@ -39,8 +44,24 @@ pub fn run<F: Files, W: Write, V: Write>(
     files: &F,
     out: &mut W,
     err: &mut V,
-) -> u8 {
-    match parse_words(alloc, words) {
+) -> u8
+    ensures { (parsed : Result Request WordError) × IsOfWords words.now parsed
+        × IsStatusOf (F.reads files.now) (F.opens files.now) (F.contents files.now) parsed result }
+{
+    run_request(alloc, parse_words(alloc, words), files, out, err)
+}
+
+// Does what is asked for, or tells why the words are wrong.
+fn run_request<F: Files, W: Write, V: Write>(
+    alloc: Global,
+    parsed: Result<Request<'_>, WordError<'_>>,
+    files: &F,
+    out: &mut W,
+    err: &mut V,
+) -> u8
+    ensures { IsStatusOf (F.reads files.now) (F.opens files.now) (F.contents files.now) parsed.entry result }
+{
+    match parsed {
         Ok(Request::Help(command)) => ended(print(help(command), out), err),
         Ok(Request::Version) => ended(print(VERSION, out), err),
         Ok(Request::Run(job)) => {
@@ -91,7 +112,10 @@ fn run_job<F: Files, W: Write, V: Write>(
     files: &F,
     out: &mut W,
     err: &mut V,
-) -> Result<bool, Stop> {
+) -> Result<bool, Stop>
+    ensures { IfOk result (AreFilesRight (F.reads files.now) (F.opens files.now) (F.contents files.now) job.now
+        job.now.files.items) }
+{
     let mut is_read = true;
     for (place, path) in job.files.as_slice().iter().enumerate() {
         if has_headings(job) {
@@ -128,28 +152,53 @@ fn run_file<F: Files, W: Write, V: Write>(
     path: &str,
     out: &mut W,
     err: &mut V,
-) -> Result<bool, Stop> {
+) -> Result<bool, Stop>
+    ensures { IfOk result (IsFileRight (F.reads files.now) (F.opens files.now) (F.contents files.now) job.now
+        path.now) }
+{
     let format = format_of(job, path);
-    if let Some(is_read) = run_by_parts(alloc, job, format, files, path, out, err)? {
-        return Ok(is_read);
+    match run_by_parts(alloc, job, format, files, path, out, err)? {
+        Some(is_read) => Ok(is_read),
+        None => run_whole(alloc, job, files, path, out, err),
     }
+}
+
+// Lists a file that is read whole.
+fn run_whole<F: Files, W: Write, V: Write>(
+    alloc: Global,
+    job: &Job<'_>,
+    files: &F,
+    path: &str,
+    out: &mut W,
+    err: &mut V,
+) -> Result<bool, Stop>
+    ensures { IfOk result (IsWholeRight (F.reads files.now) (F.opens files.now) (F.contents files.now) job.now
+        path.now) }
+{
     match files.read(path) {
-        Ok(data) => {
-            let searches = job.searches.as_slice();
-            match job.command {
-                Command::Tree => run_tree(alloc, searches, format, files, path, data, out, err),
-                Command::Bindings => {
-                    run_bindings(alloc, searches, format, files, path, data, out, err)
-                }
-                _ => run_bytes(alloc, job, path, data.as_slice(), out, err),
-            }
-        }
-        Err(error) => {
-            out.flush()?;
-            let path = Escaped(path.as_bytes());
-            let _ = writeln!(err, "nugwier: {path}: {error}");
-            Ok(false)
-        }
+        Ok(data) => run_read(alloc, job, files, path, data, out, err),
+        Err(error) => tell_unread(path, &error, out, err),
+    }
+}
+
+// Lists a file that was read.
+fn run_read<F: Files, W: Write, V: Write>(
+    alloc: Global,
+    job: &Job<'_>,
+    files: &F,
+    path: &str,
+    data: Vec<u8>,
+    out: &mut W,
+    err: &mut V,
+) -> Result<bool, Stop>
+    ensures { IfOk result (IsRightBy job.now.command (F.contents files.now) job.now path.now «data».items) }
+{
+    let format = format_of(job, path);
+    let searches = job.searches.as_slice();
+    match job.command {
+        Command::Tree => run_tree(alloc, searches, format, files, path, data, out, err),
+        Command::Bindings => run_bindings(alloc, searches, format, files, path, data, out, err),
+        _ => run_bytes(alloc, job, path, data.as_slice(), out, err),
     }
 }
 
@@ -160,18 +209,29 @@ fn run_bytes<W: Write, V: Write>(
     data: &[u8],
     out: &mut W,
     err: &mut V,
-) -> Result<bool, Stop> {
+) -> Result<bool, Stop>
+    ensures { IfOk result (AreBytesRight job.now «data».now) }
+{
     let opened: Result<ElfBytes<'_, AnyEndian>, ParseError> = ElfBytes::minimal_parse(data);
-    let file = match opened {
-        Ok(file) => file,
-        Err(error) => {
-            out.flush()?;
-            let path = Escaped(path.as_bytes());
-            let _ = writeln!(err, "nugwier: {path}: {error}");
-            return Ok(false);
-        }
-    };
-    run_file_command(alloc, job, path, &file, out, err)
+    match opened {
+        Ok(file) => run_file_command(alloc, job, path, &file, out, err),
+        Err(error) => tell_unread(path, &error, out, err),
+    }
+}
+
+// Tells why a file cannot be read. So it is not right.
+fn tell_unread<D: Display, W: Write, V: Write>(
+    path: &str,
+    error: &D,
+    out: &mut W,
+    err: &mut V,
+) -> Result<bool, Stop>
+    ensures { IfOk result (λ is_right. is_right ≡ false) }
+{
+    out.flush()?;
+    let path = Escaped(path.as_bytes());
+    let _ = writeln!(err, "nugwier: {path}: {error}");
+    Ok(false)
 }
 
 // Lists an opened file, and returns whether nothing is wrong.
