@@ -1,16 +1,19 @@
 //! Runs test cases of `nugwier`: each line of the file `cases` is the words of a command line, which name files beside
 //! the program. Prints the line, what is listed, what is printed on standard error, and the exit status. The word
-//! `NAME,62=0063` names the file NAME with other bytes from offset 62 on (`changes`).
+//! `NAME,62=0063` names the file NAME with other bytes from offset 62 on (`changes`), and is read whole. The words
+//! `NAME,fails=N` and `NAME,slips=N` name the file NAME in a source whose first N reads succeed, and then one fails:
+//! after `fails` the file cannot be read whole either, after `slips` it can (`source`).
 #![tactic(auto)]
 
 ghost use Rattle.std.specs.Prelude.{None, ⊤};
 
 mod changes;
+mod source;
 
 use changes::change;
-use elf::FileSource;
 use nugwier_commands::files::{Files, Libraries};
 use nugwier_commands::run::run;
+use source::{CaseSource, broken, failing_read};
 use std::alloc::AllocError;
 use std::fs::File;
 use std::io::Write;
@@ -24,19 +27,25 @@ struct CaseFiles<'a> {
 }
 
 impl Files for CaseFiles<'_> {
-    type Source = FileSource;
+    type Source = CaseSource;
 
     ghost reads = { λ _ _ _. ⊤ };
 
     ghost opens = { λ _ _ _. ⊤ };
 
-    fn open(&self, path: &str) -> Option<FileSource> {
-        let file = File::open(self.rt, path).ok()?;
-        Some(FileSource::new(file))
+    fn open(&self, path: &str) -> Option<CaseSource> {
+        let (name, reads) = match path.split_once(',') {
+            Some((name, word)) => (name, Some(failing_read(word)?)),
+            None => (path, None),
+        };
+        let file = File::open(self.rt, name).ok()?;
+        Some(CaseSource::new(file, reads))
     }
 
     fn read(&self, path: &str) -> io::Result<Vec<u8>> {
         match path.split_once(',') {
+            Some((_, word)) if word.starts_with("fails=") => Err(broken()),
+            Some((name, word)) if word.starts_with("slips=") => fs::read(self.rt, name),
             Some((name, changes)) => {
                 let mut data = fs::read(self.rt, name)?;
                 change(data.as_mut_slice(), changes)?;
