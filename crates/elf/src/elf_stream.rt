@@ -136,6 +136,13 @@ impl<E: EndianParse, S: StreamSource, A: Allocator + Copy> ElfStream<E, S, A> {
             → IsCached self.now low high → IsCached self.now start end }
     {}
 
+    /// Returns the length of the source in bytes, as it was when the file was opened.
+    pub fn source_len(&self) -> u64
+        ensures { IfSome self.now.content (λ bytes. result ≡ length bytes) }
+    {
+        self.len
+    }
+
     /// Returns the program headers. There are none if the file declares none.
     pub fn segments(&self) -> &Vec<ProgramHeader, A>
         ensures { result.now.items ≡ self.now.headers.segments }

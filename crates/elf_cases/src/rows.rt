@@ -107,7 +107,7 @@ fn write_at(data: &mut Vec<u8>, start: usize, new: &[u8]) -> Result<(), RowError
             .ok_or(RowError::Form("a change far away"))?;
         *data
             .get_mut(place)
-            .ok_or(RowError::Form("a change behind the file"))? = *byte;
+            .ok_or(RowError::Form("a change past the end of the file"))? = *byte;
     }
     Ok(())
 }

@@ -148,6 +148,7 @@ impl<'data> StringTable<'data> {
     /// let names = StringTable::new(b"\0main\0exit\0");
     /// println!(rt; "{}", names.get(6)?)?; // exit
     /// ```
+    #[inline(always)]
     pub fn get(&self, offset: usize) -> Result<&'data str, ParseError>
         ensures { GivesText (string_at (strings_view self.now) offset) result }
     {

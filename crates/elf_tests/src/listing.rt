@@ -26,7 +26,7 @@ fn is_pairs(text: &[u8]) -> bool {
     for _ in 0..PAIRS {
         for line in [HEADER_LINE, "end 0\n"] {
             match rest.strip_prefix(line.as_bytes()) {
-                Some(behind) => rest = behind,
+                Some(others) => rest = others,
                 None => return false,
             }
         }

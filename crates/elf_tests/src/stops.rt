@@ -86,7 +86,7 @@ fn a_buffer_changes_no_count(rt: HostRuntime) -> Result<(), Fail> {
 }
 
 /// Whether the write after this number of writes fails, which is reported then; else all is written.
-fn fails_behind(rt: &(impl Abort + AllocGlobal), writes_before: usize, whole: &[u8]) -> bool {
+fn fails_after(rt: &(impl Abort + AllocGlobal), writes_before: usize, whole: &[u8]) -> bool {
     let mut out = Faulty::at_write(rt.alloc(), writes_before);
     let (done, error) = run_into(&mut out);
     let written = out.written.as_slice();
@@ -94,7 +94,7 @@ fn fails_behind(rt: &(impl Abort + AllocGlobal), writes_before: usize, whole: &[
     let is_whole = written.len() == whole.len();
     assert!(rt;
         error.is_some() == out.has_failed() && (error.is_some() || is_whole),
-        "behind {writes_before} writes"
+        "after {writes_before} writes"
     );
     error.is_some()
 }
@@ -104,7 +104,7 @@ fn one_failed_write_is_reported(rt: HostRuntime) -> Result<(), AllocError> {
     let whole = whole_text(rt.alloc())?;
     let mut writes = 0;
     for writes_before in 0..1000 {
-        if !fails_behind(&rt, writes_before, whole.as_bytes()) {
+        if !fails_after(&rt, writes_before, whole.as_bytes()) {
             break;
         }
         writes = writes_before;

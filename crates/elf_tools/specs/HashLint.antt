@@ -21,7 +21,7 @@ hash_object file s =
 abbrev pub IsCountOf : Result Object ObjectFault → ℕ → Type 0
 IsCountOf object count = IsOkAnd object (λ o. IsSound o × (count ≡ indexed_count o))
 
--- that count, or a fault that is true, or why there is no table
+-- that count, or the first fault, or why there is no table
 abbrev pub IsLint : Result Object ObjectFault → Result ℕ ObjectFault → Type 0
 IsLint object result = MatchResult result (IsCountOf object) (IsFaultOf object)
 

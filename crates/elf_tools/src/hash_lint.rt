@@ -1,4 +1,4 @@
-//! Whether a hash section of a file is sound for the dynamic symbols, or a fault of it.
+//! Whether a hash section of a file is sound for the dynamic symbols, or its first fault.
 ghost use Rattle.elf.specs.ObjectFile.{object_file};
 ghost use Rattle.elf.specs.ElfBytes.{view};
 ghost use Rattle.elf_binding.specs.ObjectTable.{section_object};
@@ -25,8 +25,8 @@ fn kind_lint<E: EndianParse>(
 /// if the section is neither of type `SHT_GNU_HASH` nor of type `SHT_HASH`.
 ///
 /// Errors, in order: `Read` if the bytes of the section cannot be read; `Read` if the dynamic symbols cannot be read;
-/// `NoSymbols` if there are none; `Read` if `new` of the table returns an error; `Faulty` with a fault that is true of
-/// the section.
+/// `NoSymbols` if there are none; `Read` if `new` of the table returns an error; `Faulty` with the first fault of the
+/// section.
 ///
 /// ```rust
 /// if let Some(section) = file.section_header_by_name(".gnu.hash")?

@@ -1,5 +1,5 @@
 //! What a loader maps into memory, and at which addresses.
-ghost use Rattle.std.specs.Prelude.{◌≡◌, ◌||◌, [], false, IfErr, IfOk, IsNone, IsOk, None, Ok, OnOk, MatchOption, length};
+ghost use Rattle.std.specs.Prelude.{◌≡◌, ◌||◌, [], false, IfErr, IfOk, IfSome, IsNone, IsOk, None, Ok, OnOk, MatchOption, length};
 ghost use Rattle.std.specs.List.{list_any};
 ghost use Rattle.elf.specs.ElfBytes.{view};
 ghost use Rattle.elf_reading.specs.Opening.{segment_list};
@@ -12,7 +12,7 @@ ghost use Rattle.elf_tools.specs.declared.load_plan.PlanError.TheVariants.{Memor
 use elf::endian::EndianParse;
 use elf::file::Class;
 use elf::segment::ProgramHeader;
-use elf::{ElfBytes, abi};
+use elf::{ElfBytes, ElfStream, StreamSource, abi};
 use std::alloc::{AllocError, Global};
 use std::collections::BTreeMap;
 use thiserror::Error;
@@ -77,7 +77,7 @@ impl Mapping {
     }
 
     // Whether these bytes lie in a file of this length.
-    fn lies_in(&self, len: usize) -> bool
+    fn lies_in(&self, len: u64) -> bool
         ensures { result ≡ lies_in len self.now }
     {
         self.offset as u128 + self.file_size as u128 <= len as u128
@@ -114,7 +114,7 @@ fn mappings<E: EndianParse>(
 }
 
 // What is wrong with the first mapping that is not loadable, in a file of this class and length.
-fn first_fault(class: Class, len: usize, all: &[Mapping]) -> Option<PlanError>
+fn first_fault(class: Class, len: u64, all: &[Mapping]) -> Option<PlanError>
     ensures fault { MatchOption result (LoadableBefore class len all.now (length all.now))
         (IsTrueOfPlan class len all.now) }
     ensures none { all.now ≡ [] → IsNone result }
@@ -184,6 +184,26 @@ fn first_overlap(alloc: Global, all: &[Mapping]) -> Result<Option<usize>, AllocE
     Ok(None)
 }
 
+// These mappings, if each is loadable in a file of this class and length and no two overlap.
+fn plan_of(
+    alloc: Global,
+    class: Class,
+    len: u64,
+    plan: Vec<Mapping>,
+) -> Result<Vec<Mapping>, PlanError>
+    ensures plan { IfOk result (λ same. (same.items ≡ «plan».items) × IsPlan class len «plan».items) }
+    ensures refused { IfErr result (IsTrueOfPlan class len «plan».items) }
+    ensures none { «plan».items ≡ [] → IsOk result }
+{
+    if let Some(fault) = first_fault(class, len, plan.as_slice()) {
+        return Err(fault);
+    }
+    if let Some(mapping) = first_overlap(alloc, plan.as_slice())? {
+        return Err(PlanError::Overlap { mapping });
+    }
+    Ok(plan)
+}
+
 /// Returns the mappings of the segments of type `PT_LOAD`, in order.
 ///
 /// Errors, in order: `Memory` if an allocation failed; of the first mapping for which one of them holds, `FileSize` if
@@ -210,12 +230,51 @@ pub fn load_plan<E: EndianParse>(
     ensures none { IsNone (view file.now).segments → IsOk result }
 {
     let plan = mappings(alloc, file)?;
-    let len = file.data().len();
-    if let Some(fault) = first_fault(file.ehdr.class, len, plan.as_slice()) {
-        return Err(fault);
-    }
-    if let Some(mapping) = first_overlap(alloc, plan.as_slice())? {
-        return Err(PlanError::Overlap { mapping });
-    }
-    Ok(plan)
+    plan_of(alloc, file.ehdr.class, file.data().len() as u64, plan)
+}
+
+// The mappings of the segments of type `PT_LOAD` among these.
+fn mappings_in(alloc: Global, segments: &[ProgramHeader]) -> Result<Vec<Mapping>, AllocError>
+    ensures { IfOk result (λ all. all.items ≡ mappings segments.now) }
+{
+    segments
+        .iter()
+        .copied()
+        .filter(|segment| segment.p_type == abi::PT_LOAD)
+        .map(|segment| Mapping::new(&segment))
+        .collect(alloc)
+}
+
+// The plan of the segments of type `PT_LOAD` among these, in a file of this class and length.
+fn plan_of_segments(
+    alloc: Global,
+    class: Class,
+    len: u64,
+    segments: &[ProgramHeader],
+) -> Result<Vec<Mapping>, PlanError>
+    ensures plan { IfOk result (λ plan. (plan.items ≡ mappings segments.now)
+        × IsPlan class len (mappings segments.now)) }
+    ensures refused { IfErr result (IsTrueOfPlan class len (mappings segments.now)) }
+{
+    let plan = mappings_in(alloc, segments)?;
+    plan_of(alloc, class, len, plan)
+}
+
+/// Returns what `load_plan` returns of a file that is read by parts. Nothing is read from its source: the plan follows
+/// from the program headers and the length of the source.
+pub fn read_load_plan<E: EndianParse, S: StreamSource>(
+    alloc: Global,
+    stream: &ElfStream<E, S, Global>,
+) -> Result<Vec<Mapping>, PlanError>
+    ensures plan { let all = mappings stream.now.headers.segments in IfSome stream.now.content (λ bytes.
+        IfOk result (λ plan. (plan.items ≡ all) × IsPlan stream.now.headers.ehdr.class (length bytes) all)) }
+    ensures refused { let all = mappings stream.now.headers.segments in IfSome stream.now.content (λ bytes.
+        IfErr result (IsTrueOfPlan stream.now.headers.ehdr.class (length bytes) all)) }
+{
+    plan_of_segments(
+        alloc,
+        stream.ehdr.class,
+        stream.source_len(),
+        stream.segments().as_slice(),
+    )
 }

@@ -56,7 +56,7 @@ pub fn ends_of_signed_range()
 pub fn past_the_end()
     ensures last { number_at true 2 one_to_eight 6 ≡ Ok 0x0807 }
     ensures half { number_at true 2 one_to_eight 7 ≡ Err (SliceReadError (7, 9)) }
-    ensures behind { number_at false 1 one_to_eight 8 ≡ Err (SliceReadError (8, 9)) }
+    ensures past { number_at false 1 one_to_eight 8 ≡ Err (SliceReadError (8, 9)) }
     ensures signed { signed_number_at false 8 one_to_eight 1 ≡ Err (SliceReadError (1, 9)) }
     ensures left { moved_by 2 (number_at true 2 one_to_eight 7) 7 ≡ 7 }
 {}
@@ -75,7 +75,7 @@ pub fn past_64_bits()
 /// A range of no bytes lies in the bytes up to their end, and not after it.
 pub fn no_bytes()
     ensures at_the_end { bytes_at 0 (1 ∷ 2 ∷ []) 2 ≡ Ok [] }
-    ensures behind { bytes_at 0 (1 ∷ 2 ∷ []) 3 ≡ Err (SliceReadError (3, 3)) }
+    ensures past { bytes_at 0 (1 ∷ 2 ∷ []) 3 ≡ Err (SliceReadError (3, 3)) }
     ensures far_behind { bytes_at 0 (1 ∷ 2 ∷ []) (2 ^ 64 - 1)
         ≡ Err (SliceReadError (18446744073709551615, 18446744073709551615)) }
 {}

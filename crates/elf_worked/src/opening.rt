@@ -101,7 +101,7 @@ pub fn segment_tables()
         ≡ Err (BadEntsize (0, 56)) }
     ensures empty { ok_map (λ file. file.segments) (opening (small_with (in_eight 64) (in_two 56) (zeros 2)))
         ≡ Ok (Some (table_in true ELF64 [])) }
-    ensures behind { opening (small_with (in_eight 65) (in_two 56) (zeros 2))
+    ensures past { opening (small_with (in_eight 65) (in_two 56) (zeros 2))
         ≡ Err (SliceReadError (65, 65)) }
     ensures one_too_many { opening (small_with (in_eight 64) (in_two 56) (in_two 1))
         ≡ Err (SliceReadError (64, 120)) }
@@ -187,7 +187,7 @@ pub fn names_by_first_section()
 pub fn names_by_standing_header()
     ensures none { names_in (two_view_with 0) ≡ Ok None }
     ensures at_the_end { names_in (two_view_with 2) ≡ Err (SliceReadError (80, 84)) }
-    ensures behind { names_in (two_view_with 3) ≡ Err (BadOffset 3) }
+    ensures past { names_in (two_view_with 3) ≡ Err (BadOffset 3) }
     ensures empty { names_in (two_view_with 0xffff) ≡ Ok (Some []) }
 {}
 

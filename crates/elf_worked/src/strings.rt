@@ -14,7 +14,7 @@ pub fn without_end()
     ensures first { string_at (0x00 ∷ 0x45 ∷ 0x4c ∷ 0x46 ∷ []) 0 ≡ Ok [] }
     ensures within { string_at (0x00 ∷ 0x45 ∷ 0x4c ∷ 0x46 ∷ []) 1 ≡ Err (StringTableMissingNul 1) }
     ensures at_the_end { string_at (0x00 ∷ 0x45 ∷ 0x4c ∷ 0x46 ∷ []) 4 ≡ Err (StringTableMissingNul 4) }
-    ensures behind { string_at (0x00 ∷ 0x45 ∷ 0x4c ∷ 0x46 ∷ []) 5 ≡ Err (BadOffset 5) }
+    ensures past { string_at (0x00 ∷ 0x45 ∷ 0x4c ∷ 0x46 ∷ []) 5 ≡ Err (BadOffset 5) }
 {}
 
 /// The same bytes with a 0 after them hold the texts "ELF" and "LF", and an empty one at that 0.
@@ -24,7 +24,7 @@ pub fn with_end()
     ensures empty { string_at (0x00 ∷ 0x45 ∷ 0x4c ∷ 0x46 ∷ 0x00 ∷ []) 4 ≡ Ok [] }
     ensures at_the_end { string_at (0x00 ∷ 0x45 ∷ 0x4c ∷ 0x46 ∷ 0x00 ∷ []) 5
         ≡ Err (StringTableMissingNul 5) }
-    ensures behind { string_at (0x00 ∷ 0x45 ∷ 0x4c ∷ 0x46 ∷ 0x00 ∷ []) 6 ≡ Err (BadOffset 6) }
+    ensures past { string_at (0x00 ∷ 0x45 ∷ 0x4c ∷ 0x46 ∷ 0x00 ∷ []) 6 ≡ Err (BadOffset 6) }
 {}
 
 /// Of no bytes every offset is bad.

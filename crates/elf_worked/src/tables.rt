@@ -16,8 +16,8 @@ pub fn words()
     ensures first { item_at (number_at true 4) 4 first_eight 0 ≡ Ok 0x03020100 }
     ensures second { item_at (number_at true 4) 4 first_eight 1 ≡ Ok 0x07060504 }
     ensures at_the_end { item_at (number_at true 4) 4 first_eight 2 ≡ Err (SliceReadError (8, 12)) }
-    ensures behind { item_at (number_at true 4) 4 first_eight 3 ≡ Err (BadOffset 3) }
-    ensures far_behind { item_at (number_at true 4) 4 first_eight 7 ≡ Err (BadOffset 7) }
+    ensures past { item_at (number_at true 4) 4 first_eight 3 ≡ Err (BadOffset 3) }
+    ensures far_past { item_at (number_at true 4) 4 first_eight 7 ≡ Err (BadOffset 7) }
     ensures past_64_bits { item_at (number_at true 4) 4 first_eight (2 ^ 62) ≡ Err IntegerOverflow }
     ensures just_below { item_at (number_at true 4) 4 first_eight (2 ^ 62 - 1)
         ≡ Err (BadOffset 4611686018427387903) }
@@ -30,7 +30,7 @@ pub fn words_in_big_order()
     ensures second { table_get word_reads (table_in false ELF32 first_eight) 1 ≡ Ok 0x04050607 }
     ensures at_the_end { table_get word_reads (table_in false ELF32 first_eight) 2
         ≡ Err (SliceReadError (8, 12)) }
-    ensures behind { table_get word_reads (table_in false ELF32 first_eight) 3 ≡ Err (BadOffset 3) }
+    ensures past { table_get word_reads (table_in false ELF32 first_eight) 3 ≡ Err (BadOffset 3) }
     ensures all { table_items word_reads (table_in false ELF32 first_eight)
         ≡ 0x00010203 ∷ 0x04050607 ∷ [] }
 {}

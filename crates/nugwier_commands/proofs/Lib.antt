@@ -1,5 +1,13 @@
 pub mod Numbers
 pub mod Listed
 pub mod Parted
-pub mod NothingTold
+pub mod Planned
 pub mod AllRight
+pub mod ReadAll
+pub mod NotesRead
+pub mod VersionListsRead
+pub mod Totals
+pub mod ContentParts
+pub mod RelocationParts
+pub mod Bound
+pub mod Scopes

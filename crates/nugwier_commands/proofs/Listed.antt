@@ -1,5 +1,5 @@
 -- What is wrong with the parts of a file, one part more at a time.
-use Rattle.std.proofs.Common.{◌≡◌, Bool, true, false, List, [], ◌++◌, refl, sym, ◌∙◌, ap, append-nil, append_assoc}
+use Rattle.std.proofs.Common.{◌≡◌, Bool, true, false, List, ◌++◌, sym, ◌∙◌, ap, append-nil, append_assoc}
 use Rattle.nugwier_commands.specs.Listing.{if_listed}
 use Rattle.nugwier_lines.specs.declared.problem.Place.{Place}
 

@@ -1,5 +1,5 @@
 -- The number that `parse` reads is the one that the digits write.
-use Rattle.std.proofs.Common.{◌≡◌, ℕ, ◌<◌, ◌&&◌, List, length, true, Result, Ok, Err, nat_lt, sym, lt-ltb, ltb-true}
+use Rattle.std.proofs.Common.{◌≡◌, ℕ, ◌&&◌, List, length, true, Result, Ok, Err, nat_lt, lt-ltb, ltb-true}
 use Rattle.std.proofs.lemmas.Bool.{and_parts, cond-false, false_from_ne_true}
 use Rattle.std.proofs.lemmas.Str.Parse.{IsNumeralModel, numerals_by_value, tells_all_ascii_digits}
 use Rattle.std.specs.Result.{result_ok}

@@ -1,16 +1,13 @@
--- What is wrong with a file that is read by parts, one part more at a time.
-use Rattle.std.proofs.Common.{◌≡◌, ◌⊎◌, inl, inr, ℕ, Bool, true, List, [], ◌∷◌, ◌++◌, Option, Some, None, Result, Ok, Err, refl, sym, ap, ◌∙◌, subst, IfSome, OnOk}
-use Rattle.elf_reading.specs.Refusals.{IsAnswer}
-use Rattle.elf_records.specs.declared.parse.ParseError.{ParseError}
-use Rattle.elf.specs.ElfStream.{Keeps, Leaves, StreamView}
+-- What is read of a stream, one part after the other.
+use Rattle.std.proofs.Common.{◌≡◌, ℕ, Bool, List, [], ◌++◌, Option, Some, None, refl, sym, ap, ◌∙◌, subst, append_assoc, IfSome}
+use Rattle.elf_reading.specs.Opening.{StreamHeaders}
+use Rattle.elf.specs.ElfStream.{Keeps, StreamView}
 use Rattle.elf.specs.ObjectFile.{ObjectFile}
+use Rattle.elf.specs.Ranges.{headers_alone}
 use Rattle.elf.specs.StreamFile.{listed_file, stream_file}
-use Rattle.elf_tools.specs.Readings.{IsRead, ReadsFile}
-use Rattle.nugwier_commands.specs.ByParts.{AreTold, IfUnread, IsTold, IsToldAs, ListedPart}
-use Rattle.nugwier_commands.specs.Wrong.{whole}
-use Rattle.nugwier_commands.specs.declared.by_parts.Unlisted.{Unlisted}
-use Rattle.nugwier_commands.specs.declared.by_parts.Unlisted.TheVariants.{Stopped, Unread}
-use Rattle.nugwier_lines.specs.declared.problem.Part.{Part}
+use Rattle.nugwier_commands.specs.Listing.{if_listed}
+use Rattle.nugwier_commands.specs.declared.by_parts.reading.JobParts.{JobParts}
+use Rattle.nugwier_commands.specs.inner.ByParts.{job_in}
 use Rattle.nugwier_lines.specs.declared.problem.Place.{Place}
 
 -- ---- of a content that may be known
@@ -23,79 +20,63 @@ pub of_one : (known : Option (List ℕ)) (P Q : List ℕ → Type 0) → ((bytes
 of_one None P Q so h = tt
 of_one (Some bytes) P Q so h = so bytes h
 
-of_both : (known : Option (List ℕ)) (P Q R : List ℕ → Type 0) → ((bytes : List ℕ) → P bytes → Q bytes → R bytes) → IfSome known P → IfSome known Q → IfSome known R
+pub of_both : (known : Option (List ℕ)) (P Q R : List ℕ → Type 0) → ((bytes : List ℕ) → P bytes → Q bytes → R bytes) → IfSome known P → IfSome known Q → IfSome known R
 of_both None P Q R so h k = tt
 of_both (Some bytes) P Q R so h k = so bytes h k
 
--- what is so of the file of a stream after a call that kept the file
+-- ---- after calls that kept the file
+
+pub keeps_then : {E : Type 0} (old middle new : StreamView E) → Keeps old middle → Keeps middle new → Keeps old new
+keeps_then old middle new a b = record {
+  content = b.content ∙ a.content;
+  can_fail = b.can_fail ∙ a.can_fail;
+  headers = b.headers ∙ a.headers;
+  cached = λ start end h. b.cached start end (a.cached start end h);
+}
+
+-- what is so of the headers and the content
+pub of_headers : {E : Type 0} (old middle : StreamView E) (P : StreamHeaders E → List ℕ → Type 0) → Keeps old middle → IfSome middle.content (λ bytes. P middle.headers bytes) → IfSome old.content (λ bytes. P old.headers bytes)
+of_headers old middle P keeps h =
+    let there = subst (λ (known : Option (List ℕ)). IfSome known (λ bytes. P middle.headers bytes)) keeps.content h in
+    subst (λ headers. IfSome old.content (λ bytes. P headers bytes)) keeps.headers there
+
+-- what is so of the file
 pub of_kept : {E : Type 0} (little : E → Bool) (old middle : StreamView E) (P : ObjectFile → Type 0) → Keeps old middle → IfSome middle.content (λ bytes. P (stream_file little middle bytes))
     → IfSome old.content (λ bytes. P (stream_file little old bytes))
-of_kept little old middle P keeps h =
-    let there = subst (λ (known : Option (List ℕ)). IfSome known (λ bytes. P (stream_file little middle bytes))) keeps.content h in
-    subst (λ headers. IfSome old.content (λ bytes. P (listed_file little headers bytes))) keeps.headers there
+of_kept little old middle P keeps h = of_headers old middle (λ headers bytes. P (listed_file little headers bytes)) keeps h
 
--- ---- a part
+-- ---- the parts of a listing
 
-is_told : (is_listed : Bool) (part : Part) (wrong before after : List Place) → is_listed ≡ true → (after ≡ before ++ wrong) ⊎ (after ≡ before ++ whole part ∷ []) → IsTold is_listed part wrong before after
-is_told is_listed part wrong before after is h = subst (λ (b : Bool). IsTold b part wrong before after) (sym is) h
+-- what is wrong in a part that was read is what is wrong with that part of the file
+pub of_part : {E : Type 0} (little : E → Bool) (old middle : StreamView E) (is_listed : Bool) (found wrong : ObjectFile → List Place) → Keeps old middle
+    → IfSome middle.content (λ bytes. found (headers_alone little middle) ≡ if_listed is_listed (wrong (stream_file little middle bytes)))
+    → IfSome old.content (λ bytes. found (headers_alone little old) ≡ if_listed is_listed (wrong (stream_file little old bytes)))
+of_part little old middle is_listed found wrong keeps h =
+    of_headers old middle (λ headers bytes. found (listed_file little headers []) ≡ if_listed is_listed (wrong (listed_file little headers bytes))) keeps h
 
--- it was listed, or is told as a whole
-pub told_part : {T U V : Type 0} (known : Option (List ℕ)) (is_listed : Bool) (part : Part) (wrong : List ℕ → List Place) (before now after : List Place) (listed : Result T Unlisted) (told : Result U V)
-    → is_listed ≡ true → OnOk listed (IfSome known (λ bytes. now ≡ before ++ wrong bytes)) → IfUnread listed (now ≡ before) → OnOk told (IsToldAs part listed now after)
-    → OnOk told (IfSome known (λ bytes. IsTold is_listed part (wrong bytes) before after))
-told_part known is_listed part wrong before now after listed (Err stop) is places unread h = tt
-told_part known is_listed part wrong before now after (Ok x) (Ok y) is places unread h =
-    of_one known (λ bytes. now ≡ before ++ wrong bytes) (λ bytes. IsTold is_listed part (wrong bytes) before after)
-    (λ bytes k. is_told is_listed part (wrong bytes) before after is (inl (h ∙ k))) places
-told_part known is_listed part wrong before now after (Err (Unread e)) (Ok y) is places unread h =
-    of_known known (λ bytes. IsTold is_listed part (wrong bytes) before after)
-    (λ bytes. is_told is_listed part (wrong bytes) before after is (inr (h ∙ ap (λ (p : List Place). p ++ whole part ∷ []) unread)))
-told_part known is_listed part wrong before now after (Err (Stopped stop)) (Ok y) is places unread h = absurd h
+pub all_parts : (known : Option (List ℕ)) (a b c d r n v x : List Place) (a' b' c' d' r' n' v' x' : List ℕ → List Place)
+    → IfSome known (λ bytes. a ≡ a' bytes) → IfSome known (λ bytes. b ≡ b' bytes) → IfSome known (λ bytes. c ≡ c' bytes) → IfSome known (λ bytes. d ≡ d' bytes)
+    → IfSome known (λ bytes. r ≡ r' bytes) → IfSome known (λ bytes. n ≡ n' bytes) → IfSome known (λ bytes. v ≡ v' bytes) → IfSome known (λ bytes. x ≡ x' bytes)
+    → IfSome known (λ bytes. a ++ (b ++ c ++ d ++ r ++ n ++ v) ++ x ≡ a' bytes ++ (b' bytes ++ c' bytes ++ d' bytes ++ r' bytes ++ n' bytes ++ v' bytes) ++ x' bytes)
+all_parts None a b c d r n v x a' b' c' d' r' n' v' x' ha hb hc hd hr hn hv hx = tt
+all_parts (Some bytes) a b c d r n v x a' b' c' d' r' n' v' x' ha hb hc hd hr hn hv hx = rw (ha, hb, hc, hd, hr, hn, hv, hx) refl
 
--- ---- several parts
+-- what was added by one call after the other
+then_added : (before now after first rest : List Place) → now ≡ before ++ first → after ≡ now ++ rest → after ≡ before ++ (first ++ rest)
+then_added before now after first rest one two = two ∙ ap (λ (places : List Place). places ++ rest) one ∙ append_assoc before first rest
 
--- the last one
-pub last_told : {E : Type 0} (little : E → Bool) (old : StreamView E) (first : ObjectFile → ListedPart) (before after : List Place)
-    → IfSome old.content (λ bytes. IsTold (first (stream_file little old bytes)).is_listed (first (stream_file little old bytes)).part (first (stream_file little old bytes)).wrong before after)
-    → IfSome old.content (λ bytes. AreTold (first (stream_file little old bytes) ∷ []) before after)
-last_told little old first before after h =
-    of_one old.content (λ bytes. IsTold (first (stream_file little old bytes)).is_listed (first (stream_file little old bytes)).part (first (stream_file little old bytes)).wrong before after)
-    (λ bytes. AreTold (first (stream_file little old bytes) ∷ []) before after) (λ bytes k. (after, k, refl)) h
+pub all_added : (p pa pb pc pd pr pn pv px a b c d r n v x : List Place) → pa ≡ p ++ a → pb ≡ pa ++ b → pc ≡ pb ++ c → pd ≡ pc ++ d → pr ≡ pd ++ r → pn ≡ pr ++ n → pv ≡ pn ++ v → px ≡ pv ++ x
+    → px ≡ p ++ (a ++ (b ++ c ++ d ++ r ++ n ++ v) ++ x)
+all_added p pa pb pc pd pr pn pv px a b c d r n v x ha hb hc hd hr hn hv hx =
+    let three = then_added pa pc pd (b ++ c) d (then_added pa pb pc b c hb hc) hd in
+    let five = then_added pa pr pn (b ++ c ++ d ++ r) n (then_added pa pd pr (b ++ c ++ d) r three hr) hn in
+    let tables = then_added pa pn pv (b ++ c ++ d ++ r ++ n) v five hv in
+    then_added p pv px (a ++ (b ++ c ++ d ++ r ++ n ++ v)) x (then_added p pa pv a (b ++ c ++ d ++ r ++ n ++ v) ha tables) hx
 
--- a part, and then those that are listed after a call that kept the file
-pub then_told : {E : Type 0} (little : E → Bool) (old middle : StreamView E) (first : ObjectFile → ListedPart) (rest : ObjectFile → List ListedPart) (before now after : List Place) → Keeps old middle
-    → IfSome old.content (λ bytes. IsTold (first (stream_file little old bytes)).is_listed (first (stream_file little old bytes)).part (first (stream_file little old bytes)).wrong before now)
-    → IfSome middle.content (λ bytes. AreTold (rest (stream_file little middle bytes)) now after)
-    → IfSome old.content (λ bytes. AreTold (first (stream_file little old bytes) ∷ rest (stream_file little old bytes)) before after)
-then_told little old middle first rest before now after keeps h k =
-    of_both old.content (λ bytes. IsTold (first (stream_file little old bytes)).is_listed (first (stream_file little old bytes)).part (first (stream_file little old bytes)).wrong before now)
-    (λ bytes. AreTold (rest (stream_file little old bytes)) now after)
-    (λ bytes. AreTold (first (stream_file little old bytes) ∷ rest (stream_file little old bytes)) before after)
-    (λ bytes a b. (now, a, b)) h (of_kept little old middle (λ file. AreTold (rest file) now after) keeps k)
+-- ---- a job: what is listed is what was read
 
--- ---- what was lent
-
-lent_known : {T Y : Type 0} (known : Option (List ℕ)) (shown : T → Y) (answer : List ℕ → Result Y ParseError) (can_fail : Bool) (before now : ℕ) (x : T) (P : List ℕ → Result Y ParseError → Type 0)
-    → IfSome known (λ bytes. IsAnswer shown (answer bytes) can_fail before now (Ok x)) → ((bytes : List ℕ) → P bytes (Ok (shown x))) → IfSome known (λ bytes. P bytes (answer bytes))
-lent_known None shown answer can_fail before now x P h so = tt
-lent_known (Some bytes) shown answer can_fail before now x P h so = subst (λ r. P bytes r) (sym h.1) (so bytes)
-
--- what is so of the answer that was lent
-pub of_lent : {E T Y : Type 0} (old new : StreamView E) (requested : List (ℕ × ℕ)) (shown : T → Y) (answer : List ℕ → Result Y ParseError) (r : Result T ParseError) (x : T) (P : List ℕ → Result Y ParseError → Type 0) → r ≡ Ok x → Leaves requested shown answer old new r
-    → ((bytes : List ℕ) → P bytes (Ok (shown x))) → IfSome old.content (λ bytes. P bytes (answer bytes))
-of_lent old new requested shown answer r x P is leaves so =
-    let answers = subst (λ w. IfSome old.content (λ bytes. IsAnswer shown (answer bytes) old.can_fail old.failures new.failures w)) is leaves.answers in
-    lent_known old.content shown answer old.can_fail old.failures new.failures x P answers so
-
--- ---- what was read
-
-read_known : {T Y : Type 0} (known : Option (List ℕ)) (shown : T → Y) (answer : List ℕ → Result Y ParseError) (can_fail : Bool) (x : T) (P : List ℕ → Result Y ParseError → Type 0)
-    → IfSome known (λ bytes. IsRead shown can_fail (answer bytes) (Ok x)) → IfSome known (λ bytes. P bytes (Ok (shown x))) → IfSome known (λ bytes. P bytes (answer bytes))
-read_known None shown answer can_fail x P is h = tt
-read_known (Some bytes) shown answer can_fail x P is h = subst (λ r. P bytes r) (sym is) h
-
--- what is so of the answer that was read
-pub of_read : {E T Y : Type 0} (old new : StreamView E) (shown : T → Y) (answer : List ℕ → Result Y ParseError) (r : Result T ParseError) (x : T) (P : List ℕ → Result Y ParseError → Type 0) → r ≡ Ok x → ReadsFile old new r shown answer
-    → IfSome old.content (λ bytes. P bytes (Ok (shown x))) → IfSome old.content (λ bytes. P bytes (answer bytes))
-of_read old new shown answer r x P is reads h =
-    read_known old.content shown answer old.can_fail x P (subst (λ w. IfSome old.content (λ bytes. IsRead shown old.can_fail (answer bytes) w)) is reads.given) h
+pub job_listed : {E : Type 0} (little : E → Bool) (old middle : StreamView E) (read : JobParts E) (after : List Place) (P : List ℕ → List Place → Type 0) → Keeps old middle → after ≡ job_in little (headers_alone little middle) read
+    → IfSome old.content (λ bytes. P bytes (job_in little (headers_alone little old) read)) → IfSome old.content (λ bytes. P bytes after)
+job_listed little old middle read after P keeps is h =
+    subst (λ (places : List Place). IfSome old.content (λ bytes. P bytes places))
+    (sym (is ∙ ap (λ headers. job_in little (listed_file little headers []) read) keeps.headers)) h

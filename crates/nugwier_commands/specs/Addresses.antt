@@ -1,6 +1,6 @@
 -- Which addresses have no symbol, or one whose name cannot be read.
-use Rattle.std.specs.Prelude.{ℕ, ◌≡◌, List, [], ◌∷◌, ◌++◌, Option, Some, None, Result, Ok, Err}
-use Rattle.elf.specs.Answers.{dynamic_symbol_table, symbol_table}
+use Rattle.std.specs.Prelude.{ℕ, ◌≡◌, List, [], ◌∷◌, Option, Some, None, Result, Ok, Err}
+use Rattle.elf.specs.Answers.{dynamic_symbol_table}
 use Rattle.elf.specs.ObjectFile.{ObjectFile}
 use Rattle.elf_records.specs.Symbol.{symbol_reads}
 use Rattle.elf_records.specs.Table.{Table, table_items}

@@ -10,11 +10,13 @@ pub mod Contents
 pub mod Listing
 -- the files that cannot be mapped
 pub mod Plan
--- the places at which a file that is read by parts is wrong
-pub mod ByParts
 -- the objects of a program that are complete
 pub mod Tree
+-- whether the symbols of a program and of its libraries are bound
+pub mod Bindings
 -- what the words ask for
 pub mod Words
 -- what a command finds wrong, and the exit status
 pub mod Status
+-- what stands here although no public contract speaks of it
+pub mod inner

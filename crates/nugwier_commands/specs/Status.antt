@@ -4,19 +4,20 @@ use Rattle.std.specs.Prelude.{Option, Some, None, Result, Ok, Err, IfSome}
 use Rattle.elf_records.specs.Endian.{any_is_little, any_of_byte}
 use Rattle.elf_records.specs.declared.endian.AnyEndian.{AnyEndian}
 use Rattle.elf_records.specs.declared.parse.ParseError.{ParseError}
-use Rattle.elf_reading.specs.Opening.{FileView, opened_file}
+use Rattle.elf_reading.specs.Opening.{FileView, headers_of, opened_file}
 use Rattle.elf.specs.Answers.{symbol_table}
 use Rattle.elf.specs.ObjectFile.{ObjectFile, object_file}
+use Rattle.elf.specs.StreamFile.{listed_file}
 use Rattle.elf_tools.specs.BuildId.{build_id}
 use Rattle.elf_tools.specs.Tree.{file_of}
 use Rattle.elf_whole.specs.AllFaults.{AreAllFaults}
 use Rattle.elf_whole.specs.declared.faults.FileFault.{FileFault}
 use Rattle.nugwier_commands.specs.Addresses.{AddressesWrong, all_symbols}
-use Rattle.nugwier_commands.specs.ByParts.{ArePartsRight}
+use Rattle.nugwier_commands.specs.Bindings.{IsProgramBound}
 use Rattle.nugwier_commands.specs.Check.{faults_wrong}
 use Rattle.nugwier_commands.specs.Listing.{list_wrong}
 use Rattle.nugwier_commands.specs.Plan.{IsPlanWrong}
-use Rattle.nugwier_commands.specs.Tree.{Contents, IsBoundIfComplete, IsTreeComplete}
+use Rattle.nugwier_commands.specs.Tree.{Contents, IsTreeComplete}
 use Rattle.nugwier_commands.specs.Wrong.{answer_wrong, dynamic_symbols_wrong, needed_of, whole}
 use Rattle.nugwier_commands.specs.declared.words.Command.{Command}
 use Rattle.nugwier_commands.specs.declared.words.Command.TheVariants.{Address, BuildId, Check, Exports, List as ListCommand}
@@ -71,12 +72,20 @@ IsOpenedRight job (Err e) is_right = is_right ≡ false
 abbrev pub AreBytesRight : Job → List ℕ → Bool → Type 0
 AreBytesRight job bytes are_right = IsOpenedRight job (opened_file any_is_little any_of_byte bytes) are_right
 
+-- the same of a file that is read by parts, whose headers are lists; bytes that are no ELF file are read whole
+abbrev pub IsListedRight : Job → List ℕ → Result (FileView AnyEndian) ParseError → Bool → Type 0
+IsListedRight job bytes (Ok v) is_right = IsRightFor job (listed_file any_is_little (headers_of v) bytes) is_right
+IsListedRight job bytes (Err e) is_right = ⊥
+
+abbrev pub ArePartsRight : Job → List ℕ → Bool → Type 0
+ArePartsRight job bytes are_right = IsListedRight job bytes (opened_file any_is_little any_of_byte bytes) are_right
+
 -- `tree` and `bindings` are about a program with its libraries, the others about one file
 abbrev pub IsRightBy : Command → Contents → Job → List ℕ → List ℕ → Bool → Type 0
 IsRightBy Tree contents job path bytes is_right =
     IsTreeComplete contents job.searches.items (file_of path bytes) is_right
 IsRightBy Bindings contents job path bytes is_right =
-    IsBoundIfComplete contents job.searches.items (file_of path bytes) is_right
+    IsProgramBound contents job.searches.items (file_of path bytes) is_right
 IsRightBy other contents job path bytes is_right = AreBytesRight job bytes is_right
 
 -- ---- a whole run

@@ -1,5 +1,5 @@
 -- Which objects of a program are complete, and whether all are.
-use Rattle.std.specs.Prelude.{◌≡◌, ℕ, Bool, true, false, List, [], ◌∷◌, Option, Some, None, Result, Ok, Err, is_ok}
+use Rattle.std.specs.Prelude.{◌≡◌, ℕ, Bool, false, List, [], ◌∷◌, Option, Some, None, Result, Ok, Err, is_ok}
 use Rattle.std.specs.Prelude.{IfSome, IsErr}
 use Rattle.std.specs.List.{join_by, list_all}
 use Rattle.elf_records.specs.declared.parse.ParseError.{ParseError}
@@ -43,10 +43,3 @@ abbrev pub IsTreeComplete : Contents → List (Bor (List ℕ)) → Result Found 
 IsTreeComplete contents searches (Err e) complete = complete ≡ false
 IsTreeComplete contents searches (Ok program) complete =
     (objects : List Entry) × AreObjects contents searches program objects × (complete ≡ list_all is_complete objects)
-
--- nothing counts as bound if something is missing
-abbrev pub IsBoundIfComplete : Contents → List (Bor (List ℕ)) → Result Found ParseError → Bool → Type 0
-IsBoundIfComplete contents searches (Err e) bound = bound ≡ false
-IsBoundIfComplete contents searches (Ok program) bound =
-    (objects : List Entry) × AreObjects contents searches program objects
-    × (bound ≡ true → list_all is_complete objects ≡ true)

@@ -10,8 +10,9 @@ use Rattle.elf_parts.specs.gnu_symver.Table.{Versions}
 use Rattle.elf_records.specs.Number.{ok_map}
 use Rattle.elf_records.specs.Record.{◌>>=◌}
 use Rattle.elf_records.specs.Symbol.{symbol_reads}
-use Rattle.elf_records.specs.Table.{Table, table_items}
+use Rattle.elf_records.specs.Table.{Table, table_in, table_items}
 use Rattle.elf_records.specs.declared.dynamic.Dyn.{Dyn}
+use Rattle.elf_records.specs.declared.file.Class.{Class}
 use Rattle.elf_records.specs.declared.parse.ParseError.{ParseError}
 use Rattle.elf_records.specs.declared.section.SectionHeader.{SectionHeader}
 use Rattle.elf_records.specs.declared.segment.ProgramHeader.{ProgramHeader}
@@ -21,7 +22,7 @@ use Rattle.elf.specs.Answers.{section_data_as_rels, segment_data_as_notes, symbo
 use Rattle.elf.specs.Answers.{symbol_version_table, symbols_of}
 use Rattle.elf.specs.Data.{content}
 use Rattle.elf.specs.Names.{name_table}
-use Rattle.elf.specs.ObjectFile.{ObjectFile, table_of}
+use Rattle.elf.specs.ObjectFile.{ObjectFile}
 use Rattle.elf_tools.specs.Needed.{entries_in, strings_by}
 use Rattle.elf_tools.specs.declared.needed.NamesError.{NamesError}
 use Rattle.nugwier_commands.specs.declared.strings.Shown.{Shown}
@@ -201,15 +202,16 @@ version_content file s =
     content file s >>= λ bytes. linked_content file s >>= λ strings. Ok (bytes, strings)
 
 -- of the definitions or the needs in these bytes; sh_info is their number
-abbrev pub version_names_wrong : ObjectFile → Part → SectionHeader → List ℕ → List ℕ → List Place
-version_names_wrong file part s bytes strings =
+abbrev pub version_names_in : Bool → Class → Part → SectionHeader → List ℕ → List ℕ → List Place
+version_names_in little class part s bytes strings =
     if s.sh_type == sht_gnu_verdef
-    then definitions_wrong part strings (ver_defs (table_of file bytes) s.sh_info 0)
-    else needs_wrong part strings (ver_needs (table_of file bytes) s.sh_info 0)
+    then definitions_wrong part strings (ver_defs (table_in little class bytes) s.sh_info 0)
+    else needs_wrong part strings (ver_needs (table_in little class bytes) s.sh_info 0)
 
 -- each name, or the section as a whole
 abbrev pub names_in_versions : ObjectFile → ℕ → SectionHeader → Result (List ℕ × List ℕ) ParseError → List Place
-names_in_versions file i s (Ok found) = version_names_wrong file (Section i) s found.0 found.1
+names_in_versions file i s (Ok found) =
+    version_names_in file.little file.class (Section i) s found.0 found.1
 names_in_versions file i s (Err e) = whole (Section i) ∷ []
 
 -- of section i, if it defines or needs versions

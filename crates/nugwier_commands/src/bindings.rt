@@ -1,13 +1,15 @@
 //! What the symbols of a program and of its libraries bind to.
-ghost use Rattle.std.specs.Prelude.{IfOk};
-ghost use Rattle.elf_tools.specs.Tree.{file_of};
-ghost use Rattle.nugwier_commands.specs.Tree.{IsBoundIfComplete};
+ghost use Rattle.std.specs.Prelude.{◌≡◌, ◌∷◌, IfOk, List, map};
+ghost use Rattle.elf_tools.specs.Tree.{entry_view, file_of};
+ghost use Rattle.nugwier_commands.specs.Bindings.{AreAllFilesBound, AreFilesBound, AreObjectsBound, IsProgramBound};
+ghost use Rattle.nugwier_commands.specs.Bindings.{SearchedFile};
+ghost use Rattle.nugwier_commands.specs.inner.Scope.{AreFound, AreInScope};
 
 mod objects;
 mod rows;
 mod targets;
 
-use crate::bindings::objects::{Found, add_file, index_objects};
+use crate::bindings::objects::{Found, add_file, add_files, index_objects};
 use crate::bindings::rows::list_object;
 use crate::bindings::targets::Scope;
 use crate::files::Libraries;
@@ -31,7 +33,7 @@ pub(crate) fn run_bindings<L: Libraries, W: Write, V: Write>(
     out: &mut W,
     err: &mut V,
 ) -> Result<bool, Stop>
-    ensures { IfOk result (IsBoundIfComplete (L.contents libraries.now) searches.now (file_of path.now «data».items)) }
+    ensures { IfOk result (IsProgramBound (L.contents libraries.now) searches.now (file_of path.now «data».items)) }
 {
     let Some(program) = open_program(alloc, path, data, out, err)? else {
         return Ok(false);
@@ -44,7 +46,7 @@ pub(crate) fn run_bindings<L: Libraries, W: Write, V: Write>(
 }
 
 // Lists what the symbols of each object bind to. They are in the order in which the dynamic linker searches them, the
-// program first.
+// program first. Returns whether all is known and nothing is missing.
 //
 // A library that cannot be searched is told, and counts as one that defines nothing. If the program is such an object,
 // nothing is listed.
@@ -54,16 +56,33 @@ fn list_bindings<W: Write, V: Write>(
     objects: &[Object],
     out: &mut W,
     err: &mut V,
-) -> Result<bool, Stop> {
+) -> Result<bool, Stop>
+    ensures { IfOk result (AreObjectsBound (map entry_view objects.now)) }
+{
+    let [program, libraries @ ..] = objects else {
+        return Ok(true);
+    };
+    list_program(alloc, format, program, libraries, out, err)
+}
+
+// Lists what the symbols of a program and of its libraries bind to.
+fn list_program<W: Write, V: Write>(
+    alloc: Global,
+    format: Format<'_>,
+    program: &Object,
+    libraries: &[Object],
+    out: &mut W,
+    err: &mut V,
+) -> Result<bool, Stop>
+    ensures { IfOk result (AreObjectsBound (entry_view program.now ∷ map entry_view libraries.now)) }
+{
     let mut found = Found::none(alloc);
-    let mut is_read = true;
-    for object in objects {
-        is_read &= add_file(object, &mut found, err)?;
-        if found.tables.is_empty() {
-            return Ok(is_read);
-        }
+    let is_searchable = add_file(program, &mut found, err)?;
+    if found.tables.is_empty() {
+        return Ok(is_searchable);
     }
-    Ok(list_found(alloc, format, found, out, err)? && is_read)
+    let are_searchable = add_files(libraries, &mut found, err)?;
+    Ok(list_found(alloc, format, found, out, err)? && are_searchable)
 }
 
 // Lists the files that were found.
@@ -73,20 +92,33 @@ fn list_found<W: Write, V: Write>(
     found: Found<'_>,
     out: &mut W,
     err: &mut V,
-) -> Result<bool, Stop> {
-    let Found {
-        files,
-        tables,
-        versions,
-    } = found;
-    let objects = index_objects(alloc, tables, versions.as_slice())?;
+) -> Result<bool, Stop>
+    ensures { IfOk result (λ are_bound. (all : List SearchedFile)
+        → AreFound all found.entry.files.items found.entry.tables.items → AreAllFilesBound all are_bound) }
+{
+    let Found { files, tables } = found;
+    let objects = index_objects(alloc, files.as_slice(), tables)?;
     let scope = Scope {
         files: files.as_slice(),
         objects: objects.as_slice(),
     };
+    list_files(alloc, format, scope, out, err)
+}
+
+// Lists the files of a scope.
+fn list_files<W: Write, V: Write>(
+    alloc: Global,
+    format: Format<'_>,
+    scope: Scope<'_, '_, '_, '_>,
+    out: &mut W,
+    err: &mut V,
+) -> Result<bool, Stop>
+    ensures { IfOk result (λ are_bound. (all : List SearchedFile)
+        → AreInScope all scope.entry.files.now scope.entry.objects.now → AreAllFilesBound all are_bound) }
+{
     let mut is_bound = true;
-    for place in 0..scope.files.len() {
-        is_bound &= list_object(alloc, format, scope, place, out, err)?;
+    for (place, file) in scope.files.iter().enumerate() {
+        is_bound &= list_object(alloc, format, scope, place, file, out, err)?;
     }
     Ok(is_bound)
 }

@@ -1,5 +1,5 @@
 //! The content of a section.
-ghost use Rattle.std.specs.Prelude.{◌≡◌, ◌++◌, OnOk, Some};
+ghost use Rattle.std.specs.Prelude.{◌≡◌, ◌++◌, [], ◌∷◌, OnOk, Some};
 ghost use Rattle.elf.specs.Data.{section_data};
 ghost use Rattle.elf.specs.ElfBytes.{view};
 ghost use Rattle.elf.specs.Names.{has_name, name_table};
@@ -10,6 +10,7 @@ ghost use Rattle.nugwier_commands.specs.Contents.{content_wrong, contents_wrong,
 ghost use Rattle.nugwier_commands.specs.Contents.{section_of};
 ghost use Rattle.nugwier_commands.specs.Wrong.{readable, whole};
 ghost use Rattle.nugwier_lines.specs.Places.{at_if, is_error};
+ghost use Rattle.nugwier_lines.specs.declared.problem.Part.TheVariants.{File};
 
 use crate::names::readable_names;
 use crate::words::{Form, Wanted};
@@ -25,6 +26,8 @@ use nugwier_lines::problem::{Fault, Item, Part, Place, Problems, Stop};
 use std::alloc::Global;
 use std::io;
 use std::io::Write;
+
+pub(crate) mod by_parts;
 
 /// Lists the contents of sections, in order.
 pub(crate) fn list_contents<E: EndianParse, W: Write>(
@@ -66,15 +69,20 @@ fn list_content<E: EndianParse, W: Write>(
             out,
             problems,
         ),
-        None => {
-            let place = Place {
-                part: Part::File,
-                item: Item::Whole,
-            };
-            let name = Escaped(wanted.section.as_bytes());
-            problems.add(place, Fault::Check(format!(in alloc; "no section {name}")?))
-        }
+        None => tell_missing(alloc, wanted, problems),
     }
+}
+
+// Tells of the file that it has no such section.
+fn tell_missing(alloc: Global, wanted: &Wanted<'_>, problems: &mut Problems) -> Result<(), Stop>
+    ensures { OnOk result (problems.new ≡ problems.old ++ whole File ∷ []) }
+{
+    let place = Place {
+        part: Part::File,
+        item: Item::Whole,
+    };
+    let name = Escaped(wanted.section.as_bytes());
+    problems.add(place, Fault::Check(format!(in alloc; "no section {name}")?))
 }
 
 fn list_found<E: EndianParse, W: Write>(
@@ -97,6 +105,17 @@ fn list_found<E: EndianParse, W: Write>(
         Ok(found) => found,
         Err(error) => return problems.add(place, Fault::Read(error)),
     };
+    list_data(format, number, bytes, wanted, out)
+}
+
+// Lists the data of a section, for people under a heading.
+fn list_data<W: Write>(
+    format: Format<'_>,
+    number: u64,
+    bytes: &[u8],
+    wanted: &Wanted<'_>,
+    out: &mut W,
+) -> Result<(), Stop> {
     list_heading(format, wanted, out)?;
     match (wanted.form, format) {
         (Form::Bytes, Format::Text) => list_bytes(bytes, out),
@@ -168,8 +187,8 @@ fn number_in(word: &str) -> Option<usize>
 }
 
 // The section of a number.
-fn numbered<E: EndianParse>(file: &ElfBytes<'_, E>, number: usize) -> Option<(usize, SectionHeader)>
-    ensures { result ≡ numbered (object_file E.little (view file.now)) number }
+fn numbered<F: Headers>(file: &F, number: usize) -> Option<(usize, SectionHeader)>
+    ensures { result ≡ numbered (F.file file.now) number }
 {
     match file.section_at(number) {
         Ok(section) => Some((number, section)),

@@ -1,17 +1,17 @@
 //! The build id of a file.
-ghost use Rattle.std.specs.Prelude.{◌≡◌, ◌++◌, IfSome, OnOk};
+ghost use Rattle.std.specs.Prelude.{◌≡◌, ◌++◌, OnOk};
 ghost use Rattle.std.specs.Option.{option_map};
 ghost use Rattle.elf.specs.ElfBytes.{view};
 ghost use Rattle.elf.specs.ObjectFile.{object_file};
-ghost use Rattle.elf.specs.StreamFile.{stream_file};
 ghost use Rattle.elf_tools.specs.BuildId.{build_id};
 ghost use Rattle.nugwier_commands.specs.Wrong.{answer_wrong, missing_wrong};
 ghost use Rattle.nugwier_lines.specs.declared.problem.Part.TheVariants.{BuildId};
 
-use crate::by_parts::Unlisted;
 use elf::endian::EndianParse;
+use elf::section::SectionHeader;
+use elf::segment::ProgramHeader;
 use elf::{ElfBytes, ElfStream, StreamSource, abi};
-use elf_tools::build_id::{build_id, read_build_id};
+use elf_tools::build_id::build_id;
 use nugwier_lines::dump::Hex;
 use nugwier_lines::json::{Format, Value, write_object};
 use nugwier_lines::problem::{Fault, Item, Part, Place, Problems, Stop};
@@ -23,10 +23,6 @@ const BUILD_ID: Place = Place {
     part: Part::BuildId,
     item: Item::Whole,
 };
-
-// A file with more segments and sections of notes than this is read whole: by parts each stays in memory, and a file may
-// declare many that overlap.
-const MOST_NOTES: usize = 16;
 
 /// Lists the build id. It is wrong if there is none.
 pub(crate) fn list_build_id<E: EndianParse, W: Write>(
@@ -44,39 +40,47 @@ pub(crate) fn list_build_id<E: EndianParse, W: Write>(
     }
 }
 
-/// Whether a file has so few segments and sections of notes that its build id is read by parts.
-pub(crate) fn has_few_notes<E: EndianParse, S: StreamSource>(
+/// The sizes of the segments and sections of notes together, which are read to find the build id.
+pub(crate) fn build_id_size<E: EndianParse, S: StreamSource>(
     stream: &ElfStream<E, S, Global>,
-) -> bool {
-    let segments = stream
-        .segments()
-        .iter()
-        .filter(|segment| segment.p_type == abi::PT_NOTE)
-        .count();
-    let sections = stream
-        .section_headers()
-        .iter()
-        .filter(|section| section.sh_type == abi::SHT_NOTE)
-        .count();
-    segments.saturating_add(sections) <= MOST_NOTES
+) -> u64 {
+    let segments = note_segments_size(stream.segments().as_slice());
+    segments.saturating_add(note_sections_size(stream.section_headers().as_slice()))
 }
 
-/// Lists the build id of a file that is read by parts. Nothing is written before all that is needed was read.
-pub(crate) fn list_build_id_by_parts<E: EndianParse, S: StreamSource, W: Write>(
-    alloc: Global,
+fn note_segments_size(segments: &[ProgramHeader]) -> u64 {
+    let mut size: u64 = 0;
+    for segment in segments {
+        if segment.p_type == abi::PT_NOTE {
+            size = size.saturating_add(segment.p_filesz);
+        }
+    }
+    size
+}
+
+fn note_sections_size(sections: &[SectionHeader]) -> u64 {
+    let mut size: u64 = 0;
+    for section in sections {
+        if section.sh_type == abi::SHT_NOTE {
+            size = size.saturating_add(section.sh_size);
+        }
+    }
+    size
+}
+
+/// Lists a build id that was read. It is wrong if there is none.
+pub(crate) fn list_read_build_id<W: Write>(
     format: Format<'_>,
-    stream: &mut ElfStream<E, S, Global>,
+    id: &Option<Vec<u8>>,
     out: &mut W,
     problems: &mut Problems,
-) -> Result<(), Unlisted>
-    ensures { OnOk result (IfSome stream.old.content (λ bytes. problems.new ≡ problems.old
-        ++ answer_wrong BuildId (build_id (stream_file E.little stream.old bytes)))) }
+) -> Result<(), Stop>
+    ensures { OnOk result (problems.new ≡ problems.old ++ missing_wrong BuildId id.now) }
 {
-    match read_build_id(alloc, stream)? {
-        Some(id) => list_found(format, Some(id.as_slice()), out, problems)?,
-        None => list_found(format, None, out, problems)?,
+    match id {
+        Some(id) => list_found(format, Some(id.as_slice()), out, problems),
+        None => list_found(format, None, out, problems),
     }
-    Ok(())
 }
 
 // Lists a build id. It is wrong if there is none.

@@ -6,6 +6,8 @@ ghost use Rattle.nugwier_commands.specs.Wrong.{notes_wrong, one_segment_wrong, s
 ghost use Rattle.nugwier_commands.specs.Wrong.{segment_notes_wrong, whole};
 ghost use Rattle.nugwier_lines.specs.Places.{at_if, is_error};
 
+pub(crate) mod by_parts;
+
 use crate::names::{name_of, readable_names};
 use elf::endian::EndianParse;
 use elf::note::NoteIterator;
@@ -18,6 +20,7 @@ use nugwier_lines::json::Format;
 use nugwier_lines::notes;
 use nugwier_lines::problem::{Fault, Item, Part, Place, Problems, Stop};
 use nugwier_lines::rows::{Row, list_records};
+use std::io;
 use std::io::Write;
 
 /// Lists the notes of the sections or, if no sections are declared, of the segments.
@@ -87,10 +90,7 @@ impl<'p, 'f, 'data, E: EndianParse> Row for NoteSections<'p, 'f, 'data, E> {
         if section.sh_type != abi::SHT_NOTE {
             return Ok(());
         }
-        if self.format.is_text() {
-            let name = Escaped(name_of(&self.names, section));
-            writeln!(out, "Notes of section {number} ({name}):")?;
-        }
+        list_section_heading(self.format, &self.names, number, section, out)?;
         let notes = self.file.section_data_as_notes(section);
         list_found(self.format, Part::Section(number), notes, out, problems)
     }
@@ -118,12 +118,31 @@ impl<'p, 'f, 'data, E: EndianParse> Row for NoteSegments<'p, 'f, 'data, E> {
         if segment.p_type != abi::PT_NOTE {
             return Ok(());
         }
-        if self.format.is_text() {
-            writeln!(out, "Notes of segment {number}:")?;
-        }
+        list_segment_heading(self.format, number, out)?;
         let notes = self.file.segment_data_as_notes(segment);
         list_found(self.format, Part::Segment(number), notes, out, problems)
     }
+}
+
+fn list_section_heading<W: Write>(
+    format: Format<'_>,
+    names: &Option<TerminatedStrings<'_>>,
+    number: u64,
+    section: &SectionHeader,
+    out: &mut W,
+) -> io::Result<()> {
+    if !format.is_text() {
+        return Ok(());
+    }
+    let name = Escaped(name_of(names, section));
+    writeln!(out, "Notes of section {number} ({name}):")
+}
+
+fn list_segment_heading<W: Write>(format: Format<'_>, number: u64, out: &mut W) -> io::Result<()> {
+    if !format.is_text() {
+        return Ok(());
+    }
+    writeln!(out, "Notes of segment {number}:")
 }
 
 // Lists notes, if they can be read.

@@ -1,18 +1,24 @@
 //! What a loader maps.
-ghost use Rattle.std.specs.Prelude.{OnOk};
+ghost use Rattle.std.specs.Prelude.{IfSome, OnOk};
 ghost use Rattle.elf.specs.ElfBytes.{view};
 ghost use Rattle.elf.specs.ObjectFile.{object_file};
-ghost use Rattle.nugwier_commands.specs.Plan.{IsPlanWrong};
+ghost use Rattle.elf.specs.StreamFile.{stream_file};
+ghost use Rattle.nugwier_commands.specs.Plan.{IsPlanWrong, IsPlannedWrong};
 
-use elf::ElfBytes;
 use elf::endian::EndianParse;
-use elf_tools::load_plan::{Mapping, PlanError, load_plan};
+use elf::{ElfBytes, ElfStream, StreamSource};
+use elf_tools::load_plan::{Mapping, PlanError, load_plan, read_load_plan};
 use nugwier_lines::flags::SegmentFlags;
 use nugwier_lines::json::{Format, Value, write_object};
 use nugwier_lines::problem::{Fault, Item, Part, Place, Problems, Stop};
 use std::alloc::Global;
 use std::io;
 use std::io::Write;
+
+const PLAN: Place = Place {
+    part: Part::LoadPlan,
+    item: Item::Whole,
+};
 
 /// Lists the mappings of a file. It is wrong if there are none, or if they cannot be mapped.
 pub(crate) fn list_plan<E: EndianParse, W: Write>(
@@ -24,20 +30,43 @@ pub(crate) fn list_plan<E: EndianParse, W: Write>(
 ) -> Result<(), Stop>
     ensures { OnOk result (IsPlanWrong (object_file E.little (view file.now)) problems.old problems.new) }
 {
-    let place = Place {
-        part: Part::LoadPlan,
-        item: Item::Whole,
-    };
-    match load_plan(alloc, file) {
+    list_planned(alloc, format, load_plan(alloc, file), out, problems)
+}
+
+/// Lists the mappings of a file that is read by parts. It is wrong if there are none, or if they cannot be mapped.
+pub(crate) fn list_plan_by_parts<E: EndianParse, S: StreamSource, W: Write>(
+    alloc: Global,
+    format: Format<'_>,
+    stream: &ElfStream<E, S, Global>,
+    out: &mut W,
+    problems: &mut Problems,
+) -> Result<(), Stop>
+    ensures { OnOk result (IfSome stream.now.content (λ bytes.
+        IsPlanWrong (stream_file E.little stream.now bytes) problems.old problems.new)) }
+{
+    list_planned(alloc, format, read_load_plan(alloc, stream), out, problems)
+}
+
+// Lists a plan. It is wrong if it is empty, or if there is none.
+fn list_planned<W: Write>(
+    alloc: Global,
+    format: Format<'_>,
+    planned: Result<Vec<Mapping>, PlanError>,
+    out: &mut W,
+    problems: &mut Problems,
+) -> Result<(), Stop>
+    ensures { OnOk result (IsPlannedWrong planned problems.old problems.new) }
+{
+    match planned {
         Ok(plan) => {
             if plan.is_empty() {
-                return problems.add(place, Fault::Missing);
+                return problems.add(PLAN, Fault::Missing);
             }
             list_mappings(format, plan.as_slice(), out)?;
             Ok(())
         }
         Err(PlanError::Memory) => Err(Stop::Memory),
-        Err(error) => problems.add(place, Fault::Check(format!(in alloc; "{error}")?)),
+        Err(error) => problems.add(PLAN, Fault::Check(format!(in alloc; "{error}")?)),
     }
 }
 

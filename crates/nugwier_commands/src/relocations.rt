@@ -1,16 +1,18 @@
 //! The relocations of a file.
 ghost use Rattle.std.specs.Prelude.{◌≡◌, ◌++◌, OnOk};
 ghost use Rattle.std.specs.Option.{option_map};
-ghost use Rattle.elf.specs.Answers.{symbols_of};
+ghost use Rattle.elf.specs.Answers.{relas_left, rels_left, symbols_of};
 ghost use Rattle.elf.specs.ElfBytes.{view};
 ghost use Rattle.elf.specs.ObjectFile.{object_file};
 ghost use Rattle.elf_records.specs.Number.{ok_map};
+ghost use Rattle.nugwier_commands.specs.inner.RelocationParts.{are_relocations, uses_wrong};
 ghost use Rattle.nugwier_commands.specs.Wrong.{linked_symbols, records_wrong, relocations_in, relocations_wrong};
 ghost use Rattle.nugwier_lines.specs.Names.{symbols_view};
 
 use crate::names::{name_of, readable_names};
 use elf::endian::EndianParse;
 use elf::headers::Headers;
+use elf::relocation::{RelIterator, RelaIterator};
 use elf::section::SectionHeader;
 use elf::string_table::{StringTable, TerminatedStrings};
 use elf::symbol::SymbolTable;
@@ -23,6 +25,8 @@ use nugwier_lines::relocations::{RelRow, RelaRow, Symbols, list_heading};
 use nugwier_lines::rows::{Row, list_records};
 use std::io;
 use std::io::Write;
+
+pub(crate) mod by_parts;
 
 /// Lists the relocations of each section that has them.
 pub(crate) fn list_relocations<E: EndianParse, W: Write>(
@@ -71,11 +75,10 @@ impl<'p, 'f, 'data, E: EndianParse> Row for RelocationSections<'p, 'f, 'data, E>
         out: &mut W,
         problems: &mut Problems,
     ) -> Result<(), Stop> {
-        if section.sh_type != abi::SHT_REL && section.sh_type != abi::SHT_RELA {
+        if !are_relocations(section) {
             return Ok(());
         }
-        list_title(self.format, &self.names, number, section, out)?;
-        list_heading(self.format, out)?;
+        list_headings(self.format, &self.names, number, section, out)?;
         let place = Place {
             part: Part::Section(number),
             item: Item::Symbols,
@@ -94,6 +97,13 @@ impl<'p, 'f, 'data, E: EndianParse> Row for RelocationSections<'p, 'f, 'data, E>
             problems,
         )
     }
+}
+
+// Whether the section has relocations, by its type.
+fn are_relocations(section: &SectionHeader) -> bool
+    ensures { result ≡ are_relocations section.now }
+{
+    section.sh_type == abi::SHT_REL || section.sh_type == abi::SHT_RELA
 }
 
 // The symbols of the section of this number. Section 0 is none; a section of another type has none.
@@ -144,7 +154,8 @@ fn symbols_of<'data, E: EndianParse>(
     })
 }
 
-fn list_title<W: Write>(
+// The headings of a section, for people.
+fn list_headings<W: Write>(
     format: Format<'_>,
     names: &Option<TerminatedStrings<'_>>,
     number: u64,
@@ -155,7 +166,8 @@ fn list_title<W: Write>(
         return Ok(());
     }
     let name = Escaped(name_of(names, section));
-    writeln!(out, "Relocations of section {number} ({name}):")
+    writeln!(out, "Relocations of section {number} ({name}):")?;
+    list_heading(format, out)
 }
 
 // Lists the relocations of a section of either type.
@@ -178,26 +190,52 @@ fn list_section<'data, E: EndianParse, W: Write>(
     };
     if section.sh_type == abi::SHT_REL {
         return match file.section_data_as_rels(section) {
-            Ok(rels) => {
-                let row = RelRow {
-                    format,
-                    part,
-                    symbols,
-                };
-                list_records(rels, &row, out, problems)
-            }
+            Ok(rels) => list_rels(format, part, symbols, rels, out, problems),
             Err(error) => problems.add(place, Fault::Read(error)),
         };
     }
     match file.section_data_as_relas(section) {
-        Ok(relas) => {
-            let row = RelaRow {
-                format,
-                part,
-                symbols,
-            };
-            list_records(relas, &row, out, problems)
-        }
+        Ok(relas) => list_relas(format, part, symbols, relas, out, problems),
         Err(error) => problems.add(place, Fault::Read(error)),
     }
+}
+
+// Lists relocations without an addend.
+fn list_rels<'data, E: EndianParse, W: Write>(
+    format: Format<'_>,
+    part: Part,
+    symbols: Option<Symbols<'data, E>>,
+    rels: RelIterator<'data, E>,
+    out: &mut W,
+    problems: &mut Problems,
+) -> Result<(), Stop>
+    ensures { OnOk result (problems.new ≡ problems.old
+        ++ uses_wrong (λ r. r.r_sym) part (option_map symbols_view symbols.entry) (rels_left rels.entry)) }
+{
+    let row = RelRow {
+        format,
+        part,
+        symbols,
+    };
+    list_records(rels, &row, out, problems)
+}
+
+// Lists relocations with an addend.
+fn list_relas<'data, E: EndianParse, W: Write>(
+    format: Format<'_>,
+    part: Part,
+    symbols: Option<Symbols<'data, E>>,
+    relas: RelaIterator<'data, E>,
+    out: &mut W,
+    problems: &mut Problems,
+) -> Result<(), Stop>
+    ensures { OnOk result (problems.new ≡ problems.old
+        ++ uses_wrong (λ r. r.r_sym) part (option_map symbols_view symbols.entry) (relas_left relas.entry)) }
+{
+    let row = RelaRow {
+        format,
+        part,
+        symbols,
+    };
+    list_records(relas, &row, out, problems)
 }

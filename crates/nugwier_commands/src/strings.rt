@@ -1,21 +1,23 @@
 //! The dynamic entries of a file, and the strings that they name.
-ghost use Rattle.std.specs.Prelude.{◌≡◌, ◌++◌, IfOk, IfSome, OnOk};
+ghost use Rattle.std.specs.Prelude.{◌≡◌, ◌++◌, Ok, IfOk, IfSome, OnOk};
 ghost use Rattle.std.specs.Result.{result_ok};
+ghost use Rattle.std.specs.Vec.{vec_items};
 ghost use Rattle.elf.specs.Answers.{segment_data};
 ghost use Rattle.elf.specs.ElfBytes.{view};
 ghost use Rattle.elf.specs.ElfStream.{Keeps};
 ghost use Rattle.elf.specs.ObjectFile.{object_file};
 ghost use Rattle.elf.specs.StreamFile.{stream_file};
 ghost use Rattle.elf_records.specs.Number.{ok_map};
-ghost use Rattle.elf_tools.specs.Needed.{or_error, strings_by};
-ghost use Rattle.elf_tools.specs.declared.needed.NamesError.TheVariants.{Read as IsRead};
-ghost use Rattle.nugwier_commands.specs.ByParts.{IfUnread};
+ghost use Rattle.elf_tools.specs.Needed.{strings_by};
+ghost use Rattle.nugwier_commands.specs.inner.ByParts.{dynamic_in, read_wrong};
 ghost use Rattle.nugwier_commands.specs.Wrong.{dynamic_wrong, entries_of, names_wrong, needed_of};
 ghost use Rattle.nugwier_commands.specs.Wrong.{none_wrong, shown_wrong, whole};
+ghost use Rattle.nugwier_commands.specs.declared.strings.Shown.{Shown};
+ghost use Rattle.nugwier_commands.specs.declared.strings.Shown.TheVariants.{Entries as IsEntries};
 ghost use Rattle.nugwier_lines.specs.Places.{at_if, is_error};
 ghost use Rattle.nugwier_lines.specs.declared.problem.Part.TheVariants.{DynamicStrings};
 
-use crate::by_parts::Unlisted;
+use crate::by_parts::part::ListedPart;
 use elf::dynamic::Dyn;
 use elf::endian::EndianParse;
 use elf::segment::ProgramHeader;
@@ -178,102 +180,122 @@ pub(crate) fn list_entries<E: EndianParse, W: Write>(
     list_dynamic(alloc, Shown::Entries, format, file, out, problems)
 }
 
-/// Lists the dynamic entries of a file that is read by parts. Nothing is written before all that is needed was read.
-pub(crate) fn list_dynamic_by_parts<E: EndianParse, S: StreamSource, W: Write>(
-    alloc: Global,
-    shown: Shown,
-    format: Format<'_>,
-    stream: &mut ElfStream<E, S, Global>,
-    out: &mut W,
-    problems: &mut Problems,
-) -> Result<(), Unlisted>
-    ensures keeps { Keeps stream.old stream.new }
-    ensures places { OnOk result (IfSome stream.old.content (λ bytes. problems.new ≡ problems.old
-        ++ dynamic_wrong shown (stream_file E.little stream.old bytes))) }
-    ensures unread { IfUnread result (problems.new ≡ problems.old) }
-{
-    match read_entries(alloc, stream)? {
-        Some(entries) => list_found(shown, format, stream, entries.as_slice(), out, problems),
-        None => {
-            list_none(shown, problems)?;
-            Ok(())
-        }
-    }
+/// The dynamic entries that were read, and the strings that they name, or why the place of the strings is not known.
+#[derive(Debug, Drop)]
+pub(crate) struct DynamicParts {
+    entries: Vec<Dyn>,
+    strings: Result<Vec<u8>, NamesError>,
 }
 
-// Lists entries with the strings that they name.
-fn list_found<E: EndianParse, S: StreamSource, W: Write>(
-    shown: Shown,
-    format: Format<'_>,
-    stream: &mut ElfStream<E, S, Global>,
-    entries: &[Dyn],
-    out: &mut W,
-    problems: &mut Problems,
-) -> Result<(), Unlisted>
-    ensures keeps { Keeps stream.old stream.new }
-    ensures places { OnOk result (IfSome stream.old.content (λ bytes. problems.new ≡ problems.old
-        ++ shown_wrong shown entries.now (strings_by (stream_file E.little stream.old bytes) entries.now))) }
-    ensures unread { IfUnread result (problems.new ≡ problems.old) }
-{
-    match string_part(stream.segments().as_slice(), entries) {
-        Ok(part) => list_with_part(shown, format, stream, entries, &part, out, problems),
-        Err(error) => {
-            list_shown(shown, format, entries, Err(error), out, problems)?;
-            Ok(())
-        }
-    }
-}
-
-// Lists entries with the strings of a part of the file.
-fn list_with_part<E: EndianParse, S: StreamSource, W: Write>(
-    shown: Shown,
-    format: Format<'_>,
-    stream: &mut ElfStream<E, S, Global>,
-    entries: &[Dyn],
-    part: &ProgramHeader,
-    out: &mut W,
-    problems: &mut Problems,
-) -> Result<(), Unlisted>
-    ensures keeps { Keeps stream.old stream.new }
-    ensures places { OnOk result (IfSome stream.old.content (λ bytes. problems.new ≡ problems.old
-        ++ shown_wrong shown entries.now
-        (or_error IsRead (segment_data (stream_file E.little stream.old bytes) part.now)))) }
-    ensures unread { IfUnread result (problems.new ≡ problems.old) }
-{
-    match stream.segment_data(part) {
-        Ok(bytes) => {
-            list_shown(shown, format, entries, Ok(bytes), out, problems)?;
-            Ok(())
-        }
-        Err(error) => Err(Unlisted::Unread(error)),
-    }
-}
-
-/// Whether the dynamic entries and their strings can be read, if there are any. They are cached then.
-pub(crate) fn can_read_entries<E: EndianParse, S: StreamSource>(
+/// Reads the dynamic entries with the strings that they name, or returns `None` if there are no entries.
+pub(crate) fn read_dynamic<E: EndianParse, S: StreamSource>(
     alloc: Global,
     stream: &mut ElfStream<E, S, Global>,
-) -> bool
-    ensures { Keeps stream.old stream.new }
+) -> Result<Option<DynamicParts>, ParseError>
+    ensures keeps { Keeps stream.old stream.new }
+    ensures wrong { IfOk result (λ part. IfSome stream.old.content (λ bytes. (shown : Shown)
+        → read_wrong (none_wrong shown) (dynamic_in shown) part
+        ≡ dynamic_wrong shown (stream_file E.little stream.old bytes))) }
 {
-    let Ok(entries) = read_entries(alloc, stream) else {
-        return false;
+    let Some(entries) = read_entries(alloc, stream)? else {
+        return Ok(None);
     };
-    let Some(entries) = entries else {
-        return true;
-    };
-    can_read_strings(stream, entries.as_slice())
+    let strings = read_strings(alloc, stream, entries.as_slice())?;
+    Ok(Some(DynamicParts { entries, strings }))
 }
 
-// Whether the strings that the entries name can be read, if their place is known.
-fn can_read_strings<E: EndianParse, S: StreamSource>(
+// The strings that the entries name, or why their place is not known.
+fn read_strings<E: EndianParse, S: StreamSource>(
+    alloc: Global,
     stream: &mut ElfStream<E, S, Global>,
     entries: &[Dyn],
-) -> bool
-    ensures { Keeps stream.old stream.new }
+) -> Result<Result<Vec<u8>, NamesError>, ParseError>
+    ensures keeps { Keeps stream.old stream.new }
+    ensures strings { IfOk result (λ strings. IfSome stream.old.content (λ bytes.
+        strings_by (stream_file E.little stream.old bytes) entries.now ≡ ok_map vec_items strings)) }
 {
     match string_part(stream.segments().as_slice(), entries) {
-        Ok(part) => stream.segment_data(&part).is_ok(),
-        Err(_) => true,
+        Ok(part) => {
+            let strings = read_segment(alloc, stream, &part)?;
+            Ok(Ok(strings))
+        }
+        Err(error) => Ok(Err(error)),
+    }
+}
+
+// The bytes of a segment.
+fn read_segment<E: EndianParse, S: StreamSource>(
+    alloc: Global,
+    stream: &mut ElfStream<E, S, Global>,
+    segment: &ProgramHeader,
+) -> Result<Vec<u8>, ParseError>
+    ensures keeps { Keeps stream.old stream.new }
+    ensures bytes { IfOk result (λ copy. IfSome stream.old.content (λ bytes.
+        segment_data (stream_file E.little stream.old bytes) segment.now ≡ Ok copy.items)) }
+{
+    match stream.segment_data(segment) {
+        Ok(bytes) => Ok(bytes.to_vec(alloc)?),
+        Err(error) => Err(error),
+    }
+}
+
+impl DynamicParts {
+    // Lists the entries.
+    fn list_as<W: Write>(
+        self,
+        shown: Shown,
+        format: Format<'_>,
+        out: &mut W,
+        problems: &mut Problems,
+    ) -> Result<(), Stop>
+        ensures { OnOk result (problems.new ≡ problems.old ++ dynamic_in shown self) }
+    {
+        let DynamicParts { entries, strings } = self;
+        let entries = entries.as_slice();
+        match strings {
+            Ok(bytes) => { list_shown(shown, format, entries, Ok(bytes.as_slice()), out, problems) }
+            Err(error) => list_shown(shown, format, entries, Err(error), out, problems),
+        }
+    }
+}
+
+/// Lists dynamic entries that were read. It is wrong if there are none, unless each entry is listed.
+pub(crate) fn list_read_dynamic<W: Write>(
+    shown: Shown,
+    format: Format<'_>,
+    dynamic: Option<DynamicParts>,
+    out: &mut W,
+    problems: &mut Problems,
+) -> Result<(), Stop>
+    ensures { OnOk result (problems.new ≡ problems.old
+        ++ read_wrong (none_wrong shown) (dynamic_in shown) dynamic) }
+{
+    match dynamic {
+        Some(dynamic) => dynamic.list_as(shown, format, out, problems),
+        None => list_none(shown, problems),
+    }
+}
+
+impl<E: EndianParse> ListedPart<E> for DynamicParts {
+    ghost wrong = { entries_of };
+
+    ghost wrong_in = { λ _. dynamic_in IsEntries };
+
+    fn read<S: StreamSource>(
+        alloc: Global,
+        stream: &mut ElfStream<E, S, Global>,
+    ) -> Result<Option<DynamicParts>, ParseError> {
+        read_dynamic(alloc, stream)
+    }
+
+    fn list<S: StreamSource, W: Write>(
+        self,
+        _alloc: Global,
+        format: Format<'_>,
+        _stream: &ElfStream<E, S, Global>,
+        out: &mut W,
+        problems: &mut Problems,
+    ) -> Result<(), Stop> {
+        self.list_as(Shown::Entries, format, out, problems)
     }
 }

@@ -1,27 +1,31 @@
 //! The symbols of a file.
-ghost use Rattle.std.specs.Prelude.{◌≡◌, ◌++◌, [], ◌∷◌, true, IfSome, OnOk};
+ghost use Rattle.std.specs.Prelude.{◌≡◌, ◌++◌, [], ◌∷◌, ℕ, Bool, List, true, IfOk, IfSome, OnOk};
 ghost use Rattle.std.specs.Option.{option_map};
 ghost use Rattle.elf.specs.Answers.{symbols_view};
 ghost use Rattle.elf.specs.ElfBytes.{view};
 ghost use Rattle.elf.specs.ElfStream.{Keeps};
 ghost use Rattle.elf.specs.ObjectFile.{object_file};
+ghost use Rattle.elf.specs.Ranges.{headers_alone};
 ghost use Rattle.elf.specs.StreamFile.{stream_file};
 ghost use Rattle.elf_parts.specs.gnu_symver.Table.{versions_view};
-ghost use Rattle.elf_tools.specs.Library.{symbols_in};
-ghost use Rattle.nugwier_commands.specs.ByParts.{IfUnread};
-ghost use Rattle.nugwier_commands.specs.Wrong.{dynamic_symbols_wrong, none_listed, symbols_wrong, table_wrong};
-ghost use Rattle.nugwier_commands.specs.Wrong.{versioned_wrong, whole};
+ghost use Rattle.elf_records.specs.declared.symbol.Symbol.{Symbol};
+ghost use Rattle.elf_tools.specs.Library.{library_versions, versions_in};
+ghost use Rattle.nugwier_commands.specs.inner.ByParts.{linked_in, read_wrong, symbols_in};
+ghost use Rattle.nugwier_commands.specs.Wrong.{dynamic_symbols_wrong, none_listed, readable, symbols_wrong};
+ghost use Rattle.nugwier_commands.specs.Wrong.{table_wrong, versioned_wrong, whole};
 ghost use Rattle.nugwier_lines.specs.Names.{is_listed};
 ghost use Rattle.nugwier_lines.specs.declared.problem.Part.TheVariants.{DynamicSymbols};
+ghost use Rattle.nugwier_lines.specs.declared.problem.Place.{Place};
 
-use crate::by_parts::Unlisted;
+use crate::by_parts::part::ListedPart;
 use elf::endian::EndianParse;
+use elf::file::Class;
 use elf::gnu_symver::{IndexedVersions, SymbolVersionTable};
 use elf::string_table::{StringTable, TerminatedStrings};
 use elf::symbol::SymbolTable;
-use elf::{ElfBytes, ElfStream, ParseError, StreamSource};
-use elf_tools::bindings::library::SymbolBytes;
-use elf_tools::bindings::reading::read_symbols;
+use elf::{ElfBytes, ElfStream, ParseError, StreamSource, abi};
+use elf_tools::bindings::library::{Library, SymbolBytes, VersionBytes};
+use elf_tools::bindings::reading::{read_first_symbols, read_symbols, read_versions};
 use elf_tools::versions::indexed;
 use nugwier_lines::json::Format;
 use nugwier_lines::problem::{Fault, Item, Part, Place, Problems, Stop};
@@ -161,102 +165,6 @@ pub(crate) fn list_linked<E: EndianParse, W: Write>(
     }
 }
 
-/// Lists the symbols of the section of type `SHT_SYMTAB` of a file that is read by parts, if there is one. Nothing is
-/// written before all that is needed was read.
-pub(crate) fn list_symbols_by_parts<E: EndianParse, S: StreamSource, W: Write>(
-    format: Format<'_>,
-    stream: &mut ElfStream<E, S, Global>,
-    out: &mut W,
-    problems: &mut Problems,
-) -> Result<(), Unlisted>
-    ensures keeps { Keeps stream.old stream.new }
-    ensures places { OnOk result (IfSome stream.old.content (λ bytes. problems.new ≡ problems.old
-        ++ symbols_wrong (stream_file E.little stream.old bytes))) }
-    ensures unread { IfUnread result (problems.new ≡ problems.old) }
-{
-    match stream.symbol_table() {
-        Ok(Some(symbols)) => {
-            let part = Part::Symbols;
-            list_rows(format, part, symbols, None, Form::Fields, out, problems)?;
-            Ok(())
-        }
-        Ok(None) => Ok(()),
-        Err(error) => Err(Unlisted::Unread(error)),
-    }
-}
-
-/// Lists the symbols for dynamic linking of a file that is read by parts, with their versions. It is wrong if there are
-/// none, unless all fields are listed. Nothing is written before all that is needed was read.
-pub(crate) fn list_dynamic_symbols_by_parts<E: EndianParse, S: StreamSource, W: Write>(
-    alloc: Global,
-    format: Format<'_>,
-    stream: &mut ElfStream<E, S, Global>,
-    form: Form<'_, E>,
-    out: &mut W,
-    problems: &mut Problems,
-) -> Result<(), Unlisted>
-    ensures keeps { Keeps stream.old stream.new }
-    ensures places { OnOk result (IfSome stream.old.content (λ bytes. problems.new ≡ problems.old
-        ++ dynamic_symbols_wrong (none_listed form.entry) (is_listed form.entry)
-        (stream_file E.little stream.old bytes))) }
-    ensures unread { IfUnread result (problems.new ≡ problems.old) }
-{
-    match read_symbols(alloc, stream)? {
-        Some(symbols) => list_read(alloc, format, stream, &symbols, form, out, problems),
-        None => {
-            list_none(&form, problems)?;
-            Ok(())
-        }
-    }
-}
-
-// That there are no symbols for dynamic linking.
-fn list_none<E: EndianParse>(form: &Form<'_, E>, problems: &mut Problems) -> Result<(), Stop>
-    ensures { OnOk result (problems.new ≡ problems.old ++ none_listed form.now) }
-{
-    match form {
-        Form::Fields => Ok(()),
-        _ => problems.add(whole(Part::DynamicSymbols), Fault::Missing),
-    }
-}
-
-// Lists symbols for dynamic linking that were read, with their versions.
-fn list_read<E: EndianParse, S: StreamSource, W: Write>(
-    alloc: Global,
-    format: Format<'_>,
-    stream: &mut ElfStream<E, S, Global>,
-    symbols: &SymbolBytes,
-    form: Form<'_, E>,
-    out: &mut W,
-    problems: &mut Problems,
-) -> Result<(), Unlisted>
-    ensures keeps { Keeps stream.old stream.new }
-    ensures places { OnOk result (IfSome stream.old.content (λ bytes. problems.new ≡ problems.old
-        ++ versioned_wrong (is_listed form.entry) (stream_file E.little stream.old bytes)
-        (symbols_in (E.little stream.old.headers.ehdr.endianness) stream.old.headers.ehdr.class symbols.now))) }
-    ensures unread { IfUnread result (problems.new ≡ problems.old) }
-{
-    let symbols = table_of(stream, symbols);
-    match stream.symbol_version_table() {
-        Ok(versions) => {
-            list_with_versions(alloc, format, symbols, versions, form, out, problems)?;
-            Ok(())
-        }
-        Err(error) => Err(Unlisted::Unread(error)),
-    }
-}
-
-// Symbols that were read, in the order and the class of the file.
-fn table_of<'a, E: EndianParse, S: StreamSource>(
-    stream: &ElfStream<E, S, Global>,
-    symbols: &'a SymbolBytes,
-) -> Symbols<'a, E>
-    ensures { symbols_view result ≡ symbols_in (E.little stream.now.headers.ehdr.endianness)
-        stream.now.headers.ehdr.class symbols.now }
-{
-    symbols.table(stream.ehdr.endianness, stream.ehdr.class)
-}
-
 // Lists symbols for dynamic linking with these versions.
 fn list_with_versions<'data, E: EndianParse, W: Write>(
     alloc: Global,
@@ -273,4 +181,159 @@ fn list_with_versions<'data, E: EndianParse, W: Write>(
     let versions = indexed(alloc, versions.as_ref())?;
     let part = Part::DynamicSymbols;
     list_rows(format, part, symbols, versions, form, out, problems)
+}
+
+impl<E: EndianParse> ListedPart<E> for SymbolBytes {
+    ghost wrong = { symbols_wrong };
+
+    ghost wrong_in = { symbols_in };
+
+    fn read<S: StreamSource>(
+        alloc: Global,
+        stream: &mut ElfStream<E, S, Global>,
+    ) -> Result<Option<SymbolBytes>, ParseError> {
+        read_first_symbols(alloc, stream, abi::SHT_SYMTAB)
+    }
+
+    fn list<S: StreamSource, W: Write>(
+        self,
+        _alloc: Global,
+        format: Format<'_>,
+        stream: &ElfStream<E, S, Global>,
+        out: &mut W,
+        problems: &mut Problems,
+    ) -> Result<(), Stop> {
+        let symbols = self.table(stream.ehdr.endianness, stream.ehdr.class);
+        let part = Part::Symbols;
+        list_rows(format, part, symbols, None, Form::Fields, out, problems)
+    }
+}
+
+/// The symbols for dynamic linking that were read, with their versions, if the file has any.
+#[derive(Debug, Drop)]
+pub(crate) struct LinkedSymbols {
+    symbols: SymbolBytes,
+    versions: Option<VersionBytes>,
+}
+
+/// Reads the symbols for dynamic linking with their versions, or returns `None` if there are none.
+pub(crate) fn read_linked<E: EndianParse, S: StreamSource>(
+    alloc: Global,
+    stream: &mut ElfStream<E, S, Global>,
+) -> Result<Option<LinkedSymbols>, ParseError>
+    ensures keeps { Keeps stream.old stream.new }
+    ensures wrong { IfOk result (λ part. IfSome stream.old.content (λ bytes.
+        (none : List Place) (has_row : ℕ → Symbol → Bool)
+        → read_wrong none (linked_in has_row (headers_alone E.little stream.old)) part
+        ≡ dynamic_symbols_wrong none has_row (stream_file E.little stream.old bytes))) }
+{
+    let Some(symbols) = read_symbols(alloc, stream)? else {
+        return Ok(None);
+    };
+    let versions = read_versions(alloc, stream)?;
+    Ok(Some(LinkedSymbols { symbols, versions }))
+}
+
+impl LinkedSymbols {
+    // Lists the symbols with their versions.
+    fn list_as<E: EndianParse, S: StreamSource, W: Write>(
+        self,
+        alloc: Global,
+        format: Format<'_>,
+        stream: &ElfStream<E, S, Global>,
+        form: Form<'_, E>,
+        out: &mut W,
+        problems: &mut Problems,
+    ) -> Result<(), Stop>
+        ensures { OnOk result (problems.new ≡ problems.old
+            ++ linked_in (is_listed form.entry) (headers_alone E.little stream.now) self) }
+    {
+        let LinkedSymbols { symbols, versions } = self;
+        let library = library_of(stream.ehdr.endianness, stream.ehdr.class, versions);
+        let versions = versions_of(&library);
+        let symbols = symbols.table(stream.ehdr.endianness, stream.ehdr.class);
+        list_with_versions(alloc, format, symbols, versions, form, out, problems)
+    }
+}
+
+// Versions that were read, of a file of this order and this class, as a library that has no other part.
+fn library_of<E: EndianParse>(
+    endianness: E,
+    class: Class,
+    versions: Option<VersionBytes>,
+) -> Library<E>
+    ensures { readable (library_versions E.little result)
+        ≡ option_map (versions_in (E.little endianness) class) versions }
+{
+    Library {
+        endianness,
+        class,
+        hash: Ok(None),
+        symbols: Ok(None),
+        versions: Ok(versions),
+    }
+}
+
+// The versions of a library, if they were read.
+fn versions_of<E: EndianParse>(library: &Library<E>) -> Option<SymbolVersionTable<'_, E>>
+    ensures { option_map versions_view result ≡ readable (library_versions E.little library.now) }
+{
+    match library.symbol_version_table() {
+        Ok(versions) => versions,
+        Err(_) => None,
+    }
+}
+
+/// Lists symbols for dynamic linking that were read, with their versions. It is wrong if there are none, unless all
+/// fields are listed.
+pub(crate) fn list_read_linked<E: EndianParse, S: StreamSource, W: Write>(
+    alloc: Global,
+    format: Format<'_>,
+    stream: &ElfStream<E, S, Global>,
+    form: Form<'_, E>,
+    symbols: Option<LinkedSymbols>,
+    out: &mut W,
+    problems: &mut Problems,
+) -> Result<(), Stop>
+    ensures { OnOk result (problems.new ≡ problems.old ++ read_wrong (none_listed form.entry)
+        (linked_in (is_listed form.entry) (headers_alone E.little stream.now)) symbols) }
+{
+    match symbols {
+        Some(symbols) => symbols.list_as(alloc, format, stream, form, out, problems),
+        None => list_none(&form, problems),
+    }
+}
+
+// That there are no symbols for dynamic linking.
+fn list_none<E: EndianParse>(form: &Form<'_, E>, problems: &mut Problems) -> Result<(), Stop>
+    ensures { OnOk result (problems.new ≡ problems.old ++ none_listed form.now) }
+{
+    match form {
+        Form::Fields => Ok(()),
+        _ => problems.add(whole(Part::DynamicSymbols), Fault::Missing),
+    }
+}
+
+impl<E: EndianParse> ListedPart<E> for LinkedSymbols {
+    ghost wrong = { dynamic_symbols_wrong [] (λ i symbol. true) };
+
+    ghost wrong_in = { linked_in (λ i symbol. true) };
+
+    fn read<S: StreamSource>(
+        alloc: Global,
+        stream: &mut ElfStream<E, S, Global>,
+    ) -> Result<Option<LinkedSymbols>, ParseError> {
+        read_linked(alloc, stream)
+    }
+
+    fn list<S: StreamSource, W: Write>(
+        self,
+        alloc: Global,
+        format: Format<'_>,
+        stream: &ElfStream<E, S, Global>,
+        out: &mut W,
+        problems: &mut Problems,
+    ) -> Result<(), Stop> {
+        self.list_as(alloc, format, stream, Form::Fields, out, problems)
+    }
 }

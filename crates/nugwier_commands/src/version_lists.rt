@@ -4,11 +4,15 @@ ghost use Rattle.elf.specs.Data.{content};
 ghost use Rattle.elf.specs.ElfBytes.{view};
 ghost use Rattle.elf.specs.ObjectFile.{object_file};
 ghost use Rattle.elf_records.specs.Number.{ok_map};
-ghost use Rattle.nugwier_commands.specs.Wrong.{linked_content, names_in_versions, version_content, version_names_wrong};
+ghost use Rattle.nugwier_commands.specs.inner.VersionLists.{has_versions};
+ghost use Rattle.nugwier_commands.specs.Wrong.{linked_content, names_in_versions, version_content, version_names_in};
 ghost use Rattle.nugwier_commands.specs.Wrong.{versions_in, versions_wrong};
+
+pub(crate) mod by_parts;
 
 use crate::names::{name_of, readable_names};
 use elf::endian::EndianParse;
+use elf::file::Class;
 use elf::gnu_symver::{VerDefIterator, VerNeedIterator};
 use elf::headers::Headers;
 use elf::section::SectionHeader;
@@ -67,12 +71,19 @@ impl<'p, 'f, 'data, E: EndianParse> Row for VersionSections<'p, 'f, 'data, E> {
         out: &mut W,
         problems: &mut Problems,
     ) -> Result<(), Stop> {
-        if section.sh_type != abi::SHT_GNU_VERDEF && section.sh_type != abi::SHT_GNU_VERNEED {
+        if !has_versions(section) {
             return Ok(());
         }
         list_title(self.format, &self.names, number, section, out)?;
         list_section(self.format, self.file, number, section, out, problems)
     }
+}
+
+// Whether a section defines or needs versions.
+fn has_versions(section: &SectionHeader) -> bool
+    ensures { result ≡ has_versions section.now }
+{
+    section.sh_type == abi::SHT_GNU_VERDEF || section.sh_type == abi::SHT_GNU_VERNEED
 }
 
 fn list_title<W: Write>(
@@ -114,7 +125,9 @@ fn list_section<E: EndianParse, W: Write>(
                 part,
                 strings,
             };
-            list_names(file, section, bytes, &names, out, problems)
+            let order = file.ehdr.endianness;
+            let class = file.ehdr.class;
+            list_names(order, class, section, bytes, &names, out, problems)
         }
         Err(error) => {
             let place = Place {
@@ -162,8 +175,10 @@ fn content<'data, E: EndianParse>(
     }
 }
 
+// Lists the versions in the data of a section of a file of this order and this class.
 fn list_names<E: EndianParse, W: Write>(
-    file: &ElfBytes<'_, E>,
+    order: E,
+    class: Class,
     section: &SectionHeader,
     bytes: &[u8],
     names: &VersionNames<'_, '_>,
@@ -171,10 +186,8 @@ fn list_names<E: EndianParse, W: Write>(
     problems: &mut Problems,
 ) -> Result<(), Stop>
     ensures { OnOk result (problems.new ≡ problems.old
-        ++ version_names_wrong (object_file E.little (view file.now)) names.now.part section.now bytes.now names.now.strings) }
+        ++ version_names_in (E.little order) class names.now.part section.now bytes.now names.now.strings) }
 {
-    let order = file.ehdr.endianness;
-    let class = file.ehdr.class;
     let count = section.sh_info as u64;
     if section.sh_type == abi::SHT_GNU_VERDEF {
         let definitions = VerDefIterator::new(order, class, count, 0, bytes);

@@ -126,7 +126,8 @@ fn first_needed<E: EndianParse>(
     None
 }
 
-// The definitions from the first one with this index on, or none. Of those before it only what is compared is read.
+// The definitions starting at the first one with this index, or none or the last one if none has it. Of those before it
+// only what is compared is read.
 #[tactic(auto, unfolding(crate::specs::gnu_symver::Table::defined_version))]
 fn skip_to_defined<'data, E: EndianParse>(
     definitions: VerDefIterator<'data, E>,
@@ -145,20 +146,31 @@ fn skip_to_defined<'data, E: EndianParse>(
     first
 }
 
-// The first definition with this index, and its names.
+// The first definition with this index, and its names. Each definition up to it is read whole.
+#[inline(always)]
 #[tactic(auto, unfolding(crate::specs::gnu_symver::Table::defined_version))]
+fn next_defined<'data, E: EndianParse>(
+    definitions: VerDefIterator<'data, E>,
+    index: u16,
+) -> Option<(VerDef, VerDefAuxIterator<'data, E>)>
+    ensures { option_map ver_def_view result ≡ defined_version index (ver_defs_left definitions.entry) }
+{
+    for (definition, names) in definitions {
+        if definition.vd_ndx == index {
+            return Some((definition, names));
+        }
+    }
+    None
+}
+
+// The first definition with this index, and its names.
 fn first_defined<'data, E: EndianParse>(
     definitions: VerDefIterator<'data, E>,
     index: u16,
 ) -> Option<(VerDef, VerDefAuxIterator<'data, E>)>
     ensures { option_map ver_def_view result ≡ defined_version index (ver_defs_left definitions.entry) }
 {
-    for (definition, names) in skip_to_defined(definitions, index) {
-        if definition.vd_ndx == index {
-            return Some((definition, names));
-        }
-    }
-    None
+    next_defined(skip_to_defined(definitions, index), index)
 }
 
 /// What the records of a needed version say of it, the names as offsets in bytes.
@@ -183,6 +195,7 @@ fn needed_entry(file: u32, version: &VerNeedAux) -> Needed
 }
 
 // The requirement, with the names of the file and of the version as text.
+#[inline(always)]
 fn read_requirement<'data>(
     strings: StringTable<'data>,
     needed: Needed,
@@ -202,6 +215,7 @@ fn read_requirement<'data>(
 }
 
 // The definition with an iterator over its names, which reads them when it is used.
+#[inline(always)]
 fn read_definition<'data, E: EndianParse>(
     strings: &'data StringTable<'data>,
     definition: VerDef,

@@ -203,8 +203,8 @@ impl<E: EndianParse> Library<E> {
     /// `None` if it has no hash section.
     ///
     /// Errors, in order: `Unread` if the hash section could not be read; `Unread` if the dynamic symbols could not be
-    /// read; `Table` if there are no dynamic symbols; `Table` if `new` of the table returns an error; `Table` with a
-    /// fault that is true of the section; `Unread` if the versions could not be read.
+    /// read; `Table` if there are no dynamic symbols; `Table` if `new` of the table returns an error; `Table` with the
+    /// first fault of the section; `Unread` if the versions could not be read.
     pub fn object(&self) -> Result<Option<VersionedObject<'_, E>>, LibraryFault<'_>>
         ensures object { GivesFrom (versioned_view versions_view) (library_object E.little self.now)
             (library_versions E.little self.now) (object_result result) }

@@ -4,13 +4,15 @@ ghost use Rattle.std.specs.Option.{option_map};
 ghost use Rattle.elf_abi.specs.Values.{sht_dynsym};
 ghost use Rattle.elf_records.specs.Number.{ok_map};
 ghost use Rattle.elf.specs.Answers.{dynamic_symbol_table, symbol_version_table};
+ghost use Rattle.elf.specs.Answers.{first_symbols, symbols_of, with_linked};
 ghost use Rattle.elf.specs.Answers.{symbols_in as symbols_in_file};
 ghost use Rattle.elf.specs.Data.{content};
 ghost use Rattle.elf.specs.ElfStream.{Keeps};
 ghost use Rattle.elf_reading.specs.Refusals.{Kind, kind};
 ghost use Rattle.elf_reading.specs.Versions.{version_sections};
 ghost use Rattle.elf.specs.Headers.{if_found, section_range};
-ghost use Rattle.elf.specs.Ranges.{both_sections, headers_alone, if_there, section_ranges, symbols_ranges, whole_section};
+ghost use Rattle.elf.specs.Ranges.{both_sections, headers_alone, if_chosen, if_there, section_ranges, symbols_ranges};
+ghost use Rattle.elf.specs.Ranges.{whole_section};
 ghost use Rattle.elf.specs.StreamFile.{stream_file};
 ghost use Rattle.elf.specs.Versions.{linked_strings, version_definitions, version_needs};
 ghost use Rattle.elf_tools.specs.Library.{definitions_in, hash_in, hash_of, hash_section, needs_in, symbols_in};
@@ -36,8 +38,9 @@ fn copied(alloc: Global, bytes: &[u8]) -> Result<Vec<u8>, ParseError>
     Ok(bytes.to_vec(alloc)?)
 }
 
-// The bytes of a section without its compression header.
-fn read_data<E: EndianParse, S: StreamSource>(
+/// Reads the bytes of a section, without its compression header. Of the stream it requests the range that `section_data`
+/// requests, and its errors are those, or `OutOfMemory` if an allocation failed.
+pub fn read_data<E: EndianParse, S: StreamSource>(
     alloc: Global,
     stream: &mut ElfStream<E, S, Global>,
     section: &SectionHeader,
@@ -52,9 +55,10 @@ fn read_data<E: EndianParse, S: StreamSource>(
     }
 }
 
-// The bytes of the whole range of a section, whatever its type and its flags are.
+/// Reads the bytes of the whole range of a section, whatever its type and its flags are. Of the stream it requests that
+/// range, and its errors are those of the range, or `OutOfMemory` if an allocation failed.
 #[tactic(auto, unfolding(elf::specs::Data::section_data))]
-fn read_range<E: EndianParse, S: StreamSource>(
+pub fn read_range<E: EndianParse, S: StreamSource>(
     alloc: Global,
     stream: &mut ElfStream<E, S, Global>,
     section: &SectionHeader,
@@ -123,7 +127,7 @@ fn read_hash<E: EndianParse, S: StreamSource>(
 }
 
 // The bytes of the symbols of the first section, and those of the strings of the second.
-fn read_symbols_of<E: EndianParse, S: StreamSource>(
+fn read_both<E: EndianParse, S: StreamSource>(
     alloc: Global,
     stream: &mut ElfStream<E, S, Global>,
     section: &SectionHeader,
@@ -139,6 +143,48 @@ fn read_symbols_of<E: EndianParse, S: StreamSource>(
     Ok(SymbolBytes { symbols, strings })
 }
 
+/// Reads the symbols of a section with the strings of the section that it links to. Of the stream it requests the ranges
+/// of both. Errors, in order: that of `section_at` for the linked section; that of `validate_entsize`; those of the
+/// ranges, or `OutOfMemory` if an allocation failed.
+pub fn read_symbols_of<E: EndianParse, S: StreamSource>(
+    alloc: Global,
+    stream: &mut ElfStream<E, S, Global>,
+    section: &SectionHeader,
+) -> Result<SymbolBytes, ParseError>
+    ensures reads { ReadsFile stream.old stream.new result
+        (symbols_in (E.little stream.old.headers.ehdr.endianness) stream.old.headers.ehdr.class)
+        (λ bytes. symbols_of (stream_file E.little stream.old bytes) section.now) }
+    ensures used { Uses (if_chosen both_sections
+        (ok_map Some (with_linked (headers_alone E.little stream.old) section.now))) stream.old stream.new }
+{
+    match stream.with_linked(section) {
+        Ok((section, linked)) => read_both(alloc, stream, &section, &linked),
+        Err(error) => Err(error),
+    }
+}
+
+/// Reads the symbols of the first section of a type with their strings, or returns `None` if there is none. Of the
+/// stream it requests the ranges of both sections. The errors are those of `read_symbols_of`.
+pub fn read_first_symbols<E: EndianParse, S: StreamSource>(
+    alloc: Global,
+    stream: &mut ElfStream<E, S, Global>,
+    sh_type: u32,
+) -> Result<Option<SymbolBytes>, ParseError>
+    ensures reads { ReadsFile stream.old stream.new result
+        (option_map (symbols_in (E.little stream.old.headers.ehdr.endianness) stream.old.headers.ehdr.class))
+        (λ bytes. first_symbols sh_type (stream_file E.little stream.old bytes)) }
+    ensures used { Uses (symbols_ranges sh_type (headers_alone E.little stream.old)) stream.old stream.new }
+{
+    match stream.symbol_sections(sh_type) {
+        Ok(Some((section, linked))) => {
+            let bytes = read_both(alloc, stream, &section, &linked)?;
+            Ok(Some(bytes))
+        }
+        Ok(None) => Ok(None),
+        Err(error) => Err(error),
+    }
+}
+
 /// Reads the symbols for dynamic linking with their strings, or returns `None` if there are none. Of the stream it
 /// requests the ranges that `dynamic_symbol_table` requests, and its errors are those, or `OutOfMemory` if an allocation
 /// failed.
@@ -151,14 +197,7 @@ pub fn read_symbols<E: EndianParse, S: StreamSource>(
         (λ bytes. dynamic_symbol_table (stream_file E.little stream.old bytes)) }
     ensures used { Uses (symbols_ranges sht_dynsym (headers_alone E.little stream.old)) stream.old stream.new }
 {
-    match stream.symbol_sections(abi::SHT_DYNSYM) {
-        Ok(Some((section, linked))) => {
-            let bytes = read_symbols_of(alloc, stream, &section, &linked)?;
-            Ok(Some(bytes))
-        }
-        Ok(None) => Ok(None),
-        Err(error) => Err(error),
-    }
+    read_first_symbols(alloc, stream, abi::SHT_DYNSYM)
 }
 
 // The needs or the definitions of a section.
@@ -208,8 +247,10 @@ fn read_entries_if<E: EndianParse, S: StreamSource>(
     }
 }
 
-// The versions of the symbols, if there are version indexes.
-fn read_versions<E: EndianParse, S: StreamSource>(
+/// Reads the versions of the symbols for dynamic linking, or returns `None` if no section has version indexes. Of the
+/// stream it requests the ranges that `symbol_version_table` requests, except that the range of a section is requested
+/// before that of its strings. The errors are those of `symbol_version_table`, or `OutOfMemory` if an allocation failed.
+pub fn read_versions<E: EndianParse, S: StreamSource>(
     alloc: Global,
     stream: &mut ElfStream<E, S, Global>,
 ) -> Result<Option<VersionBytes>, ParseError>

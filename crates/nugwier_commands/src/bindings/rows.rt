@@ -1,7 +1,16 @@
 //! The rows of what the symbols of a file bind to.
-ghost use Rattle.std.specs.Prelude.{◌≡◌, IfOk};
+ghost use Rattle.std.specs.Prelude.{◌≡◌, IfOk, IsErr, MatchBool, Ok, replicate, slice_get};
 ghost use Rattle.std.specs.List.{list_all};
-ghost use Rattle.elf_tools.specs.SymbolBindings.{is_symbol_settled};
+ghost use Rattle.std.specs.Option.{option_map};
+ghost use Rattle.elf.specs.ElfBytes.{view};
+ghost use Rattle.elf.specs.ObjectFile.{object_file};
+ghost use Rattle.elf_records.specs.Endian.{any_is_little};
+ghost use Rattle.elf_records.specs.Symbol.{symbol_reads};
+ghost use Rattle.elf_records.specs.Table.{table_len, table_view};
+ghost use Rattle.elf_tools.specs.SymbolBindings.{AreAllBound, is_symbol_settled};
+ghost use Rattle.elf_tools.specs.SymbolUses.{no_uses, uses_by};
+ghost use Rattle.nugwier_commands.specs.Bindings.{AreBoundIfRead, file_uses, looked_up};
+ghost use Rattle.nugwier_commands.specs.inner.Scope.{file_view, indexed_view, versions_of};
 
 use crate::bindings::objects::BoundFile;
 use crate::bindings::targets::{Outcome, Scope, Versions, bound_symbol, own_address};
@@ -15,7 +24,7 @@ use nugwier_lines::bindings::{BoundSymbol, list_address_binding, list_binding, w
 use nugwier_lines::escape::Escaped;
 use nugwier_lines::json::Format;
 use nugwier_lines::problem::Stop;
-use std::alloc::Global;
+use std::alloc::{AllocError, Global};
 use std::io;
 use std::io::Write;
 
@@ -26,27 +35,53 @@ struct Bindings {
     bindings: Vec<SymbolBinding>,
 }
 
-/// Lists what the symbols of a file bind to, for people under a heading. Returns whether all is known and nothing is
-/// missing.
+/// Lists what the symbols of a file, whose object is at this place, bind to, for people under a heading. Returns whether
+/// all is known and nothing is missing.
 pub(crate) fn list_object<W: Write, V: Write>(
     alloc: Global,
     format: Format<'_>,
     scope: Scope<'_, '_, '_, '_>,
     place: usize,
+    file: &BoundFile<'_>,
     out: &mut W,
     err: &mut V,
-) -> Result<bool, Stop> {
-    let (Some(file), Some(object)) = (scope.files.get(place), scope.objects.get(place)) else {
-        return Ok(true);
-    };
+) -> Result<bool, Stop>
+    ensures { let opened = file_view file.now in
+        let versions = versions_of (option_map indexed_view (slice_get scope.entry.objects.now place)) in
+        IfOk result (AreBoundIfRead indexed_view scope.entry.objects.now opened.symbols versions
+        (file_uses opened.opened opened.symbols.0)) }
+{
     list_heading(format, place, file, out)?;
-    let mut uses = vec![in alloc; NO_USES; file.symbols.len()]?;
+    list_file(alloc, format, scope, file, scope.versions(place), out, err)
+}
+
+// Lists what the symbols of a file with these versions bind to.
+fn list_file<W: Write, V: Write>(
+    alloc: Global,
+    format: Format<'_>,
+    scope: Scope<'_, '_, '_, '_>,
+    file: &BoundFile<'_>,
+    versions: Option<&Versions<'_, '_>>,
+    out: &mut W,
+    err: &mut V,
+) -> Result<bool, Stop>
+    ensures { let opened = file_view file.now in
+        IfOk result (AreBoundIfRead indexed_view scope.entry.objects.now opened.symbols
+        (option_map (λ index. index.now) versions.entry) (file_uses opened.opened opened.symbols.0)) }
+{
+    let mut uses = no_uses(alloc, file.symbols.len())?;
     let is_read = tell_uses(file, &mut uses, out, err)?;
-    let versions = object.versions.as_ref();
     let bindings = bind_all(alloc, scope, file, &uses, versions)?;
     list_bindings_of(format, scope, file, &bindings, versions, out)?;
     let is_bound = tell_unsettled(scope, file, &bindings, versions, out, err)?;
     Ok(is_read && is_bound)
+}
+
+// No use of any of so many symbols.
+fn no_uses(alloc: Global, count: usize) -> Result<Vec<SymbolUses>, AllocError>
+    ensures { IfOk result (λ uses. uses.items ≡ replicate count no_uses) }
+{
+    vec![in alloc; NO_USES; count]
 }
 
 // The path of a file, for people, after an empty line unless the file is the first one.
@@ -72,7 +107,11 @@ fn tell_uses<W: Write, V: Write>(
     uses: &mut [SymbolUses],
     out: &mut W,
     err: &mut V,
-) -> Result<bool, Stop> {
+) -> Result<bool, Stop>
+    ensures { let opened = view file.now.file in
+        let read = uses_by opened.ehdr.e_machine (object_file any_is_little opened) uses.old in
+        IfOk result (λ is_read. MatchBool is_read (read ≡ Ok uses.new) (IsErr read)) }
+{
     match add_uses(&file.file, uses) {
         Ok(()) => Ok(true),
         Err(error) => {
@@ -90,7 +129,11 @@ fn bind_all(
     file: &BoundFile<'_>,
     uses: &[SymbolUses],
     versions: Option<&Versions<'_, '_>>,
-) -> Result<Bindings, Stop> {
+) -> Result<Bindings, AllocError>
+    ensures { IfOk result (λ found. AreAllBound indexed_view scope.entry.objects.now file.now.strings
+        (option_map (λ index. index.now) versions.entry) uses.now
+        (looked_up (table_view file.now.symbols) uses.now) found.bindings.items) }
+{
     let symbols = bound_symbols(alloc, &file.symbols, uses)?;
     let bindings = bind_symbols(
         alloc,

@@ -1,4 +1,8 @@
 //! The symbols of a file, and what they bind to, as they are listed.
+ghost use Rattle.std.specs.Prelude.{◌≡◌, slice_get};
+ghost use Rattle.std.specs.Option.{option_map};
+ghost use Rattle.nugwier_commands.specs.inner.Scope.{indexed_view, versions_of};
+
 use crate::bindings::objects::BoundFile;
 use elf::endian::AnyEndian;
 use elf::gnu_symver::IndexedVersions;
@@ -31,6 +35,17 @@ impl<'f, 'o, 'a, 'data> Scope<'f, 'o, 'a, 'data> {
         match self.files.get(object) {
             Some(file) => file.path,
             None => b"",
+        }
+    }
+
+    /// Returns the versions of the symbols of a file, by the place of its object.
+    pub(crate) fn versions(self, object: usize) -> Option<&'o Versions<'a, 'data>>
+        ensures { option_map (λ index. index.now) result
+            ≡ versions_of (option_map indexed_view (slice_get self.entry.objects.now object)) }
+    {
+        match self.objects.get(object) {
+            Some(found) => found.versions.as_ref(),
+            None => None,
         }
     }
 

@@ -12,8 +12,8 @@ ghost use Rattle.elf_parts.specs.gnu_symver.Table.{GivesRequirement, HasFewNames
 use super::walked::{STRETCHES, Stretch, put_versions};
 use super::{
     Needed, SymbolDefinition, SymbolRequirement, SymbolVersionTable, SymbolVersions,
-    VerDefIterator, VerNeedIterator, VersionIndex, first_defined, first_needed, needed_entry,
-    read_definition, read_requirement,
+    VerDefIterator, VerNeedIterator, VersionIndex, first_needed, needed_entry, next_defined,
+    read_definition, read_requirement, skip_to_defined,
 };
 use crate::endian::EndianParse;
 use crate::parse::ParseError;
@@ -141,7 +141,10 @@ pub(super) fn place_definitions<'data, E: EndianParse>(
     }
 }
 
+// What a look-up by places calls is inlined, so that the records are not moved from call to call.
+
 // The first needed version with an index. If the index has no place it is found by a walk.
+#[inline(always)]
 fn find_needed<E: EndianParse>(
     slots: &[Option<Needed>],
     needs: VerNeedIterator<'_, E>,
@@ -160,6 +163,7 @@ fn find_needed<E: EndianParse>(
 }
 
 // An iterator that yields the first definition with an index before any other with that index, if there is one.
+#[inline(always)]
 fn find_defined<'data, E: EndianParse>(
     slots: &[Option<VerDefIterator<'data, E>>],
     definitions: VerDefIterator<'data, E>,
@@ -172,11 +176,12 @@ fn find_defined<'data, E: EndianParse>(
 {
     match slots.get(index as usize) {
         Some(found) => *found,
-        None => Some(definitions),
+        None => Some(skip_to_defined(definitions, index)),
     }
 }
 
 /// What a symbol needs, without a walk if its version index has a place.
+#[inline(always)]
 pub(super) fn requirement_by_places<'a, E: EndianParse>(
     versions: &'a SymbolVersionTable<'_, E>,
     needed: &[Option<Needed>],
@@ -196,6 +201,7 @@ pub(super) fn requirement_by_places<'a, E: EndianParse>(
 }
 
 /// What a symbol is defined with, without a walk if its version index has a place.
+#[inline(always)]
 pub(super) fn definition_by_places<'a, 'data, E: EndianParse>(
     versions: &'a SymbolVersionTable<'data, E>,
     defined: &[Option<VerDefIterator<'data, E>>],
@@ -212,7 +218,7 @@ pub(super) fn definition_by_places<'a, 'data, E: EndianParse>(
     let Some(first) = find_defined(defined, *definitions, index.index()) else {
         return Ok(None);
     };
-    let Some((definition, names)) = first_defined(first, index.index()) else {
+    let Some((definition, names)) = next_defined(first, index.index()) else {
         return Ok(None);
     };
     Ok(Some(read_definition(strings, definition, names, index.is_hidden())))

@@ -10,11 +10,11 @@ use Rattle.elf_parts.proofs.gnu_symver.table.placed.definition_by_places.Goals a
 pub returns-clause-few : goal.returns-clause-few
 returns-clause-few g c =
     let links = c.in-Some-find_defined.first.links in
-    let d = c.in-Some-first_defined.definition in
-    let names = c.in-Some-first_defined.names in
+    let d = c.in-Some-next_defined.definition in
+    let names = c.in-Some-next_defined.names in
     let few =
     defined_few c.index-2.result (links_view links) links.count links.offset (d, ver_def_aux_left names)
-    (sym c.in-Some-first_defined.ensures) in
+    (sym c.in-Some-next_defined.ensures) in
     let same : length (names_left c.read_definition.result.names) ≡ length (ver_def_aux_left names) =
     ap (λ (view : Definition). length view.names) c.read_definition.ensures.value
     ∙ length-map (ver_def_aux_left names) _ in
