@@ -15,7 +15,7 @@ def program_and_files(doc):
 
 
 def elf_files(folder, most, count):
-    """ELF files below a folder with at most that many bytes: up to the count, spread over the sizes, small ones first."""
+    """Up to the count of the ELF files below a folder that have at most that many bytes, spread over the sizes."""
     found = []
     for path, _, names in os.walk(folder):
         for name in names:
