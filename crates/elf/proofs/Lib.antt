@@ -4,3 +4,4 @@ pub mod Same
 pub mod Calls
 pub mod stream
 pub mod Positions
+pub mod Partly

@@ -16,13 +16,13 @@ use Rattle.elf_records.specs.declared.parse.ParseError.{ParseError}
 use Rattle.elf_records.specs.declared.section.SectionHeader.{SectionHeader}
 use Rattle.elf_records.specs.inner.RecordLaws.{bind-ok, bytes_at-ok}
 use Rattle.elf.specs.Answers.{first_named, first_symbols, symbol_sections, symbols_in, with_linked, symbol_version_table}
-use Rattle.elf.specs.Headers.{entry_size, first_section_of, if_found}
+use Rattle.elf.specs.Headers.{first_section_of, if_found}
 use Rattle.elf.specs.StreamFile.{listed_at, listed_file, stream_file}
 use Rattle.elf.specs.Names.{name_index, name_section, name_table}
-use Rattle.elf.specs.ObjectFile.{ObjectFile, object_file, table_of}
+use Rattle.elf.specs.ObjectFile.{ObjectFile, entry_size, object_file, table_of, section_part}
 use Rattle.elf_reading.specs.Opening.{header_at_front, opened_file, section_count, section_table, segment_table, table_bytes}
 use Rattle.elf.specs.Data.{section_data}
-use Rattle.elf.specs.Headers.{section_at, section_range}
+use Rattle.elf.specs.Headers.{section_at}
 use Rattle.elf.specs.Readers.{AreAlike, Method, SameAnswers, answer}
 use Rattle.elf.specs.Readers.{Dynamic, DynamicSymbolTable, SectionData, SectionDataAsNotes, SectionDataAsRelas, SectionDataAsRels, SectionDataAsStrtab, SectionHeaderByName, SectionHeadersWithStrtab, SegmentData, SegmentDataAsNotes, SymbolTable, SymbolVersionTable}
 use Rattle.elf.specs.ElfStream.{StreamView}
@@ -65,12 +65,12 @@ module _ (file : ObjectFile) (gives : ℕ → Result SectionHeader ParseError) (
   name_table_alike : AreAlike (name_table file) (name_table (with_sections_at file gives))
   unfolding name_table
   name_table_alike =
-      alike_first (name_section file) (name_section (with_sections_at file gives)) (if_found (section_range file.bytes)) name_section_alike
+      alike_first (name_section file) (name_section (with_sections_at file gives)) (if_found (section_part file)) name_section_alike
 
   linked_alike : (s : SectionHeader) → AreAlike (with_linked file s) (with_linked (with_sections_at file gives) s)
   linked_alike s =
       alike_first (file.section_at s.sh_link) (gives s.sh_link)
-      (λ linked. entry_size (size_by symbol_layout file.class) s >>= λ _. Ok (s, linked)) (same s.sh_link)
+      (λ linked. entry_size file (size_by symbol_layout file.class) s >>= λ _. Ok (s, linked)) (same s.sh_link)
 
   symbols_alike : (t : ℕ) → AreAlike (first_symbols t file) (first_symbols t (with_sections_at file gives))
   symbols_alike t =
@@ -79,20 +79,20 @@ module _ (file : ObjectFile) (gives : ℕ → Result SectionHeader ParseError) (
       (alike_found (with_linked file) (with_linked other) (first_section_of t file.sections) linked_alike)
 
   strings_alike : (s : SectionHeader) → AreAlike (linked_strings file s) (linked_strings (with_sections_at file gives) s)
-  strings_alike s = alike_first (file.section_at s.sh_link) (gives s.sh_link) (section_range file.bytes) (same s.sh_link)
+  strings_alike s = alike_first (file.section_at s.sh_link) (gives s.sh_link) (section_part file) (same s.sh_link)
 
   needs_alike : (s : SectionHeader) → AreAlike (version_needs file s) (version_needs (with_sections_at file gives) s)
   needs_alike s =
       let made : List ℕ → List ℕ → Result Needs ParseError = λ needs strings. Ok (record { list = ver_needs (table_of file needs) s.sh_info 0; strings = strings }) in
       let other = with_sections_at file gives in
-      alike_later (section_range file.bytes s) (λ needs. linked_strings file s >>= made needs) (λ needs. linked_strings other s >>= made needs)
+      alike_later (section_part file s) (λ needs. linked_strings file s >>= made needs) (λ needs. linked_strings other s >>= made needs)
       (λ needs. alike_first (linked_strings file s) (linked_strings other s) (made needs) (strings_alike s))
 
   definitions_alike : (s : SectionHeader) → AreAlike (version_definitions file s) (version_definitions (with_sections_at file gives) s)
   definitions_alike s =
       let made : List ℕ → List ℕ → Result Definitions ParseError = λ definitions strings. Ok (record { list = ver_defs (table_of file definitions) s.sh_info 0; strings = strings }) in
       let other = with_sections_at file gives in
-      alike_later (section_range file.bytes s) (λ definitions. linked_strings file s >>= made definitions) (λ definitions. linked_strings other s >>= made definitions)
+      alike_later (section_part file s) (λ definitions. linked_strings file s >>= made definitions) (λ definitions. linked_strings other s >>= made definitions)
       (λ definitions. alike_first (linked_strings file s) (linked_strings other s) (made definitions) (strings_alike s))
 
   versions_of_alike : (chosen : VersionSections) (s : SectionHeader) → AreAlike (versions_of file chosen s) (versions_of (with_sections_at file gives) chosen s)

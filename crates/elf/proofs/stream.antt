@@ -4,5 +4,7 @@ pub mod Opened
 pub mod Steps
 pub mod Lent
 pub mod Needs
-pub mod Planned
 pub mod SectionAt
+pub mod Parted
+pub mod Given
+pub mod Cached

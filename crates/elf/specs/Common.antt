@@ -14,8 +14,7 @@ use Rattle.elf_records.specs.declared.parse.ParseError.{ParseError}
 use Rattle.elf_records.specs.declared.section.SectionHeader.{SectionHeader}
 use Rattle.elf.specs.Answers.{section_dynamic, segment_dynamic, symbols_of}
 use Rattle.elf.specs.Headers.{first_segment_of, if_found}
-use Rattle.elf.specs.ObjectFile.{ObjectFile}
-use Rattle.elf.specs.Headers.{section_range}
+use Rattle.elf.specs.ObjectFile.{ObjectFile, section_part}
 use Rattle.elf.specs.declared.elf_bytes.common.CommonElfData.{CommonElfData}
 
 -- what a section holds of it: symbols with their strings, those that are bound at run time, dynamic entries, a hash
@@ -30,10 +29,10 @@ pub data CommonPart : Type 0 where
 
 -- the hash table of a section
 abbrev pub sysv_hash_table_of : ObjectFile → SectionHeader → Result SysvTable ParseError
-sysv_hash_table_of file s = section_range file.bytes s >>= sysv_section file.little file.class
+sysv_hash_table_of file s = section_part file s >>= sysv_section file.little file.class
 
 abbrev pub gnu_hash_table_of : ObjectFile → SectionHeader → Result GnuTable ParseError
-gnu_hash_table_of file s = section_range file.bytes s >>= gnu_section file.little file.class
+gnu_hash_table_of file s = section_part file s >>= gnu_section file.little file.class
 
 -- by the type of the section: SHT_SYMTAB, SHT_DYNSYM, SHT_DYNAMIC, SHT_HASH or SHT_GNU_HASH
 abbrev pub common_part : ObjectFile → SectionHeader → Result CommonPart ParseError

@@ -1,13 +1,12 @@
 -- What contracts see of an `ElfStream`, and what a call of it leaves and answers.
 use Rattle.std.specs.Prelude.{◌≡◌, ℕ, ◌+◌, ◌⊎◌, Bool, IsTrue, List, [], ◌∷◌, map}
-use Rattle.std.specs.Prelude.{Option, Result, Ok, Err, IfSome, OnOk, IfErr, IsOk, IsErr}
+use Rattle.std.specs.Prelude.{Option, None, Result, Ok, Err, IfSome, OnOk, IfErr, IsOk, IsErr}
 use Rattle.elf_records.specs.Number.{bytes_at}
-use Rattle.elf_records.specs.declared.file.FileHeader.{FileHeader}
 use Rattle.elf_records.specs.declared.parse.ParseError.{ParseError}
 use Rattle.elf_reading.specs.Opening.{opened_file}
 use Rattle.elf.specs.ElfBytes.{with_header}
 use Rattle.elf_reading.specs.Opening.{StreamHeaders, FileView, headers_of}
-use Rattle.elf_reading.specs.Cache.{is_cached}
+use Rattle.elf_reading.specs.Cache.{Piece, is_cached}
 use Rattle.elf_reading.specs.Refusals.{AllocationFailure, IsAnswer, Kind, MayRefuse, Refusal, SourceFailure, kind}
 
 -- a stream: the content of its source, if known, whether the source can fail and how often it did; its headers; and the
@@ -18,6 +17,9 @@ pub record StreamView (E : Type 0) : Type 0 where
   pub failures : ℕ
   pub headers : StreamHeaders E
   pub cached : List (ℕ × ℕ)
+  -- its length, and the bytes that are cached
+  pub size : ℕ
+  pub parts : List Piece
 
 -- ---- its headers
 
@@ -49,6 +51,14 @@ pub record Keeps {E : Type 0} (old new : StreamView E) : Type 0 where
   pub can_fail : new.can_fail ≡ old.can_fail
   pub headers : new.headers ≡ old.headers
   pub cached : (start end : ℕ) → IsCached old start end → IsCached new start end
+
+-- the same headers and the same cached bytes, over a source that is closed
+pub record IsClosed {E : Type 0} (old new : StreamView E) : Type 0 where
+  pub headers : new.headers ≡ old.headers
+  pub cached : new.cached ≡ old.cached
+  pub size : new.size ≡ old.size
+  pub parts : new.parts ≡ old.parts
+  pub content : new.content ≡ None
 
 -- ---- what a call leaves
 

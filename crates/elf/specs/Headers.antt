@@ -1,12 +1,12 @@
 -- Section i of a file and the bytes of its range (gABI, chapter "Sections"), and which section or segment is taken,
 -- where a method looks for one of a type (gABI, chapters "Sections" and "Program Header").
-use Rattle.std.specs.Prelude.{ℕ, List, Option, Some, None, Result, Err, ◌==◌, if◌then◌else◌, Ok}
+use Rattle.std.specs.Prelude.{ℕ, List, Option, Some, None, Result, Err, ◌==◌, Ok}
 use Rattle.std.specs.List.{find}
 use Rattle.elf_records.specs.Number.{bytes_at, ok_map}
 use Rattle.elf_records.specs.Section.{section_header_reads}
 use Rattle.elf_records.specs.Table.{Table, table_get}
 use Rattle.elf_records.specs.declared.parse.ParseError.{ParseError}
-use Rattle.elf_records.specs.declared.parse.ParseError.TheVariants.{BadOffset, BadEntsize}
+use Rattle.elf_records.specs.declared.parse.ParseError.TheVariants.{BadOffset}
 use Rattle.elf_records.specs.declared.section.SectionHeader.{SectionHeader}
 use Rattle.elf_records.specs.declared.segment.ProgramHeader.{ProgramHeader}
 use Rattle.elf_reading.specs.Versions.{is_of_type}
@@ -36,7 +36,3 @@ first_section_of t sections = find (is_of_type t) sections
 -- the first segment of a type
 abbrev pub first_segment_of : ℕ → List ProgramHeader → Option ProgramHeader
 first_segment_of t segments = find (λ p. p.p_type == t) segments
-
--- the size of an entry that a section header gives, if it is that of a record
-abbrev pub entry_size : ℕ → SectionHeader → Result ℕ ParseError
-entry_size size s = if s.sh_entsize == size then Ok size else Err (BadEntsize (s.sh_entsize, size))

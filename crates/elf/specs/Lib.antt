@@ -20,12 +20,22 @@ pub mod Versions
 pub mod Answers
 -- what is looked up most often, found in one pass
 pub mod Common
+-- ---- a file of which some ranges are loaded
+
+-- a walk over headers
+pub mod Walk
+-- its ranges, and its answers beside those of the whole file
+pub mod Parts
+-- one whose caller has loaded them
+pub mod LoadedRanges
 -- ---- a stream
 
 -- what contracts see of a stream, and what its calls leave
 pub mod ElfStream
 -- the object file of a stream, whose headers are lists
 pub mod StreamFile
+-- what a stream has loaded
+pub mod Loaded
 -- the ranges that a call requests
 pub mod Ranges
 -- what a method that returns a borrow leaves

@@ -11,29 +11,29 @@ use Rattle.elf_records.specs.declared.parse.ParseError.{ParseError}
 use Rattle.elf_records.specs.declared.parse.table.ParsingTable.{ParsingTable}
 use Rattle.elf_records.specs.declared.section.SectionHeader.{SectionHeader}
 use Rattle.elf_records.specs.declared.string_table.StringTable.{StringTable}
-use Rattle.elf.specs.ObjectFile.{ObjectFile}
-use Rattle.elf.specs.Headers.{if_found, section_range}
+use Rattle.elf.specs.ObjectFile.{ErrorOf, Extent, FileOf, section_part}
+use Rattle.elf.specs.Headers.{if_found}
 use denote.Ref.{Bor}
 
 -- which section holds the names: e_shstrndx, or where that is SHN_XINDEX the sh_link of section 0
-abbrev pub name_index : ObjectFile → Result ℕ ParseError
+abbrev pub name_index : {x : Extent} → FileOf x → Result ℕ (ErrorOf x)
 name_index file =
     if file.e_shstrndx == shn_xindex then ok_map (λ first. first.sh_link) (file.section_at 0)
     else Ok file.e_shstrndx
 
 -- that section: none without section headers, and none where e_shstrndx is SHN_UNDEF
-unfoldable pub name_section : ObjectFile → Result (Option SectionHeader) ParseError
+unfoldable pub name_section : {x : Extent} → FileOf x → Result (Option SectionHeader) (ErrorOf x)
 name_section file =
     if not file.declares_sections then Ok None
     else if file.e_shstrndx == shn_undef then Ok None
     else name_index file >>= λ index. ok_map Some (file.section_at index)
 
 -- the table of the names: the bytes of that section
-unfoldable pub name_table : ObjectFile → Result (Option (List ℕ)) ParseError
-name_table file = name_section file >>= if_found (section_range file.bytes)
+unfoldable pub name_table : {x : Extent} → FileOf x → Result (Option (List ℕ)) (ErrorOf x)
+name_table file = name_section file >>= if_found (section_part file)
 
 -- the section headers, and the table of their names
-abbrev pub headers_with_names : ObjectFile → Result (List SectionHeader × Option (List ℕ)) ParseError
+abbrev pub headers_with_names : {x : Extent} → FileOf x → Result (List SectionHeader × Option (List ℕ)) (ErrorOf x)
 headers_with_names file = ok_map (λ names. (file.sections, names)) (name_table file)
 
 -- whether the bytes of a string are these; a string that cannot be read has none

@@ -10,10 +10,10 @@ use Rattle.elf_records.specs.declared.parse.ParseError.{ParseError}
 use Rattle.elf_records.specs.declared.section.SectionHeader.{SectionHeader}
 use Rattle.elf_records.specs.declared.segment.ProgramHeader.{ProgramHeader}
 use Rattle.elf.specs.Answers.{symbol_sections}
-use Rattle.elf.specs.Headers.{entry_size, first_section_of, first_segment_of, if_found}
+use Rattle.elf.specs.Headers.{first_section_of, first_segment_of, if_found}
 use Rattle.elf.specs.StreamFile.{stream_file}
 use Rattle.elf.specs.Names.{name_section}
-use Rattle.elf.specs.ObjectFile.{ObjectFile}
+use Rattle.elf.specs.ObjectFile.{ObjectFile, entry_size}
 use Rattle.elf.specs.ElfStream.{StreamView}
 use Rattle.elf_reading.specs.Versions.{version_sections}
 use Rattle.elf_reading.specs.declared.versions.VersionSections.{VersionSections}
@@ -94,7 +94,7 @@ VersionPlan = SectionHeader × Option LinkedSections × Option LinkedSections
 
 abbrev pub version_plan_of : ObjectFile → VersionSections → SectionHeader → Result VersionPlan ParseError
 version_plan_of file chosen s =
-    entry_size (size_by version_index_layout file.class) s >>= λ _.
+    entry_size file (size_by version_index_layout file.class) s >>= λ _.
     if_found (with_link file) chosen.needs >>= λ needs.
     if_found (with_link file) chosen.definitions >>= λ definitions.
     Ok (s, needs, definitions)

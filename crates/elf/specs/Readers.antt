@@ -19,7 +19,7 @@ use Rattle.elf.specs.Answers.{section_data_as_notes, section_data_as_relas, sect
 use Rattle.elf.specs.Answers.{section_data_as_strtab, section_header_by_name, segment_data}
 use Rattle.elf.specs.Answers.{segment_data_as_notes, symbol_table, symbol_version_table}
 use Rattle.elf.specs.Names.{name_table, headers_with_names}
-use Rattle.elf.specs.ObjectFile.{ObjectFile, object_file}
+use Rattle.elf.specs.ObjectFile.{ErrorOf, Extent, FileOf, ObjectFile, object_file}
 use Rattle.elf.specs.Answers as methods
 use Rattle.elf.specs.Data as contents
 use Rattle.elf.specs.Ranges.{dynamic_ranges, headers_alone, names_ranges, section_ranges, segment_ranges}
@@ -65,7 +65,7 @@ Shown Dynamic = Option Table
 Shown SymbolVersionTable = Option Versions
 
 -- its answer about an object file
-abbrev pub answer : (m : Method) → ObjectFile → Result (Shown m) ParseError
+abbrev pub answer : {x : Extent} → (m : Method) → FileOf x → Result (Shown m) (ErrorOf x)
 answer SectionHeadersWithStrtab file = headers_with_names file
 answer (SectionHeaderByName name) file = methods.section_header_by_name file name
 answer (SectionData s) file = contents.section_data file s
@@ -99,11 +99,11 @@ requested_ranges SymbolVersionTable file = versions_ranges file
 -- ---- two object files
 
 -- the same value, or both are errors, whichever these are
-abbrev pub AreAlike : {A : Type 0} → Result A ParseError → Result A ParseError → Type 0
+abbrev pub AreAlike : {A X Y : Type 0} → Result A X → Result A Y → Type 0
 AreAlike one other = result_ok one ≡ result_ok other
 
 -- both have the same headers and the same names of sections, and each method answers alike
-pub record SameAnswers (one other : ObjectFile) : Type 0 where
+pub record SameAnswers {x y : Extent} (one : FileOf x) (other : FileOf y) : Type 0 where
   pub segments : one.segments ≡ other.segments
   pub section_headers : one.sections ≡ other.sections
   pub section_names : AreAlike (name_table one) (name_table other)

@@ -1,5 +1,6 @@
 -- An object file whose headers are lists, as a stream has them.
-use Rattle.std.specs.Prelude.{ℕ, Bool, List, Result, ok_or, slice_get}
+use Rattle.std.specs.Prelude.{ℕ, Bool, List, Result, length, ok_or, slice_get}
+use Rattle.elf_records.specs.Number.{bytes_at}
 use Rattle.elf_records.specs.declared.parse.ParseError.{ParseError}
 use Rattle.elf_records.specs.declared.parse.ParseError.TheVariants.{BadOffset}
 use Rattle.elf_records.specs.declared.section.SectionHeader.{SectionHeader}
@@ -17,7 +18,8 @@ listed_file little h bytes = record {
   little = little h.ehdr.endianness;
   class = h.ehdr.class;
   e_shstrndx = h.ehdr.e_shstrndx;
-  bytes = bytes;
+  size = length bytes;
+  range = λ start size. bytes_at size bytes start;
   declares_sections = h.declares_sections;
   sections = h.sections;
   section_at = listed_at h.sections;

@@ -7,39 +7,37 @@ use Rattle.elf_parts.specs.gnu_symver.Lists.{ver_defs, ver_needs}
 use Rattle.elf_parts.specs.gnu_symver.Records.{version_index_layout}
 use Rattle.elf_parts.specs.gnu_symver.Table.{Definitions, Entries, Needs, Versions}
 use Rattle.elf_records.specs.Table.{Table}
-use Rattle.elf_records.specs.declared.parse.ParseError.{ParseError}
 use Rattle.elf_records.specs.declared.section.SectionHeader.{SectionHeader}
-use Rattle.elf.specs.Headers.{entry_size, if_found}
-use Rattle.elf.specs.ObjectFile.{ObjectFile, table_of}
-use Rattle.elf.specs.Headers.{section_range}
+use Rattle.elf.specs.Headers.{if_found}
+use Rattle.elf.specs.ObjectFile.{ErrorOf, Extent, FileOf, entry_size, table_of, section_part}
 use Rattle.elf_reading.specs.declared.versions.VersionSections.{VersionSections}
 
 -- the version indexes of a section
-abbrev pub version_indexes : ObjectFile → SectionHeader → Result Table ParseError
+abbrev pub version_indexes : {x : Extent} → FileOf x → SectionHeader → Result Table (ErrorOf x)
 version_indexes file s =
-    entry_size (size_by version_index_layout file.class) s >>= λ _. ok_map (table_of file) (section_range file.bytes s)
+    entry_size file (size_by version_index_layout file.class) s >>= λ _. ok_map (table_of file) (section_part file s)
 
 -- the strings of the section that a section links to
-abbrev pub linked_strings : ObjectFile → SectionHeader → Result (List ℕ) ParseError
-linked_strings file s = file.section_at s.sh_link >>= section_range file.bytes
+abbrev pub linked_strings : {x : Extent} → FileOf x → SectionHeader → Result (List ℕ) (ErrorOf x)
+linked_strings file s = file.section_at s.sh_link >>= section_part file
 
 -- the entries of a section, sh_info at most, by the list of the entries from an offset on
-abbrev pub version_entries : {V A : Type 0} → (Table → ℕ → ℕ → List (V × List A)) → ObjectFile → SectionHeader →
-    Result (Entries V A) ParseError
+abbrev pub version_entries : {V A : Type 0} {x : Extent} → (Table → ℕ → ℕ → List (V × List A)) → FileOf x → SectionHeader →
+    Result (Entries V A) (ErrorOf x)
 version_entries entries file s =
-    section_range file.bytes s >>= λ part. linked_strings file s >>= λ strings.
+    section_part file s >>= λ part. linked_strings file s >>= λ strings.
     Ok (record { list = entries (table_of file part) s.sh_info 0; strings = strings })
 
 -- the needs of a section
-abbrev pub version_needs : ObjectFile → SectionHeader → Result Needs ParseError
+abbrev pub version_needs : {x : Extent} → FileOf x → SectionHeader → Result Needs (ErrorOf x)
 version_needs file s = version_entries ver_needs file s
 
 -- the definitions of a section
-abbrev pub version_definitions : ObjectFile → SectionHeader → Result Definitions ParseError
+abbrev pub version_definitions : {x : Extent} → FileOf x → SectionHeader → Result Definitions (ErrorOf x)
 version_definitions file s = version_entries ver_defs file s
 
 -- the versions by the indexes of a section, with the needs and the definitions, if there are any
-abbrev pub versions_of : ObjectFile → VersionSections → SectionHeader → Result Versions ParseError
+abbrev pub versions_of : {x : Extent} → FileOf x → VersionSections → SectionHeader → Result Versions (ErrorOf x)
 versions_of file chosen s =
     version_indexes file s >>= λ indexes.
     if_found (version_needs file) chosen.needs >>= λ needs.

@@ -1,4 +1,3 @@
 pub mod Passes
-pub mod Plans
 pub mod Opened
 pub mod Loads

@@ -5,7 +5,7 @@ ghost use Rattle.elf_records.specs.Number.{bytes_at, ok_map};
 ghost use Rattle.elf.specs.Ranges.{range_of_section, range_of_segment};
 ghost use Rattle.elf_reading.specs.Opening.{opened_file};
 ghost use Rattle.elf.specs.ElfStream.{IsFor, IsOfFile, Keeps, IsCached, IsOpening};
-ghost use Rattle.elf_reading.specs.Refusals.{IsAnswer};
+ghost use Rattle.elf_reading.specs.Refusals.{HasReason, IsAnswer};
 ghost use Rattle.elf_reading.specs.Opening.{headers_of};
 ghost use Rattle.elf_reading.specs.Refusals.{Kind, kind};
 ghost use Rattle.elf.specs.ElfStream.{IsRequested};
@@ -23,13 +23,17 @@ use elf_reading::source::StreamSource;
 use std::alloc::Allocator;
 use std::marker::Model;
 
+mod closed;
 mod data;
 mod dynamic;
 mod headers;
+mod loaded;
 mod names;
 mod segments;
 mod symbols;
 mod versions;
+
+pub use closed::Closed;
 
 /// An ELF file that is read from a source as calls need its bytes. Opening it reads its header and its two tables of
 /// headers. What later calls read is cached.
@@ -82,6 +86,8 @@ impl<E: EndianParse, S: StreamSource, A: Allocator + Copy> Model for ElfStream<E
         segments = s.phdrs.items;
       };
       cached = map range_of s.cache;
+      size = s.len;
+      parts = s.cache;
     } };
 
     ghost invariant = { λ s. IsOpened E.little E.of_byte (S.content s.source) s.len s.cache
@@ -89,6 +95,8 @@ impl<E: EndianParse, S: StreamSource, A: Allocator + Copy> Model for ElfStream<E
 }
 
 impl<E: EndianParse, S: StreamSource, A: Allocator + Copy> ElfStream<E, S, A> {
+    ghost use Rattle.elf.specs.Loaded.{AreLoadedOf};
+
     /// Opens a file: reads its header and the two tables that it declares (gABI, chapters "ELF Header", "Sections" and
     /// "Program Header"). The source is a `FileSource`, a `MemSource` over bytes, or another `StreamSource`. Caches no
     /// other bytes. Allocates memory for the two tables only, and only if both lie in the source.
@@ -187,18 +195,33 @@ impl<E: EndianParse, S: StreamSource, A: Allocator + Copy> ElfStream<E, S, A> {
         self.cache.put(start, bytes)
     }
 
-    // The bytes of a cached range.
-    fn cached_bytes(&self, start: u64, size: u64) -> &[u8]
-        requires low { start + size < 2 ^ 64 }
-        requires cached { IsCached self.now start (start + size) }
-        ensures bytes { IfSome self.now.content (λ bytes. bytes_at size bytes start ≡ Ok result.now) }
-        ensures within { IfSome self.now.content (λ bytes. length result.now ≤ length bytes) }
-        ensures size { length result.now ≤ size }
+    /// Loads a range: reads it into the cache, unless it is cached. A range that does not lie in the source is not loaded,
+    /// and is no error. Errors: `IOError` if the source failed, `OutOfMemory`.
+    pub fn load_range(&mut self, start: u64, size: u64) -> Result<(), ParseError>
+        ensures keeps { Keeps self.old self.new }
+        ensures loaded { OnOk result (IfSome self.old.content (λ bytes.
+            IsOk (bytes_at size bytes start) → IsCached self.new start (start + size))) }
+        ensures only { (low high : ℕ) → IsCached self.new low high
+            → IsCached self.old low high ⊎ IsRequested ((start, size) ∷ []) low high }
+        ensures untouched { IsCached self.old start (start + size) → self.new ≡ self.old }
+        ensures reason { IfSome self.old.content (λ bytes.
+            HasReason self.old.failures self.new.failures self.old.can_fail ⊥ result) }
     {
-        match self.cache.get(start, start + size) {
-            Some(bytes) => bytes,
-            None => unreachable!(),
+        let Some(end) = start.checked_add(size) else {
+            return Ok(());
+        };
+        if end > self.len {
+            return Ok(());
         }
+        self.load(start, size)
+    }
+
+    /// States that what is loaded is of the content, if that is known: a range is read as the file has it, or is not
+    /// cached. By `part_answers_as_whole` the same is true of all that is read of these ranges.
+    pub fn is_part_of_file(&self)
+        ensures { IfSome self.now.content (λ bytes. AreLoadedOf E.little self.now bytes) }
+    {
+        let _ = &self.ehdr;
     }
 
     // Reads the range of a section into the cache.

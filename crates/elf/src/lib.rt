@@ -12,8 +12,14 @@ pub use elf_parts::{
 mod elf_bytes;
 mod elf_stream;
 pub mod headers;
+mod loaded_ranges;
+mod read_error;
+pub mod reader;
 pub mod readers;
+pub mod walk;
 
 pub use elf_bytes::{CommonElfData, ElfBytes};
 pub use elf_reading::source::{FileSource, MemSource, StreamSource};
-pub use elf_stream::ElfStream;
+pub use elf_stream::{Closed, ElfStream};
+pub use loaded_ranges::{LoadedRange, LoadedRanges};
+pub use read_error::ReadError;

@@ -1,11 +1,16 @@
 //! Laws: both readers return the same.
-ghost use Rattle.std.specs.Prelude.{◌≡◌, ℕ, List, All, IfSome, Ok, Some};
-ghost use Rattle.elf.specs.Readers.{AreMade, Call, IsAnsweredAlike};
+ghost use Rattle.std.specs.Prelude.{◌≡◌, ℕ, Bool, List, All, IfSome, Ok, Some};
+ghost use Rattle.elf.specs.Parts.{ArePartOf, Follows, Ranges, all_ranges, loaded};
+ghost use Rattle.elf.specs.ObjectFile.{ObjectFile, err_map};
+ghost use Rattle.elf.specs.declared.read_error.ReadError.TheVariants.{Parse};
+ghost use Rattle.elf.specs.Readers.{AreAlike, AreMade, Call, IsAnsweredAlike, Method, answer, requested_ranges};
+ghost use Rattle.elf.specs.Loaded.{AreLoadedOf, loaded_ranges, streamed_file};
+ghost use Rattle.elf.specs.Ranges.{headers_alone};
 ghost use Rattle.elf.specs.StreamFile.{stream_file};
 ghost use Rattle.elf.specs.ObjectFile.{object_file};
 ghost use Rattle.elf_reading.specs.Opening.{opened_file};
 ghost use Rattle.elf.specs.Readers.{SameAnswers};
-ghost use Rattle.elf.specs.ElfStream.{StreamView};
+ghost use Rattle.elf.specs.ElfStream.{AreCached, StreamView};
 ghost use Rattle.elf_reading.specs.Opening.{headers_of};
 ghost use Rattle.elf.specs.ElfBytes.{with_header};
 ghost use Rattle.elf_reading.specs.Opening.{FileView};
@@ -54,3 +59,26 @@ pub fn stream_answers_as_bytes<E: EndianParse, S: StreamSource, A: Allocator + C
     stream.is_of_file();
     list_answers_as_table::<E>();
 }
+
+/// States that a file of which only some ranges are loaded answers each method as the whole file does, with the same
+/// value or the same error, or names a range that is missing.
+pub fn part_answers_as_whole()
+    ensures { (whole : ObjectFile) (range : Ranges) (is_missing : ℕ × ℕ → Bool) → ArePartOf whole is_missing range
+        → (m : Method) → Follows is_missing (answer m whole) (answer m (loaded whole range)) }
+{}
+
+/// States that a file all of whose ranges are loaded answers each method as the file does, with the same value or the
+/// same error.
+pub fn all_ranges_answer_as_whole()
+    ensures { (whole : ObjectFile) (m : Method)
+        → answer m (loaded whole (all_ranges whole)) ≡ err_map Parse (answer m whole) }
+{}
+
+/// States that what is loaded of a stream answers a method as its content does, if the ranges that the method requests
+/// are cached: with the same value, or with an error from both.
+pub fn cached_ranges_answer_as_whole<E: EndianParse>()
+    ensures { (s : StreamView E) (bytes : List ℕ) → AreLoadedOf E.little s bytes → (m : Method)
+        → AreCached s (requested_ranges m (headers_alone E.little s))
+        → AreAlike (answer m (stream_file E.little s bytes))
+        (answer m (loaded (streamed_file E.little s) (loaded_ranges s))) }
+{}

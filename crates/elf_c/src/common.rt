@@ -15,9 +15,7 @@ use crate::data::table_in;
 use crate::file::{NugwierFile, file_in};
 use crate::hash_tables::{NugwierGnu, NugwierSysv, gnu_opened, sysv_opened};
 use crate::status::{NugwierStatus, done, refused};
-use crate::symbols::{
-    NugwierDynamicTable, NugwierSymbolTable, section_dynamic, section_range, segment_dynamic,
-};
+use crate::symbols::{NugwierDynamicTable, NugwierSymbolTable, section_dynamic, segment_dynamic};
 use crate::table::{NugwierTable, records_in};
 use elf::headers::Headers;
 use elf::{ParseError, abi};
@@ -102,9 +100,10 @@ fn symbols_of<'data>(
 ) -> Result<(NugwierTable<'data>, &'data [u8]), ParseError>
     ensures { ok_map pair_view result ≡ symbols_of (file_of_c file.now) shdr.now }
 {
-    let (symbols, linked) = file_in(file).with_linked(shdr)?;
-    let records = section_range(file, &symbols)?;
-    let strings = section_range(file, &linked)?;
+    let object = file_in(file);
+    let (symbols, linked) = object.with_linked(shdr)?;
+    let records = object.section_range(&symbols)?;
+    let strings = object.section_range(&linked)?;
     Ok((table_in(file, records), strings))
 }
 
@@ -116,7 +115,7 @@ fn sysv_of<'data>(
 ) -> Result<NugwierSysv<'data>, ParseError>
     ensures { ok_map sysv_of_c result ≡ sysv_hash_table_of (file_of_c file.now) shdr.now }
 {
-    let bytes = section_range(file, shdr)?;
+    let bytes = file_in(file).section_range(shdr)?;
     sysv_opened(file.header.little, file.header.is_64, bytes)
 }
 
@@ -128,7 +127,7 @@ fn gnu_of<'data>(
 ) -> Result<NugwierGnu<'data>, ParseError>
     ensures { ok_map gnu_of_c result ≡ gnu_hash_table_of (file_of_c file.now) shdr.now }
 {
-    let bytes = section_range(file, shdr)?;
+    let bytes = file_in(file).section_range(shdr)?;
     gnu_opened(file.header.little, file.header.is_64, bytes)
 }
 

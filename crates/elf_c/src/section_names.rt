@@ -12,7 +12,6 @@ ghost use Rattle.elf_c.specs.Status.{IsWritten, status_of, written};
 use crate::file::{NugwierFile, file_in};
 use crate::records::NugwierSection;
 use crate::status::{NugwierStatus, done, refused};
-use crate::symbols::section_range;
 use crate::table::{ForC, records_in};
 use elf::ParseError;
 use elf::headers::{Headers, first_named};
@@ -32,8 +31,9 @@ pub struct NugwierSectionNames<'data> {
 fn names_in<'data>(file: &NugwierFile<'data>) -> Result<Option<&'data [u8]>, ParseError>
     ensures { ok_map (option_map (λ bytes. bytes.now)) result ≡ name_table (file_of_c file.now) }
 {
-    match file_in(file).name_section()? {
-        Some(shdr) => section_range(file, &shdr).map(Some),
+    let object = file_in(file);
+    match object.name_section()? {
+        Some(shdr) => object.section_range(&shdr).map(Some),
         None => Ok(None),
     }
 }

@@ -3,7 +3,6 @@ ghost use Rattle.std.specs.Prelude.{◌≡◌};
 ghost use Rattle.std.specs.Option.{option_map};
 ghost use Rattle.elf_records.specs.Number.{ok_map};
 ghost use Rattle.elf.specs.Answers.{dynamic, first_symbols, section_dynamic, segment_dynamic};
-ghost use Rattle.elf.specs.Headers.{section_range};
 ghost use Rattle.elf_c.specs.File.{file_of_c};
 ghost use Rattle.elf_c.specs.Status.{IsWritten, status_of};
 ghost use Rattle.elf_c.specs.Symbols.{dynamic_view, pair_view, symbols_type, symbols_view_of_c};
@@ -19,7 +18,6 @@ use elf_parts::dynamic::Dyn;
 use elf_parts::parse::ParseAt;
 use elf_parts::section::SectionHeader;
 use elf_parts::segment::ProgramHeader;
-use elf_records::parse::get_bytes;
 
 /// The symbols of a file with their strings, if it has any.
 #[repr(C)]
@@ -49,16 +47,6 @@ fn symbols_type(dynamic: bool) -> u32
     }
 }
 
-// The bytes in the range of a section header.
-pub(crate) fn section_range<'data>(
-    file: &NugwierFile<'data>,
-    shdr: &SectionHeader,
-) -> Result<&'data [u8], ParseError>
-    ensures { ok_map (λ part. part.now) result ≡ section_range (file_of_c file.now).bytes shdr.now }
-{
-    get_bytes(file.bytes, shdr.sh_offset as usize, shdr.sh_size as usize)
-}
-
 // The symbols of the first section of a type, with their strings.
 fn symbols_in<'data>(
     file: &NugwierFile<'data>,
@@ -66,11 +54,12 @@ fn symbols_in<'data>(
 ) -> Result<Option<(NugwierTable<'data>, &'data [u8])>, ParseError>
     ensures { ok_map (option_map pair_view) result ≡ first_symbols (symbols_type dynamic) (file_of_c file.now) }
 {
-    let Some((symbols, linked)) = file_in(file).symbol_sections(symbols_type(dynamic))? else {
+    let object = file_in(file);
+    let Some((symbols, linked)) = object.symbol_sections(symbols_type(dynamic))? else {
         return Ok(None);
     };
-    let records = section_range(file, &symbols)?;
-    let strings = section_range(file, &linked)?;
+    let records = object.section_range(&symbols)?;
+    let strings = object.section_range(&linked)?;
     Ok(Some((table_in(file, records), strings)))
 }
 

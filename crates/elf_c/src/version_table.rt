@@ -13,7 +13,6 @@ ghost use Rattle.elf_c.specs.Versions.{definitions_of_c, needs_of_c, versions_of
 use crate::data::table_in;
 use crate::file::{NugwierFile, file_in};
 use crate::status::{NugwierStatus, done, refused};
-use crate::symbols::section_range;
 use crate::table::NugwierTable;
 use crate::versions::{NugwierEntries, NugwierVersions};
 use elf::ParseError;
@@ -29,8 +28,9 @@ fn indexes_in<'data>(
 ) -> Result<NugwierTable<'data>, ParseError>
     ensures { ok_map table_of_c result ≡ version_indexes (file_of_c file.now) shdr.now }
 {
-    VersionIndex::validate_entsize(file_in(file).class(), shdr.sh_entsize as usize)?;
-    let bytes = section_range(file, shdr)?;
+    let object = file_in(file);
+    VersionIndex::validate_entsize(object.class(), shdr.sh_entsize as usize)?;
+    let bytes = object.section_range(shdr)?;
     Ok(table_in(file, bytes))
 }
 
@@ -43,9 +43,10 @@ fn entries_in<'data>(
     ensures definitions { ok_map definitions_of_c result
         ≡ ok_map Some (version_definitions (file_of_c file.now) shdr.now) }
 {
-    let bytes = section_range(file, shdr)?;
-    let linked = file_in(file).section_at(shdr.sh_link as usize)?;
-    let strings = section_range(file, &linked)?;
+    let object = file_in(file);
+    let bytes = object.section_range(shdr)?;
+    let linked = object.section_at(shdr.sh_link as usize)?;
+    let strings = object.section_range(&linked)?;
     Ok(NugwierEntries {
         found: true,
         count: shdr.sh_info as u64,

@@ -1,42 +1,35 @@
 -- What a run of calls over a stream leaves, by what its calls leave.
 use Rattle.std.proofs.Common.{◌≡◌, ℕ, zero, suc, ◌+◌, ◌<◌, ◌⊎◌, inl, inr, arith, refl, Bool, List, [], ◌∷◌, ◌++◌, Option, Some, None, Result, Ok, Err, sym, ap, ◌∙◌, subst, All, IfSome, append_assoc, get_or, length, map, take}
 use Rattle.std.proofs.lemmas.List.{append-nil, take_more}
-use Rattle.std.proofs.lemmas.List.Elements.{All-get_or, All-more, All-weaker}
+use Rattle.std.proofs.lemmas.List.Elements.{All-head, All-more, All-tail, All-weaker}
 use Rattle.std.specs.Prelude.{IsOk, OnOk, slice_get}
 use Rattle.std.specs.Io.KnownBytes.{Appends, Keeps as KeepsBytes}
-use Rattle.elf.specs.Ranges.{headers_alone}
 use Rattle.elf.specs.StreamFile.{stream_file}
 use Rattle.elf.specs.ObjectFile.{ObjectFile}
 use Rattle.elf.specs.ElfStream.{AreCached, IsCached, IsRequested, Keeps, StreamView}
-use Rattle.elf.proofs.stream.Steps.{requested_back, requested_front}
+use Rattle.elf.proofs.stream.Steps.{cached_append, cached_back, cached_front, requested_back, requested_front, still_cached}
 use Rattle.elf_records.specs.declared.parse.ParseError.{ParseError}
 use Rattle.elf_reading.specs.Refusals.{IsRefused, kind}
 use Rattle.elf_records.specs.declared.file.FileHeader.{FileHeader}
 use Rattle.elf_lines.proofs.Writing.{appends_more}
 use Rattle.elf_calls.specs.Question.{Question, question}
-use Rattle.elf_calls.specs.Ranges.{TakesNoMemory, call_ranges, ranges_of}
-use Rattle.elf_calls.specs.Stream.{IfFault, IsAtHand, IsFaultlessCall, IsLoaded, IsUse, MayUse, RanOne, stream_answer}
+use Rattle.elf_calls.specs.Ranges.{call_ranges}
+use Rattle.elf_calls.specs.Stream.{IfFault, IsAtHand, IsFaultlessCall, IsLoaded, MayUse, RanOne, stream_answer}
 use Rattle.elf_calls.specs.Text.{call_text, or_refused, text}
 use Rattle.elf_calls.specs.declared.calls.Call.{Call}
 use Rattle.elf_calls.specs.declared.stream.Stop.{Stop}
 use Rattle.elf_calls.specs.declared.stream.Stop.TheVariants as stop
-use Rattle.elf_calls.proofs.StreamCalls.{cached_back, cached_front, loaded_there, same_answer, same_file, still_cached}
+use Rattle.elf_calls.proofs.StreamCalls.{same_answer, same_ranges}
 use Rattle.elf_calls.specs.Run.{IfFaultAt, IsFaultless, Ran, run_ranges}
 use Rattle.elf_calls.specs.inner.RunSteps.{stopped_after}
-
-same_ranges : {E : Type 0} (little : E → Bool) (old middle : StreamView E) (call : Question) → Keeps old middle → call_ranges little middle call ≡ call_ranges little old call
-same_ranges little old middle call keeps = ap (λ file. ranges_of file call) (same_file little old middle [] keeps)
 
 ranges_later : {E : Type 0} (little : E → Bool) (old middle : StreamView E) (call : Question) → Keeps old middle → AreCached middle (call_ranges little old call) → AreCached middle (call_ranges little middle call)
 ranges_later little old middle call keeps h = subst (λ rs. AreCached middle rs) (sym (same_ranges little old middle call keeps)) h
 
-hand_later : {E : Type 0} (little : E → Bool) (old middle : StreamView E) (call : Question) → Keeps old middle → IsAtHand little old call → IsAtHand little middle call
-hand_later little old middle call keeps h = (h.0, ranges_later little old middle call keeps (still_cached old middle (ranges_of (headers_alone little old) call) keeps h.1))
-
 loaded_later : {E : Type 0} (little : E → Bool) (old new : StreamView E) (bytes : List ℕ) (call : Question) → Keeps old new → IsLoaded little old bytes call → IsLoaded little new bytes call
 loaded_later little old new bytes call keeps loaded = λ ready.
     let cached = loaded (subst IsOk (same_answer little call old new bytes keeps) ready) in
-    loaded_there little call old new keeps (still_cached old new (call_ranges little old call) keeps cached)
+    ranges_later little old new call keeps (still_cached old new (call_ranges little old call) keeps cached)
 
 -- the calls so far are loaded, and then one more is
 all_loaded : {E : Type 0} (little : E → Bool) (middle new : StreamView E) (known : Option (List ℕ)) (calls : List Call) (i : ℕ) (d : Call) → Keeps middle new → i < length calls
@@ -107,12 +100,11 @@ still_faultless : (i : ℕ) (s : Stop) → IsFaultlessCall (Err s) → IsFaultle
 still_faultless i (stop.Fault e) h = absurd h
 still_faultless i (stop.Write e) h = tt
 
--- a call of the list that is at hand makes no fault
-pub faulted : {E : Type 0} (little : E → Bool) (old middle : StreamView E) (calls : List Call) (i : ℕ) (d : Call) (r : Result (Unit {0}) Stop) (s : Stop) → Keeps old middle → i < length calls → r ≡ Err s
-    → (IsAtHand little middle (question (get_or calls i d)) → IsFaultlessCall r) → All (λ call. IsAtHand little old (question call)) calls → IsFaultless (Err (stopped_after i s))
-faulted little old middle calls i d r s keeps within is h all =
-    let here : IsAtHand little old (question (get_or calls i d)) = All-get_or (λ call. IsAtHand little old (question call)) calls i d within all in
-    still_faultless i s (subst IsFaultlessCall is (h (hand_later little old middle (question (get_or calls i d)) keeps here)))
+-- calls that are at hand
+pub all_at_hand : {E : Type 0} (little : E → Bool) (s : StreamView E) (calls : List Call) → All (λ call. IsAtHand little s (question call)) calls → AreCached s (run_ranges little s (map question calls))
+all_at_hand little s [] h = tt
+all_at_hand little s (call ∷ calls) h =
+    cached_append s (call_ranges little s (question call)) (run_ranges little s (map question calls)) (All-head (λ call. IsAtHand little s (question call)) call calls h) (all_at_hand little s calls (All-tail (λ call. IsAtHand little s (question call)) call calls h))
 
 -- ---- what is used, and what is cached
 
@@ -168,11 +160,11 @@ module _ {E : Type 0} (little : E → Bool) (old middle new : StreamView E) (cal
   }
 
   -- the call stopped the run
-  pub stopped_use : (r : Result (Unit {0}) Stop) (s : Stop) → r ≡ Err s → (AreCached middle (call_ranges little middle here) → (new ≡ middle) × IfFault r (λ e. IsUse ⊥ (¬ TakesNoMemory here) (kind e)))
-      → AreCached old (run_ranges little old (map question calls)) → (new ≡ old) × IfFaultAt (map question calls) (Err (stopped_after i s)) (λ call e. IsUse ⊥ (¬ TakesNoMemory call) (kind e))
+  pub stopped_use : (r : Result (Unit {0}) Stop) (s : Stop) → r ≡ Err s → (AreCached middle (call_ranges little middle here) → (new ≡ middle) × IsFaultlessCall r)
+      → AreCached old (run_ranges little old (map question calls)) → (new ≡ old) × IsFaultless (Err (stopped_after i s))
   stopped_use r s is untouched cached =
       let one = untouched (here_cached cached) in
-      (one.0 ∙ used.untouched cached, fault_at calls i d s (λ call e. IsUse ⊥ (¬ TakesNoMemory call) (kind e)) within (subst (λ w. IfFault w (λ e. IsUse ⊥ (¬ TakesNoMemory here) (kind e))) is one.1))
+      (one.0 ∙ used.untouched cached, still_faultless i s (subst IsFaultlessCall is one.1))
 
   may_use : (bytes : List ℕ) (e : ParseError) → MayUse little middle new bytes here (kind e) → MayUse little old new bytes here (kind e)
   may_use bytes e h = subst (λ headers. MayUse little (record middle { headers = headers }) new bytes here (kind e)) keeps.headers h

@@ -1,48 +1,60 @@
--- Which ranges of a source a call requests of a stream, and which calls allocate.
-use Rattle.std.specs.Prelude.{ℕ, Bool, IsOk, List, [], ◌++◌, MatchOption, slice_get}
-use Rattle.elf_abi.specs.Values.{sht_dynsym, sht_note, sht_rel, sht_rela, sht_strtab, sht_symtab}
-use Rattle.elf.specs.Data.{section_data}
-use Rattle.elf.specs.Ranges.{dynamic_ranges, headers_alone, if_there, names_ranges, section_ranges, segment_ranges}
-use Rattle.elf.specs.Ranges.{segment_notes_ranges, symbols_ranges, typed_section_ranges, versions_ranges}
-use Rattle.elf.specs.ObjectFile.{ObjectFile}
-use Rattle.elf.specs.ElfStream.{StreamView}
+-- Which methods of a stream load what a call reads, and which ranges of the source they request.
+use Rattle.std.specs.Prelude.{ℕ, ◌==◌, Bool, if◌then◌else◌, List, [], ◌∷◌, Option, Some, None, Result, Ok, slice_get}
+use Rattle.std.specs.List.{flat_map}
+use Rattle.elf_abi.specs.Values.{pt_note, sht_note, sht_rel, sht_rela, sht_strtab}
+use Rattle.elf_records.specs.Record.{◌>>=◌}
+use Rattle.elf_records.specs.declared.parse.ParseError.{ParseError}
 use Rattle.elf_records.specs.declared.section.SectionHeader.{SectionHeader}
+use Rattle.elf_records.specs.declared.segment.ProgramHeader.{ProgramHeader}
+use Rattle.elf.specs.ElfStream.{StreamView}
+use Rattle.elf.specs.ObjectFile.{ObjectFile}
+use Rattle.elf.specs.Ranges.{headers_alone}
+use Rattle.elf.specs.Readers.{Method, answer, requested_ranges}
+use Rattle.elf.specs.Readers as methods
 use Rattle.elf_calls.specs.Question.{Question, Header, Sections, Segments, Name, Data, Strings, Rels, Relas}
 use Rattle.elf_calls.specs.Question.{Notes, Seg, SegNotes, Symbols, DynSyms, Dynamic, Versions, Hash}
 
--- of a hash section, and of the symbols that it is checked for
-abbrev pub checked_ranges : ObjectFile → SectionHeader → List (ℕ × ℕ)
-checked_ranges file s = section_ranges s ++ symbols_ranges sht_dynsym file
+-- the methods for a header that there may not be
+abbrev pub if_present : {A : Type 0} → (A → List Method) → Option A → List Method
+if_present loads None = []
+if_present loads (Some header) = loads header
 
--- which they are hangs on the headers alone, and on no byte of the file
-abbrev pub ranges_of : ObjectFile → Question → List (ℕ × ℕ)
-ranges_of file Header = []
-ranges_of file Sections = names_ranges file
-ranges_of file Segments = []
-ranges_of file (Name name) = names_ranges file
-ranges_of file (Data i) = if_there section_ranges (slice_get file.sections i)
-ranges_of file (Strings i) = if_there (typed_section_ranges sht_strtab) (slice_get file.sections i)
-ranges_of file (Rels i) = if_there (typed_section_ranges sht_rel) (slice_get file.sections i)
-ranges_of file (Relas i) = if_there (typed_section_ranges sht_rela) (slice_get file.sections i)
-ranges_of file (Notes i) = if_there (typed_section_ranges sht_note) (slice_get file.sections i)
-ranges_of file (Seg j) = if_there segment_ranges (slice_get file.segments j)
-ranges_of file (SegNotes j) = if_there segment_notes_ranges (slice_get file.segments j)
-ranges_of file Symbols = symbols_ranges sht_symtab file
-ranges_of file DynSyms = symbols_ranges sht_dynsym file
-ranges_of file Dynamic = dynamic_ranges file
-ranges_of file Versions = symbols_ranges sht_dynsym file ++ versions_ranges file
-ranges_of file (Hash kind i) = if_there (checked_ranges file) (slice_get file.sections i)
+-- the bytes of a section, or of a segment, if it has this type: for another type the call has an error before it reads
+abbrev pub section_of_type : ℕ → SectionHeader → List Method
+section_of_type t s = if s.sh_type == t then methods.SectionData s ∷ [] else []
+
+abbrev pub segment_of_type : ℕ → ProgramHeader → List Method
+segment_of_type t p = if p.p_type == t then methods.SegmentData p ∷ [] else []
+
+-- which methods they are hangs on the headers alone, and on no byte of the file
+abbrev pub loads_of : List SectionHeader → List ProgramHeader → Question → List Method
+loads_of sections segments Header = []
+loads_of sections segments Sections = methods.SectionHeadersWithStrtab ∷ []
+loads_of sections segments Segments = []
+loads_of sections segments (Name name) = methods.SectionHeadersWithStrtab ∷ []
+loads_of sections segments (Data i) = if_present (λ s. methods.SectionData s ∷ []) (slice_get sections i)
+loads_of sections segments (Strings i) = if_present (section_of_type sht_strtab) (slice_get sections i)
+loads_of sections segments (Rels i) = if_present (section_of_type sht_rel) (slice_get sections i)
+loads_of sections segments (Relas i) = if_present (section_of_type sht_rela) (slice_get sections i)
+loads_of sections segments (Notes i) = if_present (section_of_type sht_note) (slice_get sections i)
+loads_of sections segments (Seg j) = if_present (λ p. methods.SegmentData p ∷ []) (slice_get segments j)
+loads_of sections segments (SegNotes j) = if_present (segment_of_type pt_note) (slice_get segments j)
+loads_of sections segments Symbols = methods.SymbolTable ∷ []
+loads_of sections segments DynSyms = methods.DynamicSymbolTable ∷ []
+loads_of sections segments Dynamic = methods.Dynamic ∷ []
+loads_of sections segments Versions = methods.DynamicSymbolTable ∷ methods.SymbolVersionTable ∷ []
+loads_of sections segments (Hash kind i) =
+    if_present (λ s. methods.SectionData s ∷ methods.DynamicSymbolTable ∷ []) (slice_get sections i)
+
+-- the ranges that methods request, one after the other
+abbrev pub ranges_of : ObjectFile → List Method → List (ℕ × ℕ)
+ranges_of file loads = flat_map (λ m. requested_ranges m file) loads
 
 -- those of a call of a stream, by a type of byte orders and which of them are little
 abbrev pub call_ranges : {E : Type 0} → (E → Bool) → StreamView E → Question → List (ℕ × ℕ)
-call_ranges little s call = ranges_of (headers_alone little s) call
+call_ranges little s call = ranges_of (headers_alone little s) (loads_of s.headers.sections s.headers.segments call)
 
--- the call takes no memory beyond that of its ranges: `sysv` and `gnu` take a copy of a section
-abbrev pub TakesNoMemory : Question → Type 0
-TakesNoMemory (Hash kind i) = ⊥
-TakesNoMemory _ = Unit {0}
-
--- the call copies a section, whose bytes were found
-abbrev pub Copies : ObjectFile → Question → Type 0
-Copies file (Hash kind i) = MatchOption (slice_get file.sections i) ⊥ (λ s. IsOk (section_data file s))
-Copies file _ = ⊥
+-- whether each of these methods has an answer, or the first error
+abbrev pub all_answered : ObjectFile → List Method → Result (Unit {0}) ParseError
+all_answered file [] = Ok tt
+all_answered file (m ∷ loads) = answer m file >>= λ _. all_answered file loads

@@ -2,11 +2,11 @@
 use Rattle.std.specs.Prelude.{◌≡◌, ◌⊎◌, ℕ, Bool, List, Option, Result, Ok, Err, IfSome, IsOk, OnOk}
 use Rattle.std.specs.Io.KnownBytes.{Appends, Keeps as KeepsBytes}
 use Rattle.elf.specs.StreamFile.{stream_file}
-use Rattle.elf.specs.ElfStream.{AreCached, IsCached, IsNeeded, IsRequested, Keeps, StreamView}
-use Rattle.elf_reading.specs.Refusals.{IsRefused, Kind, SourceFailure, AllocationFailure, Refusal, kind}
+use Rattle.elf.specs.ElfStream.{AreCached, IsCached, IsFor, IsNeeded, IsRequested, Keeps, StreamView}
+use Rattle.elf_reading.specs.Refusals.{IsRefused, Kind, kind}
 use Rattle.elf_records.specs.declared.parse.ParseError.{ParseError}
 use Rattle.elf_calls.specs.Question.{Question}
-use Rattle.elf_calls.specs.Ranges.{Copies, TakesNoMemory, call_ranges}
+use Rattle.elf_calls.specs.Ranges.{call_ranges}
 use Rattle.elf_calls.specs.Text.{call_answer, or_refused}
 use Rattle.elf_calls.specs.declared.stream.Stop.{Stop}
 use Rattle.elf_calls.specs.declared.stream.Stop.TheVariants as stop
@@ -19,9 +19,9 @@ stream_answer little s bytes call = call_answer s.headers.ehdr (stream_file litt
 abbrev pub IsLoaded : {E : Type 0} → (E → Bool) → StreamView E → List ℕ → Question → Type 0
 IsLoaded little s bytes call = IsOk (stream_answer little s bytes call) → AreCached s (call_ranges little s call)
 
--- what the call requests is cached, and it takes no memory
+-- what the call requests is cached
 abbrev pub IsAtHand : {E : Type 0} → (E → Bool) → StreamView E → Question → Type 0
-IsAtHand little s call = TakesNoMemory call × AreCached s (call_ranges little s call)
+IsAtHand little s call = AreCached s (call_ranges little s call)
 
 -- there was no fault
 abbrev pub IsFaultlessCall : Result (Unit {0}) Stop → Type 0
@@ -39,17 +39,9 @@ RanOne answer old new can_fail before now (Err (stop.Write e)) = now ≡ before
 
 -- ---- what a call uses
 
--- the source fails only if it is needed, and so does an allocation
-abbrev pub IsUse : Type 0 → Type 0 → Kind → Type 0
-IsUse source memory SourceFailure = source
-IsUse source memory AllocationFailure = memory
-IsUse source memory Refusal = Unit {0}
-
--- both are needed for a requested range that lies in the content and was not cached, and memory for a copy too
+-- the source and memory are needed for a requested range that lies in the content and was not cached
 abbrev pub MayUse : {E : Type 0} → (E → Bool) → StreamView E → StreamView E → List ℕ → Question → Kind → Type 0
-MayUse little old new bytes call =
-    let range = IsNeeded bytes new (call_ranges little old call) in
-    IsUse range (range ⊎ Copies (stream_file little old bytes) call)
+MayUse little old new bytes call = IsFor (IsNeeded bytes new (call_ranges little old call))
 
 -- of a fault
 abbrev pub IfFault : Result (Unit {0}) Stop → (ParseError → Type 0) → Type 0
@@ -58,8 +50,8 @@ IfFault (Err (stop.Fault e)) P = P e
 IfFault (Err (stop.Write e)) P = Unit {0}
 
 -- The same file, and the text of the call. No range is cached that was not cached before and does not lie within a
--- requested one. If the requested ranges were cached before, the stream is as it was, and a fault is that of a copy;
--- there is none if the call takes no memory. After an Ok the ranges of a call that is answered are cached.
+-- requested one. If the requested ranges were cached before, the stream is as it was, and there is no fault. After an Ok
+-- the ranges of a call that is answered are cached.
 pub record RanCall {E : Type 0} (little : E → Bool) (call : Question) (old new : StreamView E)
     (before after : Option (List ℕ)) (r : Result (Unit {0}) Stop) : Type 0 where
   pub keeps : Keeps old new
@@ -67,8 +59,6 @@ pub record RanCall {E : Type 0} (little : E → Bool) (call : Question) (old new
       RanOne (stream_answer little old bytes call) before after old.can_fail old.failures new.failures r)
   pub only : (start end : ℕ) → IsCached new start end
       → IsCached old start end ⊎ IsRequested (call_ranges little old call) start end
-  pub untouched : AreCached old (call_ranges little old call)
-      → (new ≡ old) × IfFault r (λ e. IsUse ⊥ (¬ TakesNoMemory call) (kind e))
+  pub untouched : AreCached old (call_ranges little old call) → (new ≡ old) × IsFaultlessCall r
   pub needed : IfSome old.content (λ bytes. IfFault r (λ e. MayUse little old new bytes call (kind e)))
-  pub no_fault : IsAtHand little old call → IsFaultlessCall r
   pub loaded : OnOk r (IfSome old.content (λ bytes. IsLoaded little new bytes call))

@@ -1,5 +1,5 @@
 -- The text of a list of calls over an object file: what each call writes, or its error.
-use Rattle.std.specs.Prelude.{ℕ, List, length, Option, Some, None, Result, Ok, Err, slice_get}
+use Rattle.std.specs.Prelude.{ℕ, List, [], length, Option, Some, None, Result, Ok, Err, slice_get}
 use Rattle.std.specs.List.{flat_map}
 use Rattle.elf_records.specs.Dynamic.{dyn_reads}
 use Rattle.elf_records.specs.Number.{ok_map}
@@ -16,7 +16,8 @@ use Rattle.elf.specs.Answers.{section_data_as_relas, section_data_as_rels, secti
 use Rattle.elf.specs.Answers.{section_header_by_name, segment_data, segment_data_as_notes, symbol_table}
 use Rattle.elf.specs.Answers.{symbol_version_table}
 use Rattle.elf.specs.Names.{name_table}
-use Rattle.elf.specs.ObjectFile.{ObjectFile}
+use Rattle.elf.specs.ObjectFile.{ErrorOf, Extent, FileOf, Partial, Whole, err_map}
+use Rattle.elf.specs.declared.read_error.ReadError.TheVariants.{Parse}
 use Rattle.elf_check.specs.Object.{Object, object_in}
 use Rattle.elf_check.specs.declared.hashcheck.any.HashKind.{HashKind}
 use Rattle.elf_calls.specs.Verdicts.{verdict_of}
@@ -45,7 +46,7 @@ unless_none text (Some found) = text found
 unless_none text None = none_line
 
 -- the answer for a section, or a segment, that there may not be: that there is none is an answer
-abbrev pub unless_absent : {A : Type 0} → (A → Result (List ℕ) ParseError) → Option A → Result (List ℕ) ParseError
+abbrev pub unless_absent : {A X : Type 0} → (A → Result (List ℕ) X) → Option A → Result (List ℕ) X
 unless_absent answer (Some header) = answer header
 unless_absent answer None = Ok absent_line
 
@@ -72,53 +73,63 @@ abbrev pub checked_for : (Table → List ℕ → Result Object ParseError) → O
 checked_for object_of None = Ok None
 checked_for object_of (Some (symbols, names)) = ok_map (λ object. Some (verdict_of object)) (object_of symbols names)
 
+-- the result of a check, as a result of a file of this extent
+abbrev pub result_in : {A : Type 0} → (x : Extent) → Result A ParseError → Result A (ErrorOf x)
+result_in Whole r = r
+result_in Partial r = err_map Parse r
+
 -- of the bytes of a section, whatever its type, as a hash section of a kind, for the symbols of dynamic linking
-abbrev pub checked_as : HashKind → ObjectFile → SectionHeader → Result (Option Verdict) ParseError
-checked_as kind file s =
+abbrev pub checked_as : {x : Extent} → HashKind → FileOf x → SectionHeader → Result (Option Verdict) (ErrorOf x)
+checked_as {x} kind file s =
     section_data file s >>= λ found. dynamic_symbol_table file >>= λ symbols.
-    checked_for (object_in kind file.little file.class found.0) symbols
+    result_in x (checked_for (object_in kind file.little file.class found.0) symbols)
 
 -- ---- calls
 
--- an object file, and the file header as it is now
-module _ {E : Type 0} (header : FileHeader E) (file : ObjectFile) where
+module _ {x : Extent} (file : FileOf x) where
   -- what is answered for section i, or for segment i
-  abbrev pub of_section : ℕ → (SectionHeader → Result (List ℕ) ParseError) → Result (List ℕ) ParseError
+  abbrev pub of_section : ℕ → (SectionHeader → Result (List ℕ) (ErrorOf x)) → Result (List ℕ) (ErrorOf x)
   of_section i answer = unless_absent answer (slice_get file.sections i)
 
-  abbrev pub of_segment : ℕ → (ProgramHeader → Result (List ℕ) ParseError) → Result (List ℕ) ParseError
+  abbrev pub of_segment : ℕ → (ProgramHeader → Result (List ℕ) (ErrorOf x)) → Result (List ℕ) (ErrorOf x)
   of_segment i answer = unless_absent answer (slice_get file.segments i)
 
-  -- the text that a call writes, or its error
-  abbrev pub call_answer : Question → Result (List ℕ) ParseError
-  call_answer Header = Ok (header_line file.little header)
-  call_answer Sections = ok_map (λ names. counted_lines (section_line names) file.sections) (name_table file)
-  call_answer Segments = Ok (counted_lines segment_line file.segments)
-  call_answer (Name name) = ok_map (unless_none found_line) (section_header_by_name file name)
-  call_answer (Data i) = of_section i (λ s. ok_map (λ found. section_data_line found.0 found.1) (section_data file s))
-  call_answer (Strings i) =
+  -- the text of what a call reads, or its error; the file header is not read of the ranges
+  abbrev pub read_answer : Question → Result (List ℕ) (ErrorOf x)
+  read_answer Header = Ok []
+  read_answer Sections = ok_map (λ names. counted_lines (section_line names) file.sections) (name_table file)
+  read_answer Segments = Ok (counted_lines segment_line file.segments)
+  read_answer (Name name) = ok_map (unless_none found_line) (section_header_by_name file name)
+  read_answer (Data i) = of_section i (λ s. ok_map (λ found. section_data_line found.0 found.1) (section_data file s))
+  read_answer (Strings i) =
       of_section i (λ s. ok_map (λ bytes. counted_lines string_line (strings_of bytes)) (section_data_as_strtab file s))
-  call_answer (Rels i) = of_section i (λ s. ok_map (counted_lines rel_line) (section_data_as_rels file s))
-  call_answer (Relas i) = of_section i (λ s. ok_map (counted_lines rela_line) (section_data_as_relas file s))
-  call_answer (Notes i) = of_section i (λ s. ok_map (counted_lines note_line) (section_data_as_notes file s))
-  call_answer (Seg j) = of_segment j (λ p. ok_map segment_data_line (segment_data file p))
-  call_answer (SegNotes j) = of_segment j (λ p. ok_map (counted_lines note_line) (segment_data_as_notes file p))
-  call_answer Symbols = ok_map (unless_none symbols_text) (symbol_table file)
-  call_answer DynSyms = ok_map (unless_none symbols_text) (dynamic_symbol_table file)
-  call_answer Dynamic = ok_map (unless_none dynamic_text) (dynamic file)
-  call_answer Versions =
+  read_answer (Rels i) = of_section i (λ s. ok_map (counted_lines rel_line) (section_data_as_rels file s))
+  read_answer (Relas i) = of_section i (λ s. ok_map (counted_lines rela_line) (section_data_as_relas file s))
+  read_answer (Notes i) = of_section i (λ s. ok_map (counted_lines note_line) (section_data_as_notes file s))
+  read_answer (Seg j) = of_segment j (λ p. ok_map segment_data_line (segment_data file p))
+  read_answer (SegNotes j) = of_segment j (λ p. ok_map (counted_lines note_line) (segment_data_as_notes file p))
+  read_answer Symbols = ok_map (unless_none symbols_text) (symbol_table file)
+  read_answer DynSyms = ok_map (unless_none symbols_text) (dynamic_symbol_table file)
+  read_answer Dynamic = ok_map (unless_none dynamic_text) (dynamic file)
+  read_answer Versions =
       dynamic_symbol_table file >>= λ symbols.
       ok_map (unless_none (versions_listed (symbol_count symbols))) (symbol_version_table file)
-  call_answer (Hash kind i) = of_section i (λ s. ok_map (unless_none verdict_line) (checked_as kind file s))
+  read_answer (Hash kind i) = of_section i (λ s. ok_map (unless_none verdict_line) (checked_as kind file s))
+
+-- the text that a call writes, or its error, by the file header as it is now
+abbrev pub call_answer :
+    {E : Type 0} {x : Extent} → FileHeader E → FileOf x → Question → Result (List ℕ) (ErrorOf x)
+call_answer header file Header = Ok (header_line file.little header)
+call_answer header file call = read_answer file call
 
 -- the text, or if the call has an error the line that says so
-abbrev pub or_refused : Result (List ℕ) ParseError → List ℕ
+abbrev pub or_refused : {X : Type 0} → Result (List ℕ) X → List ℕ
 or_refused (Ok text) = text
 or_refused (Err e) = refused_line
 
-abbrev pub call_text : {E : Type 0} → FileHeader E → ObjectFile → Question → List ℕ
+abbrev pub call_text : {E : Type 0} {x : Extent} → FileHeader E → FileOf x → Question → List ℕ
 call_text header file call = or_refused (call_answer header file call)
 
 -- the joined texts of the calls, in order
-abbrev pub text : {E : Type 0} → FileHeader E → ObjectFile → List Question → List ℕ
+abbrev pub text : {E : Type 0} {x : Extent} → FileHeader E → FileOf x → List Question → List ℕ
 text header file calls = flat_map (call_text header file) calls

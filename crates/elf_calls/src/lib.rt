@@ -1,5 +1,5 @@
-//! The calls of a listing, and the text that each of them writes: from the results of an `ElfBytes` (`bytes`), and from
-//! those of an `ElfStream` (`stream`). `runs` has runs of a list of calls.
+//! The calls of a listing, and the text that each of them writes: over an `ElfBytes` (`bytes`), and over an `ElfStream`
+//! (`stream`), which first loads what the call reads. `runs` has runs of a list of calls.
 #![tactic(auto)]
 
 pub mod bytes;
@@ -9,5 +9,6 @@ pub mod laws;
 pub mod readers;
 pub mod runs;
 pub mod stream;
+mod text;
 
 pub use calls::Call;

@@ -7,8 +7,7 @@ ghost use Rattle.elf_reading.specs.Opening.{opened_file};
 ghost use Rattle.elf.specs.ElfStream.{AreCached, IsCached, IsRequested, Keeps, StreamView};
 ghost use Rattle.elf_reading.specs.Refusals.{kind};
 ghost use Rattle.elf_calls.specs.Question.{question};
-ghost use Rattle.elf_calls.specs.Ranges.{TakesNoMemory};
-ghost use Rattle.elf_calls.specs.Stream.{IsAtHand, IsLoaded, IsUse, MayUse, stream_answer};
+ghost use Rattle.elf_calls.specs.Stream.{IsAtHand, IsLoaded, MayUse, stream_answer};
 ghost use Rattle.elf_calls.specs.Text.{text};
 ghost use Rattle.elf_calls.specs.Run.{IfFaultAt, IsFaultless, Ran, StopsWithin, run_ranges};
 ghost use Rattle.elf_calls.specs.inner.RunSteps.{stopped_after};
@@ -122,9 +121,9 @@ fn run_bytes_in<E: EndianParse, R: Room, W: Write>(
 /// so `done` counts the calls that reached its end.
 ///
 /// No range is cached that was not cached before and does not lie within a range that one of the calls requests. If
-/// the requested ranges are cached, the stream is unchanged, and `Fault` has no `IOError`. It has an `OutOfMemory` only
-/// for the calls `sysv` and `gnu`, which copy a section's bytes with the stream's allocator. After `Ok` the ranges of
-/// each call that has a result are cached.
+/// the requested ranges are cached, the stream is unchanged, and there is no `Fault`: the source and memory are used only
+/// for a requested range that was not cached. The call `versions` also allocates places for all versions; if that
+/// fails, it is no error. After `Ok` the ranges of each call that has a result are cached.
 ///
 /// Errors over known content: `Fault` if the source or an allocation failed, with exactly the text of the calls before
 /// it written; `Write` if the writer fails; never `Open`.
@@ -141,8 +140,7 @@ pub fn run_stream<E: EndianParse, S: StreamSource, A: Allocator + Copy, W: Write
     ensures only { (start end : ℕ) → IsCached stream.new start end → IsCached stream.old start end
         ⊎ IsRequested (run_ranges E.little stream.old (map question calls.now)) start end }
     ensures untouched { AreCached stream.old (run_ranges E.little stream.old (map question calls.now)) →
-        (stream.new ≡ stream.old) × IfFaultAt (map question calls.now) result
-        (λ call e. IsUse ⊥ (¬ TakesNoMemory call) (kind e)) }
+        (stream.new ≡ stream.old) × IsFaultless result }
     ensures needed { IfSome stream.old.content (λ bytes. IfFaultAt (map question calls.now) result
         (λ call e. MayUse E.little stream.old stream.new bytes call (kind e))) }
     ensures no_fault { All (λ call. IsAtHand E.little stream.old (question call)) calls.now → IsFaultless result }
@@ -173,11 +171,11 @@ fn stopped_after(done: usize, stop: Stop) -> RunError
 }
 
 /// States that a run without failures can be repeated. Let the ranges of each call that has a result be cached, as they
-/// are after `run_stream` returned `Ok`. Then the calls that have a result and allocate nothing need neither the source
-/// nor memory: run again over the stream, they do not return `Fault`.
+/// are after `run_stream` returned `Ok`. Then the calls that have a result need neither the source nor memory: run again
+/// over the stream, they do not return `Fault`.
 pub fn loaded_calls_are_at_hand<E: EndianParse>()
     ensures { (s : StreamView E) (bytes : List ℕ) (calls : List Call) →
         All (λ call. IsLoaded E.little s bytes (question call)) calls →
-        All (λ call. TakesNoMemory (question call) × IsOk (stream_answer E.little s bytes (question call))) calls →
+        All (λ call. IsOk (stream_answer E.little s bytes (question call))) calls →
         All (λ call. IsAtHand E.little s (question call)) calls }
 {}

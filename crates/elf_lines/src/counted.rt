@@ -24,8 +24,8 @@ pub trait Line {
             (line self.now k item.now) };
 }
 
-// Writes the lines of the items of an iterator, and their number. Stores none of the items.
-pub(crate) fn write_list<L: Line, I: Iterator<Item = L::Item> + Drop, W: Write>(
+/// Writes the lines of the items of an iterator, and their number. Stores none of the items.
+pub fn write_list<L: Line, I: Iterator<Item = L::Item> + Drop, W: Write>(
     items: I,
     line: &L,
     out: &mut W,

@@ -1,6 +1,6 @@
 -- A map of buffers by their starts; none lies within another.
 use Rattle.std.proofs.Common.{◌≡◌, ℕ, zero, suc, ◌+◌, ◌-◌, ◌<◌, ◌≤◌, Bool, true, false, ◌&&◌, ◌||◌, List, [], ◌∷◌, ◌++◌, length, map, get_or, refl, sym, ap, ◌∙◌, arith, subst, leb-true, le-leb, not, true≢false, ◌⊎◌, inl, inr}
-use Rattle.std.specs.Prelude.{IsTrue, nat_lt}
+use Rattle.std.specs.Prelude.{IsTrue, is_some, nat_lt}
 use Rattle.std.specs.List.{list_any, filter, All, AllPairs, Contains}
 use Rattle.std.specs.BTreeMap.{insert_entry, is_at}
 use Rattle.std.specs.Map.{lookup, remove_entry}
@@ -20,7 +20,9 @@ use Rattle.std.proofs.lemmas.List.Kept.{AllPairs-cons, AllPairs-filter}
 use Rattle.std.proofs.lemmas.Map.Views.{any-filter_same}
 use Rattle.std.proofs.lemmas.List.{get_or_append_left, get_or_push, length_push}
 use Rattle.elf_reading.specs.Cache.{Piece, AreSpread, IsBefore, IsPut, IsOf, IsSoundCache, covers, is_within, piece_of, range_of}
-use Rattle.elf_reading.specs.Cache.{is_cached}
+use Rattle.elf_reading.specs.Cache.{is_cached, last_of, or_this}
+use Rattle.std.specs.Option.{option_map}
+use Rattle.std.specs.Prelude.{if◌then◌else◌}
 
 pairs_head : {X : Type 0} (R : X → X → Type 0) (x : X) (xs : List X) → AllPairs R (x ∷ xs) → All (R x) xs
 pairs_head R x xs h = λ j d lt. h zero (suc j) d (omega arith) (omega arith)
@@ -107,6 +109,59 @@ module _ {V : Type 0} (t : ℕ → Bool) where
   pub remove_drops : (p : ℕ × V → Bool) (w : V) → ((e : ℕ × V) → t e.0 ≡ true → e.1 ≡ w → p e ≡ false) → (es : List (ℕ × V)) → lookup t es ≡ Some w → filter p (remove_entry t es) ≡ filter p es
   remove_drops p w so [] h = refl
   remove_drops p w so (e ∷ es) h = drops_head p w e es (remove_drops p w so es) (so e) (t e.0) refl h
+
+-- ---- the last one that passes a test
+
+or_none : {X : Type 0} (o : Option X) → or_this o None ≡ o
+or_none (Some x) = refl
+or_none None = refl
+
+last_filter_head : {X : Type 0} (t keep : X → Bool) (e : X) (es : List X) → (t e ≡ true → keep e ≡ true) → last_of t (filter keep es) ≡ last_of t es → (k b : Bool) → keep e ≡ k → t e ≡ b
+    → last_of t (cond k (e ∷ filter keep es) (filter keep es)) ≡ or_this (last_of t es) (if t e then Some e else None)
+last_filter_head t keep e es so rest true b kept is = ap (λ o. or_this o (if t e then Some e else None)) rest
+last_filter_head t keep e es so rest false true kept is = absurd (true≢false (sym (so is) ∙ kept))
+last_filter_head t keep e es so rest false false kept is = rest ∙ sym (ap (λ b. or_this (last_of t es) (if b then Some e else None)) is ∙ or_none (last_of t es))
+
+last_filter : {X : Type 0} (t keep : X → Bool) → ((x : X) → t x ≡ true → keep x ≡ true) → (es : List X) → last_of t (filter keep es) ≡ last_of t es
+last_filter t keep so [] = refl
+last_filter t keep so (e ∷ es) = last_filter_head t keep e es (so e) (last_filter t keep so es) (keep e) (t e) refl refl
+
+pub no_some : {X : Type 0} (o : Option X) → is_some o ≡ false → o ≡ None
+no_some (Some x) h = absurd (true≢false h)
+no_some None h = refl
+
+last_none : {X : Type 0} (t : X → Bool) (es : List X) → list_any t es ≡ false → last_of t es ≡ None
+last_none t [] none = refl
+last_none t (e ∷ es) none =
+    let split = or_parts _ _ none in
+    ap (λ o. or_this o (if t e then Some e else None)) (last_none t es split.1) ∙ ap (λ b. if b then Some e else None) split.0
+
+last_append : {X : Type 0} (t : X → Bool) (es : List X) (e : X) → last_of t (es ++ e ∷ []) ≡ or_this (if t e then Some e else None) (last_of t es)
+last_append t [] e = sym (or_none (if t e then Some e else None))
+last_append t (x ∷ es) e = ap (λ o. or_this o (if t x then Some x else None)) (last_append t es e) ∙ or_assoc (if t e then Some e else None) (last_of t es) (if t x then Some x else None)
+  where
+    or_assoc : {X : Type 0} (a b c : Option X) → or_this (or_this a b) c ≡ or_this a (or_this b c)
+    or_assoc (Some x) b c = refl
+    or_assoc None b c = refl
+
+last_push : {X : Type 0} (t : X → Bool) (es : List X) (e : X) (b : Bool) → t e ≡ b → (t e ≡ false → list_any t es ≡ false) → last_of t (es ++ e ∷ []) ≡ (if b then Some e else None)
+last_push t es e true is none = last_append t es e ∙ ap (λ b. or_this (if b then Some e else None) (last_of t es)) is
+last_push t es e false is none = last_append t es e ∙ ap (λ b. or_this (if b then Some e else None) (last_of t es)) is ∙ last_none t es (none is)
+
+if_map : {X Y : Type 0} (f : X → Y) (b : Bool) (x : X) → option_map f (if b then Some x else None) ≡ (if b then Some (f x) else None)
+if_map f true x = refl
+if_map f false x = refl
+
+map_or : {X Y : Type 0} (f : X → Y) (a b : Option X) → or_this (option_map f a) (option_map f b) ≡ option_map f (or_this a b)
+map_or f (Some x) b = refl
+map_or f None b = refl
+
+last_map : {X Y : Type 0} (f : X → Y) (t : Y → Bool) (es : List X) → last_of t (map f es) ≡ option_map f (last_of (λ x. t (f x)) es)
+last_map f t [] = refl
+last_map f t (e ∷ es) =
+    ap (λ o. or_this o (if t (f e) then Some (f e) else None)) (last_map f t es)
+    ∙ ap (or_this (option_map f (last_of (λ x. t (f x)) es))) (sym (if_map f (t (f e)) e))
+    ∙ map_or f (last_of (λ x. t (f x)) es) (if t (f e) then Some e else None)
 
 module _ {V : Type 0} (bytes : V → List ℕ) where
   abbrev pub Before : ℕ × V → ℕ × V → Type 0
@@ -279,6 +334,22 @@ module _ {V : Type 0} (bytes : V → List ℕ) where
   last_low es t e start is =
       let all : All (λ x. not (is_lt (nat_cmp start x.0)) ≡ true) (t ++ e ∷ []) = subst (All (λ x. not (is_lt (nat_cmp start x.0)) ≡ true)) is (filter_passes (λ x. not (is_lt (nat_cmp start x.0))) es) in
       is_last start e.0 (subst (λ x. not (is_lt (nat_cmp start x.0)) ≡ true) (get_or_push t e e (length t) refl) (all (length t) e (omega (arith, length_push t e))))
+
+  -- ---- the last one that has a range
+
+  pub last_found : (es t : List (ℕ × V)) (e : ℕ × V) (start end : ℕ) (b : Bool) → AreSpread bytes es → filter (λ e. not (is_lt (nat_cmp start e.0))) es ≡ t ++ e ∷ [] → covers start end (piece_of bytes e) ≡ b
+      → (if b then Some (piece_of bytes e) else None) ≡ last_of (covers start end) (map (piece_of bytes) es)
+  last_found es t e start end b spread is here =
+      let test : ℕ × V → Bool = λ x. covers start end (piece_of bytes x) in
+      let front = last_filter test (λ x. not (is_lt (nat_cmp start x.0))) (λ x h. is_front start x.0 (leb-true x.0 start (and_parts _ _ h).0)) es in
+      let none : test e ≡ false → list_any test t ≡ false = λ no. (or_parts _ _ (sym (list_any-append test t (e ∷ [])) ∙ last_covers t e start end (subst (AreSpread bytes) is (AllPairs-filter Before _ es spread)) (last_low es t e start is) false no)).0 in
+      sym (last_map (piece_of bytes) (covers start end) es ∙ ap (option_map (piece_of bytes)) (sym front ∙ ap (last_of test) is ∙ last_push test t e b here none) ∙ if_map (piece_of bytes) b e)
+
+  pub none_found : (es : List (ℕ × V)) (start end : ℕ) → filter (λ e. not (is_lt (nat_cmp start e.0))) es ≡ [] → None ≡ last_of (covers start end) (map (piece_of bytes) es)
+  none_found es start end is =
+      let test : ℕ × V → Bool = λ x. covers start end (piece_of bytes x) in
+      let front = last_filter test (λ x. not (is_lt (nat_cmp start x.0))) (λ x h. is_front start x.0 (leb-true x.0 start (and_parts _ _ h).0)) es in
+      sym (last_map (piece_of bytes) (covers start end) es ∙ ap (option_map (piece_of bytes)) (sym front ∙ ap (last_of test) is))
 
   -- ---- the put whole
 

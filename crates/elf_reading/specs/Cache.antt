@@ -1,6 +1,8 @@
 -- The parts of a content that are cached, as the buffers of a cache have them.
 use Rattle.std.specs.Prelude.{◌≡◌, ℕ, ◌+◌, ◌-◌, ◌≤◌, ◌<◌, ◌∷◌, map, nat_lt, Bool}
-use Rattle.std.specs.Prelude.{◌&&◌, IsTrue, nat_le, List, length, take, drop, All, Option, IfSome}
+use Rattle.std.specs.Prelude.{◌&&◌, IsTrue, nat_le, List, [], length, take, drop, All, Option, Some, None, IfSome}
+use Rattle.std.specs.Prelude.{if◌then◌else◌}
+use Rattle.std.specs.Option.{option_map}
 use Rattle.std.specs.List.{Contains, AllPairs, list_any}
 
 -- whether the bytes from start to end lie within one of the ranges
@@ -62,3 +64,23 @@ pub record IsPut (p : Piece) (old new : List Piece) : Type 0 where
       IsTrue (is_cached (map range_of old) start end) → IsTrue (is_cached (map range_of new) start end)
   pub has : IsTrue (is_cached (map range_of new) p.start (end_of p))
   pub from : All (Contains (p ∷ old)) new
+
+-- ---- which part has a range
+
+abbrev pub or_this : {A : Type 0} → Option A → Option A → Option A
+or_this (Some x) other = Some x
+or_this None other = other
+
+-- the last one that passes
+abbrev pub last_of : {A : Type 0} → (A → Bool) → List A → Option A
+last_of test [] = None
+last_of test (x ∷ xs) = or_this (last_of test xs) (if test x then Some x else None)
+
+-- the bytes from start to end of a part
+abbrev pub cut : ℕ → ℕ → Piece → List ℕ
+cut start end p = take (end - start) (drop (start - p.start) p.bytes)
+
+-- the bytes from start to end, of the last part that has them
+abbrev pub part_at : List Piece → ℕ → ℕ → Option (List ℕ)
+part_at parts start end =
+    if nat_le start end then option_map (cut start end) (last_of (covers start end) parts) else None

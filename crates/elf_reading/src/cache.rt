@@ -6,7 +6,8 @@ ghost use Rattle.std.specs.List.{filter, All, AllPairs, Contains};
 ghost use Rattle.std.specs.BTreeMap.{get_by};
 ghost use Rattle.std.specs.Ordering.{nat_cmp};
 ghost use Rattle.elf_reading.specs.Cache.{Piece, AreSpread, IsPartOf, IsPut, covers, end_of, is_within, piece_of};
-ghost use Rattle.elf_reading.specs.Cache.{range_of};
+ghost use Rattle.elf_reading.specs.Cache.{last_of, part_at, range_of};
+ghost use Rattle.std.specs.Option.{option_map};
 ghost use Rattle.elf_reading.specs.Cache.{is_cached};
 ghost use Rattle.elf_records.specs.declared.parse.ParseError.{ParseError};
 
@@ -56,6 +57,8 @@ impl<A: Allocator> Cache<A> {
         ensures cached { is_some result ≡ is_cached (map range_of self.now) start end }
         ensures covers { IfSome result (λ r. Contains self.now (record { start = r.0; bytes = r.1.now })
             × IsTrue (covers start end (record { start = r.0; bytes = r.1.now }))) }
+        ensures last { option_map (λ r. record { start = r.0; bytes = r.1.now }) result
+            ≡ last_of (covers start end) self.now }
     {
         let (from, bytes) = self.buffers.range(..=start).next_back()?;
         if end.saturating_sub(*from) <= bytes.len() as u64 {
@@ -68,6 +71,7 @@ impl<A: Allocator> Cache<A> {
     pub fn get(&self, start: u64, end: u64) -> Option<&[u8]>
         ensures cached { is_some result ≡ (nat_le start end && is_cached (map range_of self.now) start end) }
         ensures part { IfSome result (λ bytes. IsPartOf self.now start end bytes.now) }
+        ensures value { option_map (λ bytes. bytes.now) result ≡ part_at self.now start end }
     {
         if end < start {
             return None;

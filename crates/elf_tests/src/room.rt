@@ -32,28 +32,28 @@ fn with_large_section(alloc: Global) -> Result<Vec<u8>, AllocError> {
     Ok(file)
 }
 
-// The stream caches the section, and the check takes a copy of it.
+// The stream caches the section, and the check reads it there.
 #[test]
-fn a_checked_section_is_copied_once(rt: HostRuntime) -> Result<(), Fail> {
+fn a_checked_section_is_not_copied(rt: HostRuntime) -> Result<(), Fail> {
     let alloc = rt.alloc();
     let data = with_large_section(alloc)?;
     let mut out = Line::new();
     let source = MemSource::new(data.as_slice());
-    let blocks = all_memory_but(alloc, 2 * SECTION + 20 * MEBIBYTE)?;
+    let blocks = all_memory_but(alloc, SECTION + 20 * MEBIBYTE)?;
     let stopped = run_source(alloc, source, &[Call::Sysv(4)], &mut out);
     drop(blocks);
     assert!(rt; stopped.is_ok() && out.text() == SOUND.as_bytes());
     Ok(())
 }
 
-// There is no memory for the copy, after the first call of the second run.
+// There is no memory for the section, after the first call of the second run.
 #[test]
 fn the_second_run_of_both_counts_its_calls(rt: HostRuntime) -> Result<(), Fail> {
     let alloc = rt.alloc();
     let data = with_large_section(alloc)?;
     let mut out = Line::new();
     let calls = [Call::Header, Call::Sysv(4)];
-    let blocks = all_memory_but(alloc, SECTION + 20 * MEBIBYTE)?;
+    let blocks = all_memory_but(alloc, 20 * MEBIBYTE)?;
     let stopped = run_both(alloc, data.as_slice(), &calls, &mut out);
     drop(blocks);
     match stopped {

@@ -9,7 +9,7 @@ use elf::string_table::StringTable;
 use elf::{ElfBytes, ElfStream, MemSource};
 use elf_tools::bindings::reading::open_library;
 use elf_tools::load_plan::load_plan;
-use elf_tools::needed::dynamic_names;
+use elf_tools::needed::read_dynamic_names;
 use std::alloc::{AllocError, Global};
 use std::test::Fail;
 
@@ -132,7 +132,7 @@ fn many_needed_libraries_are_named(rt: HostRuntime) -> Result<(), Fail> {
     let data = many_needed(rt.alloc())?;
     let source = MemSource::new(&data);
     let mut stream = ElfStream::<LittleEndian, _, _>::open_stream(rt.alloc(), source)?;
-    let names = dynamic_names(rt.alloc(), &mut stream)?.ok_or("no entries")?;
+    let names = read_dynamic_names(rt.alloc(), &mut stream)?.ok_or("no entries")?;
     let named = names
         .needed
         .iter()

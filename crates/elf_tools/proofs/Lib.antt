@@ -1,5 +1,7 @@
 pub mod Tables
+pub mod Missing
 pub mod Naming
+pub mod BuildIds
 pub mod Readings
 pub mod Libraries
 mod Apart

@@ -1,5 +1,5 @@
 -- The names of objects, the search for a name, and the loaders of an object, one step at a time.
-use Rattle.std.proofs.Common.{◌≡◌, ℕ, zero, suc, ◌+◌, ◌-◌, ◌<◌, ◌≤◌, ◌==◌, Bool, true, false, ◌||◌, cond, List, [], ◌∷◌, ◌++◌, length, map, Option, Some, None, Result, Ok, Err, IfSome, OnOk, Ordering, Less, Equal, Greater, is_eq, nat_cmp, Vec, refl, sym, ap, ◌∙◌, subst, append_assoc, append-nil, arith}
+use Rattle.std.proofs.Common.{◌≡◌, ℕ, zero, suc, ◌-◌, ◌<◌, ◌==◌, Bool, true, false, ◌||◌, cond, List, [], ◌∷◌, ◌++◌, Option, Some, None, Result, Ok, Err, IfSome, OnOk, Ordering, Less, Equal, Greater, is_eq, nat_cmp, Vec, refl, sym, ap, ◌∙◌, subst, append_assoc, append-nil, arith}
 use Rattle.std.specs.BTreeSet.{insert_key}
 use Rattle.std.specs.BTreeMap.{is_at}
 use Rattle.std.specs.Cmp.Lexicographic.{slice_cmp}
@@ -11,7 +11,7 @@ use Rattle.std.proofs.lemmas.List.Concat.{flat_map-append}
 use Rattle.std.proofs.lemmas.List.Folds.{list_any-append}
 use Rattle.std.proofs.lemmas.Map.Text.{is_eq-slice_cmp}
 use Rattle.std.proofs.lemmas.Slice.Eq.{bytes_eq-Decides}
-use Rattle.elf_tools.specs.Tree.{Entry, Found, add, first_fitting, fitting, is_loaded, is_loaded_file, loader_at, loader_places, names_of, need, need_all, or_next}
+use Rattle.elf_tools.specs.Tree.{Entry, Found, add, first_fitting, fitting, is_loaded, is_loaded_file, loader_at, loader_places, names_of, need, or_next}
 use Rattle.elf_tools.specs.Search.{candidates_of}
 use Rattle.elf_tools.specs.inner.LoadedNames.{AreNamesOf}
 use Rattle.elf_tools.specs.declared.tree.Kind.{Kind}

@@ -1,5 +1,5 @@
--- What is found passes the test; and what two consecutive calls of a stream return.
-use Rattle.std.proofs.Common.{◌≡◌, ◌≢◌, ℕ, Bool, true, false, List, [], ◌∷◌, Result, Ok, Err, Option, Some, None, refl, ap, sym, subst, ◌∙◌, arith}
+-- The names of a file of which some ranges are loaded.
+use Rattle.std.proofs.Common.{◌≡◌, inl, inr, ℕ, Bool, true, false, List, [], ◌∷◌, Result, Ok, Err, Option, Some, None, refl, ap, sym, subst, ◌∙◌, true≢false}
 use Rattle.std.specs.Prelude.{IfSome, cond}
 use Rattle.std.specs.List.{find}
 use Rattle.std.specs.Option.{option_map}
@@ -7,16 +7,23 @@ use Rattle.elf_records.specs.Number.{ok_map}
 use Rattle.elf_records.specs.Record.{◌>>=◌}
 use Rattle.elf_records.specs.declared.dynamic.Dyn.{Dyn}
 use Rattle.elf_records.specs.declared.parse.ParseError.{ParseError}
-use Rattle.elf.specs.ElfStream.{Keeps, Leaves, StreamView}
-use Rattle.elf_reading.specs.Refusals.{IsAnswer}
-use Rattle.elf_reading.specs.Refusals.{IsRefused, Kind, kind}
+use Rattle.elf.specs.Answers.{dynamic}
+use Rattle.elf.specs.ElfStream.{Keeps, StreamView}
+use Rattle.elf_reading.specs.Refusals.{IsRefused, kind}
 use Rattle.elf.specs.Headers.{if_found}
+use Rattle.elf.specs.Loaded.{AreLoadedOf, is_not_cached, loaded_ranges}
+use Rattle.elf.specs.ObjectFile.{FileOf, ObjectFile, Partial, Whole, err_map}
+use Rattle.elf.specs.Parts.{ArePartOf, Follows, Ranges, all_ranges, loaded}
 use Rattle.elf.specs.StreamFile.{stream_file}
-use Rattle.elf_tools.specs.Needed.{IsGiven, IsNamesAnswer, IsUnreadable, GivesNames, entries_of, names, names_by, names_view, or_error}
-use Rattle.elf_tools.specs.declared.needed.Names.{Names}
+use Rattle.elf.specs.declared.read_error.ReadError.{ReadError}
+use Rattle.elf.specs.Readers.{Dynamic}
+use Rattle.elf.proofs.Partly.{follows_map, part_follows}
+use Rattle.elf.proofs.stream.Parted.{streamed_loaded}
+use Rattle.elf_tools.specs.Missing.{loaded_part}
+use Rattle.elf_tools.specs.Needed.{IsAnswered, IsNamesAnswer, Named, NamesFollow, entries_in, entries_of, missing_of, names, names_by, names_in, read_error, string_part, strings_by}
 use Rattle.elf_tools.specs.declared.needed.NamesError.{NamesError}
-use Rattle.elf_tools.specs.declared.needed.NamesError.TheVariants.{Memory, Name, NoAddress, NoSize, NotLoaded, Read}
-use Rattle.elf_tools.proofs.Readings.{keeps_then, same_file}
+use Rattle.elf_tools.specs.declared.needed.NamesError.TheVariants.{Memory, Missing, Name, NoAddress, NoSize, NotLoaded, Read}
+use Rattle.elf_tools.proofs.Readings.{same_file}
 
 -- ---- what is found passes the test
 
@@ -28,109 +35,97 @@ pub found_passes : {X : Type 0} (p : X → Bool) (xs : List X) (x : X) → find 
 found_passes p [] x e = cc
 found_passes p (y ∷ ys) x e = found_or p (p y) y x (find p ys) refl (λ f. found_passes p ys x f) e
 
--- ---- a call of a stream, and what is made of what it gave
+-- ---- the names of a part are those of the whole file, or a range is missing
 
-known_made : {T Y U Z : Type 0} (known : Option (List ℕ)) (shown : T → Y) (answer : List ℕ → Result Y ParseError) (can_fail : Bool) (before now : ℕ) (x : T) (shows : U → Z) (made : Y → Result Z NamesError) (given : Result U NamesError)
-    → IfSome known (λ bytes. IsAnswer shown (answer bytes) can_fail before now (Ok x)) → IsGiven shows (made (shown x)) given
-    → IfSome known (λ bytes. IsNamesAnswer shows (or_error Read (answer bytes) >>= made) can_fail before now given)
-known_made None shown answer can_fail before now x shows made given h g = tt
-known_made (Some bytes) shown answer can_fail before now x shows made (Ok u) h g = (h.0, ap (λ r. or_error Read r >>= made) h.1 ∙ g)
-known_made (Some bytes) shown answer can_fail before now x shows made (Err Memory) h g = h.0
-known_made (Some bytes) shown answer can_fail before now x shows made (Err (Read e)) h g = absurd g
-known_made (Some bytes) shown answer can_fail before now x shows made (Err NoAddress) h g = (h.0, ap (λ r. or_error Read r >>= made) h.1 ∙ g)
-known_made (Some bytes) shown answer can_fail before now x shows made (Err NoSize) h g = (h.0, ap (λ r. or_error Read r >>= made) h.1 ∙ g)
-known_made (Some bytes) shown answer can_fail before now x shows made (Err (NotLoaded a)) h g = (h.0, ap (λ r. or_error Read r >>= made) h.1 ∙ g)
-known_made (Some bytes) shown answer can_fail before now x shows made (Err (Name e)) h g = (h.0, ap (λ r. or_error Read r >>= made) h.1 ∙ g)
+module _ (is_missing : ℕ × ℕ → Bool) where
+  read_follows : {A : Type 0} (x : Result A ParseError) (y : Result A ReadError) → Follows is_missing x y → NamesFollow is_missing (err_map (read_error Whole) x) (err_map (read_error Partial) y)
+  read_follows (Ok a) y (inl h) = inl (ap (err_map (read_error Partial)) h)
+  read_follows (Err e) y (inl h) = inl (ap (err_map (read_error Partial)) h)
+  read_follows x y (inr h) = inr (h.0, h.1, ap (err_map (read_error Partial)) h.2)
 
-pub tells_made : {E T Y U Z : Type 0} (old new : StreamView E) (requested : List (ℕ × ℕ)) (shown : T → Y) (answer : List ℕ → Result Y ParseError) (r : Result T ParseError) (x : T) (shows : U → Z) (made : Y → Result Z NamesError) (given : Result U NamesError)
-    → Leaves requested shown answer old new r → r ≡ Ok x → IsGiven shows (made (shown x)) given
-    → GivesNames shows (λ bytes. or_error Read (answer bytes) >>= made) old new given
-tells_made old new requested shown answer r x shows made given leaves is g =
-    let answers = subst (λ w. IfSome old.content (λ bytes. IsAnswer shown (answer bytes) old.can_fail old.failures new.failures w)) is leaves.answers in
-    record { keeps = leaves.keeps; answers = known_made old.content shown answer old.can_fail old.failures new.failures x shows made given answers g }
+  then_follows : {A B : Type 0} (x y : Result A NamesError) (f g : A → Result B NamesError) → NamesFollow is_missing x y → ((a : A) → NamesFollow is_missing (f a) (g a)) → NamesFollow is_missing (x >>= f) (y >>= g)
+  then_follows (Ok a) y f g (inl h) later = rw h (later a)
+  then_follows (Err e) y f g (inl h) later = inl (ap (λ r. r >>= g) h)
+  then_follows x y f g (inr h) later = inr (h.0, h.1, ap (λ r. r >>= g) h.2)
 
--- ---- a call of a stream after another that was not refused
+  some_follows : {A : Type 0} (x y : Result A NamesError) → NamesFollow is_missing x y → NamesFollow is_missing (ok_map Some x) (ok_map Some y)
+  some_follows x y (inl h) = inl (ap (ok_map Some) h)
+  some_follows x y (inr h) = inr (h.0, h.1, ap (ok_map Some) h.2)
 
-refused_so : (k : Kind) (P Q : Type 0) (before middle now : ℕ) (can_fail : Bool) → (P → Q) → middle ≡ before → IsRefused middle now can_fail P k → IsRefused before now can_fail Q k
-refused_so Kind.SourceFailure P Q before middle now can_fail so same h = let up = h.0 in (omega arith, h.1)
-refused_so Kind.AllocationFailure P Q before middle now can_fail so same h = h ∙ same
-refused_so Kind.Refusal P Q before middle now can_fail so same h = (h.0 ∙ same, so h.1)
+  if_follows : {A B : Type 0} (f g : A → Result B NamesError) (o : Option A) → ((a : A) → NamesFollow is_missing (f a) (g a)) → NamesFollow is_missing (if_found f o) (if_found g o)
+  if_follows f g None each = inl refl
+  if_follows f g (Some a) each = some_follows (f a) (g a) (each a)
 
-unreadable_some : {Z : Type 0} (inner : Result Z NamesError) → IsUnreadable inner → IsUnreadable (ok_map Some inner)
-unreadable_some (Ok n) u = absurd u
-unreadable_some (Err Memory) u = absurd u
-unreadable_some (Err (Read e)) u = tt
-unreadable_some (Err NoAddress) u = absurd u
-unreadable_some (Err NoSize) u = absurd u
-unreadable_some (Err (NotLoaded a)) u = absurd u
-unreadable_some (Err (Name e)) u = absurd u
+module _ (whole : ObjectFile) (range : Ranges) (is_missing : ℕ × ℕ → Bool) (each : ArePartOf whole is_missing range) where
+  abbrev part : FileOf Partial
+  part = loaded whole range
 
--- an error is that of the whole
-known_whole : {U V Z : Type 0} (shows : U → Z) (shown : V → Option Z) (whole : Result (Option Z) NamesError) (inner : Result Z NamesError) (can_fail : Bool) (before middle now : ℕ) (e : NamesError)
-    → whole ≡ ok_map Some inner → middle ≡ before → IsNamesAnswer shows inner can_fail middle now (Err e) → IsNamesAnswer shown whole can_fail before now (Err e)
-known_whole shows shown whole inner can_fail before middle now Memory is same h = h ∙ same
-known_whole shows shown whole inner can_fail before middle now (Read e) is same h =
-    refused_so (kind e) (IsUnreadable inner) (IsUnreadable whole) before middle now can_fail (λ u. subst IsUnreadable (sym is) (unreadable_some inner u)) same h
-known_whole shows shown whole inner can_fail before middle now NoAddress is same h = (h.0 ∙ same, is ∙ ap (ok_map Some) h.1)
-known_whole shows shown whole inner can_fail before middle now NoSize is same h = (h.0 ∙ same, is ∙ ap (ok_map Some) h.1)
-known_whole shows shown whole inner can_fail before middle now (NotLoaded a) is same h = (h.0 ∙ same, is ∙ ap (ok_map Some) h.1)
-known_whole shows shown whole inner can_fail before middle now (Name e) is same h = (h.0 ∙ same, is ∙ ap (ok_map Some) h.1)
+  pub strings_follow : (entries : List Dyn) → NamesFollow is_missing (strings_by whole entries) (strings_by part entries)
+  strings_follow entries =
+      then_follows is_missing (string_part whole.segments entries) (string_part whole.segments entries) _ _ (inl refl) (λ p. read_follows is_missing (whole.range p.0 p.1) (range p.0 p.1) (each p.0 p.1))
 
-known_later : {E T : Type 0} (little : E → Bool) (old middle : StreamView E) (now : ℕ) (known : Option (List ℕ)) (shown : T → Option (List Dyn)) (x : T) (entries : List Dyn) (e : NamesError) → Keeps old middle → shown x ≡ Some entries
-    → IfSome known (λ bytes. IsNamesAnswer shown (entries_of (stream_file little old bytes)) old.can_fail old.failures middle.failures (Ok x))
-    → IfSome known (λ bytes. IsNamesAnswer names_view (names_by (stream_file little middle bytes) entries) middle.can_fail middle.failures now (Err e))
-    → IfSome known (λ bytes. IsNamesAnswer (option_map names_view) (names (stream_file little old bytes)) old.can_fail old.failures now (Err e))
-known_later little old middle now None shown x entries e keeps is h k = tt
-known_later little old middle now (Some bytes) shown x entries e keeps is h k =
-    let file = stream_file little old bytes in
-    let whole = ap (λ r. r >>= λ es. if_found (names_by file) es) (h.1 ∙ ap Ok is) in
-    let there = subst (λ f. IsNamesAnswer names_view (names_by f entries) middle.can_fail middle.failures now (Err e)) (same_file little old middle bytes keeps) k in
-    let here = subst (λ b. IsNamesAnswer names_view (names_by file entries) b middle.failures now (Err e)) keeps.can_fail there in
-    known_whole names_view (option_map names_view) (names file) (names_by file entries) old.can_fail old.failures middle.failures now e whole h.0 here
+  pub names_follow : NamesFollow is_missing (names whole) (names part)
+  names_follow =
+      then_follows is_missing (entries_of whole) (entries_of part) (if_found (names_by whole)) (if_found (names_by part))
+      (read_follows is_missing _ _ (follows_map is_missing (option_map entries_in) (dynamic whole) (dynamic part) (part_follows whole range is_missing each Dynamic))) (λ o.
+      if_follows is_missing (names_by whole) (names_by part) o (λ entries.
+      then_follows is_missing (strings_by whole entries) (strings_by part entries) (λ strings. names_in strings entries) (λ strings. names_in strings entries) (strings_follow entries) (λ strings. inl refl)))
 
-pub tells_later : {E T : Type 0} (little : E → Bool) (old middle new : StreamView E) (shown : T → Option (List Dyn)) (first : Result T NamesError) (x : T) (entries : List Dyn) (later : Result Names NamesError) (e : NamesError) → first ≡ Ok x → shown x ≡ Some entries → later ≡ Err e
-    → GivesNames shown (λ bytes. entries_of (stream_file little old bytes)) old middle first
-    → GivesNames names_view (λ bytes. names_by (stream_file little middle bytes) entries) middle new later
-    → GivesNames (option_map names_view) (λ bytes. names (stream_file little old bytes)) old new (Err e)
-tells_later little old middle new shown first x entries later e is some refused a b =
-    let one = subst (λ r. IfSome old.content (λ bytes. IsNamesAnswer shown (entries_of (stream_file little old bytes)) old.can_fail old.failures middle.failures r)) is a.answers in
-    let two = subst (λ r. IfSome middle.content (λ bytes. IsNamesAnswer names_view (names_by (stream_file little middle bytes) entries) middle.can_fail middle.failures new.failures r)) refused b.answers in
-    let here = subst (λ known. IfSome known (λ bytes. IsNamesAnswer names_view (names_by (stream_file little middle bytes) entries) middle.can_fail middle.failures new.failures (Err e))) a.keeps.content two in
-    record {
-      keeps = keeps_then old middle new a.keeps b.keeps;
-      answers = known_later little old middle new.failures old.content shown x entries e a.keeps some one here;
-    }
+nothing_missing : {A : Type 0} (whole other : Result A NamesError) → NamesFollow (λ _. false) whole other → other ≡ whole
+nothing_missing whole other (inl h) = h
+nothing_missing whole other (inr h) = absurd (true≢false (sym h.1))
 
--- ---- if there are entries there are names, or an error
+pub whole_strings : (whole : ObjectFile) (entries : List Dyn) → strings_by (loaded whole (all_ranges whole)) entries ≡ strings_by whole entries
+whole_strings whole entries = nothing_missing _ _ (strings_follow whole (all_ranges whole) (λ _. false) (λ start size. inl refl) entries)
 
-some_not_none : {Y : Type 0} (r : Result Y NamesError) → ok_map Some r ≢ Ok None
-some_not_none (Ok y) e = cc e
-some_not_none (Err error) e = cc e
+pub whole_names : (whole : ObjectFile) → names (loaded whole (all_ranges whole)) ≡ names whole
+whole_names whole = nothing_missing _ _ (names_follow whole (all_ranges whole) (λ _. false) (λ start size. inl refl))
 
-still_some : {X Y : Type 0} (entries : Result (Option X) NamesError) (answer : X → Result Y NamesError) → entries ≢ Ok None → (entries >>= λ es. if_found answer es) ≢ Ok None
-still_some (Ok None) answer some e = some refl
-still_some (Ok (Some x)) answer some e = some_not_none (answer x) e
-still_some (Err error) answer some e = cc e
+-- an error of a whole file
+pub whole_error : {T : Type 0} (shown : T → Option Named) (whole : ObjectFile) (e : NamesError) → IsAnswered shown (names (loaded whole (all_ranges whole))) (Err e) → (e ≡ Memory → ⊥) → Err e ≡ names whole
+whole_error shown whole Memory is some = absurd (some refl)
+whole_error shown whole (Read e) is some = sym is.0 ∙ whole_names whole
+whole_error shown whole (Missing range) is some = sym is ∙ whole_names whole
+whole_error shown whole NoAddress is some = sym is ∙ whole_names whole
+whole_error shown whole NoSize is some = sym is ∙ whole_names whole
+whole_error shown whole (NotLoaded a) is some = sym is ∙ whole_names whole
+whole_error shown whole (Name e) is some = sym is ∙ whole_names whole
 
-pub known_some : {E : Type 0} (little : E → Bool) (old : StreamView E) (known : Option (List ℕ)) → IfSome known (λ bytes. entries_of (stream_file little old bytes) ≢ Ok None) → IfSome known (λ bytes. names (stream_file little old bytes) ≢ Ok None)
-known_some little old None some = tt
-known_some little old (Some bytes) some =
-    let file = stream_file little old bytes in
-    still_some (entries_of file) (names_by file) some
+-- ---- a stream
 
-entries_some : {T X : Type 0} (answer : Result (Option X) NamesError) (shown : T → Option X) (x : T) (one : X) → answer ≡ Ok (shown x) → shown x ≡ Some one → answer ≢ Ok None
-entries_some answer shown x one is some none = cc (is, some, none)
+module _ {T : Type 0} (shown : T → Option Named) where
+  -- what is missing, if that is the error; and else nothing is
+  pub missed_of : (answer : Result (Option Named) NamesError) (r : Result T NamesError) (range : ℕ × ℕ) → IsAnswered shown answer r → missing_of r ≡ Some range → answer ≡ Err (Missing range)
+  missed_of answer (Err (Missing at)) range is some = let same : at ≡ range = cc some in is ∙ ap (λ x. Err (Missing x)) same
+  missed_of answer r range is some = cc some
 
-each_some : {E T : Type 0} (little : E → Bool) (old : StreamView E) (now : ℕ) (shown : T → Option (List Dyn)) (x : T) (entries : List Dyn) (known : Option (List ℕ)) → shown x ≡ Some entries
-    → IfSome known (λ bytes. IsNamesAnswer shown (entries_of (stream_file little old bytes)) old.can_fail old.failures now (Ok x))
-    → IfSome known (λ bytes. entries_of (stream_file little old bytes) ≢ Ok None)
-each_some little old now shown x entries None some h = tt
-each_some little old now shown x entries (Some bytes) some h = entries_some (entries_of (stream_file little old bytes)) shown x entries h.1 some
+  none_missed : (whole : Result (Option Named) NamesError) (range : ℕ × ℕ) (r : Result T NamesError) → IsAnswered shown (Err (Missing range)) r → missing_of r ≡ None → IsAnswered shown whole r
+  none_missed whole range (Err Memory) is none = tt
+  none_missed whole range (Err (Missing at)) is none = cc none
+  none_missed whole range (Err (Read e)) is none = cc is.0
+  none_missed whole range r is none = cc is
 
--- after entries that were found
-pub known_entries : {E T : Type 0} (little : E → Bool) (old middle : StreamView E) (shown : T → Option (List Dyn)) (first : Result T NamesError) (x : T) (entries : List Dyn) → first ≡ Ok x → shown x ≡ Some entries
-    → GivesNames shown (λ bytes. entries_of (stream_file little old bytes)) old middle first
-    → IfSome old.content (λ bytes. names (stream_file little old bytes) ≢ Ok None)
-known_entries little old middle shown first x entries is some given =
-    let here = subst (λ r. IfSome old.content (λ bytes. IsNamesAnswer shown (entries_of (stream_file little old bytes)) old.can_fail old.failures middle.failures r)) is given.answers in
-    known_some little old old.content (each_some little old middle.failures shown x entries old.content some here)
+  answered : (is_missing : ℕ × ℕ → Bool) (whole part : Result (Option Named) NamesError) (r : Result T NamesError) → NamesFollow is_missing whole part → IsAnswered shown part r → missing_of r ≡ None → IsAnswered shown whole r
+  answered is_missing whole one r (inl h) is none = subst (λ p. IsAnswered shown p r) h is
+  answered is_missing whole one r (inr h) is none = none_missed whole h.0 r (subst (λ p. IsAnswered shown p r) h.2 is) none
+
+-- what was loaded for it so far changes nothing of the file
+module _ {E : Type 0} (little : E → Bool) (old now : StreamView E) (keeps : Keeps old now) where
+  pub part_of_old : (bytes : List ℕ) → AreLoadedOf little now bytes → loaded_part little now ≡ loaded (stream_file little old bytes) (loaded_ranges now)
+  part_of_old bytes h = streamed_loaded little now bytes h ∙ ap (λ file. loaded file (loaded_ranges now)) (same_file little old now bytes keeps)
+
+  pub ranges_of_old : (bytes : List ℕ) → AreLoadedOf little now bytes → ArePartOf (stream_file little old bytes) (is_not_cached now) (loaded_ranges now)
+  ranges_of_old bytes h = subst (λ file. ArePartOf file (is_not_cached now) (loaded_ranges now)) (same_file little old now bytes keeps) h.part
+
+  pub stream_answered : {T : Type 0} (known : Option (List ℕ)) (shown : T → Option Named) (r : Result T NamesError) → IfSome known (λ bytes. AreLoadedOf little now bytes) → IfSome known (λ bytes. now.failures ≡ old.failures) → IsAnswered shown (names (loaded_part little now)) r → missing_of r ≡ None
+      → IfSome known (λ bytes. IsNamesAnswer shown (names (stream_file little old bytes)) old.can_fail old.failures now.failures r)
+  stream_answered None shown r of same is none = tt
+  stream_answered (Some bytes) shown r of same is none =
+      let whole = stream_file little old bytes in
+      let part = subst (λ p. IsAnswered shown (names p) r) (part_of_old bytes of) is in
+      inl (same, answered shown (is_not_cached now) (names whole) (names (loaded whole (loaded_ranges now))) r (names_follow whole (loaded_ranges now) (is_not_cached now) (ranges_of_old bytes of)) part none)
+
+  pub load_refused : {T : Type 0} (shown : T → Option Named) (known : Option (List ℕ)) (later : ℕ) (e : ParseError) → IfSome known (λ bytes. now.failures ≡ old.failures) → IfSome known (λ bytes. IsRefused now.failures later now.can_fail ⊥ (kind e)) → IfSome known (λ bytes. IsNamesAnswer shown (names (stream_file little old bytes)) old.can_fail old.failures later (Err (Read e)))
+  load_refused shown None later e same h = tt
+  load_refused shown (Some bytes) later e same h =
+      inr (e, refl, subst (λ b. IsRefused old.failures later b ⊥ (kind e)) keeps.can_fail (subst (λ n. IsRefused n later now.can_fail ⊥ (kind e)) same h))

@@ -12,14 +12,14 @@ use Rattle.elf.specs.Answers.{symbol_version_table}
 use Rattle.elf.specs.ElfStream.{AreCached, IsRequested, Keeps, StreamView}
 use Rattle.elf_reading.specs.Refusals.{MayRefuse}
 use Rattle.elf_reading.specs.Refusals.{Kind, kind}
-use Rattle.elf.specs.Headers.{entry_size, if_found}
+use Rattle.elf.specs.Headers.{if_found}
 use Rattle.elf.specs.Ranges.{headers_alone, if_there, whole_section}
 use Rattle.elf_parts.specs.gnu_symver.Records.{version_index_layout}
 use Rattle.elf_records.specs.Record.{size_by}
 use Rattle.elf_reading.specs.declared.versions.VersionSections.{VersionSections}
 use Rattle.elf_tools.specs.LibraryRanges.{entries_ranges, unless_refused, versions_ranges_of, versions_read}
 use Rattle.elf_reading.specs.Cache.{is_cached}
-use Rattle.elf.specs.ObjectFile.{ObjectFile}
+use Rattle.elf.specs.ObjectFile.{ObjectFile, entry_size}
 use Rattle.elf.specs.StreamFile.{stream_file}
 use Rattle.elf.specs.Versions.{version_definitions, version_indexes, version_needs, versions_of}
 use Rattle.elf_reading.specs.Versions.{version_sections}
@@ -153,8 +153,8 @@ by_test : (b : Bool) (requested : List (ℕ × ℕ)) (x m n : ℕ) (e f : ParseE
 by_test true requested x m n e f h = refl
 by_test false requested x m n e f h = cc
 
-sized_right : (requested : List (ℕ × ℕ)) (size x : ℕ) (s : SectionHeader) (e : ParseError) → Ok x ≡ cond (s.sh_entsize == size) (Ok s.sh_entsize) (Err e) → unless_refused requested (entry_size size s) ≡ requested
-sized_right requested size x s e h = by_test (s.sh_entsize == size) requested x s.sh_entsize size e (BadEntsize (s.sh_entsize, size)) h
+sized_right : (file : ObjectFile) (requested : List (ℕ × ℕ)) (size x : ℕ) (s : SectionHeader) (e : ParseError) → Ok x ≡ cond (s.sh_entsize == size) (Ok s.sh_entsize) (Err e) → unless_refused requested (entry_size file size s) ≡ requested
+sized_right file requested size x s e h = by_test (s.sh_entsize == size) requested x s.sh_entsize size e (BadEntsize (s.sh_entsize, size)) h
 
 -- the version indexes, the needs and the definitions, one after the other
 pub versions_used : {E : Type 0} (little : E → Bool) (old one two three : StreamView E) (chosen : VersionSections) (s : SectionHeader) (size : ℕ)
@@ -169,6 +169,6 @@ versions_used little old one two three chosen s size is at sized first second a 
     let of_definitions = uses_by_headers little old two three (λ f. if_there (entries_ranges f) chosen.definitions) (keeps_then old one two first second) c in
     let requested = whole_section s ++ (needs ++ definitions) in
     let all : Uses requested old three = uses_then old one three (whole_section s) (needs ++ definitions) a (uses_then one two three needs definitions of_needs of_definitions) in
-    let sure : Uses (versions_ranges_of file chosen s) old three = subst (λ rs. Uses rs old three) (sym (sized_right requested (size_by version_index_layout old.headers.ehdr.class) size s _ sized)) all in
+    let sure : Uses (versions_ranges_of file chosen s) old three = subst (λ rs. Uses rs old three) (sym (sized_right file requested (size_by version_index_layout old.headers.ehdr.class) size s _ sized)) all in
     let found : Uses (if_there (versions_ranges_of file chosen) chosen.indexes) old three = subst (λ o. Uses (if_there (versions_ranges_of file chosen) o) old three) (sym at) sure in
     subst (λ ch. Uses (if_there (versions_ranges_of file ch) ch.indexes) old three) is found

@@ -6,6 +6,7 @@ pub mod Resolver
 pub mod Bindings
 pub mod SymbolUses
 pub mod SymbolBindings
+pub mod Missing
 pub mod Needed
 pub mod Readings
 pub mod Library

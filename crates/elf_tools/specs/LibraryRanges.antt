@@ -7,8 +7,8 @@ use Rattle.elf_records.specs.declared.section.SectionHeader.{SectionHeader}
 use Rattle.elf_parts.specs.gnu_symver.Records.{version_index_layout}
 use Rattle.elf_reading.specs.Versions.{version_sections}
 use Rattle.elf_reading.specs.declared.versions.VersionSections.{VersionSections}
-use Rattle.elf.specs.Headers.{entry_size, first_section_of}
-use Rattle.elf.specs.ObjectFile.{ObjectFile}
+use Rattle.elf.specs.Headers.{first_section_of}
+use Rattle.elf.specs.ObjectFile.{ObjectFile, entry_size}
 use Rattle.elf.specs.Ranges.{if_there, section_ranges, symbols_ranges, whole_section}
 
 -- those of the hash section that is read
@@ -39,7 +39,7 @@ versions_ranges_of file chosen s =
     unless_refused
     (whole_section s
     ++ (if_there (entries_ranges file) chosen.needs ++ if_there (entries_ranges file) chosen.definitions))
-    (entry_size (size_by version_index_layout file.class) s)
+    (entry_size file (size_by version_index_layout file.class) s)
 
 abbrev pub versions_read : ObjectFile → List (ℕ × ℕ)
 versions_read file =

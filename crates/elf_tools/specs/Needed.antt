@@ -1,6 +1,6 @@
 -- The names by which the dynamic linker finds a file and the libraries that it needs (gABI, chapter "Dynamic Section"),
--- and what is answered of them over a stream.
-use Rattle.std.specs.Prelude.{◌≡◌, ℕ, ◌+◌, ◌-◌, ◌^◌, ◌==◌, ◌&&◌, nat_le, nat_lt, not, Bool, ℤ, List, [], ◌∷◌, map}
+-- of a whole file or of a part, and what is answered of them over a stream.
+use Rattle.std.specs.Prelude.{◌≡◌, ◌⊎◌, ℕ, ◌+◌, ◌-◌, ◌^◌, ◌==◌, ◌&&◌, nat_le, nat_lt, not, Bool, IsTrue, ℤ, List, [], ◌∷◌, map}
 use Rattle.std.specs.Prelude.{filter, unwrap_or}
 use Rattle.std.specs.Prelude.{Option, Some, None, Result, Ok, Err, IfSome, ok_or}
 use Rattle.std.specs.List.{find, take_while}
@@ -15,21 +15,23 @@ use Rattle.elf_records.specs.Table.{Table, table_items}
 use Rattle.elf_records.specs.declared.dynamic.Dyn.{Dyn}
 use Rattle.elf_records.specs.declared.parse.ParseError.{ParseError}
 use Rattle.elf_records.specs.declared.segment.ProgramHeader.{ProgramHeader}
-use Rattle.elf.specs.Answers.{dynamic, segment_data}
+use Rattle.elf.specs.Answers.{dynamic}
 use Rattle.elf.specs.ElfStream.{Keeps, StreamView}
-use Rattle.elf_reading.specs.Refusals.{IsRefused, kind}
+use Rattle.elf_reading.specs.Refusals.{IsRefused, Kind, kind}
 use Rattle.elf.specs.Headers.{if_found}
-use Rattle.elf.specs.ObjectFile.{ObjectFile}
+use Rattle.elf.specs.ObjectFile.{ErrorOf, Extent, FileOf, Partial, Whole, err_map}
+use Rattle.elf.specs.declared.read_error.ReadError.TheVariants.{Parse, NotLoaded as NotRead}
 use Rattle.elf_tools.specs.declared.needed.Name.{Name}
 use Rattle.elf_tools.specs.declared.needed.Names.{Names}
 use Rattle.elf_tools.specs.declared.needed.NamesError.{NamesError}
-use Rattle.elf_tools.specs.declared.needed.NamesError.TheVariants.{Memory, NoAddress, NoSize, NotLoaded, Read}
+use Rattle.elf_tools.specs.declared.needed.NamesError.TheVariants.{Memory, Missing, NoAddress, NoSize, NotLoaded, Read}
 use Rattle.elf_tools.specs.declared.needed.NamesError.TheVariants.{Name as Unnamed}
 
--- the same value, or another error
-abbrev pub or_error : {A : Type 0} → (ParseError → NamesError) → Result A ParseError → Result A NamesError
-or_error to (Ok x) = Ok x
-or_error to (Err e) = Err (to e)
+-- why something cannot be read
+abbrev pub read_error : (x : Extent) → ErrorOf x → NamesError
+read_error Whole e = Read e
+read_error Partial (Parse e) = Read e
+read_error Partial (NotRead range) = Missing range
 
 -- ---- the entries
 
@@ -50,14 +52,14 @@ holds address size p =
     p.p_type == pt_load && nat_le p.p_vaddr address && nat_le (address + size) (p.p_vaddr + p.p_filesz)
     && nat_lt (p.p_offset + (address - p.p_vaddr)) (2 ^ 64)
 
--- the part of the segment that these addresses are
-abbrev pub part_of : ℕ → ℕ → ProgramHeader → ProgramHeader
-part_of address size p = record p { p_offset = p.p_offset + (address - p.p_vaddr); p_filesz = size }
+-- where in the file the byte of an address of the segment is
+abbrev pub offset_in : ℕ → ProgramHeader → ℕ
+offset_in address p = p.p_offset + (address - p.p_vaddr)
 
--- that of the first segment which holds them
-abbrev pub part_at : List ProgramHeader → ℕ → ℕ → Result ProgramHeader NamesError
-part_at segments address size =
-    ok_or (option_map (part_of address size) (find (holds address size) segments)) (NotLoaded address)
+-- where these addresses are in the file, by the first segment that holds them
+abbrev pub offset_of : List ProgramHeader → ℕ → ℕ → Result ℕ NamesError
+offset_of segments address size =
+    ok_or (option_map (offset_in address) (find (holds address size) segments)) (NotLoaded address)
 
 -- the address and the size that the entries give
 abbrev pub string_range : List Dyn → Result (ℕ × ℕ) NamesError
@@ -65,13 +67,15 @@ string_range entries =
     ok_or (first_entry dt_strtab entries) NoAddress >>= λ start. ok_or (first_entry dt_strsz entries) NoSize >>= λ size.
     Ok (d_un_view start, d_un_view size)
 
-abbrev pub string_part : List ProgramHeader → List Dyn → Result ProgramHeader NamesError
-string_part segments entries = string_range entries >>= λ range. part_at segments range.0 range.1
+-- the range of the string table in the file, by its start and its size
+abbrev pub string_part : List ProgramHeader → List Dyn → Result (ℕ × ℕ) NamesError
+string_part segments entries =
+    string_range entries >>= λ range. ok_map (λ start. (start, range.1)) (offset_of segments range.0 range.1)
 
 -- ---- the names: the number of an entry is the offset of its string in the string table
 
 abbrev pub name_of : List ℕ → Dyn → Result (List ℕ) NamesError
-name_of strings entry = or_error Unnamed (string_at strings (d_un_view entry))
+name_of strings entry = err_map Unnamed (string_at strings (d_un_view entry))
 
 -- the name of the first entry with a tag
 abbrev pub first_name : List ℕ → ℤ → List Dyn → Result (Option (List ℕ)) NamesError
@@ -115,7 +119,7 @@ names_view n =
       rpath = option_map bytes n.rpath;
     }
 
--- the answer, or an allocation failed; nothing is read from a stream
+-- the answer, or an allocation failed; nothing is read
 abbrev pub IsGiven : {T Y : Type 0} → (T → Y) → Result Y NamesError → Result T NamesError → Type 0
 IsGiven shown answer (Ok x) = answer ≡ Ok (shown x)
 IsGiven shown answer (Err Memory) = Unit {0}
@@ -125,46 +129,40 @@ IsGiven shown answer (Err e) = answer ≡ Err e
 -- ---- over a file
 
 -- its dynamic entries, if it has any
-abbrev pub entries_of : ObjectFile → Result (Option (List Dyn)) NamesError
-entries_of file = or_error Read (ok_map (option_map entries_in) (dynamic file))
+abbrev pub entries_of : {x : Extent} → FileOf x → Result (Option (List Dyn)) NamesError
+entries_of {x} file = err_map (read_error x) (ok_map (option_map entries_in) (dynamic file))
 
 -- the string table of the entries
-abbrev pub strings_by : ObjectFile → List Dyn → Result (List ℕ) NamesError
-strings_by file entries = string_part file.segments entries >>= λ part. or_error Read (segment_data file part)
+abbrev pub strings_by : {x : Extent} → FileOf x → List Dyn → Result (List ℕ) NamesError
+strings_by {x} file entries =
+    string_part file.segments entries >>= λ part. err_map (read_error x) (file.range part.0 part.1)
 
--- the names that entries give in the strings of a part of the file
-abbrev pub names_of_part : ObjectFile → ProgramHeader → List Dyn → Result Named NamesError
-names_of_part file part entries = or_error Read (segment_data file part) >>= λ strings. names_in strings entries
-
-abbrev pub names_by : ObjectFile → List Dyn → Result Named NamesError
-names_by file entries = string_part file.segments entries >>= λ part. names_of_part file part entries
+abbrev pub names_by : {x : Extent} → FileOf x → List Dyn → Result Named NamesError
+names_by file entries = strings_by file entries >>= λ strings. names_in strings entries
 
 -- its names, if it has dynamic entries
-abbrev pub names : ObjectFile → Result (Option Named) NamesError
-names file = entries_of file >>= λ entries. if_found (names_by file) entries
+abbrev pub names : {x : Extent} → FileOf x → Result (Option Named) NamesError
+names file = entries_of file >>= if_found (names_by file)
 
--- ---- over a file in memory
-
--- the answer, or an allocation failed
+-- the answer, with an error of reading that bytes can have; or an allocation failed
 abbrev pub IsAnswered : {T Y : Type 0} → (T → Y) → Result Y NamesError → Result T NamesError → Type 0
 IsAnswered shown answer (Ok x) = answer ≡ Ok (shown x)
 IsAnswered shown answer (Err Memory) = Unit {0}
+IsAnswered shown answer (Err (Read e)) = (answer ≡ Err (Read e)) × (kind e ≡ Kind.Refusal)
 IsAnswered shown answer (Err e) = answer ≡ Err e
+
+-- the result over a part is that of the whole file, or it names a range that is missing
+abbrev pub NamesFollow : {A : Type 0} → (ℕ × ℕ → Bool) → Result A NamesError → Result A NamesError → Type 0
+NamesFollow is_missing whole part =
+    (part ≡ whole) ⊎ ((range : ℕ × ℕ) × IsTrue (is_missing range) × (part ≡ Err (Missing range)))
 
 -- ---- over a stream
 
--- the answer is that something cannot be read
-abbrev pub IsUnreadable : {Y : Type 0} → Result Y NamesError → Type 0
-IsUnreadable (Err (Read e)) = Unit {0}
-IsUnreadable _ = ⊥
-
--- the answer, or an error; an error of the source raises its count, and nothing else does
+-- the answer, and the source did not fail; or the error with which the source or an allocation failed
 abbrev pub IsNamesAnswer : {T Y : Type 0} → (T → Y) → Result Y NamesError → Bool → ℕ → ℕ → Result T NamesError → Type 0
-IsNamesAnswer shown answer can_fail before now (Ok x) = (now ≡ before) × (answer ≡ Ok (shown x))
-IsNamesAnswer shown answer can_fail before now (Err Memory) = now ≡ before
-IsNamesAnswer shown answer can_fail before now (Err (Read e)) =
-    IsRefused before now can_fail (IsUnreadable answer) (kind e)
-IsNamesAnswer shown answer can_fail before now (Err e) = (now ≡ before) × (answer ≡ Err e)
+IsNamesAnswer shown answer can_fail before now r =
+    ((now ≡ before) × IsAnswered shown answer r)
+    ⊎ ((e : ParseError) × (r ≡ Err (Read e)) × IsRefused before now can_fail ⊥ (kind e))
 
 -- the same file, no cached range lost, and where the content is known its answer
 pub record GivesNames {E T Y : Type 0} (shown : T → Y) (answer : List ℕ → Result Y NamesError) (old new : StreamView E)
@@ -172,3 +170,12 @@ pub record GivesNames {E T Y : Type 0} (shown : T → Y) (answer : List ℕ → 
   pub keeps : Keeps old new
   pub answers : IfSome old.content (λ bytes.
       IsNamesAnswer shown (answer bytes) old.can_fail old.failures new.failures r)
+
+-- the range that is missing, if that is the error
+abbrev pub missing_of : {A : Type 0} → Result A NamesError → Option (ℕ × ℕ)
+missing_of (Err (Missing range)) = Some range
+missing_of _ = None
+
+-- the range is missing for the names of the part
+abbrev pub MissesNames : FileOf Partial → ℕ × ℕ → Type 0
+MissesNames part range = names part ≡ Err (Missing range)

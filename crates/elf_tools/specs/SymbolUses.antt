@@ -81,4 +81,4 @@ sections_uses machine file left (s ∷ sections) uses =
     else sections_uses machine file left sections uses
 
 abbrev pub uses_by : ℕ → ObjectFile → List SymbolUses → Result (List SymbolUses) UsesError
-uses_by machine file uses = sections_uses machine file (length file.bytes) file.sections uses
+uses_by machine file uses = sections_uses machine file file.size file.sections uses

@@ -1,18 +1,17 @@
 //! What a loader maps into memory, and at which addresses.
-ghost use Rattle.std.specs.Prelude.{◌≡◌, ◌||◌, [], false, IfErr, IfOk, IfSome, IsNone, IsOk, None, Ok, OnOk, MatchOption, length};
+ghost use Rattle.std.specs.Prelude.{◌≡◌, ◌||◌, [], false, IfErr, IfOk, IsNone, IsOk, None, Ok, OnOk, MatchOption, length};
 ghost use Rattle.std.specs.List.{list_any};
-ghost use Rattle.elf.specs.ElfBytes.{view};
-ghost use Rattle.elf_reading.specs.Opening.{segment_list};
 ghost use Rattle.elf_tools.specs.LoadPlan.{ApartBefore, IsFirstOverlap, IsPlan, IsTrueOfPlan, LoadableBefore};
 ghost use Rattle.elf_tools.specs.LoadPlan.{fits, is_addressed, lies_in, mapping_of, mappings, meets, overlap};
 ghost use Rattle.elf_tools.specs.inner.Apart.{AreApart};
 ghost use Rattle.elf_tools.specs.declared.load_plan.Mapping.{Mapping};
 ghost use Rattle.elf_tools.specs.declared.load_plan.PlanError.TheVariants.{Memory as IsMemory};
 
+use elf::abi;
 use elf::endian::EndianParse;
 use elf::file::Class;
+use elf::reader::Reader;
 use elf::segment::ProgramHeader;
-use elf::{ElfBytes, ElfStream, StreamSource, abi};
 use std::alloc::{AllocError, Global};
 use std::collections::BTreeMap;
 use thiserror::Error;
@@ -96,21 +95,20 @@ impl Mapping {
 }
 
 // The mappings of the segments of type `PT_LOAD`.
-fn mappings<E: EndianParse>(
+fn mappings<E: EndianParse, R: Reader<E>>(
     alloc: Global,
-    file: &ElfBytes<'_, E>,
+    file: &R,
 ) -> Result<Vec<Mapping>, AllocError>
-    ensures mappings { IfOk result (λ all. all.items ≡ mappings (segment_list (view file.now).segments)) }
-    ensures none { IsNone (view file.now).segments → IfOk result (λ all. all.items ≡ []) × IsOk result }
+    ensures mappings { IfOk result (λ all. all.items ≡ mappings (R.file file.now).segments) }
+    ensures none { (R.file file.now).segments ≡ [] → IsOk result }
 {
-    match file.segments() {
-        Some(segments) => segments
-            .iter()
-            .filter(|segment| segment.p_type == abi::PT_LOAD)
-            .map(|segment| Mapping::new(&segment))
-            .collect(alloc),
-        None => Ok(Vec::new(alloc)),
+    let mut all = Vec::new(alloc);
+    for segment in file.each_segment() {
+        if segment.p_type == abi::PT_LOAD {
+            all.push(Mapping::new(&segment))?;
+        }
     }
+    Ok(all)
 }
 
 // What is wrong with the first mapping that is not loadable, in a file of this class and length.
@@ -204,7 +202,8 @@ fn plan_of(
     Ok(plan)
 }
 
-/// Returns the mappings of the segments of type `PT_LOAD`, in order.
+/// Returns the mappings of the segments of type `PT_LOAD`, in order. They follow from the program headers and the size of
+/// the file, so nothing is loaded of a stream.
 ///
 /// Errors, in order: `Memory` if an allocation failed; of the first mapping for which one of them holds, `FileSize` if
 /// it has more bytes in the file than in memory, `OutsideFile` if its bytes do not lie in the file, and `AddressSpace`
@@ -219,62 +218,16 @@ fn plan_of(
 ///     println!(rt; "{} bytes at {:#x}", mapping.memory_size, mapping.address)?;
 /// }
 /// ```
-pub fn load_plan<E: EndianParse>(
+pub fn load_plan<E: EndianParse, R: Reader<E>>(
     alloc: Global,
-    file: &ElfBytes<'_, E>,
+    file: &R,
 ) -> Result<Vec<Mapping>, PlanError>
-    ensures plan { let all = mappings (segment_list (view file.now).segments) in
-        IfOk result (λ plan. (plan.items ≡ all) × IsPlan file.now.ehdr.class (length (view file.now).bytes) all) }
-    ensures refused { let all = mappings (segment_list (view file.now).segments) in
-        IfErr result (IsTrueOfPlan file.now.ehdr.class (length (view file.now).bytes) all) }
-    ensures none { IsNone (view file.now).segments → IsOk result }
+    ensures plan { let whole = R.file file.now in let all = mappings whole.segments in
+        IfOk result (λ plan. (plan.items ≡ all) × IsPlan whole.class whole.size all) }
+    ensures refused { let whole = R.file file.now in
+        IfErr result (IsTrueOfPlan whole.class whole.size (mappings whole.segments)) }
+    ensures none { (R.file file.now).segments ≡ [] → IsOk result }
 {
     let plan = mappings(alloc, file)?;
-    plan_of(alloc, file.ehdr.class, file.data().len() as u64, plan)
-}
-
-// The mappings of the segments of type `PT_LOAD` among these.
-fn mappings_in(alloc: Global, segments: &[ProgramHeader]) -> Result<Vec<Mapping>, AllocError>
-    ensures { IfOk result (λ all. all.items ≡ mappings segments.now) }
-{
-    segments
-        .iter()
-        .copied()
-        .filter(|segment| segment.p_type == abi::PT_LOAD)
-        .map(|segment| Mapping::new(&segment))
-        .collect(alloc)
-}
-
-// The plan of the segments of type `PT_LOAD` among these, in a file of this class and length.
-fn plan_of_segments(
-    alloc: Global,
-    class: Class,
-    len: u64,
-    segments: &[ProgramHeader],
-) -> Result<Vec<Mapping>, PlanError>
-    ensures plan { IfOk result (λ plan. (plan.items ≡ mappings segments.now)
-        × IsPlan class len (mappings segments.now)) }
-    ensures refused { IfErr result (IsTrueOfPlan class len (mappings segments.now)) }
-{
-    let plan = mappings_in(alloc, segments)?;
-    plan_of(alloc, class, len, plan)
-}
-
-/// Returns what `load_plan` returns of a file that is read by parts. Nothing is read from its source: the plan follows
-/// from the program headers and the length of the source.
-pub fn read_load_plan<E: EndianParse, S: StreamSource>(
-    alloc: Global,
-    stream: &ElfStream<E, S, Global>,
-) -> Result<Vec<Mapping>, PlanError>
-    ensures plan { let all = mappings stream.now.headers.segments in IfSome stream.now.content (λ bytes.
-        IfOk result (λ plan. (plan.items ≡ all) × IsPlan stream.now.headers.ehdr.class (length bytes) all)) }
-    ensures refused { let all = mappings stream.now.headers.segments in IfSome stream.now.content (λ bytes.
-        IfErr result (IsTrueOfPlan stream.now.headers.ehdr.class (length bytes) all)) }
-{
-    plan_of_segments(
-        alloc,
-        stream.ehdr.class,
-        stream.source_len(),
-        stream.segments().as_slice(),
-    )
+    plan_of(alloc, file.class(), file.size(), plan)
 }

@@ -1,27 +1,28 @@
 //! The names by which the dynamic linker finds a file and the libraries that it needs.
-ghost use Rattle.std.specs.Prelude.{◌≡◌, ◌≢◌, Err, IfOk, IfSome, IsTrue, None, Ok, Some, map, option_copied};
+ghost use Rattle.std.specs.Prelude.{◌≡◌, ◌≢◌, Err, IfOk, IfSome, IsTrue, None, Ok, map};
 ghost use Rattle.std.specs.List.{find};
 ghost use Rattle.std.specs.Option.{option_map};
 ghost use Rattle.elf_records.specs.Dynamic.{has_tag};
 ghost use Rattle.elf_records.specs.Number.{ok_map};
 ghost use Rattle.elf_records.specs.Table.{table_view};
-ghost use Rattle.elf.specs.ElfBytes.{view};
-ghost use Rattle.elf.specs.ObjectFile.{object_file};
 ghost use Rattle.elf.specs.Answers.{dynamic};
+ghost use Rattle.elf.specs.ObjectFile.{Partial};
+ghost use Rattle.elf.specs.Parts.{loaded};
 ghost use Rattle.elf.specs.StreamFile.{stream_file};
-ghost use Rattle.elf_reading.specs.Opening.{segment_list};
-ghost use Rattle.elf_tools.specs.Needed.{GivesNames, IsAnswered, IsGiven};
-ghost use Rattle.elf_tools.specs.Needed.{all_names, entries_in, entries_of, first_entry, first_name};
-ghost use Rattle.elf_tools.specs.Needed.{holds, name_bytes, name_of, names, names_by, names_in, names_of_part};
-ghost use Rattle.elf_tools.specs.Needed.{names_view, part_of, string_part, string_range, strings_by};
+ghost use Rattle.elf_tools.specs.Missing.{LoadsMissing};
+ghost use Rattle.elf_tools.specs.Needed.{GivesNames, IsAnswered, IsGiven, MissesNames};
+ghost use Rattle.elf_tools.specs.Needed.{all_names, entries_in, first_entry, first_name, holds, missing_of};
+ghost use Rattle.elf_tools.specs.Needed.{name_bytes, name_of, names, names_by, names_in, names_view, offset_in, read_error};
+ghost use Rattle.elf_tools.specs.Needed.{string_part, string_range, strings_by};
 ghost use Rattle.elf_tools.specs.Readings.{ReadsFile};
 ghost use Rattle.elf_tools.specs.declared.needed.NamesError.TheVariants.{Memory as IsMemory};
 
 use elf::dynamic::{Dyn, DynamicTable};
 use elf::endian::EndianParse;
-use elf::segment::{ProgramHeader, SegmentTable};
+use elf::reader::{Reader, dynamic};
+use elf::segment::ProgramHeader;
 use elf::string_table::{StringTable, TerminatedStrings};
-use elf::{ElfBytes, ElfStream, ParseError, StreamSource, abi};
+use elf::{ElfStream, ParseError, ReadError, StreamSource, abi};
 use std::alloc::{AllocError, AllocFailed, Allocator, Global};
 use thiserror::Error;
 
@@ -61,9 +62,12 @@ impl Names {
 /// Why the names of a file are not available.
 #[derive(Debug, Drop, Error)]
 pub enum NamesError {
-    /// The stream returned an error.
+    /// The bytes cannot be read.
     #[error("{0}")]
     Read(ParseError),
+    /// The bytes from a start to an end, which lie in the file, are not loaded.
+    #[error("Bytes in range [0x{:X}, 0x{:X}) are not loaded", .0.0, .0.1)]
+    Missing((u64, u64)),
     /// No entry gives the address of the string table.
     #[error("no entry DT_STRTAB")]
     NoAddress,
@@ -94,6 +98,17 @@ impl<T: Drop> From<AllocFailed<T>> for NamesError {
 
     fn from(_error: AllocFailed<T>) -> NamesError {
         NamesError::Memory
+    }
+}
+
+impl From<ReadError> for NamesError {
+    ghost from_gives = { λ read error. error ≡ read_error Partial read };
+
+    fn from(error: ReadError) -> NamesError {
+        match error {
+            ReadError::Parse(error) => NamesError::Read(error),
+            ReadError::NotLoaded(range) => NamesError::Missing(range),
+        }
     }
 }
 
@@ -138,52 +153,24 @@ fn holds(segment: &ProgramHeader, address: u64, size: u64) -> bool
         && before <= u64::MAX - segment.p_offset
 }
 
-// The first segment that holds this many bytes from an address on.
-fn first_holding(segments: &[ProgramHeader], address: u64, size: u64) -> Option<&ProgramHeader>
-    ensures { option_copied result ≡ find (holds address size) segments.now }
-{
-    segments
-        .iter()
-        .find(|segment| holds(segment, address, size))
-}
-
-// The first segment of a table that holds this many bytes from an address on.
-fn first_in<E: EndianParse>(
-    segments: SegmentTable<'_, E>,
-    address: u64,
-    size: u64,
-) -> Option<ProgramHeader>
-    ensures { result ≡ find (holds address size) (segment_list (Some (table_view segments.entry))) }
-{
-    segments
-        .iter()
-        .find(|segment| holds(segment, address, size))
-}
-
-// The first segment of a file in memory that holds this many bytes from an address on.
-fn first_in_memory<E: EndianParse>(
-    file: &ElfBytes<'_, E>,
-    address: u64,
-    size: u64,
-) -> Option<ProgramHeader>
-    ensures { result ≡ find (holds address size) (object_file E.little (view file.now)).segments }
-{
-    match file.segments() {
-        Some(segments) => first_in(segments, address, size),
-        None => None,
-    }
-}
-
-// The part of a segment at these addresses, as a segment.
-fn part_of(segment: &ProgramHeader, address: u64, size: u64) -> ProgramHeader
+// The offset in the file of the byte of an address.
+fn offset_in(segment: &ProgramHeader, address: u64, size: u64) -> u64
     requires { IsTrue (holds address size segment.now) }
-    ensures { result ≡ part_of address size segment.now }
+    ensures { result ≡ offset_in address segment.now }
 {
-    ProgramHeader {
-        p_offset: segment.p_offset + (address - segment.p_vaddr),
-        p_filesz: size,
-        ..*segment
-    }
+    segment.p_offset + (address - segment.p_vaddr)
+}
+
+// The first segment of a file that holds this many bytes from an address on.
+fn first_holding<E: EndianParse, R: Reader<E>>(
+    file: &R,
+    address: u64,
+    size: u64,
+) -> Option<ProgramHeader>
+    ensures { result ≡ find (holds address size) (R.file file.now).segments }
+{
+    file.each_segment()
+        .find(|segment| holds(segment, address, size))
 }
 
 // The address of the string table, and its size.
@@ -200,57 +187,46 @@ fn string_range(entries: &[Dyn]) -> Result<(u64, u64), NamesError>
     Ok((start.d_ptr(), length.d_val()))
 }
 
-/// Returns the part of a segment that is the string table of the entries, as a segment. Their address is one of memory,
-/// and the segments of type `PT_LOAD` say which bytes of the file are loaded there.
+/// Returns the range of the string table of the entries in the file, by its start and its size. Their address is one of
+/// memory, and the segments of type `PT_LOAD` say which bytes of the file are loaded there.
 ///
 /// Errors, in order: `NoAddress` and `NoSize` if no entry gives the address or the size of the string table;
 /// `NotLoaded` if no segment of type `PT_LOAD` holds it.
-pub fn string_part(segments: &[ProgramHeader], entries: &[Dyn]) -> Result<ProgramHeader, NamesError>
-    ensures value { result ≡ string_part segments.now entries.now }
-    ensures plain { IsGiven (λ part. part) (string_part segments.now entries.now) result }
+pub fn string_part<E: EndianParse, R: Reader<E>>(
+    file: &R,
+    entries: &[Dyn],
+) -> Result<(u64, u64), NamesError>
+    ensures value { result ≡ string_part (R.file file.now).segments entries.now }
+    ensures plain { IsGiven (λ part. part) (string_part (R.file file.now).segments entries.now) result }
 {
     let (address, size) = match string_range(entries) {
         Ok(range) => range,
         Err(error) => return Err(error),
     };
-    match first_holding(segments, address, size) {
-        Some(segment) => Ok(part_of(segment, address, size)),
+    match first_holding(file, address, size) {
+        Some(segment) => Ok((offset_in(&segment, address, size), size)),
         None => Err(NamesError::NotLoaded(address)),
     }
 }
 
-// The part of a segment of a file in memory that is the string table of the entries, as a segment.
-fn part_in_memory<E: EndianParse>(
-    file: &ElfBytes<'_, E>,
+/// Returns the string table of the dynamic entries of a file. The errors are those of `string_part`, then `Read` if the
+/// bytes cannot be read, or `Missing` if they are not loaded.
+pub fn strings_of<'f, E: EndianParse, R: Reader<E>>(
+    file: &'f R,
     entries: &[Dyn],
-) -> Result<ProgramHeader, NamesError>
-    ensures { result ≡ string_part (object_file E.little (view file.now)).segments entries.now }
+) -> Result<&'f [u8], NamesError>
+    ensures value { ok_map (λ bytes. bytes.now) result
+        ≡ strings_by (loaded (R.file file.now) (R.ranges file.now)) entries.now }
+    ensures plain { IsAnswered (λ bytes. bytes.now)
+        (strings_by (loaded (R.file file.now) (R.ranges file.now)) entries.now) result }
 {
-    let (address, size) = match string_range(entries) {
-        Ok(range) => range,
-        Err(error) => return Err(error),
-    };
-    match first_in_memory(file, address, size) {
-        Some(segment) => Ok(part_of(&segment, address, size)),
-        None => Err(NamesError::NotLoaded(address)),
-    }
-}
-
-/// Returns the string table of the dynamic entries of a file in memory. The errors are those of `string_part`, then
-/// `Read` if the bytes cannot be read.
-pub fn strings_of<'data, E: EndianParse>(
-    file: &ElfBytes<'data, E>,
-    entries: &[Dyn],
-) -> Result<&'data [u8], NamesError>
-    ensures { ok_map (λ bytes. bytes.now) result ≡ strings_by (object_file E.little (view file.now)) entries.now }
-{
-    let part = match part_in_memory(file, entries) {
+    let (start, size) = match string_part(file, entries) {
         Ok(part) => part,
         Err(error) => return Err(error),
     };
-    match file.segment_data(&part) {
+    match file.range(start, size) {
         Ok(bytes) => Ok(bytes),
-        Err(error) => Err(NamesError::Read(error)),
+        Err(error) => Err(NamesError::from(error)),
     }
 }
 
@@ -335,70 +311,72 @@ pub fn read_entries<E: EndianParse, S: StreamSource, A: Allocator + Copy>(
     }
 }
 
-// The dynamic entries of a file, copied.
-fn entries_of<E: EndianParse, S: StreamSource, A: Allocator + Copy>(
-    alloc: Global,
-    stream: &mut ElfStream<E, S, A>,
-) -> Result<Option<Vec<Dyn>>, NamesError>
-    ensures entries { GivesNames (option_map (λ entries. entries.items))
-        (λ bytes. entries_of (stream_file E.little stream.old bytes)) stream.old stream.new result }
-    ensures memory { result ≡ Err NamesError.Memory → IfSome stream.old.content (λ bytes.
-        entries_of (stream_file E.little stream.old bytes) ≢ Ok None) }
-{
-    match stream.dynamic() {
-        Ok(Some(table)) => Ok(Some(entries_in(alloc, &table)?)),
-        Ok(None) => Ok(None),
-        Err(error) => Err(NamesError::Read(error)),
-    }
-}
-
-// The names that the entries give in the strings of a part of the file.
-fn names_of_part<E: EndianParse, S: StreamSource, A: Allocator + Copy>(
-    alloc: Global,
-    stream: &mut ElfStream<E, S, A>,
-    entries: &[Dyn],
-    part: &ProgramHeader,
-) -> Result<Names, NamesError>
-    ensures { GivesNames names_view
-        (λ bytes. names_of_part (stream_file E.little stream.old bytes) part.now entries.now)
-        stream.old stream.new result }
-{
-    match stream.segment_data(part) {
-        Ok(bytes) => names_in(alloc, bytes, entries),
-        Err(error) => Err(NamesError::Read(error)),
-    }
-}
-
 // The names that the entries of a file give.
-fn names_by<E: EndianParse, S: StreamSource, A: Allocator + Copy>(
+fn names_by<E: EndianParse, R: Reader<E>>(
     alloc: Global,
-    stream: &mut ElfStream<E, S, A>,
+    file: &R,
     entries: &[Dyn],
 ) -> Result<Names, NamesError>
-    ensures { GivesNames names_view (λ bytes. names_by (stream_file E.little stream.old bytes) entries.now)
-        stream.old stream.new result }
+    ensures { IsAnswered names_view
+        (names_by (loaded (R.file file.now) (R.ranges file.now)) entries.now) result }
 {
-    let part = string_part(stream.segments().as_slice(), entries)?;
-    names_of_part(alloc, stream, entries, &part)
+    match strings_of(file, entries) {
+        Ok(strings) => names_in(alloc, strings, entries),
+        Err(error) => Err(error),
+    }
 }
 
 /// Returns the soname of a file, the libraries that it needs and its search paths, or `None` if it has no dynamic
 /// entries. The string table is found by its address, as the dynamic linker finds it, so no section header is needed.
+/// Of a stream it reads what is loaded; `read_dynamic_names` loads the rest.
 ///
 /// Errors, in order: `Read` if the dynamic entries cannot be read; `NoAddress` and `NoSize` if no entry gives the
 /// address or the size of the string table; `NotLoaded` if no segment of type `PT_LOAD` holds it; `Read` if its bytes
 /// cannot be read; `Name` if the string of an entry cannot be read: of the soname, then of the needed libraries in
-/// order, of `DT_RUNPATH` and of `DT_RPATH`. `Memory` if an allocation failed, which is possible only if the file has
-/// dynamic entries.
+/// order, of `DT_RUNPATH` and of `DT_RPATH`. In place of `Read`, `Missing` if the bytes lie in the file and are not
+/// loaded. `Memory` if an allocation failed, which is possible only if the file has dynamic entries.
+pub fn dynamic_names<E: EndianParse, R: Reader<E>>(
+    alloc: Global,
+    file: &R,
+) -> Result<Option<Names>, NamesError>
+    ensures names { IsAnswered (option_map names_view)
+        (names (loaded (R.file file.now) (R.ranges file.now))) result }
+    ensures memory { result ≡ Err NamesError.Memory →
+        names (loaded (R.file file.now) (R.ranges file.now)) ≢ Ok None }
+{
+    let entries = match dynamic(file) {
+        Ok(Some(table)) => entries_in(alloc, &table)?,
+        Ok(None) => return Ok(None),
+        Err(error) => return Err(NamesError::from(error)),
+    };
+    match names_by(alloc, file, entries.as_slice()) {
+        Ok(names) => Ok(Some(names)),
+        Err(error) => Err(error),
+    }
+}
+
+// The range that is missing, if that is the error.
+fn missing_of(found: &Result<Option<Names>, NamesError>) -> Option<(u64, u64)>
+    ensures { result ≡ missing_of found.now }
+{
+    match found {
+        Err(NamesError::Missing(range)) => Some(*range),
+        _ => None,
+    }
+}
+
+/// Returns of a stream what `dynamic_names` returns of a file in memory, with the same errors in the same order. It
+/// loads each range that is missing, and no other. `Read` also if the source failed, or if an allocation for a range
+/// failed.
 ///
 /// ```rust
-/// if let Some(names) = dynamic_names(rt.alloc(), &mut stream)? {
+/// if let Some(names) = read_dynamic_names(rt.alloc(), &mut stream)? {
 ///     for name in &names.needed {
 ///         println!(rt; "{}", from_utf8(names.bytes(name))?)?;
 ///     }
 /// }
 /// ```
-pub fn dynamic_names<E: EndianParse, S: StreamSource, A: Allocator + Copy>(
+pub fn read_dynamic_names<E: EndianParse, S: StreamSource, A: Allocator + Copy>(
     alloc: Global,
     stream: &mut ElfStream<E, S, A>,
 ) -> Result<Option<Names>, NamesError>
@@ -406,50 +384,19 @@ pub fn dynamic_names<E: EndianParse, S: StreamSource, A: Allocator + Copy>(
         stream.old stream.new result }
     ensures memory { result ≡ Err NamesError.Memory → IfSome stream.old.content (λ bytes.
         names (stream_file E.little stream.old bytes) ≢ Ok None) }
+    ensures only { LoadsMissing E.little MissesNames stream.old stream.new }
 {
-    let entries = match entries_of(alloc, stream) {
-        Ok(Some(entries)) => entries,
-        Ok(None) => return Ok(None),
-        Err(error) => return Err(error),
-    };
-    match names_by(alloc, stream, entries.as_slice()) {
-        Ok(names) => Ok(Some(names)),
-        Err(error) => Err(error),
+    // Each round loads a range that was missing, and no source has that many.
+    'rounds: for round in 0..u64::MAX {
+        stream.is_part_of_file();
+        let found = dynamic_names(alloc, &*stream);
+        let Some((start, end)) = missing_of(&found) else {
+            return found;
+        };
+        match stream.load_range(start, end.saturating_sub(start)) {
+            Ok(()) => {}
+            Err(error) => return Err(NamesError::Read(error)),
+        }
     }
-}
-
-// The names that the entries of a file in memory give.
-fn names_in_memory<E: EndianParse>(
-    alloc: Global,
-    file: &ElfBytes<'_, E>,
-    entries: &[Dyn],
-) -> Result<Names, NamesError>
-    ensures { IsAnswered names_view (names_by (object_file E.little (view file.now)) entries.now) result }
-{
-    let part = match part_in_memory(file, entries) {
-        Ok(part) => part,
-        Err(error) => return Err(error),
-    };
-    match file.segment_data(&part) {
-        Ok(bytes) => names_in(alloc, bytes, entries),
-        Err(error) => Err(NamesError::Read(error)),
-    }
-}
-
-/// Returns of a file in memory what `dynamic_names` returns of a stream, with the same errors in the same order.
-pub fn dynamic_names_of<E: EndianParse>(
-    alloc: Global,
-    file: &ElfBytes<'_, E>,
-) -> Result<Option<Names>, NamesError>
-    ensures { IsAnswered (option_map names_view) (names (object_file E.little (view file.now))) result }
-{
-    let entries = match file.dynamic() {
-        Ok(Some(table)) => entries_in(alloc, &table)?,
-        Ok(None) => return Ok(None),
-        Err(error) => return Err(NamesError::Read(error)),
-    };
-    match names_in_memory(alloc, file, entries.as_slice()) {
-        Ok(names) => Ok(Some(names)),
-        Err(error) => Err(error),
-    }
+    Err(NamesError::Memory)
 }

@@ -27,7 +27,7 @@ ghost use Rattle.elf_tools.specs.declared.tree.OpenError.TheVariants.{Memory as 
 pub mod memory;
 mod names;
 
-use crate::needed::{Name, Names, NamesError, dynamic_names_of};
+use crate::needed::{Name, Names, NamesError, dynamic_names};
 use crate::search::{SearchPaths, Surroundings, expansion, folders, joined_path};
 use elf::endian::AnyEndian;
 use elf::file::{Class, FileHeader};
@@ -144,7 +144,7 @@ fn names_of(
     ensures { IfOk result (λ read.
         ok_map (option_map names_view) read ≡ names (object_file any_is_little (view file.now))) }
 {
-    match dynamic_names_of(alloc, file) {
+    match dynamic_names(alloc, file) {
         Ok(names) => Ok(Ok(names)),
         Err(NamesError::Memory) => Err(AllocError),
         Err(error) => Ok(Err(error)),

@@ -1,8 +1,8 @@
 -- Linked records that are checked in order.
-use Rattle.std.proofs.Common.{◌≡◌, ◌↔◌, ℕ, zero, suc, ◌+◌, ◌<◌, Bool, true, false, not, List, [], ◌∷◌, length, take, drop, Option, Some, None, IsTrue, refl, ap, sym, ◌∙◌, subst, arith, add-one, MatchOption}
+use Rattle.std.proofs.Common.{◌≡◌, ◌↔◌, ℕ, zero, suc, ◌+◌, Bool, true, false, not, List, [], ◌∷◌, take, drop, Option, Some, None, IsTrue, refl, ap, sym, ◌∙◌, subst, arith, add-one, MatchOption}
 use Rattle.std.specs.List.{AllByRecursion, slice_get}
 use Rattle.std.specs.Option.{IsSomeAnd, is_some}
-use Rattle.elf_whole.specs.Chains.{IsTrueOfChain, SoundChain, last_distance}
+use Rattle.elf_whole.specs.Chains.{IsTrueOfChain, SoundChain}
 use Rattle.elf_whole.specs.declared.faults.ChainFault.{ChainFault}
 use Rattle.elf_whole.specs.declared.faults.ChainFault.TheVariants.{At, NotLast, Short}
 

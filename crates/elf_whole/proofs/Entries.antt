@@ -1,5 +1,5 @@
 -- Dynamic entries whose strings can be read.
-use Rattle.std.proofs.Common.{◌≡◌, ℕ, ◌+◌, ◌<◌, ◌≤◌, Bool, true, false, not, List, [], ◌∷◌, ◌&&◌, length, drop, take, Option, Some, None, refl, ap, sym, ◌∙◌, subst, if◌then◌else◌, arith}
+use Rattle.std.proofs.Common.{◌≡◌, ℕ, ◌+◌, ◌<◌, Bool, true, false, not, List, [], ◌∷◌, ◌&&◌, length, drop, take, Option, Some, None, refl, ap, sym, ◌∙◌, subst, if◌then◌else◌, arith}
 use Rattle.std.specs.List.{list_all, position, position_from, slice_get, take_while}
 use Rattle.std.proofs.lemmas.Iterator.Adapters.{position_from-zero}
 use Rattle.std.proofs.lemmas.List.{get_or-take, length-take}
@@ -50,9 +50,6 @@ step_taken {A = A} p x xs false e rest =
 pub taken : {A : Type 0} (p : A → Bool) (xs : List A) → take (length (take_while p xs)) xs ≡ take_while p xs
 taken p [] = refl
 taken p (x ∷ xs) = step_taken p x xs (p x) refl (taken p xs)
-
-pub taken_within : {A : Type 0} (p : A → Bool) (xs : List A) → length (take_while p xs) ≤ length xs
-taken_within p xs = omega (arith, length-take (length (take_while p xs)) xs, ap length (taken p xs))
 
 -- one of the first ones of a list
 pub taken_at : {A : Type 0} (count : ℕ) (xs : List A) (i : ℕ) (x : A) → i < count → slice_get xs i ≡ Some x → slice_get (take count xs) i ≡ Some x

@@ -12,10 +12,6 @@ use Rattle.elf_whole.specs.inner.Kept.{AreKnown}
 abbrev IsKnown : Versions → ℕ → Type 0
 IsKnown versions n = IsSome (version_with_index versions (record { 0 = n }))
 
--- one that is kept is that of a version
-pub kept_is : (versions : Versions) (kept : List ℕ) (place : ℕ) (index : VersionIndex) → AreKnown versions kept → place < length kept → get_or kept place 0 ≡ index.0 → IsSome (version_with_index versions index)
-kept_is versions kept place index known inside same = subst (IsKnown versions) same (known place inside)
-
 -- one more is kept
 pub kept_more : (versions : Versions) (kept : List ℕ) (place : ℕ) (index : VersionIndex) → AreKnown versions kept → place < length kept → IsSome (version_with_index versions index) → AreKnown versions (set kept place index.0)
 kept_more versions kept place index known inside is = λ k within.

@@ -21,8 +21,8 @@ pub mod LookUps
 pub mod SegmentsPaths
 pub mod Verdicts
 pub mod TrueSubjects
-pub mod Adding
-pub mod SoundSubjects
-pub mod FirstOfAll
+pub mod Walking
+pub mod Subjects
 pub mod Plans
 pub mod Kept
+mod HashObjects

@@ -1,11 +1,10 @@
 -- The version of a symbol, looked up in a table that is sound.
-use Rattle.std.proofs.Common.{◌≡◌, ◌≢◌, ◌↔◌, ◌<◌, ◌^◌, length, ℕ, Bool, true, false, ◌==◌, if◌then◌else◌, List, map, Option, Some, None, Result, Ok, Err, IsTrue, refl, ap, sym, ◌∙◌, subst, inl, inr}
+use Rattle.std.proofs.Common.{◌≡◌, ◌≢◌, ◌↔◌, ◌<◌, ◌^◌, length, ℕ, Bool, true, false, ◌==◌, if◌then◌else◌, List, Option, Some, None, Result, Ok, Err, refl, sym, subst, inl, inr}
 use Rattle.std.specs.List.{AllByRecursion}
 use Rattle.std.specs.Option.{IfSome, IsSome, option_map, option_or}
 use Rattle.std.specs.Result.{IsOk}
 use Rattle.std.proofs.lemmas.Bool.{ne_eqb}
 use Rattle.std.proofs.lemmas.Str.{IsUtf8-from_is_utf8}
-use Rattle.elf_records.specs.Number.{ok_map}
 use Rattle.elf_records.specs.StringTable.{GivesText, string_at}
 use Rattle.elf_records.specs.declared.parse.ParseError.{ParseError}
 use Rattle.elf_parts.specs.gnu_symver.Records.{version_index, version_is_hidden}
@@ -16,7 +15,7 @@ use Rattle.elf_parts.specs.declared.gnu_symver.records.VerNeed.{VerNeed}
 use Rattle.elf_parts.specs.declared.gnu_symver.records.VerNeedAux.{VerNeedAux}
 use Rattle.elf_parts.specs.declared.gnu_symver.records.VersionIndex.{VersionIndex}
 use Rattle.elf_parts.specs.declared.gnu_symver.table.SymbolRequirement.{SymbolRequirement}
-use Rattle.elf_whole.specs.versions.Indexes.{DefinedVersion, GlobalVersion, LocalVersion, RequiredVersion, SoundVersionTable, TextDefinition, TextDefinitions, TextNeeds, CheckedVersion, defined_with, required_with, version_with_index}
+use Rattle.elf_whole.specs.versions.Indexes.{DefinedVersion, GlobalVersion, LocalVersion, RequiredVersion, SoundVersionTable, TextDefinition, TextDefinitions, TextNeeds, defined_with, required_with, version_with_index}
 use Rattle.elf_whole.specs.versions.Records.{IsText, IsTextAt}
 use Rattle.elf_records.proofs.Items.{lies}
 use Rattle.elf_records.proofs.Places.{item_at-below}

@@ -1,6 +1,6 @@
 -- Relocations in order, each with the symbol that it names.
-use Rattle.std.proofs.Common.{◌≡◌, ℕ, ◌+◌, ◌<◌, ◌≤◌, ◌^◌, List, [], ◌∷◌, length, drop, Option, Some, None, Result, Ok, Err, refl, ap, sym, ◌∙◌, subst}
-use Rattle.std.proofs.lemmas.List.{drop_all, drop_more}
+use Rattle.std.proofs.Common.{◌≡◌, ℕ, ◌+◌, ◌<◌, ◌^◌, List, ◌∷◌, length, drop, Option, Some, None, Result, Ok, Err, refl, ap, sym, ◌∙◌, subst}
+use Rattle.std.proofs.lemmas.List.{drop_more}
 use Rattle.std.proofs.lemmas.Option.{get_or_from_slice_get, slice_get-map, slice_get_within}
 use Rattle.std.specs.List.{slice_get}
 use Rattle.std.specs.Option.{IsSome, option_map}
@@ -18,6 +18,7 @@ use Rattle.elf.specs.ObjectFile.{ObjectFile, table_of}
 use Rattle.elf_whole.specs.RelocationLists.{AllHaveSymbols, symbol_in, with_symbols}
 use Rattle.elf_whole.specs.Relocations.{SoundRelocations, linked_symbols}
 use Rattle.elf_whole.specs.Symbols.{SoundSymbolTable}
+use Rattle.elf_whole.specs.Sound.{IsSized}
 use Rattle.elf_whole.proofs.Linked.{relocation_inside}
 use Rattle.elf_whole.proofs.Tables.{ok_from_some, symbols_read}
 
@@ -32,9 +33,6 @@ module _ {R : Type 0} (symbol_of : R → ℕ) (symbols : Option (Table × List �
   next_relocation rs next r found e same =
       ap (with_symbols symbol_of symbols) (drop_here rs next r e)
       ∙ ap (λ (y : Option (Symbol × List ℕ)). (r, y) ∷ with_symbols symbol_of symbols (drop (next + 1) rs)) (sym same)
-
-  pub no_relocation : (rs : List R) (next : ℕ) → length rs ≤ next → with_symbols symbol_of symbols (drop next rs) ≡ []
-  no_relocation rs next past = ap (with_symbols symbol_of symbols) (drop_all next rs past)
 
 -- ---- symbols that can be read with their names
 
@@ -66,8 +64,8 @@ all_have {R = R} symbol_of symbols rs read inside = λ i found e.
     (some_from_ok (named_symbol symbols.0 symbols.1 (symbol_of m.0)) (read (symbol_of m.0) (inside i m.0 m.1)))
 
 -- those of a sound section that is linked to symbols
-pub section_has : {R : Type 0} (reads : RecordType R) (symbol_of : R → ℕ) (file : ObjectFile) (s : SectionHeader) (bytes : List ℕ) (symbols : Table × List ℕ) → SoundRelocations reads symbol_of file s → content file s ≡ Ok bytes → linked_symbols file s ≡ Ok (Some symbols) → ((i : ℕ) → slice_get (table_items reads (table_of file bytes)) i ≡ result_ok (table_get reads (table_of file bytes) i)) → ((i : ℕ) → i < table_len symbol_reads symbols.0 → IsOk (named_symbol symbols.0 symbols.1 i)) → AllHaveSymbols (with_symbols symbol_of (Some symbols) (table_items reads (table_of file bytes)))
-section_has reads symbol_of file s bytes symbols sound there linked listed read =
+pub section_has : {R : Type 0} (reads : RecordType R) (symbol_of : R → ℕ) (file : ObjectFile) → IsSized file → (s : SectionHeader) (bytes : List ℕ) (symbols : Table × List ℕ) → SoundRelocations reads symbol_of file s → content file s ≡ Ok bytes → linked_symbols file s ≡ Ok (Some symbols) → ((i : ℕ) → slice_get (table_items reads (table_of file bytes)) i ≡ result_ok (table_get reads (table_of file bytes) i)) → ((i : ℕ) → i < table_len symbol_reads symbols.0 → IsOk (named_symbol symbols.0 symbols.1 i)) → AllHaveSymbols (with_symbols symbol_of (Some symbols) (table_items reads (table_of file bytes)))
+section_has reads symbol_of file sized s bytes symbols sound there linked listed read =
     let t = table_of file bytes in
     all_have symbol_of symbols (table_items reads t) read
-    (λ i r e. relocation_inside reads symbol_of file s bytes i r symbols sound there (ok_from_some (table_get reads t i) r (sym (listed i) ∙ e)) linked)
+    (λ i r e. relocation_inside reads symbol_of file sized s bytes i r symbols sound there (ok_from_some (table_get reads t i) r (sym (listed i) ∙ e)) linked)

@@ -1,15 +1,15 @@
 -- What is found among the segments of a file that are sound.
-use Rattle.std.proofs.Common.{◌≡◌, ℕ, ◌+◌, ◌==◌, Bool, true, false, List, [], ◌∷◌, drop, Option, Some, None, Result, Ok, Err, refl, ap, sym, ◌∙◌, subst, rules, tests, if◌then◌else◌}
+use Rattle.std.proofs.Common.{◌≡◌, ℕ, ◌+◌, ◌==◌, List, [], ◌∷◌, drop, Option, Some, None, Result, Ok, Err, refl, ap, ◌∙◌, subst, rules, tests}
 use Rattle.std.proofs.lemmas.Option.{slice_get_within}
-use Rattle.std.specs.List.{find, slice_get}
-use Rattle.std.specs.Option.{IsSome, MatchOption, option_map}
+use Rattle.std.specs.List.{slice_get}
+use Rattle.std.specs.Option.{IsSome, option_map}
 use Rattle.std.specs.Result.{IsOk, IsOkAnd, result_ok, result_unwrap_or}
 use Rattle.elf_records.specs.Number.{ok_map}
 use Rattle.elf_records.specs.declared.parse.ParseError.{ParseError}
 use Rattle.elf_records.specs.declared.segment.ProgramHeader.{ProgramHeader}
 use Rattle.elf.specs.Headers.{first_segment_of}
 use Rattle.elf.specs.ObjectFile.{ObjectFile}
-use Rattle.elf_whole.specs.SegmentsBytes.{AllRead, with_bytes}
+use Rattle.elf_whole.specs.SegmentsBytes.{with_bytes}
 use Rattle.elf_whole.specs.Segments.{SoundSegment, SoundSegments, segment_bytes}
 use Rattle.elf_whole.proofs.Firsts.{found_at}
 use Rattle.elf_whole.proofs.Relocated.{drop_here}
@@ -51,6 +51,3 @@ pub next_segment : (file : ObjectFile) (ps : List ProgramHeader) (next : ℕ) (p
 next_segment file ps next p bytes e read =
     ap (with_bytes file) (drop_here ps next p e)
     ∙ ap (λ (r : Result (List ℕ) ParseError). (p, result_unwrap_or r []) ∷ with_bytes file (drop (next + 1) ps)) read
-
-pub all_read : (file : ObjectFile) (segments : List ProgramHeader) → segments ≡ file.segments → SoundSegments file → AllRead file segments
-all_read file segments is sound = λ i p e. (member_sound file i p (subst (λ (xs : List ProgramHeader). slice_get xs i ≡ Some p) is e) sound).bytes

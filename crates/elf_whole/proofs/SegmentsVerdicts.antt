@@ -1,5 +1,5 @@
 -- That a fault which is true of a file means that its segments are not sound.
-use Rattle.std.proofs.Common.{◌≡◌, ◌⊎◌, ℕ, ◌<◌, Bool, true, false, List, Option, MatchOption, Some, None, Result, Ok, Err, refl, inl, inr, arith}
+use Rattle.std.proofs.Common.{◌≡◌, ◌⊎◌, ℕ, ◌<◌, Bool, true, false, List, Option, Some, None, Result, Ok, Err, refl, inl, inr, arith}
 use Rattle.std.proofs.lemmas.Option.{slice_get_within}
 use Rattle.std.specs.List.{slice_get}
 use Rattle.std.specs.Option.{IfSome, IsSomeAnd}
@@ -9,13 +9,10 @@ use Rattle.elf_records.specs.declared.segment.ProgramHeader.{ProgramHeader}
 use Rattle.elf.specs.Headers.{first_section_of}
 use Rattle.elf.specs.ObjectFile.{ObjectFile}
 use Rattle.elf_whole.specs.Notes.{IsNoNote, NotesFill}
-use Rattle.elf_whole.specs.Segments.{EndsWithNul, IsRangeOf, LoadsRise, NoneFollows, SoundDynamicSegment, SoundSegment, SoundSegments, SoundTypes, has_null, memory_end, pt_interp, pt_phdr, pt_tls, segment_bytes}
-use Rattle.elf_abi.specs.Values.{pt_dynamic}
-use Rattle.elf_whole.specs.SegmentsFaults.{IsFirstOverlap, IsFirstPair, IsFirstUnsound, IsTrueOfDynamic, IsTrueOfSegment, IsTrueOfSegments, IsTrueOfTypes}
+use Rattle.elf_whole.specs.Segments.{EndsWithNul, IsRangeOf, LoadsRise, NoneFollows, SoundDynamicSegment, SoundSegment, has_null, memory_end, pt_tls, segment_bytes}
+use Rattle.elf_whole.specs.SegmentsFaults.{IsFirstOverlap, IsFirstPair, IsTrueOfDynamic, IsTrueOfSegment}
 use Rattle.elf_whole.specs.declared.segments.faults.SegmentFault.{SegmentFault}
 use Rattle.elf_whole.specs.declared.segments.faults.SegmentFault.TheVariants.{EntriesWithoutEnd, FileSize, NoBytes, NoLastNul, NoNote, OtherSection, PartOfEntry, PastAddresses}
-use Rattle.elf_whole.specs.declared.segments.faults.SegmentsFault.{SegmentsFault}
-use Rattle.elf_whole.specs.declared.segments.faults.SegmentsFault.TheVariants.{OverlappingLoad, PhdrAfterLoad, SecondDynamic, SecondInterp, SecondPhdr, SecondTls, Segment}
 
 -- ---- results and options
 
@@ -46,11 +43,7 @@ true_dynamic file p EntriesWithoutEnd t sound =
     both_and (λ bytes. has_null file bytes ≡ true) (λ bytes. has_null file bytes ≡ false) (segment_bytes file p) (sound.ended t.1) t.2 (λ bytes yes no. not_both (has_null file bytes) yes no)
 true_dynamic file p OtherSection t sound =
     if_and (λ s. IsRangeOf s p) (first_section_of sht_dynamic file.sections) (sound.same t.1) t.3
-true_dynamic file p NoBytes t sound = t
-true_dynamic file p FileSize t sound = t
-true_dynamic file p PastAddresses t sound = t
-true_dynamic file p NoLastNul t sound = t
-true_dynamic file p (NoNote offset) t sound = t
+true_dynamic file p fault t sound = t
 
 large_load : (file : ObjectFile) (p : ProgramHeader) → SoundSegment file p → (p.p_type ≡ pt_load) ⊎ (p.p_type ≡ pt_tls) → p.p_memsz < p.p_filesz → ⊥
 large_load file p sound (inl load) more = let fits = (sound.load load).0 in absurd (omega (arith, fits, more))
@@ -78,36 +71,9 @@ true_pair earlier later segments first index pair none =
     value_and (λ q. q.p_type ≡ later) (slice_get segments index) pair.later_one.here (λ q d u.
     none first index p q (let from = pair.later_one.from in omega (arith, from)) e d t u))
 
-true_types : (segments : List ProgramHeader) (fault : SegmentsFault) → IsTrueOfTypes segments fault → SoundTypes segments → ⊥
-true_types segments (SecondInterp first index) t sound = true_pair pt_interp pt_interp segments first index t sound.interp
-true_types segments (SecondDynamic first index) t sound = true_pair pt_dynamic pt_dynamic segments first index t.1 sound.dynamic
-true_types segments (SecondPhdr first index) t sound = true_pair pt_phdr pt_phdr segments first index t.2 sound.phdr
-true_types segments (SecondTls first index) t sound = true_pair pt_tls pt_tls segments first index t.3 sound.tls
-true_types segments (PhdrAfterLoad first index) t sound = true_pair pt_load pt_phdr segments first index t.4 sound.phdr_first
-true_types segments (Segment index p_type fault) t sound = t
-true_types segments (OverlappingLoad first index) t sound = t
-
 pub true_overlap : (segments : List ProgramHeader) (first index : ℕ) → IsFirstOverlap segments first index → LoadsRise segments → ⊥
 true_overlap segments first index overlap rise =
     value_and (λ p. (p.p_type ≡ pt_load) × IsSomeAnd (slice_get segments index) (λ q. (q.p_type ≡ pt_load) × (q.p_vaddr < memory_end p))) (slice_get segments first) overlap.here (λ p e t.
     value_and (λ q. (q.p_type ≡ pt_load) × (q.p_vaddr < memory_end p)) (slice_get segments index) t.1 (λ q d u.
     let least = rise first index p q overlap.earlier (slice_get_within segments index q d) e d t.0 u.0 in
     let less = u.1 in absurd (omega (arith, least, less))))
-
-true_unsound : (file : ObjectFile) (index p_type : ℕ) (fault : SegmentFault) → IsFirstUnsound file index p_type fault → SoundSegments file → ⊥
-true_unsound file index p_type fault bad sound =
-    value_and (λ p. (p.p_type ≡ p_type) × IsTrueOfSegment file p fault) (slice_get file.segments index) bad.here (λ p e t.
-    true_segment file p fault t.1 (sound.each index p (slice_get_within file.segments index p e) e))
-
-pub true_segments : (file : ObjectFile) (fault : SegmentsFault) → IsTrueOfSegments file fault → SoundSegments file → ⊥
-true_segments file (Segment index p_type fault) t sound = true_unsound file index p_type fault t.1 sound
-true_segments file (OverlappingLoad first index) t sound = true_overlap file.segments first index t.1.1 sound.loads
-true_segments file (SecondInterp first index) t sound = true_types file.segments (SecondInterp first index) t sound.types
-true_segments file (SecondDynamic first index) t sound = true_types file.segments (SecondDynamic first index) t sound.types
-true_segments file (SecondPhdr first index) t sound = true_types file.segments (SecondPhdr first index) t sound.types
-true_segments file (SecondTls first index) t sound = true_types file.segments (SecondTls first index) t sound.types
-true_segments file (PhdrAfterLoad first index) t sound = true_types file.segments (PhdrAfterLoad first index) t sound.types
-
-pub verdict : (file : ObjectFile) (r : Option SegmentsFault) → MatchOption r (SoundSegments file) (IsTrueOfSegments file) → MatchOption r (SoundSegments file) (λ fault. (¬ SoundSegments file) × IsTrueOfSegments file fault)
-verdict file None sound = sound
-verdict file (Some fault) t = (λ sound. true_segments file fault t sound, t)

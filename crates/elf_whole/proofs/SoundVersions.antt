@@ -1,6 +1,6 @@
 -- What is read of versions that are sound.
-use Rattle.std.proofs.Common.{◌≡◌, ℕ, List, map, Option, Some, None, Result, Ok, Err, refl, ap, sym, ◌∙◌, subst}
-use Rattle.std.specs.Option.{IfSome, option_map}
+use Rattle.std.proofs.Common.{◌≡◌, ℕ, List, Option, Some, None, Result, Ok, Err, refl, ap, ◌∙◌, subst}
+use Rattle.std.specs.Option.{IfSome}
 use Rattle.std.specs.Result.{IsOk, IsOkAnd}
 use Rattle.elf_records.specs.Number.{ok_map}
 use Rattle.elf_records.specs.Record.{◌>>=◌}
@@ -14,8 +14,8 @@ use Rattle.elf_whole.specs.versions.Indexes.{SoundVersionTable, TextDefinitions,
 use Rattle.elf_whole.specs.versions.Records.{SoundDefs, SoundNeeds, def_links, need_links}
 use Rattle.elf_whole.proofs.Texts.{text_definitions, text_needs}
 use Rattle.elf.specs.Answers.{symbol_version_table}
-use Rattle.elf.specs.Headers.{if_found, section_range}
-use Rattle.elf.specs.ObjectFile.{ObjectFile, table_of}
+use Rattle.elf.specs.Headers.{if_found}
+use Rattle.elf.specs.ObjectFile.{ObjectFile, section_part, table_of}
 use Rattle.elf.specs.Versions.{linked_strings, version_definitions, version_indexes, version_needs, versions_of}
 use Rattle.elf_reading.specs.Versions.{version_sections}
 use Rattle.elf_reading.specs.declared.versions.VersionSections.{VersionSections}
@@ -24,7 +24,7 @@ use Rattle.elf_whole.specs.versions.InFile.{AreAsMany, SoundDefsOf, SoundIndexes
 at_ok : {A E : Type 0} (P : A → Type 0) (r : Result A E) (x : A) → r ≡ Ok x → IsOkAnd r P → P x
 at_ok {A = A} {E = E} P r x e h = subst (λ (q : Result A E). IsOkAnd q P) e h
 
-both_read : (file : ObjectFile) (s : SectionHeader) (bytes strings : List ℕ) → section_range file.bytes s ≡ Ok bytes → linked_strings file s ≡ Ok strings → with_strings file s ≡ Ok (bytes, strings)
+both_read : (file : ObjectFile) (s : SectionHeader) (bytes strings : List ℕ) → section_part file s ≡ Ok bytes → linked_strings file s ≡ Ok strings → with_strings file s ≡ Ok (bytes, strings)
 both_read file s bytes strings e d =
     ap (λ (r : Result (List ℕ) ParseError). r >>= λ b. ok_map (λ (x : List ℕ). (b, x)) (linked_strings file s)) e ∙ ap (ok_map (λ (x : List ℕ). (bytes, x))) d
 
@@ -33,7 +33,7 @@ both_read file s bytes strings e d =
 needs_of_text : (file : ObjectFile) (s : SectionHeader) (needs : Needs) → version_needs file s ≡ Ok needs → SoundNeedsOf file s → TextNeeds needs
 needs_of_text file s needs e sound =
     let made : List ℕ → List ℕ → Needs = λ bytes strings. record { list = ver_needs (table_of file bytes) s.sh_info 0; strings = strings } in
-    let a = bind-ok {A = List ℕ} {B = Needs} (section_range file.bytes s) (λ bytes. linked_strings file s >>= λ strings. Ok (made bytes strings)) needs e in
+    let a = bind-ok {A = List ℕ} {B = Needs} (section_part file s) (λ bytes. linked_strings file s >>= λ strings. Ok (made bytes strings)) needs e in
     let b = bind-ok {A = List ℕ} {B = Needs} (linked_strings file s) (λ strings. Ok (made a.0 strings)) needs a.2 in
     let same : made a.0 b.0 ≡ needs = cc b.2 in
     let each = at_ok (λ (found : List ℕ × List ℕ). SoundNeeds found.1 (table_of file found.0) s.sh_info) (with_strings file s) (a.0, b.0) (both_read file s a.0 b.0 a.1 b.1) sound in
@@ -50,7 +50,7 @@ needs_text file (Some s) needs e sound =
 defs_of_text : (file : ObjectFile) (s : SectionHeader) (defs : Definitions) → version_definitions file s ≡ Ok defs → SoundDefsOf file s → TextDefinitions defs
 defs_of_text file s defs e sound =
     let made : List ℕ → List ℕ → Definitions = λ bytes strings. record { list = ver_defs (table_of file bytes) s.sh_info 0; strings = strings } in
-    let a = bind-ok {A = List ℕ} {B = Definitions} (section_range file.bytes s) (λ bytes. linked_strings file s >>= λ strings. Ok (made bytes strings)) defs e in
+    let a = bind-ok {A = List ℕ} {B = Definitions} (section_part file s) (λ bytes. linked_strings file s >>= λ strings. Ok (made bytes strings)) defs e in
     let b = bind-ok {A = List ℕ} {B = Definitions} (linked_strings file s) (λ strings. Ok (made a.0 strings)) defs a.2 in
     let same : made a.0 b.0 ≡ defs = cc b.2 in
     let each = at_ok (λ (found : List ℕ × List ℕ). SoundDefs found.1 (table_of file found.0) s.sh_info) (with_strings file s) (a.0, b.0) (both_read file s a.0 b.0 a.1 b.1) sound in

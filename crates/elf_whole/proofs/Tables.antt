@@ -1,10 +1,9 @@
 -- Members of tables that are checked in order.
 use Rattle.std.proofs.Common.{◌≡◌, ◌↔◌, ℕ, ◌+◌, ◌<◌, ◌≤◌, ◌^◌, length, Some, Result, Ok, Err, refl, sym, subst, inl, inr, arith}
 use Rattle.std.proofs.lemmas.Bool.{cases_lt}
-use Rattle.std.specs.Result.{IfOk, IsOk, IsOkAnd, result_ok}
+use Rattle.std.specs.Result.{IsOk, IsOkAnd, result_ok}
 use Rattle.elf_records.specs.Number.{ok_map}
 use Rattle.elf_records.specs.Record.{ReadsWherever, RecordType}
-use Rattle.elf_records.specs.Section.{section_header_layout, section_header_reads}
 use Rattle.elf_records.specs.Symbol.{symbol_layout, symbol_reads}
 use Rattle.elf_records.specs.inner.RecordLaws.{wherever_by}
 use Rattle.elf_records.specs.declared.parse.ParseError.{ParseError}
@@ -21,9 +20,6 @@ is_ok_from r x e = cc
 
 pub ok_and : {A E : Type 0} (P : A → Type 0) (r : Result A E) (x : A) → r ≡ Ok x → P x → IsOkAnd r P
 ok_and {A = A} {E = E} P r x e p = subst (λ (q : Result A E). IsOkAnd q P) (sym e) p
-
-pub ok_if : {A E : Type 0} (P : A → Type 0) (r : Result A E) (x : A) → r ≡ Ok x → P x → IfOk r P
-ok_if {A = A} {E = E} P r x e p = subst (λ (q : Result A E). IfOk q P) (sym e) p
 
 pub ok_from_some : {A E : Type 0} (r : Result A E) (x : A) → result_ok r ≡ Some x → r ≡ Ok x
 ok_from_some (Ok y) x e = cc
@@ -65,6 +61,3 @@ records_read reads wherever t small i =
 
 pub symbols_read : (t : Table) → length t.bytes < 2 ^ 64 → (i : ℕ) → IsOk (symbol_at t i) ↔ (i < table_len symbol_reads t)
 symbols_read t small i = records_read symbol_reads (wherever_by symbol_layout refl) t small i
-
-pub sections_read : (t : Table) → length t.bytes < 2 ^ 64 → (i : ℕ) → IsOk (table_get section_header_reads t i) ↔ (i < table_len section_header_reads t)
-sections_read t small i = records_read section_header_reads (wherever_by section_header_layout refl) t small i

@@ -1,8 +1,7 @@
 -- Names that are text.
-use Rattle.std.proofs.Common.{◌≡◌, ◌↔◌, ℕ, Bool, true, false, List, [], ◌∷◌, ◌++◌, map, Option, Some, None, Result, Ok, Err, IsTrue, refl, ap, sym, ◌∙◌, subst, inl, inr, if◌then◌else◌, ◌==◌}
+use Rattle.std.proofs.Common.{◌≡◌, ◌↔◌, ℕ, Bool, true, false, List, [], ◌∷◌, ◌++◌, map, Some, Result, Ok, Err, refl, subst, if◌then◌else◌, ◌==◌}
 use Rattle.std.specs.List.{AllByRecursion, find}
-use Rattle.std.specs.Result.{IsOk, IsOkAnd}
-use Rattle.std.specs.Str.{IsUtf8, is_utf8}
+use Rattle.std.specs.Result.{IsOk}
 use Rattle.std.proofs.lemmas.Str.{IsUtf8-from_is_utf8, is_utf8-from_IsUtf8}
 use Rattle.elf_records.specs.StringTable.{GivesText}
 use Rattle.elf_records.specs.declared.parse.ParseError.{ParseError}

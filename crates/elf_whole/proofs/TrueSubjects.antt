@@ -6,7 +6,6 @@ use Rattle.std.specs.Result.{IfOk, IsOkAnd, result_ok}
 use Rattle.elf_abi.specs.Values.{pt_dynamic, pt_load}
 use Rattle.elf_records.specs.declared.section.SectionHeader.{SectionHeader}
 use Rattle.elf_reading.specs.Versions.{version_sections}
-use Rattle.elf_reading.specs.declared.versions.VersionSections.{VersionSections}
 use Rattle.elf.specs.Data.{section_data}
 use Rattle.elf.specs.Names.{name_table}
 use Rattle.elf.specs.ObjectFile.{ObjectFile}
@@ -17,7 +16,7 @@ use Rattle.elf_whole.specs.SegmentsFaults.{IsTrueOfSegment}
 use Rattle.elf_whole.specs.versions.InFile.{IsTrueOfDefs, IsTrueOfIndexSection, IsTrueOfNeeds, SoundDefsOf, SoundIndexSection, SoundNeedsOf}
 use Rattle.elf_whole.specs.declared.faults.FileFault.{FileFault}
 use Rattle.elf_whole.specs.declared.faults.SectionFault.{SectionFault}
-use Rattle.elf_whole.specs.declared.faults.SectionFault.TheVariants.{Compressed, Dynamic, Hash, NoBytes, NoLastNul, NoName, NoNote, Relocations, Symbols}
+use Rattle.elf_whole.specs.declared.faults.SectionFault.TheVariants.{Compressed, NoBytes, NoName}
 use Rattle.elf_whole.proofs.SegmentsVerdicts.{not_both, true_overlap, true_pair, true_segment}
 use Rattle.elf_whole.proofs.Verdicts.{ok_not_err, true_content, true_section}
 use Rattle.elf_whole.proofs.VersionFaults.{both_some, true_defs, true_index_section, true_needs}
@@ -28,12 +27,7 @@ true_unnamed : (file : ObjectFile) (s : SectionHeader) (fault : SectionFault) �
 true_unnamed file s NoName t sound = t
 true_unnamed file s NoBytes t sound = ok_not_err (section_data file s) sound.bytes t
 true_unnamed file s Compressed t sound = t.1 sound.plain
-true_unnamed file s NoLastNul t sound = true_content file s NoLastNul t.2 sound.content
-true_unnamed file s (Symbols fault) t sound = true_content file s (Symbols fault) t.2 sound.content
-true_unnamed file s (Relocations fault) t sound = true_content file s (Relocations fault) t.2 sound.content
-true_unnamed file s (Hash fault) t sound = true_content file s (Hash fault) t.2 sound.content
-true_unnamed file s (Dynamic fault) t sound = true_content file s (Dynamic fault) t.2 sound.content
-true_unnamed file s (NoNote offset) t sound = true_content file s (NoNote offset) t.2 sound.content
+true_unnamed file s fault t sound = true_content file s fault t.2 sound.content
 
 by_names : {N : Type 0} (file : ObjectFile) (s : SectionHeader) (fault : SectionFault) (names : Option N) → MatchOption names (IsTrueOfUnnamed file s fault) (λ n. IsTrueOfSection file s fault) → MatchOption names (SoundUnnamed file s) (λ n. SoundSection file s) → ⊥
 by_names file s fault None t sound = true_unnamed file s fault t sound

@@ -1,5 +1,5 @@
 -- A fault that is true of a file means that the file is not sound.
-use Rattle.std.proofs.Common.{◌≡◌, ◌≢◌, ℕ, ◌%◌, ◌<◌, List, length, Option, Some, None, Result, Ok, Err, MatchOption, IsTrue, refl, ap, ◌∙◌, subst, inl, inr, arith}
+use Rattle.std.proofs.Common.{◌≡◌, ◌≢◌, ℕ, ◌%◌, ◌<◌, List, length, Option, Some, None, Result, Ok, Err, IsTrue, refl, ap, ◌∙◌, subst, inl, inr, arith}
 use Rattle.std.specs.Option.{IsSomeAnd}
 use Rattle.std.specs.Result.{IsErr, IsOk, IsOkAnd, result_ok}
 use Rattle.elf_abi.specs.Values.{sht_strtab}
@@ -18,24 +18,19 @@ use Rattle.elf_check.specs.declared.hashcheck.any.HashKind.{HashKind}
 use Rattle.elf_check.specs.declared.hashcheck.any.HashKind.TheVariants.{Gnu, Sysv}
 use Rattle.elf.specs.Answers.{symbols_in, symbols_of, with_linked}
 use Rattle.elf.specs.Data.{content, section_data}
-use Rattle.elf.specs.Names.{name_table}
 use Rattle.elf.specs.ObjectFile.{ObjectFile, table_of}
 use Rattle.elf.specs.Versions.{linked_strings}
 use Rattle.elf_whole.specs.Dynamic.{IsTrueOfDynamic, IsTrueOfEntries, SoundDynamic, SoundEntries, before_null, has_its_string}
-use Rattle.elf_whole.specs.Faults.{IsTrueOfFile}
 use Rattle.elf_whole.specs.Hashes.{IsTrueOfHash, SoundHash, hash_object}
 use Rattle.elf_whole.specs.Members.{AllSound, IsFirstFault}
 use Rattle.elf_whole.specs.Notes.{IsNoNote, NotesFill}
 use Rattle.elf_whole.specs.Relocations.{IsTrueOfRelocations, IsTrueOfTable, NamesNone, SoundRelocationTable, SoundRelocations, symbols_to_name}
-use Rattle.elf_whole.specs.Sections.{IsPlain, IsTrueOfContent, IsTrueOfSection, SoundContent, SoundSection, section_name}
-use Rattle.elf_whole.specs.Sound.{SoundFile}
+use Rattle.elf_whole.specs.Sections.{IsTrueOfContent, IsTrueOfSection, SoundContent, SoundSection, section_name}
 use Rattle.elf_whole.specs.Strings.{IsEmptyOrEndsWithNul}
 use Rattle.elf_whole.specs.Symbols.{IsTrueOfSymbol, IsTrueOfSymbols, SoundSymbol, SoundSymbolTable, SoundSymbols, holds_symbols, shn_loreserve}
 use Rattle.elf_whole.specs.declared.faults.DynamicFault.{DynamicFault}
 use Rattle.elf_whole.specs.declared.faults.DynamicFault.TheVariants.{NoNull, NoString, NoStrings, PartOfEntry}
 use Rattle.elf_whole.specs.declared.faults.DynamicFault.TheVariants.{EntrySize as EntrySizeOfDynamic, NotLinked as NotLinkedOfDynamic}
-use Rattle.elf_whole.specs.declared.faults.FileFault.{FileFault}
-use Rattle.elf_whole.specs.declared.faults.FileFault.TheVariants.{NoNames, Repeated, Section, Segments, Versions}
 use Rattle.elf_whole.specs.declared.faults.HashSectionFault.{HashSectionFault}
 use Rattle.elf_whole.specs.declared.faults.HashSectionFault.TheVariants.{NoTable, NotLinked, Unsound}
 use Rattle.elf_whole.specs.declared.faults.RelocationsFault.{RelocationsFault}
@@ -48,8 +43,6 @@ use Rattle.elf_whole.specs.declared.faults.SymbolsFault.{SymbolsFault}
 use Rattle.elf_whole.specs.declared.faults.SymbolsFault.TheVariants.{At, BadLink, LinkedToNoStrings, NoSymbols, PartOfSymbol}
 use Rattle.elf_whole.proofs.Entries.{one_fails}
 use Rattle.elf_whole.proofs.Tables.{ok_and, ok_from_some}
-use Rattle.elf_whole.proofs.SegmentsVerdicts.{true_segments}
-use Rattle.elf_whole.proofs.VersionFaults.{true_versions}
 
 -- ---- results
 
@@ -118,8 +111,7 @@ module _ {R : Type 0} (reads : RecordType R) (symbol_of : R → ℕ) where
   true_table symbols t PartOfRelocation true sound = true sound.whole
   true_table symbols t (NoSymbol i symbol) true sound =
       no_first (table_get reads t) (λ r. symbol_of r < symbols) (NamesNone reads symbol_of symbols) i symbol (λ r past below. absurd (omega (arith, past.0, past.1, below))) true.1 sound.named
-  true_table symbols t EntrySize true sound = true
-  true_table symbols t NoLink true sound = true
+  true_table symbols t fault true sound = true
 
   both_there : (file : ObjectFile) (s : SectionHeader) (fault : RelocationsFault) → SoundRelocations reads symbol_of file s → IsSomeAnd (symbols_to_name file s) (λ symbols. IsOkAnd (content file s) (λ bytes. IsTrueOfTable reads symbol_of symbols (table_of file bytes) fault)) → ⊥
   both_there file s fault sound true =
@@ -130,8 +122,7 @@ module _ {R : Type 0} (reads : RecordType R) (symbol_of : R → ℕ) where
   pub true_relocations : (file : ObjectFile) (s : SectionHeader) (fault : RelocationsFault) → IsTrueOfRelocations reads symbol_of file s fault → SoundRelocations reads symbol_of file s → ⊥
   true_relocations file s EntrySize true sound = true sound.size
   true_relocations file s NoLink true sound = none_and (symbols_to_name file s) _ true.1 sound.table
-  true_relocations file s PartOfRelocation true sound = both_there file s PartOfRelocation sound true.1
-  true_relocations file s (NoSymbol i symbol) true sound = both_there file s (NoSymbol i symbol) sound true.1
+  true_relocations file s fault true sound = both_there file s fault sound true.1
 
 true_hash : (kind : HashKind) (file : ObjectFile) (s : SectionHeader) (fault : HashSectionFault) → IsTrueOfHash kind file s fault → SoundHash kind file s → ⊥
 true_hash kind file s NotLinked true sound =
@@ -148,9 +139,7 @@ true_entries strings t PartOfEntry true sound = true sound.whole
 true_entries strings t NoNull true sound = true.1 sound.ends
 true_entries strings t (NoString i) true sound =
     one_fails (has_its_string strings) (before_null (table_items dyn_reads t)) i true.2 sound.read
-true_entries strings t EntrySizeOfDynamic true sound = true
-true_entries strings t NotLinkedOfDynamic true sound = true
-true_entries strings t NoStrings true sound = true
+true_entries strings t fault true sound = true
 
 both_entries : (file : ObjectFile) (s : SectionHeader) (fault : DynamicFault) → SoundDynamic file s → IsOkAnd (content file s) (λ bytes. IsOkAnd (linked_strings file s) (λ strings. IsTrueOfEntries strings (table_of file bytes) fault)) → ⊥
 both_entries file s fault sound true =
@@ -167,9 +156,7 @@ true_dynamic : (file : ObjectFile) (s : SectionHeader) (fault : DynamicFault) �
 true_dynamic file s EntrySizeOfDynamic true sound = true sound.size
 true_dynamic file s NotLinkedOfDynamic true sound = true.1 sound.linked
 true_dynamic file s NoStrings true sound = no_strings file s sound true.2
-true_dynamic file s PartOfEntry true sound = both_entries file s PartOfEntry sound true.2
-true_dynamic file s NoNull true sound = both_entries file s NoNull sound true.2
-true_dynamic file s (NoString i) true sound = both_entries file s (NoString i) sound true.2
+true_dynamic file s fault true sound = both_entries file s fault sound true.2
 
 true_symbols : (file : ObjectFile) (s : SectionHeader) (fault : SymbolsFault) → IsTrueOfSymbols file s fault → SoundSymbols file s → ⊥
 true_symbols file s BadLink t sound =
@@ -198,45 +185,12 @@ true_content file s (NoNote offset) t sound =
 true_content file s (Hash fault) (inl t) sound = true_hash Sysv file s fault t.1 (sound.sysv_hash t.0)
 true_content file s (Hash fault) (inr t) sound = true_hash Gnu file s fault t.1 (sound.gnu_hash t.0)
 true_content file s (Dynamic fault) t sound = true_dynamic file s fault t.1 (sound.dynamic t.0)
-true_content file s NoSectionName t sound = t
-true_content file s NoBytes t sound = t
-true_content file s Compressed t sound = t
+true_content file s fault t sound = t
 
 pub true_section : (file : ObjectFile) (s : SectionHeader) (fault : SectionFault) → IsTrueOfSection file s fault → SoundSection file s → ⊥
 true_section file s NoSectionName t sound = ok_not_err (section_name file s) sound.name t
 true_section file s NoBytes t sound = ok_not_err (section_data file s) sound.bytes t.1
 true_section file s Compressed t sound = t.2 sound.plain
-true_section file s NoLastNul t sound = true_content file s NoLastNul t.content sound.content
-true_section file s (Symbols fault) t sound = true_content file s (Symbols fault) t.content sound.content
-true_section file s (Relocations fault) t sound = true_content file s (Relocations fault) t.content sound.content
-true_section file s (Hash fault) t sound = true_content file s (Hash fault) t.content sound.content
-true_section file s (Dynamic fault) t sound = true_content file s (Dynamic fault) t.content sound.content
-true_section file s (NoNote offset) t sound = true_content file s (NoNote offset) t.content sound.content
-
-pub true_fault : (file : ObjectFile) (fault : FileFault) → IsTrueOfFile file fault → SoundFile file → ⊥
-true_fault file NoNames t sound = ok_not_err (name_table file) sound.names t
-true_fault file (Repeated sh_type) t sound =
-    let none = sound.single in
-    let some = t.1 in
-    absurd (cc (none, some))
-true_fault file (Section i fault) t sound =
-    no_first file.section_at (SoundSection file) (IsTrueOfSection file) i fault (λ s. true_section file s fault) t.2 sound.sections
-true_fault file (Versions fault) t sound = true_versions file fault t.3 sound.versions
-true_fault file (Segments fault) t sound = true_segments file fault t.4 sound.segments
+true_section file s fault t sound = true_content file s fault t.content sound.content
 
 -- ---- the content of a section that is read where it lies
-
-with_plain : (file : ObjectFile) (s : SectionHeader) (fault : SectionFault) → IsOk (section_name file s) → IsOk (section_data file s) → IsPlain s → IsTrueOfContent file s fault → IsTrueOfSection file s fault
-with_plain file s NoSectionName name bytes plain t = absurd t
-with_plain file s NoBytes name bytes plain t = absurd t
-with_plain file s Compressed name bytes plain t = absurd t
-with_plain file s NoLastNul name bytes plain t = record { name = name; bytes = bytes; plain = plain; content = t }
-with_plain file s (Symbols fault) name bytes plain t = record { name = name; bytes = bytes; plain = plain; content = t }
-with_plain file s (Relocations fault) name bytes plain t = record { name = name; bytes = bytes; plain = plain; content = t }
-with_plain file s (Hash fault) name bytes plain t = record { name = name; bytes = bytes; plain = plain; content = t }
-with_plain file s (Dynamic fault) name bytes plain t = record { name = name; bytes = bytes; plain = plain; content = t }
-with_plain file s (NoNote offset) name bytes plain t = record { name = name; bytes = bytes; plain = plain; content = t }
-
-pub of_content : (file : ObjectFile) (s : SectionHeader) (r : Option SectionFault) → IsOk (section_name file s) → IsOk (section_data file s) → IsPlain s → MatchOption r (SoundContent file s) (IsTrueOfContent file s) → MatchOption r (SoundSection file s) (IsTrueOfSection file s)
-of_content file s None name bytes plain h = record { name = name; bytes = bytes; plain = plain; content = h }
-of_content file s (Some fault) name bytes plain h = with_plain file s fault name bytes plain h

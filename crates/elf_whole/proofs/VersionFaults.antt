@@ -52,21 +52,7 @@ index_section file chosen s v None known whole e h =
 index_section file chosen s v (Some NoDynamicSymbols) known whole e h = (whole, known, ok_and (λ x. IsTrueOfIndexes file x NoDynamicSymbols) (versions_of file chosen s) v e h)
 index_section file chosen s v (Some CountOfIndexes) known whole e h = (whole, known, ok_and (λ x. IsTrueOfIndexes file x CountOfIndexes) (versions_of file chosen s) v e h)
 index_section file chosen s v (Some (UnknownIndex i)) known whole e h = (whole, known, ok_and (λ x. IsTrueOfIndexes file x (UnknownIndex i)) (versions_of file chosen s) v e h)
-index_section file chosen s v (Some NeedsUnreadable) known whole e h = absurd h
-index_section file chosen s v (Some NeedsTooLong) known whole e h = absurd h
-index_section file chosen s v (Some DefinitionsTooLong) known whole e h = absurd h
-index_section file chosen s v (Some (FaultyNeeds f)) known whole e h = absurd h
-index_section file chosen s v (Some DefinitionsUnreadable) known whole e h = absurd h
-index_section file chosen s v (Some (FaultyDefinitions f)) known whole e h = absurd h
-index_section file chosen s v (Some PartOfIndex) known whole e h = absurd h
-index_section file chosen s v (Some IndexesUnreadable) known whole e h = absurd h
-
--- the same after the needs and the definitions
-pub all_parts : (file : ObjectFile) (chosen : VersionSections) (s : SectionHeader) (v : Versions) (r : Option VersionsFault) → KnowsVersions file chosen → s.sh_size % version_index_reads.size file.class ≡ 0 → versions_of file chosen s ≡ Ok v → MatchOption r (SoundIndexesOf file v) (IsTrueOfIndexes file v) → MatchOption r (SoundVersionsOf file chosen s) (IsTrueOfVersionsOf file chosen s)
-all_parts file chosen s v None known whole e h =
-    record { needs = known.0; definitions = known.1; whole = whole; indexes = ok_and (SoundIndexesOf file) (versions_of file chosen s) v e h }
-all_parts file chosen s v (Some fault) known whole e h =
-    inr (inr (known, index_section file chosen s v (Some fault) known whole e h))
+index_section file chosen s v (Some fault) known whole e h = absurd h
 
 -- ---- a true fault
 
@@ -99,31 +85,17 @@ true_needs file s (FaultyNeeds fault) sound t =
 true_needs file s NeedsTooLong sound t =
     both_and (λ found. SoundNeeds found.1 (table_of file found.0) s.sh_info) (λ found. length found.0 < total_extent need_extent (need_links (table_of file found.0) s.sh_info)) (with_strings file s) sound t
     (λ found is not. let fit = is.fit in absurd (omega (arith, fit, not)))
-true_needs file s DefinitionsUnreadable sound t = t
-true_needs file s DefinitionsTooLong sound t = t
-true_needs file s (FaultyDefinitions f) sound t = t
-true_needs file s PartOfIndex sound t = t
-true_needs file s IndexesUnreadable sound t = t
-true_needs file s NoDynamicSymbols sound t = t
-true_needs file s CountOfIndexes sound t = t
-true_needs file s (UnknownIndex i) sound t = t
+true_needs file s fault sound t = t
 
 pub true_defs : (file : ObjectFile) (s : SectionHeader) (fault : VersionsFault) → SoundDefsOf file s → IsTrueOfDefs file s fault → ⊥
 true_defs file s DefinitionsUnreadable sound t = and_not_err _ (with_strings file s) sound t
 true_defs file s DefinitionsTooLong sound t =
     both_and (λ found. SoundDefs found.1 (table_of file found.0) s.sh_info) (λ found. length found.0 < total_extent def_extent (def_links (table_of file found.0) s.sh_info)) (with_strings file s) sound t
     (λ found is not. let fit = is.fit in absurd (omega (arith, fit, not)))
-true_defs file s NeedsTooLong sound t = t
 true_defs file s (FaultyDefinitions fault) sound t =
     both_and (λ found. SoundDefs found.1 (table_of file found.0) s.sh_info) (λ found. (total_extent def_extent (def_links (table_of file found.0) s.sh_info) ≤ length found.0) × IsTrueOfChain (λ x. x.vd_next) (SoundDef found.1 (table_of file found.0)) s.sh_info (def_links (table_of file found.0) s.sh_info) fault) (with_strings file s) sound t
     (λ found is not. true_chain (λ x. x.vd_next) (SoundDef found.1 (table_of file found.0)) s.sh_info (def_links (table_of file found.0) s.sh_info) fault not.1 is.chain)
-true_defs file s NeedsUnreadable sound t = t
-true_defs file s (FaultyNeeds f) sound t = t
-true_defs file s PartOfIndex sound t = t
-true_defs file s IndexesUnreadable sound t = t
-true_defs file s NoDynamicSymbols sound t = t
-true_defs file s CountOfIndexes sound t = t
-true_defs file s (UnknownIndex i) sound t = t
+true_defs file s fault sound t = t
 
 known_here : (v : Versions) (i : ℕ) (r : Result VersionIndex ParseError) → index_of v i ≡ r → SoundIndexes v → ok_map (version_with_index v) r ≡ Ok None → ⊥
 known_here v i (Ok version) e known none = let k = known i version e in cc (k, none)
@@ -135,14 +107,7 @@ true_indexes file v CountOfIndexes sound t =
     both_and (λ found. IsSomeAnd found (λ symbols. table_len symbol_reads symbols.0 ≡ table_len version_index_reads v.indexes)) (λ found. IsSomeAnd found (λ symbols. table_len symbol_reads symbols.0 ≢ table_len version_index_reads v.indexes)) (dynamic_symbol_table file) sound.many t
     (λ found is not. both_there (λ symbols. table_len symbol_reads symbols.0 ≡ table_len version_index_reads v.indexes) (λ symbols. table_len symbol_reads symbols.0 ≢ table_len version_index_reads v.indexes) found is not (λ x same other. other same))
 true_indexes file v (UnknownIndex i) sound t = known_here v i (index_of v i) refl sound.known t.1.here
-true_indexes file v NeedsUnreadable sound t = t
-true_indexes file v NeedsTooLong sound t = t
-true_indexes file v DefinitionsTooLong sound t = t
-true_indexes file v (FaultyNeeds f) sound t = t
-true_indexes file v DefinitionsUnreadable sound t = t
-true_indexes file v (FaultyDefinitions f) sound t = t
-true_indexes file v PartOfIndex sound t = t
-true_indexes file v IndexesUnreadable sound t = t
+true_indexes file v fault sound t = t
 
 pub true_index_section : (file : ObjectFile) (chosen : VersionSections) (s : SectionHeader) (fault : VersionsFault) → SoundIndexSection file chosen s → IsTrueOfIndexSection file chosen s fault → ⊥
 true_index_section file chosen s PartOfIndex sound t = t sound.whole

@@ -5,7 +5,7 @@ use Rattle.std.specs.Prelude.{Result, Ok}
 use Rattle.std.specs.Option.{IsSomeAnd, option_and_then}
 use Rattle.std.specs.Result.{IsOkAnd, result_ok}
 use Rattle.elf_records.specs.Class.{address_bits}
-use Rattle.elf_records.specs.Number.{number_at, ok_map}
+use Rattle.elf_records.specs.Number.{number, ok_map}
 use Rattle.elf_records.specs.Record.{◌>>=◌, RecordType, size_by}
 use Rattle.elf_records.specs.Relocation.{rel_reads, rela_reads}
 use Rattle.elf_records.specs.Symbol.{symbol_layout}
@@ -29,7 +29,7 @@ use Rattle.elf_whole.specs.declared.faults.RelocationsFault.TheVariants.{EntrySi
 
 -- e_machine, two bytes at 18 of the file header in both classes
 abbrev pub machine : ObjectFile → Option ℕ
-machine file = result_ok (number_at file.little 2 file.bytes 18)
+machine file = result_ok (ok_map (number file.little) (file.range 18 2))
 
 -- MIPS, by e_machine
 abbrev pub is_mips : Option ℕ → Bool

@@ -8,11 +8,8 @@ use Rattle.elf_abi.specs.Values.{dt_null, pt_dynamic, pt_load, pt_note, sht_dyna
 use Rattle.elf_records.specs.Class.{address_bits}
 use Rattle.elf_records.specs.Dynamic.{dyn_layout, dyn_reads, has_tag}
 use Rattle.elf_records.specs.Record.{size_by}
-use Rattle.elf_records.specs.Table.{table_items, table_view}
-use Rattle.elf_records.specs.Segment.{program_header_reads}
 use Rattle.elf_records.specs.declared.file.Class.{Class}
 use Rattle.elf_records.specs.declared.parse.ParseError.{ParseError}
-use Rattle.elf_records.specs.declared.parse.table.ParsingTable.{ParsingTable}
 use Rattle.elf_records.specs.declared.section.SectionHeader.{SectionHeader}
 use Rattle.elf_records.specs.declared.segment.ProgramHeader.{ProgramHeader}
 use Rattle.elf.specs.Answers.{segment_data}
@@ -159,9 +156,3 @@ pub record SoundSegments (file : ObjectFile) : Type 0 where
   pub types : SoundTypes file.segments
   pub each : EachSound file
   pub loads : LoadsRise file.segments
-
--- ---- the view of a table
-
--- its program headers
-abbrev pub headers_in : {E : Type 0} → ParsingTable E ProgramHeader → List ProgramHeader
-headers_in table = table_items program_header_reads (table_view table)

@@ -1,16 +1,11 @@
 -- Segments with their bytes, as lists.
-use Rattle.std.specs.Prelude.{◌≡◌, ℕ, ◌==◌, Bool, if◌then◌else◌, List, [], map, slice_get, Option, Some, None, IsOk}
+use Rattle.std.specs.Prelude.{ℕ, ◌==◌, Bool, if◌then◌else◌, List, [], map, Option, Some, None}
 use Rattle.std.specs.Result.{result_unwrap_or}
 use Rattle.elf_abi.specs.Values.{pt_note}
 use Rattle.elf_parts.specs.Note.{NoteContent, notes_in}
 use Rattle.elf_records.specs.declared.segment.ProgramHeader.{ProgramHeader}
 use Rattle.elf.specs.ObjectFile.{ObjectFile}
 use Rattle.elf_whole.specs.Segments.{segment_bytes}
-
--- the bytes of each segment can be read
-abbrev pub AllRead : ObjectFile → List ProgramHeader → Type 0
-AllRead file segments =
-    (i : ℕ) (p : ProgramHeader) → slice_get segments i ≡ Some p → IsOk (segment_bytes file p)
 
 -- the bytes of a segment that can be read
 abbrev pub bytes_of : ObjectFile → ProgramHeader → List ℕ

@@ -11,7 +11,7 @@ use Rattle.elf_records.specs.declared.segment.ProgramHeader.{ProgramHeader}
 use Rattle.elf.specs.ElfBytes.{view}
 use Rattle.elf.specs.Headers.{first_segment_of}
 use Rattle.elf.specs.ObjectFile.{ObjectFile, object_file}
-use Rattle.elf_whole.specs.Segments.{headers_in, is_emptied, pt_interp, segment_bytes}
+use Rattle.elf_whole.specs.Segments.{is_emptied, pt_interp, segment_bytes}
 use Rattle.elf_whole.specs.SegmentsBytes.{with_bytes}
 use Rattle.elf_whole.specs.declared.segments.iter.WholeSegmentsIter.{WholeSegmentsIter}
 use Rattle.elf_whole.specs.declared.segments.whole.WholeSegments.{WholeSegments}
@@ -41,4 +41,5 @@ module _ {E : Type 0} {order : EndianGhosts E} {default : DefaultGhosts E} {equa
 
   -- the segments that an iterator has left to yield
   abbrev pub segments_left : (E → Bool) → WholeSegmentsIter E order default equal → List (ProgramHeader × List ℕ)
-  segments_left little s = with_bytes (object_file little (view s.file.now)) (drop s.next (headers_in s.headers))
+  segments_left little s =
+      let file = object_file little (view s.file.now) in with_bytes file (drop s.next file.segments)

@@ -3,5 +3,5 @@ pub mod DynamicProps
 pub mod StringProps
 pub mod SegmentsProps
 pub mod SoundProps
-pub mod Adding
+pub mod Walk
 pub mod Kept

@@ -1,28 +1,16 @@
 //! All faults of a file.
-ghost use Rattle.std.specs.Prelude.{◌≡◌, ◌++◌, IfOk, OnOk, option_to_list};
+ghost use Rattle.std.specs.Prelude.{IfOk};
 ghost use Rattle.elf.specs.ElfBytes.{view};
 ghost use Rattle.elf.specs.ObjectFile.{object_file};
 ghost use Rattle.elf_whole.specs.AllFaults.{AreAllFaults};
 
 use crate::faults::FileFault;
-use crate::sections::{add_sections, section_count};
-use crate::segments::add_segments;
-use crate::versions::add_versions;
+use crate::listed::sections_are_listed;
+use crate::walk::give_faults;
 use elf::ElfBytes;
 use elf::endian::EndianParse;
 use elf::gnu_symver::{Needed, VerDefIterator};
 use std::alloc::{AllocError, Global};
-
-// Adds a fault, if there is one.
-pub(crate) fn add(fault: Option<FileFault>, faults: &mut Vec<FileFault>) -> Result<(), AllocError>
-    ensures { OnOk result (faults.new.items ≡ faults.old.items ++ option_to_list fault) }
-{
-    match fault {
-        Some(fault) => faults.push(fault)?,
-        None => {}
-    }
-    Ok(())
-}
 
 /// Returns all faults of a file, in the order in which `check_file` looks for them: none exactly if the file is sound.
 /// The only error is a failed allocation.
@@ -54,9 +42,8 @@ pub fn all_faults_in<'data, E: EndianParse>(
 ) -> Result<Vec<FileFault>, AllocError>
     ensures { IfOk result (λ faults. AreAllFaults (object_file E.little (view file.now)) faults.items) }
 {
+    sections_are_listed(file);
     let mut faults = Vec::new(alloc);
-    add_sections(file, section_count(file), &mut faults)?;
-    add_versions(file, needed, defined, &mut faults)?;
-    add_segments(file, &mut faults)?;
+    give_faults(file, needed, defined, &mut faults)?;
     Ok(faults)
 }

@@ -5,8 +5,7 @@ ghost use Rattle.std.specs.Result.{result_ok};
 ghost use Rattle.elf_records.specs.StringTable.{strings_view};
 ghost use Rattle.elf.specs.Data.{content};
 ghost use Rattle.elf.specs.ElfBytes.{view};
-ghost use Rattle.elf.specs.Headers.{section_range};
-ghost use Rattle.elf.specs.ObjectFile.{object_file};
+ghost use Rattle.elf.specs.ObjectFile.{object_file, section_part};
 ghost use Rattle.elf_whole.specs.Dynamic.{IsTrueOfDynamic, SoundDynamic};
 
 mod entries;
@@ -19,7 +18,6 @@ use elf::parse::ParseAt;
 use elf::section::SectionHeader;
 use elf::string_table::StringTable;
 use elf::{ElfBytes, abi};
-use elf_records::parse::get_bytes;
 use entries::entries_fault;
 pub(crate) use entries::{is_null, names_string};
 
@@ -29,12 +27,10 @@ pub(crate) fn strings_in<'data, E: EndianParse>(
     shdr: &SectionHeader,
 ) -> Option<StringTable<'data>>
     ensures { option_map strings_view result
-        ≡ result_ok (section_range (object_file E.little (view file.now)).bytes shdr.now) }
+        ≡ result_ok (section_part (object_file E.little (view file.now)) shdr.now) }
 {
-    match get_bytes(file.data(), shdr.sh_offset as usize, shdr.sh_size as usize) {
-        Ok(bytes) => Some(StringTable::new(bytes)),
-        Err(_) => None,
-    }
+    let strings = file.section_range(shdr).ok()?;
+    Some(StringTable::new(strings))
 }
 
 // What a section of dynamic entries lacks.

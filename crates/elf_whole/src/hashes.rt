@@ -10,7 +10,6 @@ ghost use Rattle.elf_whole.specs.Hashes.{IsTrueOfHash, SoundHash};
 ghost use Rattle.elf_whole.specs.Symbols.{holds_symbols};
 
 use crate::faults::HashSectionFault;
-use crate::sections::symbols_in;
 use elf::endian::EndianParse;
 use elf::headers::Headers;
 use elf::section::SectionHeader;
@@ -33,10 +32,7 @@ pub(crate) fn symbols_of<'data, E: EndianParse>(
 ) -> Option<(SymbolTable<'data, E>, StringTable<'data>)>
     ensures { option_map symbols_view result ≡ result_ok (symbols_of (object_file E.little (view file.now)) shdr.now) }
 {
-    match file.with_linked(shdr) {
-        Ok(pair) => symbols_in(file, &pair),
-        Err(_) => None,
-    }
+    file.symbols_of(shdr).ok()
 }
 
 // What a hash section lacks.

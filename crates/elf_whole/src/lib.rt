@@ -15,6 +15,7 @@ mod strings;
 mod symbols;
 mod types;
 mod versions;
+mod walk;
 mod whole;
 
 pub use all::{all_faults, all_faults_in};

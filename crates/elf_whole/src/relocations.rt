@@ -7,7 +7,8 @@ ghost use Rattle.elf_records.specs.Table.{table_get, table_in, table_len, table_
 ghost use Rattle.elf_whole.specs.Members.{AllSound, IsFirstFault};
 ghost use Rattle.elf_whole.specs.Relocations.{IsTrueOfRelocations, IsTrueOfTable, NamesNone, SoundRelocationTable};
 ghost use Rattle.elf_whole.specs.Relocations.{SoundRelocations};
-ghost use Rattle.elf_whole.specs.Relocations.{has_other_info, symbols_counted, symbols_linked, symbols_to_name};
+ghost use Rattle.elf_whole.specs.Relocations.{has_other_info, machine, symbols_counted, symbols_linked};
+ghost use Rattle.elf_whole.specs.Relocations.{symbols_to_name};
 
 use crate::faults::RelocationsFault;
 use crate::hashes::holds_symbols;
@@ -92,10 +93,8 @@ fn table_fault<E: EndianParse, P: Relocation>(
         return Some(RelocationsFault::PartOfRelocation);
     }
     let table = ParsingTable::<E, P>::new(endian, class, bytes);
-    match first_without_symbol(&table, symbols) {
-        Some((index, symbol)) => Some(RelocationsFault::NoSymbol { index, symbol }),
-        None => None,
-    }
+    let (index, symbol) = first_without_symbol(&table, symbols)?;
+    Some(RelocationsFault::NoSymbol { index, symbol })
 }
 
 // How many symbols a section holds, if it holds symbols.
@@ -112,6 +111,16 @@ fn symbols_counted<E: EndianParse>(file: &ElfBytes<'_, E>, linked: &SectionHeade
 // Where the file header has the machine, in bytes.
 const MACHINE: usize = 18;
 
+// The machine, as the bytes of the file header have it.
+#[tactic(auto, unfolding(elf_records::specs::Number::number_at))]
+fn machine<E: EndianParse>(file: &ElfBytes<'_, E>) -> Option<u16>
+    ensures { result ≡ machine (object_file E.little (view file.now)) }
+{
+    let mut offset = MACHINE;
+    let read = file.ehdr.endianness.parse_u16_at(&mut offset, file.data());
+    read.ok()
+}
+
 // Whether relocations have another r_info than the gABI's.
 pub(crate) fn has_other_info<E: EndianParse>(file: &ElfBytes<'_, E>) -> bool
     ensures { result ≡ has_other_info (object_file E.little (view file.now)) }
@@ -121,13 +130,10 @@ pub(crate) fn has_other_info<E: EndianParse>(file: &ElfBytes<'_, E>) -> bool
     }
     match file.ehdr.class {
         Class::ELF32 => false,
-        Class::ELF64 => {
-            let mut offset = MACHINE;
-            match file.ehdr.endianness.parse_u16_at(&mut offset, file.data()) {
-                Ok(e_machine) => e_machine == abi::EM_MIPS,
-                Err(_) => false,
-            }
-        }
+        Class::ELF64 => match machine(file) {
+            Some(e_machine) => e_machine == abi::EM_MIPS,
+            None => false,
+        },
     }
 }
 
@@ -138,10 +144,8 @@ fn symbols_linked<E: EndianParse>(file: &ElfBytes<'_, E>, shdr: &SectionHeader) 
     if shdr.sh_link == 0 {
         return Some(1);
     }
-    match file.section_at(shdr.sh_link as usize) {
-        Ok(linked) => symbols_counted(file, &linked),
-        Err(_) => None,
-    }
+    let linked = file.section_at(shdr.sh_link as usize).ok()?;
+    symbols_counted(file, &linked)
 }
 
 // How many symbols the relocations of a section can name.

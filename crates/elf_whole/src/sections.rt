@@ -1,5 +1,5 @@
 //! The check of sections.
-ghost use Rattle.std.specs.Prelude.{◌≡◌, ◌⊎◌, ◌<◌, ℕ, ◌↔◌, IsTrue, ◌%◌, MatchOption, Ok, IsOk, is_ok, length};
+ghost use Rattle.std.specs.Prelude.{◌≡◌, ◌⊎◌, ◌↔◌, IsTrue, ◌%◌, MatchOption, Ok, is_ok, length};
 ghost use Rattle.std.specs.Option.{option_map};
 ghost use Rattle.std.specs.Result.{result_ok};
 ghost use Rattle.elf_records.specs.Record.{size_by};
@@ -9,22 +9,20 @@ ghost use Rattle.elf.specs.Data.{content};
 ghost use Rattle.elf.specs.ElfBytes.{view};
 ghost use Rattle.elf.specs.Names.{name_table};
 ghost use Rattle.elf.specs.ObjectFile.{object_file};
-ghost use Rattle.elf_whole.specs.Members.{AllSound, IsFirstFault};
+ghost use Rattle.elf_whole.specs.AllFaults.{IsTrueByItself, SectionAt, SectionNames, SoundByItself};
 ghost use Rattle.elf_whole.specs.Sections.{IsTrueOfContent, IsTrueOfSection, SoundContent, SoundSection};
 ghost use Rattle.elf_whole.specs.Symbols.{HoldsSymbols, IsTrueOfSymbols, SoundSymbols};
 ghost use Rattle.elf_whole.specs.Sections.{IsPlain, is_compressed, is_structural, name_in};
 ghost use Rattle.elf_whole.specs.Sections.{IsTrueOfUnnamed, SoundUnnamed};
-
-mod all;
+ghost use Rattle.elf_whole.specs.inner.Walk.{IsFaultIfAny};
 
 use crate::dynamic::dynamic_fault;
-use crate::faults::{SectionFault, SymbolsFault};
+use crate::faults::{FileFault, SectionFault, SymbolsFault};
 use crate::hashes::hash_fault;
 use crate::notes::notes_fault;
 use crate::relocations::relocations_fault;
 use crate::strings::ends_in_nul;
 use crate::symbols::first_bad_symbol;
-pub(crate) use all::add_sections;
 use elf::endian::EndianParse;
 use elf::headers::{Headers, LinkedSections};
 use elf::laws::tables::iter_gives_len_records;
@@ -35,12 +33,13 @@ use elf::string_table::{StringTable, TerminatedStrings};
 use elf::symbol::{Symbol, SymbolTable};
 use elf::{ElfBytes, abi};
 use elf_check::hashcheck::HashKind;
-use elf_records::parse::get_bytes;
+
+/// The names of the sections: `None` if they cannot be read.
+pub(crate) type Names<'data> = Option<Option<TerminatedStrings<'data>>>;
 
 // How many sections a file has.
 pub(crate) fn section_count<E: EndianParse>(file: &ElfBytes<'_, E>) -> usize
-    ensures count { result ≡ length (object_file E.little (view file.now)).sections }
-    ensures below { (i : ℕ) → IsOk ((object_file E.little (view file.now)).section_at i) ↔ (i < result) }
+    ensures { result ≡ length (object_file E.little (view file.now)).sections }
 {
     match file.section_headers() {
         Some(shdrs) => {
@@ -51,19 +50,6 @@ pub(crate) fn section_count<E: EndianParse>(file: &ElfBytes<'_, E>) -> usize
     }
 }
 
-// A section below their number.
-pub(crate) fn section_below<E: EndianParse>(
-    file: &ElfBytes<'_, E>,
-    index: usize,
-    sections: usize,
-) -> SectionHeader
-    requires below { index < sections }
-    requires readable { (i : ℕ) → IsOk ((object_file E.little (view file.now)).section_at i) ↔ (i < sections) }
-    ensures { (object_file E.little (view file.now)).section_at index ≡ Ok result }
-{
-    file.section_at(index).unwrap()
-}
-
 // The symbols of the first section, and the strings of the second, if both ranges lie in the file.
 pub(crate) fn symbols_in<'data, E: EndianParse>(
     file: &ElfBytes<'data, E>,
@@ -72,18 +58,7 @@ pub(crate) fn symbols_in<'data, E: EndianParse>(
     ensures { option_map symbols_view result
         ≡ result_ok (symbols_in (object_file E.little (view file.now)) sections.now) }
 {
-    let (shdr, linked) = sections;
-    let symbols = get_bytes(file.data(), shdr.sh_offset as usize, shdr.sh_size as usize).ok()?;
-    let strings = get_bytes(
-        file.data(),
-        linked.sh_offset as usize,
-        linked.sh_size as usize,
-    )
-    .ok()?;
-    Some((
-        SymbolTable::new(file.ehdr.endianness, file.ehdr.class, symbols),
-        StringTable::new(strings),
-    ))
+    file.symbols_in(sections).ok()
 }
 
 // Whether the bytes of a section are a whole number of symbols.
@@ -223,7 +198,7 @@ fn unnamed_fault<E: EndianParse>(
 }
 
 // What a section lacks.
-pub(crate) fn section_fault<E: EndianParse>(
+fn section_fault<E: EndianParse>(
     file: &ElfBytes<'_, E>,
     names: &Option<TerminatedStrings<'_>>,
     shdr: &SectionHeader,
@@ -240,23 +215,58 @@ pub(crate) fn section_fault<E: EndianParse>(
     unnamed_fault(file, shdr, sections)
 }
 
-// The first section that is not sound, and what it lacks.
-pub(crate) fn first_bad_section<E: EndianParse>(
-    file: &ElfBytes<'_, E>,
-    names: &Option<TerminatedStrings<'_>>,
-) -> Option<(usize, SectionFault)>
-    requires { name_table (object_file E.little (view file.now)) ≡ Ok names.now }
-    ensures { let whole = object_file E.little (view file.now) in
-        MatchOption result (AllSound whole.section_at (SoundSection whole))
-        (λ bad. IsFirstFault whole.section_at (SoundSection whole) (IsTrueOfSection whole) bad.0 bad.1) }
+// The names of the sections.
+pub(crate) fn names_in<'data, E: EndianParse>(file: &ElfBytes<'data, E>) -> Names<'data>
+    ensures { result_ok (name_table (object_file E.little (view file.now))) ≡ result }
 {
-    let sections = section_count(file);
-    for index in 0..sections {
-        let shdr = section_below(file, index, sections);
-        match section_fault(file, names, &shdr, sections) {
-            Some(fault) => return Some((index, fault)),
-            None => {}
-        }
+    match file.section_headers_with_strtab() {
+        Ok((_, names)) => Some(names.map(|names| TerminatedStrings::new(&names))),
+        Err(_) => None,
     }
-    None
+}
+
+// The fault of the names of the sections.
+pub(crate) fn names_fault<E: EndianParse>(file: &ElfBytes<'_, E>) -> Option<FileFault>
+    ensures { IsFaultIfAny (object_file E.little (view file.now)) SectionNames result }
+{
+    match file.section_headers_with_strtab() {
+        Ok(_) => None,
+        Err(_) => Some(FileFault::NoNames),
+    }
+}
+
+// What a section lacks, by itself.
+fn own_fault<E: EndianParse>(
+    file: &ElfBytes<'_, E>,
+    names: &Names<'_>,
+    shdr: &SectionHeader,
+    sections: usize,
+) -> Option<SectionFault>
+    requires named { result_ok (name_table (object_file E.little (view file.now))) ≡ names.now }
+    requires count { sections ≡ length (object_file E.little (view file.now)).sections }
+    ensures { let whole = object_file E.little (view file.now) in
+        MatchOption result (SoundByItself whole shdr.now) (IsTrueByItself whole shdr.now) }
+{
+    match names {
+        Some(names) => section_fault(file, names, shdr, sections),
+        None => unnamed_fault(file, shdr, sections),
+    }
+}
+
+// The fault of the section of an index.
+pub(crate) fn section_fault_at<E: EndianParse>(
+    file: &ElfBytes<'_, E>,
+    names: &Names<'_>,
+    index: usize,
+    sections: usize,
+) -> Option<FileFault>
+    requires named { result_ok (name_table (object_file E.little (view file.now))) ≡ names.now }
+    requires count { sections ≡ length (object_file E.little (view file.now)).sections }
+    ensures { IsFaultIfAny (object_file E.little (view file.now)) (SectionAt index) result }
+{
+    let Ok(shdr) = file.section_at(index) else {
+        return None;
+    };
+    let fault = own_fault(file, names, &shdr, sections)?;
+    Some(FileFault::Section { index, fault })
 }

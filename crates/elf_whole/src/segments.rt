@@ -1,56 +1,42 @@
 //! The check of the segments of a file (gABI, chapters "Program Header" and "Program Loading").
-ghost use Rattle.std.specs.Prelude.{◌≡◌, MatchOption, MatchResult};
+ghost use Rattle.std.specs.Prelude.{◌≡◌, MatchOption, MatchResult, Some};
 ghost use Rattle.elf.specs.ElfBytes.{view};
 ghost use Rattle.elf.specs.ObjectFile.{object_file};
-ghost use Rattle.elf_whole.specs.Segments.{SoundSegments, headers_in};
+ghost use Rattle.elf_whole.specs.Segments.{SoundSegments};
 ghost use Rattle.elf_whole.specs.SegmentsFaults.{IsTrueOfSegments};
 ghost use Rattle.elf_whole.specs.SegmentsWhole.{segments_file};
+ghost use Rattle.elf_whole.specs.declared.faults.FileFault.TheVariants.{Segments};
+ghost use Rattle.elf_whole.specs.declared.segments.faults.SegmentsFault.{SegmentsFault};
 
-use each::first_unsound;
+use crate::faults::FileFault;
+use crate::walk::{First, give_faults_of_segments};
 use elf::ElfBytes;
 use elf::endian::EndianParse;
-use elf::segment::SegmentTable;
-use loads::first_overlap;
-use types::types_fault;
 
-mod all;
 mod dynamic;
 mod each;
 mod faults;
+pub(crate) mod faults_in;
 mod iter;
 mod loads;
 mod plan;
 mod table;
-mod types;
 mod whole;
 
-pub(crate) use all::add_segments;
 pub use faults::{SegmentFault, SegmentsFault};
 pub use iter::WholeSegmentsIter;
 pub use plan::WholeLoads;
+pub(crate) use table::segment_count;
 pub use whole::WholeSegments;
 pub(crate) use whole::notes_of;
 
-// What the segments of a table lack.
-fn table_fault<E: EndianParse>(
-    file: &ElfBytes<'_, E>,
-    table: &SegmentTable<'_, E>,
-) -> Option<SegmentsFault>
-    requires { headers_in table.now ≡ (object_file E.little (view file.now)).segments }
-    ensures { let whole = object_file E.little (view file.now) in
-        MatchOption result (SoundSegments whole) (IsTrueOfSegments whole) }
+// A fault of segments as one.
+fn as_segments(fault: FileFault) -> Option<SegmentsFault>
+    ensures { (own : SegmentsFault) → fault ≡ Segments own → result ≡ Some own }
 {
-    match types_fault(table) {
-        Some(fault) => return Some(fault),
-        None => {}
-    }
-    match first_unsound(file, table) {
-        Some(fault) => return Some(fault),
-        None => {}
-    }
-    match first_overlap(table) {
-        Some((first, index)) => Some(SegmentsFault::OverlappingLoad { first, index }),
-        None => None,
+    match fault {
+        FileFault::Segments(own) => Some(own),
+        _ => None,
     }
 }
 
@@ -66,9 +52,9 @@ pub fn segments_fault<E: EndianParse>(file: &ElfBytes<'_, E>) -> Option<Segments
     ensures { let whole = object_file E.little (view file.now) in
         MatchOption result (SoundSegments whole) (λ fault. (¬ SoundSegments whole) × IsTrueOfSegments whole fault) }
 {
-    match file.segments() {
-        Some(table) => table_fault(file, &table),
-        None => None,
+    match give_faults_of_segments(file, &mut First) {
+        Ok(()) => None,
+        Err(fault) => as_segments(fault),
     }
 }
 

@@ -8,21 +8,19 @@ ghost use Rattle.elf_parts.specs.gnu_symver.Records.{version_index_layout};
 ghost use Rattle.elf_parts.specs.gnu_symver.Table.{versions_view};
 ghost use Rattle.elf.specs.ElfBytes.{view};
 ghost use Rattle.elf.specs.ObjectFile.{object_file};
-ghost use Rattle.elf_whole.specs.versions.InFile.{IsTrueOfDefs, IsTrueOfIndexes, IsTrueOfNeeds, IsTrueOfVersions};
-ghost use Rattle.elf_whole.specs.versions.InFile.{IsTrueOfVersionsOf};
-ghost use Rattle.elf_whole.specs.versions.InFile.{SoundDefsOf, SoundIndexesOf, SoundNeedsOf, SoundVersions};
-ghost use Rattle.elf_whole.specs.versions.InFile.{SoundVersionsOf};
-ghost use Rattle.elf_whole.specs.versions.InFile.{with_strings};
+ghost use Rattle.elf_whole.specs.AllFaults.{Definitions, Indexes, Needs};
+ghost use Rattle.elf_whole.specs.inner.Walk.{IsFaultIfAny};
+ghost use Rattle.elf_whole.specs.versions.InFile.{IsTrueOfDefs, IsTrueOfIndexSection, IsTrueOfIndexes, IsTrueOfNeeds};
+ghost use Rattle.elf_whole.specs.versions.InFile.{KnowsVersions, SoundDefsOf, SoundIndexSection, SoundIndexesOf};
+ghost use Rattle.elf_whole.specs.versions.InFile.{SoundNeedsOf, with_strings};
 ghost use Rattle.elf_whole.specs.Whole.{strings_beside};
 ghost use Rattle.elf_reading.specs.Versions.{version_sections};
 
-mod all;
 mod indexes;
 mod records;
 
 use crate::chains::{chain_fault, do_fit};
-use crate::faults::VersionsFault;
-pub(crate) use all::add_versions;
+use crate::faults::{FileFault, VersionsFault};
 use elf::ElfBytes;
 use elf::endian::EndianParse;
 use elf::gnu_symver::links::Links;
@@ -33,7 +31,6 @@ use elf::headers::{Headers, VersionSections};
 use elf::parse::ParseAt;
 use elf::section::SectionHeader;
 use elf::string_table::StringTable;
-use elf_records::parse::get_bytes;
 use indexes::first_unknown;
 
 // The bytes of a section, and the strings of the section that it links to.
@@ -44,14 +41,9 @@ fn with_strings<'data, E: EndianParse>(
     ensures { option_map strings_beside result ≡ result_ok (with_strings (object_file E.little (view file.now))
         shdr.now) }
 {
-    let bytes = get_bytes(file.data(), shdr.sh_offset as usize, shdr.sh_size as usize).ok()?;
+    let bytes = file.section_range(shdr).ok()?;
     let linked = file.section_at(shdr.sh_link as usize).ok()?;
-    let strings = get_bytes(
-        file.data(),
-        linked.sh_offset as usize,
-        linked.sh_size as usize,
-    )
-    .ok()?;
+    let strings = file.section_range(&linked).ok()?;
     Some((bytes, StringTable::new(strings)))
 }
 
@@ -77,10 +69,7 @@ fn needs_fault<E: EndianParse>(
     if !do_fit(links, bytes.len() as u64) {
         return Some(VersionsFault::NeedsTooLong);
     }
-    match chain_fault(links, count, &strings) {
-        Some(fault) => Some(VersionsFault::FaultyNeeds(fault)),
-        None => None,
-    }
+    chain_fault(links, count, &strings).map(VersionsFault::FaultyNeeds)
 }
 
 // What a section of definitions lacks.
@@ -105,10 +94,7 @@ fn definitions_fault<E: EndianParse>(
     if !do_fit(links, bytes.len() as u64) {
         return Some(VersionsFault::DefinitionsTooLong);
     }
-    match chain_fault(links, count, &strings) {
-        Some(fault) => Some(VersionsFault::FaultyDefinitions(fault)),
-        None => None,
-    }
+    chain_fault(links, count, &strings).map(VersionsFault::FaultyDefinitions)
 }
 
 // What the section of needs lacks, if there is one.
@@ -175,8 +161,18 @@ fn is_whole<E: EndianParse>(file: &ElfBytes<'_, E>, shdr: &SectionHeader) -> boo
     shdr.sh_size % VersionIndex::size_for(file.ehdr.class) as u64 == 0
 }
 
-// What the versions with the indexes of a section lack.
-fn fault_of<'data, E: EndianParse>(
+// Whether it is known which versions there are.
+fn knows_versions<E: EndianParse>(file: &ElfBytes<'_, E>, chosen: &VersionSections) -> bool
+    ensures { IsTrue result ↔ KnowsVersions (object_file E.little (view file.now)) chosen.now }
+{
+    match needs_fault_if(file, &chosen.needs) {
+        Some(_) => false,
+        None => definitions_fault_if(file, &chosen.definitions).is_none(),
+    }
+}
+
+// What a section of version indexes lacks. The indexes are looked up only if it is known which versions there are.
+fn index_section_fault<'data, E: EndianParse>(
     file: &ElfBytes<'data, E>,
     chosen: &VersionSections,
     shdr: &SectionHeader,
@@ -186,18 +182,14 @@ fn fault_of<'data, E: EndianParse>(
     requires chosen { version_sections (object_file E.little (view file.now)).sections ≡ chosen.now }
     requires section { chosen.now.indexes ≡ Some shdr.now }
     ensures { let whole = object_file E.little (view file.now) in
-        MatchOption result (SoundVersionsOf whole chosen.now shdr.now) (IsTrueOfVersionsOf whole chosen.now shdr.now) }
+        MatchOption result (SoundIndexSection whole chosen.now shdr.now) (IsTrueOfIndexSection whole chosen.now
+        shdr.now) }
 {
-    match needs_fault_if(file, &chosen.needs) {
-        Some(fault) => return Some(fault),
-        None => {}
-    }
-    match definitions_fault_if(file, &chosen.definitions) {
-        Some(fault) => return Some(fault),
-        None => {}
-    }
     if !is_whole(file, shdr) {
         return Some(VersionsFault::PartOfIndex);
+    }
+    if !knows_versions(file, chosen) {
+        return None;
     }
     match file.symbol_version_table() {
         Ok(Some(table)) => indexes_fault(file, &table, needed, defined),
@@ -205,18 +197,41 @@ fn fault_of<'data, E: EndianParse>(
     }
 }
 
-// What the versions of a file lack.
-pub(crate) fn versions_fault<'data, E: EndianParse>(
-    file: &ElfBytes<'data, E>,
-    needed: &mut [Option<Needed>],
-    defined: &mut [Option<VerDefIterator<'data, E>>],
-) -> Option<VersionsFault>
-    ensures { let whole = object_file E.little (view file.now) in
-        MatchOption result (SoundVersions whole) (IsTrueOfVersions whole) }
+// The fault of the needs.
+pub(crate) fn needs_fault_in<E: EndianParse>(file: &ElfBytes<'_, E>) -> Option<FileFault>
+    ensures { IsFaultIfAny (object_file E.little (view file.now)) Needs result }
 {
     let chosen = file.version_sections();
     match &chosen.indexes {
-        Some(shdr) => fault_of(file, &chosen, shdr, needed, defined),
+        Some(_) => needs_fault_if(file, &chosen.needs).map(FileFault::Versions),
+        None => None,
+    }
+}
+
+// The fault of the definitions.
+pub(crate) fn definitions_fault_in<E: EndianParse>(file: &ElfBytes<'_, E>) -> Option<FileFault>
+    ensures { IsFaultIfAny (object_file E.little (view file.now)) Definitions result }
+{
+    let chosen = file.version_sections();
+    match &chosen.indexes {
+        Some(_) => definitions_fault_if(file, &chosen.definitions).map(FileFault::Versions),
+        None => None,
+    }
+}
+
+// The fault of the version indexes.
+pub(crate) fn indexes_fault_in<'data, E: EndianParse>(
+    file: &ElfBytes<'data, E>,
+    needed: &mut [Option<Needed>],
+    defined: &mut [Option<VerDefIterator<'data, E>>],
+) -> Option<FileFault>
+    ensures { IsFaultIfAny (object_file E.little (view file.now)) Indexes result }
+{
+    let chosen = file.version_sections();
+    match &chosen.indexes {
+        Some(shdr) => index_section_fault(file, &chosen, shdr, needed, defined).map(
+            FileFault::Versions,
+        ),
         None => None,
     }
 }

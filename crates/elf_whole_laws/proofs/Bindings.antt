@@ -39,7 +39,7 @@ use Rattle.elf_binding.specs.declared.Wanted.TheVariants.{Any, Compatible, Only}
 use Rattle.elf_binding.specs.declared.resolve.ObjectFault.{ObjectFault}
 use Rattle.elf_whole.proofs.SoundVersions.{both_sound}
 use Rattle.elf_whole.proofs.Tables.{records_read, symbols_read}
-use Rattle.elf_whole.specs.Sound.{SoundFile}
+use Rattle.elf_whole.specs.Sound.{IsSized, SoundFile}
 use Rattle.elf_whole_laws.proofs.FileVersions.{dynsyms_small, versions_named}
 use Rattle.elf_whole_laws.proofs.VersionsKnown.{index_read, version_read}
 use Rattle.elf_whole_laws.specs.Bindings.{AreOfSound, BindsAll, IsOfSound}
@@ -119,17 +119,17 @@ record Known (v : Versions) (i : ℕ) : Type 0 where
 at_ok : {A E : Type 0} (P : A → Type 0) (r : Result A E) (x : A) → r ≡ Ok x → IsOkAnd r P → P x
 at_ok {A = A} {E = E} P r x e h = subst (λ (q : Result A E). IsOkAnd q P) e h
 
-index_there : (file : ObjectFile) (v : Versions) (symbols : Table × List ℕ) (i : ℕ) → SoundFile file → dynamic_symbol_table file ≡ Ok (Some symbols) → symbol_version_table file ≡ Ok (Some v) → IsOk (symbol_at symbols.0 i) → IsOk (index_of v i)
-index_there file v symbols i sound e d here =
+index_there : (file : ObjectFile) → IsSized file → (v : Versions) (symbols : Table × List ℕ) (i : ℕ) → SoundFile file → dynamic_symbol_table file ≡ Ok (Some symbols) → symbol_version_table file ≡ Ok (Some v) → IsOk (symbol_at symbols.0 i) → IsOk (index_of v i)
+index_there file sized v symbols i sound e d here =
     let many = at_ok (λ found. IsSomeAnd found (λ (s : Table × List ℕ). table_len symbol_reads s.0 ≡ table_len version_index_reads v.indexes)) (dynamic_symbol_table file) (Some symbols) e (both_sound file v sound.versions d).many in
-    let inside = (symbols_read symbols.0 (dynsyms_small file symbols e) i).0 here in
-    (records_read version_index_reads (wherever_by version_index_layout refl) v.indexes (versions_named file v sound.versions d).small i).1 (omega (arith, inside, many))
+    let inside = (symbols_read symbols.0 (dynsyms_small file sized symbols e) i).0 here in
+    (records_read version_index_reads (wherever_by version_index_layout refl) v.indexes (versions_named file sized v sound.versions d).small i).1 (omega (arith, inside, many))
 
-known : (file : ObjectFile) (v : Versions) (i : ℕ) → SoundFile file → symbol_version_table file ≡ Ok (Some v) → IsOk (index_of v i) → Known v i
-known file v i sound d here =
+known : (file : ObjectFile) → IsSized file → (v : Versions) (i : ℕ) → SoundFile file → symbol_version_table file ≡ Ok (Some v) → IsOk (index_of v i) → Known v i
+known file sized v i sound d here =
     let table = (both_sound file v sound.versions d).table in
     record {
-      version = version_read i v.definitions v.needs (index_of v i) here table.definitions (versions_named file v sound.versions d).definitions table.needs;
+      version = version_read i v.definitions v.needs (index_of v i) here table.definitions (versions_named file sized v sound.versions d).definitions table.needs;
       index = index_read i (index_of v i) here;
     }
 
@@ -199,15 +199,15 @@ chosen_known kind symbols (Some v) name Any result each h =
 
 -- ---- objects of sound files
 
-known_in : (file : ObjectFile) (versions : Option Versions) (symbols : Table × List ℕ) (i : ℕ) → SoundFile file → dynamic_symbol_table file ≡ Ok (Some symbols) → symbol_version_table file ≡ Ok versions → IsOk (symbol_at symbols.0 i) → KnownIn versions i
-known_in file None symbols i sound e d here = tt
-known_in file (Some v) symbols i sound e d here = known file v i sound d (index_there file v symbols i sound e d here)
+known_in : (file : ObjectFile) → IsSized file → (versions : Option Versions) (symbols : Table × List ℕ) (i : ℕ) → SoundFile file → dynamic_symbol_table file ≡ Ok (Some symbols) → symbol_version_table file ≡ Ok versions → IsOk (symbol_at symbols.0 i) → KnownIn versions i
+known_in file sized None symbols i sound e d here = tt
+known_in file sized (Some v) symbols i sound e d here = known file sized v i sound d (index_there file sized v symbols i sound e d here)
 
 object_known : (kind : ReferenceKind) (object : VersionedObject) → IsOfSound object → (name : List ℕ) (wanted : Wanted) (result : Result (Option (ℕ × Symbol)) Unreadable) → IsChosenFor kind object name wanted result → IsOk result
 object_known kind object of name wanted result h =
     let symbols = of_file of.file object.symbols of.made.0 in
     chosen_known kind object.symbols object.versions name wanted result
-    (λ one is. known_in of.file object.versions symbols.0 one.0 of.sound symbols.1 of.made.1
+    (λ one is. known_in of.file of.sized object.versions symbols.0 one.0 of.sound symbols.1 of.made.1
     (subst (λ (t : Table). IsOk (symbol_at t one.0)) symbols.2 (named_there object.symbols name one is))) h
 
 either_known : (over : Bool) (kind : ReferenceKind) (object : VersionedObject) → IsOfSound object → (name : List ℕ) (wanted : Wanted) (result : Result (Option (ℕ × Symbol)) Unreadable) → MatchBool over (result ≡ Ok None) (IsChosenFor kind object name wanted result) → IsOk result

@@ -24,9 +24,9 @@ use Rattle.elf_parts.specs.Note.{notes_in}
 use Rattle.elf_reading.specs.Versions.{is_of_type}
 use Rattle.elf.specs.Answers.{dynamic, section_data_as_notes, section_data_as_relas, section_data_as_rels, section_data_as_strtab, section_dynamic, segment_data, segment_data_as_notes, segment_dynamic, symbols_in, with_linked}
 use Rattle.elf.specs.Data.{content, content_of_type, section_data}
-use Rattle.elf.specs.Headers.{entry_size, first_section_of, first_segment_of, if_found}
+use Rattle.elf.specs.Headers.{first_section_of, first_segment_of, if_found}
 use Rattle.elf.specs.Names.{name_table}
-use Rattle.elf.specs.ObjectFile.{ObjectFile, records_of, table_of}
+use Rattle.elf.specs.ObjectFile.{ObjectFile, entry_size, records_of, table_of}
 use Rattle.elf_check.specs.Object.{IsSound, Object, indexed_count, object_in}
 use Rattle.elf_check.specs.inner.Decisions.{Decided, decide}
 use Rattle.elf_check.specs.declared.hashcheck.any.HashKind.{HashKind}
@@ -81,13 +81,13 @@ typed_same t file s e = ap (λ (b : Bool). if b then content file s else Err (Un
 typed_ok : (t : ℕ) (file : ObjectFile) (s : SectionHeader) → s.sh_type ≡ t → SoundSection file s → IsOk (content_of_type t file s)
 typed_ok t file s e sound = ok_by (content_of_type t file s) (content file s) (typed_same t file s e) (content_ok file s sound)
 
-size_same : (size : ℕ) (s : SectionHeader) → s.sh_entsize ≡ size → entry_size size s ≡ Ok size
-size_same size s e = ap (λ (b : Bool). if b then Ok size else Err (BadEntsize (s.sh_entsize, size))) (eq-eqb s.sh_entsize size e)
+size_same : (file : ObjectFile) (size : ℕ) (s : SectionHeader) → s.sh_entsize ≡ size → entry_size file size s ≡ Ok size
+size_same file size s e = ap (λ (b : Bool). if b then Ok size else Err (BadEntsize (s.sh_entsize, size))) (eq-eqb s.sh_entsize size e)
 
 dynamic_ok : (file : ObjectFile) (s : SectionHeader) → SoundDynamic file s → SoundSection file s → IsOk (section_dynamic file s)
 dynamic_ok file s entries sound =
     ok_by (section_dynamic file s) (ok_map (table_of file) (content file s))
-    (ap (λ (r : Result ℕ ParseError). r >>= λ _. ok_map (table_of file) (content file s)) (size_same (size_by dyn_layout file.class) s entries.size))
+    (ap (λ (r : Result ℕ ParseError). r >>= λ _. ok_map (table_of file) (content file s)) (size_same file (size_by dyn_layout file.class) s entries.size))
     (map_ok (table_of file) (content file s) (content_ok file s sound))
 
 -- ---- segments

@@ -30,7 +30,7 @@ use Rattle.elf_whole.proofs.SoundVersions.{versions_read}
 use Rattle.elf_whole.proofs.Tables.{ok_from_some}
 use Rattle.elf_whole.specs.Hashes.{hash_object}
 use Rattle.elf_whole.specs.Sections.{SoundSection}
-use Rattle.elf_whole.specs.Sound.{SoundFile}
+use Rattle.elf_whole.specs.Sound.{IsSized, SoundFile}
 use Rattle.elf_whole.specs.Symbols.{holds_symbols}
 use Rattle.elf_whole_laws.proofs.Calls.{hash_sound, linked_first}
 use Rattle.elf_whole_laws.specs.Answers.{IsHashSection}
@@ -74,7 +74,7 @@ by_first kind file s (Ok linked) (Some first) e sound =
 by_first kind file s (Ok linked) None e sound = absurd (cc e)
 by_first kind file s (Err x) first e sound = absurd sound
 
-module _ (file : ObjectFile) (sound : SoundFile file) (listed : (i : ℕ) → slice_get file.sections i ≡ result_ok (file.section_at i)) where
+module _ (file : ObjectFile) (sized : IsSized file) (sound : SoundFile file) (listed : (i : ℕ) → slice_get file.sections i ≡ result_ok (file.section_at i)) where
   section_sound : (t : ℕ) (s : SectionHeader) → first_section_of t file.sections ≡ Some s → SoundSection file s
   section_sound t s e =
       let r = found_at (is_of_type t) file.sections s e in sound.sections r.1.0 s (ok_from_some (file.section_at r.1.0) s (sym (listed r.1.0) ∙ r.1.1))
@@ -101,7 +101,7 @@ module _ (file : ObjectFile) (sound : SoundFile file) (listed : (i : ℕ) → sl
 
   pub gives_sound : {C : Type 0} (view : C → VersionedObject) (result : Result (Option C) ObjectFault) → LooksUpDynamic file → GivesVersioned view file result → GivesSound view result
   gives_sound view (Ok None) fit h = tt
-  gives_sound view (Ok (Some object)) fit h = record { file = file; sound = sound; made = h }
+  gives_sound view (Ok (Some object)) fit h = record { file = file; sized = sized; sound = sound; made = h }
   gives_sound view (Err fault) fit (inl h) =
       absurd (by_sections (first_section_of sht_gnu_hash file.sections) (first_section_of sht_hash file.sections) fault (section_sound sht_gnu_hash) (section_sound sht_hash) fit h)
   gives_sound view (Err fault) fit (inr h) = absurd (no_version_fault fault (symbol_version_table file) (versions_read file sound.versions) h.1)

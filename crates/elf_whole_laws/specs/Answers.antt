@@ -90,7 +90,7 @@ sure_answer header file DynSyms = ok_map (unless_none named_text) (dynamic_symbo
 sure_answer header file Versions =
     dynamic_symbol_table file >>= λ symbols.
     ok_map (unless_none (sure_listed (symbol_count symbols))) (symbol_version_table file)
-sure_answer header file (Hash kind i) = of_section header file i (sound_answer kind file)
+sure_answer header file (Hash kind i) = of_section file i (sound_answer kind file)
 sure_answer header file call = call_answer header file call
 
 -- the call has an answer, and this is it

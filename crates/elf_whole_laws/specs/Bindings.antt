@@ -14,11 +14,12 @@ use Rattle.elf_binding.specs.BindingObjects.{GivesVersioned}
 use Rattle.elf_binding.specs.declared.BindingFault.{BindingFault}
 use Rattle.elf_binding.specs.declared.ReferenceKind.{ReferenceKind}
 use Rattle.elf_binding.specs.declared.Wanted.{Wanted}
-use Rattle.elf_whole.specs.Sound.{SoundFile}
+use Rattle.elf_whole.specs.Sound.{IsSized, SoundFile}
 
 -- the object is the hash table of a sound file with the versions of its symbols
 pub record IsOfSound (object : VersionedObject) : Type 0 where
   pub file : ObjectFile
+  pub sized : IsSized file
   pub sound : SoundFile file
   pub made : GivesVersioned (λ (one : VersionedObject). one) file (Ok (Some object))
 

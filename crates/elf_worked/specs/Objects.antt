@@ -1,5 +1,6 @@
 -- Object files as the answers about them take them, by a few headers.
-use Rattle.std.specs.Prelude.{ℕ, true, List, [], ok_or, slice_get}
+use Rattle.std.specs.Prelude.{ℕ, true, List, [], length, ok_or, slice_get}
+use Rattle.elf_records.specs.Number.{bytes_at}
 use Rattle.elf_records.specs.declared.file.Class.TheVariants.{ELF32}
 use Rattle.elf_records.specs.declared.parse.ParseError.TheVariants.{BadOffset}
 use Rattle.elf_records.specs.declared.section.SectionHeader.{SectionHeader}
@@ -70,7 +71,8 @@ object_with bytes sections segments = record {
   little = true;
   class = ELF32;
   e_shstrndx = 0;
-  bytes = bytes;
+  size = length bytes;
+  range = λ start size. bytes_at size bytes start;
   declares_sections = true;
   sections = sections;
   section_at = λ i. ok_or (slice_get sections i) (BadOffset i);

@@ -1,4 +1,6 @@
 //! Which sections are taken, if there are several.
+#![tactic(auto, unfolding(elf_reading::specs::Versions::version_sections))]
+
 ghost use Rattle.std.specs.Prelude.{◌≡◌, [], ◌∷◌, Some, None};
 ghost use Rattle.elf.specs.Headers.{first_section_of};
 ghost use Rattle.elf_reading.specs.Versions.{last_section_of};

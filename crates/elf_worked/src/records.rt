@@ -1,5 +1,7 @@
 //! Symbols, relocations, dynamic entries, compression headers and the headers of hash sections in the bytes 00, 01 and
 //! so on.
+#![tactic(auto, unfolding(elf_records::specs::Number::bytes_at, elf_records::specs::Number::number_at, elf_records::specs::Record::numbers_at))]
+
 ghost use Rattle.std.specs.Prelude.{◌≡◌, [], ◌∷◌, ◌++◌, true, false, pos, negsuc, Ok, Err, take};
 ghost use Rattle.elf_records.specs.Compression.{compression_header_layout};
 ghost use Rattle.elf_records.specs.Dynamic.{dyn_layout};

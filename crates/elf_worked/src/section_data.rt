@@ -1,4 +1,6 @@
 //! The bytes of a section.
+#![tactic(auto, unfolding(elf::specs::Data::section_data, elf_records::specs::Number::bytes_at, elf_records::specs::Number::number_at, elf_records::specs::Record::numbers_at))]
+
 ghost use Rattle.std.specs.Prelude.{◌≡◌, ◌-◌, ◌^◌, [], ◌∷◌, Ok, Err, Some, None};
 ghost use Rattle.elf.specs.Data.{content_of_type, section_data};
 ghost use Rattle.elf_records.specs.declared.parse.ParseError.TheVariants.{IntegerOverflow, SliceReadError};

@@ -22,7 +22,6 @@ use Rattle.elf_calls.specs.Text.{text}
 use Rattle.elf_calls.specs.declared.calls.Call.{Call}
 use Rattle.elf_calls.specs.declared.runs.RunError.{RunError}
 use Rattle.elf_calls.specs.declared.runs.RunError.TheVariants.{Fault, Open, Write}
-use Rattle.elf_calls.proofs.StreamCalls.{inner_refused}
 
 may_fault : (k : Kind) (before now : ℕ) (can_fail : Bool) → IsRefused before now can_fail ⊥ k → MayRefuse can_fail (Unit {0}) ⊥ k
 may_fault Kind.SourceFailure before now can_fail h = h.1
@@ -33,6 +32,10 @@ may_refuse : (k : Kind) (R S P Q : Type 0) (can_fail : Bool) → (R → S) → (
 may_refuse Kind.SourceFailure R S P Q can_fail some none h = h
 may_refuse Kind.AllocationFailure R S P Q can_fail some none h = some h
 may_refuse Kind.Refusal R S P Q can_fail some none h = none h
+
+inner_refused : {A B : Type 0} (f : A → B) (r : Result A ParseError) → IsErr (ok_map f r) → IsErr r
+inner_refused f (Ok x) h = cc
+inner_refused f (Err e) h = refl
 
 inner_opens : {A B : Type 0} (f : A → B) (r : Result A ParseError) → IsOk (ok_map f r) → IsOk r
 inner_opens f (Ok x) h = refl

@@ -11,3 +11,4 @@ pub mod ContentParts
 pub mod RelocationParts
 pub mod Bound
 pub mod Scopes
+pub mod Identified

@@ -1,12 +1,15 @@
 -- The plan of a file, and what is wrong if it has none.
-use Rattle.std.proofs.Common.{◌≡◌, ◌⊎◌, inl, inr, ℕ, ◌<◌, ◌==◌, ◌&&◌, Bool, true, false, List, [], ◌∷◌, ◌++◌, length, Option, Some, None, Result, Ok, Err, refl, sym, ap, ◌∙◌, IfSome, append-nil, arith}
+use Rattle.std.proofs.Common.{◌≡◌, ◌⊎◌, inl, inr, ℕ, ◌<◌, ◌==◌, ◌&&◌, Bool, true, false, List, [], ◌∷◌, ◌++◌, length, Option, Some, None, Result, Ok, Err, refl, sym, ap, subst, ◌∙◌, IfSome, append-nil, arith}
 use Rattle.std.specs.Prelude.{IfErr, IfOk, slice_get}
 use Rattle.std.specs.Global.{Vec}
 use Rattle.std.specs.Option.{IsSomeAnd}
 use Rattle.std.proofs.lemmas.Bool.{false≢true}
 use Rattle.std.proofs.lemmas.Bool.Decides.{nat_tests}
 use Rattle.std.proofs.lemmas.Option.{slice_get_within}
+use Rattle.elf.specs.ElfStream.{StreamView}
+use Rattle.elf.specs.Loaded.{AreLoadedOf, streamed_file}
 use Rattle.elf.specs.ObjectFile.{ObjectFile}
+use Rattle.elf.specs.StreamFile.{stream_file}
 use Rattle.elf_records.specs.declared.file.Class.{Class}
 use Rattle.elf_tools.specs.LoadPlan.{IsPlan, IsTrueOfPlan, fits, is_addressed, is_loadable, lies_in, mappings, overlaps_earlier}
 use Rattle.elf_tools.specs.declared.load_plan.Mapping.{Mapping}
@@ -59,7 +62,7 @@ not_none x xs = grind (arith, nat_tests)
 
 module _ (file : ObjectFile) where
   abbrev IsPlanOf : List Mapping → Type 0
-  IsPlanOf all = IsPlan file.class (length file.bytes) all
+  IsPlanOf all = IsPlan file.class file.size all
 
   -- a plan that was made is told if it has no mappings
   made : (all : List Mapping) (before after : List Place) → mappings file.segments ≡ all → IsPlanOf (mappings file.segments) → after ≡ before ++ at_if (length all == 0) (whole LoadPlan) → IsPlanWrong file before after
@@ -67,14 +70,19 @@ module _ (file : ObjectFile) where
   made (m ∷ all) before after is plan h = inl ((omega (arith, ap length is), plan), h ∙ ap (λ (b : Bool). before ++ at_if b (whole LoadPlan)) (not_none m all) ∙ append-nil before)
 
   -- and an error is always told
-  told : (e : PlanError) (before after : List Place) → (e ≡ Memory → ⊥) → IsTrueOfPlan file.class (length file.bytes) (mappings file.segments) e → after ≡ before ++ whole LoadPlan ∷ [] → IsPlanWrong file before after
-  told e before after some h is = inr ((λ has. no_plan file.class (length file.bytes) (mappings file.segments) e some h has.1), is)
+  told : (e : PlanError) (before after : List Place) → (e ≡ Memory → ⊥) → IsTrueOfPlan file.class file.size (mappings file.segments) e → after ≡ before ++ whole LoadPlan ∷ [] → IsPlanWrong file before after
+  told e before after some h is = inr ((λ has. no_plan file.class file.size (mappings file.segments) e some h has.1), is)
 
   pub planned : (r : Result (Vec Mapping) PlanError) (before after : List Place) → IfOk r (λ plan. (plan.items ≡ mappings file.segments) × IsPlanOf (mappings file.segments))
-      → IfErr r (IsTrueOfPlan file.class (length file.bytes) (mappings file.segments)) → IsPlannedWrong r before after → IsPlanWrong file before after
+      → IfErr r (IsTrueOfPlan file.class file.size (mappings file.segments)) → IsPlannedWrong r before after → IsPlanWrong file before after
   planned (Ok plan) before after ok error h = made plan.items before after (sym ok.0) ok.1 h
   planned (Err (FileSize k)) before after ok error h = told (FileSize k) before after (λ same. cc) error h
   planned (Err (OutsideFile k)) before after ok error h = told (OutsideFile k) before after (λ same. cc) error h
   planned (Err (AddressSpace k)) before after ok error h = told (AddressSpace k) before after (λ same. cc) error h
   planned (Err (Overlap k)) before after ok error h = told (Overlap k) before after (λ same. cc) error h
   planned (Err Memory) before after ok error h = absurd h
+
+-- a stream over known content has the plan of the content
+pub plan_of_content : {E : Type 0} (little : E → Bool) (s : StreamView E) (known : Option (List ℕ)) (before after : List Place) → IfSome known (λ bytes. AreLoadedOf little s bytes) → IsPlanWrong (streamed_file little s) before after → IfSome known (λ bytes. IsPlanWrong (stream_file little s bytes) before after)
+plan_of_content little s None before after of h = tt
+plan_of_content little s (Some bytes) before after of h = subst (λ size. IsPlanWrong (record (stream_file little s []) { size = size }) before after) of.size h

@@ -15,7 +15,7 @@ use Rattle.nugwier_lines.specs.declared.problem.Place.{Place}
 abbrev pub HasPlan : ObjectFile → Type 0
 HasPlan file =
     let all = mappings file.segments in
-    (0 < length all) × IsPlan file.class (length file.bytes) all
+    (0 < length all) × IsPlan file.class file.size all
 
 -- the places after, by those before: one more exactly if a file has no plan
 abbrev pub IsPlanWrong : ObjectFile → List Place → List Place → Type 0

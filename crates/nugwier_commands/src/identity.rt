@@ -10,8 +10,9 @@ ghost use Rattle.nugwier_lines.specs.declared.problem.Part.TheVariants.{BuildId}
 use elf::endian::EndianParse;
 use elf::section::SectionHeader;
 use elf::segment::ProgramHeader;
-use elf::{ElfBytes, ElfStream, StreamSource, abi};
+use elf::{ElfBytes, ElfStream, ParseError, StreamSource, abi};
 use elf_tools::build_id::build_id;
+use elf_tools::laws::part_build_id_as_whole;
 use nugwier_lines::dump::Hex;
 use nugwier_lines::json::{Format, Value, write_object};
 use nugwier_lines::problem::{Fault, Item, Part, Place, Problems, Stop};
@@ -34,9 +35,10 @@ pub(crate) fn list_build_id<E: EndianParse, W: Write>(
     ensures { OnOk result (problems.new ≡ problems.old
         ++ answer_wrong BuildId (build_id (object_file E.little (view file.now)))) }
 {
+    part_build_id_as_whole();
     match build_id(file) {
         Ok(id) => list_found(format, id, out, problems),
-        Err(error) => problems.add(BUILD_ID, Fault::Read(error)),
+        Err(error) => problems.add(BUILD_ID, Fault::Read(ParseError::from(error))),
     }
 }
 

@@ -55,7 +55,7 @@ pub(crate) fn read_names<E: EndianParse, S: StreamSource>(
 {
     match stream.name_section() {
         Ok(Some(section)) => {
-            let names = read_range(alloc, stream, &section)?;
+            let names = read_range(alloc, stream, section.sh_offset, section.sh_size)?;
             Ok(Some(names))
         }
         Ok(None) => Ok(None),
@@ -64,6 +64,7 @@ pub(crate) fn read_names<E: EndianParse, S: StreamSource>(
 }
 
 /// Returns the size of the names of the sections.
+#[tactic(auto, unfolding(elf::specs::Names::name_section))]
 pub(crate) fn names_size<E: EndianParse, S: StreamSource>(stream: &ElfStream<E, S, Global>) -> u64
     ensures { result ≡ names_size (headers_alone E.little stream.now) }
 {

@@ -7,7 +7,7 @@ ghost use Rattle.nugwier_commands.specs.Plan.{IsPlanWrong, IsPlannedWrong};
 
 use elf::endian::EndianParse;
 use elf::{ElfBytes, ElfStream, StreamSource};
-use elf_tools::load_plan::{Mapping, PlanError, load_plan, read_load_plan};
+use elf_tools::load_plan::{Mapping, PlanError, load_plan};
 use nugwier_lines::flags::SegmentFlags;
 use nugwier_lines::json::{Format, Value, write_object};
 use nugwier_lines::problem::{Fault, Item, Part, Place, Problems, Stop};
@@ -44,7 +44,8 @@ pub(crate) fn list_plan_by_parts<E: EndianParse, S: StreamSource, W: Write>(
     ensures { OnOk result (IfSome stream.now.content (λ bytes.
         IsPlanWrong (stream_file E.little stream.now bytes) problems.old problems.new)) }
 {
-    list_planned(alloc, format, read_load_plan(alloc, stream), out, problems)
+    stream.is_part_of_file();
+    list_planned(alloc, format, load_plan(alloc, stream), out, problems)
 }
 
 // Lists a plan. It is wrong if it is empty, or if there is none.

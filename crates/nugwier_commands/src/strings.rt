@@ -2,7 +2,6 @@
 ghost use Rattle.std.specs.Prelude.{◌≡◌, ◌++◌, Ok, IfOk, IfSome, OnOk};
 ghost use Rattle.std.specs.Result.{result_ok};
 ghost use Rattle.std.specs.Vec.{vec_items};
-ghost use Rattle.elf.specs.Answers.{segment_data};
 ghost use Rattle.elf.specs.ElfBytes.{view};
 ghost use Rattle.elf.specs.ElfStream.{Keeps};
 ghost use Rattle.elf.specs.ObjectFile.{object_file};
@@ -20,9 +19,10 @@ ghost use Rattle.nugwier_lines.specs.declared.problem.Part.TheVariants.{DynamicS
 use crate::by_parts::part::ListedPart;
 use elf::dynamic::Dyn;
 use elf::endian::EndianParse;
-use elf::segment::ProgramHeader;
 use elf::string_table::{StringTable, TerminatedStrings};
 use elf::{ElfBytes, ElfStream, ParseError, StreamSource};
+use elf_tools::bindings::reading::read_range;
+use elf_tools::laws::part_names_as_whole;
 use elf_tools::needed::{NamesError, entries_in, read_entries, string_part, strings_of};
 use nugwier_lines::dynamic::{EntryRow, NeededRow, list_heading};
 use nugwier_lines::json::Format;
@@ -54,6 +54,9 @@ pub(crate) enum Shown {
 fn fault_of(error: NamesError) -> Fault {
     match error {
         NamesError::Read(error) | NamesError::Name(error) => Fault::Read(error),
+        NamesError::Missing((start, end)) => {
+            Fault::Read(ParseError::SliceReadError((start as usize, end as usize)))
+        }
         NamesError::NoAddress => Fault::NoAddress,
         NamesError::NoSize => Fault::NoSize,
         NamesError::NotLoaded(address) => Fault::NotLoaded(address),
@@ -143,6 +146,7 @@ fn list_dynamic<E: EndianParse, W: Write>(
     ensures { OnOk result (problems.new ≡ problems.old
         ++ dynamic_wrong shown (object_file E.little (view file.now))) }
 {
+    part_names_as_whole();
     match file.dynamic() {
         Ok(Some(table)) => {
             let entries = entries_in(alloc, &table)?;
@@ -214,28 +218,12 @@ fn read_strings<E: EndianParse, S: StreamSource>(
     ensures strings { IfOk result (λ strings. IfSome stream.old.content (λ bytes.
         strings_by (stream_file E.little stream.old bytes) entries.now ≡ ok_map vec_items strings)) }
 {
-    match string_part(stream.segments().as_slice(), entries) {
-        Ok(part) => {
-            let strings = read_segment(alloc, stream, &part)?;
+    match string_part(&*stream, entries) {
+        Ok((start, size)) => {
+            let strings = read_range(alloc, stream, start, size)?;
             Ok(Ok(strings))
         }
         Err(error) => Ok(Err(error)),
-    }
-}
-
-// The bytes of a segment.
-fn read_segment<E: EndianParse, S: StreamSource>(
-    alloc: Global,
-    stream: &mut ElfStream<E, S, Global>,
-    segment: &ProgramHeader,
-) -> Result<Vec<u8>, ParseError>
-    ensures keeps { Keeps stream.old stream.new }
-    ensures bytes { IfOk result (λ copy. IfSome stream.old.content (λ bytes.
-        segment_data (stream_file E.little stream.old bytes) segment.now ≡ Ok copy.items)) }
-{
-    match stream.segment_data(segment) {
-        Ok(bytes) => Ok(bytes.to_vec(alloc)?),
-        Err(error) => Err(error),
     }
 }
 

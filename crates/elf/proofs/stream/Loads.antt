@@ -1,6 +1,6 @@
 -- Loading a range: its answer at each exit, and what is unchanged after a buffer was inserted or refused.
-use Rattle.std.proofs.Common.{◌≡◌, ℕ, ◌+◌, ◌<◌, ◌≤◌, Bool, List, length, take, drop, refl, ap, arith, Option, Some, None, IfSome}
-use Rattle.std.specs.Prelude.{◌^◌, Result, Ok, Err, IsErr, IsOk, IfErr, is_ok}
+use Rattle.std.proofs.Common.{◌≡◌, ℕ, ◌+◌, ◌<◌, ◌≤◌, Bool, List, length, take, drop, ap, arith, Option, Some, None, IfSome}
+use Rattle.std.specs.Prelude.{◌^◌, Result, Ok, Err, IsOk, IfErr, is_ok}
 use Rattle.elf_records.specs.Number.{bytes_at}
 use Rattle.elf_records.specs.declared.parse.ParseError.{ParseError}
 use Rattle.elf_records.specs.declared.parse.ParseError.TheVariants.{OutOfMemory}

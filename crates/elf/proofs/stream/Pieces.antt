@@ -1,22 +1,18 @@
 -- Finding the part that has a range, and what its bytes are.
-use Rattle.std.proofs.Common.{◌≡◌, ℕ, ◌+◌, ◌-◌, ◌<◌, ◌≤◌, Bool, true, false, ◌&&◌, ◌||◌, List, [], ◌∷◌, length, take, drop, map, refl, sym, ap, ◌∙◌, arith, Option, Some, None, IfSome, leb-true, le-leb, length-drop, length-take, subst}
-use Rattle.std.specs.Prelude.{IsTrue, nat_le, ◌^◌, Result, Ok, IsErr, IsOk, is_ok}
+use Rattle.std.proofs.Common.{◌≡◌, ℕ, ◌+◌, ◌-◌, ◌<◌, ◌≤◌, Bool, true, false, ◌&&◌, ◌||◌, List, [], ◌∷◌, length, take, drop, map, refl, sym, ap, ◌∙◌, arith, Option, Some, None, IfSome, leb-true, le-leb, subst}
+use Rattle.std.specs.Prelude.{IsTrue, nat_le, ◌^◌, Ok}
 use Rattle.std.specs.List.{list_any}
 use Rattle.std.proofs.lemmas.Bool.{and_parts}
 use Rattle.std.proofs.lemmas.List.{take-take, drop-take, drop-drop}
-use Rattle.elf_reading.specs.Cache.{Piece, IsPartOf, covers, range_of, IsOf, IsSoundCache}
+use Rattle.elf_reading.specs.Cache.{Piece, covers, range_of, IsOf, IsSoundCache}
 use Rattle.elf_reading.specs.Cache.{is_cached}
 use Rattle.elf_records.specs.Number.{bytes_at}
-use Rattle.std.proofs.lemmas.Bool.Decides.{nat_tests}
 use Rattle.std.proofs.lemmas.List.Folds.{Any-from_list_any}
-use Rattle.std.proofs.lemmas.List.Elements.{All-contains}
-use Rattle.elf_reading.proofs.steps.Ranges.{one_value, read_is_within, read_within}
+use Rattle.elf_reading.proofs.steps.Ranges.{read_within}
 
-list_any-map : {X Y : Type 0} (f : X → Y) (t : Y → Bool) (xs : List X) → list_any t (map f xs) ≡ list_any (λ x. t (f x)) xs
+pub list_any-map : {X Y : Type 0} (f : X → Y) (t : Y → Bool) (xs : List X) → list_any t (map f xs) ≡ list_any (λ x. t (f x)) xs
 list_any-map f t [] = refl
 list_any-map f t (x ∷ xs) = ap (λ b. t (f x) || b) (list_any-map f t xs)
-
--- ---- a range of a content
 
 -- ---- a part that has a range
 
@@ -55,33 +51,6 @@ sound_cached None len ps start size count sound low cached = tt
 sound_cached (Some bytes) len ps start size count sound low cached =
     let a = Any-from_list_any (covers start (start + size)) ps (sym (list_any-map range_of _ ps) ∙ cached) in
     (refl, read_within bytes start size low (piece_within bytes a.1 start (start + size) (subst (IsOf bytes) a.3 (sound.parts a.0 a.1 a.2)) (reaches a.1 start (start + size) a.4)))
-
--- the bytes of a range within one of the parts are the content's
-pub part_bytes : (known : Option (List ℕ)) (len : ℕ) (ps : List Piece) (start size : ℕ) (part : List ℕ) → IsSoundCache known len ps → start + size < 2 ^ 64 → IsPartOf ps start (start + size) part
-    → IfSome known (λ bytes. bytes_at size bytes start ≡ Ok part)
-part_bytes None len ps start size part sound low at = tt
-part_bytes (Some bytes) len ps start size part sound low at =
-    let p : Piece = at.0 in
-    let of : IsOf bytes p = All-contains (IsOf bytes) ps p sound.parts at.1 in
-    let reach : Reaches p start (start + size) = reaches p start (start + size) at.2 in
-    let long : start + size - start ≡ size = omega arith in
-    read_within bytes start size low (piece_within bytes p start (start + size) of reach)
-    ∙ ap Ok (sym (piece_bytes bytes p start size of reach) ∙ ap (λ n. take n (drop (start - p.start) p.bytes)) (sym long) ∙ sym at.3)
-
--- the bytes of a range are no more than the content's
-shorter : (bytes part : List ℕ) (start size : ℕ) → bytes_at size bytes start ≡ Ok part → length part ≤ length bytes
-shorter bytes part start size is =
-    let there = read_is_within bytes start size (ap is_ok is) in
-    let same = one_value (bytes_at size bytes start) (take size (drop start bytes)) part (read_within bytes start size there.0 there.1) is in
-    subst (λ part. length part ≤ length bytes) same (simp (length-take, length-drop) (omega arith))
-
-pub part_within : (known : Option (List ℕ)) (start size : ℕ) (part : List ℕ) → IfSome known (λ bytes. bytes_at size bytes start ≡ Ok part) → IfSome known (λ bytes. length part ≤ length bytes)
-part_within None start size part h = tt
-part_within (Some bytes) start size part h = shorter bytes part start size h
-
--- a part has at most the bytes of its range, whatever the content is
-pub part_size : (ps : List Piece) (start size : ℕ) (part : List ℕ) → IsPartOf ps start (start + size) part → length part ≤ size
-part_size ps start size part at = subst (λ bytes. length bytes ≤ size) (sym at.3) (simp (length-take, length-drop) (omega arith))
 
 -- ---- a range within a cached one is cached
 

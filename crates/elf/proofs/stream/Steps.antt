@@ -1,12 +1,11 @@
 -- One load after another, and what a call leaves whose loads were refused.
-use Rattle.std.proofs.Common.{◌≡◌, ℕ, ◌+◌, ◌<◌, ◌||◌, ◌⊎◌, inl, inr, Bool, List, [], ◌∷◌, ◌++◌, map, refl, sym, ap, ◌∙◌, subst, arith, Option, Some, None, IfSome}
-use Rattle.std.specs.Prelude.{IsTrue, ◌^◌, Result, Ok, Err, IsErr, IsOk, IfErr, OnOk, OnErr, is_ok, take, drop}
+use Rattle.std.proofs.Common.{◌≡◌, ℕ, ◌+◌, ◌<◌, ◌||◌, ◌⊎◌, inl, inr, Bool, List, [], ◌∷◌, ◌++◌, map, refl, sym, ap, ◌∙◌, subst, Option, Some, None, IfSome}
+use Rattle.std.specs.Prelude.{IsTrue, ◌^◌, Result, Ok, Err, IsOk, IfErr, OnOk, OnErr, is_ok, take, drop}
 use Rattle.std.proofs.lemmas.List.{map-append}
 use Rattle.std.proofs.lemmas.List.Folds.{list_any-append}
 use Rattle.elf_records.specs.Number.{bytes_at}
 use Rattle.elf_records.specs.declared.parse.ParseError.{ParseError}
-use Rattle.elf.specs.Ranges.{if_chosen}
-use Rattle.elf.specs.inner.Loads.{AreLow, AreThere, Loads}
+use Rattle.elf.specs.inner.Loads.{AreGiven, AreLow, AreThere, Loads}
 use Rattle.elf_reading.specs.Refusals.{HasReason}
 use Rattle.elf.specs.ElfStream.{IsFor, IsNeeded, IsRequested, StreamView, AreCached, IsCached, Keeps, Leaves}
 use Rattle.elf_reading.specs.Refusals.{IsAnswer}
@@ -23,19 +22,19 @@ keeps_then old middle new a b = record {
   cached = λ start end h. b.cached start end (a.cached start end h);
 }
 
-still_cached : {E : Type 0} (old new : StreamView E) (rs : List (ℕ × ℕ)) → Keeps old new → AreCached old rs → AreCached new rs
+pub still_cached : {E : Type 0} (old new : StreamView E) (rs : List (ℕ × ℕ)) → Keeps old new → AreCached old rs → AreCached new rs
 still_cached old new [] keeps h = tt
 still_cached old new (r ∷ rs) keeps h = (keeps.cached r.0 (r.0 + r.1) h.0, still_cached old new rs keeps h.1)
 
-cached_append : {E : Type 0} (s : StreamView E) (rs qs : List (ℕ × ℕ)) → AreCached s rs → AreCached s qs → AreCached s (rs ++ qs)
+pub cached_append : {E : Type 0} (s : StreamView E) (rs qs : List (ℕ × ℕ)) → AreCached s rs → AreCached s qs → AreCached s (rs ++ qs)
 cached_append s [] qs a b = b
 cached_append s (r ∷ rs) qs a b = (a.0, cached_append s rs qs a.1 b)
 
-cached_front : {E : Type 0} (s : StreamView E) (rs qs : List (ℕ × ℕ)) → AreCached s (rs ++ qs) → AreCached s rs
+pub cached_front : {E : Type 0} (s : StreamView E) (rs qs : List (ℕ × ℕ)) → AreCached s (rs ++ qs) → AreCached s rs
 cached_front s [] qs h = tt
 cached_front s (r ∷ rs) qs h = (h.0, cached_front s rs qs h.1)
 
-cached_back : {E : Type 0} (s : StreamView E) (rs qs : List (ℕ × ℕ)) → AreCached s (rs ++ qs) → AreCached s qs
+pub cached_back : {E : Type 0} (s : StreamView E) (rs qs : List (ℕ × ℕ)) → AreCached s (rs ++ qs) → AreCached s qs
 cached_back s [] qs h = h
 cached_back s (r ∷ rs) qs h = cached_back s rs qs h.1
 
@@ -51,9 +50,12 @@ there_back : (bytes : List ℕ) (rs qs : List (ℕ × ℕ)) → AreThere bytes (
 there_back bytes [] qs h = h
 there_back bytes (r ∷ rs) qs h = there_back bytes rs qs h.1
 
+pub given_append : (range : ℕ → ℕ → Result (List ℕ) ParseError) (rs qs : List (ℕ × ℕ)) → AreGiven range rs → AreGiven range qs → AreGiven range (rs ++ qs)
+given_append range [] qs a b = b
+given_append range (r ∷ rs) qs a b = (a.0, given_append range rs qs a.1 b)
+
 pub there_append : (bytes : List ℕ) (rs qs : List (ℕ × ℕ)) → AreThere bytes rs → AreThere bytes qs → AreThere bytes (rs ++ qs)
-there_append bytes [] qs a b = b
-there_append bytes (r ∷ rs) qs a b = (a.0, there_append bytes rs qs a.1 b)
+there_append bytes rs qs a b = given_append (λ start size. bytes_at size bytes start) rs qs a b
 
 -- ---- nothing but these ranges is cached
 
@@ -265,9 +267,3 @@ leaves_refused {E} {T} {Y} old new rs shown answer e r is needs h = rw is (recor
   untouched = h.untouched;
   needed = h.needed;
 })
-
--- the same of ranges that were chosen first
-pub chosen_refused : {E P T Y : Type 0} (old new : StreamView E) (ranges : P → List (ℕ × ℕ)) (shown : T → Y) (answer : Result (Option P) ParseError → List ℕ → Result Y ParseError) (choice : Result (Option P) ParseError) (chosen : P) (e : ParseError) (r : Result T ParseError) → r ≡ Err e
-    → choice ≡ Ok (Some chosen) → ((bytes : List ℕ) → IsOk (answer (Ok (Some chosen)) bytes) → AreThere bytes (ranges chosen)) → Loads (ranges chosen) old new (Err e) → Leaves (if_chosen ranges choice) shown (answer choice) old new r
-chosen_refused old new ranges shown answer choice chosen e r is same needs h =
-    subst (λ x. Leaves (if_chosen ranges x) shown (answer x) old new r) (sym same) (leaves_refused old new (ranges chosen) shown (answer (Ok (Some chosen))) e r is needs h)

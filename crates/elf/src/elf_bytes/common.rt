@@ -9,7 +9,6 @@ ghost use Rattle.elf.specs.ElfBytes.{view};
 ghost use Rattle.elf.specs.declared.elf_bytes.common.CommonElfData.{CommonElfData};
 
 use super::ElfBytes;
-use super::data::section_range;
 use crate::headers::Headers;
 use elf_abi::abi;
 use elf_parts::dynamic::DynamicTable;
@@ -59,7 +58,7 @@ impl<'data, E: EndianParse> ElfBytes<'data, E> {
     ) -> Result<SysVHashTable<'data, E>, ParseError>
         ensures { ok_map sysv_view result ≡ sysv_hash_table_of (object_file E.little (view self.now)) shdr.now }
     {
-        let bytes = section_range(shdr, self.data)?;
+        let bytes = self.section_range(shdr)?;
         SysVHashTable::new(self.ehdr.endianness, self.ehdr.class, bytes)
     }
 
@@ -67,7 +66,7 @@ impl<'data, E: EndianParse> ElfBytes<'data, E> {
     fn gnu_hash_table_of(&self, shdr: &SectionHeader) -> Result<GnuHashTable<'data, E>, ParseError>
         ensures { ok_map gnu_view result ≡ gnu_hash_table_of (object_file E.little (view self.now)) shdr.now }
     {
-        let bytes = section_range(shdr, self.data)?;
+        let bytes = self.section_range(shdr)?;
         GnuHashTable::new(self.ehdr.endianness, self.ehdr.class, bytes)
     }
 

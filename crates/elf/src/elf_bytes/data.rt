@@ -7,8 +7,7 @@ ghost use Rattle.elf.specs.Answers.{relas_left, rels_left, section_data_as_notes
 ghost use Rattle.elf.specs.Data.{content_of_type, section_data};
 ghost use Rattle.elf_reading.specs.Leading.{data_view};
 ghost use Rattle.elf.specs.Answers.{section_data_as_relas, section_data_as_rels, section_data_as_strtab};
-ghost use Rattle.elf.specs.ObjectFile.{object_file};
-ghost use Rattle.elf.specs.Headers.{section_range};
+ghost use Rattle.elf.specs.ObjectFile.{object_file, section_part};
 ghost use Rattle.elf.specs.ElfBytes.{view};
 
 use super::ElfBytes;
@@ -23,18 +22,19 @@ use elf_parts::string_table::StringTable;
 use elf_reading::leading::leading_record;
 use elf_records::parse::get_bytes;
 
-// The bytes in the range of a section header.
-pub(super) fn section_range<'data>(
-    shdr: &SectionHeader,
-    data: &'data [u8],
-) -> Result<&'data [u8], ParseError>
-    ensures value { ok_map (λ bytes. bytes.now) result ≡ section_range «data».now shdr.now }
-    ensures within { IfOk result (λ bytes. length bytes.now ≤ length «data».now) }
-{
-    get_bytes(data, shdr.sh_offset as usize, shdr.sh_size as usize)
-}
-
 impl<'data, E: EndianParse> ElfBytes<'data, E> {
+    /// Returns the bytes in the range of a section header, whatever the type and the flags of the section are.
+    ///
+    /// Errors, in order: `IntegerOverflow` if the end of the section does not fit 64 bits;
+    /// `SliceReadError((start, end))` if the section does not lie in the file.
+    pub fn section_range(&self, shdr: &SectionHeader) -> Result<&'data [u8], ParseError>
+        ensures value { ok_map (λ bytes. bytes.now) result
+            ≡ section_part (object_file E.little (view self.now)) shdr.now }
+        ensures within { IfOk result (λ bytes. length bytes.now ≤ length (view self.now).bytes) }
+    {
+        get_bytes(self.data, shdr.sh_offset as usize, shdr.sh_size as usize)
+    }
+
     /// Returns the bytes of a section, and its compression header if its flags have `SHF_COMPRESSED` (gABI, chapter
     /// "Sections", "Section Compression"). The bytes are then those after that header; nothing is decompressed. A
     /// section of type `SHT_NOBITS` has no bytes, and its range is not checked.
@@ -60,7 +60,7 @@ impl<'data, E: EndianParse> ElfBytes<'data, E> {
         if shdr.sh_type == abi::SHT_NOBITS {
             return Ok((&[], None));
         }
-        let part = section_range(shdr, self.data)?;
+        let part = self.section_range(shdr)?;
         if shdr.sh_flags & abi::SHF_COMPRESSED as u64 == 0 {
             return Ok((part, None));
         }

@@ -7,7 +7,6 @@ ghost use Rattle.elf.specs.ObjectFile.{object_file};
 ghost use Rattle.elf.specs.ElfBytes.{view};
 
 use super::ElfBytes;
-use super::data::section_range;
 use crate::headers::{Headers, first_named};
 use elf_parts::endian::EndianParse;
 use elf_parts::parse::ParseError;
@@ -47,7 +46,7 @@ impl<'data, E: EndianParse> ElfBytes<'data, E> {
         let Some(names) = self.name_section()? else {
             return Ok((self.shdrs, None));
         };
-        let bytes = section_range(&names, self.data)?;
+        let bytes = self.section_range(&names)?;
         Ok((self.shdrs, Some(StringTable::new(bytes))))
     }
 

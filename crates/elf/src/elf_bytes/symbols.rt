@@ -8,7 +8,6 @@ ghost use Rattle.elf.specs.ObjectFile.{object_file};
 ghost use Rattle.elf.specs.ElfBytes.{view};
 
 use super::ElfBytes;
-use super::data::section_range;
 use crate::headers::{Headers, LinkedSections};
 use elf_abi::abi;
 use elf_parts::endian::EndianParse;
@@ -18,23 +17,28 @@ use elf_parts::string_table::StringTable;
 use elf_parts::symbol::SymbolTable;
 
 impl<'data, E: EndianParse> ElfBytes<'data, E> {
-    // The symbols of the first section, and the strings of the second.
-    fn symbols_in(
+    /// Returns the symbols in the range of the first section, and the strings in that of the second, as `with_linked`
+    /// returns them. The errors are those of `section_range` for the first section, then for the second.
+    pub fn symbols_in(
         &self,
         sections: &LinkedSections,
     ) -> Result<(SymbolTable<'data, E>, StringTable<'data>), ParseError>
         ensures { ok_map symbols_view result ≡ symbols_in (object_file E.little (view self.now)) sections.now }
     {
-        let symbols = section_range(&sections.0, self.data)?;
-        let strings = section_range(&sections.1, self.data)?;
+        let symbols = self.section_range(&sections.0)?;
+        let strings = self.section_range(&sections.1)?;
         Ok((
             SymbolTable::new(self.ehdr.endianness, self.ehdr.class, symbols),
             StringTable::new(strings),
         ))
     }
 
-    // The symbols of a section, and the strings of the section that it links to.
-    pub(super) fn symbols_of(
+    /// Returns the symbols of a section, and the strings of the section that its `sh_link` names.
+    ///
+    /// Errors, in order: that of `ParsingTable::get` for the section of the strings, or `BadOffset(sh_link)` if the file
+    /// declares no section headers; `BadEntsize((found, expected))` if `sh_entsize` is not the size of a symbol; those of
+    /// `symbols_in`.
+    pub fn symbols_of(
         &self,
         shdr: &SectionHeader,
     ) -> Result<(SymbolTable<'data, E>, StringTable<'data>), ParseError>

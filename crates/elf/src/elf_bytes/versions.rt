@@ -12,7 +12,6 @@ ghost use Rattle.elf.specs.ElfBytes.{view};
 ghost use Rattle.elf.specs.Versions.{linked_strings, version_entries, version_indexes, versions_of};
 
 use super::ElfBytes;
-use super::data::section_range;
 use crate::headers::{Headers, VersionSections};
 use elf_parts::endian::EndianParse;
 use elf_parts::gnu_symver::links::VersionEntry;
@@ -33,7 +32,7 @@ impl<'data, E: EndianParse> ElfBytes<'data, E> {
         ensures { ok_map table_view result ≡ version_indexes (object_file E.little (view self.now)) shdr.now }
     {
         VersionIndex::validate_entsize(self.ehdr.class, shdr.sh_entsize as usize)?;
-        let bytes = section_range(shdr, self.data)?;
+        let bytes = self.section_range(shdr)?;
         Ok(VersionIndexTable::new(self.ehdr.endianness, self.ehdr.class, bytes))
     }
 
@@ -43,7 +42,7 @@ impl<'data, E: EndianParse> ElfBytes<'data, E> {
             ≡ linked_strings (object_file E.little (view self.now)) shdr.now }
     {
         let linked = self.section_at(shdr.sh_link as usize)?;
-        section_range(&linked, self.data)
+        self.section_range(&linked)
     }
 
     // The entries of a section, with their strings.
@@ -55,7 +54,7 @@ impl<'data, E: EndianParse> ElfBytes<'data, E> {
             ≡ version_entries (entries_in V.reads.record_at V.next_distance V.with_aux)
             (object_file E.little (view self.now)) shdr.now }
     {
-        let bytes = section_range(shdr, self.data)?;
+        let bytes = self.section_range(shdr)?;
         let strings = self.linked_strings(shdr)?;
         let entries = EntryIterator::new(
             self.ehdr.endianness,

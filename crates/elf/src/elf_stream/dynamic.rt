@@ -1,28 +1,21 @@
 //! The dynamic entries of a stream.
-ghost use Rattle.std.specs.Prelude.{◌≡◌, ℕ, Ok, Some, IfErr, IfSome, OnOk};
-ghost use Rattle.elf_abi.specs.Values.{pt_dynamic, sht_dynamic};
-ghost use Rattle.elf_records.specs.Dynamic.{dyn_layout};
-ghost use Rattle.elf_records.specs.Record.{size_by};
+ghost use Rattle.std.specs.Prelude.{Ok, Some};
 ghost use Rattle.std.specs.Option.{option_map};
-ghost use Rattle.elf_records.specs.Number.{ok_map};
 ghost use Rattle.elf_records.specs.Table.{table_view};
-ghost use Rattle.elf.specs.Answers.{dynamic, section_dynamic, segment_dynamic};
-ghost use Rattle.elf.specs.Ranges.{dynamic_ranges, headers_alone, if_there, section_ranges, section_dynamic_ranges};
-ghost use Rattle.elf.specs.Ranges.{segment_ranges};
-ghost use Rattle.elf.specs.Headers.{first_section_of, first_segment_of, if_found};
-ghost use Rattle.elf.specs.StreamFile.{stream_file};
-ghost use Rattle.elf.specs.ElfStream.{AreCached};
-ghost use Rattle.elf_reading.specs.Refusals.{Kind, kind};
-ghost use Rattle.elf.specs.inner.Loads.{AreLow, LoadsFor};
+ghost use Rattle.elf.specs.Answers.{dynamic};
+ghost use Rattle.elf.specs.Ranges.{dynamic_ranges, headers_alone, section_dynamic_ranges};
+ghost use Rattle.elf.specs.Headers.{first_section_of, first_segment_of};
+ghost use Rattle.elf.specs.inner.Loads.{Loads};
 
 use super::ElfStream;
 use crate::headers::Headers;
+use crate::read_error::given;
+use crate::reader;
 use elf_abi::abi;
 use elf_parts::dynamic::{Dyn, DynamicTable};
 use elf_parts::endian::EndianParse;
 use elf_parts::parse::{ParseAt, ParseError};
 use elf_parts::section::SectionHeader;
-use elf_parts::segment::ProgramHeader;
 use elf_reading::source::StreamSource;
 use std::alloc::Allocator;
 
@@ -30,81 +23,31 @@ impl<E: EndianParse, S: StreamSource, A: Allocator + Copy> ElfStream<E, S, A> {
     ghost use Rattle.std.specs.Borrow.{sem};
     ghost use Rattle.elf.specs.Lending.{Lends};
 
-    // Reads the range of a section of dynamic entries into the cache.
-    fn load_dynamic(&mut self, shdr: &SectionHeader) -> Result<(), ParseError>
-        ensures loads { LoadsFor (section_dynamic_ranges (headers_alone E.little self.old) shdr.now)
-            (λ bytes. section_dynamic (stream_file E.little self.old bytes) shdr.now) self.old self.new result }
-        ensures sized { OnOk result (shdr.now.sh_entsize ≡ size_by dyn_layout self.old.headers.ehdr.class) }
-        ensures loaded { OnOk result (AreLow (section_ranges shdr.now) × AreCached self.new (section_ranges shdr.now)) }
+    // Reads the range of a section of dynamic entries into the cache, if its entries have the size of an entry.
+    fn load_section_dynamic(&mut self, shdr: &SectionHeader) -> Result<(), ParseError>
+        ensures { Loads (section_dynamic_ranges (headers_alone E.little self.old) shdr.now) self.old self.new result }
     {
-        Dyn::validate_entsize(self.ehdr.class, shdr.sh_entsize as usize)?;
+        if Dyn::validate_entsize(self.ehdr.class, shdr.sh_entsize as usize).is_err() {
+            return Ok(());
+        }
         self.load_section_data(shdr)
     }
 
-    // The dynamic entries of a section, whose bytes are cached.
-    fn cached_dynamic(
-        &self,
-        shdr: &SectionHeader,
-    ) -> Result<Option<DynamicTable<'_, E>>, ParseError>
-        requires sized { shdr.now.sh_entsize ≡ size_by dyn_layout self.now.headers.ehdr.class }
-        requires low { AreLow (section_ranges shdr.now) }
-        requires cached { AreCached self.now (section_ranges shdr.now) }
-        ensures value { IfSome self.now.content (λ bytes. ok_map (option_map table_view) result
-            ≡ ok_map Some (section_dynamic (stream_file E.little self.now bytes) shdr.now)) }
-        ensures plain { IfErr result (λ e. kind e ≡ Kind.Refusal) }
+    // Reads the range of the dynamic entries into the cache, if there are any.
+    fn load_dynamic(&mut self) -> Result<(), ParseError>
+        ensures { Loads (dynamic_ranges (headers_alone E.little self.old)) self.old self.new result }
     {
-        let (bytes, _) = self.cached_section_data(shdr)?;
-        Ok(Some(DynamicTable::new(self.ehdr.endianness, self.ehdr.class, bytes)))
-    }
-
-    // The dynamic entries of a section.
-    fn section_dynamic(
-        &mut self,
-        shdr: &SectionHeader,
-    ) -> Result<Option<DynamicTable<'_, E>>, ParseError>
-        ensures* leaves { sem 𝓛 (Lends E.row S.row A.row E.EndianParse S.StreamSource A.Allocator self.entry
-            (λ file. section_dynamic_ranges file shdr.now) (option_map table_view)
-            (λ file. ok_map Some (section_dynamic file shdr.now)) result) }
-    {
-        self.load_dynamic(shdr)?;
-        self.cached_dynamic(shdr)
-    }
-
-    // The dynamic entries of a segment, whose bytes are cached.
-    fn cached_segment_dynamic(&self, phdr: &ProgramHeader) -> DynamicTable<'_, E>
-        requires low { AreLow (segment_ranges phdr.now) }
-        requires cached { AreCached self.now (segment_ranges phdr.now) }
-        ensures { IfSome self.now.content (λ bytes.
-            segment_dynamic (stream_file E.little self.now bytes) phdr.now ≡ Ok (table_view result)) }
-    {
-        let bytes = self.cached_segment(phdr);
-        DynamicTable::new(self.ehdr.endianness, self.ehdr.class, bytes)
-    }
-
-    // The dynamic entries of the first section of type `SHT_DYNAMIC`.
-    fn first_section_dynamic(&mut self) -> Result<Option<DynamicTable<'_, E>>, ParseError>
-        ensures* leaves { sem 𝓛 (Lends E.row S.row A.row E.EndianParse S.StreamSource A.Allocator self.entry
-            (λ file. if_there (section_dynamic_ranges file) (first_section_of sht_dynamic file.sections))
-            (option_map table_view)
-            (λ file. if_found (section_dynamic file) (first_section_of sht_dynamic file.sections)) result) }
-    {
-        let Some(shdr) = self.first_section_of(abi::SHT_DYNAMIC) else {
-            return Ok(None);
-        };
-        self.section_dynamic(&shdr)
-    }
-
-    // The dynamic entries of the first segment of type `PT_DYNAMIC`.
-    fn first_segment_dynamic(&mut self) -> Result<Option<DynamicTable<'_, E>>, ParseError>
-        ensures* leaves { sem 𝓛 (Lends E.row S.row A.row E.EndianParse S.StreamSource A.Allocator self.entry
-            (λ file. if_there segment_ranges (first_segment_of pt_dynamic file.segments)) (option_map table_view)
-            (λ file. if_found (segment_dynamic file) (first_segment_of pt_dynamic file.segments)) result) }
-    {
-        let Some(phdr) = self.first_segment_of(abi::PT_DYNAMIC) else {
-            return Ok(None);
-        };
-        self.load_segment(&phdr)?;
-        Ok(Some(self.cached_segment_dynamic(&phdr)))
+        if self.declares_sections {
+            match self.first_section_of(abi::SHT_DYNAMIC) {
+                Some(shdr) => self.load_section_dynamic(&shdr),
+                None => Ok(()),
+            }
+        } else {
+            match self.first_segment_of(abi::PT_DYNAMIC) {
+                Some(phdr) => self.load_segment(&phdr),
+                None => Ok(()),
+            }
+        }
     }
 
     /// Returns the dynamic entries (gABI, chapter "Dynamic Section"). If the file declares section headers, they are
@@ -117,10 +60,8 @@ impl<E: EndianParse, S: StreamSource, A: Allocator + Copy> ElfStream<E, S, A> {
         ensures* leaves { sem 𝓛 (Lends E.row S.row A.row E.EndianParse S.StreamSource A.Allocator self.entry
             dynamic_ranges (option_map table_view) dynamic result) }
     {
-        if self.declares_sections {
-            self.first_section_dynamic()
-        } else {
-            self.first_segment_dynamic()
-        }
+        self.load_dynamic()?;
+        self.is_part_of_file();
+        given(reader::dynamic(&*self))
     }
 }

@@ -1,15 +1,17 @@
 //! The names of sections.
-ghost use Rattle.std.specs.Prelude.{◌≡◌, IfSome, Ok, None, Some, option_copied};
+ghost use Rattle.std.specs.Prelude.{◌≡◌, IfErr, Some, option_copied};
 ghost use Rattle.elf_records.specs.Number.{ok_map};
 ghost use Rattle.elf.specs.Answers.{first_named, section_header_by_name};
-ghost use Rattle.elf.specs.Ranges.{names_ranges, whole_section};
-ghost use Rattle.elf.specs.ElfStream.{AreCached};
-ghost use Rattle.elf.specs.inner.Loads.{AreLow};
+ghost use Rattle.elf.specs.Ranges.{headers_alone, names_ranges};
+ghost use Rattle.elf.specs.inner.Loads.{Loads};
+ghost use Rattle.elf.specs.Loaded.{loaded_ranges, streamed_file};
+ghost use Rattle.elf.specs.Parts.{IsPlain, loaded};
 ghost use Rattle.elf.specs.Names.{headers_with_names};
-ghost use Rattle.elf.specs.Headers.{section_range};
 
 use super::ElfStream;
 use crate::headers::{Headers, has_name};
+use crate::read_error::{ReadError, given};
+use crate::reader;
 use elf_parts::endian::EndianParse;
 use elf_parts::parse::ParseError;
 use elf_parts::section::SectionHeader;
@@ -18,16 +20,14 @@ use elf_reading::source::StreamSource;
 use std::alloc::Allocator;
 
 // The first section header with a name.
-fn first_named_in<'a>(
+pub(super) fn first_named_in<'a>(
     shdrs: &'a [SectionHeader],
     names: &TerminatedStrings<'_>,
-    name: &str,
+    name: &[u8],
 ) -> Option<&'a SectionHeader>
     ensures { option_copied result ≡ first_named shdrs.now name.now (Some names.now) }
 {
-    shdrs
-        .iter()
-        .find(|shdr| has_name(names, name.as_bytes(), *shdr))
+    shdrs.iter().find(|shdr| has_name(names, name, *shdr))
 }
 
 impl<E: EndianParse, S: StreamSource, A: Allocator + Copy> ElfStream<E, S, A> {
@@ -35,26 +35,27 @@ impl<E: EndianParse, S: StreamSource, A: Allocator + Copy> ElfStream<E, S, A> {
     ghost use Rattle.elf.specs.Lending.{Lends};
     ghost use Rattle.elf.specs.Names.{listed_view};
 
-    // The section headers, without a table of names.
-    fn headers_without_names(&self) -> (&Vec<SectionHeader, A>, Option<StringTable<'_>>)
-        ensures { listed_view result ≡ (self.now.headers.sections, None) }
+    // Reads the range of the names of the sections into the cache, if there are any.
+    #[tactic(auto, unfolding(crate::specs::Names::name_section))]
+    fn load_names(&mut self) -> Result<(), ParseError>
+        ensures { Loads (names_ranges (headers_alone E.little self.old)) self.old self.new result }
     {
-        (self.section_headers(), None)
+        match self.name_section() {
+            Ok(Some(names)) => self.load_section(&names),
+            _ => Ok(()),
+        }
     }
 
-    // The section headers, and the names in a section whose range is cached.
+    // The section headers, and their names, whose range is to be cached.
     fn headers_and_names(
         &self,
-        names: &SectionHeader,
-    ) -> (&Vec<SectionHeader, A>, Option<StringTable<'_>>)
-        requires low { AreLow (whole_section names.now) }
-        requires cached { AreCached self.now (whole_section names.now) }
-        ensures { IfSome self.now.content (λ bytes.
-            ok_map (λ strings. (self.now.headers.sections, Some strings)) (section_range bytes names.now)
-            ≡ Ok (listed_view result)) }
+    ) -> Result<(&Vec<SectionHeader, A>, Option<StringTable<'_>>), ReadError>
+        ensures value { ok_map listed_view result
+            ≡ headers_with_names (loaded (streamed_file E.little self.now) (loaded_ranges self.now)) }
+        ensures plain { IfErr result IsPlain }
     {
-        let bytes = self.cached_bytes(names.sh_offset, names.sh_size);
-        (self.section_headers(), Some(StringTable::new(bytes)))
+        let names = reader::section_names(self)?;
+        Ok((self.section_headers(), names))
     }
 
     /// Returns the section headers, and the table of their names (gABI, chapters "Sections" and "String Table"). The
@@ -64,31 +65,28 @@ impl<E: EndianParse, S: StreamSource, A: Allocator + Copy> ElfStream<E, S, A> {
     ///
     /// Errors, in order: `BadOffset(0)` if `e_shstrndx` is `SHN_XINDEX` and there is no section 0; `BadOffset(index)`
     /// if there is no section of the names with this index; that of the range.
-    #[tactic(auto, unfolding(crate::specs::Names::name_section, crate::specs::Names::name_table))]
     pub fn section_headers_with_strtab(
         &mut self,
     ) -> Result<(&Vec<SectionHeader, A>, Option<StringTable<'_>>), ParseError>
         ensures* leaves { sem 𝓛 (Lends E.row S.row A.row E.EndianParse S.StreamSource A.Allocator self.entry
             names_ranges listed_view headers_with_names result) }
     {
-        let Some(names) = self.name_section()? else {
-            return Ok(self.headers_without_names());
-        };
-        self.load_section(&names)?;
-        Ok(self.headers_and_names(&names))
+        self.load_names()?;
+        self.is_part_of_file();
+        given(self.headers_and_names())
     }
 
-    // The first section with a name. The names are in a section whose range is cached.
-    fn header_by_cached_name(&self, names: &SectionHeader, name: &str) -> Option<&SectionHeader>
-        requires low { AreLow (whole_section names.now) }
-        requires cached { AreCached self.now (whole_section names.now) }
-        ensures { IfSome self.now.content (λ bytes.
-            ok_map (λ strings. first_named self.now.headers.sections name.now (Some strings))
-            (section_range bytes names.now) ≡ Ok (option_copied result)) }
+    // The first section with a name. The range of the names is to be cached.
+    fn named_header(&self, name: &str) -> Result<Option<&SectionHeader>, ReadError>
+        ensures value { ok_map option_copied result
+            ≡ section_header_by_name (loaded (streamed_file E.little self.now) (loaded_ranges self.now)) name.now }
+        ensures plain { IfErr result IsPlain }
     {
-        let bytes = self.cached_bytes(names.sh_offset, names.sh_size);
-        let strings = TerminatedStrings::new(&StringTable::new(bytes));
-        first_named_in(&self.shdrs, &strings, name)
+        let Some(names) = reader::section_names(self)? else {
+            return Ok(None);
+        };
+        let names = TerminatedStrings::new(&names);
+        Ok(first_named_in(&self.shdrs, &names, name.as_bytes()))
     }
 
     /// Returns the first section whose name has exactly the bytes of `name`. A section whose name cannot be read is
@@ -100,7 +98,6 @@ impl<E: EndianParse, S: StreamSource, A: Allocator + Copy> ElfStream<E, S, A> {
     ///     println!(rt; "{} bytes at {:#x}", section.sh_size, section.sh_addr)?;
     /// }
     /// ```
-    #[tactic(auto, unfolding(crate::specs::Names::name_section, crate::specs::Names::name_table))]
     pub fn section_header_by_name(
         &mut self,
         name: &str,
@@ -108,10 +105,8 @@ impl<E: EndianParse, S: StreamSource, A: Allocator + Copy> ElfStream<E, S, A> {
         ensures* leaves { sem 𝓛 (Lends E.row S.row A.row E.EndianParse S.StreamSource A.Allocator self.entry
             names_ranges option_copied (λ file. section_header_by_name file name.now) result) }
     {
-        let Some(names) = self.name_section()? else {
-            return Ok(None);
-        };
-        self.load_section(&names)?;
-        Ok(self.header_by_cached_name(&names, name))
+        self.load_names()?;
+        self.is_part_of_file();
+        given(self.named_header(name))
     }
 }

@@ -1,16 +1,14 @@
 //! The symbols of a stream, with their strings.
-ghost use Rattle.std.specs.Prelude.{◌≡◌, Ok, IfSome};
 ghost use Rattle.std.specs.Option.{option_map};
 ghost use Rattle.elf_abi.specs.Values.{sht_dynsym, sht_symtab};
-ghost use Rattle.elf_records.specs.Number.{ok_map};
-ghost use Rattle.elf.specs.Answers.{dynamic_symbol_table, first_symbols, symbol_table, symbols_in, symbols_view};
-ghost use Rattle.elf.specs.Ranges.{both_sections, symbols_ranges};
-ghost use Rattle.elf.specs.StreamFile.{stream_file};
-ghost use Rattle.elf.specs.ElfStream.{AreCached};
-ghost use Rattle.elf.specs.inner.Loads.{AreLow, Loads};
+ghost use Rattle.elf.specs.Answers.{dynamic_symbol_table, first_symbols, symbol_table, symbols_view};
+ghost use Rattle.elf.specs.Ranges.{both_sections, headers_alone, symbols_ranges};
+ghost use Rattle.elf.specs.inner.Loads.{Loads};
 
 use super::ElfStream;
 use crate::headers::Headers;
+use crate::read_error::given;
+use crate::reader;
 use elf_abi::abi;
 use elf_parts::endian::EndianParse;
 use elf_parts::parse::ParseError;
@@ -36,23 +34,14 @@ impl<E: EndianParse, S: StreamSource, A: Allocator + Copy> ElfStream<E, S, A> {
         self.load_section(linked)
     }
 
-    // The symbols of the first section and the strings of the second, whose ranges are cached.
-    fn cached_symbols(
-        &self,
-        shdr: &SectionHeader,
-        linked: &SectionHeader,
-    ) -> (SymbolTable<'_, E>, StringTable<'_>)
-        requires low { AreLow (both_sections (shdr.now, linked.now)) }
-        requires cached { AreCached self.now (both_sections (shdr.now, linked.now)) }
-        ensures { IfSome self.now.content (λ bytes.
-            symbols_in (stream_file E.little self.now bytes) (shdr.now, linked.now) ≡ Ok (symbols_view result)) }
+    // Reads the ranges of the symbols and strings of the first section of a type into the cache, if there is one.
+    fn load_symbols(&mut self, sh_type: u32) -> Result<(), ParseError>
+        ensures { Loads (symbols_ranges sh_type (headers_alone E.little self.old)) self.old self.new result }
     {
-        let symbols = self.cached_bytes(shdr.sh_offset, shdr.sh_size);
-        let strings = self.cached_bytes(linked.sh_offset, linked.sh_size);
-        (
-            SymbolTable::new(self.ehdr.endianness, self.ehdr.class, symbols),
-            StringTable::new(strings),
-        )
+        match self.symbol_sections(sh_type) {
+            Ok(Some((shdr, linked))) => self.load_both(&shdr, &linked),
+            _ => Ok(()),
+        }
     }
 
     // The symbols of the first section of a type, with their strings.
@@ -63,11 +52,9 @@ impl<E: EndianParse, S: StreamSource, A: Allocator + Copy> ElfStream<E, S, A> {
         ensures* leaves { sem 𝓛 (Lends E.row S.row A.row E.EndianParse S.StreamSource A.Allocator self.entry
             (symbols_ranges sh_type) (option_map symbols_view) (first_symbols sh_type) result) }
     {
-        let Some((shdr, linked)) = self.symbol_sections(sh_type)? else {
-            return Ok(None);
-        };
-        self.load_both(&shdr, &linked)?;
-        Ok(Some(self.cached_symbols(&shdr, &linked)))
+        self.load_symbols(sh_type)?;
+        self.is_part_of_file();
+        given(reader::first_symbols(&*self, sh_type))
     }
 
     /// Returns the symbols of the first section of type `SHT_SYMTAB`, and the strings of the section that its `sh_link`

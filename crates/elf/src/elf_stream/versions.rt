@@ -1,29 +1,25 @@
 //! The versions of symbols (GNU symbol versioning).
-ghost use Rattle.std.specs.Prelude.{◌≡◌, IfErr, IfSome, Ok};
+ghost use Rattle.std.specs.Prelude.{◌≡◌, IfErr, Ok};
 ghost use Rattle.elf.specs.Answers.{symbol_version_table};
-ghost use Rattle.elf.specs.Ranges.{headers_alone, whole_section, both_sections, if_there, plan_ranges, version_plan};
+ghost use Rattle.elf.specs.Ranges.{headers_alone, both_sections, if_there, plan_ranges, version_plan};
 ghost use Rattle.elf.specs.Ranges.{versions_ranges, with_link};
-ghost use Rattle.elf.specs.StreamFile.{stream_file};
-ghost use Rattle.elf.specs.ElfStream.{AreCached};
 ghost use Rattle.elf_reading.specs.Refusals.{Kind, kind};
-ghost use Rattle.elf.specs.inner.Loads.{AreLow, Loads};
+ghost use Rattle.elf.specs.inner.Loads.{Loads};
 ghost use Rattle.elf.specs.Headers.{if_found};
 ghost use Rattle.std.specs.Option.{option_map};
-ghost use Rattle.elf_parts.specs.gnu_symver.Lists.{entries_in, entries_left};
-ghost use Rattle.elf_parts.specs.gnu_symver.Table.{entries_view, versions_view};
-ghost use Rattle.elf.specs.inner.Plans.{entries_by, versions_by_plan, versions_by};
+ghost use Rattle.elf_parts.specs.gnu_symver.Table.{versions_view};
 
 use super::ElfStream;
 use crate::headers::{Headers, LinkedSections};
+use crate::read_error::given;
+use crate::reader;
 use elf_parts::endian::EndianParse;
-use elf_parts::gnu_symver::links::VersionEntry;
 use elf_parts::gnu_symver::{
     EntriesWithStrings, EntryIterator, SymbolVersionTable, VerDef, VerNeed, VersionIndex,
     VersionIndexTable,
 };
 use elf_parts::parse::{ParseAt, ParseError};
 use elf_parts::section::SectionHeader;
-use elf_parts::string_table::StringTable;
 use elf_reading::source::StreamSource;
 use std::alloc::Allocator;
 
@@ -77,67 +73,15 @@ impl<E: EndianParse, S: StreamSource, A: Allocator + Copy> ElfStream<E, S, A> {
     }
 
     // Reads the ranges of up to five sections into the cache.
-    fn load_plan(&mut self, plan: VersionPlan) -> Result<(), ParseError>
-        ensures { Loads (plan_ranges plan) self.old self.new result }
+    fn load_plan(&mut self, plan: Option<VersionPlan>) -> Result<(), ParseError>
+        ensures { Loads (if_there plan_ranges plan) self.old self.new result }
     {
-        self.load_section(&plan.0)?;
-        self.load_both_if(plan.1)?;
-        self.load_both_if(plan.2)
-    }
-
-    // The entries of a section with their strings, or `None` if there is no section. The ranges are cached.
-    fn cached_entries<V: VersionEntry>(
-        &self,
-        linked: Option<LinkedSections>,
-    ) -> Option<EntriesWithStrings<'_, E, V>>
-        requires low { AreLow (if_there both_sections linked) }
-        requires cached { AreCached self.now (if_there both_sections linked) }
-        ensures { IfSome self.now.content (λ bytes.
-            if_found (entries_by (entries_in V.reads.record_at V.next_distance V.with_aux)
-            (stream_file E.little self.now bytes)) linked
-            ≡ Ok (option_map (entries_view (entries_left V.reads.record_at V.next_distance V.with_aux)) result)) }
-    {
-        let (shdr, linked) = linked?;
-        let bytes = self.cached_bytes(shdr.sh_offset, shdr.sh_size);
-        let strings = self.cached_bytes(linked.sh_offset, linked.sh_size);
-        let entries = EntryIterator::new(
-            self.ehdr.endianness,
-            self.ehdr.class,
-            shdr.sh_info as u64,
-            0,
-            bytes,
-        );
-        Some((entries, StringTable::new(strings)))
-    }
-
-    // The versions in the sections of a plan, whose ranges are cached.
-    fn cached_versions(&self, plan: VersionPlan) -> SymbolVersionTable<'_, E>
-        requires low { AreLow (whole_section plan.0) }
-        requires cached { AreCached self.now (whole_section plan.0) }
-        requires low_needs { AreLow (if_there both_sections plan.1) }
-        requires cached_needs { AreCached self.now (if_there both_sections plan.1) }
-        requires low_definitions { AreLow (if_there both_sections plan.2) }
-        requires cached_definitions { AreCached self.now (if_there both_sections plan.2) }
-        ensures { IfSome self.now.content (λ bytes.
-            versions_by (stream_file E.little self.now bytes) plan ≡ Ok (versions_view result)) }
-    {
-        let bytes = self.cached_bytes(plan.0.sh_offset, plan.0.sh_size);
-        let indexes = VersionIndexTable::new(self.ehdr.endianness, self.ehdr.class, bytes);
-        let needs = self.cached_entries::<VerNeed>(plan.1);
-        let definitions = self.cached_entries::<VerDef>(plan.2);
-        SymbolVersionTable::new(indexes, needs, definitions)
-    }
-
-    // The versions in the sections of the plan, or `None` if there is no plan.
-    fn versions_by_plan(&mut self) -> Result<Option<SymbolVersionTable<'_, E>>, ParseError>
-        ensures* leaves { sem 𝓛 (Lends E.row S.row A.row E.EndianParse S.StreamSource A.Allocator self.entry
-            versions_ranges (option_map versions_view) versions_by_plan result) }
-    {
-        let Some(plan) = self.version_plan()? else {
-            return Ok(None);
+        let Some((shdr, needs, definitions)) = plan else {
+            return Ok(());
         };
-        self.load_plan(plan)?;
-        Ok(Some(self.cached_versions(plan)))
+        self.load_section(&shdr)?;
+        self.load_both_if(needs)?;
+        self.load_both_if(definitions)
     }
 
     /// Returns the versions of the symbols (GNU symbol versioning), or `None` if there is no section of type
@@ -153,6 +97,9 @@ impl<E: EndianParse, S: StreamSource, A: Allocator + Copy> ElfStream<E, S, A> {
         ensures* leaves { sem 𝓛 (Lends E.row S.row A.row E.EndianParse S.StreamSource A.Allocator self.entry
             versions_ranges (option_map versions_view) symbol_version_table result) }
     {
-        self.versions_by_plan()
+        let plan = self.version_plan()?;
+        self.load_plan(plan)?;
+        self.is_part_of_file();
+        given(reader::symbol_version_table(&*self))
     }
 }

@@ -6,7 +6,7 @@ use elf::gnu_symver::{IndexedVersions, SymbolVersionTable};
 use elf::section::SectionHeader;
 use elf::string_table::StringTable;
 use elf::symbol::{Symbol, SymbolTable};
-use elf::{ElfBytes, MemSource, ParseError};
+use elf::{ElfBytes, MemSource, ParseError, ReadError};
 use elf_binding::resolve::resolve;
 use elf_tools::bindings::reading::open_library;
 use elf_tools::build_id::build_id;
@@ -74,12 +74,12 @@ fn print_refusal<W: Write>(out: &mut W, error: ParseError) -> io::Result<()> {
 
 fn print_build_id<W: Write>(
     out: &mut W,
-    answer: Result<Option<&[u8]>, ParseError>,
+    answer: Result<Option<&[u8]>, ReadError>,
 ) -> io::Result<()> {
     match answer {
         Ok(Some(id)) => print_hex(out, id),
         Ok(None) => writeln!(out, "none"),
-        Err(error) => print_refusal(out, error),
+        Err(error) => writeln!(out, "refused: {error}"),
     }
 }
 

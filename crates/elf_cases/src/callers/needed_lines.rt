@@ -1,7 +1,7 @@
 //! The results of `needed`, as lines.
 use elf::endian::AnyEndian;
 use elf::{ElfStream, FileSource, MemSource, ParseError, StreamSource};
-use elf_tools::needed::{Name, Names, NamesError, dynamic_names};
+use elf_tools::needed::{Name, Names, NamesError, read_dynamic_names};
 use std::alloc::Global;
 use std::fs::File;
 use std::io;
@@ -37,7 +37,7 @@ fn print_needed<S: StreamSource, W: Write>(
     opened: Result<Stream<S>, ParseError>,
 ) -> io::Result<()> {
     match opened {
-        Ok(mut stream) => print_names(out, dynamic_names(alloc, &mut stream)),
+        Ok(mut stream) => print_names(out, read_dynamic_names(alloc, &mut stream)),
         Err(error) => writeln!(out, "refused: {error}"),
     }
 }

@@ -1,8 +1,8 @@
 //! Reading a library from a stream.
-ghost use Rattle.std.specs.Prelude.{◌≡◌, IfErr, IfOk, IfSome, IsNone, IsOk, Some};
+ghost use Rattle.std.specs.Prelude.{◌≡◌, [], ◌∷◌, IfErr, IfOk, IfSome, IsNone, IsOk, Some};
 ghost use Rattle.std.specs.Option.{option_map};
 ghost use Rattle.elf_abi.specs.Values.{sht_dynsym};
-ghost use Rattle.elf_records.specs.Number.{ok_map};
+ghost use Rattle.elf_records.specs.Number.{bytes_at, ok_map};
 ghost use Rattle.elf.specs.Answers.{dynamic_symbol_table, symbol_version_table};
 ghost use Rattle.elf.specs.Answers.{first_symbols, symbols_of, with_linked};
 ghost use Rattle.elf.specs.Answers.{symbols_in as symbols_in_file};
@@ -10,7 +10,8 @@ ghost use Rattle.elf.specs.Data.{content};
 ghost use Rattle.elf.specs.ElfStream.{Keeps};
 ghost use Rattle.elf_reading.specs.Refusals.{Kind, kind};
 ghost use Rattle.elf_reading.specs.Versions.{version_sections};
-ghost use Rattle.elf.specs.Headers.{if_found, section_range};
+ghost use Rattle.elf.specs.Headers.{if_found};
+ghost use Rattle.elf.specs.ObjectFile.{section_part};
 ghost use Rattle.elf.specs.Ranges.{both_sections, headers_alone, if_chosen, if_there, section_ranges, symbols_ranges};
 ghost use Rattle.elf.specs.Ranges.{whole_section};
 ghost use Rattle.elf.specs.StreamFile.{stream_file};
@@ -25,6 +26,7 @@ use elf::endian::EndianParse;
 use elf::gnu_symver::VersionIndex;
 use elf::headers::Headers;
 use elf::parse::ParseAt;
+use elf::reader::Reader;
 use elf::section::SectionHeader;
 use elf::{ElfStream, ParseError, StreamSource, abi};
 use elf_check::hashcheck::HashKind;
@@ -55,24 +57,36 @@ pub fn read_data<E: EndianParse, S: StreamSource>(
     }
 }
 
-/// Reads the bytes of the whole range of a section, whatever its type and its flags are. Of the stream it requests that
-/// range, and its errors are those of the range, or `OutOfMemory` if an allocation failed.
-#[tactic(auto, unfolding(elf::specs::Data::section_data))]
+/// Reads the bytes of a range by its start and its size. Of the stream it requests that range, and its errors are those
+/// of the range, or `OutOfMemory` if an allocation failed.
 pub fn read_range<E: EndianParse, S: StreamSource>(
+    alloc: Global,
+    stream: &mut ElfStream<E, S, Global>,
+    start: u64,
+    size: u64,
+) -> Result<Vec<u8>, ParseError>
+    ensures reads { ReadsFile stream.old stream.new result (λ copy. copy.items) (λ bytes. bytes_at size bytes start) }
+    ensures used { Uses ((start, size) ∷ []) stream.old stream.new }
+{
+    stream.load_range(start, size)?;
+    stream.is_part_of_file();
+    match stream.range(start, size) {
+        Ok(bytes) => copied(alloc, bytes),
+        Err(error) => Err(ParseError::from(error)),
+    }
+}
+
+// The bytes of the range of a section, whatever its type and its flags are.
+fn read_part<E: EndianParse, S: StreamSource>(
     alloc: Global,
     stream: &mut ElfStream<E, S, Global>,
     section: &SectionHeader,
 ) -> Result<Vec<u8>, ParseError>
     ensures reads { ReadsFile stream.old stream.new result (λ copy. copy.items)
-        (λ bytes. section_range bytes section.now) }
+        (λ bytes. section_part (stream_file E.little stream.old bytes) section.now) }
     ensures used { Uses (whole_section section.now) stream.old stream.new }
 {
-    let whole = SectionHeader {
-        sh_type: abi::SHT_PROGBITS,
-        sh_flags: 0,
-        ..*section
-    };
-    read_data(alloc, stream, &whole)
+    read_range(alloc, stream, section.sh_offset, section.sh_size)
 }
 
 // The bytes of the section that `sh_link` of a section names.
@@ -86,7 +100,7 @@ fn read_linked<E: EndianParse, S: StreamSource>(
     ensures used { Uses (linked_ranges ((headers_alone E.little stream.old).section_at section.now.sh_link)) stream.old stream.new }
 {
     match stream.section_at(section.sh_link as usize) {
-        Ok(linked) => read_range(alloc, stream, &linked),
+        Ok(linked) => read_part(alloc, stream, &linked),
         Err(error) => Err(error),
     }
 }
@@ -138,8 +152,8 @@ fn read_both<E: EndianParse, S: StreamSource>(
         (λ bytes. symbols_in_file (stream_file E.little stream.old bytes) (section.now, linked.now)) }
     ensures used { Uses (both_sections (section.now, linked.now)) stream.old stream.new }
 {
-    let symbols = read_range(alloc, stream, section)?;
-    let strings = read_range(alloc, stream, linked)?;
+    let symbols = read_part(alloc, stream, section)?;
+    let strings = read_part(alloc, stream, linked)?;
     Ok(SymbolBytes { symbols, strings })
 }
 
@@ -214,7 +228,7 @@ fn read_entries<E: EndianParse, S: StreamSource>(
         (λ bytes. version_definitions (stream_file E.little stream.old bytes) section.now) }
     ensures used { Uses (entries_ranges (headers_alone E.little stream.old) section.now) stream.old stream.new }
 {
-    let entries = read_range(alloc, stream, section)?;
+    let entries = read_part(alloc, stream, section)?;
     let strings = read_linked(alloc, stream, section)?;
     let count = section.sh_info;
     Ok(EntryBytes {
@@ -265,7 +279,7 @@ pub fn read_versions<E: EndianParse, S: StreamSource>(
         return Ok(None);
     };
     VersionIndex::validate_entsize(stream.ehdr.class, section.sh_entsize as usize)?;
-    let indexes = read_range(alloc, stream, &section)?;
+    let indexes = read_part(alloc, stream, &section)?;
     let needs = read_entries_if(alloc, stream, chosen.needs)?;
     let definitions = read_entries_if(alloc, stream, chosen.definitions)?;
     Ok(Some(VersionBytes {

@@ -3,11 +3,9 @@ use Rattle.std.specs.Prelude.{ℕ, Bool, List}
 use Rattle.std.specs.Coded.{Coded-set, codes, le_prop}
 use Rattle.std.specs.Result.{IsOkAnd-prop}
 use Rattle.elf_records.specs.declared.segment.ProgramHeader.{ProgramHeader}
-use Rattle.elf_records.specs.declared.parse.table.ParsingTable.{ParsingTable}
 use Rattle.elf.specs.ObjectFile.{ObjectFile, object_file}
 use Rattle.elf_reading.specs.Opening.{FileView}
-use Rattle.elf_whole.specs.SegmentsBytes.{AllRead}
-use Rattle.elf_whole.specs.Segments.{EndsWithNul, SoundDynamicSegment, SoundSegment, SoundSegments, SoundTypes, headers_in}
+use Rattle.elf_whole.specs.Segments.{EndsWithNul, SoundDynamicSegment, SoundSegment, SoundSegments, SoundTypes}
 use Rattle.elf_whole.specs.inner.VersionProps.{IfSome-prop}
 
 EndsWithNul-prop : (bytes : List ℕ) → IsProp (EndsWithNul bytes)
@@ -25,9 +23,6 @@ SoundTypes-prop segments = hlevel (le_prop, Coded-set, codes)
 pub SoundSegments-prop : (file : ObjectFile) → IsProp (SoundSegments file)
 SoundSegments-prop file = hlevel (SoundSegment-prop, SoundTypes-prop, le_prop, Coded-set, codes)
 
-AllRead-prop : (file : ObjectFile) (segments : List ProgramHeader) → IsProp (AllRead file segments)
-AllRead-prop file segments = hlevel (Coded-set, codes)
-
 -- ---- what the structs store, of a file that was opened
 
 abbrev pub SoundView : {E : Type 0} → (E → Bool) → FileView E → Type 0
@@ -35,12 +30,3 @@ SoundView little v = SoundSegments (object_file little v)
 
 pub SoundView-prop : {E : Type 0} (little : E → Bool) (v : FileView E) → IsProp (SoundView little v)
 SoundView-prop little v = SoundSegments-prop (object_file little v)
-
--- the bytes of each segment of a table can be read
-abbrev pub ReadsTable : {E : Type 0} → (E → Bool) → FileView E → ParsingTable E ProgramHeader → Type 0
-ReadsTable little v headers = AllRead (object_file little v) (headers_in headers)
-
-pub ReadsTable-prop :
-    {E : Type 0} (little : E → Bool) (v : FileView E) (headers : ParsingTable E ProgramHeader) →
-    IsProp (ReadsTable little v headers)
-ReadsTable-prop little v headers = AllRead-prop (object_file little v) (headers_in headers)

@@ -15,8 +15,7 @@ use Rattle.elf_whole.specs.versions.Indexes.{IsFirstUnknown, SoundIndexes}
 use Rattle.elf_whole.specs.versions.Records.{SoundDef, SoundDefs, SoundNeed, SoundNeeds, def_extent, def_links}
 use Rattle.elf_whole.specs.versions.Records.{need_extent, need_links}
 use Rattle.elf.specs.Answers.{dynamic_symbol_table}
-use Rattle.elf.specs.Headers.{section_range}
-use Rattle.elf.specs.ObjectFile.{ObjectFile, table_of}
+use Rattle.elf.specs.ObjectFile.{ObjectFile, section_part, table_of}
 use Rattle.elf.specs.Versions.{linked_strings, versions_of}
 use Rattle.elf_reading.specs.Versions.{version_sections}
 use Rattle.elf_reading.specs.declared.versions.VersionSections.{VersionSections}
@@ -30,7 +29,7 @@ use Rattle.elf_whole.specs.declared.faults.VersionsFault.TheVariants.{UnknownInd
 
 -- the bytes of a section, and those of the section that it links to
 abbrev pub with_strings : ObjectFile → SectionHeader → Result (List ℕ × List ℕ) ParseError
-with_strings file s = section_range file.bytes s >>= λ bytes. ok_map (λ strings. (bytes, strings)) (linked_strings
+with_strings file s = section_part file s >>= λ bytes. ok_map (λ strings. (bytes, strings)) (linked_strings
     file s)
 
 -- a section of needs: exactly sh_info of them

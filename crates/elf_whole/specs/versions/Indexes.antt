@@ -1,19 +1,19 @@
 -- Which version a symbol has (GNU symbol versioning): none of its own, one that another file must have, or one that is
 -- defined.
-use Rattle.std.specs.Prelude.{◌≡◌, ℕ, ◌<◌, ◌==◌, Bool, if◌then◌else◌, Option, Some, None, IsSome, IfSome, Result, Ok}
+use Rattle.std.specs.Prelude.{◌≡◌, ℕ, ◌<◌, ◌==◌, if◌then◌else◌, Option, Some, None, IsSome, IfSome, Result, Ok}
 use Rattle.std.specs.Prelude.{option_map, List}
 use Rattle.std.specs.List.{AllByRecursion}
 use Rattle.std.specs.Option.{option_or}
 use Rattle.elf_records.specs.Number.{ok_map}
 use Rattle.elf_records.specs.declared.parse.ParseError.{ParseError}
-use Rattle.elf_parts.specs.gnu_symver.Records.{version_index, version_index_reads}
+use Rattle.elf_parts.specs.gnu_symver.Records.{version_index}
 use Rattle.elf_parts.specs.gnu_symver.Table.{Definition, Definitions, Needs, Requirement, Versions, definition_with}
 use Rattle.elf_parts.specs.gnu_symver.Table.{index_of, requirement_with}
 use Rattle.elf_parts.specs.declared.gnu_symver.records.VerDef.{VerDef}
 use Rattle.elf_parts.specs.declared.gnu_symver.records.VerDefAux.{VerDefAux}
 use Rattle.elf_parts.specs.declared.gnu_symver.records.VerNeed.{VerNeed}
 use Rattle.elf_parts.specs.declared.gnu_symver.records.VerNeedAux.{VerNeedAux}
-use Rattle.elf_whole.specs.versions.Records.{IsText, IsTextAt}
+use Rattle.elf_whole.specs.versions.Records.{IsTextAt}
 use Rattle.elf_parts.specs.declared.gnu_symver.records.VersionIndex.{VersionIndex}
 
 -- the version of a symbol: of this file alone, of no version, of another file, or defined

@@ -8,13 +8,12 @@ ghost use Rattle.elf.specs.Headers.{first_section_of};
 ghost use Rattle.elf.specs.ObjectFile.{object_file};
 ghost use Rattle.elf_whole.specs.Notes.{IsNoNote};
 ghost use Rattle.elf_whole.specs.Segments.{EachSound, EndsWithNul, FitsMemory, HasAddresses, SoundPath};
-ghost use Rattle.elf_whole.specs.Segments.{SoundSegment, SoundSegmentNotes, has_no_bytes, headers_in};
+ghost use Rattle.elf_whole.specs.Segments.{SoundSegment, SoundSegmentNotes, has_no_bytes};
 ghost use Rattle.elf_whole.specs.Segments.{is_emptied, segment_bytes};
 ghost use Rattle.elf_whole.specs.SegmentsFaults.{IsTrueOfEach, IsTrueOfSegment};
 
 use super::dynamic::{dynamic_fault, is_emptied};
 use super::faults::{SegmentFault, SegmentsFault};
-use super::table::{segment_below, segment_count};
 use crate::notes::first_no_note;
 use elf::endian::EndianParse;
 use elf::file::Class;
@@ -42,10 +41,7 @@ pub(super) fn segment_bytes<'data, E: EndianParse>(
     if has_no_bytes(phdr) {
         return Some(&[]);
     }
-    match file.segment_data(phdr) {
-        Ok(bytes) => Some(bytes),
-        Err(_) => None,
-    }
+    file.segment_data(phdr).ok()
 }
 
 // Whether there is memory for the bytes of the file.
@@ -141,28 +137,4 @@ pub(super) fn segment_fault<E: EndianParse>(
         abi::PT_DYNAMIC => dynamic_fault(file, section, phdr, bytes),
         _ => None,
     }
-}
-
-// The first segment that is not sound, and what it lacks.
-pub(super) fn first_unsound<E: EndianParse>(
-    file: &ElfBytes<'_, E>,
-    table: &SegmentTable<'_, E>,
-) -> Option<SegmentsFault>
-    requires { headers_in table.now ≡ (object_file E.little (view file.now)).segments }
-    ensures { let whole = object_file E.little (view file.now) in
-        MatchOption result (EachSound whole) (IsTrueOfEach whole) }
-{
-    let section = file.first_section_of(abi::SHT_DYNAMIC);
-    for index in 0..segment_count(table) {
-        let phdr = segment_below(table, index);
-        match segment_fault(file, &section, &phdr) {
-            Some(fault) => return Some(SegmentsFault::Segment {
-                index,
-                p_type: phdr.p_type,
-                fault,
-            }),
-            None => {}
-        }
-    }
-    None
 }

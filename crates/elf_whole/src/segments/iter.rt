@@ -3,39 +3,34 @@ ghost use Rattle.std.specs.Prelude.{◌≡◌};
 ghost use Rattle.std.specs.Iterator.{YieldsFirstBy, item_count};
 ghost use Rattle.elf.specs.ElfBytes.{view};
 ghost use Rattle.elf.specs.ObjectFile.{object_file};
-ghost use Rattle.elf_whole.specs.Segments.{headers_in};
+ghost use Rattle.elf_whole.specs.Segments.{SoundSegments};
 ghost use Rattle.elf_whole.specs.SegmentsBytes.{with_bytes};
-ghost use Rattle.elf_whole.specs.inner.SegmentsProps.{ReadsTable, ReadsTable-prop};
+ghost use Rattle.elf_whole.specs.inner.SegmentsProps.{SoundView, SoundView-prop};
 
 use super::each::segment_bytes;
 use super::table::{segment_below, segment_count};
 use elf::ElfBytes;
 use elf::endian::EndianParse;
-use elf::segment::{ProgramHeader, SegmentTable};
+use elf::segment::ProgramHeader;
 
 /// Segments in the order of the table: each program header with the bytes of its segment in the file. It knows their
 /// number. After its first `None` it keeps returning `None`.
 #[derive(Debug, Drop)]
 pub struct WholeSegmentsIter<'a, 'data, E: EndianParse> {
     file: &'a ElfBytes<'data, E>,
-    headers: SegmentTable<'data, E>,
     next: usize,
-    ghost read: { ReadsTable E.little (view file.now) headers } by { ReadsTable-prop E.little (view file.now) headers },
+    ghost sound: { SoundView E.little (view file.now) } by { SoundView-prop E.little (view file.now) },
 }
 
 impl<'a, 'data, E: EndianParse> WholeSegmentsIter<'a, 'data, E> {
     ghost use Rattle.elf_whole.specs.SegmentsWhole.{segments_left};
 
-    pub(super) fn new(file: &'a ElfBytes<'data, E>, headers: SegmentTable<'data, E>) -> Self
-        requires { ReadsTable E.little (view file.now) headers }
-        ensures { segments_left E.little result
-            ≡ with_bytes (object_file E.little (view file.now)) (headers_in headers.entry) }
+    pub(super) fn new(file: &'a ElfBytes<'data, E>) -> Self
+        requires { SoundSegments (object_file E.little (view file.now)) }
+        ensures { let whole = object_file E.little (view file.now) in
+            segments_left E.little result ≡ with_bytes whole whole.segments }
     {
-        WholeSegmentsIter {
-            file,
-            headers,
-            next: 0,
-        }
+        WholeSegmentsIter { file, next: 0 }
     }
 }
 
@@ -49,10 +44,10 @@ impl<'a, 'data, E: EndianParse> Iterator for WholeSegmentsIter<'a, 'data, E> {
     ghost remaining = { item_count (segments_left E.little) };
 
     fn next(&mut self) -> Option<(ProgramHeader, &'data [u8])> {
-        if self.next >= segment_count(&self.headers) {
+        if self.next >= segment_count(self.file) {
             return None;
         }
-        let phdr = segment_below(&self.headers, self.next);
+        let phdr = segment_below(self.file, self.next);
         let bytes = segment_bytes(self.file, &phdr).unwrap();
         self.next += 1;
         Some((phdr, bytes))
@@ -66,6 +61,6 @@ impl<'a, 'data, E: EndianParse> Iterator for WholeSegmentsIter<'a, 'data, E> {
 
 impl<'a, 'data, E: EndianParse> ExactSizeIterator for WholeSegmentsIter<'a, 'data, E> {
     fn len(&self) -> usize {
-        segment_count(&self.headers).saturating_sub(self.next)
+        segment_count(self.file).saturating_sub(self.next)
     }
 }

@@ -1,23 +1,24 @@
 //! The check of the order of the loaded segments.
 ghost use Rattle.std.specs.Prelude.{MatchOption};
-ghost use Rattle.elf_whole.specs.Segments.{LoadsRise, headers_in};
+ghost use Rattle.elf.specs.ElfBytes.{view};
+ghost use Rattle.elf.specs.ObjectFile.{object_file};
+ghost use Rattle.elf_whole.specs.Segments.{LoadsRise};
 ghost use Rattle.elf_whole.specs.SegmentsFaults.{IsFirstOverlap};
 
 use super::table::{segment_below, segment_count};
-use elf::abi;
 use elf::endian::EndianParse;
-use elf::segment::SegmentTable;
+use elf::{ElfBytes, abi};
 
 // The first loaded segment that begins before the one before it ends, after the index of that one.
-pub(super) fn first_overlap<E: EndianParse>(table: &SegmentTable<'_, E>) -> Option<(usize, usize)>
-    ensures { MatchOption result (LoadsRise (headers_in table.now))
-        (λ pair. IsFirstOverlap (headers_in table.now) pair.0 pair.1) }
+pub(super) fn first_overlap<E: EndianParse>(file: &ElfBytes<'_, E>) -> Option<(usize, usize)>
+    ensures { let segments = (object_file E.little (view file.now)).segments in
+        MatchOption result (LoadsRise segments) (λ pair. IsFirstOverlap segments pair.0 pair.1) }
 {
     // The last loaded segment, and the address after its last one.
     let mut last = 0;
     let mut end: u128 = 0;
-    for index in 0..segment_count(table) {
-        let phdr = segment_below(table, index);
+    for index in 0..segment_count(file) {
+        let phdr = segment_below(file, index);
         if phdr.p_type == abi::PT_LOAD {
             if (phdr.p_vaddr as u128) < end {
                 return Some((last, index));

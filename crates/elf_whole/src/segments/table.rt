@@ -2,62 +2,55 @@
 ghost use Rattle.std.specs.Prelude.{◌≡◌, ◌+◌, ◌<◌, ◌^◌, length, slice_get, IfSome, MatchOption, Some};
 ghost use Rattle.elf.specs.ElfBytes.{view};
 ghost use Rattle.elf.specs.ObjectFile.{object_file};
-ghost use Rattle.elf_whole.specs.Segments.{NoneFollows, headers_in};
+ghost use Rattle.elf_whole.specs.Segments.{NoneFollows};
 ghost use Rattle.elf_whole.specs.SegmentsFaults.{IsFirstFrom, IsFirstPair, NoneFrom};
 
 use elf::ElfBytes;
 use elf::endian::EndianParse;
-use elf::laws::lists::list_is_what_get_gives;
-use elf::laws::tables::{get_succeeds_below_len, iter_gives_len_records};
-use elf::segment::{ProgramHeader, SegmentTable};
+use elf::laws::tables::{iter_gives_len_records, iter_gives_whatever_get_gives};
+use elf::segment::ProgramHeader;
 
-// The program headers of a file: none if it declares no table of them.
-pub(super) fn segment_table<'data, E: EndianParse>(
-    file: &ElfBytes<'data, E>,
-) -> SegmentTable<'data, E>
-    ensures { headers_in result ≡ (object_file E.little (view file.now)).segments }
+// How many segments a file has: none if it declares no program headers.
+pub(crate) fn segment_count<E: EndianParse>(file: &ElfBytes<'_, E>) -> usize
+    ensures { result ≡ length (object_file E.little (view file.now)).segments }
 {
     match file.segments() {
-        Some(table) => table,
-        None => SegmentTable::new(file.ehdr.endianness, file.ehdr.class, &[]),
+        Some(table) => {
+            iter_gives_len_records(&table);
+            table.len()
+        }
+        None => 0,
     }
 }
 
-// How many segments there are.
-pub(super) fn segment_count<E: EndianParse>(table: &SegmentTable<'_, E>) -> usize
-    ensures { result ≡ length (headers_in table.now) }
+// The segment of an index, if there is one.
+pub(super) fn segment_at<E: EndianParse>(
+    file: &ElfBytes<'_, E>,
+    index: usize,
+) -> Option<ProgramHeader>
+    ensures { slice_get (object_file E.little (view file.now)).segments index ≡ result }
 {
-    iter_gives_len_records(table);
-    table.len()
+    let table = file.segments()?;
+    iter_gives_whatever_get_gives(&table, index);
+    table.get(index).ok()
 }
 
 // A segment below their number.
-pub(super) fn segment_below<E: EndianParse>(
-    table: &SegmentTable<'_, E>,
-    index: usize,
-) -> ProgramHeader
-    requires { index < length (headers_in table.now) }
-    ensures { slice_get (headers_in table.now) index ≡ Some result }
+pub(super) fn segment_below<E: EndianParse>(file: &ElfBytes<'_, E>, index: usize) -> ProgramHeader
+    requires { index < length (object_file E.little (view file.now)).segments }
+    ensures { slice_get (object_file E.little (view file.now)).segments index ≡ Some result }
 {
-    iter_gives_len_records(table);
-    get_succeeds_below_len(table, index);
-    list_is_what_get_gives::<ProgramHeader>();
-    let _ = table.len();
-    table.get(index).unwrap()
+    segment_at(file, index).unwrap()
 }
 
 // The first segment of a type that is not before an index.
-fn first_from<E: EndianParse>(
-    table: &SegmentTable<'_, E>,
-    p_type: u32,
-    start: usize,
-) -> Option<usize>
-    ensures found { MatchOption result (NoneFrom p_type (headers_in table.now) start)
-        (IsFirstFrom p_type (headers_in table.now) start) }
+fn first_from<E: EndianParse>(file: &ElfBytes<'_, E>, p_type: u32, start: usize) -> Option<usize>
+    ensures found { let segments = (object_file E.little (view file.now)).segments in
+        MatchOption result (NoneFrom p_type segments start) (IsFirstFrom p_type segments start) }
     ensures below { IfSome result (λ index. index + 1 < 2 ^ 64) }
 {
-    for index in start..segment_count(table) {
-        if segment_below(table, index).p_type == p_type {
+    for index in start..segment_count(file) {
+        if segment_below(file, index).p_type == p_type {
             return Some(index);
         }
     }
@@ -66,18 +59,15 @@ fn first_from<E: EndianParse>(
 
 // The first segment of type `earlier`, and the first of type `later` after it.
 pub(super) fn first_pair<E: EndianParse>(
-    table: &SegmentTable<'_, E>,
+    file: &ElfBytes<'_, E>,
     earlier: u32,
     later: u32,
 ) -> Option<(usize, usize)>
-    ensures { MatchOption result (NoneFollows earlier later (headers_in table.now))
-        (λ pair. IsFirstPair earlier later (headers_in table.now) pair.0 pair.1) }
+    ensures { let segments = (object_file E.little (view file.now)).segments in
+        MatchOption result (NoneFollows earlier later segments)
+        (λ pair. IsFirstPair earlier later segments pair.0 pair.1) }
 {
-    match first_from(table, earlier, 0) {
-        Some(first) => match first_from(table, later, first + 1) {
-            Some(index) => Some((first, index)),
-            None => None,
-        },
-        None => None,
-    }
+    let first = first_from(file, earlier, 0)?;
+    let index = first_from(file, later, first + 1)?;
+    Some((first, index))
 }

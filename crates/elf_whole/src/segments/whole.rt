@@ -15,7 +15,7 @@ ghost use Rattle.elf_whole.specs.inner.SegmentsProps.{SoundView, SoundView-prop}
 use super::dynamic::is_emptied;
 use super::each::segment_bytes;
 use super::iter::WholeSegmentsIter;
-use super::table::{segment_below, segment_count, segment_table};
+use super::table::{segment_at, segment_count};
 use elf::dynamic::DynamicTable;
 use elf::endian::EndianParse;
 use elf::headers::Headers;
@@ -65,10 +65,7 @@ impl<'a, 'data, E: EndianParse> WholeSegments<'a, 'data, E> {
     pub fn len(&self) -> usize
         ensures { result ≡ length (segments_file E.little self.now).segments }
     {
-        match self.file.segments() {
-            Some(table) => segment_count(&table),
-            None => 0,
-        }
+        segment_count(self.file)
     }
 
     /// Returns the program header of an index and the bytes of its segment in the file, or `None` exactly if there is
@@ -79,18 +76,9 @@ impl<'a, 'data, E: EndianParse> WholeSegments<'a, 'data, E> {
         ensures bytes { IfSome result (λ found.
             segment_bytes (segments_file E.little self.now) found.0 ≡ Ok found.1.now) }
     {
-        match self.file.segments() {
-            Some(table) => {
-                if index < segment_count(&table) {
-                    let phdr = segment_below(&table, index);
-                    let bytes = segment_bytes(self.file, &phdr).unwrap();
-                    Some((phdr, bytes))
-                } else {
-                    None
-                }
-            }
-            None => None,
-        }
+        let phdr = segment_at(self.file, index)?;
+        let bytes = segment_bytes(self.file, &phdr).unwrap();
+        Some((phdr, bytes))
     }
 
     /// Returns an iterator over the segments in the order of the table: each program header with the bytes of its
@@ -99,7 +87,7 @@ impl<'a, 'data, E: EndianParse> WholeSegments<'a, 'data, E> {
         ensures { segments_left E.little result
             ≡ with_bytes (segments_file E.little self.now) (segments_file E.little self.now).segments }
     {
-        WholeSegmentsIter::new(self.file, segment_table(self.file))
+        WholeSegmentsIter::new(self.file)
     }
 
     /// Returns the notes of the segment of an index, which has the type `PT_NOTE`, or `None` exactly if there is no

@@ -6,14 +6,12 @@ ghost use Rattle.elf_whole.specs.Whole.{whole_view};
 
 use super::WholeFile;
 use crate::faults::{FileFault, FileVerdict};
-use crate::sections::{first_bad_section, section_count};
-use crate::segments::segments_fault;
-use crate::types::repeated_type;
-use crate::versions::versions_fault;
+use crate::listed::sections_are_listed;
+use crate::sections::section_count;
+use crate::walk::{First, give_faults};
 use elf::ElfBytes;
 use elf::endian::EndianParse;
 use elf::gnu_symver::{Needed, VerDefIterator};
-use elf::string_table::TerminatedStrings;
 
 /// Checks whether a file is sound: whether what its headers declare can be read. Allocates nothing.
 ///
@@ -46,23 +44,13 @@ pub fn check_file_in<'a, 'data, E: EndianParse>(
     let Ok((_, names)) = file.section_headers_with_strtab() else {
         return FileVerdict::Faulty(FileFault::NoNames);
     };
-    match repeated_type(file) {
-        Some(sh_type) => return FileVerdict::Faulty(FileFault::Repeated { sh_type }),
-        None => {}
-    }
-    let terminated = names.map(|names| TerminatedStrings::new(&names));
-    match first_bad_section(file, &terminated) {
-        Some((index, fault)) => FileVerdict::Faulty(FileFault::Section { index, fault }),
-        None => match versions_fault(file, needed, defined) {
-            Some(fault) => FileVerdict::Faulty(FileFault::Versions(fault)),
-            None => match segments_fault(file) {
-                Some(fault) => FileVerdict::Faulty(FileFault::Segments(fault)),
-                None => FileVerdict::Sound(WholeFile {
-                    file,
-                    names,
-                    sections: section_count(file),
-                }),
-            },
-        },
+    sections_are_listed(file);
+    match give_faults(file, needed, defined, &mut First) {
+        Err(fault) => FileVerdict::Faulty(fault),
+        Ok(()) => FileVerdict::Sound(WholeFile {
+            file,
+            names,
+            sections: section_count(file),
+        }),
     }
 }

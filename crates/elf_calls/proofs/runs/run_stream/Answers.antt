@@ -1,6 +1,6 @@
 use Rattle.std.proofs.Common.{arith}
-use Rattle.elf_calls.proofs.StreamCalls.{keeps_then}
-use Rattle.elf_calls.proofs.StreamRuns.{faulted, more_loaded, more_used, more_written, stopped, stopped_need, stopped_use}
+use Rattle.elf.proofs.stream.Steps.{keeps_then}
+use Rattle.elf_calls.proofs.StreamRuns.{all_at_hand, more_loaded, more_used, more_written, stopped, stopped_need, stopped_use}
 use Rattle.elf_calls.proofs.runs.run_stream.Goals as goal
 
 pub loop-done-preserved : goal.loop-done-preserved
@@ -22,8 +22,9 @@ returns-in-Err-clause-ran g c =
     (rw keeps.content at c.write_call.ensures.ran))
 
 pub returns-in-Err-clause-no_fault : goal.returns-in-Err-clause-no_fault
-returns-in-Err-clause-no_fault g c =
-    rw c.stopped_after.ensures (faulted g.E.EndianParse.little c.args.stream.now c.loop-done.stream c.args.calls.now c.loop-done.done _ c.write_call.result c.in-Err.stop c.loop-done.invariant.keeps (omega arith) c.in-Err.is c.write_call.ensures.no_fault)
+returns-in-Err-clause-no_fault g c = λ hand.
+    rw c.stopped_after.ensures (stopped_use g.E.EndianParse.little c.args.stream.now c.loop-done.stream c.write_call.new.stream c.args.calls.now c.loop-done.done _ c.loop-done.invariant.keeps (omega arith) c.loop-done.invariant.used c.write_call.result c.in-Err.stop c.in-Err.is c.write_call.ensures.untouched
+    (all_at_hand g.E.EndianParse.little c.args.stream.now c.args.calls.now hand)).1
 
 pub returns-in-Err-clause-only : goal.returns-in-Err-clause-only
 returns-in-Err-clause-only g c =

@@ -1,7 +1,7 @@
 use Rattle.std.proofs.Common.{◌≡◌, ◌+◌, ◌≤◌, ◌++◌, suc, length, map, ap, sym, ◌∙◌, subst, arith}
 use Rattle.std.proofs.lemmas.List.{map-append, length-map}
 use Rattle.elf_tools.specs.Search.{others_view}
-use Rattle.elf_tools.specs.Tree.{IsLoadOrder, entry_view, found_view, loaded_after, program_entry, with_needed}
+use Rattle.elf_tools.specs.Tree.{entry_view, found_view, loaded_after, program_entry, with_needed}
 use Rattle.elf_tools.specs.inner.LoadedNames.{AreNamesOf}
 use Rattle.elf_tools.proofs.Loading.{when_known}
 use Rattle.elf_tools.proofs.tree.load_order.Goals as goal

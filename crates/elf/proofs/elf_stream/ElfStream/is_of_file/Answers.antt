@@ -18,4 +18,6 @@ returns g c =
         segments = stream.phdrs.items;
       };
       cached = map range_of stream.cache;
+      size = stream.len;
+      parts = stream.cache;
     }) c.self.invariant.tables)

@@ -22,7 +22,7 @@ returns-in_err-needs-clause-versions g c =
     let p = err_from_is_err_and c.from_residual-in_err-needs.result c.from_residual-in_err-needs.ensures.1 in
     let little = g.E.EndianParse.little in
     let old = c.args.stream.now in
-    let middle = c.read_range.new.stream in
+    let middle = c.read_part.new.stream in
     let chosen = c.version_sections-chosen.result in
     let keeps = c.in_ok-indexes.ensures.reads.keeps in
     let at : (version_sections old.headers.sections).indexes ≡ Some c.in-Some.section = cc (c.version_sections-chosen.ensures, c.in-Some.is) in
@@ -42,7 +42,7 @@ returns-in_err-definitions-clause-versions g c =
     let old = c.args.stream.now in
     let middle = c.read_entries_if.new.stream in
     let chosen = c.version_sections-chosen.result in
-    let keeps = keeps_then old c.read_range.new.stream middle c.in_ok-indexes.ensures.reads.keeps c.in_ok-needs.ensures.needs.keeps in
+    let keeps = keeps_then old c.read_part.new.stream middle c.in_ok-indexes.ensures.reads.keeps c.in_ok-needs.ensures.needs.keeps in
     let at : (version_sections old.headers.sections).indexes ≡ Some c.in-Some.section = cc (c.version_sections-chosen.ensures, c.in-Some.is) in
     let is : chosen.definitions ≡ (version_sections old.headers.sections).definitions = cc (c.version_sections-chosen.ensures) in
     rw (p.1, p.2)
@@ -61,7 +61,7 @@ returns-in_err-definitions-clause-used g c =
     let at : chosen.indexes ≡ Some s = c.in-Some.is in
     let sized = subst (λ (h : FileHeader g.row.E.Denot). Ok c.in_ok-validate_entsize.field-0 ≡ (if s.sh_entsize == size_by version_index_layout h.class then Ok s.sh_entsize else Err (BadEntsize (s.sh_entsize, size_by version_index_layout h.class))))
     (ap (λ (seen : StreamView g.row.E.Denot). seen.headers.ehdr) c.stream.view_is) c.in_ok-validate_entsize.ensures in
-    versions_used g.E.EndianParse.little old c.read_range.new.stream c.read_entries_if.new.stream c.read_entries_if-2.new.stream chosen s c.in_ok-validate_entsize.field-0
+    versions_used g.E.EndianParse.little old c.read_part.new.stream c.read_entries_if.new.stream c.read_entries_if-2.new.stream chosen s c.in_ok-validate_entsize.field-0
     c.version_sections-chosen.ensures at sized c.in_ok-indexes.ensures.reads.keeps c.in_ok-needs.ensures.needs.keeps
     c.in_ok-indexes.ensures.used c.in_ok-needs.ensures.used c.in_err-definitions.ensures.used
 
@@ -73,6 +73,6 @@ returns-clause-used g c =
     let at : chosen.indexes ≡ Some s = c.in-Some.is in
     let sized = subst (λ (h : FileHeader g.row.E.Denot). Ok c.in_ok-validate_entsize.field-0 ≡ (if s.sh_entsize == size_by version_index_layout h.class then Ok s.sh_entsize else Err (BadEntsize (s.sh_entsize, size_by version_index_layout h.class))))
     (ap (λ (seen : StreamView g.row.E.Denot). seen.headers.ehdr) c.stream.view_is) c.in_ok-validate_entsize.ensures in
-    versions_used g.E.EndianParse.little old c.read_range.new.stream c.read_entries_if.new.stream c.read_entries_if-2.new.stream chosen s c.in_ok-validate_entsize.field-0
+    versions_used g.E.EndianParse.little old c.read_part.new.stream c.read_entries_if.new.stream c.read_entries_if-2.new.stream chosen s c.in_ok-validate_entsize.field-0
     c.version_sections-chosen.ensures at sized c.in_ok-indexes.ensures.reads.keeps c.in_ok-needs.ensures.needs.keeps
     c.in_ok-indexes.ensures.used c.in_ok-needs.ensures.used c.in_ok-definitions.ensures.used

@@ -1,4 +1,4 @@
-use Rattle.std.proofs.Common.{◌≡◌, Some, rules, tests, sym, ◌∙◌}
+use Rattle.std.proofs.Common.{◌≡◌, Some, rules}
 use Rattle.std.specs.List.{find}
 use Rattle.elf_abi.specs.Values.{sht_dynamic}
 use Rattle.elf_reading.specs.Versions.{is_of_type}

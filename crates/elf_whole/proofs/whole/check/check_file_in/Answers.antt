@@ -1,28 +1,17 @@
-use Rattle.std.proofs.Common.{rules}
 use Rattle.elf.specs.ElfBytes.{view}
 use Rattle.elf.specs.ObjectFile.{object_file}
-use Rattle.elf_whole.specs.Faults.{IsTrueOfFile}
-use Rattle.elf_whole.specs.declared.faults.FileFault.TheVariants.{Section, Segments, Versions}
-use Rattle.elf_whole.proofs.Verdicts.{true_fault}
+use Rattle.elf_whole.specs.AllFaults.{subjects}
+use Rattle.elf_whole.proofs.Subjects.{file_of, first_of_all, none_of, not_sound, of_file, stopped}
 use Rattle.elf_whole.proofs.whole.check.check_file_in.Goals as goal
 
-pub returns-in-Some-first_bad_section : goal.returns-in-Some-first_bad_section
-returns-in-Some-first_bad_section g c =
+pub invariant_of-result-clause-sound : goal.invariant_of-result-clause-sound
+invariant_of-result-clause-sound g c =
     let whole = object_file g.E.EndianParse.little (view c.args.file.now) in
-    let bad = c.in-Some-first_bad_section in
-    let fact : IsTrueOfFile whole (Section bad.index bad.fault) = (search rules, search rules, bad.ensures) in
-    (true_fault whole (Section bad.index bad.fault) fact, fact)
+    file_of whole c.sections_are_listed.ensures (none_of whole (subjects whole) c.in-Ok-give_faults.ensures)
 
-pub returns-in-Some-versions_fault : goal.returns-in-Some-versions_fault
-returns-in-Some-versions_fault g c =
+pub returns-in-Err : goal.returns-in-Err
+returns-in-Err g c =
     let whole = object_file g.E.EndianParse.little (view c.args.file.now) in
-    let bad = c.in-Some-versions_fault in
-    let fact : IsTrueOfFile whole (Versions bad.fault) = (search rules, search rules, search rules, bad.ensures) in
-    (true_fault whole (Versions bad.fault) fact, fact)
-
-pub returns-in-Some-segments_fault : goal.returns-in-Some-segments_fault
-returns-in-Some-segments_fault g c =
-    let whole = object_file g.E.EndianParse.little (view c.args.file.now) in
-    let bad = c.in-Some-segments_fault in
-    let fact : IsTrueOfFile whole (Segments bad.fault) = (search rules, search rules, search rules, search rules, bad.ensures.1) in
-    (true_fault whole (Segments bad.fault) fact, fact)
+    let fault = c.in-Err.fault in
+    let first = stopped whole fault (subjects whole) c.in-Err.ensures in
+    (λ sound. not_sound whole fault (subjects whole) first (of_file whole sound), first_of_all whole c.sections_are_listed.ensures fault first)

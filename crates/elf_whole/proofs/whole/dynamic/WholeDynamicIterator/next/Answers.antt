@@ -1,4 +1,4 @@
-use Rattle.std.proofs.Common.{List, ℕ, ap, ◌∙◌, take, arith}
+use Rattle.std.proofs.Common.{ap, ◌∙◌, take, arith}
 use Rattle.std.specs.Result.{result_ok}
 use Rattle.elf_records.specs.Dynamic.{dyn_reads}
 use Rattle.elf_records.specs.StringTable.{strings_view}

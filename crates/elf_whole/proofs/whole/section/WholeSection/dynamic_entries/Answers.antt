@@ -1,11 +1,8 @@
-use Rattle.std.proofs.Common.{◌≡◌, List, ℕ, Ok, ap, sym, ◌∙◌, subst}
-use Rattle.std.specs.Option.{option_map}
+use Rattle.std.proofs.Common.{ap, sym, ◌∙◌}
 use Rattle.elf_records.specs.Number.{ok_map}
 use Rattle.elf_records.specs.StringTable.{strings_view}
-use Rattle.elf.specs.Data.{content}
 use Rattle.elf.specs.ElfBytes.{view}
-use Rattle.elf.specs.Headers.{section_range}
-use Rattle.elf.specs.ObjectFile.{object_file, table_of}
+use Rattle.elf.specs.ObjectFile.{object_file, section_part, table_of}
 use Rattle.elf_whole.specs.Dynamic.{SoundEntries}
 use Rattle.elf_whole.proofs.Dynamics.{strings_there}
 use Rattle.elf_whole.proofs.Linked.{some_of_shown}
@@ -18,4 +15,4 @@ unwrap-strings-requires g c =
     let here = sym c.section_at.ensures.value ∙ c.unwrap-linked.ensures in
     let bytes = c.data.result.0.now in
     let there = strings_there whole s c.unwrap-linked.result bytes (c.args.self.now.sound.content.dynamic c.requires) (ap (ok_map (λ found. found.0)) c.data.ensures) here in
-    some_of_shown (λ strings. SoundEntries strings (table_of whole bytes)) strings_view c.strings_in.result (section_range whole.bytes c.unwrap-linked.result) c.strings_in.ensures there
+    some_of_shown (λ strings. SoundEntries strings (table_of whole bytes)) strings_view c.strings_in.result (section_part whole c.unwrap-linked.result) c.strings_in.ensures there

@@ -5,6 +5,7 @@ use Rattle.elf.specs.ElfBytes.{view}
 use Rattle.elf.specs.ObjectFile.{object_file, table_of}
 use Rattle.elf_whole.specs.RelocationLists.{AllHaveSymbols, with_symbols}
 use Rattle.elf_whole.specs.Whole.{whole_symbols}
+use Rattle.elf_whole.proofs.Linked.{object_sized}
 use Rattle.elf_whole.proofs.Relocated.{section_has}
 use Rattle.elf_whole.proofs.whole.section.WholeSection.relocations.Goals as goal
 
@@ -18,6 +19,6 @@ returns-in-Some-clause-named g c = λ linked.
     let symbols = whole_symbols c.in-Some.symbols in
     let table : table_view c.new-table.result ≡ table_of whole bytes = c.new-table.ensures in
     let short = subst (λ (t : Table). length t.bytes < 2 ^ 64) table c.len.ensures.short in
-    let all = section_has reads symbol_of whole s bytes symbols c.requires (ap (ok_map (λ found. found.0)) c.data.ensures) c.in-Some.ensures
+    let all = section_has reads symbol_of whole (object_sized g.E.EndianParse.little (view c.args.self.now.file.now)) s bytes symbols c.requires (ap (ok_map (λ found. found.0)) c.data.ensures) c.in-Some.ensures
     (λ i. c.list_is_what_get_gives.ensures (table_of whole bytes) i short) c.are_read.ensures in
     subst (λ xs. AllHaveSymbols xs) (sym (c.new.ensures ∙ ap (λ (t : Table). with_symbols symbol_of (Some symbols) (table_items reads t)) table)) all
