@@ -1,4 +1,4 @@
--- A file of which some ranges are loaded answers as the whole file, or names a range that is missing.
+-- A partly loaded file answers as the whole file, or names a range that is missing.
 use Rattle.std.proofs.Common.{◌≡◌, ℕ, ◌==◌, Bool, true, false, if◌then◌else◌, List, [], ◌∷◌, ◌++◌, inl, inr, Option, Some, None, Result, Ok, Err, refl, sym, ap, ◌∙◌, subst, true≢false}
 use Rattle.std.specs.Prelude.{IsOk, not}
 use Rattle.elf_abi.specs.Values.{shn_undef, sht_dynsym, sht_symtab}

@@ -20,7 +20,7 @@ pub mod Versions
 pub mod Answers
 -- what is looked up most often, found in one pass
 pub mod Common
--- ---- a file of which some ranges are loaded
+-- ---- a partly loaded file
 
 -- a walk over headers
 pub mod Walk

@@ -1,4 +1,4 @@
--- A file of which its caller has loaded some ranges.
+-- A file that its caller has loaded in part.
 use Rattle.std.specs.Prelude.{ℕ, Bool, List, map, not}
 use Rattle.elf_records.specs.Number.{bytes_at}
 use Rattle.elf_reading.specs.Cache.{Piece, is_cached, range_of}

@@ -1,4 +1,4 @@
--- A file of which some ranges are loaded, as a reader has it.
+-- A partly loaded file, as a reader has it.
 use Rattle.std.specs.Prelude.{◌≡◌, ◌⊎◌, ℕ, ◌+◌, ◌^◌, Bool, IsTrue, List, Result, Err, nat_le, nat_lt, ok_or, if◌then◌else◌}
 use Rattle.elf_records.specs.declared.parse.ParseError.{ParseError}
 use Rattle.elf_records.specs.declared.parse.ParseError.TheVariants.{IntegerOverflow, SliceReadError}
@@ -57,7 +57,7 @@ IsPlain (NotLoaded range) = Unit {0}
 abbrev pub missing : ℕ → ℕ → ℕ → ReadError
 missing size start end = if nat_lt size end then Parse (SliceReadError (start, end)) else NotLoaded (start, end)
 
--- the bytes of a range of a file of this size, of which these parts are loaded
+-- the bytes of a range of a file of this size, with these parts loaded
 abbrev pub loaded_range : ℕ → List Piece → Ranges
 loaded_range size parts start count =
     if nat_le (2 ^ 64) (start + count) then Err (Parse IntegerOverflow)

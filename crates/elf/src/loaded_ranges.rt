@@ -1,4 +1,4 @@
-//! A file of which the caller has loaded some ranges.
+//! A file that the caller has loaded in part.
 ghost use Rattle.std.specs.Prelude.{◌≡◌, ◌≤◌, ◌-◌, IsTrue, All, List, ℕ, drop, length, map, take};
 ghost use Rattle.std.specs.Option.{option_map};
 ghost use Rattle.elf_reading.specs.Cache.{IsOf, covers, last_of, part_at};
@@ -63,9 +63,9 @@ fn last_covering<'a, 'data>(
     found
 }
 
-/// A file of which the caller has loaded some ranges. What lies within one of them is read from it. For what lies in
-/// the file and in none of them, a function of `reader` returns `ReadError::NotLoaded`: the caller loads that range and
-/// calls again. So a file is read by parts from any source, without a trait of this library.
+/// A file that the caller has loaded in part. What lies within a loaded range is read from it. For what lies in
+/// the file and in no loaded range, a function of `reader` returns `ReadError::NotLoaded`: the caller loads that range
+/// and calls again. So a file is read by parts from any source, without a trait of this library.
 #[derive(Debug, Drop)]
 pub struct LoadedRanges<'data, E: EndianParse> {
     headers: ElfBytes<'data, E>,
@@ -74,8 +74,8 @@ pub struct LoadedRanges<'data, E: EndianParse> {
 }
 
 impl<'data, E: EndianParse> LoadedRanges<'data, E> {
-    /// A file with the headers of `headers`, as `ElfBytes::from_parts` makes it of no bytes, with this many bytes, of which
-    /// these ranges are loaded.
+    /// A file with the headers of `headers`, as `ElfBytes::from_parts` makes it of no bytes, with this many bytes and
+    /// these ranges loaded.
     pub fn new(headers: ElfBytes<'data, E>, size: u64, ranges: &'data [LoadedRange<'data>]) -> Self
         ensures headers { result.headers ≡ headers.entry }
         ensures size { result.size ≡ size }

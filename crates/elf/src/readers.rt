@@ -60,7 +60,7 @@ pub fn stream_answers_as_bytes<E: EndianParse, S: StreamSource, A: Allocator + C
     list_answers_as_table::<E>();
 }
 
-/// States that a file of which only some ranges are loaded answers each method as the whole file does, with the same
+/// States that a partly loaded file answers each method as the whole file does, with the same
 /// value or the same error, or names a range that is missing.
 pub fn part_answers_as_whole()
     ensures { (whole : ObjectFile) (range : Ranges) (is_missing : ℕ × ℕ → Bool) → ArePartOf whole is_missing range

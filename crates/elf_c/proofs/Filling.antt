@@ -58,7 +58,7 @@ more_places {X = X} P n xs v within filled here k before =
           subst (P k) (sym (slice_get-set_other xs n k v less within)) (filled k less)
     ]
 
--- what is after two fillings, the second of which goes on where the first ended, is as it was
+-- what is after two fillings, the second from the end of the first, is as it was
 pub rest_both : {X : Type 0} (m n : ℕ) (xs ys zs : List X) → m ≤ n → drop m ys ≡ drop m zs → drop n xs ≡ drop n ys →
     drop n xs ≡ drop n zs
 rest_both {X = X} m n xs ys zs low front back =

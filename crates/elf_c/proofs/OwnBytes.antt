@@ -1,4 +1,4 @@
--- Records that are read one after the other, each from its own bytes.
+-- Records that are read in turn, each from its own bytes.
 use Rattle.std.proofs.Common.{◌≡◌, ℕ, suc, ◌+◌, ◌*◌, ◌^◌, ◌<◌, ◌≤◌, List, [], ◌∷◌, length, take, drop, true, Result, Ok, sym, ap, subst, ◌∙◌, arith}
 use Rattle.std.proofs.Math.Nat.{suc-mul}
 use Rattle.std.proofs.lemmas.Grind.{common_steps}

@@ -46,7 +46,7 @@ loads_of sections segments Versions = methods.DynamicSymbolTable ∷ methods.Sym
 loads_of sections segments (Hash kind i) =
     if_present (λ s. methods.SectionData s ∷ methods.DynamicSymbolTable ∷ []) (slice_get sections i)
 
--- the ranges that methods request, one after the other
+-- the ranges that methods request, in turn
 abbrev pub ranges_of : ObjectFile → List Method → List (ℕ × ℕ)
 ranges_of file loads = flat_map (λ m. requested_ranges m file) loads
 

@@ -1,4 +1,4 @@
--- The build id of a file of which some ranges are loaded.
+-- The build id of a partly loaded file.
 use Rattle.std.proofs.Common.{◌≡◌, ◌==◌, inl, inr, ℕ, Bool, false, List, [], ◌∷◌, Result, Ok, Err, Option, Some, None, refl, ap, sym, subst, ◌∙◌, IfSome}
 use Rattle.std.specs.Prelude.{IfErr, IfOk, IsErr, ⊤}
 use Rattle.elf_abi.specs.Values.{pt_note, sht_note}

@@ -1,4 +1,4 @@
--- The names of a file of which some ranges are loaded.
+-- The names of a partly loaded file.
 use Rattle.std.proofs.Common.{◌≡◌, inl, inr, ℕ, Bool, true, false, List, [], ◌∷◌, Result, Ok, Err, Option, Some, None, refl, ap, sym, subst, ◌∙◌, true≢false}
 use Rattle.std.specs.Prelude.{IfSome, cond}
 use Rattle.std.specs.List.{find}

@@ -156,7 +156,7 @@ by_test false requested x m n e f h = cc
 sized_right : (file : ObjectFile) (requested : List (ℕ × ℕ)) (size x : ℕ) (s : SectionHeader) (e : ParseError) → Ok x ≡ cond (s.sh_entsize == size) (Ok s.sh_entsize) (Err e) → unless_refused requested (entry_size file size s) ≡ requested
 sized_right file requested size x s e h = by_test (s.sh_entsize == size) requested x s.sh_entsize size e (BadEntsize (s.sh_entsize, size)) h
 
--- the version indexes, the needs and the definitions, one after the other
+-- the version indexes, the needs and the definitions, in turn
 pub versions_used : {E : Type 0} (little : E → Bool) (old one two three : StreamView E) (chosen : VersionSections) (s : SectionHeader) (size : ℕ)
     → chosen ≡ version_sections old.headers.sections → chosen.indexes ≡ Some s → Ok size ≡ cond (s.sh_entsize == size_by version_index_layout old.headers.ehdr.class) (Ok s.sh_entsize) (Err (BadEntsize (s.sh_entsize, size_by version_index_layout old.headers.ehdr.class))) → Keeps old one → Keeps one two
     → Uses (whole_section s) old one → Uses (if_there (entries_ranges (headers_alone little one)) chosen.needs) one two → Uses (if_there (entries_ranges (headers_alone little two)) chosen.definitions) two three

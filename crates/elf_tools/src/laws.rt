@@ -25,7 +25,7 @@ pub fn clones()
         ⟦<FunctionVersion<'static> as Clone>⟧.is_clone ⟦<FunctionVersion<'static> as Clone>⟧.is_infallible }
 {}
 
-/// States that the names of a file of which only some ranges are loaded are those of the whole file, or that a range is
+/// States that the names of a partly loaded file are those of the whole file, or that a range is
 /// missing; and that if all ranges are loaded, as they are of an `ElfBytes`, its names and its strings are those of the
 /// file, with the same errors.
 pub fn part_names_as_whole()
@@ -36,7 +36,7 @@ pub fn part_names_as_whole()
         → strings_by (loaded whole (all_ranges whole)) entries ≡ strings_by whole entries }
 {}
 
-/// States that the build id of a file of which only some ranges are loaded is that of the whole file, or that a range is
+/// States that the build id of a partly loaded file is that of the whole file, or that a range is
 /// missing; and that if all ranges are loaded it is that of the file, with the same error.
 pub fn part_build_id_as_whole()
     ensures part { (whole : ObjectFile) (range : Ranges) (is_missing : ℕ × ℕ → Bool) → ArePartOf whole is_missing range

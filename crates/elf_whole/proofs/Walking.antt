@@ -1,4 +1,4 @@
--- Faults that are given on one after the other.
+-- Faults that are given on in turn.
 use Rattle.std.proofs.Common.{◌≡◌, ◌↔◌, ℕ, zero, suc, ◌+◌, ◌<◌, Bool, false, List, [], ◌∷◌, ◌++◌, Option, Some, None, Result, Ok, Err, IsTrue, is_none, length, take, drop, get_or, option_to_list, refl, ap, sym, ◌∙◌, subst, add-one, append_assoc, inl, inr, arith}
 use Rattle.std.proofs.lemmas.Bool.{cases_lt}
 use Rattle.std.proofs.lemmas.Grind.{flat_map-append}

@@ -1,4 +1,4 @@
--- Nothing is wrong with notes of which all were read.
+-- Nothing is wrong with notes that were all read.
 use Rattle.std.proofs.Common.{◌≡◌, ℕ, ◌+◌, Bool, true, false, ◌==◌, if◌then◌else◌, List, [], ◌∷◌, ◌++◌, map, Option, Some, None, Result, Ok, Err, refl, sym, ap, ◌∙◌}
 use Rattle.std.specs.List.{cons_option, enumerate_from, filter_map}
 use Rattle.elf_abi.specs.Values.{pt_note, sht_note}

@@ -1,4 +1,4 @@
--- What is read of a stream one after the other.
+-- What is read of a stream in turn.
 use Rattle.std.proofs.Common.{◌≡◌, ℕ, ◌+◌, ◌<◌, Bool, List, ◌∷◌, ◌++◌, map, drop, get_or, length, Option, Some, None, Result, Ok, Err, refl, sym, subst, IfSome}
 use Rattle.std.proofs.lemmas.List.{drop_more}
 use Rattle.std.specs.Prelude.{⊤, IfOk, IsErr}

@@ -73,7 +73,7 @@ first_and_others (x ∷ xs) first some is =
     let count : length xs ≤ length (x ∷ xs) - 1 = omega arith in
     ap (λ (l : List LoadedObject). entry_view first ∷ map entry_view l) (take_all (length (x ∷ xs) - 1) xs count) ∙ ap (λ (o : LoadedObject). entry_view o ∷ map entry_view xs) is
 
--- ---- objects, of which each is searched in its way
+-- ---- objects, each searched in its own way
 
 -- all objects are searched in these ways if those from place k on are searched in the others
 abbrev pub AreSearchedWith : List Entry → ℕ → List Searching → Type 0

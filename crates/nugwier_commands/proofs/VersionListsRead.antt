@@ -1,4 +1,4 @@
--- What is wrong in lists of versions of which all were read.
+-- What is wrong in lists of versions that were all read.
 use Rattle.std.proofs.Common.{◌≡◌, ℕ, ◌+◌, Bool, true, false, cond, if◌then◌else◌, List, [], ◌∷◌, ◌++◌, map, Option, Result, Ok, refl, sym, ap, ◌∙◌}
 use Rattle.std.specs.List.{enumerate_from, filter, flat_map}
 use Rattle.elf_records.specs.declared.parse.ParseError.{ParseError}

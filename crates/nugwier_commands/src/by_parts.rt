@@ -129,7 +129,7 @@ fn list_stream<E: EndianParse, S: StreamSource, W: Write>(
     }
 }
 
-// Lists the mappings of a file, of which nothing more is read.
+// Lists the mappings of a file, and reads nothing more of it.
 fn list_planned<E: EndianParse, S: StreamSource, W: Write>(
     alloc: Global,
     format: Format<'_>,

@@ -116,7 +116,7 @@ known_loaded little (Some bytes) s sound cached = record {
   cached = λ start size h. cached_same bytes s.size s.parts sound.len sound.parts start size (subst (λ ranges. IsTrue (is_cached ranges start (start + size))) cached h);
 }
 
--- the stream as a reader has it is its content, of which some ranges are loaded
+-- a reader has a stream as its content, with some ranges loaded
 pub streamed_loaded : {E : Type 0} (little : E → Bool) (s : StreamView E) (bytes : List ℕ) → AreLoadedOf little s bytes → loaded (streamed_file little s) (loaded_ranges s) ≡ loaded (stream_file little s bytes) (loaded_ranges s)
 streamed_loaded little s bytes h = ap (λ size. loaded (record (stream_file little s []) { size = size }) (loaded_ranges s)) h.size
 

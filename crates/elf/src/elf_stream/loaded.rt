@@ -8,7 +8,7 @@ use elf_parts::parse::ParseError;
 use elf_reading::cache::Cache;
 use std::alloc::Allocator;
 
-// The bytes of a range of a file of this length, of which the cache has some parts.
+// The bytes of a range of a file of this length; the cache has some of its parts.
 pub(super) fn cached_range<A: Allocator>(
     cache: &Cache<A>,
     len: u64,

@@ -1,4 +1,4 @@
--- The tables of an opened file, of which a handle is made.
+-- The tables of an opened file that a handle is made of.
 use Rattle.std.specs.Prelude.{◌≡◌, ℕ, ⊤, List, [], Option, Some, None}
 use Rattle.elf_records.specs.Endian.{any_is_little}
 use Rattle.elf_records.specs.Table.{Table, table_in}

@@ -1,4 +1,4 @@
--- What versions that were checked show.
+-- What is known of versions that were checked.
 use Rattle.std.specs.Prelude.{◌≡◌, ℕ, List, [], map, Result, Ok, ⊤}
 use Rattle.std.specs.Result.{result_unwrap_or}
 use Rattle.std.specs.declared.cmp.PartialEq.{Ghosts as PartialEqGhosts}

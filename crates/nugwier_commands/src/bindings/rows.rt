@@ -77,7 +77,7 @@ fn list_file<W: Write, V: Write>(
     Ok(is_read && is_bound)
 }
 
-// No use of any of so many symbols.
+// No uses of this many symbols.
 fn no_uses(alloc: Global, count: usize) -> Result<Vec<SymbolUses>, AllocError>
     ensures { IfOk result (λ uses. uses.items ≡ replicate count no_uses) }
 {

@@ -5,7 +5,7 @@ use Rattle.elf_parts.specs.gnu_symver.Links.{links_left, links_view}
 use Rattle.elf_whole.specs.Chains.{last_distance}
 use Rattle.elf_whole.proofs.chains.chain_fault.Given as goal
 
--- what is left is what lies after those that were found, all of which are sound
+-- what is left lies after those that were found, and all of those are sound
 abbrev pub invariant-loop-start : goal.invariant-loop-start
 invariant-loop-start g l =
     let left = links_left g.R.ParseAt.reads.record_at g.R.Linked.next_distance l.start-iterator in

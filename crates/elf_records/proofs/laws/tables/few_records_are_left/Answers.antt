@@ -1,4 +1,4 @@
--- No more records than bytes, of which there are fewer than 2^64.
+-- No more records than bytes, and fewer than 2^64 bytes.
 use Rattle.std.proofs.Common.{◌-◌, length, arith}
 use Rattle.elf_records.specs.Table.{items_left}
 use Rattle.elf_records.proofs.Items.{items_bounded}
