@@ -187,7 +187,8 @@ struct nugwier_header {
 };
 
 /* A file that was opened. It belongs to the caller, and holds nothing that has to be freed. The tables are those of the
- * section headers and of the program headers, if `has_sections` and `has_segments` say that there are any. */
+ * section headers and of the program headers, if `has_sections` and `has_segments` say that there are any; if not, the
+ * length is 0, and the byte order and the class are those of the header. */
 struct nugwier_file {
     struct nugwier_header header;
     const uint8_t *bytes;
@@ -369,7 +370,7 @@ struct nugwier_status nugwier_sysv_look_up(const struct nugwier_sysv *sysv, cons
                                            size_t name_len, struct nugwier_found *found);
 
 /* The symbols, the dynamic entries and the hash sections of a file, each if the file has it. What it does not have is
- * empty. */
+ * empty: each number and each length is 0, and each `bool` is false. */
 struct nugwier_common {
     struct nugwier_symbol_table symbols;
     struct nugwier_symbol_table dynamic_symbols;
@@ -391,6 +392,8 @@ struct nugwier_status nugwier_hash_check(bool gnu, const uint8_t *section, size_
 
 /* ---- versions of symbols */
 
+/* Needs or definitions. If a file has versions, but none of these, `found` is false, `count` and the lengths are 0, and
+ * the byte order and the class are those of the file. */
 struct nugwier_entries {
     bool found;
     uint64_t count;
@@ -449,14 +452,15 @@ struct nugwier_status nugwier_requirement(const struct nugwier_versions *version
 struct nugwier_status nugwier_definition(const struct nugwier_versions *versions, size_t symbol,
                                          struct nugwier_definition *defined);
 
-/* The next name of a definition. If none is left, `found` is false and `name` stays as it is. After an error the next
- * call goes on with the name after it. */
+/* The next name of a definition. If none is left, `found` is false, `names->count` is 0, and nothing else is written.
+ * Otherwise `names->count` and `names->offset` go on, also after an error, so that the next call takes the name after
+ * it. */
 struct nugwier_status nugwier_version_name(struct nugwier_version_names *names, bool *found,
                                            struct nugwier_bytes *name);
 
 /* ---- the names of values */
 
-/* If `found` is false, the value has no name. */
+/* If `found` is false, the value has no name, and `bytes_len` is 0. */
 struct nugwier_name {
     bool found;
     const uint8_t *bytes;

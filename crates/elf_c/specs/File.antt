@@ -1,5 +1,5 @@
 -- Files that C holds open.
-use Rattle.std.specs.Prelude.{ℕ, Bool, true, false, List, Option, Some, None, Result, Err}
+use Rattle.std.specs.Prelude.{◌≡◌, ℕ, Bool, true, false, List, Option, Some, None, Result, Err}
 use Rattle.elf_records.specs.Endian.{any_is_little, any_of_byte}
 use Rattle.elf_records.specs.Segment.{program_header_reads}
 use Rattle.elf_records.specs.Table.{Table, table_get}
@@ -10,7 +10,7 @@ use Rattle.elf_records.specs.declared.parse.ParseError.TheVariants.{BadOffset}
 use Rattle.elf_records.specs.declared.segment.ProgramHeader.{ProgramHeader}
 use Rattle.elf_reading.specs.Opening.{FileView, opened_file}
 use Rattle.elf.specs.ObjectFile.{ObjectFile, object_file}
-use Rattle.elf_c.specs.Tables.{class_in, is_64, order_in, table_of_c}
+use Rattle.elf_c.specs.Tables.{HasNoBytes, class_in, is_64, order_in, table_of_c}
 use Rattle.elf_c.specs.declared.file.NugwierFile.{NugwierFile}
 use Rattle.elf_c.specs.declared.file.NugwierHeader.{NugwierHeader}
 use Rattle.elf_c.specs.declared.table.NugwierTable.{NugwierTable}
@@ -71,6 +71,12 @@ file_view f = record {
   sections = table_if f.has_sections f.sections;
   segments = table_if f.has_segments f.segments;
 }
+
+-- a table that is not declared has the order and the class of the file, and no bytes
+abbrev pub MissingAreEmpty : NugwierFile → Type 0
+MissingAreEmpty f =
+    (f.has_sections ≡ false → HasNoBytes f.header.little f.header.is_64 f.sections)
+    × (f.has_segments ≡ false → HasNoBytes f.header.little f.header.is_64 f.segments)
 
 -- the object file that it is to the answers about it
 abbrev pub file_of_c : NugwierFile → ObjectFile

@@ -1,9 +1,14 @@
 -- The names of values as C sees them.
-use Rattle.std.specs.Prelude.{ℕ, ◌==◌, codes, if◌then◌else◌, List, Option, Some, None}
+use Rattle.std.specs.Prelude.{ℕ, ◌==◌, codes, Bool, true, false, if◌then◌else◌, List, [], Option, Some, None}
 use Rattle.elf_c.specs.declared.names.NugwierName.{NugwierName}
 
-abbrev pub name_view : NugwierName → Option (List ℕ)
-name_view n = if n.found then Some n.bytes.now else None
+-- whether there is a name, and its bytes: none if there is no name
+abbrev pub name_view : NugwierName → Bool × List ℕ
+name_view n = (n.found, n.bytes.now)
+
+abbrev pub name_shown : Option (List ℕ) → Bool × List ℕ
+name_shown None = (false, [])
+name_shown (Some name) = (true, name)
 
 -- the name of the error with a code
 abbrev pub error_name : ℕ → Option (List ℕ)

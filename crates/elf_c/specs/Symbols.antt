@@ -1,5 +1,5 @@
 -- The tables of a file that its headers lead to, as C sees them: each is there or not.
-use Rattle.std.specs.Prelude.{ℕ, Bool, if◌then◌else◌, List, Option, Some, None}
+use Rattle.std.specs.Prelude.{ℕ, Bool, false, if◌then◌else◌, List, Option, Some, None}
 use Rattle.elf_abi.specs.Values.{sht_dynsym, sht_symtab}
 use Rattle.elf_records.specs.Table.{Table}
 use Rattle.elf_c.specs.Tables.{table_of_c}
@@ -22,5 +22,12 @@ symbols_pair s = (table_of_c s.symbols, s.strings.now)
 abbrev pub symbols_view_of_c : NugwierSymbolTable → Option (Table × List ℕ)
 symbols_view_of_c s = if s.found then Some (symbols_pair s) else None
 
+-- the same struct, but for that nothing is found
+abbrev pub no_symbols_in : NugwierSymbolTable → NugwierSymbolTable
+no_symbols_in s = record s { found = false }
+
 abbrev pub dynamic_view : NugwierDynamicTable → Option Table
 dynamic_view d = if d.found then Some (table_of_c d.entries) else None
+
+abbrev pub no_dynamics_in : NugwierDynamicTable → NugwierDynamicTable
+no_dynamics_in d = record d { found = false }

@@ -1,5 +1,5 @@
 -- Tables of records as C gives and gets them: their bytes, with their byte order and class.
-use Rattle.std.specs.Prelude.{ℕ, Bool, true, false, List}
+use Rattle.std.specs.Prelude.{◌≡◌, ℕ, Bool, true, false, List, []}
 use Rattle.elf_records.specs.Table.{Table, table_in}
 use Rattle.elf_records.specs.declared.endian.AnyEndian.{AnyEndian}
 use Rattle.elf_records.specs.declared.endian.AnyEndian.TheVariants.{Little, Big}
@@ -23,6 +23,10 @@ is_64 ELF64 = true
 -- the table that a struct of C holds
 abbrev pub table_of_c : NugwierTable → Table
 table_of_c t = table_in t.little (class_in t.is_64) t.bytes.now
+
+-- a struct with this order and this class, and no bytes
+abbrev pub HasNoBytes : Bool → Bool → NugwierTable → Type 0
+HasNoBytes little is_64 t = (t.little ≡ little) × (t.is_64 ≡ is_64) × (t.bytes.now ≡ [])
 
 -- some bytes
 abbrev pub bytes_view : NugwierBytes → List ℕ

@@ -11,7 +11,8 @@ use Rattle.elf_parts.specs.declared.gnu_symver.records.VersionIndex.{VersionInde
 use Rattle.elf_records.specs.Record.{◌>>=◌}
 use Rattle.elf_records.specs.declared.parse.ParseError.{ParseError}
 use Rattle.elf_c.specs.Status.{IsWritten, done, status_of}
-use Rattle.elf_c.specs.Tables.{bytes_view, table_of_c}
+use Rattle.elf_c.specs.Tables.{HasNoBytes, bytes_view, table_of_c}
+use Rattle.elf_c.specs.declared.file.NugwierFile.{NugwierFile}
 use Rattle.elf_c.specs.declared.status.NugwierStatus.{NugwierStatus}
 use Rattle.elf_c.specs.declared.strings.NugwierBytes.{NugwierBytes}
 use Rattle.elf_c.specs.declared.versions.NugwierDefinition.{NugwierDefinition}
@@ -43,6 +44,20 @@ versions_of_c v = record {
 
 abbrev pub versions_view_of_c : NugwierVersions → Option Versions
 versions_view_of_c v = if v.found then Some (versions_of_c v) else None
+
+-- the same struct, but for that nothing is found
+abbrev pub no_versions_in : NugwierVersions → NugwierVersions
+no_versions_in v = record v { found = false }
+
+-- needs or definitions that are not found in a file: their count is 0, and they have no bytes
+abbrev pub HasNoEntries : NugwierFile → NugwierEntries → Type 0
+HasNoEntries file e =
+    (e.count ≡ 0) × HasNoBytes file.header.little file.header.is_64 e.entries × (e.strings.now ≡ [])
+
+abbrev pub MissingAreEmpty : NugwierFile → NugwierVersions → Type 0
+MissingAreEmpty file v =
+    (v.needs.found ≡ false → HasNoEntries file v.needs)
+    × (v.definitions.found ≡ false → HasNoEntries file v.definitions)
 
 -- ---- what a symbol has
 
@@ -80,6 +95,9 @@ needed_view r =
 abbrev pub requirement_view : NugwierRequirement → Option Named
 requirement_view r = if r.found then Some (needed_view r) else None
 
+abbrev pub no_requirement_in : NugwierRequirement → NugwierRequirement
+no_requirement_in r = record r { found = false }
+
 -- ---- what a symbol is defined with
 
 -- the raw names that are left, each a name or an error
@@ -91,6 +109,17 @@ defined_view d = record { hash = d.hash; flags = d.flags; names = names_left d.n
 
 abbrev pub definition_view : NugwierDefinition → Option Definition
 definition_view d = if d.found then Some (defined_view d) else None
+
+abbrev pub no_definition_in : NugwierDefinition → NugwierDefinition
+no_definition_in d = record d { found = false }
+
+-- the names of the same bytes, of which none is left
+abbrev pub no_more_names : NugwierVersionNames → NugwierVersionNames
+no_more_names n = record n { count = 0 }
+
+-- the bytes in which two structs have their names are the same
+abbrev pub SameBytes : NugwierVersionNames → NugwierVersionNames → Type 0
+SameBytes n m = (n.entries ≡ m.entries) × (n.strings ≡ m.strings)
 
 -- a call took the first name that was left, or nothing was left
 abbrev pub TakesName : List (Result (List ℕ) ParseError) → List (Result (List ℕ) ParseError) → Bool →

@@ -1,15 +1,16 @@
 //! What is looked up most often, found in one pass over the sections.
-ghost use Rattle.std.specs.Prelude.{◌≡◌, [], false};
+ghost use Rattle.std.specs.Prelude.{◌≡◌, IfOk, [], false};
 ghost use Rattle.elf.specs.Answers.{symbols_of};
 ghost use Rattle.elf.specs.Common.{common_of_sections, common_part, find_common_data, gnu_hash_table_of};
 ghost use Rattle.elf.specs.Common.{last_of_each, sysv_hash_table_of};
 ghost use Rattle.elf.specs.inner.Passes.{with_part};
 ghost use Rattle.elf_records.specs.Number.{ok_map};
-ghost use Rattle.elf_c.specs.Common.{common_of_c};
+ghost use Rattle.elf_c.specs.Common.{AreNoSymbols, IsNoGnu, MissingAreEmpty, common_of_c};
 ghost use Rattle.elf_c.specs.File.{file_of_c};
 ghost use Rattle.elf_c.specs.HashTables.{gnu_of_c, sysv_of_c};
 ghost use Rattle.elf_c.specs.Status.{IsWritten, status_of};
 ghost use Rattle.elf_c.specs.Symbols.{pair_view};
+ghost use Rattle.elf_c.specs.Tables.{HasNoBytes};
 
 use crate::data::table_in;
 use crate::file::{NugwierFile, file_in};
@@ -22,7 +23,7 @@ use elf::{ParseError, abi};
 use elf_parts::section::SectionHeader;
 
 /// The symbols, the dynamic entries and the hash sections of a file, each if the file has it. A hash section is opened.
-/// What the file does not have is empty.
+/// What the file does not have is empty: each number is 0, each `bool` is false, and there are no bytes.
 #[repr(C)]
 #[derive(Drop)]
 pub struct NugwierCommon<'data> {
@@ -36,7 +37,9 @@ pub struct NugwierCommon<'data> {
 }
 
 // A table with no bytes.
-fn no_table() -> NugwierTable<'static> {
+fn no_table() -> NugwierTable<'static>
+    ensures { HasNoBytes false false result }
+{
     NugwierTable {
         little: false,
         is_64: false,
@@ -46,7 +49,7 @@ fn no_table() -> NugwierTable<'static> {
 
 // No symbols.
 fn no_symbols() -> NugwierSymbolTable<'static>
-    ensures { result.found ≡ false }
+    ensures { AreNoSymbols result }
 {
     NugwierSymbolTable {
         found: false,
@@ -56,7 +59,9 @@ fn no_symbols() -> NugwierSymbolTable<'static>
 }
 
 // An opened GNU hash section with no words.
-fn no_gnu() -> NugwierGnu<'static> {
+fn no_gnu() -> NugwierGnu<'static>
+    ensures { IsNoGnu result }
+{
     NugwierGnu {
         little: false,
         is_64: false,
@@ -72,7 +77,8 @@ fn no_gnu() -> NugwierGnu<'static> {
 
 // What is found in no sections.
 fn nothing() -> NugwierCommon<'static>
-    ensures { common_of_c result ≡ last_of_each [] }
+    ensures found { common_of_c result ≡ last_of_each [] }
+    ensures missing { MissingAreEmpty result }
 {
     NugwierCommon {
         symbols: no_symbols(),
@@ -137,8 +143,10 @@ fn add_section<'data>(
     shdr: &SectionHeader,
     found: &mut NugwierCommon<'data>,
 ) -> Result<(), ParseError>
-    ensures { ok_map (λ _. common_of_c found.new) result
+    requires { MissingAreEmpty found.old }
+    ensures found { ok_map (λ _. common_of_c found.new) result
         ≡ ok_map (with_part (common_of_c found.old)) (common_part (file_of_c file.now) shdr.now) }
+    ensures missing { MissingAreEmpty found.new }
 {
     match shdr.sh_type {
         abi::SHT_SYMTAB => {
@@ -180,7 +188,8 @@ fn add_section<'data>(
 // What the sections hold.
 #[tactic(auto, using(elf::proofs::CommonPass::common_in_all, elf::proofs::CommonPass::common_of_none))]
 fn common_of_sections<'data>(file: &NugwierFile<'data>) -> Result<NugwierCommon<'data>, ParseError>
-    ensures { ok_map common_of_c result ≡ common_of_sections (file_of_c file.now) }
+    ensures found { ok_map common_of_c result ≡ common_of_sections (file_of_c file.now) }
+    ensures missing { IfOk result (λ found. MissingAreEmpty found) }
 {
     let mut found = nothing();
     if !file.has_sections {
@@ -194,7 +203,8 @@ fn common_of_sections<'data>(file: &NugwierFile<'data>) -> Result<NugwierCommon<
 
 // The same, with the dynamic entries of a segment if no section has any.
 fn common_in<'data>(file: &NugwierFile<'data>) -> Result<NugwierCommon<'data>, ParseError>
-    ensures { ok_map common_of_c result ≡ find_common_data (file_of_c file.now) }
+    ensures found { ok_map common_of_c result ≡ find_common_data (file_of_c file.now) }
+    ensures missing { IfOk result (λ found. MissingAreEmpty found) }
 {
     let mut found = common_of_sections(file)?;
     if !found.dynamics.found
@@ -219,6 +229,7 @@ pub extern "C" fn nugwier_common<'data>(
 ) -> NugwierStatus
     ensures status { result ≡ status_of (find_common_data (file_of_c file.now)) }
     ensures common { IsWritten common_of_c common.new common.old (find_common_data (file_of_c file.now)) }
+    ensures missing { IfOk (find_common_data (file_of_c file.now)) (λ _. MissingAreEmpty common.new) }
 {
     match common_in(file) {
         Ok(found) => {

@@ -1,9 +1,9 @@
 //! Files that were opened: their header, their bytes and their two tables of headers.
-ghost use Rattle.std.specs.Prelude.{◌≡◌};
+ghost use Rattle.std.specs.Prelude.{◌≡◌, IfOk};
 ghost use Rattle.std.specs.Option.{option_map};
 ghost use Rattle.elf.specs.ElfBytes.{view};
 ghost use Rattle.elf_records.specs.Table.{table_view};
-ghost use Rattle.elf_c.specs.File.{file_of_c, file_view, header_in, header_shown};
+ghost use Rattle.elf_c.specs.File.{MissingAreEmpty, file_of_c, file_view, header_in, header_shown};
 ghost use Rattle.elf_c.specs.inner.OwnTables.{HasOwnTables, bytes_if};
 ghost use Rattle.elf_c.specs.File.{opened_in, segment_at, table_if};
 ghost use Rattle.elf_c.specs.Records.{section_shown, segment_shown};
@@ -42,8 +42,9 @@ pub struct NugwierHeader {
     pub shstrndx: u16,
 }
 
-/// A file that was opened. It belongs to the caller, and holds nothing that has to be freed. The header may be
-/// changed: the calls use its current class, byte order and `shstrndx`.
+/// A file that was opened. It belongs to the caller, and holds nothing that has to be freed. A table that the file does
+/// not declare has no bytes, and the byte order and the class of the header. The header may be changed: the calls use
+/// its current class, byte order and `shstrndx`.
 #[repr(C)]
 #[derive(Drop)]
 pub struct NugwierFile<'data> {
@@ -119,7 +120,8 @@ fn bytes_of<'data, R: ParseAt>(table: &Option<ParsingTable<'data, AnyEndian, R>>
 #[tactic(auto, using(crate::proofs::Files::shown_is))]
 fn file_shown<'data>(file: &ElfBytes<'data, AnyEndian>) -> NugwierFile<'data>
     requires { HasOwnTables (view file.now) }
-    ensures { file_view result ≡ view file.now }
+    ensures view { file_view result ≡ view file.now }
+    ensures missing { MissingAreEmpty result }
 {
     let little = file.ehdr.endianness.is_little();
     let is_64 = is_64(file.ehdr.class);
@@ -180,6 +182,7 @@ pub extern "C" fn nugwier_open<'data>(
 ) -> NugwierStatus
     ensures status { result ≡ status_of (opened_in bytes.now) }
     ensures file { IsWritten file_view file.new file.old (opened_in bytes.now) }
+    ensures missing { IfOk (opened_in bytes.now) (λ _. MissingAreEmpty file.new) }
 {
     match ElfBytes::<AnyEndian>::minimal_parse(bytes) {
         Ok(found) => {

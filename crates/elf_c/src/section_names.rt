@@ -6,8 +6,8 @@ ghost use Rattle.elf.specs.Answers.{section_header_by_name};
 ghost use Rattle.elf.specs.Names.{name_table};
 ghost use Rattle.elf_c.specs.File.{file_of_c};
 ghost use Rattle.elf_c.specs.Records.{section_shown};
-ghost use Rattle.elf_c.specs.SectionNames.{names_view, some_or};
-ghost use Rattle.elf_c.specs.Status.{IsWritten, status_of, written};
+ghost use Rattle.elf_c.specs.SectionNames.{names_view, no_names_in, some_or};
+ghost use Rattle.elf_c.specs.Status.{IsWrittenIf, status_of, written};
 
 use crate::file::{NugwierFile, file_in};
 use crate::records::NugwierSection;
@@ -46,7 +46,7 @@ pub extern "C" fn nugwier_section_names<'data>(
     names: &mut NugwierSectionNames<'data>,
 ) -> NugwierStatus
     ensures status { result ≡ status_of (name_table (file_of_c file.now)) }
-    ensures names { IsWritten names_view names.new names.old (name_table (file_of_c file.now)) }
+    ensures names { IsWrittenIf names_view no_names_in names.new names.old (name_table (file_of_c file.now)) }
 {
     match names_in(file) {
         Ok(Some(strings)) => {

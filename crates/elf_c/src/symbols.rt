@@ -4,8 +4,9 @@ ghost use Rattle.std.specs.Option.{option_map};
 ghost use Rattle.elf_records.specs.Number.{ok_map};
 ghost use Rattle.elf.specs.Answers.{dynamic, first_symbols, section_dynamic, segment_dynamic};
 ghost use Rattle.elf_c.specs.File.{file_of_c};
-ghost use Rattle.elf_c.specs.Status.{IsWritten, status_of};
-ghost use Rattle.elf_c.specs.Symbols.{dynamic_view, pair_view, symbols_type, symbols_view_of_c};
+ghost use Rattle.elf_c.specs.Status.{IsWrittenIf, status_of};
+ghost use Rattle.elf_c.specs.Symbols.{dynamic_view, no_dynamics_in, no_symbols_in, pair_view, symbols_type};
+ghost use Rattle.elf_c.specs.Symbols.{symbols_view_of_c};
 ghost use Rattle.elf_c.specs.Tables.{table_of_c};
 
 use crate::data::table_in;
@@ -74,7 +75,7 @@ pub extern "C" fn nugwier_symbol_table<'data>(
     symbols: &mut NugwierSymbolTable<'data>,
 ) -> NugwierStatus
     ensures status { result ≡ status_of (first_symbols (symbols_type dynamic) (file_of_c file.now)) }
-    ensures symbols { IsWritten symbols_view_of_c symbols.new symbols.old
+    ensures symbols { IsWrittenIf symbols_view_of_c no_symbols_in symbols.new symbols.old
         (first_symbols (symbols_type dynamic) (file_of_c file.now)) }
 {
     match symbols_in(file, dynamic) {
@@ -143,7 +144,8 @@ pub extern "C" fn nugwier_dynamic_table<'data>(
     dynamics: &mut NugwierDynamicTable<'data>,
 ) -> NugwierStatus
     ensures status { result ≡ status_of (dynamic (file_of_c file.now)) }
-    ensures dynamics { IsWritten dynamic_view dynamics.new dynamics.old (dynamic (file_of_c file.now)) }
+    ensures dynamics { IsWrittenIf dynamic_view no_dynamics_in dynamics.new dynamics.old
+        (dynamic (file_of_c file.now)) }
 {
     match dynamic_in(file) {
         Ok(Some(entries)) => {

@@ -1,14 +1,15 @@
 //! The versions of the symbols of a file: where its headers say that they lie.
-ghost use Rattle.std.specs.Prelude.{◌≡◌, None, Some};
+ghost use Rattle.std.specs.Prelude.{◌≡◌, IfOk, IfSome, None, Some, false, true};
 ghost use Rattle.std.specs.Option.{option_map};
 ghost use Rattle.elf_records.specs.Number.{ok_map};
 ghost use Rattle.elf.specs.Answers.{symbol_version_table};
 ghost use Rattle.elf.specs.Headers.{if_found};
 ghost use Rattle.elf.specs.Versions.{version_definitions, version_indexes, version_needs, versions_of};
 ghost use Rattle.elf_c.specs.File.{file_of_c};
-ghost use Rattle.elf_c.specs.Status.{IsWritten, status_of};
+ghost use Rattle.elf_c.specs.Status.{IsWrittenIf, status_of};
 ghost use Rattle.elf_c.specs.Tables.{table_of_c};
-ghost use Rattle.elf_c.specs.Versions.{definitions_of_c, needs_of_c, versions_of_c, versions_view_of_c};
+ghost use Rattle.elf_c.specs.Versions.{HasNoEntries, MissingAreEmpty, definitions_of_c, needs_of_c, no_versions_in};
+ghost use Rattle.elf_c.specs.Versions.{versions_of_c, versions_view_of_c};
 
 use crate::data::table_in;
 use crate::file::{NugwierFile, file_in};
@@ -42,6 +43,7 @@ fn entries_in<'data>(
     ensures needs { ok_map needs_of_c result ≡ ok_map Some (version_needs (file_of_c file.now) shdr.now) }
     ensures definitions { ok_map definitions_of_c result
         ≡ ok_map Some (version_definitions (file_of_c file.now) shdr.now) }
+    ensures found { IfOk result (λ e. e.found ≡ true) }
 {
     let object = file_in(file);
     let bytes = object.section_range(shdr)?;
@@ -59,6 +61,7 @@ fn entries_in<'data>(
 fn no_entries<'data>(file: &NugwierFile<'data>) -> NugwierEntries<'data>
     ensures needs { needs_of_c result ≡ None }
     ensures definitions { definitions_of_c result ≡ None }
+    ensures empty { HasNoEntries file.now result }
 {
     NugwierEntries {
         found: false,
@@ -76,6 +79,7 @@ fn entries_if<'data>(
     ensures needs { ok_map needs_of_c result ≡ if_found (version_needs (file_of_c file.now)) shdr }
     ensures definitions { ok_map definitions_of_c result
         ≡ if_found (version_definitions (file_of_c file.now)) shdr }
+    ensures missing { IfOk result (λ e. e.found ≡ false → HasNoEntries file.now e) }
 {
     match shdr {
         Some(shdr) => entries_in(file, &shdr),
@@ -89,7 +93,8 @@ fn versions_of<'data>(
     chosen: VersionSections,
     shdr: &SectionHeader,
 ) -> Result<NugwierVersions<'data>, ParseError>
-    ensures { ok_map versions_of_c result ≡ versions_of (file_of_c file.now) chosen shdr.now }
+    ensures found { ok_map versions_of_c result ≡ versions_of (file_of_c file.now) chosen shdr.now }
+    ensures missing { IfOk result (λ v. MissingAreEmpty file.now v) }
 {
     let indexes = indexes_in(file, shdr)?;
     let needs = entries_if(file, chosen.needs)?;
@@ -106,7 +111,8 @@ fn versions_of<'data>(
 fn versions_in<'data>(
     file: &NugwierFile<'data>,
 ) -> Result<Option<NugwierVersions<'data>>, ParseError>
-    ensures { ok_map (option_map versions_of_c) result ≡ symbol_version_table (file_of_c file.now) }
+    ensures found { ok_map (option_map versions_of_c) result ≡ symbol_version_table (file_of_c file.now) }
+    ensures missing { IfOk result (λ found. IfSome found (λ v. MissingAreEmpty file.now v)) }
 {
     let chosen = file_in(file).version_sections();
     match chosen.indexes {
@@ -123,8 +129,10 @@ pub extern "C" fn nugwier_version_table<'data>(
     versions: &mut NugwierVersions<'data>,
 ) -> NugwierStatus
     ensures status { result ≡ status_of (symbol_version_table (file_of_c file.now)) }
-    ensures versions { IsWritten versions_view_of_c versions.new versions.old
+    ensures versions { IsWrittenIf versions_view_of_c no_versions_in versions.new versions.old
         (symbol_version_table (file_of_c file.now)) }
+    ensures missing { IfOk (symbol_version_table (file_of_c file.now))
+        (λ found. IfSome found (λ _. MissingAreEmpty file.now versions.new)) }
 {
     match versions_in(file) {
         Ok(Some(found)) => {

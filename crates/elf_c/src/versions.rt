@@ -1,6 +1,6 @@
 //! The versions of symbols: the version index of a symbol, the version that it needs of another file, and the one with
 //! which it is defined.
-ghost use Rattle.std.specs.Prelude.{◌≡◌};
+ghost use Rattle.std.specs.Prelude.{◌≡◌, []};
 ghost use Rattle.std.specs.List.{find};
 ghost use Rattle.std.specs.Option.{option_map};
 ghost use Rattle.elf_parts.specs.gnu_symver.Records.{ver_def_reads};
@@ -8,11 +8,12 @@ ghost use Rattle.elf_parts.specs.gnu_symver.Links.{links_left, links_view};
 ghost use Rattle.elf_parts.specs.gnu_symver.Lists.{ver_need_aux_left, ver_needs_left};
 ghost use Rattle.elf_parts.specs.gnu_symver.Table.{definition, needed_version, raw_names, version_with};
 ghost use Rattle.elf_records.specs.Number.{ok_map};
-ghost use Rattle.elf_c.specs.Status.{IsWritten, status_of, written};
+ghost use Rattle.elf_c.specs.Status.{IsWrittenIf, status_of, written};
 ghost use Rattle.elf_c.specs.Tables.{table_of_c};
-ghost use Rattle.elf_c.specs.Versions.{TakesName, defined_view, definition_view};
+ghost use Rattle.elf_c.specs.Versions.{SameBytes, TakesName, defined_view, definition_view};
 ghost use Rattle.elf_c.specs.inner.DefinitionLinks.{aux_of_links, definition_links};
-ghost use Rattle.elf_c.specs.Versions.{index_of_c, names_left, versions_of_c};
+ghost use Rattle.elf_c.specs.Versions.{index_of_c, names_left, no_definition_in, no_more_names, no_requirement_in};
+ghost use Rattle.elf_c.specs.Versions.{versions_of_c};
 ghost use Rattle.elf_c.specs.inner.DefinitionLinks.{has_index};
 ghost use Rattle.elf_c.specs.Versions.{needed_view, needs_list, requirement_of_c, requirement_view, version_shown};
 
@@ -28,7 +29,8 @@ use elf_parts::parse::ParseError;
 use elf_parts::string_table::StringTable;
 
 /// The entries of a version section, needs or definitions, if there are any: at most `count` records, the first at the
-/// start of `entries`, and the strings with their names.
+/// start of `entries`, and the strings with their names. If a file has versions, but none of these, `count` is 0, there
+/// are no bytes, and `entries` has the byte order and the class of the file.
 #[repr(C)]
 #[derive(Drop)]
 pub struct NugwierEntries<'data> {
@@ -197,7 +199,7 @@ pub extern "C" fn nugwier_requirement<'data>(
     requirement: &mut NugwierRequirement<'data>,
 ) -> NugwierStatus
     ensures status { result ≡ status_of (requirement_of_c versions.now symbol) }
-    ensures requirement { IsWritten requirement_view requirement.new requirement.old
+    ensures requirement { IsWrittenIf requirement_view no_requirement_in requirement.new requirement.old
         (requirement_of_c versions.now symbol) }
 {
     match requirement_in(versions, symbol) {
@@ -301,7 +303,7 @@ pub extern "C" fn nugwier_definition<'data>(
     defined: &mut NugwierDefinition<'data>,
 ) -> NugwierStatus
     ensures status { result ≡ status_of (definition (versions_of_c versions.now) symbol) }
-    ensures defined { IsWritten definition_view defined.new defined.old
+    ensures defined { IsWrittenIf definition_view no_definition_in defined.new defined.old
         (definition (versions_of_c versions.now) symbol) }
 {
     match definition_in(versions, symbol) {
@@ -318,16 +320,19 @@ pub extern "C" fn nugwier_definition<'data>(
     }
 }
 
-/// Takes the next name of a version. If none is left, `found` is false, and nothing else is written. A name that cannot
-/// be read is an error, which leaves `name` as it is; the next call goes on with the name after it. The errors are
-/// those of `StringTable::get_raw`.
+/// Takes the next name of a version. If none is left, `found` is false, the count of `names` is 0, and nothing else is
+/// written. Otherwise the count and the offset of `names` go on. A name that cannot be read is an error, which leaves
+/// `name` as it is; the next call goes on with the name after it. The errors are those of `StringTable::get_raw`.
+#[tactic(auto, unfolding(elf_parts::specs::gnu_symver::Links::links_in))]
 #[unsafe(no_mangle)]
 pub extern "C" fn nugwier_version_name<'data>(
     names: &mut NugwierVersionNames<'data>,
     found: &mut bool,
     name: &mut NugwierBytes<'data>,
 ) -> NugwierStatus
-    ensures { TakesName (names_left names.old) (names_left names.new) found.new name.new name.old result }
+    ensures name { TakesName (names_left names.old) (names_left names.new) found.new name.new name.old result }
+    ensures bytes { SameBytes names.new names.old }
+    ensures end { names_left names.old ≡ [] → names.new ≡ no_more_names names.old }
 {
     let mut links: Links<'data, AnyEndian, VerDefAux> = Links::new(
         names.entries.little,
@@ -336,15 +341,15 @@ pub extern "C" fn nugwier_version_name<'data>(
         names.offset,
         names.entries.bytes,
     );
-    let taken = links.next();
-    names.count = links.limit();
-    names.offset = links.offset();
-    match taken {
+    match links.next() {
         Some((_, record)) => {
+            names.count = links.limit();
+            names.offset = links.offset();
             *found = true;
             nugwier_string(names.strings, record.vda_name as usize, name)
         }
         None => {
+            names.count = 0;
             *found = false;
             done()
         }
