@@ -5,14 +5,15 @@
 //! after `fails` the file cannot be read whole either, after `slips` it can (`source`).
 #![tactic(auto)]
 
-ghost use Rattle.std.specs.Prelude.{None, ⊤};
+ghost use Rattle.std.specs.Prelude.{None};
 
 mod changes;
 mod source;
 
 use changes::change;
-use nugwier_commands::files::{Files, Libraries};
+use elf_tools::tree::Libraries;
 use nugwier_commands::run::run;
+use nugwier_files::files::Files;
 use source::{CaseSource, broken, failing_read};
 use std::alloc::AllocError;
 use std::fs::File;
@@ -29,9 +30,8 @@ struct CaseFiles<'a> {
 impl Files for CaseFiles<'_> {
     type Source = CaseSource;
 
-    ghost reads = { λ _ _ _. ⊤ };
-
-    ghost opens = { λ _ _ _. ⊤ };
+    // Files may change, so their contents are not known.
+    ghost known = { λ _. None };
 
     fn open(&self, path: &str) -> Option<CaseSource> {
         let (name, reads) = match path.split_once(',') {
@@ -54,6 +54,8 @@ impl Files for CaseFiles<'_> {
             None => fs::read(self.rt, path),
         }
     }
+
+    fn has_libraries(&self) {}
 }
 
 impl Libraries for CaseFiles<'_> {
@@ -85,10 +87,15 @@ fn main(rt: HostRuntime) -> io::Result<()> {
 
 fn show_case<W: Write>(rt: &HostRuntime, case: &str, out: &mut W) -> io::Result<()> {
     let words: Vec<&str> = case.split_whitespace().collect(rt.alloc())?;
-    let mut listed = Vec::new(rt.alloc());
-    let mut told = Vec::new(rt.alloc());
     let files = CaseFiles { rt };
-    let status = run(rt.alloc(), words.as_slice(), &files, &mut listed, &mut told);
+    let (outcome, listed, told) = run(
+        rt.alloc(),
+        words.as_slice(),
+        &files,
+        Vec::new(rt.alloc()),
+        Vec::new(rt.alloc()),
+    );
+    let status = outcome.status();
     writeln!(out, "== nugwier {case}")?;
     out.write_all(listed.as_slice())?;
     out.write_all(told.as_slice())?;

@@ -1,14 +1,1 @@
-pub mod Numbers
-pub mod Listed
-pub mod Parted
-pub mod Planned
-pub mod AllRight
-pub mod ReadAll
-pub mod NotesRead
-pub mod VersionListsRead
-pub mod Totals
-pub mod ContentParts
-pub mod RelocationParts
-pub mod Bound
-pub mod Scopes
-pub mod Identified
+pub mod AllFiles

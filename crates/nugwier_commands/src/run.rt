@@ -1,301 +1,346 @@
 //! Runs the program, apart from the operating system.
-ghost use Rattle.std.specs.Prelude.{◌≡◌, false, IfOk, OnOk, Result};
-ghost use Rattle.elf.specs.ElfBytes.{view};
-ghost use Rattle.elf.specs.ObjectFile.{object_file};
-ghost use Rattle.nugwier_commands.specs.Status.{AreBytesRight, AreFilesRight, IsFileRight, IsRightBy, IsRightFor};
-ghost use Rattle.nugwier_commands.specs.Status.{IsStatusOf, IsWholeRight, IsWrongFor, ended_status};
-ghost use Rattle.nugwier_commands.specs.Words.{IsOfWords};
-ghost use Rattle.nugwier_commands.specs.declared.words.Request.{Request};
-ghost use Rattle.nugwier_commands.specs.declared.words.WordError.{WordError};
+ghost use Rattle.std.specs.Prelude.{◌≡◌, ◌++◌, codes, true, IfOk, Ok, OnOk};
+ghost use Rattle.std.specs.Io.KnownBytes.{Appends};
+ghost use Rattle.nugwier_commands.specs.Run.{IsAnswered, IsBytesSaid, IsProgramSaid, IsRun, has_headings, heading_of};
+ghost use Rattle.nugwier_commands.specs.Run.{status_of};
+ghost use Rattle.nugwier_commands.specs.inner.Loading.{IsFileEnded, IsOutcomeOf, IsPathEnded, IsSaidAndWritten};
+ghost use Rattle.nugwier_commands.specs.inner.Loading.{IsWordsTold};
+ghost use Rattle.nugwier_words.specs.Words.{answer_of, parsed, run as run_answer, task_of};
 
-use crate::addresses::list_addresses;
-use crate::bindings::run_bindings;
-use crate::by_parts::run_by_parts;
-use crate::check::check;
-use crate::files::Files;
-use crate::help::{VERSION, help};
-use crate::identity::list_build_id;
-use crate::list::list;
-use crate::plan::list_plan;
-use crate::report::report;
-use crate::strings::list_needed;
-use crate::symbols::list_dynamic_symbols;
-use crate::tree::run_tree;
-use crate::words::{Command, Job, Request, WordError, parse_words};
-use elf::endian::{AnyEndian, EndianParse};
-use elf::{ElfBytes, ParseError};
-use nugwier_lines::escape::Escaped;
-use nugwier_lines::json::Format;
-use nugwier_lines::problem::{Problems, Stop};
-use nugwier_lines::symbols::Form;
+use crate::ended::{Ended, Target};
+use crate::loading::{Listed, list_source, stopped};
+use elf::endian::AnyEndian;
+use elf::{ElfBytes, MemSource, ParseError};
+use nugwier_files::files::Files;
+use nugwier_report::kind::Kind;
+use nugwier_report::problem::{Fault, Stop};
+use nugwier_words::help::{VERSION, help};
+use nugwier_words::words::{Command, Job, Request, WordError, parse_words};
 use std::alloc::Global;
-use std::fmt::Display;
 use std::io;
 use std::io::Write;
 
+/// How a run ended.
+#[derive(Debug, Drop)]
+pub enum Outcome {
+    /// The words are wrong.
+    Wrong,
+    /// All was said: whether nothing is wrong.
+    Done(bool),
+    /// A write or an allocation failed.
+    Stopped(Stop),
+}
+
+impl Outcome {
+    /// Returns the exit status: 0 if all was said and nothing is wrong; 1 if something is wrong, or if the run was
+    /// stopped; 2 if the words are wrong.
+    pub fn status(&self) -> u8
+        ensures { result ≡ status_of self.now }
+    {
+        match self {
+            Outcome::Done(true) => 0,
+            Outcome::Done(false) | Outcome::Stopped(_) => 1,
+            Outcome::Wrong => 2,
+        }
+    }
+}
+
 /// Does what the words, the arguments after the program's name, ask for. Writes listings to `out`, and flushes it.
-/// Tells on `err` what is wrong, and ignores an error of that write.
-///
-/// Returns the exit status: 0 if all was read; 1 if a file, or a part of it, is missing, cannot be read or is wrong, the
-/// writer failed or an allocation failed; 2 if the words are wrong.
+/// Tells on `err` what is wrong, and ignores an error of that write. Returns how the run ended, and the writers.
 pub fn run<F: Files, W: Write, V: Write>(
     alloc: Global,
     words: &[&str],
     files: &F,
-    out: &mut W,
-    err: &mut V,
-) -> u8
-    ensures { (parsed : Result Request WordError) × IsOfWords words.now parsed
-        × IsStatusOf (F.reads files.now) (F.opens files.now) (F.contents files.now) parsed result }
+    out: W,
+    err: V,
+) -> (Outcome, W, V)
+    ensures { IsRun (F.known files.now) (W.contents out) (W.contents result.1) (parsed words.now) result.0 }
 {
-    run_request(alloc, parse_words(alloc, words), files, out, err)
+    match parse_words(alloc, words) {
+        Ok(request) => answer(alloc, request, files, out, err),
+        Err(error) => tell(error, out, err),
+    }
 }
 
-// Does what is asked for, or tells why the words are wrong.
-fn run_request<F: Files, W: Write, V: Write>(
-    alloc: Global,
-    parsed: Result<Request<'_>, WordError<'_>>,
-    files: &F,
-    out: &mut W,
-    err: &mut V,
-) -> u8
-    ensures { IsStatusOf (F.reads files.now) (F.opens files.now) (F.contents files.now) parsed.entry result }
+// Tells why the words are wrong.
+fn tell<W: Write, V: Write>(error: WordError<'_>, out: W, mut err: V) -> (Outcome, W, V)
+    ensures { IsWordsTold error.entry (W.contents out) (W.contents result.1) result.0 }
 {
-    match parsed {
-        Ok(Request::Help(command)) => ended(print(help(command), out), err),
-        Ok(Request::Version) => ended(print(VERSION, out), err),
-        Ok(Request::Run(job)) => {
-            let ran = run_job(alloc, &job, files, out, err);
-            ended(ran, err)
-        }
-        Err(error) => {
-            let _ = writeln!(err, "{error}");
-            match error {
-                WordError::Memory => 1,
-                _ => 2,
-            }
+    let _ = writeln!(err, "{error}");
+    let _ = err.flush();
+    match error {
+        WordError::Memory => (Outcome::Stopped(Stop::Memory), out, err),
+        _ => (Outcome::Wrong, out, err),
+    }
+}
+
+// Does what is asked for.
+fn answer<F: Files, W: Write, V: Write>(
+    alloc: Global,
+    request: Request<'_>,
+    files: &F,
+    out: W,
+    err: V,
+) -> (Outcome, W, V)
+    ensures { IsRun (F.known files.now) (W.contents out) (W.contents result.1) (Ok (answer_of request.entry)) result.0 }
+{
+    match request {
+        Request::Help(command) => outcome_of(print(help(command), out, err)),
+        Request::Version => outcome_of(print(VERSION, out, err)),
+        Request::Run(job) => outcome_of(run_job(alloc, &job, files, out, err)),
+    }
+}
+
+// How a run ended. That the reader of the output has gone is not told; any other reason to stop is.
+fn outcome_of<W: Write, V: Write>(ended: Ended<W, V>) -> (Outcome, W, V)
+    ensures { IsOutcomeOf ended.said result.0 × (result.1 ≡ ended.out) }
+{
+    let Ended { said, out, mut err } = ended;
+    match said {
+        Ok(is_right) => (Outcome::Done(is_right), out, err),
+        Err(stop) => {
+            tell_stop(&stop, &mut err);
+            (Outcome::Stopped(stop), out, err)
         }
     }
 }
 
-fn print<W: Write>(text: &str, out: &mut W) -> Result<bool, Stop> {
-    writeln!(out, "{text}")?;
-    out.flush()?;
-    Ok(true)
-}
-
-// The exit status of a run, by whether all was read. That the reader of the output has gone is not reported; any other
-// reason to stop is.
-fn ended<V: Write>(ran: Result<bool, Stop>, err: &mut V) -> u8
-    ensures { result ≡ ended_status ran }
-{
-    match ran {
-        Ok(true) => 0,
-        Ok(false) => 1,
-        Err(Stop::Memory) => {
+fn tell_stop<V: Write>(stop: &Stop, err: &mut V) {
+    match stop {
+        Stop::Memory => {
             let _ = writeln!(err, "nugwier: out of memory");
-            1
         }
-        Err(Stop::Write(error)) => {
+        Stop::Write(error) => {
             if error.kind() != io::ErrorKind::BrokenPipe {
                 let _ = writeln!(err, "nugwier: standard output: {error}");
             }
-            1
         }
+    }
+    let _ = err.flush();
+}
+
+// Prints a text, and a newline.
+fn print<W: Write, V: Write>(text: &str, mut out: W, err: V) -> Ended<W, V>
+    ensures { IfOk result.said (λ is_right. Appends (W.contents out) (W.contents result.out) (text.now ++ codes "\n")
+        × (is_right ≡ true)) }
+{
+    match print_line(text, &mut out) {
+        Ok(()) => Ended {
+            said: Ok(true),
+            out,
+            err,
+        },
+        Err(error) => Ended {
+            said: Err(Stop::Write(error)),
+            out,
+            err,
+        },
     }
 }
 
-// Lists each file, and returns whether all was read.
+fn print_line<W: Write>(text: &str, out: &mut W) -> io::Result<()>
+    ensures { OnOk result (Appends (W.contents out.old) (W.contents out.new) (text.now ++ codes "\n")) }
+{
+    out.write_all(text.as_bytes())?;
+    out.write_all(b"\n")?;
+    out.flush()
+}
+
+// Says of each file what is asked for.
 fn run_job<F: Files, W: Write, V: Write>(
     alloc: Global,
     job: &Job<'_>,
     files: &F,
-    out: &mut W,
-    err: &mut V,
-) -> Result<bool, Stop>
-    ensures { IfOk result (AreFilesRight (F.reads files.now) (F.opens files.now) (F.contents files.now) job.now
-        job.now.files.items) }
+    out: W,
+    err: V,
+) -> Ended<W, V>
+    ensures { IfOk result.said
+        (λ is_right. IsAnswered (F.known files.now) (W.contents out) (W.contents result.out) is_right
+        (run_answer (task_of job.now))) }
 {
-    let mut is_read = true;
-    for (place, path) in job.files.as_slice().iter().enumerate() {
-        if has_headings(job) {
-            list_heading(place, *path, out)?;
-        }
-        is_read &= run_file(alloc, job, files, *path, out, err)?;
+    let Ended { said, mut out, err } = run_files(alloc, job, files, out, err);
+    match said {
+        Ok(is_right) => match out.flush() {
+            Ok(()) => Ended {
+                said: Ok(is_right),
+                out,
+                err,
+            },
+            Err(error) => Ended {
+                said: Err(Stop::Write(error)),
+                out,
+                err,
+            },
+        },
+        Err(stop) => Ended {
+            said: Err(stop),
+            out,
+            err,
+        },
     }
-    out.flush()?;
-    Ok(is_read)
 }
 
-// Whether each file has a heading: if there are several, and their lines do not name them.
-fn has_headings(job: &Job<'_>) -> bool {
+fn run_files<F: Files, W: Write, V: Write>(
+    alloc: Global,
+    job: &Job<'_>,
+    files: &F,
+    mut out: W,
+    mut err: V,
+) -> Ended<W, V>
+    ensures { IfOk result.said
+        (λ is_right. IsAnswered (F.known files.now) (W.contents out) (W.contents result.out) is_right
+        (run_answer (task_of job.now))) }
+{
+    let mut are_right = true;
+    for (place, path) in job.files.as_slice().iter().enumerate() {
+        let target = Target {
+            job: &*job,
+            path: *path,
+            heading: heading_of(job, place),
+        };
+        let ended = run_path(alloc, target, files, out, err);
+        out = ended.out;
+        err = ended.err;
+        match ended.said {
+            Ok(is_right) => are_right &= is_right,
+            Err(stop) => {
+                return Ended {
+                    said: Err(stop),
+                    out,
+                    err,
+                };
+            }
+        }
+    }
+    Ended {
+        said: Ok(are_right),
+        out,
+        err,
+    }
+}
+
+// What is above a file, by its place among the files: of several files each has its path above it, except for `check`,
+// whose lines name it.
+fn heading_of(job: &Job<'_>, place: usize) -> Option<Kind>
+    ensures { result ≡ heading_of (task_of job.now) place }
+{
+    if !has_headings(job) {
+        return None;
+    }
+    Some(if place == 0 {
+        Kind::FileHeading
+    } else {
+        Kind::NextFileHeading
+    })
+}
+
+fn has_headings(job: &Job<'_>) -> bool
+    ensures { result ≡ has_headings job.now.command job.now.files.items }
+{
     match job.command {
         Command::Check => false,
-        _ => job.files.len() > 1 && !job.is_json,
+        _ => job.files.len() > 1,
     }
 }
 
-// The heading of one of several files, after an empty line.
-fn list_heading<W: Write>(place: usize, path: &str, out: &mut W) -> io::Result<()> {
-    if place != 0 {
-        writeln!(out)?;
+// Says what is asked for of the file at a path.
+fn run_path<F: Files, W: Write, V: Write>(
+    alloc: Global,
+    target: Target<'_>,
+    files: &F,
+    out: W,
+    err: V,
+) -> Ended<W, V>
+    ensures { IsPathEnded W.contents (F.known files.now) (task_of target.entry.job.now) target.entry.heading
+        target.entry.path.now (W.contents out) result }
+{
+    match target.job.command {
+        Command::Tree | Command::Bindings => run_program(alloc, target, files, out, err),
+        _ => run_file(alloc, target, files, out, err),
     }
-    let path = Escaped(path.as_bytes());
-    writeln!(out, "{path}:")
 }
 
-// Lists a file, and returns whether all of it was read.
+// A program is read whole, and so are its libraries.
+fn run_program<F: Files, W: Write, V: Write>(
+    alloc: Global,
+    target: Target<'_>,
+    files: &F,
+    out: W,
+    err: V,
+) -> Ended<W, V>
+    ensures { IsFileEnded W.contents (F.known files.now)
+        (λ bytes said. IsProgramSaid (F.known files.now) target.entry.job.now.command (task_of target.entry.job.now)
+        target.entry.path.now bytes said)
+        (task_of target.entry.job.now) target.entry.heading target.entry.path.now (W.contents out) result }
+{
+    match files.read(target.path) {
+        Ok(data) => target.say_program(alloc, files, data, out, err),
+        Err(error) => match error.kind() {
+            io::ErrorKind::OutOfMemory => stopped(out, err),
+            _ => target.say_problem(Fault::System(error), out, err),
+        },
+    }
+}
+
+// One file is read by parts; a source that cannot be read so is read whole.
 fn run_file<F: Files, W: Write, V: Write>(
     alloc: Global,
-    job: &Job<'_>,
+    target: Target<'_>,
     files: &F,
-    path: &str,
-    out: &mut W,
-    err: &mut V,
-) -> Result<bool, Stop>
-    ensures { IfOk result (IsFileRight (F.reads files.now) (F.opens files.now) (F.contents files.now) job.now
-        path.now) }
+    out: W,
+    err: V,
+) -> Ended<W, V>
+    ensures { IsFileEnded W.contents (F.known files.now)
+        (λ bytes said. IsBytesSaid (task_of target.entry.job.now) target.entry.path.now bytes said)
+        (task_of target.entry.job.now) target.entry.heading target.entry.path.now (W.contents out) result }
 {
-    let format = format_of(job, path);
-    match run_by_parts(alloc, job, format, files, path, out, err)? {
-        Some(is_read) => Ok(is_read),
-        None => run_whole(alloc, job, files, path, out, err),
+    match files.open(target.path) {
+        Some(source) => match list_source(alloc, target, source, out, err) {
+            Listed::Said(ended) => ended,
+            Listed::Unread(_, out, err) => run_whole(alloc, target, files, out, err),
+        },
+        None => run_whole(alloc, target, files, out, err),
     }
 }
 
-// Lists a file that is read whole.
+// The same of a file that is read whole.
 fn run_whole<F: Files, W: Write, V: Write>(
     alloc: Global,
-    job: &Job<'_>,
+    target: Target<'_>,
     files: &F,
-    path: &str,
-    out: &mut W,
-    err: &mut V,
-) -> Result<bool, Stop>
-    ensures { IfOk result (IsWholeRight (F.reads files.now) (F.opens files.now) (F.contents files.now) job.now
-        path.now) }
+    out: W,
+    err: V,
+) -> Ended<W, V>
+    ensures { IsFileEnded W.contents (F.known files.now)
+        (λ bytes said. IsBytesSaid (task_of target.entry.job.now) target.entry.path.now bytes said)
+        (task_of target.entry.job.now) target.entry.heading target.entry.path.now (W.contents out) result }
 {
-    match files.read(path) {
-        Ok(data) => run_read(alloc, job, files, path, data, out, err),
-        Err(error) => tell_unread(path, &error, out, err),
-    }
-}
-
-// Lists a file that was read.
-fn run_read<F: Files, W: Write, V: Write>(
-    alloc: Global,
-    job: &Job<'_>,
-    files: &F,
-    path: &str,
-    data: Vec<u8>,
-    out: &mut W,
-    err: &mut V,
-) -> Result<bool, Stop>
-    ensures { IfOk result (IsRightBy job.now.command (F.contents files.now) job.now path.now «data».items) }
-{
-    let format = format_of(job, path);
-    let searches = job.searches.as_slice();
-    match job.command {
-        Command::Tree => run_tree(alloc, searches, format, files, path, data, out, err),
-        Command::Bindings => run_bindings(alloc, searches, format, files, path, data, out, err),
-        _ => run_bytes(alloc, job, path, data.as_slice(), out, err),
+    match files.read(target.path) {
+        Ok(bytes) => run_bytes(alloc, target, bytes.as_slice(), out, err),
+        Err(error) => match error.kind() {
+            io::ErrorKind::OutOfMemory => stopped(out, err),
+            _ => target.say_problem(Fault::System(error), out, err),
+        },
     }
 }
 
 fn run_bytes<W: Write, V: Write>(
     alloc: Global,
-    job: &Job<'_>,
-    path: &str,
-    data: &[u8],
-    out: &mut W,
-    err: &mut V,
-) -> Result<bool, Stop>
-    ensures { IfOk result (AreBytesRight job.now «data».now) }
+    target: Target<'_>,
+    bytes: &[u8],
+    out: W,
+    err: V,
+) -> Ended<W, V>
+    ensures { IsSaidAndWritten W.contents (IsBytesSaid (task_of target.entry.job.now) target.entry.path.now bytes.now)
+        (task_of target.entry.job.now) target.entry.heading target.entry.path.now (W.contents out) result }
 {
-    let opened: Result<ElfBytes<'_, AnyEndian>, ParseError> = ElfBytes::minimal_parse(data);
+    let opened: Result<ElfBytes<'_, AnyEndian>, ParseError> = ElfBytes::minimal_parse(bytes);
     match opened {
-        Ok(file) => run_file_command(alloc, job, path, &file, out, err),
-        Err(error) => tell_unread(path, &error, out, err),
-    }
-}
-
-// Tells why a file cannot be read. So it is not right.
-fn tell_unread<D: Display, W: Write, V: Write>(
-    path: &str,
-    error: &D,
-    out: &mut W,
-    err: &mut V,
-) -> Result<bool, Stop>
-    ensures { IfOk result (λ is_right. is_right ≡ false) }
-{
-    out.flush()?;
-    let path = Escaped(path.as_bytes());
-    let _ = writeln!(err, "nugwier: {path}: {error}");
-    Ok(false)
-}
-
-// Lists an opened file, and returns whether nothing is wrong.
-fn run_file_command<E: EndianParse, W: Write, V: Write>(
-    alloc: Global,
-    job: &Job<'_>,
-    path: &str,
-    file: &ElfBytes<'_, E>,
-    out: &mut W,
-    err: &mut V,
-) -> Result<bool, Stop>
-    ensures { IfOk result (IsRightFor job.now (object_file E.little (view file.now))) }
-{
-    let mut problems = Problems::none(alloc);
-    run_command(alloc, job, path, file, out, &mut problems)?;
-    if problems.is_empty() {
-        return Ok(true);
-    }
-    out.flush()?;
-    let _ = report(path, file, problems.as_slice(), err);
-    Ok(false)
-}
-
-fn format_of<'a>(job: &Job<'_>, path: &'a str) -> Format<'a> {
-    if job.is_json {
-        Format::Json(path)
-    } else {
-        Format::Text
-    }
-}
-
-// Lists what a command asks for of a file.
-fn run_command<E: EndianParse, W: Write>(
-    alloc: Global,
-    job: &Job<'_>,
-    path: &str,
-    file: &ElfBytes<'_, E>,
-    out: &mut W,
-    problems: &mut Problems,
-) -> Result<(), Stop>
-    ensures { OnOk result (IsWrongFor job.now (object_file E.little (view file.now)) problems.old problems.new) }
-{
-    let format = format_of(job, path);
-    match job.command {
-        Command::List => list(alloc, job, format, file, out, problems),
-        Command::Symbols => {
-            let form = Form::Letter {
-                class: file.ehdr.class,
-                sections: file.section_headers(),
-            };
-            list_dynamic_symbols(alloc, format, file, form, out, problems)
-        }
-        Command::Exports => {
-            list_dynamic_symbols(alloc, format, file, Form::Export, out, problems)
-        }
-        Command::Needed => list_needed(alloc, format, file, out, problems),
-        Command::BuildId => list_build_id(format, file, out, problems),
-        Command::Plan => list_plan(alloc, format, file, out, problems),
-        Command::Check => check(alloc, path, format, file, out, problems),
-        Command::Address => {
-            let addresses = job.addresses.as_slice();
-            list_addresses(alloc, format, file, addresses, out, problems)
-        }
-        // They read other files too, so `run_tree` and `run_bindings` list them.
-        Command::Tree | Command::Bindings => Ok(()),
+        Ok(_) => match list_source(alloc, target, MemSource::new(bytes), out, err) {
+            Listed::Said(ended) => ended,
+            // Memory cannot fail as a source, so an allocation failed.
+            Listed::Unread(_, out, err) => stopped(out, err),
+        },
+        Err(error) => target.say_problem(Fault::Read(error), out, err),
     }
 }

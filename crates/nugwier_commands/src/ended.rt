@@ -1,0 +1,204 @@
+//! How saying a file ended.
+ghost use Rattle.std.specs.Prelude.{[], ◌≡◌, ◌∷◌, ◌++◌, IfOk, List, OnOk};
+ghost use Rattle.nugwier_report.specs.Said.{Said, saying, whole, wrong};
+ghost use Rattle.nugwier_report.specs.declared.problem.Part.TheVariants.{File};
+ghost use Rattle.nugwier_commands.specs.Run.{IsProgramSaid, IsWritten, heading_said};
+ghost use Rattle.nugwier_listing.specs.inner.Job.{IsTablesSaid};
+ghost use Rattle.nugwier_words.specs.Words.{task_of};
+
+use elf::endian::EndianParse;
+use nugwier_files::files::Files;
+use nugwier_listing::job::{JobTables, say_job};
+use nugwier_programs::bindings::say_bindings;
+use nugwier_programs::tree::say_tree;
+use nugwier_report::json::Value;
+use nugwier_report::kind::Kind;
+use nugwier_report::names::Labels;
+use nugwier_report::problem::{Fault, Item, Part, Place, Stop};
+use nugwier_report::report::Report;
+use nugwier_words::words::{Command, Job};
+use std::alloc::Global;
+use std::io::Write;
+
+/// A file of which something is said: what is asked for, its path, and what is written above, if several files are
+/// listed.
+#[derive(Clone, Copy)]
+pub(crate) struct Target<'j> {
+    pub job: &'j Job<'j>,
+    pub path: &'j str,
+    pub heading: Option<Kind>,
+}
+
+/// The writers of listings and of problems, after a file: whether nothing is wrong with it, or why the listing stopped.
+#[derive(Drop)]
+pub struct Ended<W: Write, V: Write> {
+    pub said: Result<bool, Stop>,
+    pub out: W,
+    pub err: V,
+}
+
+impl<'j> Target<'j> {
+    // Says what is above the file, if something is.
+    fn say_heading<W: Write, V: Write>(&self, report: &mut Report<'_, W, V>) -> Result<(), Stop>
+        ensures { OnOk result (report.new ≡ saying report.old (heading_said self.now.heading self.now.path.now)) }
+    {
+        match self.heading {
+            Some(kind) => {
+                let path = Value::Text(Some(self.path.as_bytes()));
+                report.state(kind, &[("path", path)])
+            }
+            None => Ok(()),
+        }
+    }
+
+    // Says what is above the file, and then its tables.
+    fn say<E: EndianParse, W: Write, V: Write>(
+        &self,
+        alloc: Global,
+        tables: JobTables<'_, '_, E>,
+        report: &mut Report<'_, W, V>,
+    ) -> Result<(), Stop>
+        ensures { OnOk result ((said : List Said) × IsTablesSaid E.little self.now.path.now
+            (task_of self.now.job.now).addresses tables.entry said × (report.new
+            ≡ saying report.old (heading_said self.now.heading self.now.path.now ++ said))) }
+    {
+        self.say_heading(report)?;
+        say_job(alloc, self.job, self.path, tables, report)
+    }
+
+    // Says what is above the file, and then that the file as a whole is wrong.
+    fn tell<W: Write, V: Write>(
+        &self,
+        fault: Fault<'_>,
+        report: &mut Report<'_, W, V>,
+    ) -> Result<(), Stop>
+        ensures { OnOk result (report.new ≡ saying report.old
+            (heading_said self.now.heading self.now.path.now ++ wrong (whole File) fault.entry ∷ [])) }
+    {
+        self.say_heading(report)?;
+        let place = Place {
+            part: Part::File,
+            item: Item::Whole,
+        };
+        report.problem(place, fault)
+    }
+
+    /// Says the tables that were taken of the file.
+    pub(crate) fn say_taken<E: EndianParse, W: Write, V: Write>(
+        &self,
+        alloc: Global,
+        labels: Labels<'_>,
+        tables: JobTables<'_, '_, E>,
+        out: W,
+        err: V,
+    ) -> Ended<W, V>
+        ensures { IfOk result.said (λ is_right. (said : List Said)
+            × IsTablesSaid E.little self.now.path.now (task_of self.now.job.now).addresses tables.entry said
+            × IsWritten self.now.job.now.is_json self.now.path.now (W.contents out) (W.contents result.out) is_right
+            (heading_said self.now.heading self.now.path.now ++ said)) }
+    {
+        let mut report = Report::new(self.path, self.job.is_json, labels, out, err);
+        let said = self.say(alloc, tables, &mut report);
+        let (is_right, out, err) = report.end();
+        match said {
+            Ok(()) => Ended {
+                said: Ok(is_right),
+                out,
+                err,
+            },
+            Err(stop) => Ended {
+                said: Err(stop),
+                out,
+                err,
+            },
+        }
+    }
+
+    // Says what is above the file, and then what is said of the program with these bytes, and of its libraries.
+    fn say_loaded<F: Files, W: Write, V: Write>(
+        &self,
+        alloc: Global,
+        files: &F,
+        data: Vec<u8>,
+        report: &mut Report<'_, W, V>,
+    ) -> Result<(), Stop>
+        ensures { OnOk result ((said : List Said) × IsProgramSaid (F.contents files.now) self.now.job.now.command
+            (task_of self.now.job.now) self.now.path.now «data».items said
+            × (report.new ≡ saying report.old (heading_said self.now.heading self.now.path.now ++ said))) }
+    {
+        self.say_heading(report)?;
+        let searches = self.job.searches.as_slice();
+        match self.job.command {
+            Command::Bindings => say_bindings(alloc, searches, files, self.path, data, report),
+            _ => say_tree(alloc, searches, files, self.path, data, report),
+        }
+    }
+
+    /// Says of the program with these bytes, and of its libraries, what is asked for.
+    pub(crate) fn say_program<F: Files, W: Write, V: Write>(
+        &self,
+        alloc: Global,
+        files: &F,
+        data: Vec<u8>,
+        out: W,
+        err: V,
+    ) -> Ended<W, V>
+        ensures { IfOk result.said (λ is_right. (said : List Said) × IsProgramSaid (F.known files.now)
+            self.now.job.now.command (task_of self.now.job.now) self.now.path.now «data».items said
+            × IsWritten self.now.job.now.is_json self.now.path.now (W.contents out) (W.contents result.out) is_right
+            (heading_said self.now.heading self.now.path.now ++ said)) }
+    {
+        files.has_libraries();
+        let labels = Labels {
+            sections: &[],
+            names: None,
+        };
+        let mut report = Report::new(self.path, self.job.is_json, labels, out, err);
+        let said = self.say_loaded(alloc, files, data, &mut report);
+        let (is_right, out, err) = report.end();
+        match said {
+            Ok(()) => Ended {
+                said: Ok(is_right),
+                out,
+                err,
+            },
+            Err(stop) => Ended {
+                said: Err(stop),
+                out,
+                err,
+            },
+        }
+    }
+
+    /// Says that the file as a whole is wrong.
+    pub(crate) fn say_problem<W: Write, V: Write>(
+        &self,
+        fault: Fault<'_>,
+        out: W,
+        err: V,
+    ) -> Ended<W, V>
+        ensures { IfOk result.said (λ is_right. IsWritten self.now.job.now.is_json self.now.path.now (W.contents out)
+            (W.contents result.out) is_right
+            (heading_said self.now.heading self.now.path.now ++ wrong (whole File) fault.entry ∷ [])) }
+    {
+        let labels = Labels {
+            sections: &[],
+            names: None,
+        };
+        let mut report = Report::new(self.path, self.job.is_json, labels, out, err);
+        let said = self.tell(fault, &mut report);
+        let (is_right, out, err) = report.end();
+        match said {
+            Ok(()) => Ended {
+                said: Ok(is_right),
+                out,
+                err,
+            },
+            Err(stop) => Ended {
+                said: Err(stop),
+                out,
+                err,
+            },
+        }
+    }
+}

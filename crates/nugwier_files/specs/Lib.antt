@@ -1,0 +1,2 @@
+-- files in memory
+pub mod Files

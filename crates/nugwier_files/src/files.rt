@@ -1,0 +1,34 @@
+//! Files by their paths.
+ghost use Rattle.std.specs.Prelude.{◌≡◌, ◌⊎◌, ℕ, List, None, Option, Some, IfErr, IfOk, IfSome};
+ghost use Rattle.std.specs.IoError.{error_kind};
+ghost use Rattle.std.specs.declared.io.ErrorKind.TheVariants.{OutOfMemory};
+
+use elf::StreamSource;
+use elf_tools::tree::Libraries;
+use std::io;
+
+/// Files by their paths.
+pub trait Files: Libraries {
+    type Source: StreamSource;
+
+    /// The content of the file at each path, if the files are known.
+    ghost known: { Self → Option (List ℕ → Option (List ℕ)) };
+
+    /// Opens the file at a path, so that it can be read by parts. Returns `None` if it can only be read whole, or not
+    /// at all; nothing was read of it then.
+    fn open(&self, path: &str) -> Option<Self::Source>
+        ensures { IfSome result (λ source. IfSome (known self.now) (λ files. (bytes : List ℕ)
+            × (files path.now ≡ Some bytes) × (Self.Source.content source ≡ Some bytes))) };
+
+    /// Returns the content of the whole file at a path, or the error of the system: that there is no such file, or that
+    /// an allocation failed. `-` is standard input.
+    fn read(&self, path: &str) -> io::Result<Vec<u8>>
+        ensures error { IfErr result (λ error. IfSome (known self.now) (λ files. (files path.now ≡ None)
+            ⊎ (error_kind error ≡ OutOfMemory))) }
+        ensures content { IfOk result (λ content. IfSome (known self.now) (λ files. files path.now
+            ≡ Some content.items)) };
+
+    /// States that the libraries are files like the others: both are known, and the same, or none is known.
+    fn has_libraries(&self)
+        ensures { known self.now ≡ Self.contents self.now };
+}

@@ -1,4 +1,0 @@
-pub mod Listing
-pub mod BadVersions
-pub mod JsonStrings
-pub mod JsonReading

@@ -1,0 +1,29 @@
+-- the file that a stream is of
+pub mod Whole
+-- what is said of each part of a file
+pub mod Header
+pub mod Identity
+pub mod Plan
+pub mod Sections
+pub mod Segments
+-- what was taken, as the definitions have it
+pub mod inner
+-- the symbols
+pub mod Symbols
+-- the symbols at addresses
+pub mod Addresses
+-- the dynamic entries
+pub mod Dynamic
+-- the names of sections in headings
+pub mod Headings
+-- the relocations
+pub mod Relocations
+-- what is said of a file that is checked
+pub mod Check
+-- the content of sections
+pub mod Contents
+pub mod Job
+-- the notes
+pub mod Notes
+-- the versions that are defined and needed
+pub mod VersionLists

@@ -1,0 +1,73 @@
+-- What is said of the versions that a file defines, and of those that it needs of other files.
+use Rattle.std.specs.Prelude.{ℕ, ◌==◌, ◌||◌, Bool, true, false, if◌then◌else◌, List, [], ◌∷◌, Result, Ok}
+use Rattle.elf_abi.specs.Values.{sht_gnu_verdef, sht_gnu_verneed}
+use Rattle.elf_parts.specs.gnu_symver.Lists.{ver_defs, ver_needs}
+use Rattle.elf_parts.specs.declared.gnu_symver.records.VerDef.{VerDef}
+use Rattle.elf_parts.specs.declared.gnu_symver.records.VerDefAux.{VerDefAux}
+use Rattle.elf_parts.specs.declared.gnu_symver.records.VerNeed.{VerNeed}
+use Rattle.elf_parts.specs.declared.gnu_symver.records.VerNeedAux.{VerNeedAux}
+use Rattle.elf_records.specs.Record.{◌>>=◌}
+use Rattle.elf_records.specs.Table.{Table, table_in}
+use Rattle.elf_records.specs.declared.parse.ParseError.{ParseError}
+use Rattle.elf_records.specs.declared.section.SectionHeader.{SectionHeader}
+use Rattle.elf.specs.Data.{content}
+use Rattle.elf.specs.ObjectFile.{ObjectFile}
+use Rattle.nugwier_listing.specs.Headings.{heading_members, known_names, name_shown, read_said}
+use Rattle.nugwier_report.specs.Said.{Said, numbered, states}
+use Rattle.nugwier_report.specs.VersionRecords.{definitions_said, needs_said}
+use Rattle.nugwier_report.specs.declared.kind.Kind.{Kind}
+use Rattle.nugwier_report.specs.declared.kind.Kind.TheVariants.{DefinedHeading, NeededHeading}
+use Rattle.nugwier_report.specs.declared.problem.Part.TheVariants.{Section}
+
+-- ---- what a file has
+
+-- the versions that a section defines, or those that it needs
+pub data Records : Type 0 where
+  defined : List (VerDef × List VerDefAux) → Records
+  needed : List (VerNeed × List VerNeedAux) → Records
+
+abbrev pub is_defining : SectionHeader → Bool
+is_defining s = s.sh_type == sht_gnu_verdef
+
+abbrev pub has_versions : SectionHeader → Bool
+has_versions s = is_defining s || s.sh_type == sht_gnu_verneed
+
+-- those in the bytes of section s; sh_info is their number
+abbrev pub records_in : SectionHeader → Table → Records
+records_in s table =
+    if is_defining s then defined (ver_defs table s.sh_info 0) else needed (ver_needs table s.sh_info 0)
+
+-- the strings of the section that a section links to
+abbrev pub linked_content : ObjectFile → SectionHeader → Result (List ℕ) ParseError
+linked_content file s = file.section_at s.sh_link >>= content file
+
+-- the versions of a section, and the strings that have their names
+abbrev pub versions_of : ObjectFile → SectionHeader → Result (Records × List ℕ) ParseError
+versions_of file s =
+    content file s >>= λ bytes. linked_content file s >>= λ strings.
+    Ok (records_in s (table_in file.little file.class bytes), strings)
+
+-- ---- what is said of it
+
+abbrev pub heading_of : Bool → Kind
+heading_of true = DefinedHeading
+heading_of false = NeededHeading
+
+-- of the versions of section k
+abbrev pub records_said : ℕ → Records × List ℕ → List Said
+records_said k (defined definitions, strings) = definitions_said (Section k) strings definitions
+records_said k (needed needs, strings) = needs_said (Section k) strings needs
+
+-- a heading, and the versions, or that they cannot be read
+abbrev pub section_said : ℕ → List ℕ → Bool → Result (Records × List ℕ) ParseError → List Said
+section_said k name defining found =
+    states (heading_of defining) (heading_members k name) ∷ read_said (Section k) (records_said k) found
+
+-- of section k, if it defines or needs versions
+abbrev pub versions_in : ObjectFile → ℕ → SectionHeader → List Said
+versions_in file k s =
+    if has_versions s
+    then section_said k (name_shown (known_names file) s) (is_defining s) (versions_of file s) else []
+
+abbrev pub said_of_version_lists : ObjectFile → List Said
+said_of_version_lists file = numbered (versions_in file) 0 file.sections

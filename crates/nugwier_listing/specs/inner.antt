@@ -1,0 +1,17 @@
+-- what is said of what was taken
+pub mod Identity
+pub mod Plan
+pub mod Sections
+-- the symbols that were taken
+pub mod Symbols
+-- the dynamic entries that were taken
+pub mod Dynamic
+-- the relocations that were taken
+pub mod Relocations
+-- the content that was taken
+pub mod Contents
+pub mod Job
+-- the notes that were taken
+pub mod Notes
+-- the versions that were taken
+pub mod VersionLists

@@ -1,0 +1,77 @@
+//! The symbols at addresses.
+ghost use Rattle.std.specs.Prelude.{◌≡◌, List, IfOk, OnOk};
+ghost use Rattle.std.specs.Option.{option_map};
+ghost use Rattle.elf.specs.Answers.{symbols_view};
+ghost use Rattle.elf_records.specs.Number.{ok_map};
+ghost use Rattle.nugwier_listing.specs.Addresses.{AreEachSaid, AreSaidBy, all_symbols};
+ghost use Rattle.nugwier_listing.specs.Whole.{whole_file};
+ghost use Rattle.nugwier_report.specs.Said.{Said, saying};
+
+use crate::symbols::whole;
+use crate::taking;
+use crate::taking::{NotTaken, Symbols};
+use elf::endian::EndianParse;
+use elf::string_table::TerminatedStrings;
+use elf::{ElfStream, ParseError, StreamSource};
+use elf_tools::addresses::Addresses;
+use nugwier_report::addresses::AddressRow;
+use nugwier_report::problem::{Fault, Part, Stop};
+use nugwier_report::report::Report;
+use nugwier_report::rows::say_slice;
+use std::alloc::Global;
+use std::io::Write;
+
+/// The symbols that were taken, if there are any.
+pub type AllSymbols<'f, E> = Result<Option<Symbols<'f, E>>, ParseError>;
+
+/// Takes the symbols of the section of type `SHT_SYMTAB`, or if there is none those for dynamic linking.
+pub(crate) fn take_all_symbols<'f, E: EndianParse, S: StreamSource>(
+    stream: &'f ElfStream<E, S, Global>,
+) -> Result<AllSymbols<'f, E>, NotTaken>
+    ensures { IfOk result (λ found. ok_map (option_map symbols_view) found
+        ≡ all_symbols (whole_file E.little stream.now)) }
+{
+    match taking::symbols(stream)? {
+        Ok(Some(symbols)) => Ok(Ok(Some(symbols))),
+        Ok(None) => taking::dynamic_symbols(stream),
+        Err(error) => Ok(Err(error)),
+    }
+}
+
+/// Says the symbol that starts at each address or before it. It is wrong if there are no symbols, if none starts there
+/// or before, or if its name cannot be read.
+pub(crate) fn say_addresses<E: EndianParse, W: Write, V: Write>(
+    alloc: Global,
+    symbols: AllSymbols<'_, E>,
+    addresses: &[u64],
+    report: &mut Report<'_, W, V>,
+) -> Result<(), Stop>
+    ensures { OnOk result ((said : List Said)
+        × AreSaidBy addresses.now (ok_map (option_map symbols_view) symbols.entry) said
+        × (report.new ≡ saying report.old said)) }
+{
+    match symbols {
+        Ok(Some(symbols)) => say_each(alloc, symbols, addresses, report),
+        Ok(None) => report.problem(whole(Part::Symbols), Fault::Missing),
+        Err(error) => report.problem(whole(Part::Symbols), Fault::Read(error)),
+    }
+}
+
+fn say_each<E: EndianParse, W: Write, V: Write>(
+    alloc: Global,
+    symbols: Symbols<'_, E>,
+    addresses: &[u64],
+    report: &mut Report<'_, W, V>,
+) -> Result<(), Stop>
+    ensures { OnOk result ((said : List Said) × AreEachSaid addresses.now (symbols_view symbols.entry) said
+        × (report.new ≡ saying report.old said)) }
+{
+    let (table, strings) = symbols;
+    let by_address = Addresses::new(alloc, &table)?;
+    let row = AddressRow {
+        symbols: table,
+        strings: TerminatedStrings::new(&strings),
+        by_address,
+    };
+    say_slice(addresses, &row, report)
+}

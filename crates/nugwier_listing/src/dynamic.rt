@@ -1,0 +1,166 @@
+//! The dynamic entries of a file, and the strings that they name.
+ghost use Rattle.std.specs.Prelude.{◌≡◌, IfOk, OnOk};
+ghost use Rattle.std.specs.Option.{option_map};
+ghost use Rattle.std.specs.Result.{result_ok};
+ghost use Rattle.elf_records.specs.Number.{ok_map};
+ghost use Rattle.nugwier_listing.specs.Dynamic.{each_said, entries_of, names_fault, names_said, said_of_entries};
+ghost use Rattle.nugwier_listing.specs.Dynamic.{said_of_needed};
+ghost use Rattle.nugwier_listing.specs.Dynamic.{strings_missed};
+ghost use Rattle.nugwier_listing.specs.Whole.{whole_file};
+ghost use Rattle.nugwier_listing.specs.inner.Dynamic.{entries_said, entries_view, needed_said};
+ghost use Rattle.nugwier_report.specs.Said.{saying};
+
+use crate::taking;
+use crate::taking::NotTaken;
+use elf::dynamic::Dyn;
+use elf::endian::EndianParse;
+use elf::string_table::{StringTable, TerminatedStrings};
+use elf::{ElfStream, ParseError, StreamSource};
+use elf_tools::needed::{NamesError, entries_in};
+use nugwier_report::dynamic::{EntryRow, NeededRow};
+use nugwier_report::kind::Kind;
+use nugwier_report::problem::{Fault, Item, Part, Place, Stop};
+use nugwier_report::report::Report;
+use nugwier_report::rows::say_slice;
+use std::alloc::Global;
+use std::io::Write;
+
+const ENTRIES: Place = Place {
+    part: Part::Dynamic,
+    item: Item::Whole,
+};
+
+const STRINGS: Place = Place {
+    part: Part::DynamicStrings,
+    item: Item::Whole,
+};
+
+// Dynamic entries, and the strings that they name.
+#[derive(Debug, Drop)]
+struct DynamicEntries<'f> {
+    entries: Vec<Dyn>,
+    strings: Result<&'f [u8], NamesError>,
+}
+
+/// The dynamic entries of a file, if it has any, and the strings that they name.
+#[derive(Debug, Drop)]
+pub struct DynamicTables<'f>(Result<Option<DynamicEntries<'f>>, ParseError>);
+
+/// Takes the dynamic entries, if there are any, and the strings that they name.
+pub(crate) fn take_dynamic<'f, E: EndianParse, S: StreamSource>(
+    alloc: Global,
+    stream: &'f ElfStream<E, S, Global>,
+) -> Result<DynamicTables<'f>, NotTaken>
+    ensures entries { IfOk result (λ tables. entries_said tables ≡ said_of_entries (whole_file E.little stream.now)) }
+    ensures needed { IfOk result (λ tables. needed_said tables ≡ said_of_needed (whole_file E.little stream.now)) }
+{
+    let entries = take_entries(alloc, stream)?;
+    Ok(DynamicTables(entries))
+}
+
+fn take_entries<'f, E: EndianParse, S: StreamSource>(
+    alloc: Global,
+    stream: &'f ElfStream<E, S, Global>,
+) -> Result<Result<Option<DynamicEntries<'f>>, ParseError>, NotTaken>
+    ensures { IfOk result (λ found. ok_map (option_map entries_view) found
+        ≡ entries_of (whole_file E.little stream.now)) }
+{
+    match taking::dynamic(stream)? {
+        Ok(Some(table)) => {
+            let entries = entries_in(alloc, &table)?;
+            let strings = taking::strings_of(stream, entries.as_slice())?;
+            Ok(Ok(Some(DynamicEntries { entries, strings })))
+        }
+        Ok(None) => Ok(Ok(None)),
+        Err(error) => Ok(Err(error)),
+    }
+}
+
+/// Says each dynamic entry, if there are any, for people under a heading.
+pub(crate) fn say_entries<W: Write, V: Write>(
+    tables: DynamicTables<'_>,
+    report: &mut Report<'_, W, V>,
+) -> Result<(), Stop>
+    ensures { OnOk result (report.new ≡ saying report.old (entries_said tables.entry)) }
+{
+    match tables.0 {
+        Ok(Some(entries)) => say_each(entries, report),
+        Ok(None) => Ok(()),
+        Err(error) => report.problem(ENTRIES, Fault::Read(error)),
+    }
+}
+
+/// Says the libraries that the entries name, and the search paths. It is wrong if there are no entries.
+pub(crate) fn say_needed<W: Write, V: Write>(
+    tables: DynamicTables<'_>,
+    report: &mut Report<'_, W, V>,
+) -> Result<(), Stop>
+    ensures { OnOk result (report.new ≡ saying report.old (needed_said tables.entry)) }
+{
+    match tables.0 {
+        Ok(Some(entries)) => say_names(entries, report),
+        Ok(None) => report.problem(ENTRIES, Fault::Missing),
+        Err(error) => report.problem(ENTRIES, Fault::Read(error)),
+    }
+}
+
+// Says each entry, under a heading.
+fn say_each<W: Write, V: Write>(
+    part: DynamicEntries<'_>,
+    report: &mut Report<'_, W, V>,
+) -> Result<(), Stop>
+    ensures { OnOk result (report.new ≡ saying report.old (each_said (entries_view part.entry))) }
+{
+    let DynamicEntries { entries, strings } = part;
+    let strings = found_strings(strings, report)?;
+    report.state(Kind::EntriesHeading, &[])?;
+    say_slice(entries.as_slice(), &EntryRow { strings }, report)
+}
+
+// Says the entries that name a library or a search path, if the strings can be found.
+fn say_names<W: Write, V: Write>(
+    part: DynamicEntries<'_>,
+    report: &mut Report<'_, W, V>,
+) -> Result<(), Stop>
+    ensures { OnOk result (report.new ≡ saying report.old (names_said (entries_view part.entry))) }
+{
+    let DynamicEntries { entries, strings } = part;
+    match found_strings(strings, report)? {
+        Some(strings) => say_slice(entries.as_slice(), &NeededRow { strings }, report),
+        None => Ok(()),
+    }
+}
+
+// The strings, or the problem that they cannot be found.
+fn found_strings<'f, W: Write, V: Write>(
+    strings: Result<&'f [u8], NamesError>,
+    report: &mut Report<'_, W, V>,
+) -> Result<Option<TerminatedStrings<'f>>, Stop>
+    ensures found { IfOk result (λ found. found ≡ result_ok (ok_map (λ bytes. bytes.now) strings.entry)) }
+    ensures wrong { OnOk result (report.new ≡ saying report.old
+        (strings_missed (ok_map (λ bytes. bytes.now) strings.entry))) }
+{
+    match strings {
+        Ok(bytes) => Ok(Some(TerminatedStrings::new(&StringTable::new(bytes)))),
+        Err(error) => {
+            report.problem(STRINGS, fault_of(error))?;
+            Ok(None)
+        }
+    }
+}
+
+// Why strings cannot be found.
+fn fault_of(error: NamesError) -> Fault<'static>
+    ensures { result ≡ names_fault error }
+{
+    match error {
+        NamesError::Read(error) | NamesError::Name(error) => Fault::Read(error),
+        NamesError::NoAddress => Fault::NoAddress,
+        NamesError::NoSize => Fault::NoSize,
+        NamesError::NotLoaded(address) => Fault::NotLoaded(address),
+        NamesError::Missing((start, end)) => {
+            Fault::Read(ParseError::SliceReadError((start as usize, end as usize)))
+        }
+        NamesError::Memory => Fault::Read(ParseError::OutOfMemory),
+    }
+}

@@ -1,0 +1,52 @@
+//! The names of sections in headings, for people.
+ghost use Rattle.std.specs.Prelude.{◌≡◌, IfOk};
+ghost use Rattle.nugwier_listing.specs.Headings.{heading_members, known_names, name_shown};
+ghost use Rattle.nugwier_listing.specs.Whole.{whole_file};
+ghost use Rattle.nugwier_report.specs.Noted.{members_said};
+
+use crate::taking;
+use crate::taking::NotTaken;
+use elf::endian::EndianParse;
+use elf::section::SectionHeader;
+use elf::string_table::TerminatedStrings;
+use elf::{ElfStream, StreamSource};
+use nugwier_report::json::{Member, Value};
+use std::alloc::Global;
+
+/// Takes the names of the sections, if they can be read.
+pub fn known_names<'f, E: EndianParse, S: StreamSource>(
+    stream: &'f ElfStream<E, S, Global>,
+) -> Result<Option<TerminatedStrings<'f>>, NotTaken>
+    ensures { IfOk result (λ names. names ≡ known_names (whole_file E.little stream.now)) }
+{
+    match taking::names(stream)? {
+        Ok(names) => Ok(names),
+        Err(_) => Ok(None),
+    }
+}
+
+/// Returns the name of a section, or no name if it cannot be read.
+pub(crate) fn name_shown<'f>(
+    names: &Option<TerminatedStrings<'f>>,
+    section: &SectionHeader,
+) -> &'f [u8]
+    ensures { result.now ≡ name_shown names.now section.now }
+{
+    let Some(names) = names else {
+        return &[];
+    };
+    match names.get_raw(section.sh_name as usize) {
+        Ok(name) => name,
+        Err(_) => &[],
+    }
+}
+
+/// Returns the members of a heading: the number and the name of a section.
+pub(crate) fn heading_members(number: u64, name: &[u8]) -> [Member<'_>; 2]
+    ensures { members_said result ≡ heading_members number name.now }
+{
+    [
+        ("section", Value::Number(number)),
+        ("name", Value::Text(Some(name))),
+    ]
+}

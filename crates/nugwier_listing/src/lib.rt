@@ -1,0 +1,22 @@
+//! What `nugwier` says of one file. What is read of the file is taken first (`taking`), so nothing is read while it is
+//! said.
+#![tactic(auto)]
+
+mod addresses;
+mod check;
+mod contents;
+mod dynamic;
+mod header;
+mod headings;
+mod identity;
+pub mod job;
+pub mod labels;
+mod list;
+mod notes;
+mod plan;
+mod relocations;
+mod sections;
+mod segments;
+mod symbols;
+pub mod taking;
+mod version_lists;

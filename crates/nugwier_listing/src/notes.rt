@@ -1,0 +1,185 @@
+//! The notes of a file.
+ghost use Rattle.std.specs.Prelude.{◌≡◌, ◌++◌, IfOk, OnOk};
+ghost use Rattle.std.specs.List.{flat_map};
+ghost use Rattle.elf_parts.specs.Note.{notes_left};
+ghost use Rattle.elf_records.specs.Number.{ok_map};
+ghost use Rattle.nugwier_listing.specs.Headings.{known_names, read_said};
+ghost use Rattle.nugwier_listing.specs.Notes.{said_of_notes, section_notes_in, segment_members, segment_notes_in};
+ghost use Rattle.nugwier_listing.specs.Whole.{whole_file};
+ghost use Rattle.nugwier_listing.specs.inner.Notes.{note_tables_said, part_said};
+ghost use Rattle.nugwier_report.specs.Noted.{members_said};
+ghost use Rattle.nugwier_report.specs.Notes.{notes_said};
+ghost use Rattle.nugwier_report.specs.Said.{numbered, saying};
+
+use crate::headings::{heading_members, known_names, name_shown};
+use crate::taking;
+use crate::taking::NotTaken;
+use elf::endian::EndianParse;
+use elf::headers::Headers;
+use elf::note::NoteIterator;
+use elf::section::SectionHeader;
+use elf::segment::ProgramHeader;
+use elf::string_table::TerminatedStrings;
+use elf::{ElfStream, ParseError, StreamSource, abi};
+use nugwier_report::json::{Member, Value};
+use nugwier_report::kind::Kind;
+use nugwier_report::notes;
+use nugwier_report::problem::{Fault, Item, Part, Place, Stop};
+use nugwier_report::report::Report;
+use std::alloc::Global;
+use std::io::Write;
+
+// The notes of a section, by its number and its name, or of a segment, by its number.
+#[derive(Drop)]
+enum NotePart<'f, E: EndianParse> {
+    Section(u64, &'f [u8], Result<NoteIterator<'f, E>, ParseError>),
+    Segment(u64, Result<NoteIterator<'f, E>, ParseError>),
+}
+
+/// The notes of each section of a file that has some or, if no sections are declared, of each segment.
+#[derive(Drop)]
+pub struct NoteTables<'f, E: EndianParse>(Vec<NotePart<'f, E>>);
+
+/// Takes the notes of the sections or, if no sections are declared, of the segments.
+pub(crate) fn take_notes<'f, E: EndianParse, S: StreamSource>(
+    alloc: Global,
+    stream: &'f ElfStream<E, S, Global>,
+) -> Result<NoteTables<'f, E>, NotTaken>
+    ensures { IfOk result (λ tables. note_tables_said tables ≡ said_of_notes (whole_file E.little stream.now)) }
+{
+    if stream.declares_sections() {
+        take_sections(alloc, stream)
+    } else {
+        take_segments(alloc, stream)
+    }
+}
+
+fn take_sections<'f, E: EndianParse, S: StreamSource>(
+    alloc: Global,
+    stream: &'f ElfStream<E, S, Global>,
+) -> Result<NoteTables<'f, E>, NotTaken>
+    ensures { let whole = whole_file E.little stream.now in
+        IfOk result (λ tables. note_tables_said tables ≡ numbered (section_notes_in whole) 0 whole.sections) }
+{
+    let names = known_names(stream)?;
+    let mut parts = Vec::new(alloc);
+    let mut number = 0;
+    for section in stream.section_headers().as_slice() {
+        add_section(stream, &names, number, section, &mut parts)?;
+        number += 1;
+    }
+    Ok(NoteTables(parts))
+}
+
+// Takes the notes of a section, if it has any, and adds them.
+fn add_section<'f, E: EndianParse, S: StreamSource>(
+    stream: &'f ElfStream<E, S, Global>,
+    names: &Option<TerminatedStrings<'f>>,
+    number: u64,
+    section: &SectionHeader,
+    parts: &mut Vec<NotePart<'f, E>>,
+) -> Result<(), NotTaken>
+    ensures { let whole = whole_file E.little stream.now in
+        names.now ≡ known_names whole → OnOk result (flat_map part_said parts.new.items
+        ≡ flat_map part_said parts.old.items ++ section_notes_in whole number section.now) }
+{
+    if section.sh_type != abi::SHT_NOTE {
+        return Ok(());
+    }
+    let notes = taking::section_notes(stream, section)?;
+    parts.push(NotePart::Section(number, name_shown(names, section), notes))?;
+    Ok(())
+}
+
+fn take_segments<'f, E: EndianParse, S: StreamSource>(
+    alloc: Global,
+    stream: &'f ElfStream<E, S, Global>,
+) -> Result<NoteTables<'f, E>, NotTaken>
+    ensures { let whole = whole_file E.little stream.now in
+        IfOk result (λ tables. note_tables_said tables ≡ numbered (segment_notes_in whole) 0 whole.segments) }
+{
+    let mut parts = Vec::new(alloc);
+    let mut number = 0;
+    for segment in stream.segments().as_slice() {
+        add_segment(stream, number, segment, &mut parts)?;
+        number += 1;
+    }
+    Ok(NoteTables(parts))
+}
+
+// Takes the notes of a segment, if it has any, and adds them.
+fn add_segment<'f, E: EndianParse, S: StreamSource>(
+    stream: &'f ElfStream<E, S, Global>,
+    number: u64,
+    segment: &ProgramHeader,
+    parts: &mut Vec<NotePart<'f, E>>,
+) -> Result<(), NotTaken>
+    ensures { OnOk result (flat_map part_said parts.new.items
+        ≡ flat_map part_said parts.old.items ++ segment_notes_in (whole_file E.little stream.now) number segment.now) }
+{
+    if segment.p_type != abi::PT_NOTE {
+        return Ok(());
+    }
+    let notes = taking::segment_notes(stream, segment)?;
+    parts.push(NotePart::Segment(number, notes))?;
+    Ok(())
+}
+
+/// Says the notes of each section or of each segment, for people under a heading.
+pub(crate) fn say_notes<E: EndianParse, W: Write, V: Write>(
+    tables: NoteTables<'_, E>,
+    report: &mut Report<'_, W, V>,
+) -> Result<(), Stop>
+    ensures { OnOk result (report.new ≡ saying report.old (note_tables_said tables.entry)) }
+{
+    for part in tables.0 {
+        say_part(part, report)?;
+    }
+    Ok(())
+}
+
+// Says the notes of a section or of a segment.
+fn say_part<E: EndianParse, W: Write, V: Write>(
+    part: NotePart<'_, E>,
+    report: &mut Report<'_, W, V>,
+) -> Result<(), Stop>
+    ensures { OnOk result (report.new ≡ saying report.old (part_said part.entry)) }
+{
+    match part {
+        NotePart::Section(number, name, notes) => {
+            report.state(Kind::SectionNotesHeading, &heading_members(number, name))?;
+            say_read(Part::Section(number), notes, report)
+        }
+        NotePart::Segment(number, notes) => {
+            report.state(Kind::SegmentNotesHeading, &segment_members(number))?;
+            say_read(Part::Segment(number), notes, report)
+        }
+    }
+}
+
+fn segment_members(number: u64) -> [Member<'static>; 1]
+    ensures { members_said result ≡ segment_members number }
+{
+    [("segment", Value::Number(number))]
+}
+
+// Says notes, or that they cannot be read.
+fn say_read<E: EndianParse, W: Write, V: Write>(
+    part: Part,
+    notes: Result<NoteIterator<'_, E>, ParseError>,
+    report: &mut Report<'_, W, V>,
+) -> Result<(), Stop>
+    ensures { OnOk result (report.new ≡ saying report.old
+        (read_said part (notes_said part) (ok_map notes_left notes.entry))) }
+{
+    match notes {
+        Ok(notes) => notes::say_notes(part, notes, report),
+        Err(error) => {
+            let place = Place {
+                part,
+                item: Item::Whole,
+            };
+            report.problem(place, Fault::Read(error))
+        }
+    }
+}

@@ -1,0 +1,86 @@
+//! The sections.
+ghost use Rattle.std.specs.Prelude.{◌≡◌, IfOk, OnOk};
+ghost use Rattle.nugwier_listing.specs.Sections.{names_in, said_of_sections, sections_said};
+ghost use Rattle.nugwier_listing.specs.Whole.{whole_file};
+ghost use Rattle.nugwier_listing.specs.inner.Sections.{taken_sections_said};
+ghost use Rattle.nugwier_report.specs.Said.{saying, unread, whole};
+ghost use Rattle.nugwier_report.specs.declared.problem.Part.TheVariants.{SectionNames as IsSectionNames};
+
+use crate::taking::{self, NotTaken};
+use elf::endian::EndianParse;
+use elf::headers::Headers;
+use elf::section::SectionHeader;
+use elf::string_table::TerminatedStrings;
+use elf::{ElfStream, ParseError, StreamSource};
+use nugwier_report::kind::Kind;
+use nugwier_report::problem::{Item, Part, Place, Stop};
+use nugwier_report::report::Report;
+use nugwier_report::rows::say_slice;
+use nugwier_report::sections::SectionRow;
+use std::alloc::Global;
+use std::io::Write;
+
+/// The sections, and their names or why these cannot be read.
+#[derive(Drop)]
+pub struct SectionTables<'f> {
+    sections: &'f [SectionHeader],
+    names: Result<Option<TerminatedStrings<'f>>, ParseError>,
+}
+
+/// Takes the sections, if the file declares any.
+pub(crate) fn take_sections<'f, E: EndianParse, S: StreamSource>(
+    stream: &'f ElfStream<E, S, Global>,
+) -> Result<Option<SectionTables<'f>>, NotTaken>
+    ensures { IfOk result (λ tables. taken_sections_said tables ≡ said_of_sections (whole_file E.little stream.now)) }
+{
+    if !stream.declares_sections() {
+        return Ok(None);
+    }
+    let names = taking::names(stream)?;
+    let sections = stream.section_headers().as_slice();
+    Ok(Some(SectionTables { sections, names }))
+}
+
+/// Says the sections that were taken.
+pub(crate) fn say_sections<W: Write, V: Write>(
+    tables: Option<SectionTables<'_>>,
+    report: &mut Report<'_, W, V>,
+) -> Result<(), Stop>
+    ensures { OnOk result (report.new ≡ saying report.old (taken_sections_said tables.entry)) }
+{
+    match tables {
+        Some(tables) => say_listed(tables, report),
+        None => Ok(()),
+    }
+}
+
+fn say_listed<W: Write, V: Write>(
+    tables: SectionTables<'_>,
+    report: &mut Report<'_, W, V>,
+) -> Result<(), Stop>
+    ensures { OnOk result (report.new
+        ≡ saying report.old (sections_said tables.entry.sections.now tables.entry.names)) }
+{
+    let SectionTables { sections, names } = tables;
+    let names = say_names(names, report)?;
+    report.state(Kind::SectionsHeading, &[])?;
+    say_slice(sections, &SectionRow { names }, report)
+}
+
+// The names, or that they cannot be read.
+fn say_names<'f, W: Write, V: Write>(
+    names: Result<Option<TerminatedStrings<'f>>, ParseError>,
+    report: &mut Report<'_, W, V>,
+) -> Result<Option<TerminatedStrings<'f>>, Stop>
+    ensures names { IfOk result (λ found. found ≡ names_in names.entry) }
+    ensures said { OnOk result (report.new ≡ saying report.old (unread (whole IsSectionNames) names.entry)) }
+{
+    let place = Place {
+        part: Part::SectionNames,
+        item: Item::Whole,
+    };
+    match report.readable(place, names)? {
+        Some(names) => Ok(names),
+        None => Ok(None),
+    }
+}

@@ -1,0 +1,251 @@
+//! The symbols of a file.
+ghost use Rattle.std.specs.Prelude.{◌≡◌, IfOk, OnOk};
+ghost use Rattle.std.specs.Option.{option_map};
+ghost use Rattle.elf.specs.Answers.{symbols_view};
+ghost use Rattle.elf_parts.specs.gnu_symver.Table.{versions_view};
+ghost use Rattle.elf_records.specs.Number.{ok_map};
+ghost use Rattle.nugwier_listing.specs.Symbols.{heading_said, none_said, plain_said, readable, rows_said};
+ghost use Rattle.nugwier_listing.specs.Symbols.{said_of_dynamic_symbols, said_of_exports, said_of_letters};
+ghost use Rattle.nugwier_listing.specs.Symbols.{said_of_linked, said_of_symbols};
+ghost use Rattle.nugwier_listing.specs.Whole.{whole_file};
+ghost use Rattle.nugwier_listing.specs.inner.Symbols.{linked_said, one_linked_said, symbols_said};
+ghost use Rattle.nugwier_report.specs.Said.{saying, unread, whole};
+ghost use Rattle.nugwier_report.specs.Symbols.{form_view};
+ghost use Rattle.nugwier_report.specs.declared.problem.Part.TheVariants.{DynamicSymbols, Versions as VersionPart};
+
+use crate::taking;
+use crate::taking::{NotTaken, Symbols};
+use elf::endian::EndianParse;
+use elf::gnu_symver::{IndexedVersions, SymbolVersionTable, SymbolVersions};
+use elf::string_table::TerminatedStrings;
+use elf::{ElfStream, ParseError, StreamSource};
+use elf_tools::versions::indexed;
+use nugwier_report::kind::Kind;
+use nugwier_report::problem::{Fault, Item, Part, Place, Stop};
+use nugwier_report::report::Report;
+use nugwier_report::rows::say_records;
+use nugwier_report::symbols::{Form, Names, SymbolRow};
+use std::alloc::Global;
+use std::io::Write;
+use std::marker::PhantomData;
+
+/// The symbols that were taken.
+#[derive(Drop)]
+pub struct SymbolTables<'f, E: EndianParse> {
+    symbols: Result<Option<Symbols<'f, E>>, ParseError>,
+}
+
+/// Takes the symbols of the section of type `SHT_SYMTAB`.
+pub(crate) fn take_symbols<'f, E: EndianParse, S: StreamSource>(
+    stream: &'f ElfStream<E, S, Global>,
+) -> Result<SymbolTables<'f, E>, NotTaken>
+    ensures { IfOk result (λ tables. symbols_said tables ≡ said_of_symbols (whole_file E.little stream.now)) }
+{
+    let symbols = taking::symbols(stream)?;
+    Ok(SymbolTables { symbols })
+}
+
+/// Says the symbols that were taken, if there are any, under a heading.
+pub(crate) fn say_symbols<E: EndianParse, W: Write, V: Write>(
+    tables: SymbolTables<'_, E>,
+    report: &mut Report<'_, W, V>,
+) -> Result<(), Stop>
+    ensures { OnOk result (report.new ≡ saying report.old (symbols_said tables.entry)) }
+{
+    match tables.symbols {
+        Ok(Some(symbols)) => say_plain(symbols, report),
+        Ok(None) => Ok(()),
+        Err(error) => report.problem(whole(Part::Symbols), Fault::Read(error)),
+    }
+}
+
+fn say_plain<E: EndianParse, W: Write, V: Write>(
+    symbols: Symbols<'_, E>,
+    report: &mut Report<'_, W, V>,
+) -> Result<(), Stop>
+    ensures { OnOk result (report.new ≡ saying report.old (plain_said (symbols_view symbols.entry))) }
+{
+    report.state(Kind::SymbolsHeading, &[])?;
+    let versions: Option<IndexedVersions<'_, '_, E, Global>> = None;
+    say_rows(Part::Symbols, Form::Fields, symbols, versions, report)
+}
+
+// Says each symbol of a table.
+fn say_rows<'f, E: EndianParse, T: SymbolVersions<E> + Drop, W: Write, V: Write>(
+    part: Part,
+    form: Form<'f>,
+    symbols: Symbols<'f, E>,
+    versions: Option<T>,
+    report: &mut Report<'_, W, V>,
+) -> Result<(), Stop>
+    ensures { OnOk result (report.new ≡ saying report.old (rows_said (form_view form.entry) part
+        (option_map T.versions versions) (symbols_view symbols.entry))) }
+{
+    let (table, strings) = symbols;
+    let names = Names {
+        part,
+        strings: TerminatedStrings::new(&strings),
+        versions,
+        order: PhantomData,
+    };
+    say_records(table.iter(), &SymbolRow { names, form }, report)
+}
+
+/// Symbols for dynamic linking that were taken, and their versions.
+#[derive(Drop)]
+pub struct LinkedSymbols<'f, E: EndianParse> {
+    symbols: Symbols<'f, E>,
+    versions: Result<Option<SymbolVersionTable<'f, E>>, ParseError>,
+}
+
+/// Symbols for dynamic linking that were taken, if there are any, and what is said of them.
+#[derive(Drop)]
+pub struct LinkedTables<'f, E: EndianParse> {
+    form: Form<'f>,
+    linked: Result<Option<LinkedSymbols<'f, E>>, ParseError>,
+}
+
+/// Takes the symbols for dynamic linking, to say all their fields.
+pub(crate) fn take_dynamic_symbols<'f, E: EndianParse, S: StreamSource>(
+    stream: &'f ElfStream<E, S, Global>,
+) -> Result<LinkedTables<'f, E>, NotTaken>
+    ensures { IfOk result (λ tables. linked_said tables ≡ said_of_dynamic_symbols (whole_file E.little stream.now)) }
+{
+    take_linked(stream, Form::Fields)
+}
+
+/// Takes the symbols for dynamic linking, to say their values and letters.
+pub(crate) fn take_letters<'f, E: EndianParse, S: StreamSource>(
+    stream: &'f ElfStream<E, S, Global>,
+) -> Result<LinkedTables<'f, E>, NotTaken>
+    ensures { IfOk result (λ tables. linked_said tables ≡ said_of_letters (whole_file E.little stream.now)) }
+{
+    let form = Form::Letter {
+        class: stream.ehdr.class,
+        sections: stream.section_headers().as_slice(),
+    };
+    take_linked(stream, form)
+}
+
+/// Takes the symbols for dynamic linking, to say those that other files can call.
+pub(crate) fn take_exports<'f, E: EndianParse, S: StreamSource>(
+    stream: &'f ElfStream<E, S, Global>,
+) -> Result<LinkedTables<'f, E>, NotTaken>
+    ensures { IfOk result (λ tables. linked_said tables ≡ said_of_exports (whole_file E.little stream.now)) }
+{
+    take_linked(stream, Form::Export)
+}
+
+fn take_linked<'f, E: EndianParse, S: StreamSource>(
+    stream: &'f ElfStream<E, S, Global>,
+    form: Form<'f>,
+) -> Result<LinkedTables<'f, E>, NotTaken>
+    ensures { IfOk result (λ tables. linked_said tables
+        ≡ said_of_linked (form_view form.entry) (whole_file E.little stream.now)) }
+{
+    let linked = match taking::dynamic_symbols(stream)? {
+        Ok(Some(symbols)) => {
+            let versions = taking::versions(stream)?;
+            Ok(Some(LinkedSymbols { symbols, versions }))
+        }
+        Ok(None) => Ok(None),
+        Err(error) => Err(error),
+    };
+    Ok(LinkedTables { form, linked })
+}
+
+/// Says the symbols for dynamic linking that were taken. It is wrong if there are none, unless all fields are said.
+pub(crate) fn say_linked<E: EndianParse, W: Write, V: Write>(
+    alloc: Global,
+    tables: LinkedTables<'_, E>,
+    report: &mut Report<'_, W, V>,
+) -> Result<(), Stop>
+    ensures { OnOk result (report.new ≡ saying report.old (linked_said tables.entry)) }
+{
+    match tables.linked {
+        Ok(Some(linked)) => say_versioned(alloc, tables.form, linked, report),
+        Ok(None) => say_none(tables.form, report),
+        Err(error) => report.problem(whole(Part::DynamicSymbols), Fault::Read(error)),
+    }
+}
+
+fn say_none<W: Write, V: Write>(form: Form<'_>, report: &mut Report<'_, W, V>) -> Result<(), Stop>
+    ensures { OnOk result (report.new ≡ saying report.old (none_said (form_view form.entry))) }
+{
+    match form {
+        Form::Fields => Ok(()),
+        Form::Letter { .. } | Form::Export => {
+            report.problem(whole(Part::DynamicSymbols), Fault::Missing)
+        }
+    }
+}
+
+fn say_versioned<'f, E: EndianParse, W: Write, V: Write>(
+    alloc: Global,
+    form: Form<'f>,
+    linked: LinkedSymbols<'f, E>,
+    report: &mut Report<'_, W, V>,
+) -> Result<(), Stop>
+    ensures { OnOk result (report.new ≡ saying report.old (one_linked_said (form_view form.entry) linked.entry)) }
+{
+    let LinkedSymbols { symbols, versions } = linked;
+    let versions = known_versions(versions, report)?;
+    say_heading(form, report)?;
+    say_indexed(alloc, form, symbols, versions, report)
+}
+
+// The versions, if they can be read.
+fn known_versions<'f, E: EndianParse, W: Write, V: Write>(
+    versions: Result<Option<SymbolVersionTable<'f, E>>, ParseError>,
+    report: &mut Report<'_, W, V>,
+) -> Result<Option<SymbolVersionTable<'f, E>>, Stop>
+    ensures versions { IfOk result (λ known. option_map versions_view known
+        ≡ readable (ok_map (option_map versions_view) versions.entry)) }
+    ensures wrong { OnOk result (report.new ≡ saying report.old
+        (unread (whole VersionPart) (ok_map (option_map versions_view) versions.entry))) }
+{
+    match versions {
+        Ok(versions) => Ok(versions),
+        Err(error) => {
+            report.problem(whole(Part::Versions), Fault::Read(error))?;
+            Ok(None)
+        }
+    }
+}
+
+// The heading above all fields of symbols.
+fn say_heading<W: Write, V: Write>(
+    form: Form<'_>,
+    report: &mut Report<'_, W, V>,
+) -> Result<(), Stop>
+    ensures { OnOk result (report.new ≡ saying report.old (heading_said (form_view form.entry))) }
+{
+    match form {
+        Form::Fields => report.state(Kind::DynamicSymbolsHeading, &[]),
+        Form::Letter { .. } | Form::Export => Ok(()),
+    }
+}
+
+fn say_indexed<'f, E: EndianParse, W: Write, V: Write>(
+    alloc: Global,
+    form: Form<'f>,
+    symbols: Symbols<'f, E>,
+    versions: Option<SymbolVersionTable<'f, E>>,
+    report: &mut Report<'_, W, V>,
+) -> Result<(), Stop>
+    ensures { OnOk result (report.new ≡ saying report.old (rows_said (form_view form.entry) DynamicSymbols
+        (option_map versions_view versions.entry) (symbols_view symbols.entry))) }
+{
+    let versions = indexed(alloc, versions.as_ref())?;
+    say_rows(Part::DynamicSymbols, form, symbols, versions, report)
+}
+
+// All of a part of the file.
+pub(crate) fn whole(part: Part) -> Place
+    ensures { result ≡ whole part }
+{
+    Place {
+        part,
+        item: Item::Whole,
+    }
+}

@@ -1,0 +1,302 @@
+//! What is read of the loaded ranges of a stream. What is taken is what its file answers, a value or an error; only
+//! bytes that are not loaded cannot be taken.
+ghost use Rattle.std.specs.Prelude.{◌≡◌, true, IfOk, IfSome, None};
+ghost use Rattle.std.specs.Option.{option_map};
+ghost use Rattle.elf.specs.Answers.{dynamic, dynamic_symbol_table, relas_left, rels_left, section_data_as_notes};
+ghost use Rattle.elf.specs.Answers.{section_data_as_relas, section_data_as_rels, segment_data_as_notes};
+ghost use Rattle.elf.specs.Answers.{symbol_table, symbol_version_table, symbols_of, symbols_view};
+ghost use Rattle.elf.specs.Data.{content, section_data};
+ghost use Rattle.elf.specs.Loaded.{loaded_ranges};
+ghost use Rattle.elf.specs.Names.{name_table};
+ghost use Rattle.elf.specs.ObjectFile.{err_map};
+ghost use Rattle.elf.specs.Parts.{ArePartOf, Follows, loaded};
+ghost use Rattle.elf.specs.Readers.{Method, answer};
+ghost use Rattle.elf.specs.StreamFile.{stream_file};
+ghost use Rattle.elf.specs.declared.read_error.ReadError.TheVariants.{Parse as IsParse};
+ghost use Rattle.elf_parts.specs.Note.{notes_left};
+ghost use Rattle.elf_parts.specs.gnu_symver.Table.{versions_view};
+ghost use Rattle.elf_reading.specs.Leading.{data_view};
+ghost use Rattle.elf_records.specs.Number.{ok_map};
+ghost use Rattle.elf_records.specs.StringTable.{strings_view};
+ghost use Rattle.elf_records.specs.Table.{table_view};
+ghost use Rattle.elf_tools.specs.BuildId.{build_id};
+ghost use Rattle.elf_tools.specs.Needed.{missing_of, strings_by};
+ghost use Rattle.nugwier_listing.specs.Whole.{whole_file};
+ghost use Rattle.nugwier_listing.specs.declared.taking.NotTaken.TheVariants.{Memory as IsMemory};
+
+use elf::compression::CompressionHeader;
+use elf::dynamic::{Dyn, DynamicTable};
+use elf::endian::EndianParse;
+use elf::gnu_symver::SymbolVersionTable;
+use elf::note::NoteIterator;
+use elf::reader::Reader;
+use elf::readers::part_answers_as_whole;
+use elf::relocation::{RelIterator, RelaIterator};
+use elf::section::SectionHeader;
+use elf::segment::ProgramHeader;
+use elf::string_table::{StringTable, TerminatedStrings};
+use elf::symbol::SymbolTable;
+use elf::{ElfStream, ParseError, ReadError, StreamSource, reader};
+use elf_tools::laws::part_build_id_as_whole;
+use elf_tools::needed::NamesError;
+use std::alloc::{AllocError, AllocFailed, Global};
+
+/// Why something is not taken of a stream.
+#[derive(Debug, Drop)]
+pub enum NotTaken {
+    /// The bytes from a start to an end, which lie in the file, are not loaded.
+    Missing((u64, u64)),
+    /// An allocation failed.
+    Memory,
+}
+
+impl From<AllocError> for NotTaken {
+    ghost from_gives = { λ _ reason. reason ≡ IsMemory };
+
+    fn from(_error: AllocError) -> NotTaken {
+        NotTaken::Memory
+    }
+}
+
+impl<T: Drop> From<AllocFailed<T>> for NotTaken {
+    ghost from_gives = { λ _ reason. reason ≡ IsMemory };
+
+    fn from(_error: AllocFailed<T>) -> NotTaken {
+        NotTaken::Memory
+    }
+}
+
+/// A table of symbols, with the strings of their names.
+pub type Symbols<'f, E> = (SymbolTable<'f, E>, StringTable<'f>);
+
+/// States that the file of a stream over known content is the one that the content holds.
+#[tactic(auto, using(crate::proofs::Taken::whole_same))]
+pub fn whole_is_content<E: EndianParse, S: StreamSource>(stream: &ElfStream<E, S, Global>)
+    ensures { IfSome stream.now.content (λ bytes. whole_file E.little stream.now
+        ≡ stream_file E.little stream.now bytes) }
+{
+    stream.is_part_of_file();
+}
+
+// States that what is loaded of a stream is of its file, and so are the answers about it.
+fn is_part<E: EndianParse, S: StreamSource>(stream: &ElfStream<E, S, Global>)
+    ensures part { ArePartOf (whole_file E.little stream.now) (λ _. true) (loaded_ranges stream.now) }
+    ensures answers { (m : Method) → Follows (λ _. true) (answer m (whole_file E.little stream.now))
+        (answer m (loaded (whole_file E.little stream.now) (loaded_ranges stream.now))) }
+{
+    stream.is_part_of_file();
+    part_answers_as_whole();
+}
+
+// What was read, unless bytes are missing.
+fn taken<T>(read: Result<T, ReadError>) -> Result<Result<T, ParseError>, NotTaken>
+    ensures { IfOk result (λ found. read ≡ err_map IsParse found) }
+{
+    match read {
+        Ok(value) => Ok(Ok(value)),
+        Err(ReadError::Parse(error)) => Ok(Err(error)),
+        Err(ReadError::NotLoaded(range)) => Err(NotTaken::Missing(range)),
+    }
+}
+
+/// Takes the symbols of the first section of type `SHT_SYMTAB`, and their strings.
+pub(crate) fn symbols<'f, E: EndianParse, S: StreamSource>(
+    stream: &'f ElfStream<E, S, Global>,
+) -> Result<Result<Option<Symbols<'f, E>>, ParseError>, NotTaken>
+    ensures { IfOk result (λ found. ok_map (option_map symbols_view) found
+        ≡ symbol_table (whole_file E.little stream.now)) }
+{
+    is_part(stream);
+    taken(reader::symbol_table(stream))
+}
+
+/// Takes the symbols for dynamic linking, and their strings.
+pub(crate) fn dynamic_symbols<'f, E: EndianParse, S: StreamSource>(
+    stream: &'f ElfStream<E, S, Global>,
+) -> Result<Result<Option<Symbols<'f, E>>, ParseError>, NotTaken>
+    ensures { IfOk result (λ found. ok_map (option_map symbols_view) found
+        ≡ dynamic_symbol_table (whole_file E.little stream.now)) }
+{
+    is_part(stream);
+    taken(reader::dynamic_symbol_table(stream))
+}
+
+/// Takes the versions of the symbols for dynamic linking.
+pub(crate) fn versions<'f, E: EndianParse, S: StreamSource>(
+    stream: &'f ElfStream<E, S, Global>,
+) -> Result<Result<Option<SymbolVersionTable<'f, E>>, ParseError>, NotTaken>
+    ensures { IfOk result (λ found. ok_map (option_map versions_view) found
+        ≡ symbol_version_table (whole_file E.little stream.now)) }
+{
+    is_part(stream);
+    taken(reader::symbol_version_table(stream))
+}
+
+/// Takes the names of the sections, if the file has any.
+pub fn names<'f, E: EndianParse, S: StreamSource>(
+    stream: &'f ElfStream<E, S, Global>,
+) -> Result<Result<Option<TerminatedStrings<'f>>, ParseError>, NotTaken>
+    ensures { IfOk result (λ found. found ≡ name_table (whole_file E.little stream.now)) }
+{
+    match name_strings(stream)? {
+        Ok(Some(names)) => Ok(Ok(Some(TerminatedStrings::new(&names)))),
+        Ok(None) => Ok(Ok(None)),
+        Err(error) => Ok(Err(error)),
+    }
+}
+
+// The strings of the names of the sections.
+fn name_strings<'f, E: EndianParse, S: StreamSource>(
+    stream: &'f ElfStream<E, S, Global>,
+) -> Result<Result<Option<StringTable<'f>>, ParseError>, NotTaken>
+    ensures { IfOk result (λ found. ok_map (option_map strings_view) found
+        ≡ name_table (whole_file E.little stream.now)) }
+{
+    is_part(stream);
+    taken(reader::section_names(stream))
+}
+
+/// Takes the bytes of a section, and its compression header if it has one.
+pub(crate) fn section_data<'f, E: EndianParse, S: StreamSource>(
+    stream: &'f ElfStream<E, S, Global>,
+    shdr: &SectionHeader,
+) -> Result<Result<(&'f [u8], Option<CompressionHeader>), ParseError>, NotTaken>
+    ensures { IfOk result (λ found. ok_map data_view found ≡ section_data (whole_file E.little stream.now) shdr.now) }
+{
+    is_part(stream);
+    taken(reader::section_data(stream, shdr))
+}
+
+/// Takes the bytes of a section, without its compression header.
+pub(crate) fn content<'f, E: EndianParse, S: StreamSource>(
+    stream: &'f ElfStream<E, S, Global>,
+    shdr: &SectionHeader,
+) -> Result<Result<&'f [u8], ParseError>, NotTaken>
+    ensures { IfOk result (λ found. ok_map (λ bytes. bytes.now) found
+        ≡ content (whole_file E.little stream.now) shdr.now) }
+{
+    match section_data(stream, shdr)? {
+        Ok((bytes, _)) => Ok(Ok(bytes)),
+        Err(error) => Ok(Err(error)),
+    }
+}
+
+/// Takes the relocations of a section of type `SHT_REL`.
+pub(crate) fn rels<'f, E: EndianParse, S: StreamSource>(
+    stream: &'f ElfStream<E, S, Global>,
+    shdr: &SectionHeader,
+) -> Result<Result<RelIterator<'f, E>, ParseError>, NotTaken>
+    ensures { IfOk result (λ found. ok_map rels_left found
+        ≡ section_data_as_rels (whole_file E.little stream.now) shdr.now) }
+{
+    is_part(stream);
+    taken(reader::section_data_as_rels(stream, shdr))
+}
+
+/// Takes the relocations of a section of type `SHT_RELA`.
+pub(crate) fn relas<'f, E: EndianParse, S: StreamSource>(
+    stream: &'f ElfStream<E, S, Global>,
+    shdr: &SectionHeader,
+) -> Result<Result<RelaIterator<'f, E>, ParseError>, NotTaken>
+    ensures { IfOk result (λ found. ok_map relas_left found
+        ≡ section_data_as_relas (whole_file E.little stream.now) shdr.now) }
+{
+    is_part(stream);
+    taken(reader::section_data_as_relas(stream, shdr))
+}
+
+/// Takes the notes of a section of type `SHT_NOTE`.
+pub(crate) fn section_notes<'f, E: EndianParse, S: StreamSource>(
+    stream: &'f ElfStream<E, S, Global>,
+    shdr: &SectionHeader,
+) -> Result<Result<NoteIterator<'f, E>, ParseError>, NotTaken>
+    ensures { IfOk result (λ found. ok_map notes_left found
+        ≡ section_data_as_notes (whole_file E.little stream.now) shdr.now) }
+{
+    is_part(stream);
+    taken(reader::section_data_as_notes(stream, shdr))
+}
+
+/// Takes the notes of a segment of type `PT_NOTE`.
+pub(crate) fn segment_notes<'f, E: EndianParse, S: StreamSource>(
+    stream: &'f ElfStream<E, S, Global>,
+    phdr: &ProgramHeader,
+) -> Result<Result<NoteIterator<'f, E>, ParseError>, NotTaken>
+    ensures { IfOk result (λ found. ok_map notes_left found
+        ≡ segment_data_as_notes (whole_file E.little stream.now) phdr.now) }
+{
+    is_part(stream);
+    taken(reader::segment_data_as_notes(stream, phdr))
+}
+
+/// Takes the dynamic entries.
+pub(crate) fn dynamic<'f, E: EndianParse, S: StreamSource>(
+    stream: &'f ElfStream<E, S, Global>,
+) -> Result<Result<Option<DynamicTable<'f, E>>, ParseError>, NotTaken>
+    ensures { IfOk result (λ found. ok_map (option_map table_view) found ≡ dynamic (whole_file E.little stream.now)) }
+{
+    is_part(stream);
+    taken(reader::dynamic(stream))
+}
+
+/// Takes the symbols of a section, with the strings of the section that its `sh_link` names.
+pub(crate) fn symbols_of<'f, E: EndianParse, S: StreamSource>(
+    stream: &'f ElfStream<E, S, Global>,
+    shdr: &SectionHeader,
+) -> Result<Result<Symbols<'f, E>, ParseError>, NotTaken>
+    ensures { IfOk result (λ found. ok_map symbols_view found ≡ symbols_of (whole_file E.little stream.now) shdr.now) }
+{
+    is_part(stream);
+    taken(reader::symbols_of(stream, shdr))
+}
+
+/// Takes the bytes of a range by its start and its size.
+pub(crate) fn range<'f, E: EndianParse, S: StreamSource>(
+    stream: &'f ElfStream<E, S, Global>,
+    start: u64,
+    size: u64,
+) -> Result<Result<&'f [u8], ParseError>, NotTaken>
+    ensures { IfOk result (λ found. ok_map (λ bytes. bytes.now) found
+        ≡ (whole_file E.little stream.now).range start size) }
+{
+    is_part(stream);
+    taken(stream.range(start, size))
+}
+
+/// Takes all bytes of the file.
+pub(crate) fn whole_bytes<'f, E: EndianParse, S: StreamSource>(
+    stream: &'f ElfStream<E, S, Global>,
+) -> Result<Result<&'f [u8], ParseError>, NotTaken>
+    ensures { let whole = whole_file E.little stream.now in
+        IfOk result (λ found. ok_map (λ bytes. bytes.now) found ≡ whole.range 0 whole.size) }
+{
+    range(stream, 0, stream.size())
+}
+
+/// Takes the build id, if the file has one.
+pub(crate) fn build_id<'f, E: EndianParse, S: StreamSource>(
+    stream: &'f ElfStream<E, S, Global>,
+) -> Result<Result<Option<&'f [u8]>, ParseError>, NotTaken>
+    ensures { IfOk result (λ found. ok_map (option_map (λ id. id.now)) found
+        ≡ build_id (whole_file E.little stream.now)) }
+{
+    is_part(stream);
+    part_build_id_as_whole();
+    taken(elf_tools::build_id::build_id(stream))
+}
+
+/// Takes the string table of dynamic entries. An error is that of the whole file, so never `NamesError::Missing`.
+pub(crate) fn strings_of<'f, E: EndianParse, S: StreamSource>(
+    stream: &'f ElfStream<E, S, Global>,
+    entries: &[Dyn],
+) -> Result<Result<&'f [u8], NamesError>, NotTaken>
+    ensures strings { IfOk result (λ found. ok_map (λ bytes. bytes.now) found
+        ≡ strings_by (whole_file E.little stream.now) entries.now) }
+    ensures no_missing { IfOk result (λ found. missing_of found ≡ None) }
+{
+    is_part(stream);
+    match elf_tools::needed::strings_of(stream, entries) {
+        Err(NamesError::Missing(range)) => Err(NotTaken::Missing(range)),
+        found => Ok(found),
+    }
+}

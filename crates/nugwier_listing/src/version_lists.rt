@@ -1,0 +1,256 @@
+//! The versions that a file defines, and those that it needs of other files.
+ghost use Rattle.std.specs.Prelude.{◌≡◌, ◌++◌, IfOk, OnOk};
+ghost use Rattle.std.specs.List.{flat_map};
+ghost use Rattle.elf_records.specs.Number.{ok_map};
+ghost use Rattle.elf_records.specs.Table.{table_in};
+ghost use Rattle.nugwier_listing.specs.Headings.{known_names, name_shown, read_said};
+ghost use Rattle.nugwier_listing.specs.VersionLists.{has_versions, heading_of, is_defining, linked_content, records_in};
+ghost use Rattle.nugwier_listing.specs.VersionLists.{records_said};
+ghost use Rattle.nugwier_listing.specs.VersionLists.{said_of_version_lists, section_said, versions_in, versions_of};
+ghost use Rattle.nugwier_listing.specs.Whole.{whole_file};
+ghost use Rattle.nugwier_listing.specs.inner.VersionLists.{part_said, records_view, version_lists_said, versions_view};
+ghost use Rattle.nugwier_report.specs.Said.{saying};
+ghost use Rattle.nugwier_report.specs.declared.problem.Part.TheVariants.{Section};
+
+use crate::headings::{heading_members, known_names, name_shown};
+use crate::taking;
+use crate::taking::NotTaken;
+use elf::endian::EndianParse;
+use elf::file::Class;
+use elf::gnu_symver::{VerDefIterator, VerNeedIterator};
+use elf::headers::Headers;
+use elf::section::SectionHeader;
+use elf::string_table::{StringTable, TerminatedStrings};
+use elf::{ElfStream, ParseError, StreamSource, abi};
+use nugwier_report::kind::Kind;
+use nugwier_report::problem::{Fault, Item, Part, Place, Stop};
+use nugwier_report::report::Report;
+use nugwier_report::version_records::{VersionNames, say_definitions, say_needs};
+use std::alloc::Global;
+use std::io::Write;
+
+// Versions that a section defines, or that it needs.
+#[derive(Drop)]
+enum TakenRecords<'f, E: EndianParse> {
+    Defined(VerDefIterator<'f, E>),
+    Needed(VerNeedIterator<'f, E>),
+}
+
+// The versions of a section, and the strings that have their names.
+#[derive(Drop)]
+struct TakenVersions<'f, E: EndianParse> {
+    records: TakenRecords<'f, E>,
+    strings: TerminatedStrings<'f>,
+}
+
+// The same with the number and the name of the section, and whether it defines them.
+#[derive(Drop)]
+struct VersionPart<'f, E: EndianParse> {
+    number: u64,
+    name: &'f [u8],
+    is_defining: bool,
+    versions: Result<TakenVersions<'f, E>, ParseError>,
+}
+
+/// The versions of each section of a file that defines or needs some.
+#[derive(Drop)]
+pub struct VersionLists<'f, E: EndianParse>(Vec<VersionPart<'f, E>>);
+
+/// Takes the versions of each section that defines or needs some.
+pub(crate) fn take_version_lists<'f, E: EndianParse, S: StreamSource>(
+    alloc: Global,
+    stream: &'f ElfStream<E, S, Global>,
+) -> Result<VersionLists<'f, E>, NotTaken>
+    ensures { IfOk result (λ lists. version_lists_said lists ≡ said_of_version_lists (whole_file E.little stream.now)) }
+{
+    let names = known_names(stream)?;
+    let mut parts = Vec::new(alloc);
+    let mut number = 0;
+    for section in stream.section_headers().as_slice() {
+        add_section(stream, &names, number, section, &mut parts)?;
+        number += 1;
+    }
+    Ok(VersionLists(parts))
+}
+
+// Takes the versions of a section, if it has any, and adds them.
+fn add_section<'f, E: EndianParse, S: StreamSource>(
+    stream: &'f ElfStream<E, S, Global>,
+    names: &Option<TerminatedStrings<'f>>,
+    number: u64,
+    section: &SectionHeader,
+    parts: &mut Vec<VersionPart<'f, E>>,
+) -> Result<(), NotTaken>
+    ensures { let whole = whole_file E.little stream.now in
+        names.now ≡ known_names whole → OnOk result (flat_map part_said parts.new.items
+        ≡ flat_map part_said parts.old.items ++ versions_in whole number section.now) }
+{
+    if !has_versions(section) {
+        return Ok(());
+    }
+    let part = take_part(stream, names, number, section)?;
+    parts.push(part)?;
+    Ok(())
+}
+
+// Whether a section defines or needs versions.
+fn has_versions(section: &SectionHeader) -> bool
+    ensures { result ≡ has_versions section.now }
+{
+    is_defining(section) || section.sh_type == abi::SHT_GNU_VERNEED
+}
+
+fn is_defining(section: &SectionHeader) -> bool
+    ensures { result ≡ is_defining section.now }
+{
+    section.sh_type == abi::SHT_GNU_VERDEF
+}
+
+fn take_part<'f, E: EndianParse, S: StreamSource>(
+    stream: &'f ElfStream<E, S, Global>,
+    names: &Option<TerminatedStrings<'f>>,
+    number: u64,
+    section: &SectionHeader,
+) -> Result<VersionPart<'f, E>, NotTaken>
+    ensures { IfOk result (λ part. part_said part ≡ section_said number (name_shown names.now section.now)
+        (is_defining section.now) (versions_of (whole_file E.little stream.now) section.now)) }
+{
+    let versions = take_versions(stream, section)?;
+    Ok(VersionPart {
+        number,
+        name: name_shown(names, section),
+        is_defining: is_defining(section),
+        versions,
+    })
+}
+
+// The versions of a section, and the strings of the section that it links to.
+fn take_versions<'f, E: EndianParse, S: StreamSource>(
+    stream: &'f ElfStream<E, S, Global>,
+    section: &SectionHeader,
+) -> Result<Result<TakenVersions<'f, E>, ParseError>, NotTaken>
+    ensures { IfOk result (λ found. ok_map versions_view found
+        ≡ versions_of (whole_file E.little stream.now) section.now) }
+{
+    let bytes = match taking::content(stream, section)? {
+        Ok(bytes) => bytes,
+        Err(error) => return Ok(Err(error)),
+    };
+    let strings = match linked_content(stream, section)? {
+        Ok(strings) => strings,
+        Err(error) => return Ok(Err(error)),
+    };
+    let order = stream.ehdr.endianness;
+    let records = records_in(order, stream.ehdr.class, section, bytes);
+    let strings = TerminatedStrings::new(&StringTable::new(strings));
+    Ok(Ok(TakenVersions { records, strings }))
+}
+
+fn linked_content<'f, E: EndianParse, S: StreamSource>(
+    stream: &'f ElfStream<E, S, Global>,
+    section: &SectionHeader,
+) -> Result<Result<&'f [u8], ParseError>, NotTaken>
+    ensures { IfOk result (λ found. ok_map (λ bytes. bytes.now) found
+        ≡ linked_content (whole_file E.little stream.now) section.now) }
+{
+    match stream.section_at(section.sh_link as usize) {
+        Ok(linked) => taking::content(stream, &linked),
+        Err(error) => Ok(Err(error)),
+    }
+}
+
+// The versions in the bytes of a section of a file of this order and this class.
+fn records_in<'f, E: EndianParse>(
+    order: E,
+    class: Class,
+    section: &SectionHeader,
+    bytes: &'f [u8],
+) -> TakenRecords<'f, E>
+    ensures { records_view result ≡ records_in section.now (table_in (E.little order) class bytes.now) }
+{
+    let count = section.sh_info as u64;
+    if is_defining(section) {
+        TakenRecords::Defined(VerDefIterator::new(order, class, count, 0, bytes))
+    } else {
+        TakenRecords::Needed(VerNeedIterator::new(order, class, count, 0, bytes))
+    }
+}
+
+/// Says the versions of each section, for people under a heading.
+pub(crate) fn say_version_lists<E: EndianParse, W: Write, V: Write>(
+    lists: VersionLists<'_, E>,
+    report: &mut Report<'_, W, V>,
+) -> Result<(), Stop>
+    ensures { OnOk result (report.new ≡ saying report.old (version_lists_said lists.entry)) }
+{
+    for part in lists.0 {
+        say_part(part, report)?;
+    }
+    Ok(())
+}
+
+// Says the versions of a section.
+fn say_part<E: EndianParse, W: Write, V: Write>(
+    part: VersionPart<'_, E>,
+    report: &mut Report<'_, W, V>,
+) -> Result<(), Stop>
+    ensures { OnOk result (report.new ≡ saying report.old (part_said part.entry)) }
+{
+    let VersionPart {
+        number,
+        name,
+        is_defining,
+        versions,
+    } = part;
+    report.state(heading_of(is_defining), &heading_members(number, name))?;
+    say_read(number, versions, report)
+}
+
+fn heading_of(is_defining: bool) -> Kind
+    ensures { result ≡ heading_of is_defining }
+{
+    if is_defining {
+        Kind::DefinedHeading
+    } else {
+        Kind::NeededHeading
+    }
+}
+
+// Says the versions of a section, or that they cannot be read.
+fn say_read<E: EndianParse, W: Write, V: Write>(
+    section: u64,
+    versions: Result<TakenVersions<'_, E>, ParseError>,
+    report: &mut Report<'_, W, V>,
+) -> Result<(), Stop>
+    ensures { OnOk result (report.new ≡ saying report.old
+        (read_said (Section section) (records_said section) (ok_map versions_view versions.entry))) }
+{
+    match versions {
+        Ok(versions) => say_each(section, versions, report),
+        Err(error) => {
+            let place = Place {
+                part: Part::Section(section),
+                item: Item::Whole,
+            };
+            report.problem(place, Fault::Read(error))
+        }
+    }
+}
+
+// Says each version.
+fn say_each<E: EndianParse, W: Write, V: Write>(
+    section: u64,
+    versions: TakenVersions<'_, E>,
+    report: &mut Report<'_, W, V>,
+) -> Result<(), Stop>
+    ensures { OnOk result (report.new ≡ saying report.old (records_said section (versions_view versions.entry))) }
+{
+    let names = VersionNames {
+        part: Part::Section(section),
+        strings: versions.strings,
+    };
+    match versions.records {
+        TakenRecords::Defined(definitions) => say_definitions(definitions, &names, report),
+        TakenRecords::Needed(needs) => say_needs(needs, &names, report),
+    }
+}

@@ -1,0 +1,4 @@
+pub mod Walk
+pub mod Bound
+pub mod Scopes
+pub mod Each

@@ -1,0 +1,243 @@
+-- The files of a scope side by side with their tables or objects, one file more at a time.
+use Rattle.std.proofs.Common.{◌≡◌, ℕ, ◌+◌, ◌<◌, ◌≤◌, Bool, true, false, List, [], ◌∷◌, ◌++◌, length, map, drop, take, ◌-◌, get_or, Bor, Option, Some, None, Result, Ok, ap, sym, subst, refl, ◌∙◌, arith, append_assoc, append-nil}
+use Rattle.std.proofs.lemmas.List.{drop_all, drop_more, length-map, map-append, take_all}
+use Rattle.std.proofs.lemmas.Option.{get_or_from_slice_get, slice_get-map, slice_get_within}
+use Rattle.std.specs.List.{flat_map, zip}
+use Rattle.std.specs.Option.{option_copied, option_map}
+use Rattle.std.proofs.lemmas.Bool.Decides.{nat_tests}
+use Rattle.std.specs.Prelude.{slice_get, ◌==◌}
+use Rattle.std.specs.declared.cmp.PartialEq.{Ghosts as PartialEqGhosts}
+use Rattle.std.specs.declared.default.Default.{Ghosts as DefaultGhosts}
+use Rattle.elf_records.specs.declared.endian.AnyEndian.{AnyEndian}
+use Rattle.elf_records.specs.declared.endian.EndianParse.{Ghosts as EndianGhosts}
+use Rattle.elf_parts.specs.gnu_symver.Table.{Versions, versions_view}
+use Rattle.elf_check.specs.CheckedTable.{object_view}
+use Rattle.elf_check.specs.Object.{Object}
+use Rattle.elf_check.specs.declared.hashcheck.any.HashSection.{HashSection}
+use Rattle.elf_check.specs.declared.hashcheck.gnu.CheckedGnuHash.{CheckedGnuHash}
+use Rattle.elf_check.specs.declared.hashcheck.sysv.CheckedSysvHash.{CheckedSysvHash}
+use Rattle.elf_binding.specs.Binding.{VersionedObject}
+use Rattle.elf_binding.specs.declared.VersionedObject.{VersionedObject as Versioned}
+use Rattle.elf_records.specs.Endian.{any_is_little, any_of_byte}
+use Rattle.elf_records.specs.Table.{Table}
+use Rattle.elf_records.specs.declared.parse.ParseError.{ParseError}
+use Rattle.elf_reading.specs.Opening.{FileView, opened_file}
+use Rattle.elf.specs.Answers.{dynamic_symbol_table}
+use Rattle.elf_binding.specs.BindingObjects.{GivesVersioned}
+use Rattle.elf_binding.specs.declared.resolve.ObjectFault.{ObjectFault}
+use Rattle.elf_tools.specs.Tree.{Entry, entry_view}
+use Rattle.elf_tools.specs.declared.tree.Object.{Object as LoadedObject}
+use Rattle.nugwier_programs.specs.Bindings.{AreAllFilesSaid, AreFilesSaid, AreSaidFrom, AreSearched, AreSymbolsSaid, IsFileSaid, IsFileSearched, IsOpenedSearched, IsSearchedBy, SearchedFile, Searching, Searched, Unsearchable, WithoutSymbols, file_heading, file_uses, files_of, objects_of, opened_object, paths_of, search_problem, searched_by}
+use Rattle.nugwier_report.specs.Said.{Said}
+use Rattle.nugwier_programs.specs.inner.Scope.{AreFound, AreInScope, Opened, file_view, indexed_view, object_of, opened_of, paired_object, scope_paths, searched_file, table_of, versions_of}
+use Rattle.nugwier_programs.specs.declared.bindings.objects.BoundFile.{BoundFile}
+use Rattle.nugwier_programs.proofs.Bound.{get_same, uses_moved}
+
+mapped : {A B : Type 0} (f : A → B) (o : Option A) (b : B) → option_map f o ≡ Some b → (a : A) × (o ≡ Some a) × (f a ≡ b)
+mapped f (Some a) b same = (a, refl, cc)
+mapped f None b same = absurd (cc)
+
+-- the value of a borrow that there may be
+pub borrowed : {A B : Type 0} (f : A → B) (o : Option (Bor A)) (p : Option A) → option_copied o ≡ p → option_map (λ (x : Bor A). f x.now) o ≡ option_map f p
+borrowed f (Some x) p same = ap (option_map f) same
+borrowed f None p same = ap (option_map f) same
+
+cons_same : {A : Type 0} (x y : A) (xs ys : List A) → x ≡ y → xs ≡ ys → x ∷ xs ≡ y ∷ ys
+cons_same x y xs ys e es = cc
+
+abbrev pub made : Object → Option Versions → VersionedObject
+made table versions = record { symbols = table; versions = versions }
+
+pub made_same : (a b : Object) (v w : Option Versions) → a ≡ b → v ≡ w → made a v ≡ made b w
+made_same a b v w e d = subst (λ (x : Object). made a v ≡ made x w) e (ap (made a) d)
+
+pub empty_is : {A : Type 0} (xs : List A) (n : ℕ) (is_empty : Bool) → n ≡ length xs → is_empty ≡ (n == 0) → is_empty ≡ true → length xs ≡ 0
+empty_is xs n is_empty long same here = grind (arith, nat_tests)
+
+pub not_empty_is : {A : Type 0} (xs : List A) (n : ℕ) (is_empty : Bool) → n ≡ length xs → is_empty ≡ (n == 0) → is_empty ≡ false → 0 < length xs
+not_empty_is xs n is_empty long same here = grind (arith, nat_tests)
+
+-- the first object and the others
+pub first_and_others : (objects : List LoadedObject) (first : LoadedObject) → 1 ≤ length objects → first ≡ get_or objects 0 first →
+    entry_view first ∷ map entry_view (take (length objects - 1) (drop 1 objects)) ≡ map entry_view objects
+first_and_others [] first some is = absurd (omega (arith, some))
+first_and_others (x ∷ xs) first some is =
+    let count : length xs ≤ length (x ∷ xs) - 1 = omega arith in
+    ap (λ (l : List LoadedObject). entry_view first ∷ map entry_view l) (take_all (length (x ∷ xs) - 1) xs count) ∙ ap (λ (o : LoadedObject). entry_view o ∷ map entry_view xs) is
+
+-- ---- objects, each searched in its own way
+
+-- all objects are searched in these ways if those from place k on are searched in the others
+abbrev pub AreSearchedWith : List Entry → ℕ → List Searching → Type 0
+AreSearchedWith objects k so_far = (rest : List Searching) → AreSearched (drop k objects) rest → AreSearched objects (so_far ++ rest)
+
+pub search_more : (objects : List Entry) (k : ℕ) (e : Entry) (so_far : List Searching) (one : Searching) → slice_get objects k ≡ Some e → IsFileSearched e.file one →
+    AreSearchedWith objects k so_far → AreSearchedWith objects (k + 1) (so_far ++ one ∷ [])
+search_more objects k e so_far one at here before rest others =
+    let less = slice_get_within objects k e at in
+    let next = drop_more objects k e less ∙ ap (λ (x : Entry). x ∷ drop (k + 1) objects) (get_or_from_slice_get objects k e e at) in
+    subst (λ (l : List Searching). AreSearched objects l) (sym (append_assoc so_far (one ∷ []) rest))
+    (before (one ∷ rest) (subst (λ (l : List Entry). AreSearched l (one ∷ rest)) (sym next) (here, others)))
+
+pub search_done : (objects : List Entry) (k : ℕ) (so_far : List Searching) → length objects ≤ k → AreSearchedWith objects k so_far → AreSearched objects so_far
+search_done objects k so_far past before =
+    subst (λ (l : List Searching). AreSearched objects l) (append-nil so_far)
+    (before [] (subst (λ (l : List Entry). AreSearched l []) (sym (drop_all k objects past)) tt))
+
+-- ---- a file that was opened
+
+pub opened_searched : (path bytes : List ℕ) (v : FileView AnyEndian) (symbols : Table × List ℕ) (object : Result (Option VersionedObject) ObjectFault) →
+    opened_file any_is_little any_of_byte bytes ≡ Ok v → dynamic_symbol_table (opened_object v) ≡ Ok (Some symbols) → GivesVersioned (λ (o : VersionedObject). o) (opened_object v) object →
+    IsOpenedSearched path (opened_file any_is_little any_of_byte bytes) (searched_by path v symbols object)
+opened_searched path bytes v symbols object opened named gives =
+    subst (λ (r : Result (FileView AnyEndian) ParseError). IsOpenedSearched path r (searched_by path v symbols object)) (sym opened)
+    (subst (λ (r : Result (Option (Table × List ℕ)) ParseError). IsSearchedBy path v r (searched_by path v symbols object)) (sym named) (object, gives, refl))
+
+-- ---- the files of a scope
+
+-- this is said of all files if it goes on with what is said of those from place k on
+abbrev pub AreSaidWith : List SearchedFile → ℕ → List Said → Type 0
+AreSaidWith all k so_far = (others : List Said) → AreFilesSaid all k (drop k all) others → AreAllFilesSaid all (so_far ++ others)
+
+pub said_done : (all : List SearchedFile) (k : ℕ) (so_far : List Said) → length all ≤ k → AreSaidWith all k so_far → AreAllFilesSaid all so_far
+said_done all k so_far past before =
+    subst (AreAllFilesSaid all) (append-nil so_far) (before [] (subst (λ (l : List SearchedFile). AreFilesSaid all k l []) (sym (drop_all k all past)) refl))
+
+paths_there : (files : List BoundFile) → map (λ (o : Opened). o.path) (map file_view files) ≡ scope_paths files
+paths_there [] = refl
+paths_there (file ∷ files) = ap (λ (l : List (List ℕ)). file.path.now ∷ l) (paths_there files)
+
+paths_of_all : (all : List SearchedFile) → map (λ (o : Opened). o.path) (map opened_of all) ≡ paths_of all
+paths_of_all [] = refl
+paths_of_all (file ∷ all) = ap (λ (l : List (List ℕ)). file.path ∷ l) (paths_of_all all)
+
+paths_same : (all : List SearchedFile) (files : List BoundFile) → map file_view files ≡ map opened_of all → scope_paths files ≡ paths_of all
+paths_same all files same = sym (paths_there files) ∙ ap (map (λ (o : Opened). o.path)) same ∙ paths_of_all all
+
+-- what is at a place of a scope
+file_at : (all : List SearchedFile) (files : List BoundFile) → map file_view files ≡ map opened_of all → (k : ℕ) (file : BoundFile) → slice_get files k ≡ Some file →
+    (s : SearchedFile) × (slice_get all k ≡ Some s) × (opened_of s ≡ file_view file)
+file_at all files same k file at =
+    mapped opened_of (slice_get all k) (file_view file)
+    (sym (slice_get-map opened_of all k) ∙ ap (λ (l : List Opened). slice_get l k) (sym same) ∙ slice_get-map file_view files k ∙ ap (option_map file_view) at)
+
+module _ {order : EndianGhosts AnyEndian} {default : DefaultGhosts AnyEndian} {equal : PartialEqGhosts AnyEndian} where
+  -- the objects of files and tables
+  pub paired_objects : (all : List SearchedFile) (files : List BoundFile)
+      (tables : List (HashSection (CheckedSysvHash AnyEndian order default equal) (CheckedGnuHash AnyEndian order default equal))) →
+      AreFound all files tables → map paired_object (zip files tables) ≡ map object_of all
+  paired_objects [] [] tables found = refl
+  paired_objects (s ∷ all) [] tables found = let e = found.0 in absurd (cc)
+  paired_objects [] (f ∷ files) tables found = let e = found.0 in absurd (cc)
+  paired_objects (s ∷ all) (f ∷ files) [] found = let e = found.1 in absurd (cc)
+  paired_objects (s ∷ all) (f ∷ files) (t ∷ tables) found =
+      let e = found.0 in
+      let d = found.1 in
+      let one : file_view f ≡ opened_of s = cc in
+      let two : object_view t ≡ table_of s = cc in
+      let ones : map file_view files ≡ map opened_of all = cc in
+      let twos : map object_view tables ≡ map table_of all = cc in
+      let versions = ap (λ (o : Opened). o.versions) one in
+      cons_same (paired_object (f, t)) (object_of s) (map paired_object (zip files tables)) (map object_of all)
+      (made_same (object_view t) s.object.symbols (option_map versions_view f.versions) s.object.versions two versions) (paired_objects all files tables (ones, twos))
+
+  module _ (all : List SearchedFile) (files : List BoundFile) (objects : List (Versioned AnyEndian Versions order default equal)) (scope : AreInScope all files objects) where
+    -- what is said of the file at a place, as the objects say it
+    abbrev pub IsSaidAt : BoundFile → ℕ → List Said → Type 0
+    IsSaidAt file k said =
+        let opened = file_view file in
+        AreSymbolsSaid indexed_view objects (scope_paths files) (map indexed_view objects) opened.path opened.symbols (versions_of (option_map indexed_view (slice_get objects k)))
+        (file_uses opened.opened opened.symbols.0) said
+
+    said_at : (s : SearchedFile) (file : BoundFile) (k : ℕ) (said : List Said) → slice_get all k ≡ Some s → opened_of s ≡ file_view file → IsSaidAt file k said → IsFileSaid all s said
+    said_at s file k said at same here =
+        let opened = file_view file in
+        let read = file_uses opened.opened opened.symbols.0 in
+        let versions : versions_of (option_map indexed_view (slice_get objects k)) ≡ s.object.versions =
+        ap versions_of (get_same indexed_view object_of objects all scope.1 k ∙ ap (option_map object_of) at) in
+        let moved = uses_moved indexed_view object_of objects all scope.1 (scope_paths files) (map indexed_view objects) opened.path opened.symbols
+        (versions_of (option_map indexed_view (slice_get objects k))) read said here in
+        let by_paths = subst (λ (paths : List (List ℕ)). AreSymbolsSaid object_of all paths (map indexed_view objects) opened.path opened.symbols (versions_of (option_map indexed_view (slice_get objects k))) read said)
+        (paths_same all files scope.0) moved in
+        let by_objects = subst (λ (l : List VersionedObject). AreSymbolsSaid object_of all (paths_of all) l opened.path opened.symbols (versions_of (option_map indexed_view (slice_get objects k))) read said)
+        scope.1 by_paths in
+        let named = subst (λ (v : Option Versions). AreSymbolsSaid object_of all (paths_of all) (objects_of all) opened.path opened.symbols v read said) versions by_objects in
+        subst (λ (o : Opened). AreSymbolsSaid object_of all (paths_of all) (objects_of all) o.path o.symbols s.object.versions (file_uses o.opened o.symbols.0) said) (sym same) named
+
+    pub said_more : (k : ℕ) (file : BoundFile) (so_far one : List Said) → slice_get files k ≡ Some file → IsSaidAt file k one → AreSaidWith all k so_far →
+        AreSaidWith all (k + 1) (so_far ++ (file_heading k file.path.now ++ one))
+    said_more k file so_far one at here before others rest =
+        let found = file_at all files scope.0 k file at in
+        let s = found.0 in
+        let less = slice_get_within all k s found.1 in
+        let next = drop_more all k s less ∙ ap (λ (x : SearchedFile). x ∷ drop (k + 1) all) (get_or_from_slice_get all k s s found.1) in
+        let path : s.path ≡ file.path.now = ap (λ (o : Opened). o.path) found.2 in
+        let these = (file_heading k file.path.now ++ one) ++ others in
+        subst (AreAllFilesSaid all) (sym (append_assoc so_far (file_heading k file.path.now ++ one) others))
+        (before these (subst (λ (l : List SearchedFile). AreFilesSaid all k l these) (sym next)
+        (one, said_at s file k one found.1 found.2 here, others, rest, ap (λ (p : List ℕ). (file_heading k p ++ one) ++ others) (sym path))))
+
+    pub same_length : length all ≡ length files
+    same_length = sym (length-map all opened_of) ∙ ap (λ (l : List Opened). length l) (sym scope.0) ∙ length-map files file_view
+
+  -- one file more with its table
+  pub found_more : (all : List SearchedFile) (files more : List BoundFile) (tables grown : List (HashSection (CheckedSysvHash AnyEndian order default equal) (CheckedGnuHash AnyEndian order default equal)))
+      (file : BoundFile) (table : HashSection (CheckedSysvHash AnyEndian order default equal) (CheckedGnuHash AnyEndian order default equal)) →
+      more ≡ files ++ file ∷ [] → grown ≡ tables ++ table ∷ [] → AreFound all files tables → AreFound (all ++ searched_file (file, table) ∷ []) more grown
+  found_more all files more tables grown file table e d found =
+      let one = searched_file (file, table) in (
+        ap (map file_view) e ∙ map-append file_view files (file ∷ []) ∙ ap (λ (l : List Opened). l ++ file_view file ∷ []) found.0 ∙ sym (map-append opened_of all (one ∷ [])),
+        ap (λ (l : List (HashSection (CheckedSysvHash AnyEndian order default equal) (CheckedGnuHash AnyEndian order default equal))). map object_view l) d
+            ∙ map-append object_view tables (table ∷ []) ∙ ap (λ (l : List Object). l ++ object_view table ∷ []) found.1 ∙ sym (map-append table_of all (one ∷ [])),
+      )
+
+  -- one object more
+  pub objects_more : (files : List BoundFile) (k : ℕ) (file : BoundFile) (objects grown : List (Versioned AnyEndian Versions order default equal)) (o : Versioned AnyEndian Versions order default equal)
+      (tables left : List (HashSection (CheckedSysvHash AnyEndian order default equal) (CheckedGnuHash AnyEndian order default equal)))
+      (table : HashSection (CheckedSysvHash AnyEndian order default equal) (CheckedGnuHash AnyEndian order default equal)) (all : List VersionedObject) →
+      k < length files → file ≡ get_or files k file → tables ≡ table ∷ left → grown ≡ objects ++ o ∷ [] → indexed_view o ≡ paired_object (file, table) →
+      map indexed_view objects ++ map paired_object (zip (drop k files) tables) ≡ all → map indexed_view grown ++ map paired_object (zip (drop (k + 1) files) left) ≡ all
+  objects_more files k file objects grown o tables left table all less is items pushed same before =
+      let next : drop k files ≡ file ∷ drop (k + 1) files = drop_more files k file less ∙ ap (λ (x : BoundFile). x ∷ drop (k + 1) files) (sym is) in
+      let rest : List VersionedObject = map paired_object (zip (drop (k + 1) files) left) in
+      let front : List VersionedObject = map indexed_view objects in
+      ap (λ (l : List (Versioned AnyEndian Versions order default equal)). map indexed_view l ++ rest) pushed
+      ∙ ap (λ (l : List VersionedObject). l ++ rest) (map-append indexed_view objects (o ∷ []))
+      ∙ append_assoc front (indexed_view o ∷ []) rest
+      ∙ ap (λ (x : VersionedObject). front ++ x ∷ rest) same
+      ∙ ap (λ (l : List BoundFile). front ++ map paired_object (zip l (table ∷ left))) (sym next)
+      ∙ ap (λ (l : List (HashSection (CheckedSysvHash AnyEndian order default equal) (CheckedGnuHash AnyEndian order default equal))). front ++ map paired_object (zip (drop k files) l)) (sym items)
+      ∙ before
+
+  -- the scope of files and of the objects that were made of them
+  pub in_scope : (all : List SearchedFile) (files lent first : List BoundFile) (tables : List (HashSection (CheckedSysvHash AnyEndian order default equal) (CheckedGnuHash AnyEndian order default equal)))
+      (objects shown : List (Versioned AnyEndian Versions order default equal)) → AreFound all files tables → first ≡ files → lent ≡ files → shown ≡ objects →
+      map indexed_view objects ≡ map paired_object (zip first tables) → AreInScope all lent shown
+  in_scope all files lent first tables objects shown found e d s made = (
+    ap (map file_view) d ∙ found.0,
+    ap (λ (l : List (Versioned AnyEndian Versions order default equal)). map indexed_view l) s ∙ made
+        ∙ ap (λ (l : List BoundFile). map paired_object (zip l tables)) e ∙ paired_objects all files tables found,
+  )
+
+  -- ---- the program and its libraries
+
+  -- without a table after the program, it is not searched
+  pub not_searched : (one : Searching) (files : List BoundFile) (tables : List (HashSection (CheckedSysvHash AnyEndian order default equal) (CheckedGnuHash AnyEndian order default equal))) (libraries : List Entry) →
+      AreFound (files_of one) files tables → length tables ≡ 0 → AreSaidFrom one libraries []
+  not_searched (Searched f) files tables libraries found none =
+      let long = sym (length-map tables object_view) ∙ ap (λ (l : List Object). length l) found.1 in
+      absurd (omega (arith, long, none))
+  not_searched WithoutSymbols files tables libraries found none = refl
+  not_searched (Unsearchable fault) files tables libraries found none = refl
+
+  -- with one, it is, and the files are those of the program and of the libraries
+  pub then_said : (one : Searching) (files : List BoundFile) (tables : List (HashSection (CheckedSysvHash AnyEndian order default equal) (CheckedGnuHash AnyEndian order default equal))) (libraries : List Entry) (others : List Searching) (said : List Said) →
+      AreFound (files_of one) files tables → 0 < length tables → AreSearched libraries others →
+      AreAllFilesSaid (files_of one ++ flat_map files_of others) said → AreSaidFrom one libraries (flat_map search_problem others ++ said)
+  then_said (Searched f) files tables libraries others said found some searched all = (others, searched, said, all, refl)
+  then_said WithoutSymbols files tables libraries others said found some searched all =
+      let long = sym (length-map tables object_view) ∙ ap (λ (l : List Object). length l) found.1 in
+      absurd (omega (arith, long, some))
+  then_said (Unsearchable fault) files tables libraries others said found some searched all =
+      let long = sym (length-map tables object_view) ∙ ap (λ (l : List Object). length l) found.1 in
+      absurd (omega (arith, long, some))

@@ -1,0 +1,151 @@
+-- What is said of the objects of a program, one object more at a time.
+use Rattle.std.proofs.Common.{◌≡◌, ◌≢◌, ℕ, zero, suc, ◌+◌, ◌<◌, ◌≤◌, ◌==◌, Bool, true, false, List, [], ◌∷◌, ◌++◌, drop, get_or, length, map, reverse, replicate, Option, Some, None, refl, ap, sym, ◌∙◌, arith, append_assoc, append-nil}
+use Rattle.std.proofs.lemmas.Bool.Decides.{nat_tests}
+use Rattle.std.proofs.lemmas.Grind.{flat_map-append}
+use Rattle.std.proofs.lemmas.List.{drop_all, get_or-set_other, get_or-set_same, length-replicate, length-set, map-append, reverse-append}
+use Rattle.std.specs.List.{flat_map}
+use Rattle.std.specs.Prelude.{if◌then◌else◌, nat_lt, set}
+use Rattle.elf_tools.specs.Search.{Others}
+use Rattle.elf_tools.specs.Tree.{Entry, loader_at}
+use Rattle.nugwier_report.specs.Said.{Said, Telling, saying}
+use Rattle.nugwier_programs.specs.Tree.{Listed, after_it, first_by, walk}
+use Rattle.nugwier_programs.specs.inner.Walk.{AreFirsts, listed_view, stack_view, with_first}
+use Rattle.nugwier_programs.specs.declared.tree.Listed.{Listed as Given}
+
+-- ---- what was said, and what is left to say
+
+pub saying_nothing : (r : Telling) → saying r [] ≡ r
+saying_nothing r = ap (λ (t : List Said). record r { said = t }) (append-nil r.said)
+
+pub saying_both : (r : Telling) (a b : List Said) → saying (saying r a) b ≡ saying r (a ++ b)
+saying_both r a b = ap (λ (t : List Said). record r { said = t }) (append_assoc r.said a b)
+
+-- of the first of a list, and then of the others
+pub say_first : {X : Type 0} (f : X → List Said) (r now : Telling) (x : X) (xs all : List X) → all ≡ x ∷ xs → now ≡ saying r (f x) → saying now (flat_map f xs) ≡ saying r (flat_map f all)
+say_first f r now x xs all is said =
+    ap (λ (t : Telling). saying t (flat_map f xs)) said ∙ saying_both r (f x) (flat_map f xs)
+    ∙ ap (λ (l : List _). saying r (flat_map f l)) (sym is)
+
+-- ---- the stack
+
+pub popped : (old new : List Given) (x : Given) → old ≡ new ++ x ∷ [] → stack_view old ≡ listed_view x ∷ stack_view new
+popped old new x is =
+    ap stack_view is ∙ ap reverse (map-append listed_view new (x ∷ [])) ∙ reverse-append (map listed_view new) (listed_view x ∷ [])
+
+-- one object of the walk
+pub walked : (f : Listed → List Said) (objects : List Entry) (n m : ℕ) (x : Listed) (rest waiting after : List Listed) (r now whole : Telling) →
+    n ≡ suc m → waiting ≡ x ∷ rest → after ≡ after_it objects x ++ rest → now ≡ saying r (f x) →
+    saying r (flat_map f (walk n objects waiting)) ≡ whole → saying now (flat_map f (walk m objects after)) ≡ whole
+walked f objects n m x rest waiting after r now whole count is next said before =
+    let first : walk n objects waiting ≡ x ∷ walk m objects after =
+    ap (λ (k : ℕ). walk k objects waiting) count ∙ ap (λ (l : List Listed). walk (suc m) objects l) is
+    ∙ ap (λ (l : List Listed). x ∷ walk m objects l) (sym next) in
+    say_first f r now x (walk m objects after) (walk n objects waiting) first said ∙ before
+
+-- the walk is at its end
+pub no_more : (f : Listed → List Said) (objects : List Entry) (n : ℕ) (waiting : List Listed) (r whole : Telling) → n ≡ 0 →
+    saying r (flat_map f (walk n objects waiting)) ≡ whole → r ≡ whole
+no_more f objects n waiting r whole none before =
+    sym (saying_nothing r) ∙ ap (λ (k : ℕ). saying r (flat_map f (walk k objects waiting))) (sym none) ∙ before
+
+walk_nothing : (n : ℕ) (objects : List Entry) → walk n objects [] ≡ []
+walk_nothing zero objects = refl
+walk_nothing (suc n) objects = refl
+
+pub none_waits : (f : Listed → List Said) (objects : List Entry) (n : ℕ) (waiting : List Listed) (r whole : Telling) → waiting ≡ [] →
+    saying r (flat_map f (walk n objects waiting)) ≡ whole → r ≡ whole
+none_waits f objects n waiting r whole none before =
+    sym (saying_nothing r) ∙ ap (λ (l : List Listed). saying r (flat_map f l)) (sym (walk_nothing n objects))
+    ∙ ap (λ (l : List Listed). saying r (flat_map f (walk n objects l))) (sym none) ∙ before
+
+-- ---- the first object that each one needed first
+
+same_or_other : (a b : ℕ) → (t : Bool) → (a == b) ≡ t → {A : Type 0} (x y : A) (P : A → Type 0) → (a ≡ b → P x) → (a ≢ b → P y) → P (if a == b then x else y)
+same_or_other a b true is x y P f g = let same : a ≡ b = grind (arith, nat_tests, is) in rw is (f same)
+same_or_other a b false is x y P f g = let other : a ≢ b = λ same. grind (arith, nat_tests, is, same) in rw is (g other)
+
+first_step : (objects : List Entry) (k p j : ℕ) → k < length objects →
+    first_by p j (drop k objects) ≡ (if loader_at objects k == p then Some j else first_by p (j + 1) (drop (k + 1) objects))
+first_step [] k p j less = absurd (omega (arith, less))
+first_step (e ∷ objects) zero p j less = refl
+first_step (e ∷ objects) (suc k) p j less =
+    let inner : k < length objects = omega (arith, less) in
+    let next : suc (k + 1) ≡ suc k + 1 = omega arith in
+    first_step objects k p j inner
+    ∙ ap (λ (n : ℕ). if loader_at objects k == p then Some j else first_by p (j + 1) (drop n (e ∷ objects))) next
+
+kept_length : (firsts : List (Option ℕ)) (loader place : ℕ) → length (with_first firsts loader place) ≡ length firsts
+kept_length firsts loader place = by_bound (nat_lt loader (length firsts)) where
+  by_bound : (b : Bool) → length (if b then set firsts loader (Some place) else firsts) ≡ length firsts
+  by_bound true = length-set firsts loader (Some place)
+  by_bound false = refl
+
+first_set : (firsts : List (Option ℕ)) (loader place p : ℕ) → p < length firsts →
+    get_or (with_first firsts loader place) p None ≡ (if loader == p then Some place else get_or firsts p None)
+first_set firsts loader place p less =
+    same_or_other loader p (loader == p) refl (Some place) (get_or firsts p None) (λ r. get_or (with_first firsts loader place) p None ≡ r)
+    (λ same. let within : nat_lt loader (length firsts) ≡ true = grind (arith, nat_tests, same, less) in
+    rw (within, same) (get_or-set_same firsts p (Some place) None less))
+    (λ other. by_bound other (nat_lt loader (length firsts))) where
+      by_bound : loader ≢ p → (b : Bool) → get_or (if b then set firsts loader (Some place) else firsts) p None ≡ get_or firsts p None
+      by_bound other true = get_or-set_other firsts loader p (Some place) None (λ same. other (sym same))
+      by_bound other false = refl
+
+-- with the loader of one object more
+pub firsts_more : (objects : List Entry) (k : ℕ) (firsts grown : List (Option ℕ)) → k < length objects → grown ≡ with_first firsts (loader_at objects k) k →
+    AreFirsts objects (k + 1) firsts → AreFirsts objects k grown
+firsts_more objects k firsts grown less is before = (
+  ap (λ (l : List (Option ℕ)). length l) is ∙ kept_length firsts (loader_at objects k) k ∙ before.0,
+  λ p within.
+      let inside : p < length firsts = omega (arith, within, before.0) in
+      ap (λ (l : List (Option ℕ)). get_or l p None) is ∙ first_set firsts (loader_at objects k) k p inside
+      ∙ ap (λ (r : Option ℕ). if loader_at objects k == p then Some k else r) (before.1 p within) ∙ sym (first_step objects k p k less),
+)
+
+abbrev pub no_first : ℕ → List (Option ℕ)
+no_first n = replicate n None
+
+none_yet : (n p : ℕ) → get_or (no_first n) p None ≡ None
+none_yet zero p = refl
+none_yet (suc n) zero = refl
+none_yet (suc n) (suc p) = none_yet n p
+
+pub no_firsts : (objects : List Entry) (n : ℕ) (firsts : List (Option ℕ)) → n ≡ length objects → firsts ≡ replicate n None → AreFirsts objects n firsts
+no_firsts objects n firsts long is =
+    let count : length objects ≤ n = omega (arith, long) in (
+      ap (λ (l : List (Option ℕ)). length l) is ∙ length-replicate n None ∙ long,
+      λ p within. ap (λ (l : List (Option ℕ)). get_or l p None) is ∙ none_yet n p ∙ sym (ap (first_by p n) (drop_all n objects count)),
+    )
+
+-- all are known at the first place
+pub firsts_known : (objects : List Entry) (k : ℕ) (firsts : List (Option ℕ)) → k ≤ 1 → (k ≡ 0 → length objects ≡ 0) → AreFirsts objects k firsts → AreFirsts objects 1 firsts
+firsts_known objects zero firsts past empty known = (known.0, λ p within. absurd (omega (arith, within, empty refl)))
+firsts_known objects (suc zero) firsts past empty known = known
+firsts_known objects (suc (suc k)) firsts past empty known = absurd (omega (arith, past))
+
+-- ---- the folders that are searched
+
+abbrev pub made_others : List ℕ → List (List ℕ) → Others
+made_others path usual = record { library_path = Some path; usual_folders = usual }
+
+pub same_others : (a b : List ℕ) (u v : List (List ℕ)) → a ≡ b → u ≡ v → made_others a u ≡ made_others b v
+same_others a b u v same usual = ap (λ (path : List ℕ). made_others path u) same ∙ ap (made_others b) usual
+
+pub nothing_left : {A : Type 0} (xs : List A) → length xs ≡ 0 → xs ≡ []
+nothing_left [] none = refl
+nothing_left (x ∷ xs) none = absurd (omega (arith, none))
+
+pub stack_empty : (waiting : List Given) → length waiting ≡ 0 → stack_view waiting ≡ []
+stack_empty waiting none = ap stack_view (nothing_left waiting none)
+
+-- ---- what was said after two or three steps
+
+pub said_two : (r a b : Telling) (p s : List Said) → a ≡ saying r p → b ≡ saying a s → b ≡ saying r (p ++ s)
+said_two r a b p s first second = second ∙ ap (λ (t : Telling). saying t s) first ∙ saying_both r p s
+
+pub said_three : (r a b c : Telling) (p s t : List Said) → a ≡ saying r p → b ≡ saying a s → c ≡ saying b t → c ≡ saying r (p ++ (s ++ t))
+said_three r a b c p s t first second third =
+    said_two r a c p (s ++ t) first (said_two a b c s t second third)
+
+pub flat_more : {X A : Type 0} (f : X → List A) (xs : List X) (x : X) → flat_map f (xs ++ x ∷ []) ≡ flat_map f xs ++ f x
+flat_more f xs x = flat_map-append f xs (x ∷ []) ∙ ap (λ (t : List _). flat_map f xs ++ t) (append-nil (f x))

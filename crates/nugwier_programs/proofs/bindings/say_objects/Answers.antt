@@ -1,0 +1,10 @@
+use Rattle.std.proofs.Common.{List, subst}
+use Rattle.elf_tools.specs.Tree.{Entry}
+use Rattle.nugwier_programs.specs.Bindings.{AreObjectsSaid}
+use Rattle.nugwier_programs.proofs.Scopes.{first_and_others}
+use Rattle.nugwier_programs.proofs.bindings.say_objects.Goals as goal
+
+pub returns : goal.returns
+returns g c =
+    let said = c.in_ok-say_program.ensures in
+    (said.0, subst (λ (l : List Entry). AreObjectsSaid l said.0) (first_and_others c.args.objects.now c.program-item.result c.in-len1-up.len_at_least c.program-item.is) said.1, said.2)

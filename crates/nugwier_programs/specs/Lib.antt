@@ -1,0 +1,9 @@
+-- the usual folders of libraries
+pub mod Usual
+-- what is said of a program and the libraries that it loads
+pub mod Tree
+-- what is said of symbols that are bound, and of the files that have them
+pub mod Symbols
+pub mod Bindings
+-- what stands here although no public contract speaks of it
+pub mod inner

@@ -1,0 +1,170 @@
+-- What is said of the symbols of a file that are bound: a record for each kind of references to them, and then which
+-- are missing and of which it is not known what they bind to.
+use Rattle.std.specs.Prelude.{ℕ, ◌==◌, ◌&&◌, Bool, true, false, if◌then◌else◌, List, [], ◌∷◌, ◌++◌, codes}
+use Rattle.std.specs.Prelude.{Option, Some, None, Result, Ok, Err, slice_get, unwrap_or}
+use Rattle.std.specs.Result.{result_ok}
+use Rattle.elf_records.specs.StringTable.{string_at}
+use Rattle.elf_records.specs.declared.symbol.Symbol.{Symbol}
+use Rattle.elf_parts.specs.gnu_symver.Table.{Versions}
+use Rattle.elf_binding.specs.Binding.{NamedVersion, VersionedObject}
+use Rattle.elf_binding.specs.BindingObjects.{version_in}
+use Rattle.elf_binding.specs.declared.Unreadable.{Unreadable}
+use Rattle.elf_tools.specs.SymbolVersions.{Defined, Needed, WrittenVersion, symbol_version_in}
+use Rattle.elf_tools.specs.declared.bindings.Bound.{Bound}
+use Rattle.elf_tools.specs.declared.bindings.Bound.TheVariants as bound
+use Rattle.elf_tools.specs.declared.bindings.kinds.SymbolBinding.{SymbolBinding}
+use Rattle.elf_tools.specs.declared.bindings.kinds.SymbolFault.{SymbolFault}
+use Rattle.elf_tools.specs.declared.bindings.kinds.SymbolFault.TheVariants.{Name, Object, Version}
+use Rattle.nugwier_report.specs.Bindings.{BoundSymbol, Missing, Target, ToSymbol, Unknown, Weak, binding_said}
+use Rattle.nugwier_report.specs.Said.{Said, whole, wrong}
+use Rattle.nugwier_report.specs.declared.bindings.Place.{Place}
+use Rattle.nugwier_report.specs.declared.bindings.Place.TheVariants.{Elsewhere, First, Same}
+use Rattle.nugwier_report.specs.declared.problem.Fault.TheVariants.{MissingSymbol, UnknownSymbol, UnknownVersion}
+use Rattle.nugwier_report.specs.declared.problem.Part.TheVariants.{File}
+use Rattle.nugwier_report.specs.declared.quoted.QuotedSymbol.{QuotedSymbol}
+
+-- ---- a symbol
+
+-- the version that it requests; none if it cannot be read
+abbrev pub wanted_version : Result (Option NamedVersion) Unreadable → Option (List ℕ)
+wanted_version (Ok (Some version)) = Some version.name
+wanted_version (Ok None) = None
+wanted_version (Err e) = None
+
+-- of the file at a path, whose names are in these strings
+abbrev pub symbol_of : List ℕ → List ℕ → Option Versions → ℕ × Symbol → BoundSymbol
+symbol_of path strings versions one = record {
+  path = path;
+  index = one.0;
+  name = result_ok (string_at strings one.1.st_name);
+  version = wanted_version (version_in versions one.0);
+}
+
+-- ---- what it binds to
+
+-- what a look-up finds
+abbrev pub Outcome : Type 0
+Outcome = Result Bound SymbolFault
+
+-- the version of a symbol to which another one binds; none if it cannot be read
+abbrev pub own_version : Result (Option WrittenVersion) Unreadable → Option (List ℕ × Bool)
+own_version (Ok (Some (Defined name is_default))) = Some (name, is_default)
+own_version (Ok (Some (Needed file name))) = Some (name, false)
+own_version (Ok None) = None
+own_version (Err e) = None
+
+abbrev pub path_in : List (List ℕ) → ℕ → List ℕ
+path_in paths object = unwrap_or (slice_get paths object) []
+
+abbrev pub symbol_in : List (List ℕ) → ℕ → ℕ → Option VersionedObject → Target
+symbol_in paths object symbol (Some found) =
+    ToSymbol (path_in paths object) symbol (own_version (symbol_version_in found.versions symbol))
+symbol_in paths object symbol None = Unknown
+
+-- among objects, whose files are at these paths
+abbrev pub target_of : List (List ℕ) → List VersionedObject → Outcome → Target
+target_of paths objects (Ok (bound.To object symbol)) = symbol_in paths object symbol (slice_get objects object)
+target_of paths objects (Ok bound.Weak) = Weak
+target_of paths objects (Ok bound.Missing) = Missing
+target_of paths objects (Err fault) = Unknown
+
+-- ---- the address of a function, beside its calls
+
+-- a symbol that binds to nothing is weak or missing by itself
+abbrev pub bound_place : Bound → Option (ℕ × ℕ)
+bound_place (bound.To object symbol) = Some (object, symbol)
+bound_place bound.Weak = None
+bound_place bound.Missing = None
+
+abbrev pub same_place : Option (ℕ × ℕ) → Option (ℕ × ℕ) → Bool
+same_place (Some a) (Some b) = a.0 == b.0 && a.1 == b.1
+same_place (Some a) None = false
+same_place None (Some b) = false
+same_place None None = true
+
+abbrev pub same_outcome : Outcome → Outcome → Bool
+same_outcome (Ok a) (Ok b) = same_place (bound_place a) (bound_place b)
+same_outcome (Ok a) (Err fault) = false
+same_outcome (Err fault) (Ok b) = false
+same_outcome (Err fault) (Err other) = true
+
+abbrev pub address_place : Option Outcome → Outcome → Place
+address_place None address = First
+address_place (Some calls) address = if same_outcome calls address then Same else Elsewhere
+
+-- ---- what is said of a symbol
+
+module _ (paths : List (List ℕ)) (objects : List VersionedObject) (symbol : BoundSymbol) where
+  abbrev pub reference_said : List ℕ → Option Outcome → List Said
+  reference_said reference (Some outcome) = binding_said symbol First reference (target_of paths objects outcome)
+  reference_said reference None = []
+
+  abbrev pub address_said : Option Outcome → Option Outcome → List Said
+  address_said calls (Some address) =
+      binding_said symbol (address_place calls address) (codes "address") (target_of paths objects address)
+  address_said calls None = []
+
+  abbrev pub symbol_said : SymbolBinding → List Said
+  symbol_said binding =
+      reference_said (codes "jump_slot") binding.jump_slot
+      ++ address_said binding.jump_slot binding.address
+      ++ reference_said (codes "copy") binding.copied
+
+-- ---- what is wrong with it
+
+abbrev pub quoted : BoundSymbol → QuotedSymbol
+quoted symbol = record { name = symbol.name; version = symbol.version }
+
+module _ (paths : List (List ℕ)) (symbol : BoundSymbol) where
+  abbrev pub fault_problem : SymbolFault → List Said
+  fault_problem (Name e) = wrong (whole File) (UnknownSymbol symbol.path (quoted symbol) (Name e)) ∷ []
+  fault_problem (Version e) = wrong (whole File) (UnknownSymbol symbol.path (quoted symbol) (Version e)) ∷ []
+  fault_problem (Object fault) =
+      wrong (whole File) (UnknownVersion symbol.path (quoted symbol) (path_in paths fault.object) fault.symbol) ∷ []
+
+  abbrev pub outcome_problem : Outcome → List Said
+  outcome_problem (Ok (bound.To object index)) = []
+  outcome_problem (Ok bound.Weak) = []
+  outcome_problem (Ok bound.Missing) = wrong (whole File) (MissingSymbol symbol.path (quoted symbol)) ∷ []
+  outcome_problem (Err fault) = fault_problem fault
+
+  abbrev pub reference_problem : Option Outcome → List Said
+  reference_problem (Some outcome) = outcome_problem outcome
+  reference_problem None = []
+
+  -- it is told once
+  abbrev pub problem_at : Place → Outcome → List Said
+  problem_at First outcome = outcome_problem outcome
+  problem_at Elsewhere outcome = outcome_problem outcome
+  problem_at Same outcome = []
+
+  abbrev pub address_problem : Option Outcome → Option Outcome → List Said
+  address_problem calls (Some address) = problem_at (address_place calls address) address
+  address_problem calls None = []
+
+  abbrev pub symbol_problems : SymbolBinding → List Said
+  symbol_problems binding =
+      reference_problem binding.jump_slot
+      ++ address_problem binding.jump_slot binding.address
+      ++ reference_problem binding.copied
+
+-- ---- all symbols, each with what it binds to
+
+abbrev pub each : (ℕ × Symbol → SymbolBinding → List Said) → List (ℕ × Symbol) → List SymbolBinding → List Said
+each said (one ∷ symbols) (binding ∷ bindings) = said one binding ++ each said symbols bindings
+each said [] bindings = []
+each said (one ∷ symbols) [] = []
+
+-- of the file at a path, whose names are in these strings
+abbrev pub one_problems : List (List ℕ) → List ℕ → List ℕ → Option Versions → ℕ × Symbol → SymbolBinding → List Said
+one_problems paths path strings versions one binding =
+    symbol_problems paths (symbol_of path strings versions one) binding
+
+module _ (paths : List (List ℕ)) (objects : List VersionedObject) (path strings : List ℕ)
+    (versions : Option Versions) where
+  abbrev pub one_said : ℕ × Symbol → SymbolBinding → List Said
+  one_said one binding = symbol_said paths objects (symbol_of path strings versions one) binding
+
+  abbrev pub symbols_said : List (ℕ × Symbol) → List SymbolBinding → List Said
+  symbols_said symbols bindings =
+      each one_said symbols bindings ++ each (one_problems paths path strings versions) symbols bindings

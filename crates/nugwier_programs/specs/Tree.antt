@@ -1,0 +1,135 @@
+-- What is said of a program and the libraries that it loads: each below the one that needed it first, and then those
+-- that are missing and those whose names are not known.
+use Rattle.std.specs.Prelude.{◌≡◌, ℕ, ◌+◌, zero, suc, ◌==◌, nat_lt, Bool, false, if◌then◌else◌, List, [], ◌∷◌, ◌++◌}
+use Rattle.std.specs.Prelude.{drop}
+use Rattle.std.specs.Prelude.{length, Option, Some, None, Result, Ok, Err, IfSome, IsErr, slice_get, unwrap_or}
+use Rattle.std.specs.List.{flat_map, join_by}
+use Rattle.std.specs.Option.{option_map}
+use Rattle.elf_records.specs.declared.parse.ParseError.{ParseError}
+use Rattle.elf_tools.specs.Search.{Others}
+use Rattle.elf_tools.specs.Needed.{Named}
+use Rattle.elf_tools.specs.Tree.{Entry, Found, IsLoadOrder, found_view, loader_at}
+use Rattle.elf_tools.specs.declared.needed.NamesError.{NamesError}
+use Rattle.elf_tools.specs.declared.tree.Kind.{Kind}
+use Rattle.elf_tools.specs.declared.tree.LoadedFile.{LoadedFile}
+use Rattle.nugwier_report.specs.Objects.{object_said}
+use Rattle.nugwier_report.specs.Said.{Said, whole, wrong}
+use Rattle.nugwier_report.specs.declared.problem.Fault.TheVariants.{Names, NotFound, Read}
+use Rattle.nugwier_report.specs.declared.problem.Part.TheVariants.{File}
+use Rattle.nugwier_programs.specs.Usual.{usual_folders}
+use denote.Ref.{Bor}
+
+-- ---- the program and its libraries
+
+-- a file was opened as a program exactly if its bytes are an ELF file
+abbrev pub IsProgram : Result Found ParseError → Option LoadedFile → Type 0
+IsProgram file None = IsErr file
+IsProgram file (Some program) = file ≡ Ok (found_view program)
+
+-- the folders that are searched as the value of LD_LIBRARY_PATH: with colons between them
+abbrev pub library_path : List (Bor (List ℕ)) → List ℕ
+library_path searches = join_by (λ (folder : Bor (List ℕ)). folder.now) (58 ∷ []) searches
+
+-- these, and the usual folders of the program's kind
+abbrev pub others_of : List (Bor (List ℕ)) → Kind → Others
+others_of searches kind =
+    record { library_path = Some (library_path searches); usual_folders = usual_folders kind }
+
+-- the contents of files by their paths, if the files are known
+abbrev pub Contents : Type 0
+Contents = Option (List ℕ → Option (List ℕ))
+
+-- the program with the libraries that it loads, in order
+abbrev pub AreObjects : Contents → List (Bor (List ℕ)) → Found → List Entry → Type 0
+AreObjects contents searches program objects =
+    IfSome contents (λ files. IsLoadOrder files (others_of searches program.kind) program objects)
+
+-- ---- the order in which they are listed
+
+-- an object that is listed: its place in the order of loading, and the number of its loaders
+pub record Listed : Type 0 where
+  pub place : ℕ
+  pub depth : ℕ
+
+-- the first place from k on of an object that the one at place `loader` needed first
+abbrev pub first_by : ℕ → ℕ → List Entry → Option ℕ
+first_by loader k [] = None
+first_by loader k (e ∷ objects) = if e.loader == loader then Some k else first_by loader (k + 1) objects
+
+-- the first object that the one at a place needed first. The program, at place 0, is needed by none
+abbrev pub first_needed : List Entry → ℕ → Option ℕ
+first_needed objects place = if nat_lt place (length objects) then first_by place 1 (drop 1 objects) else None
+
+abbrev pub is_needed_by : ℕ → Option Entry → Bool
+is_needed_by loader (Some e) = e.loader == loader
+is_needed_by loader None = false
+
+-- the next object, if the same one needed it first: in the order of loading these are neighbours
+abbrev pub next_beside : List Entry → ℕ → Option ℕ
+next_beside objects place =
+    if place == 0 then None
+    else if is_needed_by (loader_at objects place) (slice_get objects (place + 1)) then Some (place + 1) else None
+
+abbrev pub at_depth : ℕ → Option ℕ → List Listed
+at_depth depth (Some place) = record { place = place; depth = depth } ∷ []
+at_depth depth None = []
+
+-- what waits after an object: those that it needed first, and then the next one that its own loader needed
+abbrev pub after_it : List Entry → Listed → List Listed
+after_it objects x =
+    at_depth (x.depth + 1) (first_needed objects x.place) ++ at_depth x.depth (next_beside objects x.place)
+
+-- the first of those that wait is next; no more are listed than there are objects
+abbrev pub walk : ℕ → List Entry → List Listed → List Listed
+walk zero objects waiting = []
+walk (suc n) objects [] = []
+walk (suc n) objects (x ∷ waiting) = x ∷ walk n objects (after_it objects x ++ waiting)
+
+-- all of them, from the program on
+abbrev pub listed : List Entry → List Listed
+listed objects = walk (length objects) objects (record { place = 0; depth = 0 } ∷ [])
+
+-- ---- what is said
+
+abbrev pub path_of : Option Found → Option (List ℕ)
+path_of file = option_map (λ (found : Found). found.path) file
+
+-- the path of an object, or its name if it was not found
+abbrev pub path_or_name : Entry → List ℕ
+path_or_name e = unwrap_or (path_of e.file) e.name
+
+abbrev pub path_at : List Entry → ℕ → List ℕ
+path_at objects place = unwrap_or (option_map path_or_name (slice_get objects place)) []
+
+abbrev pub entry_said : List Entry → ℕ → Option Entry → List Said
+entry_said objects depth (Some e) =
+    object_said (record { depth = depth; name = e.name; path = path_of e.file; loader = path_at objects e.loader })
+entry_said objects depth None = []
+
+abbrev pub listed_said : List Entry → Listed → List Said
+listed_said objects x = entry_said objects x.depth (slice_get objects x.place)
+
+-- that its names are not known
+abbrev pub names_problem : List ℕ → Result (Option Named) NamesError → List Said
+names_problem path (Ok names) = []
+names_problem path (Err e) = wrong (whole File) (Names path e) ∷ []
+
+-- or that it is missing
+abbrev pub file_problem : List Entry → Entry → Option Found → List Said
+file_problem objects e (Some found) = names_problem found.path found.names
+file_problem objects e None = wrong (whole File) (NotFound e.name (path_at objects e.loader)) ∷ []
+
+abbrev pub object_problem : List Entry → Entry → List Said
+object_problem objects e = file_problem objects e e.file
+
+abbrev pub object_problems : List Entry → List Said
+object_problems objects = flat_map (object_problem objects) objects
+
+abbrev pub said_of_tree : List Entry → List Said
+said_of_tree objects = flat_map (listed_said objects) (listed objects) ++ object_problems objects
+
+-- of a file: that it is no program, or the tree
+abbrev pub IsTreeSaid : Contents → List (Bor (List ℕ)) → Result Found ParseError → List Said → Type 0
+IsTreeSaid contents searches (Ok program) said =
+    (objects : List Entry) × AreObjects contents searches program objects × (said ≡ said_of_tree objects)
+IsTreeSaid contents searches (Err e) said = said ≡ wrong (whole File) (Read e) ∷ []

@@ -1,0 +1,123 @@
+//! What the symbols of a program and of its libraries bind to.
+ghost use Rattle.std.specs.Prelude.{◌≡◌, ◌∷◌, List, OnOk, map};
+ghost use Rattle.elf_tools.specs.Tree.{entry_view, file_of};
+ghost use Rattle.nugwier_programs.specs.Bindings.{AreAllFilesSaid, AreObjectsSaid, IsBindingsSaid, SearchedFile};
+ghost use Rattle.nugwier_programs.specs.inner.Scope.{AreFound, AreInScope};
+ghost use Rattle.nugwier_report.specs.Said.{Said, saying};
+
+mod objects;
+mod rows;
+mod targets;
+
+use crate::bindings::objects::{Found, add_file, add_files, index_objects};
+use crate::bindings::rows::say_file;
+use crate::bindings::targets::Scope;
+use crate::tree::{objects, open_program, say_problems};
+use elf_tools::tree::{Libraries, Object};
+use nugwier_report::problem::Stop;
+use nugwier_report::report::Report;
+use std::alloc::Global;
+use std::io::Write;
+
+/// Says what the symbols of a program and of its libraries bind to, which libraries are missing or have names that are
+/// not known, and what is missing or not known of the symbols. `searches` are folders in which libraries are searched
+/// for, as if `LD_LIBRARY_PATH` named them. The path and the data are those of the program. The errors are that of the
+/// writer, and a failed allocation.
+pub fn say_bindings<L: Libraries, W: Write, V: Write>(
+    alloc: Global,
+    searches: &[&str],
+    libraries: &L,
+    path: &str,
+    data: Vec<u8>,
+    report: &mut Report<'_, W, V>,
+) -> Result<(), Stop>
+    ensures { OnOk result ((said : List Said)
+        × IsBindingsSaid (L.contents libraries.now) searches.now (file_of path.now «data».items) said
+        × (report.new ≡ saying report.old said)) }
+{
+    let Some(program) = open_program(alloc, path, data, report)? else {
+        return Ok(());
+    };
+    let objects = objects(alloc, searches, libraries, program)?;
+    say_problems(&objects, report)?;
+    say_objects(alloc, &objects, report)?;
+    Ok(())
+}
+
+// Says what the symbols of each object bind to. They are in the order in which the dynamic linker searches them, the
+// program first.
+//
+// A library that cannot be searched counts as one that defines nothing. If the program is such an object, nothing else
+// is said.
+#[tactic(auto, using(crate::proofs::Walk::saying_nothing))]
+fn say_objects<W: Write, V: Write>(
+    alloc: Global,
+    objects: &[Object],
+    report: &mut Report<'_, W, V>,
+) -> Result<(), Stop>
+    ensures { OnOk result ((said : List Said) × AreObjectsSaid (map entry_view objects.now) said
+        × (report.new ≡ saying report.old said)) }
+{
+    let [program, libraries @ ..] = objects else {
+        return Ok(());
+    };
+    say_program(alloc, program, libraries, report)?;
+    Ok(())
+}
+
+// Says it of a program and of its libraries.
+fn say_program<W: Write, V: Write>(
+    alloc: Global,
+    program: &Object,
+    libraries: &[Object],
+    report: &mut Report<'_, W, V>,
+) -> Result<(), Stop>
+    ensures { OnOk result ((said : List Said)
+        × AreObjectsSaid (entry_view program.now ∷ map entry_view libraries.now) said
+        × (report.new ≡ saying report.old said)) }
+{
+    let mut found = Found::none(alloc);
+    add_file(program, &mut found, report)?;
+    if found.tables.is_empty() {
+        return Ok(());
+    }
+    add_files(libraries, &mut found, report)?;
+    say_found(alloc, found, report)?;
+    Ok(())
+}
+
+// Says it of the files that were found.
+fn say_found<W: Write, V: Write>(
+    alloc: Global,
+    found: Found<'_>,
+    report: &mut Report<'_, W, V>,
+) -> Result<(), Stop>
+    ensures { OnOk result ((said : List Said) × ((all : List SearchedFile)
+        → AreFound all found.entry.files.items found.entry.tables.items → AreAllFilesSaid all said)
+        × (report.new ≡ saying report.old said)) }
+{
+    let Found { files, tables } = found;
+    let objects = index_objects(alloc, files.as_slice(), tables)?;
+    let scope = Scope {
+        files: files.as_slice(),
+        objects: objects.as_slice(),
+    };
+    say_files(alloc, scope, report)?;
+    Ok(())
+}
+
+// Says it of the files of a scope.
+fn say_files<W: Write, V: Write>(
+    alloc: Global,
+    scope: Scope<'_, '_, '_, '_>,
+    report: &mut Report<'_, W, V>,
+) -> Result<(), Stop>
+    ensures { OnOk result ((said : List Said) × ((all : List SearchedFile)
+        → AreInScope all scope.entry.files.now scope.entry.objects.now → AreAllFilesSaid all said)
+        × (report.new ≡ saying report.old said)) }
+{
+    for (place, file) in scope.files.iter().enumerate() {
+        say_file(alloc, scope, place, file, report)?;
+    }
+    Ok(())
+}

@@ -1,0 +1,347 @@
+//! The libraries that a program loads.
+ghost use Rattle.std.specs.Prelude.{◌≡◌, ◌++◌, List, Some, IfOk, OnOk, map, slice_get};
+ghost use Rattle.std.specs.List.{flat_map};
+ghost use Rattle.std.specs.Option.{option_copied, option_map};
+ghost use Rattle.elf_tools.specs.Tree.{Entry, entry_view, file_of, found_view, loader_at};
+ghost use Rattle.nugwier_programs.specs.Tree.{AreObjects, IsProgram, IsTreeSaid, after_it, at_depth, entry_said};
+ghost use Rattle.nugwier_programs.specs.Tree.{first_needed};
+ghost use Rattle.nugwier_programs.specs.Tree.{is_needed_by, library_path, listed, listed_said, names_problem};
+ghost use Rattle.nugwier_programs.specs.Tree.{next_beside};
+ghost use Rattle.nugwier_programs.specs.Tree.{object_problem, object_problems, path_at, path_of, path_or_name};
+ghost use Rattle.nugwier_programs.specs.inner.Walk.{AreFirsts, listed_view, stack_view, with_first};
+ghost use Rattle.nugwier_report.specs.Said.{Said, saying, unread, whole};
+ghost use Rattle.nugwier_report.specs.declared.problem.Part.TheVariants.{File};
+
+use crate::usual::usual_folders;
+use elf_tools::search::Surroundings;
+use elf_tools::tree::{Libraries, LoadedFile, Object, OpenError, load_order};
+use nugwier_report::objects::ListedObject;
+use nugwier_report::problem::{Fault, Item, Part, Place, Stop};
+use nugwier_report::quoted::{NamesFault, Quoted};
+use nugwier_report::report::Report;
+use std::alloc::{AllocError, Global};
+use std::io::Write;
+
+/// Says which libraries a program loads, and of which of them nothing was found or no names are known. `searches` are
+/// folders in which they are searched for, as if `LD_LIBRARY_PATH` named them. The path and the data are those of the
+/// program. The errors are that of the writer, and a failed allocation.
+pub fn say_tree<L: Libraries, W: Write, V: Write>(
+    alloc: Global,
+    searches: &[&str],
+    libraries: &L,
+    path: &str,
+    data: Vec<u8>,
+    report: &mut Report<'_, W, V>,
+) -> Result<(), Stop>
+    ensures { OnOk result ((said : List Said)
+        × IsTreeSaid (L.contents libraries.now) searches.now (file_of path.now «data».items) said
+        × (report.new ≡ saying report.old said)) }
+{
+    let Some(program) = open_program(alloc, path, data, report)? else {
+        return Ok(());
+    };
+    let objects = objects(alloc, searches, libraries, program)?;
+    say_objects(alloc, &objects, report)?;
+    say_problems(&objects, report)
+}
+
+/// Opens a program. Returns `None` if that is not possible, and says why.
+pub(crate) fn open_program<W: Write, V: Write>(
+    alloc: Global,
+    path: &str,
+    data: Vec<u8>,
+    report: &mut Report<'_, W, V>,
+) -> Result<Option<LoadedFile>, Stop>
+    ensures program { IfOk result (IsProgram (file_of path.now «data».items)) }
+    ensures said { OnOk result (report.new
+        ≡ saying report.old (unread (whole File) (file_of path.now «data».items))) }
+{
+    match LoadedFile::open(alloc, Vec::from_slice(alloc, path.as_bytes())?, data) {
+        Ok(program) => Ok(Some(program)),
+        Err(OpenError::Memory) => Err(Stop::Memory),
+        Err(OpenError::Open(error)) => {
+            report.problem(FILE, Fault::Read(error))?;
+            Ok(None)
+        }
+    }
+}
+
+/// The file as a whole.
+pub(crate) const FILE: Place = Place {
+    part: Part::File,
+    item: Item::Whole,
+};
+
+/// Returns the program with its libraries, in the order in which they are loaded.
+pub(crate) fn objects<L: Libraries>(
+    alloc: Global,
+    searches: &[&str],
+    libraries: &L,
+    program: LoadedFile,
+) -> Result<Vec<Object>, AllocError>
+    ensures { IfOk result (λ objects. AreObjects (L.contents libraries.now) searches.now (found_view program)
+        (map entry_view objects.items)) }
+{
+    let library_path = library_path(alloc, searches)?;
+    let usual_folders = usual_folders(alloc, program.kind)?;
+    let surroundings = Surroundings {
+        library_path: Some(library_path.as_slice()),
+        usual_folders: usual_folders.as_slice(),
+    };
+    load_order(alloc, libraries, &surroundings, program)
+}
+
+// The folders as the value of `LD_LIBRARY_PATH`: with colons between them.
+fn library_path(alloc: Global, searches: &[&str]) -> Result<Vec<u8>, AllocError>
+    ensures { IfOk result (λ path. path.items ≡ library_path searches.now) }
+{
+    let [first, others @ ..] = searches else {
+        return Ok(Vec::new(alloc));
+    };
+    let mut path = Vec::from_slice(alloc, first.as_bytes())?;
+    for search in others {
+        path.push(b':')?;
+        path.extend_from_slice(search.as_bytes())?;
+    }
+    Ok(path)
+}
+
+/// Says of each object that it is missing, or that its names are not known.
+pub(crate) fn say_problems<W: Write, V: Write>(
+    objects: &[Object],
+    report: &mut Report<'_, W, V>,
+) -> Result<(), Stop>
+    ensures { OnOk result (report.new ≡ saying report.old (object_problems (map entry_view objects.now))) }
+{
+    for object in objects {
+        say_problem(objects, object, report)?;
+    }
+    Ok(())
+}
+
+fn say_problem<W: Write, V: Write>(
+    objects: &[Object],
+    object: &Object,
+    report: &mut Report<'_, W, V>,
+) -> Result<(), Stop>
+    ensures { OnOk result (report.new
+        ≡ saying report.old (object_problem (map entry_view objects.now) (entry_view object.now))) }
+{
+    match &object.file {
+        Some(file) => say_names(file, report),
+        None => {
+            let name = Quoted::new(&object.name);
+            let loader = Quoted::new(path_at(objects, object.loader));
+            report.problem(FILE, Fault::NotFound(name, loader))
+        }
+    }
+}
+
+// Says that the names of a file are not known.
+fn say_names<W: Write, V: Write>(
+    file: &LoadedFile,
+    report: &mut Report<'_, W, V>,
+) -> Result<(), Stop>
+    ensures { OnOk result (report.new
+        ≡ saying report.old (names_problem (found_view file.now).path (found_view file.now).names)) }
+{
+    match &file.names {
+        Ok(_) => Ok(()),
+        Err(error) => {
+            let path = Quoted::new(&file.path);
+            report.problem(FILE, Fault::Names(path, NamesFault::new(error)))
+        }
+    }
+}
+
+// The path of the object at a place, or its name if it was not found.
+fn path_at(objects: &[Object], place: usize) -> &[u8]
+    ensures { result.now ≡ path_at (map entry_view objects.now) place }
+{
+    match objects.get(place) {
+        Some(object) => path_or_name(object),
+        None => &[],
+    }
+}
+
+fn path_or_name(object: &Object) -> &[u8]
+    ensures { result.now ≡ path_or_name (entry_view object.now) }
+{
+    match &object.file {
+        Some(file) => &file.path,
+        None => &object.name,
+    }
+}
+
+// ---- each object below the one that needed it first
+
+// An object that is listed, and the number of its loaders.
+#[derive(Clone, Copy)]
+struct Listed {
+    place: usize,
+    depth: usize,
+}
+
+fn say_objects<W: Write, V: Write>(
+    alloc: Global,
+    objects: &[Object],
+    report: &mut Report<'_, W, V>,
+) -> Result<(), Stop>
+    ensures { let entries = map entry_view objects.now in
+        OnOk result (report.new ≡ saying report.old (flat_map (listed_said entries) (listed entries))) }
+{
+    let firsts = firsts(alloc, objects)?;
+    let mut waiting = Vec::new(alloc);
+    waiting.push(Listed { place: 0, depth: 0 })?;
+    for _ in 0..objects.len() {
+        let Some(next) = waiting.pop() else {
+            return Ok(());
+        };
+        say_listed(objects, next, report)?;
+        add_next(objects, &firsts, next, &mut waiting)?;
+    }
+    Ok(())
+}
+
+// The first object that each one needed first.
+fn firsts(alloc: Global, objects: &[Object]) -> Result<Vec<Option<usize>>, AllocError>
+    ensures { IfOk result (λ firsts. AreFirsts (map entry_view objects.now) 1 firsts.items) }
+{
+    let mut firsts = vec![in alloc; None; objects.len()]?;
+    let mut place = objects.len();
+    while place > 1 {
+        place -= 1;
+        set_first(&mut firsts, loader_at(objects, place), place);
+    }
+    Ok(firsts)
+}
+
+// Sets the first object that a loader, which there may not be, needed.
+fn set_first(firsts: &mut Vec<Option<usize>>, loader: usize, place: usize)
+    ensures { firsts.new.items ≡ with_first firsts.old.items loader place }
+{
+    if loader < firsts.len() {
+        firsts[loader] = Some(place);
+    }
+}
+
+fn first_needed(firsts: &[Option<usize>], place: usize) -> Option<usize>
+    ensures { (objects : List Entry) → AreFirsts objects 1 firsts.now → result ≡ first_needed objects place }
+{
+    if place < firsts.len() {
+        firsts[place]
+    } else {
+        None
+    }
+}
+
+// The place of the loader of the object at a place.
+fn loader_at(objects: &[Object], place: usize) -> usize
+    ensures { result ≡ loader_at (map entry_view objects.now) place }
+{
+    match objects.get(place) {
+        Some(object) => object.loader,
+        None => 0,
+    }
+}
+
+fn is_needed_by(objects: &[Object], loader: usize, place: usize) -> bool
+    ensures { result ≡ is_needed_by loader (slice_get (map entry_view objects.now) place) }
+{
+    match objects.get(place) {
+        Some(object) => object.loader == loader,
+        None => false,
+    }
+}
+
+fn next_beside(objects: &[Object], place: usize) -> Option<usize>
+    ensures { result ≡ next_beside (map entry_view objects.now) place }
+{
+    if place == 0 || place >= objects.len() {
+        return None;
+    }
+    let next = place + 1;
+    if is_needed_by(objects, loader_at(objects, place), next) {
+        Some(next)
+    } else {
+        None
+    }
+}
+
+fn add_next(
+    objects: &[Object],
+    firsts: &[Option<usize>],
+    next: Listed,
+    waiting: &mut Vec<Listed>,
+) -> Result<(), AllocError>
+    ensures { OnOk result (let entries = map entry_view objects.now in AreFirsts entries 1 firsts.now
+        → stack_view waiting.new.items ≡ after_it entries (listed_view next) ++ stack_view waiting.old.items) }
+{
+    // A depth that is no usize needs more objects than a memory has.
+    let Some(below) = next.depth.checked_add(1) else {
+        return Err(AllocError);
+    };
+    add_at(next_beside(objects, next.place), next.depth, waiting)?;
+    add_at(first_needed(firsts, next.place), below, waiting)
+}
+
+fn add_at(place: Option<usize>, depth: usize, waiting: &mut Vec<Listed>) -> Result<(), AllocError>
+    ensures { OnOk result (stack_view waiting.new.items ≡ at_depth depth place ++ stack_view waiting.old.items) }
+{
+    match place {
+        Some(place) => {
+            waiting.push(Listed { place, depth })?;
+            Ok(())
+        }
+        None => Ok(()),
+    }
+}
+
+// The object at a place, if there is one.
+fn object_at(objects: &[Object], place: usize) -> Option<&Object>
+    ensures { option_map (λ object. entry_view object.now) result ≡ slice_get (map entry_view objects.now) place }
+{
+    objects.get(place)
+}
+
+#[tactic(auto, using(crate::proofs::Walk::saying_nothing))]
+fn say_listed<W: Write, V: Write>(
+    objects: &[Object],
+    next: Listed,
+    report: &mut Report<'_, W, V>,
+) -> Result<(), Stop>
+    ensures { OnOk result (report.new
+        ≡ saying report.old (listed_said (map entry_view objects.now) (listed_view next))) }
+{
+    match object_at(objects, next.place) {
+        Some(object) => say_object(objects, next.depth, object, report),
+        None => Ok(()),
+    }
+}
+
+fn say_object<W: Write, V: Write>(
+    objects: &[Object],
+    depth: usize,
+    object: &Object,
+    report: &mut Report<'_, W, V>,
+) -> Result<(), Stop>
+    ensures { OnOk result (report.new
+        ≡ saying report.old (entry_said (map entry_view objects.now) depth (Some (entry_view object.now)))) }
+{
+    let listed = ListedObject {
+        depth,
+        name: &object.name,
+        path: path_of(object),
+        loader: path_at(objects, object.loader),
+    };
+    listed.say(report)
+}
+
+fn path_of(object: &Object) -> Option<&[u8]>
+    ensures { option_copied result ≡ path_of (entry_view object.now).file }
+{
+    match &object.file {
+        Some(file) => Some(&file.path),
+        None => None,
+    }
+}

@@ -1,0 +1,109 @@
+-- What is said of the symbols of a program that are bound, and of what they bind to.
+use Rattle.std.specs.Prelude.{ℕ, Bool, List, [], ◌∷◌, Option, Some, None, codes}
+use Rattle.std.specs.Option.{option_copied, option_map}
+use Rattle.nugwier_report.specs.Said.{Content, Members, Said, flag, nothing, number, states, text, word}
+use Rattle.nugwier_report.specs.declared.bindings.BoundSymbol.{BoundSymbol as GivenSymbol}
+use Rattle.nugwier_report.specs.declared.bindings.OwnVersion.{OwnVersion as GivenVersion}
+use Rattle.nugwier_report.specs.declared.bindings.Place.{Place}
+use Rattle.nugwier_report.specs.declared.bindings.Place.TheVariants as place
+use Rattle.nugwier_report.specs.declared.bindings.Target.{Target as GivenTarget}
+use Rattle.nugwier_report.specs.declared.bindings.Target.TheVariants as given
+use Rattle.nugwier_report.specs.declared.kind.Kind.{Kind}
+use Rattle.nugwier_report.specs.declared.kind.Kind.TheVariants as kind
+
+-- a symbol that is bound: the path of its file, its index, its name if it can be read, and the version that it requests
+pub record BoundSymbol : Type 0 where
+  pub path : List ℕ
+  pub index : ℕ
+  pub name : Option (List ℕ)
+  pub version : Option (List ℕ)
+
+-- what it binds to: a symbol of the file at a path, by its index and its version, which may be the default one;
+-- nothing, which a weak reference may; or it is not known
+pub data Target : Type 0 where
+  ToSymbol : List ℕ → ℕ → Option (List ℕ × Bool) → Target
+  Weak : Target
+  Missing : Target
+  Unknown : Target
+
+abbrev pub target_word : Target → List ℕ
+target_word (ToSymbol path index version) = codes "bound"
+target_word Weak = codes "weak"
+target_word Missing = codes "missing"
+target_word Unknown = codes "unknown"
+
+abbrev pub target_path : Target → Option (List ℕ)
+target_path (ToSymbol path index version) = Some path
+target_path Weak = None
+target_path Missing = None
+target_path Unknown = None
+
+abbrev pub target_index : Target → Content
+target_index (ToSymbol path index version) = number index
+target_index Weak = nothing
+target_index Missing = nothing
+target_index Unknown = nothing
+
+abbrev pub target_version : Target → Option (List ℕ × Bool)
+target_version (ToSymbol path index version) = version
+target_version Weak = None
+target_version Missing = None
+target_version Unknown = None
+
+abbrev pub version_name : Option (List ℕ × Bool) → Option (List ℕ)
+version_name (Some version) = Some version.0
+version_name None = None
+
+abbrev pub version_default : Option (List ℕ × Bool) → Content
+version_default (Some version) = flag version.1
+version_default None = nothing
+
+-- references of a kind to a symbol, and what they bind to
+abbrev pub binding_members : BoundSymbol → List ℕ → Target → Members
+binding_members symbol reference target =
+    (codes "object", text (Some symbol.path))
+    ∷ (codes "index", number symbol.index)
+    ∷ (codes "name", text symbol.name)
+    ∷ (codes "version", text symbol.version)
+    ∷ (codes "reference", word (Some reference))
+    ∷ (codes "result", word (Some (target_word target)))
+    ∷ (codes "path", text (target_path target))
+    ∷ (codes "symbol", target_index target)
+    ∷ (codes "symbol_version", text (version_name (target_version target)))
+    ∷ (codes "symbol_version_is_default", version_default (target_version target))
+    ∷ []
+
+-- people are told of an address that it is one if calls go elsewhere, and nothing if they go to the same place
+abbrev pub binding_kind : Place → Target → Kind
+binding_kind place.First (ToSymbol path index version) = kind.Bound
+binding_kind place.First Weak = kind.Unbound
+binding_kind place.First Missing = kind.Unbound
+binding_kind place.First Unknown = kind.Unbound
+binding_kind place.Elsewhere (ToSymbol path index version) = kind.BoundAddress
+binding_kind place.Elsewhere Weak = kind.UnboundAddress
+binding_kind place.Elsewhere Missing = kind.UnboundAddress
+binding_kind place.Elsewhere Unknown = kind.UnboundAddress
+binding_kind place.Same target = kind.SameAddress
+
+abbrev pub binding_said : BoundSymbol → Place → List ℕ → Target → List Said
+binding_said symbol place reference target =
+    states (binding_kind place target) (binding_members symbol reference target) ∷ []
+
+-- ---- the view of the structs
+
+abbrev pub bound_view : GivenSymbol → BoundSymbol
+bound_view s = record {
+  path = s.path.now;
+  index = s.index;
+  name = option_copied s.name;
+  version = option_copied s.version;
+}
+
+abbrev pub version_view : GivenVersion → List ℕ × Bool
+version_view version = (version.name.now, version.is_default)
+
+abbrev pub target_view : GivenTarget → Target
+target_view (given.Symbol path index version) = ToSymbol path.now index (option_map version_view version)
+target_view given.Weak = Weak
+target_view given.Missing = Missing
+target_view given.Unknown = Unknown

@@ -1,0 +1,37 @@
+-- the characters that are shown
+pub mod Escape
+-- the text of objects of JSON; what a string of JSON says
+pub mod Json
+pub mod JsonReading
+-- what is said of a file
+pub mod Said
+-- the kinds of records
+pub mod Kinds
+-- what the code says, as what is said
+pub mod Noted
+-- rows for people
+pub mod Text
+-- the text of what is said
+pub mod Told
+-- what is said of each kind of item
+pub mod Header
+pub mod Sections
+pub mod Segments
+pub mod Mappings
+pub mod BuildId
+-- the versions of symbols
+pub mod Versions
+-- what is said of symbols
+pub mod Symbols
+-- what is said of addresses
+pub mod Addresses
+pub mod Parts
+pub mod Notes
+pub mod Contents
+pub mod VersionRecords
+pub mod Dynamic
+pub mod Relocations
+pub mod Verdicts
+-- the objects of a program, and what their symbols bind to
+pub mod Objects
+pub mod Bindings

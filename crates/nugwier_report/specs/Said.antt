@@ -1,0 +1,75 @@
+-- What nugwier says of a file: records with their members, and problems with their places.
+use Rattle.std.specs.Prelude.{ℕ, ◌+◌, ℤ, Bool, true, false, ◌&&◌, List, [], ◌∷◌, ◌++◌, Option, Some, None, Result, Ok}
+use Rattle.std.specs.Prelude.{Err}
+use Rattle.elf_records.specs.declared.parse.ParseError.{ParseError}
+use Rattle.nugwier_report.specs.declared.kind.Kind.{Kind}
+use Rattle.nugwier_report.specs.declared.problem.Fault.{Fault}
+use Rattle.nugwier_report.specs.declared.problem.Fault.TheVariants.{Read}
+use Rattle.nugwier_report.specs.declared.problem.Item.TheVariants.{Whole}
+use Rattle.nugwier_report.specs.declared.problem.Part.{Part}
+use Rattle.nugwier_report.specs.declared.problem.Place.{Place}
+
+-- the value of a member
+pub data Content : Type 0 where
+  nothing : Content
+  flag : Bool → Content
+  number : ℕ → Content
+  signed : ℤ → Content
+  word : Option (List ℕ) → Content
+  character : Option ℕ → Content
+  text : Option (List ℕ) → Content
+  bytes : List ℕ → Content
+
+-- the members of a record, each with its key
+abbrev pub Members : Type 0
+Members = List (List ℕ × Content)
+
+pub data Said : Type 0 where
+  states : Kind → Members → Said
+  wrong : Place → Fault → Said
+
+-- ---- problems
+
+-- a part as a whole
+abbrev pub whole : Part → Place
+whole part = record { part = part; item = Whole }
+
+-- what cannot be read is wrong
+abbrev pub unread : {A : Type 0} → Place → Result A ParseError → List Said
+unread place (Ok x) = []
+unread place (Err e) = wrong place (Read e) ∷ []
+
+-- ---- lists
+
+-- of items that are numbered from k
+abbrev pub numbered : {X : Type 0} → (ℕ → X → List Said) → ℕ → List X → List Said
+numbered said k [] = []
+numbered said k (x ∷ xs) = said k x ++ numbered said (k + 1) xs
+
+-- if there is something
+abbrev pub said_if : {A : Type 0} → (A → List Said) → Option A → List Said
+said_if said (Some x) = said x
+said_if said None = []
+
+-- ---- a report
+
+abbrev pub is_right_one : Said → Bool
+is_right_one (states kind members) = true
+is_right_one (wrong place fault) = false
+
+-- whether nothing is wrong
+abbrev pub all_right : List Said → Bool
+all_right [] = true
+all_right (s ∷ said) = is_right_one s && all_right said
+
+-- what a report shows: how it is written, what the writer had, whether a write failed, and what was said
+pub record Telling : Type 0 where
+  pub path : List ℕ
+  pub is_json : Bool
+  pub start : Option (List ℕ)
+  pub is_lost : Bool
+  pub said : List Said
+
+-- the report after more was said
+abbrev pub saying : Telling → List Said → Telling
+saying r more = record r { said = r.said ++ more }

@@ -1,0 +1,220 @@
+-- What is said of symbols (gABI, chapter "Symbol Table").
+use Rattle.std.specs.Prelude.{ℕ, ◌==◌, ◌&&◌, ◌||◌, not, Bool, true, false, if◌then◌else◌, bit_and, nat_eq, List, []}
+use Rattle.std.specs.Prelude.{◌∷◌, ◌++◌}
+use Rattle.std.specs.Prelude.{Option, Some, None, Result, Ok, Err, codes}
+use Rattle.std.specs.Char.{to_ascii_uppercase}
+use Rattle.std.specs.List.{slice_get}
+use Rattle.std.specs.Result.{result_ok}
+use Rattle.elf_abi.specs.Names.{name_of}
+use Rattle.elf_abi.specs.SymbolNames.{st_bind_names, st_symtype_names, st_vis_names}
+use Rattle.elf_abi.specs.Values.{shn_abs, shn_undef, sht_nobits, stb_gnu_unique, stb_local, stb_weak, stt_func}
+use Rattle.elf_abi.specs.Values.{stt_gnu_ifunc, stt_object}
+use Rattle.elf_parts.specs.gnu_symver.Table.{Versions}
+use Rattle.elf_records.specs.StringTable.{string_at}
+use Rattle.elf_records.specs.Symbol.{symbol_binding, symbol_type, symbol_visibility}
+use Rattle.elf_records.specs.declared.file.Class.{Class}
+use Rattle.elf_records.specs.declared.file.Class.TheVariants.{ELF32, ELF64}
+use Rattle.elf_records.specs.declared.parse.ParseError.{ParseError}
+use Rattle.elf_records.specs.declared.section.SectionHeader.{SectionHeader}
+use Rattle.elf_records.specs.declared.symbol.Symbol.{Symbol}
+use Rattle.elf_tools.specs.Addresses.{shn_common}
+use Rattle.nugwier_report.specs.Said.{Content, Members, Said, character, flag, nothing, number, states, text, unread}
+use Rattle.nugwier_report.specs.Said.{word}
+use Rattle.nugwier_report.specs.Versions.{Version, shown_version}
+use Rattle.nugwier_report.specs.declared.kind.Kind.{Kind}
+use Rattle.nugwier_report.specs.declared.kind.Kind.TheVariants as kind
+use Rattle.nugwier_report.specs.declared.problem.Item.TheVariants.{SymbolName, SymbolVersion}
+use Rattle.nugwier_report.specs.declared.problem.Part.{Part}
+use Rattle.nugwier_report.specs.declared.problem.Part.TheVariants as part
+use Rattle.nugwier_report.specs.declared.symbols.Form.{Form}
+use Rattle.nugwier_report.specs.declared.symbols.Form.TheVariants.{Export, Fields, Letter}
+
+unfoldable pub st_bind_name : ℕ → Option (List ℕ)
+st_bind_name n = name_of nat_eq st_bind_names n
+
+unfoldable pub st_type_name : ℕ → Option (List ℕ)
+st_type_name n = name_of nat_eq st_symtype_names n
+
+unfoldable pub st_visibility_name : ℕ → Option (List ℕ)
+st_visibility_name n = name_of nat_eq st_vis_names n
+
+-- the name of a section number that is no section
+abbrev pub st_shndx_name : ℕ → Option (List ℕ)
+st_shndx_name n =
+    if n == shn_undef then Some (codes "SHN_UNDEF") else if n == shn_abs then Some (codes "SHN_ABS")
+    else if n == shn_common then Some (codes "SHN_COMMON") else None
+
+-- the type of the section that has the symbols
+abbrev pub table_name : Part → Option (List ℕ)
+table_name part.Symbols = Some (codes "SHT_SYMTAB")
+table_name part.DynamicSymbols = Some (codes "SHT_DYNSYM")
+table_name part.File = None
+table_name part.SectionNames = None
+table_name (part.Section i) = None
+table_name (part.Segment i) = None
+table_name part.Versions = None
+table_name part.Dynamic = None
+table_name part.DynamicStrings = None
+table_name part.BuildId = None
+table_name (part.Address a) = None
+table_name part.LoadPlan = None
+
+-- ---- letters, as nm has them
+
+-- bits of the flags of a section: it can be written, it is loaded, it is code
+abbrev pub shf_write : ℕ
+shf_write = 1
+
+abbrev pub shf_alloc : ℕ
+shf_alloc = 2
+
+abbrev pub shf_execinstr : ℕ
+shf_execinstr = 4
+
+abbrev pub has_flag : ℕ → SectionHeader → Bool
+has_flag bit s = not (bit_and s.sh_flags bit == 0)
+
+-- of a section: code, what is not loaded, data that is not in the file, data that can be written, data that cannot
+abbrev pub letter_in : SectionHeader → ℕ
+letter_in s =
+    if has_flag shf_execinstr s then 0x74  -- t
+    else if not (has_flag shf_alloc s) then 0x6e  -- n
+    else if s.sh_type == sht_nobits then 0x62  -- b
+    else if has_flag shf_write s then 0x64  -- d
+    else 0x72  -- r
+
+abbrev pub letter_in_one : Option SectionHeader → ℕ
+letter_in_one (Some s) = letter_in s
+letter_in_one None = 0x3f  -- ?
+
+-- of what is in this section, or of an absolute value
+abbrev pub section_letter : List SectionHeader → ℕ → ℕ
+section_letter sections n = if n == shn_abs then 0x61 else letter_in_one (slice_get sections n)  -- a
+
+abbrev pub undefined_letter : Symbol → ℕ
+undefined_letter s =
+    if not (symbol_binding s == stb_weak) then 0x55  -- U
+    else if symbol_type s == stt_object then 0x76  -- v
+    else 0x77  -- w
+
+abbrev pub weak_letter : Symbol → ℕ
+weak_letter s = if symbol_type s == stt_object then 0x56 else 0x57  -- V, W
+
+-- the section's letter: in lower case if the symbol is local
+abbrev pub cased_letter : Symbol → ℕ → ℕ
+cased_letter s letter = if symbol_binding s == stb_local then letter else to_ascii_uppercase letter
+
+abbrev pub letter_of : List SectionHeader → Symbol → ℕ
+letter_of sections s =
+    if s.st_shndx == shn_common then 0x43  -- C
+    else if s.st_shndx == shn_undef then undefined_letter s
+    else if symbol_type s == stt_gnu_ifunc then 0x69  -- i
+    else if symbol_binding s == stb_weak then weak_letter s
+    else if symbol_binding s == stb_gnu_unique then 0x75  -- u
+    else cased_letter s (section_letter sections s.st_shndx)
+
+-- ---- what is shown of symbols
+
+-- all fields; a letter, in a file of this class with these sections; names and versions alone, of exports
+pub data Manner : Type 0 where
+  all_fields : Manner
+  by_letter : Class → List SectionHeader → Manner
+  exports_alone : Manner
+
+abbrev pub form_view : Form → Manner
+form_view Fields = all_fields
+form_view (Letter class sections) = by_letter class sections.now
+form_view Export = exports_alone
+
+-- it is a function (STT_FUNC) or one that is chosen when the file is loaded (STT_GNU_IFUNC)
+abbrev pub is_function : Symbol → Bool
+is_function s = symbol_type s == stt_func || symbol_type s == stt_gnu_ifunc
+
+-- a section defines it, it is not local, and it is a function in this sense
+abbrev pub is_export : Symbol → Bool
+is_export s = not (s.st_shndx == shn_undef) && not (symbol_binding s == stb_local) && is_function s
+
+-- the symbol has a row: with letters all but the first, which is none
+abbrev pub is_listed : Manner → ℕ → Symbol → Bool
+is_listed all_fields i s = true
+is_listed (by_letter class sections) i s = not (i == 0)
+is_listed exports_alone i s = is_export s
+
+-- by the class of the file, and whether the symbol is undefined
+abbrev pub letter_kind : Class → Bool → Kind
+letter_kind ELF32 true = kind.Undefined32
+letter_kind ELF64 true = kind.Undefined64
+letter_kind ELF32 false = kind.Symbol32
+letter_kind ELF64 false = kind.Symbol64
+
+abbrev pub symbol_kind : Manner → Symbol → Kind
+symbol_kind all_fields s = kind.Symbol
+symbol_kind (by_letter class sections) s = letter_kind class (s.st_shndx == shn_undef)
+symbol_kind exports_alone s = kind.Export
+
+-- the letter, if it is shown
+abbrev pub shown_letter : Manner → Symbol → Option ℕ
+shown_letter all_fields s = None
+shown_letter (by_letter class sections) s = Some (letter_of sections s)
+shown_letter exports_alone s = None
+
+-- ---- versions
+
+-- of symbol i, if there are versions
+abbrev pub version_read : Option Versions → ℕ → Symbol → Result (Option Version) ParseError
+version_read None i s = Ok None
+version_read (Some versions) i s = shown_version versions i s
+
+-- none if it cannot be read
+abbrev pub version_known : Result (Option Version) ParseError → Option Version
+version_known (Ok version) = version
+version_known (Err e) = None
+
+abbrev pub version_name : Option Version → Option (List ℕ)
+version_name (Some version) = Some version.0
+version_name None = None
+
+abbrev pub version_default : Option Version → Content
+version_default (Some version) = flag version.1
+version_default None = nothing
+
+-- ---- records
+
+-- symbol i of this part of the file, with this name, this version and this letter
+abbrev pub symbol_members : Part → ℕ → Symbol → Option (List ℕ) → Option Version → Option ℕ → Members
+symbol_members part i s name version letter =
+    (codes "table", word (table_name part))
+    ∷ (codes "index", number i)
+    ∷ (codes "st_name", number s.st_name)
+    ∷ (codes "name", text name)
+    ∷ (codes "st_info", number s.st_info)
+    ∷ (codes "st_bind", number (symbol_binding s))
+    ∷ (codes "st_bind_name", word (st_bind_name (symbol_binding s)))
+    ∷ (codes "st_type", number (symbol_type s))
+    ∷ (codes "st_type_name", word (st_type_name (symbol_type s)))
+    ∷ (codes "st_other", number s.st_other)
+    ∷ (codes "st_visibility", number (symbol_visibility s))
+    ∷ (codes "st_visibility_name", word (st_visibility_name (symbol_visibility s)))
+    ∷ (codes "st_shndx", number s.st_shndx)
+    ∷ (codes "st_shndx_name", word (st_shndx_name s.st_shndx))
+    ∷ (codes "st_value", number s.st_value)
+    ∷ (codes "st_size", number s.st_size)
+    ∷ (codes "version", text (version_name version))
+    ∷ (codes "version_is_default", version_default version)
+    ∷ (codes "letter", character letter)
+    ∷ []
+
+-- of symbol i of this part, with its name in these strings, and its version
+abbrev pub symbol_record : Manner → Part → List ℕ → ℕ → Symbol → Option Version → Said
+symbol_record manner part strings i s version =
+    states (symbol_kind manner s)
+    (symbol_members part i s (result_ok (string_at strings s.st_name)) version (shown_letter manner s))
+
+-- that its name or its version cannot be read, then the symbol; nothing of a symbol without a row
+abbrev pub symbol_said : Manner → Part → List ℕ → Option Versions → ℕ → Symbol → List Said
+symbol_said manner part strings versions i s =
+    if is_listed manner i s then
+    unread (record { part = part; item = SymbolName i }) (string_at strings s.st_name)
+    ++ unread (record { part = part; item = SymbolVersion i }) (version_read versions i s)
+    ++ symbol_record manner part strings i s (version_known (version_read versions i s)) ∷ []
+    else []

@@ -1,0 +1,154 @@
+//! Names of a file as text for a terminal.
+ghost use Rattle.std.specs.Prelude.{◌≡◌};
+ghost use Rattle.std.specs.List.{flat_map};
+ghost use Rattle.std.specs.Str.{chars};
+ghost use Rattle.elf_lines.specs.Adding.{Adds};
+ghost use Rattle.nugwier_report.specs.Escape.{escaped_byte, is_plain, is_shown, shown_byte, shown_bytes};
+ghost use Rattle.nugwier_report.specs.Escape.{shown_character};
+
+use elf_lines::line_buffer::LineBuffer;
+use std::fmt;
+use std::io::Write;
+use std::str::from_utf8;
+
+/// Bytes that are text for people. UTF-8 text is shown as it is, except for characters that a terminal obeys or does
+/// not show, and the backslash. Each byte of these, and each byte that is not ASCII if the bytes are not UTF-8, is
+/// shown as `\x` and two digits.
+#[derive(Debug, Clone, Copy)]
+pub struct Escaped<'a>(pub &'a [u8]);
+
+impl fmt::Display for Escaped<'_> {
+    fn fmt<W: fmt::Write>(&self, f: &mut fmt::Formatter<W>) -> fmt::Result {
+        match from_utf8(self.0) {
+            Ok(text) => write_text(text, f),
+            Err(_) => write_bytes(self.0, f),
+        }
+    }
+}
+
+// Most names are plain, and are written at once.
+fn write_text<W: fmt::Write>(text: &str, f: &mut fmt::Formatter<W>) -> fmt::Result {
+    if are_plain(text.as_bytes()) {
+        return f.write_str(text);
+    }
+    for character in text.chars() {
+        write_character(character, f)?;
+    }
+    Ok(())
+}
+
+fn write_character<W: fmt::Write>(character: char, f: &mut fmt::Formatter<W>) -> fmt::Result {
+    if is_shown(character) {
+        return f.write_char(character);
+    }
+    let mut room = [0; 4];
+    for byte in character.encode_utf8(&mut room).bytes() {
+        write!(f, "\\x{byte:02x}")?;
+    }
+    Ok(())
+}
+
+fn write_bytes<W: fmt::Write>(bytes: &[u8], f: &mut fmt::Formatter<W>) -> fmt::Result {
+    for byte in bytes {
+        write_byte(*byte, f)?;
+    }
+    Ok(())
+}
+
+fn write_byte<W: fmt::Write>(byte: u8, f: &mut fmt::Formatter<W>) -> fmt::Result {
+    if is_plain(byte) {
+        f.write_char(byte as char)
+    } else {
+        write!(f, "\\x{byte:02x}")
+    }
+}
+
+// Whether no byte needs an escape.
+fn are_plain(bytes: &[u8]) -> bool {
+    bytes.iter().all(|byte| is_plain(*byte))
+}
+
+// The characters of ASCII that are shown, except for the backslash.
+fn is_plain(byte: u8) -> bool
+    ensures { result ≡ is_plain byte }
+{
+    (b' '..=b'~').contains(&byte) && byte != b'\\'
+}
+
+/// Whether a character is shown as it is: none that controls a terminal, or that is invisible or turns the direction of
+/// writing, so that a name could look like another one.
+pub(crate) fn is_shown(character: char) -> bool
+    ensures { result ≡ is_shown character }
+{
+    match character {
+        '\0'..='\u{1f}' | '\\' | '\u{7f}'..='\u{9f}' => false,
+        '\u{ad}' | '\u{61c}' | '\u{feff}' => false,
+        '\u{200b}'..='\u{200f}' | '\u{2028}'..='\u{202e}' | '\u{2060}'..='\u{206f}' => false,
+        _ => true,
+    }
+}
+
+/// Adds bytes as text for people, in the manner of `Escaped`.
+pub(crate) fn add_shown<W: Write>(bytes: &[u8], lines: &mut LineBuffer, out: &mut W)
+    ensures { Adds (W.contents out.old) lines.old (W.contents out.new) lines.new (shown_bytes bytes.now) }
+{
+    match from_utf8(bytes) {
+        Ok(text) => add_characters(text, lines, out),
+        Err(_) => add_bytes(bytes, lines, out),
+    }
+}
+
+fn add_characters<W: Write>(text: &str, lines: &mut LineBuffer, out: &mut W)
+    ensures { Adds (W.contents out.old) lines.old (W.contents out.new) lines.new
+        (flat_map shown_character (chars text.now)) }
+{
+    for character in text.chars() {
+        add_character(character, lines, out);
+    }
+}
+
+fn add_character<W: Write>(character: char, lines: &mut LineBuffer, out: &mut W)
+    ensures { Adds (W.contents out.old) lines.old (W.contents out.new) lines.new (shown_character character) }
+{
+    let mut room = [0; 4];
+    let text = character.encode_utf8(&mut room);
+    if is_shown(character) {
+        lines.text(text, out);
+    } else {
+        add_escapes(text.as_bytes(), lines, out);
+    }
+}
+
+fn add_bytes<W: Write>(bytes: &[u8], lines: &mut LineBuffer, out: &mut W)
+    ensures { Adds (W.contents out.old) lines.old (W.contents out.new) lines.new (flat_map shown_byte bytes.now) }
+{
+    for byte in bytes {
+        add_byte(*byte, lines, out);
+    }
+}
+
+#[tactic(auto, using(std::proofs::lemmas::Str::encode_ascii))]
+fn add_byte<W: Write>(byte: u8, lines: &mut LineBuffer, out: &mut W)
+    ensures { Adds (W.contents out.old) lines.old (W.contents out.new) lines.new (shown_byte byte) }
+{
+    if is_plain(byte) {
+        let mut room = [0; 4];
+        lines.text((byte as char).encode_utf8(&mut room), out);
+    } else {
+        lines.bytes("\\x", &[byte], out);
+    }
+}
+
+fn add_escapes<W: Write>(bytes: &[u8], lines: &mut LineBuffer, out: &mut W)
+    ensures { Adds (W.contents out.old) lines.old (W.contents out.new) lines.new (flat_map escaped_byte bytes.now) }
+{
+    for byte in bytes {
+        add_escape(*byte, lines, out);
+    }
+}
+
+fn add_escape<W: Write>(byte: u8, lines: &mut LineBuffer, out: &mut W)
+    ensures { Adds (W.contents out.old) lines.old (W.contents out.new) lines.new (escaped_byte byte) }
+{
+    lines.bytes("\\x", &[byte], out);
+}

@@ -1,0 +1,242 @@
+//! Records as objects of JSON, one a line (RFC 8259).
+ghost use Rattle.std.specs.Prelude.{◌≡◌, Some, OnOk};
+ghost use Rattle.std.specs.Io.KnownBytes.{Appends};
+ghost use Rattle.std.specs.List.{flat_map};
+ghost use Rattle.std.specs.Option.{option_copied};
+ghost use Rattle.std.specs.Str.{chars, encode_utf8_all};
+ghost use Rattle.elf_lines.specs.Adding.{Adds};
+ghost use Rattle.nugwier_report.specs.Json.{bytes_member, character_value, escape, front, json_string, member};
+ghost use Rattle.nugwier_report.specs.Json.{member_of, object, pair};
+ghost use Rattle.nugwier_report.specs.Json.{spelled, stands_for_itself, text_member, word_value};
+ghost use Rattle.nugwier_report.specs.JsonReading.{read_string};
+ghost use Rattle.nugwier_report.specs.Noted.{member_said};
+ghost use Rattle.nugwier_report.specs.Parts.{part_member};
+
+use crate::escape::is_shown;
+use crate::problem::Part;
+use elf_lines::line_buffer::LineBuffer;
+use std::io;
+use std::io::Write;
+use std::str::from_utf8;
+
+/// What a member of an object says.
+#[derive(Debug, Clone, Copy)]
+pub enum Value<'a> {
+    /// Nothing.
+    Null,
+    Flag(bool),
+    Number(u64),
+    Signed(i64),
+    /// The name that a standard has for a value, if it has one.
+    Word(Option<&'static str>),
+    /// A character, if there is one.
+    Character(Option<char>),
+    /// A text of the file, if it can be read. If it is not UTF-8, the digits of its bytes are written instead, and the
+    /// key ends with `_hex`.
+    Text(Option<&'a [u8]>),
+    /// Bytes, as two digits each. The key has `_hex` at its end.
+    Bytes(&'a [u8]),
+}
+
+/// A member of an object: its key, which needs no escapes, and what it says.
+pub type Member<'a> = (&'static str, Value<'a>);
+
+/// The section or the segment of a part of a file, by its number.
+pub fn part_member(part: Part) -> Member<'static>
+    ensures { member_said result ≡ part_member part }
+{
+    match part {
+        Part::Section(number) => ("section", Value::Number(number)),
+        Part::Segment(number) => ("segment", Value::Number(number)),
+        _ => ("section", Value::Null),
+    }
+}
+
+/// Writes a record of a file as a line: an object of the path of the file, the kind of the record, and these members.
+pub fn write_object<W: Write>(
+    path: &str,
+    kind: &str,
+    members: &[Member<'_>],
+    out: &mut W,
+) -> io::Result<()>
+    ensures { OnOk result (Appends (W.contents out.old) (W.contents out.new)
+        (object path.now kind.now (flat_map member_of members.now))) }
+{
+    let mut lines = LineBuffer::empty();
+    add_front(path, kind, &mut lines, out);
+    add_members(members, &mut lines, out);
+    lines.text("}\n", out);
+    lines.end(out)
+}
+
+fn add_front<W: Write>(path: &str, kind: &str, lines: &mut LineBuffer, out: &mut W)
+    ensures { Adds (W.contents out.old) lines.old (W.contents out.new) lines.new (front path.now kind.now) }
+{
+    lines.text("{\"file\":", out);
+    add_string(path, lines, out);
+    lines.text(",\"record\":", out);
+    add_string(kind, lines, out);
+}
+
+fn add_members<W: Write>(members: &[Member<'_>], lines: &mut LineBuffer, out: &mut W)
+    ensures { Adds (W.contents out.old) lines.old (W.contents out.new) lines.new (flat_map member_of members.now) }
+{
+    for member in members {
+        add_member(member.0, member.1, lines, out);
+    }
+}
+
+// Adds a member after others.
+fn add_member<W: Write>(key: &str, value: Value<'_>, lines: &mut LineBuffer, out: &mut W)
+    ensures { Adds (W.contents out.old) lines.old (W.contents out.new) lines.new (member key.now value.entry) }
+{
+    match value {
+        Value::Null => add_plain(key, "null", lines, out),
+        Value::Flag(true) => add_plain(key, "true", lines, out),
+        Value::Flag(false) => add_plain(key, "false", lines, out),
+        Value::Number(number) => {
+            lines.text(",\"", out);
+            lines.text(key, out);
+            lines.decimal("\":", number, out);
+        }
+        Value::Signed(number) => {
+            lines.text(",\"", out);
+            lines.text(key, out);
+            lines.signed("\":", number, out);
+        }
+        Value::Word(word) => add_word(key, word, lines, out),
+        Value::Character(character) => add_letter(key, character, lines, out),
+        Value::Text(Some(bytes)) => add_text(key, bytes, lines, out),
+        Value::Text(None) => add_plain(key, "null", lines, out),
+        Value::Bytes(bytes) => add_bytes(key, bytes, lines, out),
+    }
+}
+
+// Adds a member whose value is a word of JSON.
+fn add_plain<W: Write>(key: &str, word: &str, lines: &mut LineBuffer, out: &mut W)
+    ensures { Adds (W.contents out.old) lines.old (W.contents out.new) lines.new (pair key.now word.now) }
+{
+    lines.text(",\"", out);
+    lines.text(key, out);
+    lines.text("\":", out);
+    lines.text(word, out);
+}
+
+// Adds a member whose value is a name, if there is one.
+fn add_word<W: Write>(key: &str, word: Option<&'static str>, lines: &mut LineBuffer, out: &mut W)
+    ensures { Adds (W.contents out.old) lines.old (W.contents out.new) lines.new
+        (pair key.now (word_value (option_copied word.entry))) }
+{
+    match word {
+        Some(word) => add_named_string(key, word, lines, out),
+        None => add_plain(key, "null", lines, out),
+    }
+}
+
+// Adds a member whose value is a character, if there is one.
+fn add_letter<W: Write>(key: &str, character: Option<char>, lines: &mut LineBuffer, out: &mut W)
+    ensures { Adds (W.contents out.old) lines.old (W.contents out.new) lines.new
+        (pair key.now (character_value character)) }
+{
+    match character {
+        Some(character) => {
+            lines.text(",\"", out);
+            lines.text(key, out);
+            lines.text("\":\"", out);
+            add_character(character, lines, out);
+            lines.text("\"", out);
+        }
+        None => add_plain(key, "null", lines, out),
+    }
+}
+
+// Adds a member whose value is a string.
+fn add_named_string<W: Write>(key: &str, text: &str, lines: &mut LineBuffer, out: &mut W)
+    ensures { Adds (W.contents out.old) lines.old (W.contents out.new) lines.new (pair key.now (json_string text.now)) }
+{
+    lines.text(",\"", out);
+    lines.text(key, out);
+    lines.text("\":", out);
+    add_string(text, lines, out);
+}
+
+// Adds a member whose value is a text of the file.
+fn add_text<W: Write>(key: &str, bytes: &[u8], lines: &mut LineBuffer, out: &mut W)
+    ensures { Adds (W.contents out.old) lines.old (W.contents out.new) lines.new (text_member key.now bytes.now) }
+{
+    match from_utf8(bytes) {
+        Ok(text) => add_named_string(key, text, lines, out),
+        Err(_) => add_bytes(key, bytes, lines, out),
+    }
+}
+
+// Adds a member whose value is the digits of bytes.
+fn add_bytes<W: Write>(key: &str, bytes: &[u8], lines: &mut LineBuffer, out: &mut W)
+    ensures { Adds (W.contents out.old) lines.old (W.contents out.new) lines.new (bytes_member key.now bytes.now) }
+{
+    lines.text(",\"", out);
+    lines.text(key, out);
+    lines.bytes("_hex\":\"", bytes, out);
+    lines.text("\"", out);
+}
+
+// Adds a string.
+#[tactic(auto, unfolding(crate::specs::Json::json_string))]
+fn add_string<W: Write>(text: &str, lines: &mut LineBuffer, out: &mut W)
+    ensures { Adds (W.contents out.old) lines.old (W.contents out.new) lines.new (json_string text.now) }
+{
+    lines.text("\"", out);
+    add_characters(text, lines, out);
+    lines.text("\"", out);
+}
+
+// Adds the characters of a text.
+fn add_characters<W: Write>(text: &str, lines: &mut LineBuffer, out: &mut W)
+    ensures { Adds (W.contents out.old) lines.old (W.contents out.new) lines.new
+        (encode_utf8_all (flat_map spelled (chars text.now))) }
+{
+    for character in text.chars() {
+        add_character(character, lines, out);
+    }
+}
+
+fn add_character<W: Write>(character: char, lines: &mut LineBuffer, out: &mut W)
+    ensures { Adds (W.contents out.old) lines.old (W.contents out.new) lines.new
+        (encode_utf8_all (spelled character)) }
+{
+    if stands_for_itself(character) {
+        let mut room = [0; 4];
+        lines.text(character.encode_utf8(&mut room), out);
+    } else {
+        add_escape(character, lines, out);
+    }
+}
+
+// Whether a character of a string is written as it is.
+#[tactic(auto, unfolding(crate::specs::Json::stands_for_itself))]
+fn stands_for_itself(character: char) -> bool
+    ensures { result ≡ stands_for_itself character }
+{
+    is_shown(character) && character != '"'
+}
+
+// Adds the escape of a character.
+#[tactic(auto, using(crate::proofs::JsonStrings::escape_other), unfolding(crate::specs::Json::escape))]
+fn add_escape<W: Write>(character: char, lines: &mut LineBuffer, out: &mut W)
+    ensures { Adds (W.contents out.old) lines.old (W.contents out.new) lines.new (escape character) }
+{
+    match character {
+        '"' => lines.text("\\\"", out),
+        '\\' => lines.text("\\\\", out),
+        _ => {
+            let code = character as u32;
+            let bytes = [(code / 256 % 256) as u8, (code % 256) as u8];
+            lines.bytes("\\u", &bytes, out);
+        }
+    }
+}
+
+/// The text that a string was written of is what is read of it.
+pub fn a_string_is_read_back(text: &str)
+    ensures { read_string (json_string text.now) ≡ Some text.now }
+{}

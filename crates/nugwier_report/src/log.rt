@@ -1,0 +1,47 @@
+//! What was said so far. It exists only in proofs, takes no memory, and its methods do nothing at run time.
+ghost use Rattle.std.specs.Prelude.{◌≡◌, List, [], ◌∷◌, ◌++◌};
+ghost use Rattle.std.specs.Borrow.{ftrue};
+ghost use Rattle.nugwier_report.specs.Said.{Said};
+
+use crate::json::Member;
+use crate::kind::Kind;
+use crate::problem::{Fault, Place};
+use std::marker::{Model, PhantomData};
+
+/// The writer as it was, and what was said since.
+#[derive(Drop)]
+pub(crate) struct Log<W> {
+    of: PhantomData<W>,
+    ghost start: { W },
+    ghost said: { List Said },
+}
+
+impl<W> Model for Log<W> {
+    ghost also_owns = { λ _. ftrue };
+}
+
+/// What is said.
+#[derive(Clone, Copy, Drop)]
+pub(crate) enum Note<'a> {
+    States(Kind, &'a [Member<'a>]),
+    Wrong(Place, &'a Fault<'a>),
+}
+
+impl<W> Log<W> {
+    ghost use Rattle.nugwier_report.specs.Noted.{noted};
+
+    /// Nothing was said yet.
+    #[inline(always)]
+    pub(crate) fn new(_start: &W) -> Log<W>
+        ensures { (result.start ≡ _start.now) × (result.said ≡ []) }
+    {
+        Log { of: PhantomData }
+    }
+
+    #[inline(always)]
+    pub(crate) fn then(&self, _note: &Note<'_>) -> Log<W>
+        ensures { (result.start ≡ self.now.start) × (result.said ≡ self.now.said ++ noted _note.now ∷ []) }
+    {
+        Log { of: PhantomData }
+    }
+}

@@ -1,0 +1,50 @@
+//! What is said of the memory that a loader maps.
+ghost use Rattle.std.specs.Prelude.{◌≡◌};
+ghost use Rattle.nugwier_report.specs.Mappings.{mapping_members, mapping_said};
+ghost use Rattle.nugwier_report.specs.Noted.{members_said};
+
+use crate::json::{Member, Value};
+use crate::kind::Kind;
+use crate::problem::Stop;
+use crate::report::Report;
+use crate::rows::Row;
+use elf_tools::load_plan::Mapping;
+use std::io::Write;
+
+/// A mapping.
+#[derive(Debug, Clone, Copy)]
+pub struct MappingRow;
+
+impl Row for MappingRow {
+    type Item = Mapping;
+
+    ghost said = { λ row number mapping. mapping_said number mapping };
+
+    fn say<W: Write, V: Write>(
+        &self,
+        _number: u64,
+        mapping: &Mapping,
+        report: &mut Report<'_, W, V>,
+    ) -> Result<(), Stop> {
+        report.state(Kind::Mapping, &mapping_members(mapping))
+    }
+}
+
+fn mapping_members(mapping: &Mapping) -> [Member<'static>; 5]
+    ensures { members_said result ≡ mapping_members mapping.now }
+{
+    let Mapping {
+        address,
+        memory_size,
+        offset,
+        file_size,
+        flags,
+    } = *mapping;
+    [
+        ("p_vaddr", Value::Number(address)),
+        ("p_memsz", Value::Number(memory_size)),
+        ("p_offset", Value::Number(offset)),
+        ("p_filesz", Value::Number(file_size)),
+        ("p_flags", Value::Number(flags as u64)),
+    ]
+}

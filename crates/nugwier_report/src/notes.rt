@@ -1,0 +1,142 @@
+//! What is said of notes.
+ghost use Rattle.std.specs.Prelude.{◌≡◌, OnOk};
+ghost use Rattle.std.specs.Option.{option_copied};
+ghost use Rattle.elf_parts.specs.Note.{AbiTag, note_view, notes_left};
+ghost use Rattle.nugwier_report.specs.Noted.{members_said};
+ghost use Rattle.nugwier_report.specs.Notes.{abi_tag_members, build_id_members, note_said, notes_said, os_name};
+ghost use Rattle.nugwier_report.specs.Notes.{other_members, without_nul};
+ghost use Rattle.nugwier_report.specs.Said.{saying};
+
+use crate::json::{Member, Value, part_member};
+use crate::kind::Kind;
+use crate::problem::{Part, Stop};
+use crate::report::Report;
+use crate::rows::{Row, say_items};
+use elf_abi::{abi, to_str};
+use elf_parts::endian::EndianParse;
+use elf_parts::laws::notes::few_notes_are_left;
+use elf_parts::note::{Note, NoteAny, NoteGnuAbiTag, NoteIterator};
+use std::io::Write;
+use std::marker::PhantomData;
+
+/// Says the notes of a section or of a segment.
+pub fn say_notes<E: EndianParse, W: Write, V: Write>(
+    part: Part,
+    notes: NoteIterator<'_, E>,
+    report: &mut Report<'_, W, V>,
+) -> Result<(), Stop>
+    ensures { OnOk result (report.new ≡ saying report.old (notes_said part (notes_left notes.entry))) }
+{
+    few_notes_are_left(&notes);
+    let row = NoteRow {
+        part,
+        data: PhantomData,
+    };
+    say_items(notes, &row, report)
+}
+
+// A note of a section or of a segment.
+#[derive(Drop)]
+struct NoteRow<'data> {
+    part: Part,
+    data: PhantomData<&'data [u8]>,
+}
+
+impl<'data> Row for NoteRow<'data> {
+    type Item = Note<'data>;
+
+    ghost said = { λ row number note. note_said row.part number (note_view note) };
+
+    fn say<W: Write, V: Write>(
+        &self,
+        number: u64,
+        note: &Note<'data>,
+        report: &mut Report<'_, W, V>,
+    ) -> Result<(), Stop> {
+        let part = self.part;
+        match note {
+            Note::GnuAbiTag(tag) => say_abi_tag(part, number, tag, report),
+            Note::GnuBuildId(id) => {
+                report.state(Kind::BuildIdNote, &build_id_members(part, number, id.0))
+            }
+            Note::Unknown(note) => report.state(Kind::Note, &other_members(part, number, note)),
+        }
+    }
+}
+
+fn say_abi_tag<W: Write, V: Write>(
+    part: Part,
+    number: u64,
+    tag: &NoteGnuAbiTag,
+    report: &mut Report<'_, W, V>,
+) -> Result<(), Stop>
+    ensures { OnOk result (report.new ≡ saying report.old (note_said part number (AbiTag tag.now))) }
+{
+    report.state(Kind::AbiTagNote, &abi_tag_members(part, number, tag))
+}
+
+fn abi_tag_members(part: Part, number: u64, tag: &NoteGnuAbiTag) -> [Member<'static>; 10]
+    ensures { members_said result ≡ abi_tag_members part number tag.now }
+{
+    let NoteGnuAbiTag {
+        os,
+        major,
+        minor,
+        subminor,
+    } = *tag;
+    [
+        part_member(part),
+        ("index", Value::Number(number)),
+        ("n_type", Value::Number(abi::NT_GNU_ABI_TAG)),
+        ("n_type_name", Value::Word(Some("NT_GNU_ABI_TAG"))),
+        ("name", Value::Word(Some("GNU"))),
+        ("os", Value::Number(os as u64)),
+        ("os_name", Value::Word(os_name(os))),
+        ("major", Value::Number(major as u64)),
+        ("minor", Value::Number(minor as u64)),
+        ("subminor", Value::Number(subminor as u64)),
+    ]
+}
+
+#[tactic(auto, unfolding(crate::specs::Notes::os_name))]
+fn os_name(os: u32) -> Option<&'static str>
+    ensures { option_copied result ≡ os_name os }
+{
+    to_str::note_abi_tag_os_to_str(os)
+}
+
+fn build_id_members<'a>(part: Part, number: u64, id: &'a [u8]) -> [Member<'a>; 6]
+    ensures { members_said result ≡ build_id_members part number id.now }
+{
+    [
+        part_member(part),
+        ("index", Value::Number(number)),
+        ("n_type", Value::Number(abi::NT_GNU_BUILD_ID)),
+        ("n_type_name", Value::Word(Some("NT_GNU_BUILD_ID"))),
+        ("name", Value::Word(Some("GNU"))),
+        ("desc", Value::Bytes(id)),
+    ]
+}
+
+fn other_members<'a>(part: Part, number: u64, note: &NoteAny<'a>) -> [Member<'a>; 6]
+    ensures { members_said result ≡ other_members part number note.now.n_type note.now.name.now note.now.desc.now }
+{
+    [
+        part_member(part),
+        ("index", Value::Number(number)),
+        ("n_type", Value::Number(note.n_type)),
+        ("n_type_name", Value::Null),
+        ("name", Value::Text(Some(without_nul(note.name)))),
+        ("desc", Value::Bytes(note.desc)),
+    ]
+}
+
+// A name ends in a 0 byte, which belongs to its size.
+fn without_nul(name: &[u8]) -> &[u8]
+    ensures { result.now ≡ without_nul name.now }
+{
+    match name.strip_suffix(&[0]) {
+        Some(rest) => rest,
+        None => name,
+    }
+}

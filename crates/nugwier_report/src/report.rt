@@ -1,0 +1,204 @@
+//! A report of a file: what is said of it is written as it comes.
+ghost use Rattle.std.specs.Prelude.{◌≡◌, ◌∷◌, [], ◌++◌, false, true, IfOk, OnOk, List};
+ghost use Rattle.std.specs.Io.KnownBytes.{Appends};
+ghost use Rattle.std.specs.Result.{result_ok};
+ghost use Rattle.nugwier_report.specs.Json.{object};
+ghost use Rattle.nugwier_report.specs.Kinds.{kind_name};
+ghost use Rattle.nugwier_report.specs.Noted.{members_said, noted};
+ghost use Rattle.nugwier_report.specs.Said.{all_right, is_right_one, saying, states, unread, wrong};
+ghost use Rattle.nugwier_report.specs.Told.{IsTold, members_text, object_if, told_line};
+
+use crate::escape::Escaped;
+use crate::json::{Member, write_object};
+use crate::kind::Kind;
+use crate::log::{Log, Note};
+use crate::names::Labels;
+use crate::problem::{Fault, Place, Stop, Told};
+use crate::text::write_row;
+use elf_parts::parse::ParseError;
+use std::io;
+use std::io::Write;
+use std::marker::Model;
+
+/// A report of the file of this path. Contracts see what was said.
+#[derive(Drop)]
+pub struct Report<'p, W: Write, V: Write> {
+    path: &'p str,
+    is_json: bool,
+    labels: Labels<'p>,
+    out: W,
+    err: V,
+    is_lost: bool,
+    is_right: bool,
+    log: Log<W>,
+}
+
+impl<'p, W: Write, V: Write> Model for Report<'p, W, V> {
+    ghost use Rattle.std.specs.Prelude.{◌≡◌, false};
+    ghost use Rattle.nugwier_report.specs.Said.{Telling, all_right};
+    ghost use Rattle.nugwier_report.specs.Told.{IsTold};
+
+    ghost Value = { Telling };
+
+    ghost view = { λ r. record {
+      path = r.path.now;
+      is_json = r.is_json;
+      start = W.contents r.log.start;
+      is_lost =
+          r.is_lost;
+      said = r.log.said;
+    } };
+
+    ghost invariant = { λ r. (r.is_lost
+        ≡ false → IsTold r.is_json r.path.now (W.contents r.log.start) (W.contents r.out) r.log.said)
+        × (r.is_right ≡ all_right r.log.said) };
+}
+
+impl<'p, W: Write, V: Write> Report<'p, W, V> {
+    /// A report in which nothing was said yet. Problems are told with the names of their sections, by these labels.
+    pub fn new(path: &'p str, is_json: bool, labels: Labels<'p>, out: W, err: V) -> Report<'p, W, V>
+        ensures { result ≡ record {
+          path = path.now;
+          is_json = is_json;
+          start = W.contents out;
+          is_lost =
+              false;
+          said = [];
+        } }
+    {
+        let log = Log::new(&out);
+        Report {
+            path,
+            is_json,
+            labels,
+            out,
+            err,
+            is_lost: false,
+            is_right: true,
+            log,
+        }
+    }
+
+    /// Returns whether nothing is wrong, and the writers. Unless a write failed, they got the text of what was said.
+    pub fn end(self) -> (bool, W, V)
+        ensures right { result.0 ≡ all_right self.entry.said }
+        ensures text { self.entry.is_lost
+            ≡ false → IsTold self.entry.is_json self.entry.path self.entry.start (W.contents result.1) self.entry.said }
+    {
+        let Report {
+            path: _,
+            is_json: _,
+            labels: _,
+            out,
+            err,
+            is_lost: _,
+            is_right,
+            log: _,
+        } = self;
+        (is_right, out, err)
+    }
+
+    /// Says a record. The only error is that of the writer.
+    pub fn state(&mut self, kind: Kind, members: &[Member<'_>]) -> Result<(), Stop>
+        ensures { OnOk result (self.new ≡ saying self.old (states kind (members_said members.now) ∷ [])) }
+    {
+        let note = Note::States(kind, members);
+        self.log = self.log.then(&note);
+        if let Err(error) = write_note(self.path, self.is_json, &note, &mut self.out) {
+            self.is_lost = true;
+            return Err(Stop::Write(error));
+        }
+        Ok(())
+    }
+
+    /// Says what is wrong at a place, after what was said before. The only error is that of the writer; an error of the
+    /// writer for problems is ignored.
+    pub fn problem(&mut self, place: Place, fault: Fault<'_>) -> Result<(), Stop>
+        ensures { OnOk result (self.new ≡ saying self.old (wrong place fault.entry ∷ [])) }
+    {
+        self.log = self.log.then(&Note::Wrong(place, &fault));
+        self.is_right = false;
+        if let Err(error) = self.out.flush() {
+            self.is_lost = true;
+            return Err(Stop::Write(error));
+        }
+        let _ = tell(self.path, &self.labels, place, &fault, &mut self.err);
+        Ok(())
+    }
+
+    /// Returns what was read, or says that it cannot be read. The only error is that of the writer.
+    pub fn readable<T: Drop>(
+        &mut self,
+        place: Place,
+        read: Result<T, ParseError>,
+    ) -> Result<Option<T>, Stop>
+        ensures value { IfOk result (λ value. value ≡ result_ok read) }
+        ensures place { OnOk result (self.new ≡ saying self.old (unread place read)) }
+    {
+        match read {
+            Ok(value) => Ok(Some(value)),
+            Err(error) => {
+                self.problem(place, Fault::Read(error))?;
+                Ok(None)
+            }
+        }
+    }
+}
+
+// Writes what is said, if it is not wrong.
+fn write_note<W: Write>(path: &str, is_json: bool, note: &Note<'_>, out: &mut W) -> io::Result<()>
+    ensures { OnOk result (Appends (W.contents out.old) (W.contents out.new)
+        (told_line is_json path.now (noted note.now))) }
+{
+    match *note {
+        Note::States(kind, members) if is_json => write_named(path, kind, members, out),
+        Note::States(kind, members) => write_row(kind.row(), kind.columns(), members, out),
+        Note::Wrong(_, _) => Ok(()),
+    }
+}
+
+// Writes an object, if the kind of the record has a name.
+fn write_named<W: Write>(
+    path: &str,
+    kind: Kind,
+    members: &[Member<'_>],
+    out: &mut W,
+) -> io::Result<()>
+    ensures { OnOk result (Appends (W.contents out.old) (W.contents out.new)
+        (object_if path.now (kind_name kind) (members_said members.now))) }
+{
+    match kind.name() {
+        Some(name) => write_members(path, name, members, out),
+        None => Ok(()),
+    }
+}
+
+fn write_members<W: Write>(
+    path: &str,
+    name: &str,
+    members: &[Member<'_>],
+    out: &mut W,
+) -> io::Result<()>
+    ensures { OnOk result (Appends (W.contents out.old) (W.contents out.new)
+        (object path.now name.now (members_text (members_said members.now)))) }
+{
+    write_object(path, name, members, out)
+}
+
+// Tells what is wrong, a line with the path of the file.
+fn tell<V: Write>(
+    path: &str,
+    labels: &Labels<'_>,
+    place: Place,
+    fault: &Fault<'_>,
+    err: &mut V,
+) -> io::Result<()> {
+    let path = Escaped(path.as_bytes());
+    let told = Told {
+        place,
+        fault,
+        section: labels.of(place.part),
+    };
+    writeln!(err, "nugwier: {path}: {told}")?;
+    err.flush()
+}

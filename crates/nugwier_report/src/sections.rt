@@ -1,0 +1,101 @@
+//! What is said of sections.
+ghost use Rattle.std.specs.Prelude.{◌≡◌, IfOk, OnOk};
+ghost use Rattle.std.specs.Option.{option_copied};
+ghost use Rattle.nugwier_report.specs.Noted.{members_said};
+ghost use Rattle.nugwier_report.specs.Said.{saying};
+ghost use Rattle.nugwier_report.specs.Sections.{name_read, name_unread, section_members, section_said, sh_type_name};
+
+use crate::json::{Member, Value};
+use crate::kind::Kind;
+use crate::problem::{Item, Part, Place, Stop};
+use crate::report::Report;
+use crate::rows::Row;
+use elf_abi::to_str;
+use elf_parts::section::SectionHeader;
+use elf_parts::string_table::TerminatedStrings;
+use std::io::Write;
+
+/// A section, with its name in these strings, if there are any.
+#[derive(Drop)]
+pub struct SectionRow<'a> {
+    pub names: Option<TerminatedStrings<'a>>,
+}
+
+impl Row for SectionRow<'_> {
+    type Item = SectionHeader;
+
+    ghost said = { λ row number section. section_said row.names number section };
+
+    fn say<W: Write, V: Write>(
+        &self,
+        number: u64,
+        section: &SectionHeader,
+        report: &mut Report<'_, W, V>,
+    ) -> Result<(), Stop> {
+        let name = section_name(&self.names, number, section, report)?;
+        report.state(Kind::Section, &section_members(number, section, name))
+    }
+}
+
+// The name of a section; no name if there are no names.
+fn section_name<'a, W: Write, V: Write>(
+    names: &Option<TerminatedStrings<'a>>,
+    number: u64,
+    section: &SectionHeader,
+    report: &mut Report<'_, W, V>,
+) -> Result<Option<&'a [u8]>, Stop>
+    ensures name { IfOk result (λ name. option_copied name ≡ name_read names.now section.now) }
+    ensures wrong { OnOk result (report.new ≡ saying report.old (name_unread names.now number section.now)) }
+{
+    let Some(names) = names else {
+        return Ok(Some(&[]));
+    };
+    let place = Place {
+        part: Part::Section(number),
+        item: Item::Name,
+    };
+    report.readable(place, names.get_raw(section.sh_name as usize))
+}
+
+fn section_members<'a>(
+    number: u64,
+    section: &SectionHeader,
+    name: Option<&'a [u8]>,
+) -> [Member<'a>; 13]
+    ensures { members_said result ≡ section_members number section.now (option_copied name.entry) }
+{
+    let SectionHeader {
+        sh_name,
+        sh_type,
+        sh_flags,
+        sh_addr,
+        sh_offset,
+        sh_size,
+        sh_link,
+        sh_info,
+        sh_addralign,
+        sh_entsize,
+    } = *section;
+    [
+        ("index", Value::Number(number)),
+        ("sh_name", Value::Number(sh_name as u64)),
+        ("name", Value::Text(name)),
+        ("sh_type", Value::Number(sh_type as u64)),
+        ("sh_type_name", Value::Word(type_name(sh_type))),
+        ("sh_flags", Value::Number(sh_flags)),
+        ("sh_addr", Value::Number(sh_addr)),
+        ("sh_offset", Value::Number(sh_offset)),
+        ("sh_size", Value::Number(sh_size)),
+        ("sh_link", Value::Number(sh_link as u64)),
+        ("sh_info", Value::Number(sh_info as u64)),
+        ("sh_addralign", Value::Number(sh_addralign)),
+        ("sh_entsize", Value::Number(sh_entsize)),
+    ]
+}
+
+#[tactic(auto, unfolding(crate::specs::Sections::sh_type_name))]
+fn type_name(sh_type: u32) -> Option<&'static str>
+    ensures { option_copied result ≡ sh_type_name sh_type }
+{
+    to_str::sh_type_to_str(sh_type)
+}

@@ -1,0 +1,386 @@
+//! What is said of symbols.
+ghost use Rattle.std.specs.Prelude.{◌≡◌, IfOk, OnOk};
+ghost use Rattle.std.specs.Option.{option_copied, option_map};
+ghost use Rattle.std.specs.Result.{result_ok};
+ghost use Rattle.elf_records.specs.StringTable.{string_at};
+ghost use Rattle.nugwier_report.specs.Noted.{content_of, members_said};
+ghost use Rattle.nugwier_report.specs.Said.{saying, unread};
+ghost use Rattle.nugwier_report.specs.Symbols.{form_view, is_export, is_listed, letter_in, letter_kind, letter_of};
+ghost use Rattle.nugwier_report.specs.Symbols.{section_letter, shown_letter, st_bind_name, st_shndx_name, st_type_name};
+ghost use Rattle.nugwier_report.specs.Symbols.{st_visibility_name, symbol_kind, symbol_members, symbol_said};
+ghost use Rattle.nugwier_report.specs.Symbols.{table_name};
+ghost use Rattle.nugwier_report.specs.Symbols.{undefined_letter, version_default, version_known, version_name};
+ghost use Rattle.nugwier_report.specs.Symbols.{version_read, weak_letter};
+ghost use Rattle.nugwier_report.specs.Versions.{version_view};
+ghost use Rattle.nugwier_report.specs.declared.problem.Item.TheVariants.{SymbolName, SymbolVersion};
+
+use crate::json::{Member, Value};
+use crate::kind::Kind;
+use crate::problem::{Fault, Item, Part, Place, Stop};
+use crate::report::Report;
+use crate::rows::Row;
+use crate::versions::{ShownVersion, shown_version};
+use elf_abi::{abi, to_str};
+use elf_parts::endian::EndianParse;
+use elf_parts::file::Class;
+use elf_parts::gnu_symver::SymbolVersions;
+use elf_parts::section::SectionHeader;
+use elf_parts::string_table::TerminatedStrings;
+use elf_parts::symbol::Symbol;
+use std::io::Write;
+use std::marker::PhantomData;
+
+/// What the names and the versions of symbols are read from.
+#[derive(Drop)]
+pub struct Names<'a, E: EndianParse, V: SymbolVersions<E> + Drop> {
+    /// The part of the file that has the symbols.
+    pub part: Part,
+    pub strings: TerminatedStrings<'a>,
+    /// The versions, if the file has any.
+    pub versions: Option<V>,
+    pub order: PhantomData<E>,
+}
+
+impl<'a, E: EndianParse, V: SymbolVersions<E> + Drop> Names<'a, E, V> {
+    // The name of a symbol. It is a problem if it cannot be read.
+    fn name<W: Write, P: Write>(
+        &self,
+        number: u64,
+        symbol: &Symbol,
+        report: &mut Report<'_, W, P>,
+    ) -> Result<Option<&'a [u8]>, Stop>
+        ensures name { IfOk result (λ name. option_copied name
+            ≡ result_ok (string_at self.now.strings symbol.now.st_name)) }
+        ensures wrong { OnOk result (report.new ≡ saying report.old
+            (unread (record { part = self.now.part; item = SymbolName number })
+            (string_at self.now.strings symbol.now.st_name))) }
+    {
+        let place = Place {
+            part: self.part,
+            item: Item::SymbolName(number),
+        };
+        report.readable(place, self.strings.get_raw(symbol.st_name as usize))
+    }
+
+    // The version of a symbol. It is a problem if it cannot be read.
+    fn version<W: Write, P: Write>(
+        &self,
+        number: u64,
+        symbol: &Symbol,
+        report: &mut Report<'_, W, P>,
+    ) -> Result<Option<ShownVersion<'_>>, Stop>
+        ensures version { IfOk result (λ version. option_map version_view version
+            ≡ version_known (version_read (option_map V.versions self.now.versions) number symbol.now)) }
+        ensures wrong { OnOk result (report.new ≡ saying report.old
+            (unread (record { part = self.now.part; item = SymbolVersion number })
+            (version_read (option_map V.versions self.now.versions) number symbol.now))) }
+    {
+        let Some(versions) = &self.versions else {
+            return Ok(None);
+        };
+        match shown_version::<E, V>(versions, number as usize, symbol) {
+            Ok(version) => Ok(version),
+            Err(error) => {
+                let place = Place {
+                    part: self.part,
+                    item: Item::SymbolVersion(number),
+                };
+                report.problem(place, Fault::Read(error))?;
+                Ok(None)
+            }
+        }
+    }
+}
+
+/// What a row of a symbol shows.
+#[derive(Clone, Copy, Debug)]
+pub enum Form<'a> {
+    /// All its fields.
+    Fields,
+    /// Its value and a letter, in the manner of `nm`; nothing of the first symbol, which is none.
+    Letter {
+        class: Class,
+        /// The sections that define symbols.
+        sections: &'a [SectionHeader],
+    },
+    /// Its name with its version alone, if it is a function that the file defines for others.
+    Export,
+}
+
+impl Form<'_> {
+    // Whether a symbol has a row.
+    fn lists(self, number: u64, symbol: &Symbol) -> bool
+        ensures { result ≡ is_listed (form_view self.entry) number symbol.now }
+    {
+        match self {
+            Form::Fields => true,
+            Form::Letter { .. } => number != 0,
+            Form::Export => is_export(symbol),
+        }
+    }
+
+    // The kind of its record.
+    fn kind(self, symbol: &Symbol) -> Kind
+        ensures { result ≡ symbol_kind (form_view self.entry) symbol.now }
+    {
+        match self {
+            Form::Fields => Kind::Symbol,
+            Form::Letter { class, .. } => letter_kind(class, symbol.is_undefined()),
+            Form::Export => Kind::Export,
+        }
+    }
+
+    // Its letter, if rows show one.
+    fn letter(self, symbol: &Symbol) -> Option<char>
+        ensures { result ≡ shown_letter (form_view self.entry) symbol.now }
+    {
+        match self {
+            Form::Letter { sections, .. } => Some(letter_of(sections, symbol)),
+            Form::Fields | Form::Export => None,
+        }
+    }
+}
+
+fn letter_kind(class: Class, is_undefined: bool) -> Kind
+    ensures { result ≡ letter_kind class is_undefined }
+{
+    match (class, is_undefined) {
+        (Class::ELF32, true) => Kind::Undefined32,
+        (Class::ELF64, true) => Kind::Undefined64,
+        (Class::ELF32, false) => Kind::Symbol32,
+        (Class::ELF64, false) => Kind::Symbol64,
+    }
+}
+
+/// What is said of a symbol.
+#[derive(Drop)]
+pub struct SymbolRow<'a, E: EndianParse, V: SymbolVersions<E> + Drop> {
+    pub names: Names<'a, E, V>,
+    pub form: Form<'a>,
+}
+
+impl<'a, E: EndianParse, V: SymbolVersions<E> + Drop> Row for SymbolRow<'a, E, V> {
+    type Item = Symbol;
+
+    ghost said = { λ row number symbol. symbol_said (form_view row.form) row.names.part row.names.strings
+        (option_map V.versions row.names.versions) number symbol };
+
+    fn say<W: Write, P: Write>(
+        &self,
+        number: u64,
+        symbol: &Symbol,
+        report: &mut Report<'_, W, P>,
+    ) -> Result<(), Stop> {
+        if !self.form.lists(number, symbol) {
+            return Ok(());
+        }
+        let name = self.names.name(number, symbol, report)?;
+        let version = self.names.version(number, symbol, report)?;
+        let kind = self.form.kind(symbol);
+        let letter = self.form.letter(symbol);
+        let members = symbol_members(self.names.part, number, symbol, name, version, letter);
+        report.state(kind, &members)
+    }
+}
+
+fn symbol_members<'a>(
+    part: Part,
+    number: u64,
+    symbol: &Symbol,
+    name: Option<&'a [u8]>,
+    version: Option<ShownVersion<'a>>,
+    letter: Option<char>,
+) -> [Member<'a>; 19]
+    ensures { members_said result ≡ symbol_members part number symbol.now (option_copied name.entry)
+        (option_map version_view version.entry) letter }
+{
+    let Symbol {
+        st_name,
+        st_shndx,
+        st_info,
+        st_other,
+        st_value,
+        st_size,
+    } = *symbol;
+    let (binding, kind, visibility) = (symbol.st_bind(), symbol.st_symtype(), symbol.st_vis());
+    [
+        ("table", Value::Word(table_name(part))),
+        ("index", Value::Number(number)),
+        ("st_name", Value::Number(st_name as u64)),
+        ("name", Value::Text(name)),
+        ("st_info", Value::Number(st_info as u64)),
+        ("st_bind", Value::Number(binding as u64)),
+        ("st_bind_name", Value::Word(bind_name(binding))),
+        ("st_type", Value::Number(kind as u64)),
+        ("st_type_name", Value::Word(type_name(kind))),
+        ("st_other", Value::Number(st_other as u64)),
+        ("st_visibility", Value::Number(visibility as u64)),
+        (
+            "st_visibility_name",
+            Value::Word(visibility_name(visibility)),
+        ),
+        ("st_shndx", Value::Number(st_shndx as u64)),
+        ("st_shndx_name", Value::Word(special_section(st_shndx))),
+        ("st_value", Value::Number(st_value)),
+        ("st_size", Value::Number(st_size)),
+        ("version", Value::Text(version_name(version))),
+        ("version_is_default", default_value(version)),
+        ("letter", Value::Character(letter)),
+    ]
+}
+
+// The name of a version, if there is one.
+fn version_name<'a>(version: Option<ShownVersion<'a>>) -> Option<&'a [u8]>
+    ensures { option_copied result ≡ version_name (option_map version_view version.entry) }
+{
+    match version {
+        Some(version) => Some(version.name.as_bytes()),
+        None => None,
+    }
+}
+
+// Whether a version is the default one, if there is one.
+fn default_value(version: Option<ShownVersion<'_>>) -> Value<'static>
+    ensures { content_of result ≡ version_default (option_map version_view version.entry) }
+{
+    match version {
+        Some(version) => Value::Flag(version.is_default),
+        None => Value::Null,
+    }
+}
+
+// The type of the section that has a table of symbols.
+fn table_name(part: Part) -> Option<&'static str>
+    ensures { option_copied result ≡ table_name part }
+{
+    match part {
+        Part::Symbols => Some("SHT_SYMTAB"),
+        Part::DynamicSymbols => Some("SHT_DYNSYM"),
+        _ => None,
+    }
+}
+
+// The name of a section number that is no section.
+fn special_section(st_shndx: u16) -> Option<&'static str>
+    ensures { option_copied result ≡ st_shndx_name st_shndx }
+{
+    match st_shndx {
+        abi::SHN_UNDEF => Some("SHN_UNDEF"),
+        abi::SHN_ABS => Some("SHN_ABS"),
+        abi::SHN_COMMON => Some("SHN_COMMON"),
+        _ => None,
+    }
+}
+
+#[tactic(auto, unfolding(crate::specs::Symbols::st_bind_name))]
+fn bind_name(st_bind: u8) -> Option<&'static str>
+    ensures { option_copied result ≡ st_bind_name st_bind }
+{
+    to_str::st_bind_to_str(st_bind)
+}
+
+#[tactic(auto, unfolding(crate::specs::Symbols::st_type_name))]
+fn type_name(st_symtype: u8) -> Option<&'static str>
+    ensures { option_copied result ≡ st_type_name st_symtype }
+{
+    to_str::st_symtype_to_str(st_symtype)
+}
+
+#[tactic(auto, unfolding(crate::specs::Symbols::st_visibility_name))]
+fn visibility_name(st_vis: u8) -> Option<&'static str>
+    ensures { option_copied result ≡ st_visibility_name st_vis }
+{
+    to_str::st_vis_to_str(st_vis)
+}
+
+// The letter of a symbol, as `nm` has it: in lower case if the symbol is local.
+fn letter_of(sections: &[SectionHeader], symbol: &Symbol) -> char
+    ensures { result ≡ letter_of sections.now symbol.now }
+{
+    if symbol.st_shndx == abi::SHN_COMMON {
+        return 'C';
+    }
+    if symbol.is_undefined() {
+        return undefined_letter(symbol);
+    }
+    if symbol.st_symtype() == abi::STT_GNU_IFUNC {
+        return 'i';
+    }
+    if symbol.st_bind() == abi::STB_WEAK {
+        return weak_letter(symbol);
+    }
+    if symbol.st_bind() == abi::STB_GNU_UNIQUE {
+        return 'u';
+    }
+    let letter = section_letter(sections, symbol.st_shndx);
+    if symbol.st_bind() == abi::STB_LOCAL {
+        letter
+    } else {
+        letter.to_ascii_uppercase()
+    }
+}
+
+fn undefined_letter(symbol: &Symbol) -> char
+    ensures { result ≡ undefined_letter symbol.now }
+{
+    if symbol.st_bind() != abi::STB_WEAK {
+        'U'
+    } else if symbol.st_symtype() == abi::STT_OBJECT {
+        'v'
+    } else {
+        'w'
+    }
+}
+
+fn weak_letter(symbol: &Symbol) -> char
+    ensures { result ≡ weak_letter symbol.now }
+{
+    if symbol.st_symtype() == abi::STT_OBJECT {
+        'V'
+    } else {
+        'W'
+    }
+}
+
+// The letter of what is in a section, or of an absolute value.
+fn section_letter(sections: &[SectionHeader], st_shndx: u16) -> char
+    ensures { result ≡ section_letter sections.now st_shndx }
+{
+    if st_shndx == abi::SHN_ABS {
+        return 'a';
+    }
+    match sections.get(st_shndx as usize) {
+        Some(section) => letter_in(section),
+        None => '?',
+    }
+}
+
+// The letter of a section: of code, what is not loaded, data that is not in the file, data that can be written, and
+// data that cannot.
+fn letter_in(section: &SectionHeader) -> char
+    ensures { result ≡ letter_in section.now }
+{
+    let flags = section.sh_flags;
+    if flags & abi::SHF_EXECINSTR as u64 != 0 {
+        't'
+    } else if flags & abi::SHF_ALLOC as u64 == 0 {
+        'n'
+    } else if section.sh_type == abi::SHT_NOBITS {
+        'b'
+    } else if flags & abi::SHF_WRITE as u64 != 0 {
+        'd'
+    } else {
+        'r'
+    }
+}
+
+// Whether the symbol is a function that this file defines and other files can call. A function may be chosen when the
+// file is loaded (`STT_GNU_IFUNC`).
+fn is_export(symbol: &Symbol) -> bool
+    ensures { result ≡ is_export symbol.now }
+{
+    let kind = symbol.st_symtype();
+    !symbol.is_undefined()
+        && symbol.st_bind() != abi::STB_LOCAL
+        && (kind == abi::STT_FUNC || kind == abi::STT_GNU_IFUNC)
+}

@@ -1,0 +1,692 @@
+//! Rows for people: a text for each record, by the columns of its kind.
+ghost use Rattle.std.specs.Prelude.{◌≡◌, ◌+◌, ◌-◌, ◌*◌, ◌/◌, OnOk, drop, length, replicate, take};
+ghost use Rattle.std.specs.Fmt.{decimal};
+ghost use Rattle.std.specs.Io.KnownBytes.{Appends};
+ghost use Rattle.std.specs.List.{after_first, before_first, flat_map};
+ghost use Rattle.std.specs.Option.{option_copied};
+ghost use Rattle.elf_lines.specs.Adding.{Adds};
+ghost use Rattle.nugwier_report.specs.Noted.{content_of, members_said};
+ghost use Rattle.nugwier_report.specs.Text.{all_digits, ascii, ascii_text, dump, dump_characters, dump_columns};
+ghost use Rattle.nugwier_report.specs.Text.{dump_group, dump_line, dump_offset};
+ghost use Rattle.nugwier_report.specs.Text.{bytes_in, cell, is_mark, letters_of, character_in, content_at, flag_in};
+ghost use Rattle.nugwier_report.specs.Text.{number_in, row_text};
+ghost use Rattle.nugwier_report.specs.Text.{other_flags, segment_flags, shown, shown_character, shown_decimal};
+ghost use Rattle.nugwier_report.specs.Text.{shown_depth, shown_digits16};
+ghost use Rattle.nugwier_report.specs.Text.{shown_digits8, shown_hexadecimal, nameless_signed, shown_index, shown_name};
+ghost use Rattle.nugwier_report.specs.Text.{shown_nameless, shown_order, wide};
+ghost use Rattle.nugwier_report.specs.Text.{left_of, right_of, section_flags, section_letter, segment_letter};
+ghost use Rattle.nugwier_report.specs.Text.{shown_rest, shown_signed, shown_text};
+ghost use Rattle.nugwier_report.specs.Text.{shown_version, signed_in, text_in, with_sign, word_in};
+
+use crate::escape::add_shown;
+use crate::json::{Member, Value};
+use elf_lines::line_buffer::LineBuffer;
+use std::io;
+use std::io::Write;
+
+/// How a member is shown for people. A place is that of another member of the record.
+#[derive(Debug, Clone, Copy)]
+pub enum Shown {
+    /// Not at all: the column is its text alone.
+    Nothing,
+    /// A number in decimal, to the right of a column of this width.
+    Decimal(usize),
+    /// A number in hexadecimal, after `0x`.
+    Hexadecimal,
+    /// A number as 8 hexadecimal digits, or as 16 if 8 do not hold it.
+    Digits8,
+    /// A number as 16 hexadecimal digits.
+    Digits16,
+    /// A number with its sign.
+    Signed,
+    /// A name, to the left of a column of this width; of a value without a name the number at this place.
+    Name(usize, usize),
+    /// A name without its first bytes, as many as these.
+    Rest(usize),
+    /// What a special section number stands for, without `SHN_`, or the number at this place; to the right of a column
+    /// of this width.
+    Index(usize, usize),
+    /// The byte order that a number of `EI_DATA` stands for.
+    Order,
+    /// A text of the file, escaped, or a mark that it cannot be read.
+    Text,
+    /// A version after its symbol: `@NAME`, or `@@NAME` if the flag at this place says that it is the default one;
+    /// nothing of a symbol without a version.
+    Version(usize),
+    /// A character.
+    Character,
+    /// The flags of a section or of a segment, as letters.
+    SectionFlags,
+    SegmentFlags,
+    /// Bytes, as two digits each.
+    Pairs,
+    /// Two spaces for each level of a depth.
+    Depth,
+    /// Bytes, 16 in a line: the offset of the first, their digits, and the characters of ASCII that they are.
+    Dump,
+}
+
+/// A column: the place of the member that it shows, and how.
+#[derive(Debug, Clone, Copy)]
+pub struct Column(pub usize, pub Shown);
+
+/// Writes the row of a record: this text, with a column in the place of each `%`.
+pub fn write_row<W: Write>(
+    row: &str,
+    columns: &[Column],
+    members: &[Member<'_>],
+    out: &mut W,
+) -> io::Result<()>
+    ensures { OnOk result (Appends (W.contents out.old) (W.contents out.new)
+        (row_text (members_said members.now) row.now columns.now)) }
+{
+    let mut lines = LineBuffer::empty();
+    add_cells(row, columns, members, &mut lines, out);
+    lines.end(out)
+}
+
+fn add_cells<W: Write>(
+    row: &str,
+    columns: &[Column],
+    members: &[Member<'_>],
+    lines: &mut LineBuffer,
+    out: &mut W,
+)
+    ensures { Adds (W.contents out.old) lines.old (W.contents out.new) lines.new
+        (row_text (members_said members.now) row.now columns.now) }
+{
+    let mut rest = row;
+    for column in columns {
+        let (before, after) = at_mark(rest);
+        lines.text(before, out);
+        add_cell(*column, members, lines, out);
+        rest = after;
+    }
+    lines.text(rest, out);
+}
+
+// The text before the first `%`, and the text after it.
+fn at_mark(row: &str) -> (&str, &str)
+    ensures before { result.0.now ≡ before_first is_mark row.now }
+    ensures after { result.1.now ≡ after_first is_mark row.now }
+{
+    match row.split_once('%') {
+        Some(parts) => parts,
+        None => (row, ""),
+    }
+}
+
+fn add_cell<W: Write>(column: Column, members: &[Member<'_>], lines: &mut LineBuffer, out: &mut W)
+    ensures { Adds (W.contents out.old) lines.old (W.contents out.new) lines.new
+        (cell (members_said members.now) column) }
+{
+    let value = value_at(members, column.0);
+    add_value(column.1, value, members, lines, out);
+}
+
+// The value of the member at a place.
+fn value_at<'a>(members: &[Member<'a>], place: usize) -> Value<'a>
+    ensures { content_of result ≡ content_at (members_said members.now) place }
+{
+    match members.get(place) {
+        Some(member) => member.1,
+        None => Value::Null,
+    }
+}
+
+fn add_value<W: Write>(
+    form: Shown,
+    value: Value<'_>,
+    members: &[Member<'_>],
+    lines: &mut LineBuffer,
+    out: &mut W,
+)
+    ensures { Adds (W.contents out.old) lines.old (W.contents out.new) lines.new
+        (shown form (content_of value.entry) (members_said members.now)) }
+{
+    match form {
+        Shown::Nothing => lines.text("", out),
+        Shown::Decimal(width) => add_decimal(width, number_in(value), lines, out),
+        Shown::Hexadecimal => add_hexadecimal(number_in(value), lines, out),
+        Shown::Digits8 => add_digits8(number_in(value), lines, out),
+        Shown::Digits16 => add_digits16(number_in(value), lines, out),
+        Shown::Signed => add_signed(value, lines, out),
+        Shown::Name(width, number) => {
+            let number = value_at(members, number);
+            add_name(width, word_in(value), number, lines, out);
+        }
+        Shown::Rest(count) => add_rest(count, word_in(value), lines, out),
+        Shown::Index(width, number) => {
+            let number = number_in(value_at(members, number));
+            add_index(width, word_in(value), number, lines, out);
+        }
+        Shown::Order => add_order(number_in(value), lines, out),
+        Shown::Text => add_text(text_in(value), lines, out),
+        Shown::Version(flag) => {
+            let is_default = flag_in(value_at(members, flag));
+            add_version(text_in(value), is_default, lines, out);
+        }
+        Shown::Character => add_character(character_in(value), lines, out),
+        Shown::SectionFlags => add_section_flags(number_in(value), lines, out),
+        Shown::SegmentFlags => add_segment_flags(number_in(value), lines, out),
+        Shown::Pairs => lines.bytes("", bytes_in(value), out),
+        Shown::Depth => add_depth(number_in(value), lines, out),
+        Shown::Dump => add_dump(bytes_in(value), lines, out),
+    }
+}
+
+// ---- the values of members, if they are of this type
+
+fn number_in(value: Value<'_>) -> Option<u64>
+    ensures { result ≡ number_in (content_of value.entry) }
+{
+    match value {
+        Value::Number(n) => Some(n),
+        Value::Null | Value::Flag(_) | Value::Signed(_) | Value::Word(_) => None,
+        Value::Character(_) | Value::Text(_) | Value::Bytes(_) => None,
+    }
+}
+
+fn signed_in(value: Value<'_>) -> Option<i64>
+    ensures { result ≡ signed_in (content_of value.entry) }
+{
+    match value {
+        Value::Signed(n) => Some(n),
+        Value::Null | Value::Flag(_) | Value::Number(_) | Value::Word(_) => None,
+        Value::Character(_) | Value::Text(_) | Value::Bytes(_) => None,
+    }
+}
+
+fn word_in(value: Value<'_>) -> Option<&'static str>
+    ensures { option_copied result ≡ word_in (content_of value.entry) }
+{
+    match value {
+        Value::Word(word) => word,
+        Value::Null | Value::Flag(_) | Value::Signed(_) | Value::Number(_) => None,
+        Value::Character(_) | Value::Text(_) | Value::Bytes(_) => None,
+    }
+}
+
+fn text_in<'a>(value: Value<'a>) -> Option<&'a [u8]>
+    ensures { option_copied result ≡ text_in (content_of value.entry) }
+{
+    match value {
+        Value::Text(text) => text,
+        Value::Null | Value::Flag(_) | Value::Signed(_) | Value::Number(_) => None,
+        Value::Character(_) | Value::Word(_) | Value::Bytes(_) => None,
+    }
+}
+
+fn flag_in(value: Value<'_>) -> bool
+    ensures { result ≡ flag_in (content_of value.entry) }
+{
+    match value {
+        Value::Flag(flag) => flag,
+        Value::Null | Value::Text(_) | Value::Signed(_) | Value::Number(_) => false,
+        Value::Character(_) | Value::Word(_) | Value::Bytes(_) => false,
+    }
+}
+
+fn character_in(value: Value<'_>) -> Option<char>
+    ensures { result ≡ character_in (content_of value.entry) }
+{
+    match value {
+        Value::Character(character) => character,
+        Value::Null | Value::Text(_) | Value::Signed(_) | Value::Number(_) => None,
+        Value::Flag(_) | Value::Word(_) | Value::Bytes(_) => None,
+    }
+}
+
+fn bytes_in<'a>(value: Value<'a>) -> &'a [u8]
+    ensures { result.now ≡ bytes_in (content_of value.entry) }
+{
+    match value {
+        Value::Bytes(bytes) => bytes,
+        Value::Null | Value::Text(_) | Value::Signed(_) | Value::Number(_) => &[],
+        Value::Flag(_) | Value::Word(_) | Value::Character(_) => &[],
+    }
+}
+
+// ---- numbers
+
+fn add_decimal<W: Write>(width: usize, n: Option<u64>, lines: &mut LineBuffer, out: &mut W)
+    ensures { Adds (W.contents out.old) lines.old (W.contents out.new) lines.new (shown_decimal width n) }
+{
+    match n {
+        Some(n) => {
+            add_spaces(width.saturating_sub(decimal_length(n)), lines, out);
+            lines.decimal("", n, out);
+        }
+        None => lines.text("-", out),
+    }
+}
+
+fn add_hexadecimal<W: Write>(n: Option<u64>, lines: &mut LineBuffer, out: &mut W)
+    ensures { Adds (W.contents out.old) lines.old (W.contents out.new) lines.new (shown_hexadecimal n) }
+{
+    match n {
+        Some(n) => lines.hex("", n, out),
+        None => lines.text("-", out),
+    }
+}
+
+fn add_digits8<W: Write>(n: Option<u64>, lines: &mut LineBuffer, out: &mut W)
+    ensures { Adds (W.contents out.old) lines.old (W.contents out.new) lines.new (shown_digits8 n) }
+{
+    match n {
+        Some(n) => add_wide(n, lines, out),
+        None => lines.text("-", out),
+    }
+}
+
+// 8 digits, or 16 if 8 do not hold the number.
+fn add_wide<W: Write>(n: u64, lines: &mut LineBuffer, out: &mut W)
+    ensures { Adds (W.contents out.old) lines.old (W.contents out.new) lines.new (wide n) }
+{
+    if n < 0x1_0000_0000 {
+        lines.bytes("", &(n as u32).to_be_bytes(), out);
+    } else {
+        add_all_digits(n, lines, out);
+    }
+}
+
+fn add_digits16<W: Write>(n: Option<u64>, lines: &mut LineBuffer, out: &mut W)
+    ensures { Adds (W.contents out.old) lines.old (W.contents out.new) lines.new (shown_digits16 n) }
+{
+    match n {
+        Some(n) => add_all_digits(n, lines, out),
+        None => lines.text("-", out),
+    }
+}
+
+fn add_all_digits<W: Write>(n: u64, lines: &mut LineBuffer, out: &mut W)
+    ensures { Adds (W.contents out.old) lines.old (W.contents out.new) lines.new (all_digits n) }
+{
+    lines.bytes("", &n.to_be_bytes(), out);
+}
+
+fn add_signed<W: Write>(value: Value<'_>, lines: &mut LineBuffer, out: &mut W)
+    ensures { Adds (W.contents out.old) lines.old (W.contents out.new) lines.new
+        (shown_signed (signed_in (content_of value.entry))) }
+{
+    match signed_in(value) {
+        Some(n) => add_with_sign(n, lines, out),
+        None => lines.text("-", out),
+    }
+}
+
+fn add_with_sign<W: Write>(n: i64, lines: &mut LineBuffer, out: &mut W)
+    ensures { Adds (W.contents out.old) lines.old (W.contents out.new) lines.new (with_sign n) }
+{
+    if n < 0 {
+        lines.decimal("-", n.unsigned_abs(), out);
+    } else {
+        lines.decimal("+", n.unsigned_abs(), out);
+    }
+}
+
+fn add_depth<W: Write>(n: Option<u64>, lines: &mut LineBuffer, out: &mut W)
+    ensures { Adds (W.contents out.old) lines.old (W.contents out.new) lines.new
+        (shown_depth n) }
+{
+    match n {
+        Some(n) => {
+            add_spaces(n as usize, lines, out);
+            add_spaces(n as usize, lines, out);
+        }
+        None => lines.text("", out),
+    }
+}
+
+// ---- names
+
+fn add_name<W: Write>(
+    width: usize,
+    name: Option<&'static str>,
+    number: Value<'_>,
+    lines: &mut LineBuffer,
+    out: &mut W,
+)
+    ensures { Adds (W.contents out.old) lines.old (W.contents out.new) lines.new
+        (shown_name width (option_copied name.entry) (content_of number.entry)) }
+{
+    match name {
+        Some(name) => add_left(width, name, lines, out),
+        None => add_nameless(number, lines, out),
+    }
+}
+
+// A text to the left of a column.
+fn add_left<W: Write>(width: usize, text: &str, lines: &mut LineBuffer, out: &mut W)
+    ensures { Adds (W.contents out.old) lines.old (W.contents out.new) lines.new (left_of width text.now) }
+{
+    lines.text(text, out);
+    add_spaces(width.saturating_sub(text.len()), lines, out);
+}
+
+// A number that has no name.
+fn add_nameless<W: Write>(number: Value<'_>, lines: &mut LineBuffer, out: &mut W)
+    ensures { Adds (W.contents out.old) lines.old (W.contents out.new) lines.new
+        (shown_nameless (content_of number.entry)) }
+{
+    match number {
+        Value::Number(n) => lines.hex("", n, out),
+        Value::Signed(n) => add_nameless_signed(n, lines, out),
+        Value::Null | Value::Flag(_) | Value::Word(_) => lines.text("-", out),
+        Value::Character(_) | Value::Text(_) | Value::Bytes(_) => lines.text("-", out),
+    }
+}
+
+fn add_nameless_signed<W: Write>(n: i64, lines: &mut LineBuffer, out: &mut W)
+    ensures { Adds (W.contents out.old) lines.old (W.contents out.new) lines.new (nameless_signed n) }
+{
+    if n < 0 {
+        lines.signed("", n, out);
+    } else {
+        lines.hex("", n.unsigned_abs(), out);
+    }
+}
+
+fn add_rest<W: Write>(count: usize, name: Option<&'static str>, lines: &mut LineBuffer, out: &mut W)
+    ensures { Adds (W.contents out.old) lines.old (W.contents out.new) lines.new
+        (shown_rest count (option_copied name.entry)) }
+{
+    match name {
+        Some(name) => add_shown(rest_of(count, name.as_bytes()), lines, out),
+        None => lines.text("-", out),
+    }
+}
+
+// The bytes after the first ones.
+fn rest_of(count: usize, bytes: &[u8]) -> &[u8]
+    ensures { result.now ≡ drop count bytes.now }
+{
+    match bytes.get(count..) {
+        Some(rest) => rest,
+        None => &[],
+    }
+}
+
+fn add_index<W: Write>(
+    width: usize,
+    name: Option<&'static str>,
+    number: Option<u64>,
+    lines: &mut LineBuffer,
+    out: &mut W,
+)
+    ensures { Adds (W.contents out.old) lines.old (W.contents out.new) lines.new
+        (shown_index width (option_copied name.entry) number) }
+{
+    match name {
+        Some(name) => add_right(width, rest_of(4, name.as_bytes()), lines, out),
+        None => add_decimal(width, number, lines, out),
+    }
+}
+
+// A text to the right of a column.
+fn add_right<W: Write>(width: usize, text: &[u8], lines: &mut LineBuffer, out: &mut W)
+    ensures { Adds (W.contents out.old) lines.old (W.contents out.new) lines.new (right_of width text.now) }
+{
+    add_spaces(width.saturating_sub(text.len()), lines, out);
+    add_shown(text, lines, out);
+}
+
+fn add_order<W: Write>(n: Option<u64>, lines: &mut LineBuffer, out: &mut W)
+    ensures { Adds (W.contents out.old) lines.old (W.contents out.new) lines.new (shown_order n) }
+{
+    match n {
+        Some(1) => lines.text("little endian", out),
+        _ => lines.text("big endian", out),
+    }
+}
+
+// ---- texts of the file
+
+fn add_text<W: Write>(text: Option<&[u8]>, lines: &mut LineBuffer, out: &mut W)
+    ensures { Adds (W.contents out.old) lines.old (W.contents out.new) lines.new
+        (shown_text (option_copied text.entry)) }
+{
+    match text {
+        Some(text) => add_shown(text, lines, out),
+        None => lines.text("<unreadable>", out),
+    }
+}
+
+fn add_version<W: Write>(name: Option<&[u8]>, is_default: bool, lines: &mut LineBuffer, out: &mut W)
+    ensures { Adds (W.contents out.old) lines.old (W.contents out.new) lines.new
+        (shown_version (option_copied name.entry) is_default) }
+{
+    match name {
+        Some(name) => {
+            lines.text(if is_default { "@@" } else { "@" }, out);
+            add_shown(name, lines, out);
+        }
+        None => lines.text("", out),
+    }
+}
+
+fn add_character<W: Write>(character: Option<char>, lines: &mut LineBuffer, out: &mut W)
+    ensures { Adds (W.contents out.old) lines.old (W.contents out.new) lines.new (shown_character character) }
+{
+    match character {
+        Some(character) => {
+            let mut room = [0; 4];
+            lines.text(character.encode_utf8(&mut room), out);
+        }
+        None => lines.text("-", out),
+    }
+}
+
+// ---- bytes, 16 in a line
+
+// The bytes in a line.
+const LINE: usize = 16;
+
+#[tactic(auto, using(crate::proofs::Dump::line_begins, crate::proofs::Dump::no_lines))]
+fn add_dump<W: Write>(bytes: &[u8], lines: &mut LineBuffer, out: &mut W)
+    ensures { Adds (W.contents out.old) lines.old (W.contents out.new) lines.new (dump bytes.now) }
+{
+    let count = bytes.len().div_ceil(LINE);
+    let mut line = 0;
+    while line < count {
+        let offset = LINE * line;
+        let part = first_of(LINE, rest_of(offset, bytes));
+        add_line(offset as u64, part, lines, out);
+        line += 1;
+    }
+}
+
+// The first bytes, or all if there are not as many.
+fn first_of(count: usize, bytes: &[u8]) -> &[u8]
+    ensures { result.now ≡ take count bytes.now }
+{
+    match bytes.get(..count) {
+        Some(first) => first,
+        None => bytes,
+    }
+}
+
+fn add_line<W: Write>(offset: u64, line: &[u8], lines: &mut LineBuffer, out: &mut W)
+    ensures { Adds (W.contents out.old) lines.old (W.contents out.new) lines.new (dump_line offset line.now) }
+{
+    add_offset(offset, lines, out);
+    add_columns(line, lines, out);
+    add_dump_characters(line, lines, out);
+}
+
+#[tactic(auto, unfolding(crate::specs::Text::dump_offset))]
+fn add_offset<W: Write>(offset: u64, lines: &mut LineBuffer, out: &mut W)
+    ensures { Adds (W.contents out.old) lines.old (W.contents out.new) lines.new (dump_offset offset) }
+{
+    lines.text("  ", out);
+    add_wide(offset, lines, out);
+    lines.text("  ", out);
+}
+
+#[tactic(auto, unfolding(crate::specs::Text::dump_characters))]
+fn add_dump_characters<W: Write>(line: &[u8], lines: &mut LineBuffer, out: &mut W)
+    ensures { Adds (W.contents out.old) lines.old (W.contents out.new) lines.new (dump_characters line.now) }
+{
+    lines.text(" ", out);
+    add_ascii_text(line, lines, out);
+    lines.text("\n", out);
+}
+
+// The digits of the bytes of a line, in four groups.
+#[tactic(auto, unfolding(crate::specs::Text::dump_columns))]
+fn add_columns<W: Write>(line: &[u8], lines: &mut LineBuffer, out: &mut W)
+    ensures { Adds (W.contents out.old) lines.old (W.contents out.new) lines.new (dump_columns line.now) }
+{
+    add_group(line, lines, out);
+    add_group(rest_of(4, line), lines, out);
+    add_group(rest_of(8, line), lines, out);
+    add_group(rest_of(12, line), lines, out);
+}
+
+// The digits of the first four bytes, to the left of a column, and a space.
+fn add_group<W: Write>(bytes: &[u8], lines: &mut LineBuffer, out: &mut W)
+    ensures { Adds (W.contents out.old) lines.old (W.contents out.new) lines.new (dump_group bytes.now) }
+{
+    lines.bytes("", first_of(4, bytes), out);
+    add_spaces(2 * 4usize.saturating_sub(bytes.len()), lines, out);
+    lines.text(" ", out);
+}
+
+fn add_ascii_text<W: Write>(bytes: &[u8], lines: &mut LineBuffer, out: &mut W)
+    ensures { Adds (W.contents out.old) lines.old (W.contents out.new) lines.new (ascii_text bytes.now) }
+{
+    for byte in bytes {
+        add_ascii(*byte, lines, out);
+    }
+}
+
+#[tactic(auto, using(std::proofs::lemmas::Str::encode_ascii))]
+fn add_ascii<W: Write>(byte: u8, lines: &mut LineBuffer, out: &mut W)
+    ensures { Adds (W.contents out.old) lines.old (W.contents out.new) lines.new (ascii byte) }
+{
+    if (b' '..=b'~').contains(&byte) {
+        let mut room = [0; 4];
+        lines.text((byte as char).encode_utf8(&mut room), out);
+    } else {
+        lines.text(".", out);
+    }
+}
+
+// ---- flags
+
+/// The letters of the flags of a section, in the order of their bits, as `readelf` has them.
+pub static LETTERS: [(u64, char); 14] = [
+    (0x1, 'W'),
+    (0x2, 'A'),
+    (0x4, 'X'),
+    (0x10, 'M'),
+    (0x20, 'S'),
+    (0x40, 'I'),
+    (0x80, 'L'),
+    (0x100, 'O'),
+    (0x200, 'G'),
+    (0x400, 'T'),
+    (0x800, 'C'),
+    (0x20_0000, 'R'),
+    (0x1000_0000, 'l'),
+    (0x8000_0000, 'E'),
+];
+
+/// The flags of a section without a letter.
+pub const OTHER_FLAGS: u64 = 0xffff_ffff_6fdf_f008;
+
+fn add_section_flags<W: Write>(n: Option<u64>, lines: &mut LineBuffer, out: &mut W)
+    ensures { Adds (W.contents out.old) lines.old (W.contents out.new) lines.new (section_flags n) }
+{
+    match n {
+        Some(n) => add_flags(n, lines, out),
+        None => lines.text("-", out),
+    }
+}
+
+fn add_flags<W: Write>(n: u64, lines: &mut LineBuffer, out: &mut W)
+    ensures { Adds (W.contents out.old) lines.old (W.contents out.new) lines.new (letters_of n) }
+{
+    if n == 0 {
+        lines.text("-", out);
+    } else {
+        add_letters(n, &LETTERS, lines, out);
+        add_others(n & OTHER_FLAGS, lines, out);
+    }
+}
+
+fn add_letters<W: Write>(n: u64, letters: &[(u64, char)], lines: &mut LineBuffer, out: &mut W)
+    ensures { Adds (W.contents out.old) lines.old (W.contents out.new) lines.new
+        (flat_map (section_letter n) letters.now) }
+{
+    for letter in letters {
+        add_letter(n, letter, lines, out);
+    }
+}
+
+fn add_letter<W: Write>(n: u64, letter: &(u64, char), lines: &mut LineBuffer, out: &mut W)
+    ensures { Adds (W.contents out.old) lines.old (W.contents out.new) lines.new (section_letter n letter.now) }
+{
+    if n & letter.0 == 0 {
+        lines.text("", out);
+    } else {
+        let mut room = [0; 4];
+        lines.text(letter.1.encode_utf8(&mut room), out);
+    }
+}
+
+// The number of the flags that have no letter, if there are any.
+fn add_others<W: Write>(n: u64, lines: &mut LineBuffer, out: &mut W)
+    ensures { Adds (W.contents out.old) lines.old (W.contents out.new) lines.new (other_flags n) }
+{
+    if n == 0 {
+        lines.text("", out);
+    } else {
+        lines.hex("+", n, out);
+    }
+}
+
+fn add_segment_flags<W: Write>(n: Option<u64>, lines: &mut LineBuffer, out: &mut W)
+    ensures { Adds (W.contents out.old) lines.old (W.contents out.new) lines.new (segment_flags n) }
+{
+    match n {
+        Some(n) => {
+            lines.text(segment_letter(n, 4, "R"), out);
+            lines.text(segment_letter(n, 2, "W"), out);
+            lines.text(segment_letter(n, 1, "E"), out);
+            add_others(n / 8 * 8, lines, out);
+        }
+        None => lines.text("-", out),
+    }
+}
+
+fn segment_letter(n: u64, mask: u64, letter: &'static str) -> &'static str
+    ensures { result.now ≡ segment_letter n mask letter.now }
+{
+    if n & mask == 0 { "-" } else { letter }
+}
+
+// ---- spaces
+
+fn add_spaces<W: Write>(count: usize, lines: &mut LineBuffer, out: &mut W)
+    ensures { Adds (W.contents out.old) lines.old (W.contents out.new) lines.new (replicate count 32) }
+{
+    let mut left = count;
+    while left > 0 {
+        lines.text(" ", out);
+        left -= 1;
+    }
+}
+
+// The number of digits of a number.
+fn decimal_length(n: u64) -> usize
+    ensures { result ≡ length (decimal n) }
+{
+    let mut length = 1;
+    let mut left = n;
+    while left >= 10 {
+        left /= 10;
+        length += 1;
+    }
+    length
+}

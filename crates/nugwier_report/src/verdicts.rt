@@ -1,0 +1,133 @@
+//! What is said of whether a file is sound.
+ghost use Rattle.std.specs.Prelude.{◌≡◌, ◌∷◌, [], List, OnOk};
+ghost use Rattle.nugwier_report.specs.Noted.{content_of, members_said};
+ghost use Rattle.nugwier_report.specs.Said.{Said, saying};
+ghost use Rattle.nugwier_report.specs.Verdicts.{AreFaultsSaid, IsFaultSaid, IsVerdictSaid, fault_members, fault_part};
+ghost use Rattle.nugwier_report.specs.Verdicts.{fault_section, fault_told, sound_file_members, sound_members};
+ghost use Rattle.nugwier_report.specs.Verdicts.{sound_said};
+
+use crate::json::{Member, Value};
+use crate::kind::Kind;
+use crate::problem::{Fault, Item, Part, Place, Stop};
+use crate::report::Report;
+use elf_whole::faults::FileFault;
+use std::alloc::Global;
+use std::io::Write;
+
+/// Says that the file of this path is sound, or all its faults, if it has any.
+pub fn say_verdict<W: Write, V: Write>(
+    alloc: Global,
+    path: &str,
+    faults: &[FileFault],
+    report: &mut Report<'_, W, V>,
+) -> Result<(), Stop>
+    ensures { OnOk result ((said : List Said) × IsVerdictSaid path.now faults.now said
+        × (report.new ≡ saying report.old said)) }
+{
+    if faults.is_empty() {
+        return say_sound(path, report);
+    }
+    say_faults(alloc, faults, report)
+}
+
+fn say_sound<W: Write, V: Write>(path: &str, report: &mut Report<'_, W, V>) -> Result<(), Stop>
+    ensures { OnOk result (report.new ≡ saying report.old (sound_said path.now)) }
+{
+    report.state(Kind::SoundFile, &sound_file_members(path))?;
+    report.state(Kind::Verdict, &sound_members())
+}
+
+fn sound_file_members<'a>(path: &'a str) -> [Member<'a>; 1]
+    ensures { members_said result ≡ sound_file_members path.now }
+{
+    [("path", Value::Text(Some(path.as_bytes())))]
+}
+
+fn sound_members() -> [Member<'static>; 3]
+    ensures { members_said result ≡ sound_members }
+{
+    [
+        ("is_sound", Value::Flag(true)),
+        ("section", Value::Null),
+        ("fault", Value::Null),
+    ]
+}
+
+fn say_faults<W: Write, V: Write>(
+    alloc: Global,
+    faults: &[FileFault],
+    report: &mut Report<'_, W, V>,
+) -> Result<(), Stop>
+    ensures { OnOk result ((said : List Said) × AreFaultsSaid faults.now said
+        × (report.new ≡ saying report.old said)) }
+{
+    for fault in faults {
+        say_fault(alloc, *fault, report)?;
+    }
+    Ok(())
+}
+
+// Says a fault: a record with its text, then the problem.
+fn say_fault<W: Write, V: Write>(
+    alloc: Global,
+    fault: FileFault,
+    report: &mut Report<'_, W, V>,
+) -> Result<(), Stop>
+    ensures { OnOk result ((said : List Said) × IsFaultSaid fault said × (report.new ≡ saying report.old said)) }
+{
+    let text = text_of(alloc, fault)?;
+    report.state(Kind::Verdict, &fault_members(fault, text.as_str()))?;
+    let place = Place {
+        part: part_of(fault),
+        item: Item::Whole,
+    };
+    report.problem(place, told_of(fault))
+}
+
+fn fault_members<'a>(fault: FileFault, text: &'a str) -> [Member<'a>; 3]
+    ensures { members_said result ≡ fault_members fault text.now }
+{
+    [
+        ("is_sound", Value::Flag(false)),
+        ("section", section_of(fault)),
+        ("fault", Value::Text(Some(text.as_bytes()))),
+    ]
+}
+
+// The number of the section that has a fault.
+fn section_of(fault: FileFault) -> Value<'static>
+    ensures { content_of result ≡ fault_section fault }
+{
+    match fault {
+        FileFault::Section { index, .. } => Value::Number(index as u64),
+        _ => Value::Null,
+    }
+}
+
+// Where a fault is: in a section, or in the file as a whole.
+fn part_of(fault: FileFault) -> Part
+    ensures { result ≡ fault_part fault }
+{
+    match fault {
+        FileFault::Section { index, .. } => Part::Section(index as u64),
+        _ => Part::File,
+    }
+}
+
+// A fault, as it is told of its place.
+fn told_of(fault: FileFault) -> Fault<'static>
+    ensures { result ≡ fault_told fault }
+{
+    match fault {
+        FileFault::Section { fault, .. } => Fault::Section(fault),
+        fault => Fault::File(fault),
+    }
+}
+
+// What a fault says of its place.
+fn text_of(alloc: Global, fault: FileFault) -> Result<String, Stop> {
+    match fault {
+        FileFault::Section { fault, .. } => Ok(format!(in alloc; "{fault}")?),
+        fault => Ok(format!(in alloc; "{fault}")?),
+    }
+}

@@ -1,0 +1,2 @@
+-- what the digits of an address say
+pub mod Digits

@@ -1,0 +1,355 @@
+-- What the words of a command line ask for: `parsed`, at the end, beside what `nugwier --help` says.
+use Rattle.std.specs.Prelude.{◌≡◌, ◌⊎◌, ◌^◌, ◌==◌, ◌||◌, ◌&&◌, not, Bool, true, false, if◌then◌else◌, nat_lt, ℕ}
+use Rattle.std.specs.Prelude.{List, [], ◌∷◌, ◌++◌, codes, drop, slice_index, Option, Some, None, is_some, option_map}
+use Rattle.std.specs.Prelude.{Result, Ok, Err}
+use Rattle.std.specs.Char.{is_digit}
+use Rattle.std.specs.List.{starts_with}
+use Rattle.std.specs.Str.{bytes_eq}
+use Rattle.std.specs.Str.Parse.{digits_value}
+use Rattle.nugwier_words.specs.declared.asked.Asked.{Asked}
+use Rattle.nugwier_words.specs.declared.asked.Awaited.{Awaited}
+use Rattle.nugwier_words.specs.declared.asked.Awaited.TheVariants.{Folder, Nothing, Section}
+use Rattle.nugwier_words.specs.declared.asked.Word.{Word}
+use Rattle.nugwier_words.specs.declared.asked.Word.TheVariants.{End, File, Help, Json, Options}
+use Rattle.nugwier_words.specs.declared.letters.Letters.{Letters}
+use Rattle.nugwier_words.specs.declared.words.Command.{Command}
+use Rattle.nugwier_words.specs.declared.words.Command.TheVariants.{Address, Bindings, BuildId, Check, Exports}
+use Rattle.nugwier_words.specs.declared.words.Command.TheVariants.{List as ListCommand, Needed, Plan, Symbols, Tree}
+use Rattle.nugwier_words.specs.declared.words.Form.{Form}
+use Rattle.nugwier_words.specs.declared.words.Form.TheVariants.{Bytes, Strings}
+use Rattle.nugwier_words.specs.declared.words.Job.{Job}
+use Rattle.nugwier_words.specs.declared.words.Parts.{Parts}
+use Rattle.nugwier_words.specs.declared.words.Request.{Request}
+use Rattle.nugwier_words.specs.declared.words.Request.TheVariants.{Help as HelpRequest, Run, Version}
+use Rattle.nugwier_words.specs.declared.words.Wanted.{Wanted}
+use Rattle.nugwier_words.specs.declared.words.WordError.{WordError}
+use Rattle.nugwier_words.specs.declared.words.WordError.TheVariants.{Address as NotAddress, Command as NotCommand}
+use Rattle.nugwier_words.specs.declared.words.WordError.TheVariants.{Memory, NoAddress, NoCommand, NoFile, NoValue}
+use Rattle.nugwier_words.specs.declared.words.WordError.TheVariants.{Option as NotOption}
+use Rattle.std.specs.Global.{Vec}
+use Prim.Native.String.{String}
+use denote.Ref.{Bor}
+
+-- ---- what is asked for
+
+-- a command with its options, the files, and the addresses: the lists of a `Job`
+pub record Task : Type 0 where
+  pub command : Command
+  pub parts : Parts
+  pub contents : List Wanted
+  pub files : List (Bor (List ℕ))
+  pub addresses : List ℕ
+  pub is_json : Bool
+  pub searches : List (Bor (List ℕ))
+
+pub data Answer : Type 0 where
+  help : Option Command → Answer
+  version : Answer
+  run : Task → Answer
+
+abbrev pub task_of : Job → Task
+task_of job = record {
+  command = job.command;
+  parts = job.parts;
+  contents = job.contents.items;
+  files = job.files.items;
+  addresses = job.addresses.items;
+  is_json = job.is_json;
+  searches = job.searches.items;
+}
+
+abbrev pub answer_of : Request → Answer
+answer_of (HelpRequest command) = help command
+answer_of Version = version
+answer_of (Run job) = run (task_of job)
+
+-- exactly this answer, or an allocation failed
+abbrev pub IsParsed : Result Answer WordError → Result Request WordError → Type 0
+IsParsed answer (Ok request) = answer ≡ Ok (answer_of request)
+IsParsed answer (Err error) = (error ≡ Memory) ⊎ (answer ≡ Err error)
+
+-- ---- commands
+
+abbrev pub word_of : Command → List ℕ
+word_of ListCommand = codes "list"
+word_of Symbols = codes "symbols"
+word_of Needed = codes "needed"
+word_of Exports = codes "exports"
+word_of BuildId = codes "build-id"
+word_of Plan = codes "plan"
+word_of Check = codes "check"
+word_of Address = codes "address"
+word_of Tree = codes "tree"
+word_of Bindings = codes "bindings"
+
+abbrev pub command_of : List ℕ → Option Command
+command_of word =
+    if bytes_eq word (codes "list") then Some ListCommand
+    else if bytes_eq word (codes "symbols") then Some Symbols
+    else if bytes_eq word (codes "needed") then Some Needed
+    else if bytes_eq word (codes "exports") then Some Exports
+    else if bytes_eq word (codes "build-id") then Some BuildId
+    else if bytes_eq word (codes "plan") then Some Plan
+    else if bytes_eq word (codes "check") then Some Check
+    else if bytes_eq word (codes "address") then Some Address
+    else if bytes_eq word (codes "tree") then Some Tree
+    else if bytes_eq word (codes "bindings") then Some Bindings
+    else None
+
+-- ---- the options of `list`, a letter each
+
+-- no part, or all
+abbrev pub parts_all : Bool → Parts
+parts_all is_listed = record {
+  header = is_listed;
+  sections = is_listed;
+  segments = is_listed;
+  symbols = is_listed;
+  dynamic_symbols = is_listed;
+  dynamic = is_listed;
+  relocations = is_listed;
+  notes = is_listed;
+  versions = is_listed;
+}
+
+-- of one character
+abbrev pub code : String → ℕ
+code letter = slice_index (codes letter) 0
+
+abbrev pub with_part : Parts → ℕ → Option Parts
+with_part parts letter =
+    if letter == code "h" then Some (record parts { header = true })
+    else if letter == code "S" then Some (record parts { sections = true })
+    else if letter == code "l" then Some (record parts { segments = true })
+    else if letter == code "s" then Some (record parts { symbols = true })
+    else if letter == code "D" then Some (record parts { dynamic_symbols = true })
+    else if letter == code "d" then Some (record parts { dynamic = true })
+    else if letter == code "r" then Some (record parts { relocations = true })
+    else if letter == code "n" then Some (record parts { notes = true })
+    else if letter == code "V" then Some (record parts { versions = true })
+    else if letter == code "a" then Some (parts_all true)
+    else None
+
+-- after the letters x and p, whose section is the next word, none may follow
+abbrev pub with_letter : Letters → ℕ → Option Letters
+with_letter letters letter =
+    if is_some letters.form then None
+    else if letter == code "x" then Some (record letters { form = Some Bytes })
+    else if letter == code "p" then Some (record letters { form = Some Strings })
+    else option_map (λ parts. record letters { parts = parts }) (with_part letters.parts letter)
+
+abbrev pub with_letters : Letters → List ℕ → Option Letters
+with_letters letters [] = Some letters
+with_letters letters (c ∷ cs) = elim (with_letter letters c) [ Some more ↦ with_letters more cs | None ↦ None ]
+
+-- ---- the words after the command, from left to right
+
+-- what the words so far ask for, what the next word is for, and whether `--` was there: the lists of an `Asked`
+pub record SoFar : Type 0 where
+  pub parts : Parts
+  pub contents : List Wanted
+  pub files : List (Bor (List ℕ))
+  pub is_json : Bool
+  pub searches : List (Bor (List ℕ))
+  pub awaited : Awaited
+  pub has_ended : Bool
+
+abbrev pub so_far : Asked → SoFar
+so_far asked = record {
+  parts = asked.parts;
+  contents = asked.contents.items;
+  files = asked.files.items;
+  is_json = asked.is_json;
+  searches = asked.searches.items;
+  awaited = asked.awaited;
+  has_ended = asked.has_ended;
+}
+
+abbrev pub nothing : SoFar
+nothing = record {
+  parts = parts_all false;
+  contents = [];
+  files = [];
+  is_json = false;
+  searches = [];
+  awaited = Nothing;
+  has_ended = false;
+}
+
+-- a word that does not begin with `-`, or `-` itself; after the word `--` each
+abbrev pub is_file : List ℕ → Bool → Bool
+is_file word has_ended = has_ended || bytes_eq word (codes "-") || not (starts_with ◌==◌ word (codes "-"))
+
+abbrev pub kind_of : List ℕ → Bool → Word
+kind_of word has_ended =
+    if is_file word has_ended then File
+    else if bytes_eq word (codes "--help") then Help
+    else if bytes_eq word (codes "--json") then Json
+    else if bytes_eq word (codes "--") then End
+    else Options
+
+-- what a word does: the words after it are read too, or the help of the command is asked for, or it is wrong
+pub data Step : Type 0 where
+  next : SoFar → Step
+  helps : Step
+  wrong : WordError → Step
+
+-- a word of letters, of which the last may need a section
+abbrev pub awaited_form : Option Form → Bor (List ℕ) → Awaited
+awaited_form None word = Nothing
+awaited_form (Some form) word = Section form word
+
+abbrev pub with_list : SoFar → Bor (List ℕ) → Option Letters → Step
+with_list asked word None = wrong (NotOption ListCommand word)
+with_list asked word (Some letters) =
+    next (record asked { parts = letters.parts; awaited = awaited_form letters.form word })
+
+-- the one option of `tree` and `bindings`
+abbrev pub with_search : Command → SoFar → Bor (List ℕ) → Step
+with_search command asked word =
+    if bytes_eq word.now (codes "--search") then next (record asked { awaited = Folder word })
+    else wrong (NotOption command word)
+
+-- any other command has no options but --json and --help
+abbrev pub with_options : Command → SoFar → Bor (List ℕ) → Step
+with_options ListCommand asked word =
+    with_list asked word (with_letters (record { parts = asked.parts; form = None }) (drop 1 word.now))
+with_options Tree asked word = with_search Tree asked word
+with_options Bindings asked word = with_search Bindings asked word
+with_options other asked word = wrong (NotOption other word)
+
+abbrev pub with_word : Word → Command → SoFar → Bor (List ℕ) → Step
+with_word File command asked word = next (record asked { files = asked.files ++ word ∷ [] })
+with_word Help command asked word = helps
+with_word Json command asked word = next (record asked { is_json = true })
+with_word End command asked word = next (record asked { has_ended = true })
+with_word Options command asked word = with_options command asked word
+
+abbrev pub with_section : Form → SoFar → Bor (List ℕ) → Step
+with_section form asked word =
+    next (record asked { contents = asked.contents ++ record { form = form; section = word } ∷ []; awaited = Nothing })
+
+abbrev pub with_folder : SoFar → Bor (List ℕ) → Step
+with_folder asked word = next (record asked { searches = asked.searches ++ word ∷ []; awaited = Nothing })
+
+-- an option takes the next word, whatever it is
+abbrev pub step_for : Awaited → Command → SoFar → Bor (List ℕ) → Step
+step_for Nothing command asked word = with_word (kind_of word.now asked.has_ended) command asked word
+step_for (Section form option) command asked word = with_section form asked word
+step_for (Folder option) command asked word = with_folder asked word
+
+abbrev pub step : Command → SoFar → Bor (List ℕ) → Step
+step command asked word = step_for asked.awaited command asked word
+
+-- whether the help is asked for, or the error; or an allocation failed
+abbrev pub IsStep : Step → SoFar → Result Bool WordError → Type 0
+IsStep step new (Ok true) = step ≡ helps
+IsStep step new (Ok false) = step ≡ next new
+IsStep step new (Err error) = (error ≡ Memory) ⊎ (step ≡ wrong error)
+
+-- ---- addresses
+
+-- `0x` may be left out
+abbrev pub without_0x : List ℕ → List ℕ
+without_0x word = if starts_with ◌==◌ word (codes "0x") then drop 2 word else word
+
+abbrev pub are_digits : List ℕ → Bool
+are_digits [] = true
+are_digits (c ∷ cs) = is_digit c 16 && are_digits cs
+
+abbrev pub is_number : List ℕ → Bool
+is_number [] = false
+is_number (c ∷ cs) = are_digits (c ∷ cs)
+
+-- one digit or more in hexadecimal, below 2^64
+abbrev pub number_of : List ℕ → Option ℕ
+number_of digits =
+    if is_number digits && nat_lt (digits_value 16 digits) (2 ^ 64) then Some (digits_value 16 digits) else None
+
+abbrev pub address_of : List ℕ → Option ℕ
+address_of word = number_of (without_0x word)
+
+-- those of words after these, or the first word that is none
+abbrev pub addresses_after : List ℕ → List (Bor (List ℕ)) → Result (List ℕ) WordError
+addresses_after addresses [] = Ok addresses
+addresses_after addresses (word ∷ words) =
+    elim (address_of word.now) [ Some n ↦ addresses_after (addresses ++ n ∷ []) words | None ↦ Err (NotAddress word) ]
+
+abbrev pub AreAddresses : Result (List ℕ) WordError → Result (Vec ℕ) WordError → Type 0
+AreAddresses answer (Ok addresses) = answer ≡ Ok addresses.items
+AreAddresses answer (Err error) = (error ≡ Memory) ⊎ (answer ≡ Err error)
+
+-- ---- after the last word
+
+-- without options, `list` lists all parts
+abbrev pub has_part : Parts → Bool
+has_part parts =
+    parts.header || parts.sections || parts.segments || parts.symbols || parts.dynamic_symbols || parts.dynamic
+    || parts.relocations || parts.notes || parts.versions
+
+abbrev pub listed_parts : Parts → List Wanted → Parts
+listed_parts parts [] = if has_part parts then parts else parts_all true
+listed_parts parts (wanted ∷ more) = parts
+
+abbrev pub run_on : Command → SoFar → List (Bor (List ℕ)) → List ℕ → Result Answer WordError
+run_on command asked files addresses = Ok (run (record {
+  command = command;
+  parts = listed_parts asked.parts asked.contents;
+  contents = asked.contents;
+  files = files;
+  addresses = addresses;
+  is_json = asked.is_json;
+  searches = asked.searches;
+}))
+
+-- `address` takes one file, and the others are addresses, one or more
+abbrev pub with_addresses : SoFar → List (Bor (List ℕ)) → List ℕ → Result Answer WordError
+with_addresses asked files [] = Err NoAddress
+with_addresses asked files (address ∷ addresses) = run_on Address asked files (address ∷ addresses)
+
+abbrev pub at_addresses : SoFar → List (Bor (List ℕ)) → Result (List ℕ) WordError → Result Answer WordError
+at_addresses asked files (Ok addresses) = with_addresses asked files addresses
+at_addresses asked files (Err error) = Err error
+
+abbrev pub with_file : Command → SoFar → Bor (List ℕ) → List (Bor (List ℕ)) → Result Answer WordError
+with_file Address asked file others = at_addresses asked (file ∷ []) (addresses_after [] others)
+with_file command asked file others = run_on command asked (file ∷ others) []
+
+abbrev pub with_files : Command → SoFar → List (Bor (List ℕ)) → Result Answer WordError
+with_files command asked [] = Err (NoFile command)
+with_files command asked (file ∷ others) = with_file command asked file others
+
+-- an option whose word is missing, or the files
+abbrev pub finished_for : Awaited → Command → SoFar → Result Answer WordError
+finished_for Nothing command asked = with_files command asked asked.files
+finished_for (Section form option) command asked = Err (NoValue command option)
+finished_for (Folder option) command asked = Err (NoValue command option)
+
+abbrev pub finished : Command → SoFar → Result Answer WordError
+finished command asked = finished_for asked.awaited command asked
+
+-- ---- all words
+
+-- those after a command, if what was before them asks for this
+abbrev pub after : Command → SoFar → List (Bor (List ℕ)) → Result Answer WordError
+after command asked [] = finished command asked
+after command asked (word ∷ words) = elim (step command asked word) [
+  | next more ↦ after command more words
+  | helps ↦ Ok (help (Some command))
+  | wrong error ↦ Err error
+]
+
+abbrev pub parsed_for : Bor (List ℕ) → Option Command → List (Bor (List ℕ)) → Result Answer WordError
+parsed_for first None words = Err (NotCommand first)
+parsed_for first (Some command) words = after command nothing words
+
+-- by the first word
+abbrev pub parsed_from : Bor (List ℕ) → List (Bor (List ℕ)) → Result Answer WordError
+parsed_from first words =
+    if bytes_eq first.now (codes "--help") then Ok (help None)
+    else if bytes_eq first.now (codes "--version") then Ok version
+    else parsed_for first (command_of first.now) words
+
+abbrev pub parsed : List (Bor (List ℕ)) → Result Answer WordError
+parsed [] = Err NoCommand
+parsed (first ∷ words) = parsed_from first words

@@ -1,0 +1,236 @@
+//! What the words after a command ask for, from left to right.
+ghost use Rattle.nugwier_words.specs.Words.{IsParsed, IsStep, answer_of, awaited_form, finished, has_part, kind_of};
+ghost use Rattle.nugwier_words.specs.Words.{listed_parts, nothing, run_on, so_far, step, with_addresses, with_files};
+ghost use Rattle.nugwier_words.specs.Words.{with_folder, with_options, with_search, with_section, with_word};
+ghost use Rattle.std.specs.Prelude.{◌≡◌, drop, take};
+
+use crate::address::parse_addresses;
+use crate::letters::add_letters;
+use crate::words::{Command, Form, Job, Parts, Request, Wanted, WordError};
+use std::alloc::Global;
+
+// What a word after the command is.
+enum Word {
+    File,
+    Help,
+    Json,
+    // After this word all are files.
+    End,
+    Options,
+}
+
+// What the next word is for, and the option that needs it, which an error names.
+#[derive(Clone, Copy)]
+pub(crate) enum Awaited<'a> {
+    Nothing,
+    Section(Form, &'a str),
+    Folder(&'a str),
+}
+
+/// What the words so far ask for.
+#[derive(Drop)]
+pub(crate) struct Asked<'a> {
+    parts: Parts,
+    contents: Vec<Wanted<'a>>,
+    files: Vec<&'a str>,
+    is_json: bool,
+    searches: Vec<&'a str>,
+    awaited: Awaited<'a>,
+    has_ended: bool,
+}
+
+impl<'a> Asked<'a> {
+    /// What no word asks for.
+    pub fn new(alloc: Global) -> Self
+        ensures { so_far result ≡ nothing }
+    {
+        Asked {
+            parts: Parts::each(false),
+            contents: Vec::new(alloc),
+            files: Vec::new(alloc),
+            is_json: false,
+            searches: Vec::new(alloc),
+            awaited: Awaited::Nothing,
+            has_ended: false,
+        }
+    }
+
+    /// Adds a word. Returns whether it asks for the command's help.
+    pub fn add(&mut self, command: Command, word: &'a str) -> Result<bool, WordError<'a>>
+        ensures { IsStep (step command (so_far self.old) word.entry) (so_far self.new) result }
+    {
+        match self.awaited {
+            Awaited::Nothing => self.add_word(command, word),
+            Awaited::Section(form, _) => self.add_section(form, word),
+            Awaited::Folder(_) => self.add_folder(word),
+        }
+    }
+
+    fn add_section(&mut self, form: Form, section: &'a str) -> Result<bool, WordError<'a>>
+        ensures { IsStep (with_section form (so_far self.old) section.entry) (so_far self.new) result }
+    {
+        self.contents.push(Wanted { form, section })?;
+        self.awaited = Awaited::Nothing;
+        Ok(false)
+    }
+
+    fn add_folder(&mut self, folder: &'a str) -> Result<bool, WordError<'a>>
+        ensures { IsStep (with_folder (so_far self.old) folder.entry) (so_far self.new) result }
+    {
+        self.searches.push(folder)?;
+        self.awaited = Awaited::Nothing;
+        Ok(false)
+    }
+
+    // A word that no option takes.
+    fn add_word(&mut self, command: Command, word: &'a str) -> Result<bool, WordError<'a>>
+        ensures { let kind = kind_of word.now self.old.has_ended in
+            IsStep (with_word kind command (so_far self.old) word.entry) (so_far self.new) result }
+    {
+        match kind_of(word, self.has_ended) {
+            Word::File => self.files.push(word)?,
+            Word::Help => return Ok(true),
+            Word::Json => self.is_json = true,
+            Word::End => self.has_ended = true,
+            Word::Options => return self.add_options(command, word),
+        }
+        Ok(false)
+    }
+
+    fn add_options(&mut self, command: Command, word: &'a str) -> Result<bool, WordError<'a>>
+        ensures { IsStep (with_options command (so_far self.old) word.entry) (so_far self.new) result }
+    {
+        match command {
+            Command::List => self.add_letters(word),
+            Command::Tree | Command::Bindings => self.add_search(command, word),
+            _ => Err(WordError::Option(command, word)),
+        }
+    }
+
+    fn add_letters(&mut self, word: &'a str) -> Result<bool, WordError<'a>>
+        ensures { IsStep (with_options Command.List (so_far self.old) word.entry) (so_far self.new) result }
+    {
+        let Some(letters) = add_letters(self.parts, after_first(word.as_bytes())) else {
+            return Err(WordError::Option(Command::List, word));
+        };
+        self.parts = letters.parts;
+        self.awaited = awaited_form(letters.form, word);
+        Ok(false)
+    }
+
+    fn add_search(&mut self, command: Command, word: &'a str) -> Result<bool, WordError<'a>>
+        ensures { IsStep (with_search command (so_far self.old) word.entry) (so_far self.new) result }
+    {
+        if word != "--search" {
+            return Err(WordError::Option(command, word));
+        }
+        self.awaited = Awaited::Folder(word);
+        Ok(false)
+    }
+
+    /// What the words ask for, if no word follows.
+    pub fn finish(self, alloc: Global, command: Command) -> Result<Request<'a>, WordError<'a>>
+        ensures { IsParsed (finished command (so_far self.entry)) result }
+    {
+        match self.awaited {
+            Awaited::Nothing => self.with_files(alloc, command),
+            Awaited::Section(_, word) => Err(WordError::NoValue(command, word)),
+            Awaited::Folder(word) => Err(WordError::NoValue(command, word)),
+        }
+    }
+
+    // One file or more, and for `address` the addresses after the first one.
+    fn with_files(self, alloc: Global, command: Command) -> Result<Request<'a>, WordError<'a>>
+        ensures { IsParsed (with_files command (so_far self.entry) self.entry.files.items) result }
+    {
+        let [_, others @ ..] = self.files.as_slice() else {
+            return Err(WordError::NoFile(command));
+        };
+        match command {
+            Command::Address => {
+                let addresses = parse_addresses(alloc, others)?;
+                self.at_addresses(addresses)
+            }
+            _ => Ok(self.run(command, Vec::new(alloc))),
+        }
+    }
+
+    // Runs `address` on the first file. The other words have been read as addresses.
+    fn at_addresses(mut self, addresses: Vec<u64>) -> Result<Request<'a>, WordError<'a>>
+        ensures { IsParsed (with_addresses (so_far self.entry) (take 1 self.entry.files.items) addresses.items) result }
+    {
+        if addresses.is_empty() {
+            return Err(WordError::NoAddress);
+        }
+        self.files.truncate(1);
+        Ok(self.run(Command::Address, addresses))
+    }
+
+    fn run(self, command: Command, addresses: Vec<u64>) -> Request<'a>
+        ensures { Ok (answer_of result) ≡ run_on command (so_far self.entry) self.entry.files.items addresses.items }
+    {
+        Request::Run(Job {
+            command,
+            parts: listed_parts(self.parts, &self.contents),
+            contents: self.contents,
+            files: self.files,
+            addresses,
+            is_json: self.is_json,
+            searches: self.searches,
+        })
+    }
+}
+
+// What a word is, if no option takes it. All words after `--` are files.
+fn kind_of(word: &str, has_ended: bool) -> Word
+    ensures { result ≡ kind_of word.now has_ended }
+{
+    if has_ended || word == "-" || !word.as_bytes().starts_with(b"-") {
+        return Word::File;
+    }
+    match word {
+        "--help" => Word::Help,
+        "--json" => Word::Json,
+        "--" => Word::End,
+        _ => Word::Options,
+    }
+}
+
+// The bytes after the first one, which is `-`.
+fn after_first(word: &[u8]) -> &[u8]
+    ensures { result.now ≡ drop 1 word.now }
+{
+    match word {
+        [_, letters @ ..] => letters,
+        [] => word,
+    }
+}
+
+// What the last letter of a word needs.
+fn awaited_form<'a>(form: Option<Form>, word: &'a str) -> Awaited<'a>
+    ensures { result ≡ awaited_form form word.entry }
+{
+    match form {
+        Some(form) => Awaited::Section(form, word),
+        None => Awaited::Nothing,
+    }
+}
+
+// The parts that `list` lists: without options all.
+fn listed_parts(parts: Parts, contents: &[Wanted]) -> Parts
+    ensures { result ≡ listed_parts parts contents.now }
+{
+    if contents.is_empty() && !has_part(parts) {
+        Parts::each(true)
+    } else {
+        parts
+    }
+}
+
+fn has_part(parts: Parts) -> bool
+    ensures { result ≡ has_part parts }
+{
+    let listed = parts.header || parts.sections || parts.segments || parts.symbols;
+    let linked = parts.dynamic_symbols || parts.dynamic || parts.relocations;
+    listed || linked || parts.notes || parts.versions
+}

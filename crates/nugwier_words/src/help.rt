@@ -1,0 +1,153 @@
+//! What `--help` and `--version` print.
+ghost use Rattle.nugwier_words.specs.Help.{help_of};
+ghost use Rattle.std.specs.Prelude.{◌≡◌};
+
+use crate::words::Command;
+
+/// The name and the version of the program.
+pub const VERSION: &str = "nugwier 0.1.0";
+
+const PROGRAM: &str = "\
+nugwier lists what an ELF file holds.
+
+usage: nugwier COMMAND [OPTION..] FILE..
+
+  list        the headers, the tables and the contents of a file
+  symbols     the symbols for dynamic linking, with their versions
+  needed      the file's own name, the libraries that it needs, and where they are looked for
+  exports     the functions that a file defines for others, with their versions
+  build-id    the build id
+  plan        what a loader maps into memory, and where
+  check       whether a file is sound, or its faults
+  address     the symbols at addresses
+  tree        the libraries that a program loads, and the files that are found for them
+  bindings    what the symbols of a program and of its libraries bind to
+
+  COMMAND --help    how the command is called
+  COMMAND --json    an object of JSON for each record, one a line, in place of lines for people
+  --version         the version of nugwier
+
+FILE is a path, or - for standard input. Of several files each has a heading. What cannot be read is told on
+standard error with the file's name, and the rest is still listed.
+
+Exit status: 0 if all was read; 1 if a file, or a part of it, is missing, cannot be read or is wrong; 2 if the words are
+wrong.";
+
+const LIST: &str = "\
+usage: nugwier list [OPTION..] FILE..
+
+Lists the parts of a file that the options name; without options, all of -a.
+
+  -h           the file header
+  -S           the sections
+  -l           the segments
+  -s           the symbols
+  -D           the symbols for dynamic linking, with their versions
+  -d           the dynamic entries, with the strings that they name
+  -r           the relocations, with the names of their symbols
+  -n           the notes
+  -V           the versions that the file defines, and those that it needs of other files
+  -a           all of these
+  -x SECTION   the bytes of a section, by its name or its number
+  -p SECTION   the strings of a section, by its name or its number
+  --json       an object of JSON for each record, one a line, in place of lines for people
+
+Letters may stand together, as in -hSl. After -- each word is a file.";
+
+const SYMBOLS: &str = "\
+usage: nugwier symbols [--json] FILE..
+
+Lists the symbols for dynamic linking in the order of their table: the value, a letter, and NAME@VERSION, or
+NAME@@VERSION of a default version. The letter is in lower case if the symbol is local:
+
+  T  code                     V, v  a weak object, defined or not
+  D  data that is written     W, w  another weak symbol, defined or not
+  R  data that is only read   U     an undefined symbol
+  B  data without bytes       i     a function that is chosen when the file is loaded
+  A  an absolute value        u     a unique symbol
+  C  a common symbol          N     of a section that is not loaded
+  ?  of no section";
+
+const NEEDED: &str = "\
+usage: nugwier needed [--json] FILE..
+
+Lists the file's own name (soname), the libraries that it needs (needed) and where they are looked for (rpath, runpath),
+in the order of the dynamic entries.";
+
+const EXPORTS: &str = "\
+usage: nugwier exports [--json] FILE..
+
+Lists the functions that a file defines for others, as NAME@VERSION, or NAME@@VERSION of a default version.";
+
+const BUILD_ID: &str = "\
+usage: nugwier build-id [--json] FILE..
+
+Prints the build id, which the notes of a file hold, in hexadecimal.";
+
+const PLAN: &str = "\
+usage: nugwier plan [--json] FILE..
+
+Lists what a loader maps: the addresses, the bytes of the file that are there, and the permissions. The rest of the
+memory is 0. Tells why, if a file cannot be mapped so.";
+
+const CHECK: &str = "\
+usage: nugwier check [--json] FILE..
+
+Prints FILE: sound if all that the headers of a file declare can be read: the sections and their names, symbols,
+strings, relocations, hash tables, notes, dynamic entries, versions and segments. Otherwise tells its faults on standard
+error, one a line with the file's name: the first one of each section, of each segment, and of each other part. Files
+have no headings.";
+
+const ADDRESS: &str = "\
+usage: nugwier address [--json] FILE ADDRESS..
+
+Prints, for each address, NAME+DISTANCE of the last symbol of a function or a variable that starts there or before, and
+says so if the address lies past its end. An address is in hexadecimal, with or without 0x. The symbols are those of
+list -s or, if the file has none, those for dynamic linking.";
+
+const TREE: &str = "\
+usage: nugwier tree [--json] [--search FOLDER].. FILE..
+
+Prints the program, and below it each library that it loads: the name by which it is needed, and the path of the file
+that is found, or 'not found'. A library stands below the one that needs it first. Nothing is run.
+
+  --search FOLDER   looks for libraries in this folder, as if LD_LIBRARY_PATH named it
+
+Libraries are looked for as the dynamic linker does: in the folders of DT_RPATH of the object that needs them and of its
+loaders, those of --search, those of DT_RUNPATH of the object, and the usual ones of its machine, such as
+/lib/x86_64-linux-gnu, /lib64 and /usr/lib. $ORIGIN is the folder of the object's path. LD_LIBRARY_PATH, ld.so.conf and
+the cache of the dynamic linker are not read.";
+
+const BINDINGS: &str = "\
+usage: nugwier bindings [--json] [--search FOLDER].. FILE..
+
+Prints what the symbols of a program and of the libraries that it loads bind to, as the dynamic linker binds them.
+Nothing is run. The libraries are those of tree, with the same option. Under the path of each file there is a line for
+each symbol that another file has to define, and for each that is copied into the program:
+
+  NAME@VERSION => PATH: NAME@@VERSION   the file that has the symbol, with the version there
+  NAME@VERSION => weak                  no file has it, and it may be missing
+  NAME@VERSION => missing               no file has it
+  NAME@VERSION => unknown               a version that decides it cannot be read
+
+If the calls of a function go elsewhere than to its address, the address has a second line, with (address) at its end.
+With --json each kind of reference has an object. What is missing or unknown is told on standard error, too.";
+
+/// How the program, or one of its commands, is called.
+pub fn help(command: Option<Command>) -> &'static str
+    ensures { result.now ≡ help_of command }
+{
+    match command {
+        None => PROGRAM,
+        Some(Command::List) => LIST,
+        Some(Command::Symbols) => SYMBOLS,
+        Some(Command::Needed) => NEEDED,
+        Some(Command::Exports) => EXPORTS,
+        Some(Command::BuildId) => BUILD_ID,
+        Some(Command::Plan) => PLAN,
+        Some(Command::Check) => CHECK,
+        Some(Command::Address) => ADDRESS,
+        Some(Command::Tree) => TREE,
+        Some(Command::Bindings) => BINDINGS,
+    }
+}
