@@ -7,10 +7,10 @@ use Rattle.elf_records.specs.Table.{Table}
 use Rattle.elf_records.specs.Record.{◌>>=◌}
 use Rattle.elf_records.specs.declared.parse.ParseError.{ParseError}
 use Rattle.elf_records.specs.declared.symbol.Symbol.{Symbol}
-use Rattle.elf_check.specs.Indexed.{IsFirstNamed, IsLeastNamed}
-use Rattle.elf_check.specs.SoundGnu.{SoundGnu}
-use Rattle.elf_check.specs.SoundSysv.{SoundSysv}
-use Rattle.elf_check.specs.WithSymbols.{WithSymbols, with_symbols}
+use Rattle.elf_hash_check.specs.Indexed.{IsFirstNamed, IsLeastNamed}
+use Rattle.elf_hash_check.specs.SoundGnu.{SoundGnu}
+use Rattle.elf_hash_check.specs.SoundSysv.{SoundSysv}
+use Rattle.elf_hash_check.specs.WithSymbols.{WithSymbols, with_symbols}
 use Rattle.elf_c.specs.Find.{found_shown}
 use Rattle.elf_c.specs.Sound.{FindsFirst, FindsLeast}
 use Rattle.elf_c.specs.Status.{done, status_of, written}

@@ -5,7 +5,7 @@ use Rattle.elf_c.specs.declared.section_names.NugwierSectionNames.{NugwierSectio
 abbrev pub names_view : NugwierSectionNames → Option (List ℕ)
 names_view n = if n.found then Some n.strings.now else None
 
--- the same struct, but for that nothing is found
+-- the same struct, with nothing found
 abbrev pub no_names_in : NugwierSectionNames → NugwierSectionNames
 no_names_in n = record n { found = false }
 

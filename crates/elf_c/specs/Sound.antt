@@ -4,12 +4,12 @@ use Rattle.elf_parts.specs.GnuFind.{GnuTable, gnu_section}
 use Rattle.elf_parts.specs.SysvFind.{SysvTable, sysv_section}
 use Rattle.elf_records.specs.declared.parse.ParseError.{ParseError}
 use Rattle.elf_records.specs.declared.symbol.Symbol.{Symbol}
-use Rattle.elf_check.specs.Indexed.{IsFirstNamed, IsLeastNamed}
-use Rattle.elf_check.specs.Object.{IsSound, Object, indexed_count, object_in}
-use Rattle.elf_check.specs.SoundGnu.{SoundGnu}
-use Rattle.elf_check.specs.SoundSysv.{SoundSysv}
-use Rattle.elf_check.specs.WithSymbols.{WithSymbols, with_symbols}
-use Rattle.elf_check.specs.declared.hashcheck.any.HashKind.TheVariants.{Gnu, Sysv}
+use Rattle.elf_hash_check.specs.Indexed.{IsFirstNamed, IsLeastNamed}
+use Rattle.elf_hash_check.specs.Object.{IsSound, Object, indexed_count, object_in}
+use Rattle.elf_hash_check.specs.SoundGnu.{SoundGnu}
+use Rattle.elf_hash_check.specs.SoundSysv.{SoundSysv}
+use Rattle.elf_hash_check.specs.WithSymbols.{WithSymbols, with_symbols}
+use Rattle.elf_hash_check.specs.declared.hashcheck.any.HashKind.TheVariants.{Gnu, Sysv}
 use Rattle.elf_c.specs.Find.{found_shown}
 use Rattle.elf_c.specs.Status.{done}
 use Rattle.elf_c.specs.Tables.{class_in, table_of_c}

@@ -22,7 +22,7 @@ symbols_pair s = (table_of_c s.symbols, s.strings.now)
 abbrev pub symbols_view_of_c : NugwierSymbolTable → Option (Table × List ℕ)
 symbols_view_of_c s = if s.found then Some (symbols_pair s) else None
 
--- the same struct, but for that nothing is found
+-- the same struct, with nothing found
 abbrev pub no_symbols_in : NugwierSymbolTable → NugwierSymbolTable
 no_symbols_in s = record s { found = false }
 

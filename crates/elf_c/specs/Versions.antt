@@ -45,7 +45,7 @@ versions_of_c v = record {
 abbrev pub versions_view_of_c : NugwierVersions → Option Versions
 versions_view_of_c v = if v.found then Some (versions_of_c v) else None
 
--- the same struct, but for that nothing is found
+-- the same struct, with nothing found
 abbrev pub no_versions_in : NugwierVersions → NugwierVersions
 no_versions_in v = record v { found = false }
 
@@ -113,7 +113,7 @@ definition_view d = if d.found then Some (defined_view d) else None
 abbrev pub no_definition_in : NugwierDefinition → NugwierDefinition
 no_definition_in d = record d { found = false }
 
--- the names of the same bytes, of which none is left
+-- the same bytes, with no name left
 abbrev pub no_more_names : NugwierVersionNames → NugwierVersionNames
 no_more_names n = record n { count = 0 }
 

@@ -1,6 +1,6 @@
 //! Look-ups by name in hash sections, and the check of hash sections.
 ghost use Rattle.std.specs.Prelude.{◌≡◌, ◌↔◌, IfOk, IsTrue};
-ghost use Rattle.elf_check.specs.Object.{IsSound};
+ghost use Rattle.elf_hash_check.specs.Object.{IsSound};
 ghost use Rattle.elf_c.specs.Find.{found_shown, gnu_found, sysv_found};
 ghost use Rattle.elf_c.specs.Sound.{FindsFirst, FindsLeast, IsVerdict, gnu_object, hash_object, sysv_object};
 ghost use Rattle.elf_c.specs.Status.{status_of, written};
@@ -9,8 +9,8 @@ use crate::hash_tables::{look_up_in_sysv, sysv_opened};
 use crate::records::NugwierSymbol;
 use crate::status::{NugwierStatus, done, refused};
 use crate::table::{ForC, NugwierTable, class_in, order_in, records_in};
-use elf_check::hashcheck::laws::{gnu_find_on_sound, sysv_find_on_sound};
-use elf_check::hashcheck::{Checked, HashKind, check_any};
+use elf_hash_check::hashcheck::laws::{gnu_find_on_sound, sysv_find_on_sound};
+use elf_hash_check::hashcheck::{Checked, HashKind, check_any};
 use elf_parts::hash::GnuHashTable;
 use elf_parts::parse::ParseError;
 use elf_parts::string_table::StringTable;

@@ -1,16 +1,12 @@
-//! What the example callers of `elf_tools` give for files.
+//! What the example callers of `elf_tools` and of `elf_linking` give for files.
 mod answers;
 mod binding_lines;
 mod needed_lines;
 
 use crate::rows::{RowError, changed_file};
 use answers::print_answers;
-use binding_lines::print_bindings;
-use elf::FileSource;
-use elf_tools::bindings::reading::open_library;
 use needed_lines::print_needed_of_files;
 use std::fs;
-use std::fs::File;
 use std::io::{BufWriter, Write};
 
 // The size of the buffer of standard output, in bytes.
@@ -35,28 +31,11 @@ fn print_files<W: Write>(
     if caller == "needed" {
         return Ok(print_needed_of_files(rt, names, out)?);
     }
-    if caller == "bindings" {
-        return print_bindings_of_files(rt, names, out);
-    }
     let mut files = Vec::new(rt.alloc());
     for name in names {
         files.push(fs::read(rt, name.as_str())?)?;
     }
     Ok(print_answers(rt.alloc(), out, caller, files.as_slice())?)
-}
-
-/// Prints what the references of the files with these names bind to. A file is closed before the next one is opened.
-fn print_bindings_of_files<W: Write>(
-    rt: &HostRuntime,
-    names: &[String],
-    out: &mut W,
-) -> Result<(), RowError> {
-    let mut libraries = Vec::new(rt.alloc());
-    for name in names {
-        let source = FileSource::new(File::open(rt, name.as_str())?);
-        libraries.push(open_library(rt.alloc(), source))?;
-    }
-    Ok(print_bindings(rt.alloc(), out, libraries.as_slice())?)
 }
 
 /// Runs the test cases of the file `callers`. Each is a line `CALLER : FILE CHANGE.. : FILE CHANGE..`: a caller, and

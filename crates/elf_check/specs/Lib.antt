@@ -1,22 +1,38 @@
--- what is checked: a hash table with its symbols
-pub mod WithSymbols
--- when it is sound, by the gABI and by GNU
-pub mod SoundSysv
-pub mod SoundGnu
--- which symbols it indexes, how many, and which of them have a name
-pub mod Indexed
--- what each fault says
+-- members of a table, by their index
+pub mod Members
+-- linked records
+pub mod Chains
+-- the content of a section, by its type: strings, symbols, relocations, hash tables, dynamic entries and notes
+pub mod Strings
+pub mod Symbols
+pub mod Relocations
+pub mod RelocationLists
+pub mod Hashes
+pub mod Dynamic
+pub mod Notes
+-- a section
+pub mod Sections
+-- the versions of symbols: their records, which version a symbol has, and those of a file
+pub mod versions
+-- the segments: when they are sound, what each fault says, and what those of a checked file show
+pub mod Segments
+pub mod SegmentsFaults
+pub mod SegmentsBytes
+pub mod SegmentsWhole
+-- what a loader maps
+pub mod LoadPlan
+-- the build id
+pub mod BuildId
+-- when a file is sound, what each fault says, and what a check says
+pub mod Sound
 pub mod Faults
--- which fault is the first one
-pub mod First
--- what a checker says, and how many symbols it reads
 pub mod Verdict
-pub mod Reads
--- an object: a table of either kind
-pub mod Object
--- the view of a checked table
-pub mod CheckedTable
--- all symbols of a name, in order
-pub mod NamedSymbols
--- what only implementations and private functions cite
+-- all faults of a file
+pub mod AllFaults
+-- the views of a file that was checked, and of its parts
+pub mod Whole
+pub mod DynamicViews
+pub mod RelocationViews
+pub mod SectionViews
+-- that a file is sound is true in one way only
 pub mod inner

@@ -1,6 +1,7 @@
--- that a section is sound is true in one way only
+pub mod VersionProps
+pub mod DynamicProps
+pub mod StringProps
+pub mod SegmentsProps
 pub mod SoundProps
--- where the run of a chain word begins
-pub mod GnuRun
--- whether a hash section is sound, decided
-pub mod Decisions
+pub mod Walk
+pub mod Kept

@@ -1,7 +1,7 @@
 //! The texts of errors that no stored row shows, and of stopped runs.
 use elf::ParseError;
-use elf_binding::{BindingFault, Unreadable};
-use elfshow::calls::RunError;
+use elf_linking::{BindingFault, Unreadable};
+use elfshow::runs::RunError;
 use std::fmt::Display;
 use std::io;
 use std::process::Abort;

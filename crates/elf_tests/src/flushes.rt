@@ -3,7 +3,7 @@ use crate::files::VERSIONED;
 use crate::writers::Watched;
 use elf::MemSource;
 use elf::endian::AnyEndian;
-use elfshow::calls::{Call, RunError, run_bytes};
+use elfshow::runs::{Call, RunError, run_bytes};
 use elfshow::show::run_source;
 use std::alloc::{AllocError, Global};
 use std::process::Abort;

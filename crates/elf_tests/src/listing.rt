@@ -2,8 +2,8 @@
 use crate::files::{HEADER_ALONE, TWO_SECTIONS_BIG};
 use crate::texts::{HEADER_LINE, TWO_SECTION_LINES};
 use elf_user_types::order::FileOrder;
-use elfshow::calls::{Call, run_bytes};
 use elfshow::file_system::MemFile;
+use elfshow::runs::{Call, run_bytes};
 use elfshow::show::show;
 use std::alloc::AllocError;
 use std::io::BufWriter;

@@ -7,7 +7,7 @@ use elf::string_table::StringTable;
 use elf::{ElfBytes, ParseError};
 use elf_user_types::order::FileOrder;
 use elf_user_types::triple::Triple;
-use elfshow::calls::{Call, RunError};
+use elfshow::runs::{Call, RunError};
 use elfshow::show::RequestError;
 use std::fmt::Debug;
 use std::process::Abort;

@@ -1,4 +1,4 @@
-//! Inputs for which a caller takes much memory: none returns an error while there is memory.
+//! Inputs for which a call takes much memory: none returns an error while there is memory.
 use elf::endian::LittleEndian;
 use elf::file::Class;
 use elf::gnu_symver::{
@@ -7,9 +7,8 @@ use elf::gnu_symver::{
 };
 use elf::string_table::StringTable;
 use elf::{ElfBytes, ElfStream, MemSource};
-use elf_tools::bindings::reading::open_library;
+use elf_linking::needed::read_dynamic_names;
 use elf_tools::load_plan::load_plan;
-use elf_tools::needed::read_dynamic_names;
 use std::alloc::{AllocError, Global};
 use std::test::Fail;
 
@@ -169,11 +168,10 @@ fn many_indexes(alloc: Global) -> Result<Vec<u8>, AllocError> {
 #[test]
 fn many_version_indexes_are_read(rt: HostRuntime) -> Result<(), Fail> {
     let data = many_indexes(rt.alloc())?;
-    let library = open_library::<LittleEndian, _>(rt.alloc(), MemSource::new(&data))?;
-    let index = match library.symbol_version_table() {
-        Ok(Some(versions)) => versions.get_index(SYMBOLS as usize - 1).ok(),
-        _ => None,
-    };
-    assert!(rt; index.map(|index| index.index()) == Some(7));
+    let source = MemSource::new(&data);
+    let mut stream = ElfStream::<LittleEndian, _, _>::open_stream(rt.alloc(), source)?;
+    let versions = stream.symbol_version_table()?.ok_or("no versions")?;
+    let index = versions.get_index(SYMBOLS as usize - 1)?;
+    assert!(rt; index.index() == 7);
     Ok(())
 }

@@ -3,7 +3,7 @@ use crate::files::TWO_SECTIONS;
 use crate::sources::{Halting, is_of_source};
 use elf::endian::AnyEndian;
 use elf::{ElfStream, ParseError};
-use elfshow::calls::{Call, RunError, run_stream};
+use elfshow::runs::{Call, RunError, run_stream};
 use std::alloc::Global;
 use std::cell::Cell;
 use std::test::Fail;

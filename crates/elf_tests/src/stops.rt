@@ -3,7 +3,7 @@ use crate::files::HEADER_ALONE;
 use crate::texts::HEADER_LINE;
 use crate::writers::{Faulty, Narrow};
 use elf::endian::AnyEndian;
-use elfshow::calls::{Call, RunError, run_bytes};
+use elfshow::runs::{Call, RunError, run_bytes};
 use std::alloc::{AllocError, Global};
 use std::io::{BufWriter, ErrorKind, Write};
 use std::process::Abort;

@@ -4,7 +4,7 @@ use crate::sources::{Halting, is_of_source};
 use crate::writers::{Faulty, Narrow};
 use elf::endian::AnyEndian;
 use elf::{ElfStream, MemSource, ParseError};
-use elfshow::calls::{Call, RunError, run_bytes, run_stream};
+use elfshow::runs::{Call, RunError, run_bytes, run_stream};
 use std::alloc::Global;
 use std::cell::Cell;
 use std::io::{ErrorKind, Write};

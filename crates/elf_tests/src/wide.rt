@@ -1,7 +1,7 @@
 //! A file of many sections.
 use crate::writers::Counting;
 use elf::endian::LittleEndian;
-use elfshow::calls::{Call, run_bytes};
+use elfshow::runs::{Call, run_bytes};
 use std::alloc::{AllocError, Global};
 use std::io::BufWriter;
 use std::test::Fail;

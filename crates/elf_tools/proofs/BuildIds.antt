@@ -17,9 +17,9 @@ use Rattle.elf.specs.declared.read_error.ReadError.{ReadError}
 use Rattle.elf.specs.declared.read_error.ReadError.TheVariants.{Parse}
 use Rattle.elf.proofs.Partly.{follows_bind, follows_if, follows_map, nothing_missing, part_follows}
 use Rattle.elf_tools.specs.BuildId.{build_id, first_by, first_id, or_else, section_id, sections_id, segment_id, segments_id}
-use Rattle.elf_tools.specs.Missing.{loaded_part}
-use Rattle.elf_tools.specs.Readings.{IsRead}
-use Rattle.elf_tools.proofs.Naming.{part_of_old, ranges_of_old}
+use Rattle.elf_linking.specs.Missing.{loaded_part}
+use Rattle.elf_linking.specs.Readings.{IsRead}
+use Rattle.elf_linking.proofs.Naming.{part_of_old, ranges_of_old}
 
 -- ---- the id of a part is that of the whole file, or a range is missing
 

@@ -1,15 +1,19 @@
 -- The version of a symbol, by what the table of versions answers.
-use Rattle.std.proofs.Common.{◌≡◌, ℕ, Bool, true, false, not, List, ◌∷◌, Option, Some, None, Result, Ok, Err, if◌then◌else◌, refl, ap, sym, ◌∙◌, inl, inr}
-use Rattle.std.specs.Prelude.{IsUtf8, ok_or}
+use Rattle.std.proofs.Common.{◌≡◌, ℕ, Bool, true, false, not, List, ◌∷◌, Option, Some, None, Result, Ok, Err, if◌then◌else◌, refl, ap, sym, subst, ◌∙◌, inl, inr}
+use Rattle.std.specs.Prelude.{IsUtf8, nat_lt, ok_or}
 use Rattle.std.specs.Option.{option_map}
 use Rattle.std.specs.Str.{is_utf8}
 use Rattle.std.proofs.lemmas.Str.{IsUtf8-from_is_utf8, is_utf8-from_IsUtf8}
 use Rattle.elf_records.specs.StringTable.{GivesText, text_of}
-use Rattle.elf_parts.specs.gnu_symver.Table.{GivesRequirement, RefusesText, Requirement}
+use Rattle.elf_parts.specs.gnu_symver.Table.{Definition, GivesRequirement, RefusesText, Requirement, Versions, definition, index_of, requirement}
+use Rattle.elf_parts.specs.gnu_symver.Records.{version_index}
+use Rattle.elf_parts.specs.declared.gnu_symver.records.VersionIndex.{VersionIndex}
 use Rattle.elf_records.specs.declared.parse.ParseError.{ParseError}
 use Rattle.elf_parts.specs.declared.gnu_symver.table.SymbolRequirement.{SymbolRequirement}
-use Rattle.elf_binding.specs.Binding.{unreadable}
-use Rattle.elf_tools.specs.SymbolVersions.{WrittenVersion, defined_by_name, need_version, needed_by_names}
+use Rattle.elf_linking.specs.Binding.{unreadable}
+use Rattle.elf_hash_check.specs.VersionEntry.{ByNeed, VersionEntry, required_with, version_entry}
+use Rattle.elf_hash_check.proofs.VersionEntries.{definition_by_index, entry_defined, entry_needed, requirement_by_index}
+use Rattle.elf_tools.specs.SymbolVersions.{WrittenVersion, defined_by_name, definition_version, needed_by_names, symbol_version, symbol_version_by}
 use denote.Ref.{Bor}
 
 no_text : (name : List ℕ) (b : Bool) → is_utf8 name ≡ b → (IsUtf8 name → ⊥) → (if b then Some name else None) ≡ None
@@ -48,24 +52,47 @@ no_name : (i : ℕ) (file name : Option (List ℕ)) → name ≡ None → needed
 no_name i (Some file) name e = rw e refl
 no_name i None name e = refl
 
-pub needed_given : (i : ℕ) (need : Result (Option Requirement) ParseError) (found : SymbolRequirement) → GivesRequirement need (Ok (Some found)) →
-    need_version i need ≡ Ok (Some (WrittenVersion.Needed found.file.now found.name.now))
-needed_given i (Err e) found gives = cc
-needed_given i (Ok None) found gives = cc
-needed_given i (Ok (Some r)) found gives =
+given : (i : ℕ) (need : Option Requirement) (found : SymbolRequirement) → GivesRequirement (Ok need) (Ok (Some found)) → symbol_version_by i (option_map ByNeed need) ≡ Ok (Some (WrittenVersion.Needed found.file.now found.name.now))
+given i None found gives = cc
+given i (Some r) found gives =
     rw (text_given r.file found.file gives.0, text_given r.name found.name gives.1) refl
 
-pub needed_none : (i : ℕ) (need : Result (Option Requirement) ParseError) → GivesRequirement need (Ok None) → need_version i need ≡ Err (unreadable i)
-needed_none i (Err e) gives = cc
-needed_none i (Ok None) gives = refl
-needed_none i (Ok (Some r)) gives = absurd gives
+none : (i : ℕ) (need : Option Requirement) → GivesRequirement (Ok need) (Ok None) → symbol_version_by i (option_map ByNeed need) ≡ Err (unreadable i)
+none i None gives = refl
+none i (Some r) gives = absurd gives
 
-refused_by : (i : ℕ) (r : Requirement) (e : ParseError) → RefusesText r.file r.name e → need_version i (Ok (Some r)) ≡ Err (unreadable i)
+refused_by : (i : ℕ) (r : Requirement) (e : ParseError) → RefusesText r.file r.name e → symbol_version_by i (Some (ByNeed r)) ≡ Err (unreadable i)
 refused_by i r e (inl first) = no_file i (text_of r.name) (text_of r.file) (text_refused r.file e first)
 refused_by i r e (inr second) = no_name i (text_of r.file) (text_of r.name) (text_refused r.name e second.2)
 
-pub needed_refused : (i : ℕ) (need : Result (Option Requirement) ParseError) (e : ParseError) → GivesRequirement need (Err e) →
-    need_version i need ≡ Err (unreadable i)
-needed_refused i (Err d) e gives = refl
-needed_refused i (Ok None) e gives = cc
-needed_refused i (Ok (Some r)) e gives = refused_by i r e gives
+refused : (i : ℕ) (need : Option Requirement) (e : ParseError) → GivesRequirement (Ok need) (Err e) → symbol_version_by i (option_map ByNeed need) ≡ Err (unreadable i)
+refused i None e gives = refl
+refused i (Some r) e gives = refused_by i r e gives
+
+module _ (versions : Versions) (i : ℕ) (index : VersionIndex) (here : index_of versions i ≡ Ok index) where
+  by_index : (result : Result (Option SymbolRequirement) ParseError) → GivesRequirement (requirement versions i) result → GivesRequirement (Ok (required_with versions.needs index)) result
+  by_index result gives = subst (λ (need : Result (Option Requirement) ParseError). GivesRequirement need result) (requirement_by_index versions i index here) gives
+
+  pub needed_given : (found : SymbolRequirement) → GivesRequirement (requirement versions i) (Ok (Some found)) → symbol_version_by i (option_map ByNeed (required_with versions.needs index)) ≡ Ok (Some (WrittenVersion.Needed found.file.now found.name.now))
+  needed_given found gives = given i (required_with versions.needs index) found (by_index (Ok (Some found)) gives)
+
+  pub needed_none : GivesRequirement (requirement versions i) (Ok None) → symbol_version_by i (option_map ByNeed (required_with versions.needs index)) ≡ Err (unreadable i)
+  needed_none gives = none i (required_with versions.needs index) (by_index (Ok None) gives)
+
+  pub needed_refused : (e : ParseError) → GivesRequirement (requirement versions i) (Err e) → symbol_version_by i (option_map ByNeed (required_with versions.needs index)) ≡ Err (unreadable i)
+  needed_refused e gives = refused i (required_with versions.needs index) e (by_index (Err e) gives)
+
+  -- ---- the version of a symbol whose index is that of a version
+
+  module _ (named : nat_lt (version_index index) 2 ≡ false) where
+    by_entry : (entry : Option VersionEntry) → version_entry versions index ≡ entry → symbol_version versions i ≡ symbol_version_by i entry
+    by_entry entry e = rw (here, named, e) refl
+
+    pub version_defined : (d : Definition) → definition versions i ≡ Ok (Some d) → symbol_version versions i ≡ definition_version i d
+    version_defined d e = by_entry _ (entry_defined versions i index here d e)
+
+    pub version_needed : definition versions i ≡ Ok None → symbol_version versions i ≡ symbol_version_by i (option_map ByNeed (required_with versions.needs index))
+    version_needed e = by_entry _ (entry_needed versions i index here e)
+
+    pub version_refused : (e : ParseError) → definition versions i ≡ Err e → symbol_version versions i ≡ Err (unreadable i)
+    version_refused e is = absurd (let both : Ok _ ≡ Err e = sym (definition_by_index versions i index here) ∙ is in cc both)

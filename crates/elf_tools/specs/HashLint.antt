@@ -5,10 +5,10 @@ use Rattle.std.specs.Result.{IsOkAnd}
 use Rattle.elf_abi.specs.Values.{sht_gnu_hash, sht_hash}
 use Rattle.elf_records.specs.declared.section.SectionHeader.{SectionHeader}
 use Rattle.elf.specs.ObjectFile.{ObjectFile}
-use Rattle.elf_check.specs.Object.{IsSound, Object, indexed_count}
-use Rattle.elf_binding.specs.ObjectTable.{IsFaultOf, section_object}
-use Rattle.elf_check.specs.declared.hashcheck.any.HashKind.TheVariants.{Gnu, Sysv}
-use Rattle.elf_binding.specs.declared.resolve.ObjectFault.{ObjectFault}
+use Rattle.elf_hash_check.specs.Object.{IsSound, Object, indexed_count}
+use Rattle.elf_linking.specs.ObjectTable.{IsFaultOf, section_object}
+use Rattle.elf_hash_check.specs.declared.hashcheck.any.HashKind.TheVariants.{Gnu, Sysv}
+use Rattle.elf_linking.specs.declared.resolve.ObjectFault.{ObjectFault}
 
 -- the table of a section of type SHT_GNU_HASH or SHT_HASH, over the dynamic symbols
 abbrev pub hash_object : ObjectFile → SectionHeader → Option (Result Object ObjectFault)

@@ -1,13 +1,12 @@
--- Symbols, versions and objects for the theorems over known values.
-use Rattle.std.specs.Prelude.{ℕ, Bool, true, List, [], ◌∷◌, codes, Option, Some, None, Result, Ok}
+-- Symbols and versions for the theorems over known values.
+use Rattle.std.specs.Prelude.{ℕ, Bool, true, List, [], ◌∷◌, codes, Option, Some, Result, Ok}
 use Rattle.elf_records.specs.Table.{table_in}
 use Rattle.elf_records.specs.declared.file.Class.TheVariants.{ELF64}
 use Rattle.elf_records.specs.declared.symbol.Symbol.{Symbol}
 use Rattle.elf_parts.specs.gnu_symver.Table.{Versions}
 use Rattle.elf_parts.specs.declared.gnu_symver.records.VerDef.{VerDef}
 use Rattle.elf_parts.specs.declared.gnu_symver.records.VerDefAux.{VerDefAux}
-use Rattle.elf_binding.specs.declared.Unreadable.{Unreadable}
-use Rattle.elf_tools.specs.Search.{Object, Others}
+use Rattle.elf_linking.specs.declared.Unreadable.{Unreadable}
 use Rattle.elf_tools.specs.SymbolVersions.{WrittenVersion}
 use Rattle.elf_tools.specs.declared.addresses.Located.{Located}
 use Rattle.elf_tools.specs.declared.addresses.Nearest.{Nearest}
@@ -22,26 +21,6 @@ symbol_at info shndx value size = record {
   st_other = 0;
   st_shndx = shndx;
 }
-
--- a program, a library with DT_RPATH alone, and one with both paths
-abbrev pub program : Object
-program = record { folder = codes "/p"; runpath = None; rpath = Some (codes "/p1") }
-
-abbrev pub with_rpath : Object
-with_rpath = record { folder = codes "/l"; runpath = None; rpath = Some (codes "$ORIGIN/x") }
-
-abbrev pub with_both : Object
-with_both = record { folder = codes "/m"; runpath = Some (codes "/m1"); rpath = Some (codes "/m2") }
-
-abbrev pub without_paths : Object
-without_paths = record { folder = codes "/w"; runpath = None; rpath = None }
-
--- LD_LIBRARY_PATH and the usual folders
-abbrev pub others : Others
-others = record { library_path = Some (codes "$ORIGIN/e"); usual_folders = codes "/lib" ∷ codes "/usr/lib" ∷ [] }
-
-abbrev pub no_others : Others
-no_others = record { library_path = None; usual_folders = [] }
 
 abbrev pub located_at : ℕ → ℕ → ℕ → Located
 located_at symbol address size = record { symbol = symbol; address = address; size = size }
@@ -66,16 +45,18 @@ defined_as flags index name = (
   record { vda_name = name; vda_next = 0 } ∷ [],
 )
 
--- Definitions: "v" at 2, the file itself at 4, and at 5 a version whose name would begin past the strings. A need: "v" of
--- the file "f" at 3. The symbols have the version indexes 0, 1, 2, 2 hidden, 3, 4, 5, and 6, which nothing has.
+-- Definitions: "v" at 2, the file itself at 4, and at 5 a version whose name would begin past the strings. Needs: "v" of
+-- the file "f" at 3, and "f" of it at 2 too. The symbols have the version indexes 0, 1, 2, 2 hidden, 3, 4, 5, and 6,
+-- which nothing has.
 abbrev pub versions : Versions
 versions = record {
   indexes = table_in true ELF64
       (0 ∷ 0 ∷ 1 ∷ 0 ∷ 2 ∷ 0 ∷ 2 ∷ 0x80 ∷ 3 ∷ 0 ∷ 4 ∷ 0 ∷ 5 ∷ 0 ∷ 6 ∷ 0 ∷ []);
   needs = Some (record {
     list = (
-      record { vn_cnt = 1; vn_file = 3; vn_aux = 16; vn_next = 0 },
-      record { vna_hash = 7; vna_flags = 0; vna_other = 3; vna_name = 1; vna_next = 0 } ∷ [],
+      record { vn_cnt = 2; vn_file = 3; vn_aux = 16; vn_next = 0 },
+      record { vna_hash = 7; vna_flags = 0; vna_other = 3; vna_name = 1; vna_next = 16 }
+          ∷ record { vna_hash = 8; vna_flags = 0; vna_other = 2; vna_name = 3; vna_next = 0 } ∷ [],
     ) ∷ [];
     strings = strings;
   });

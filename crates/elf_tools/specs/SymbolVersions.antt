@@ -9,11 +9,12 @@ use Rattle.elf_records.specs.Record.{◌>>=◌}
 use Rattle.elf_records.specs.declared.parse.ParseError.{ParseError}
 use Rattle.elf_records.specs.declared.symbol.Symbol.{Symbol}
 use Rattle.elf_parts.specs.gnu_symver.Records.{version_index}
-use Rattle.elf_parts.specs.gnu_symver.Table.{Definition, Requirement, Versions, definition, requirement}
+use Rattle.elf_parts.specs.gnu_symver.Table.{Definition, Versions}
 use Rattle.elf_parts.specs.declared.gnu_symver.records.VersionIndex.{VersionIndex}
 use Rattle.elf_records.specs.StringTable.{text_of}
-use Rattle.elf_binding.specs.Binding.{unreadable, version_index_of}
-use Rattle.elf_binding.specs.declared.Unreadable.{Unreadable}
+use Rattle.elf_hash_check.specs.VersionEntry.{ByDefinition, ByNeed, VersionEntry, version_entry}
+use Rattle.elf_linking.specs.Binding.{unreadable, version_index_of}
+use Rattle.elf_linking.specs.declared.Unreadable.{Unreadable}
 use Rattle.elf_tools.specs.declared.symbol_versions.SymbolVersion.{SymbolVersion}
 use Rattle.elf_tools.specs.declared.symbol_versions.SymbolVersion.TheVariants as code
 use Rattle.elf_tools.specs.declared.symbol_versions.VersionedSymbol.{VersionedSymbol}
@@ -47,27 +48,20 @@ needed_by_names i (Some file) (Some name) = Ok (Some (WrittenVersion.Needed file
 needed_by_names i (Some file) None = Err (unreadable i)
 needed_by_names i None name = Err (unreadable i)
 
--- a version index that no definition and no need has names nothing
-abbrev pub need_version : ℕ → Result (Option Requirement) ParseError → Result (Option WrittenVersion) Unreadable
-need_version i (Ok (Some r)) = needed_by_names i (text_of r.file) (text_of r.name)
-need_version i (Ok None) = Err (unreadable i)
-need_version i (Err e) = Err (unreadable i)
-
 -- ---- of a symbol
 
--- by the definition with its version index, or if there is none by the need with it. A symbol that is defined may have
--- its version among the needs: it is the copy of one of another file.
-abbrev pub symbol_version_by : ℕ → Result (Option Definition) ParseError → Result (Option Requirement) ParseError →
-    Result (Option WrittenVersion) Unreadable
-symbol_version_by i (Ok (Some d)) need = definition_version i d
-symbol_version_by i (Ok None) need = need_version i need
-symbol_version_by i (Err e) need = Err (unreadable i)
+-- by what its version index stands for; an index that no definition and no need has stands for nothing. A symbol that
+-- is defined may have its version among the needs: it is the copy of one of another file.
+abbrev pub symbol_version_by : ℕ → Option VersionEntry → Result (Option WrittenVersion) Unreadable
+symbol_version_by i (Some (ByDefinition d)) = definition_version i d
+symbol_version_by i (Some (ByNeed r)) = needed_by_names i (text_of r.file) (text_of r.name)
+symbol_version_by i None = Err (unreadable i)
 
 -- the version indexes 0 (VER_NDX_LOCAL) and 1 (VER_NDX_GLOBAL) say that a symbol has no version
 abbrev pub symbol_version_with : Versions → ℕ → VersionIndex → Result (Option WrittenVersion) Unreadable
 symbol_version_with versions i index =
     if nat_lt (version_index index) 2 then Ok None
-    else symbol_version_by i (definition versions i) (requirement versions i)
+    else symbol_version_by i (version_entry versions index)
 
 abbrev pub symbol_version : Versions → ℕ → Result (Option WrittenVersion) Unreadable
 symbol_version versions i = version_index_of versions i >>= symbol_version_with versions i

@@ -7,8 +7,8 @@ ghost use Rattle.elf.specs.Parts.{IsPlain, loaded};
 ghost use Rattle.elf.specs.StreamFile.{stream_file};
 ghost use Rattle.elf_reading.specs.Refusals.{Kind, kind};
 ghost use Rattle.elf_tools.specs.BuildId.{MissesId, build_id, first_id, sections_id, segments_id};
-ghost use Rattle.elf_tools.specs.Missing.{LoadsMissing};
-ghost use Rattle.elf_tools.specs.Readings.{ReadsFile};
+ghost use Rattle.elf_linking.specs.Missing.{LoadsMissing};
+ghost use Rattle.elf_linking.specs.Readings.{ReadsFile};
 
 use elf::endian::EndianParse;
 use elf::note::{Note, NoteIterator};

@@ -1,14 +1,14 @@
 //! Whether a hash section of a file is sound for the dynamic symbols, or its first fault.
 ghost use Rattle.elf.specs.ObjectFile.{object_file};
 ghost use Rattle.elf.specs.ElfBytes.{view};
-ghost use Rattle.elf_binding.specs.ObjectTable.{section_object};
+ghost use Rattle.elf_linking.specs.ObjectTable.{section_object};
 ghost use Rattle.elf_tools.specs.HashLint.{GivesLint, IsLint, hash_object};
 
 use elf::endian::EndianParse;
 use elf::section::SectionHeader;
 use elf::{ElfBytes, abi};
-use elf_binding::resolve::{ObjectFault, section_table};
-use elf_check::hashcheck::HashKind;
+use elf_hash_check::hashcheck::HashKind;
+use elf_linking::resolve::{ObjectFault, section_table};
 
 fn kind_lint<E: EndianParse>(
     file: &ElfBytes<'_, E>,

@@ -1,19 +1,20 @@
 //! The versions of symbols, as they are written after the names of the symbols.
-ghost use Rattle.std.specs.Prelude.{◌≡◌, IfOk, map};
+ghost use Rattle.std.specs.Prelude.{◌≡◌, IfOk, Ok, map};
 ghost use Rattle.std.specs.Option.{option_map};
 ghost use Rattle.elf_records.specs.Number.{ok_map};
 ghost use Rattle.elf_records.specs.Symbol.{symbol_reads};
 ghost use Rattle.elf_records.specs.Table.{table_items, table_view};
-ghost use Rattle.elf_parts.specs.gnu_symver.Table.{definition_view, names_left, requirement};
-ghost use Rattle.elf_tools.specs.SymbolVersions.{definition_version, defined_by_name, need_version, symbol_view};
+ghost use Rattle.elf_parts.specs.gnu_symver.Table.{definition_view, index_of, names_left};
+ghost use Rattle.elf_hash_check.specs.VersionEntry.{ByNeed, required_with};
+ghost use Rattle.elf_tools.specs.SymbolVersions.{definition_version, defined_by_name, symbol_version_by, symbol_view};
 ghost use Rattle.elf_tools.specs.SymbolVersions.{symbol_version_in};
 ghost use Rattle.elf_tools.specs.SymbolVersions.{symbol_version, symbol_version_view, versioned_symbols};
 
 use elf::abi;
 use elf::endian::EndianParse;
-use elf::gnu_symver::{SymbolDefinition, SymbolNamesIterator, SymbolVersions};
+use elf::gnu_symver::{SymbolDefinition, SymbolNamesIterator, SymbolVersions, VersionIndex};
 use elf::symbol::{Symbol, SymbolTable};
-use elf_binding::Unreadable;
+use elf_linking::Unreadable;
 use std::alloc::{AllocError, Global};
 
 /// The version of a symbol.
@@ -70,9 +71,11 @@ fn definition_version<'a, E: EndianParse>(
 fn need_version<'a, E: EndianParse, V: SymbolVersions<E>>(
     versions: &'a V,
     symbol: usize,
+    index: VersionIndex,
 ) -> Result<Option<SymbolVersion<'a>>, Unreadable>
+    requires { index_of (V.versions versions.now) symbol ≡ Ok index }
     ensures { ok_map (option_map symbol_version_view) result
-        ≡ need_version symbol (requirement (V.versions versions.now) symbol) }
+        ≡ symbol_version_by symbol (option_map ByNeed (required_with (V.versions versions.now).needs index)) }
 {
     match versions.get_requirement(symbol) {
         Ok(Some(needed)) => Ok(Some(SymbolVersion::Needed {
@@ -85,8 +88,9 @@ fn need_version<'a, E: EndianParse, V: SymbolVersions<E>>(
 }
 
 /// Returns the version of a symbol, counted from 0. Returns `None` if its version index is 0 (`VER_NDX_LOCAL`) or 1
-/// (`VER_NDX_GLOBAL`), or if it is that of the file itself (`VER_FLG_BASE`). The definitions of the file come before its
-/// needs. A symbol that the file defines may have a needed version: it is the copy of a variable of another file.
+/// (`VER_NDX_GLOBAL`), or if it is that of the file itself (`VER_FLG_BASE`). If a definition and a need have its index,
+/// the definition counts. A symbol that the file defines may have a needed version: it is the copy of a variable of
+/// another file.
 ///
 /// The error is `Unreadable` if the version index or a name cannot be read (of a need also the name of its file), if
 /// the definition has no names, or if no definition and no need has the version index.
@@ -100,22 +104,22 @@ fn need_version<'a, E: EndianParse, V: SymbolVersions<E>>(
 ///     }
 /// }
 /// ```
+#[tactic(auto, using(crate::proofs::SymbolVersions::version_defined, crate::proofs::SymbolVersions::version_needed, crate::proofs::SymbolVersions::version_refused))]
 pub fn symbol_version<'a, E: EndianParse, V: SymbolVersions<E>>(
     versions: &'a V,
     symbol: usize,
 ) -> Result<Option<SymbolVersion<'a>>, Unreadable>
     ensures { ok_map (option_map symbol_version_view) result ≡ symbol_version (V.versions versions.now) symbol }
 {
-    let index = match versions.get_index(symbol) {
-        Ok(index) => index.index(),
-        Err(_) => return Err(Unreadable { symbol }),
+    let Ok(index) = versions.get_index(symbol) else {
+        return Err(Unreadable { symbol });
     };
-    if index < 2 {
+    if index.index() < 2 {
         return Ok(None);
     }
     match versions.get_definition(symbol) {
         Ok(Some(definition)) => definition_version(definition, symbol),
-        Ok(None) => need_version(versions, symbol),
+        Ok(None) => need_version(versions, symbol, index),
         Err(_) => Err(Unreadable { symbol }),
     }
 }

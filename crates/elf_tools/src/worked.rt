@@ -1,48 +1,10 @@
 //! The definitions at known values.
-ghost use Rattle.std.specs.Prelude.{◌≡◌, ◌∷◌, [], codes, true, false, None, Some, Ok, Err};
-ghost use Rattle.elf_binding.specs.Binding.{unreadable};
+ghost use Rattle.std.specs.Prelude.{◌≡◌, ◌∷◌, [], true, false, None, Some, Ok, Err};
+ghost use Rattle.elf_linking.specs.Binding.{unreadable};
 ghost use Rattle.elf_tools.specs.Addresses.{has_address, located_symbols, nearest};
-ghost use Rattle.elf_tools.specs.Known.{by_address, found, no_others, others, program, symbol_at, with_both, with_rpath};
-ghost use Rattle.elf_tools.specs.Known.{located_at, own_version, version_of_f, versions, without_paths};
-ghost use Rattle.elf_tools.specs.Search.{candidates, expansion, folders_in};
+ghost use Rattle.elf_tools.specs.Known.{by_address, found, symbol_at};
+ghost use Rattle.elf_tools.specs.Known.{located_at, own_version, version_of_f, versions};
 ghost use Rattle.elf_tools.specs.SymbolVersions.{symbol_version_in, symbol_version};
-ghost use Rattle.elf_tools.specs.declared.search.Separators.TheVariants.{Colons, ColonsAndSemicolons};
-
-/// `$ORIGIN` and `${ORIGIN}` are replaced wherever they occur. A longer name, an open brace and other sequences stay.
-pub fn sequences()
-    ensures front { expansion (codes "/o") (codes "$ORIGIN/../lib") ≡ codes "/o/../lib" }
-    ensures braces { expansion (codes "/o") (codes "a${ORIGIN}b") ≡ codes "a/ob" }
-    ensures twice { expansion (codes "/o") (codes "$ORIGIN$ORIGIN") ≡ codes "/o/o" }
-    ensures longer { expansion (codes "/o") (codes "$ORIGINAL") ≡ codes "$ORIGINAL" }
-    ensures open { expansion (codes "/o") (codes "${ORIGIN") ≡ codes "${ORIGIN" }
-    ensures other { expansion (codes "/o") (codes "/$LIB") ≡ codes "/$LIB" }
-{}
-
-/// A path may have empty folders. An empty path has none.
-pub fn search_paths()
-    ensures two { folders_in Colons (codes "/o") (codes "/a:$ORIGIN") ≡ codes "/a" ∷ codes "/o" ∷ [] }
-    ensures blank { folders_in Colons (codes "/o") (codes ":/a:") ≡ [] ∷ codes "/a" ∷ [] ∷ [] }
-    ensures semicolon { folders_in Colons (codes "/o") (codes "/a;/b") ≡ codes "/a;/b" ∷ [] }
-    ensures both { folders_in ColonsAndSemicolons (codes "/o") (codes "/a;/b:/c")
-        ≡ codes "/a" ∷ codes "/b" ∷ codes "/c" ∷ [] }
-    ensures none { folders_in Colons (codes "/o") [] ≡ [] }
-{}
-
-/// The folders of DT_RPATH come first: those of the object, and then those of its loaders up to the program, except of a
-/// loader with DT_RUNPATH. If the object has DT_RUNPATH they do not count, and the folders of DT_RUNPATH come after
-/// LD_LIBRARY_PATH. The folder of the program stands for $ORIGIN in LD_LIBRARY_PATH. A name with a slash is a path.
-pub fn places_of_a_library()
-    ensures rpath { candidates with_rpath (program ∷ []) others (codes "n")
-        ≡ codes "/l/x/n" ∷ codes "/p1/n" ∷ codes "/p/e/n" ∷ codes "/lib/n" ∷ codes "/usr/lib/n" ∷ [] }
-    ensures runpath { candidates with_both (with_rpath ∷ program ∷ []) others (codes "n")
-        ≡ codes "/p/e/n" ∷ codes "/m1/n" ∷ codes "/lib/n" ∷ codes "/usr/lib/n" ∷ [] }
-    ensures loaders { candidates without_paths (with_both ∷ with_rpath ∷ program ∷ []) no_others (codes "n")
-        ≡ codes "/l/x/n" ∷ codes "/p1/n" ∷ [] }
-    ensures slash { candidates with_rpath (program ∷ []) others (codes "a/n") ≡ codes "a/n" ∷ [] }
-    ensures sequence { candidates with_rpath (program ∷ []) others (codes "$ORIGIN/n") ≡ codes "/l/n" ∷ [] }
-    ensures alone { candidates without_paths [] others (codes "n")
-        ≡ codes "/w/e/n" ∷ codes "/lib/n" ∷ codes "/usr/lib/n" ∷ [] }
-{}
 
 /// Functions and objects that a section defines have an address.
 pub fn symbols_with_an_address()
@@ -72,8 +34,9 @@ pub fn nearest_symbols()
     ensures far { nearest 100 by_address ≡ found 2 68 false }
 {}
 
-/// The version indexes 0 and 1 are no version, and neither is the one of the file itself. An index that nothing has, a
-/// symbol without an index, and a name that cannot be read are errors.
+/// The version indexes 0 and 1 are no version, and neither is the one of the file itself. An index that a definition and
+/// a need have stands for the definition. An index that nothing has, a symbol without an index, and a name that cannot
+/// be read are errors.
 pub fn versions_of_symbols()
     ensures local { symbol_version versions 0 ≡ Ok None }
     ensures global { symbol_version versions 1 ≡ Ok None }

@@ -1,9 +1,9 @@
 -- Facts of the few numbers below a bound, and the verdict on what is known to be sound or not.
 use Rattle.std.proofs.Common.{◌≡◌, ◌≢◌, ℕ, zero, suc, ◌<◌, ◌++◌, codes, Some, refl, inl, inr, arith}
 use Rattle.std.specs.Fmt.{decimal}
-use Rattle.elf_calls.specs.Verdicts.{verdict}
-use Rattle.elf_check.specs.inner.Decisions.{Decided}
-use Rattle.elf_calls.specs.Hashes.{verdict_line}
+use Rattle.elfshow.specs.Verdicts.{verdict}
+use Rattle.elf_hash_check.specs.inner.Decisions.{Decided}
+use Rattle.elfshow.specs.Hashes.{verdict_line}
 
 pub below_one : (P : ℕ → Type 0) → P 0 → (i : ℕ) → i < 1 → P i
 below_one P p zero h = p

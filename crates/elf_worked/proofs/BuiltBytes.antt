@@ -20,8 +20,8 @@ use Rattle.elf_records.specs.Word.{u32_layout, u32_reads}
 use Rattle.elf_parts.specs.Written.{AllFit, Fits, IsStruct, Member, Unsigned, struct_bytes, table_of}
 use Rattle.elf_records.specs.declared.file.Class.{Class}
 use Rattle.elf_parts.specs.declared.hash.sysv.SysVHashHeader.{SysVHashHeader}
-use Rattle.elf_check.specs.SoundSysv.{SoundSysv}
-use Rattle.elf_check.specs.WithSymbols.{with_symbols, word}
+use Rattle.elf_hash_check.specs.SoundSysv.{SoundSysv}
+use Rattle.elf_hash_check.specs.WithSymbols.{with_symbols, word}
 use Rattle.elf_worked.proofs.BuiltSound.{sysv_sound}
 use Rattle.elf_worked.proofs.PutIn.{head_in, tail_in}
 use Rattle.elf_worked.proofs.WrittenFiles.{bytes_lie, length-table, three_steps}

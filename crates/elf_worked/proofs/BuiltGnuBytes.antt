@@ -20,8 +20,8 @@ use Rattle.elf_parts.specs.Written.{Fits, struct_bytes, table_of}
 use Rattle.elf_records.specs.declared.file.Class.{Class}
 use Rattle.elf_records.specs.declared.file.Class.TheVariants.{ELF32, ELF64}
 use Rattle.elf_parts.specs.declared.hash.gnu.GnuHashHeader.{GnuHashHeader}
-use Rattle.elf_check.specs.SoundGnu.{SoundGnu}
-use Rattle.elf_check.specs.WithSymbols.{bloom, with_symbols, word}
+use Rattle.elf_hash_check.specs.SoundGnu.{SoundGnu}
+use Rattle.elf_hash_check.specs.WithSymbols.{bloom, with_symbols, word}
 use Rattle.elf_worked.proofs.BuiltBytes.{all_fit, item_written, length_words, length_written, words_written}
 use Rattle.elf_worked.proofs.BuiltSound.{gnu_sound}
 use Rattle.elf_worked.proofs.WrittenFiles.{bytes_lie, three_steps}

@@ -7,7 +7,7 @@ use Rattle.elf_records.specs.Number.{bytes_at, number_at}
 use Rattle.elf_records.specs.Record.{numbers_at}
 use Rattle.elf_records.specs.StringTable.{string_at}
 use Rattle.elf_parts.specs.SysvFind.{SysvTable}
-use Rattle.elf_check.specs.WithSymbols.{WithSymbols, bloom, name_at, symbol_and_name, word}
+use Rattle.elf_hash_check.specs.WithSymbols.{WithSymbols, bloom, name_at, symbol_and_name, word}
 use Rattle.elf_worked.proofs.Below.{below_one, below_three, below_two}
 use Rattle.elf_worked.specs.Built.{AreGrouped, HasGnuWords, HasSysvWords, IsBuiltGnu, IsBuiltSysv, bloom_of_all, bucket_after, bucket_word, chain_after, gnu_hashes, name_in, run_word, sysv_bucket}
 use Rattle.elf_worked.specs.BuiltSections.{gnu_built_names, sysv_built_names, sysv_built_order}

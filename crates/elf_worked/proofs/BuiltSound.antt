@@ -19,12 +19,12 @@ use Rattle.elf_records.specs.Table.{Table, item_at}
 use Rattle.elf_records.specs.Word.{u32_layout, u32_reads}
 use Rattle.elf_records.specs.declared.parse.ParseError.{ParseError}
 use Rattle.elf_records.specs.declared.symbol.Symbol.{Symbol}
-use Rattle.elf_check.proofs.Reading.{word_ok}
-use Rattle.elf_check.proofs.SysvScan.{before_end, visits_before}
-use Rattle.elf_check.specs.Indexed.{IndexedSysv, IsFirstNamed, IsLeastNamed}
-use Rattle.elf_check.specs.SoundGnu.{HasBothBits, InRun, RunsTo, SoundGnu, SoundWord}
-use Rattle.elf_check.specs.SoundSysv.{Belongs, EndsAt, SoundSysv, chain_word, value}
-use Rattle.elf_check.specs.WithSymbols.{WithSymbols, name_at, symbol_and_name, word}
+use Rattle.elf_hash_check.proofs.Reading.{word_ok}
+use Rattle.elf_hash_check.proofs.SysvScan.{before_end, visits_before}
+use Rattle.elf_hash_check.specs.Indexed.{IndexedSysv, IsFirstNamed, IsLeastNamed}
+use Rattle.elf_hash_check.specs.SoundGnu.{HasBothBits, InRun, RunsTo, SoundGnu, SoundWord}
+use Rattle.elf_hash_check.specs.SoundSysv.{Belongs, EndsAt, SoundSysv, chain_word, value}
+use Rattle.elf_hash_check.specs.WithSymbols.{WithSymbols, name_at, symbol_and_name, word}
 use Rattle.elf_worked.proofs.Grouped.{bits_set, half_of_run_word, leads}
 use Rattle.elf_worked.proofs.PutIn.{Chained, Steps, whole_chain}
 use Rattle.elf_worked.specs.Built.{IsBuiltGnu, IsBuiltSysv, gnu_bucket, gnu_hashes, name_in, run_word, sysv_bucket}

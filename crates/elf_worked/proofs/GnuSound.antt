@@ -7,13 +7,14 @@ use Rattle.elf_records.specs.Number.{bytes_at, number_at}
 use Rattle.elf_records.specs.Record.{numbers_at}
 use Rattle.elf_records.specs.StringTable.{string_at}
 use Rattle.elf_records.specs.Table.{Table}
-use Rattle.elf_check.proofs.GnuVerdicts.{true_fault}
-use Rattle.elf_check.specs.Faults.{IsTrueOfGnu}
-use Rattle.elf_check.specs.SoundGnu.{HasBothBits, InRun, RunsTo, SoundGnu, SoundWord}
-use Rattle.elf_check.specs.WithSymbols.{WithSymbols, bloom, symbol_and_name, word}
-use Rattle.elf_check.specs.declared.hashcheck.HashFault.{HashFault}
-use Rattle.elf_check.specs.declared.hashcheck.HashFault.TheVariants.{NoBloomBit, NotInRun, ShiftTooLarge, Unreadable}
-use Rattle.elf_check.specs.declared.hashcheck.HashFault.TheVariants.{WrongHash}
+use Rattle.elf_hash_check.proofs.GnuVerdicts.{true_fault}
+use Rattle.elf_hash_check.specs.Faults.{IsTrueOfGnu}
+use Rattle.elf_hash_check.specs.SoundGnu.{HasBothBits, InRun, RunsTo, SoundGnu, SoundWord}
+use Rattle.elf_hash_check.specs.WithSymbols.{WithSymbols, bloom, symbol_and_name, word}
+use Rattle.elf_hash_check.specs.declared.hashcheck.HashFault.{HashFault}
+use Rattle.elf_hash_check.specs.declared.hashcheck.HashFault.TheVariants.{NoBloomBit, NotInRun, ShiftTooLarge}
+use Rattle.elf_hash_check.specs.declared.hashcheck.HashFault.TheVariants.{Unreadable}
+use Rattle.elf_hash_check.specs.declared.hashcheck.HashFault.TheVariants.{WrongHash}
 use Rattle.elf_worked.specs.SoundSections.{HasGnuFault, gnu_with}
 
 -- ---- the sound one

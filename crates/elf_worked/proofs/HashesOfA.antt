@@ -6,13 +6,13 @@ use Rattle.elf_parts.specs.Hash.{gnu_hash_of, named_symbol, sysv_hash_of, word_a
 use Rattle.elf_records.specs.Number.{bytes_at, number_at}
 use Rattle.elf_records.specs.Record.{numbers_at}
 use Rattle.elf_records.specs.StringTable.{string_at}
-use Rattle.elf_check.proofs.SysvVerdicts.{true_fault}
-use Rattle.elf_check.specs.Faults.{IsTrueOfSysv}
-use Rattle.elf_check.specs.First.{ComesFirstOfSysv}
-use Rattle.elf_check.specs.SoundGnu.{SoundGnu, SoundWord}
-use Rattle.elf_check.specs.SoundSysv.{SoundSysv, value}
-use Rattle.elf_check.specs.WithSymbols.{bloom, symbol_and_name, word}
-use Rattle.elf_check.specs.declared.hashcheck.HashFault.TheVariants.{Endless}
+use Rattle.elf_hash_check.proofs.SysvVerdicts.{true_fault}
+use Rattle.elf_hash_check.specs.Faults.{IsTrueOfSysv}
+use Rattle.elf_hash_check.specs.First.{ComesFirstOfSysv}
+use Rattle.elf_hash_check.specs.SoundGnu.{SoundGnu, SoundWord}
+use Rattle.elf_hash_check.specs.SoundSysv.{SoundSysv, value}
+use Rattle.elf_hash_check.specs.WithSymbols.{bloom, symbol_and_name, word}
+use Rattle.elf_hash_check.specs.declared.hashcheck.HashFault.TheVariants.{Endless}
 use Rattle.elf_worked.proofs.Below.{below_one, below_three, below_two, suc_other}
 use Rattle.elf_worked.proofs.GnuSound.{word_begins}
 use Rattle.elf_worked.proofs.SysvSound.{IsVisit}

@@ -9,13 +9,13 @@ use Rattle.elf_records.specs.StringTable.{string_at}
 use Rattle.elf_parts.specs.SysvFind.{find_along, sysv_find, sysv_section}
 use Rattle.elf_records.specs.declared.file.Class.TheVariants.{ELF32}
 use Rattle.elf_records.specs.declared.symbol.Symbol.{Symbol}
-use Rattle.elf_check.proofs.GnuScan.{gnu_scan}
-use Rattle.elf_check.proofs.SysvScan.{sysv_scan}
-use Rattle.elf_check.specs.Indexed.{IsFirstNamed, IsLeastNamed}
-use Rattle.elf_check.specs.Object.{Has, Object}
-use Rattle.elf_binding.specs.Resolve.{At}
-use Rattle.elf_check.specs.WithSymbols.{symbol_and_name, word}
-use Rattle.elf_check.specs.inner.SoundProps.{GnuReads, SysvReads}
+use Rattle.elf_hash_check.proofs.GnuScan.{gnu_scan}
+use Rattle.elf_hash_check.proofs.SysvScan.{sysv_scan}
+use Rattle.elf_hash_check.specs.Indexed.{IsFirstNamed, IsLeastNamed}
+use Rattle.elf_hash_check.specs.Object.{Has, Object}
+use Rattle.elf_linking.specs.Resolve.{At}
+use Rattle.elf_hash_check.specs.WithSymbols.{symbol_and_name, word}
+use Rattle.elf_hash_check.specs.inner.SoundProps.{GnuReads, SysvReads}
 use Rattle.elf_worked.proofs.Below.{below_one, below_two, some_other}
 use Rattle.elf_worked.proofs.GnuSound.{gnu_sound}
 use Rattle.elf_worked.proofs.SysvSound.{IsOther, sysv_sound}
@@ -24,7 +24,7 @@ use Rattle.elf_worked.specs.ObjectLists.{Resolves, first_object, second_object}
 use Rattle.elf_worked.specs.SoundSections.{gnu_bytes, gnu_with, symbol_of, sysv_bytes, sysv_with}
 use Rattle.elf_parts.specs.GnuFind.{GnuTable}
 use Rattle.elf_parts.specs.SysvFind.{SysvTable}
-use Rattle.elf_check.specs.WithSymbols.{WithSymbols}
+use Rattle.elf_hash_check.specs.WithSymbols.{WithSymbols}
 use Rattle.std.specs.Prelude.{true}
 
 abbrev one : WithSymbols SysvTable

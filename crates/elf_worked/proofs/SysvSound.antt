@@ -5,12 +5,12 @@ use Rattle.elf_parts.specs.Hash.{named_symbol, sysv_hash_of, word_at}
 use Rattle.elf_records.specs.Number.{bytes_at, number_at}
 use Rattle.elf_records.specs.Record.{numbers_at}
 use Rattle.elf_records.specs.StringTable.{string_at}
-use Rattle.elf_check.proofs.SysvVerdicts.{true_fault}
-use Rattle.elf_check.specs.Faults.{IsTrueOfSysv}
-use Rattle.elf_check.specs.SoundSysv.{Belongs, SoundSysv, value}
-use Rattle.elf_check.specs.WithSymbols.{WithSymbols, symbol_and_name, word}
-use Rattle.elf_check.specs.declared.hashcheck.HashFault.{HashFault}
-use Rattle.elf_check.specs.declared.hashcheck.HashFault.TheVariants.{Endless, PastChains, Unreadable, WrongBucket}
+use Rattle.elf_hash_check.proofs.SysvVerdicts.{true_fault}
+use Rattle.elf_hash_check.specs.Faults.{IsTrueOfSysv}
+use Rattle.elf_hash_check.specs.SoundSysv.{Belongs, SoundSysv, value}
+use Rattle.elf_hash_check.specs.WithSymbols.{WithSymbols, symbol_and_name, word}
+use Rattle.elf_hash_check.specs.declared.hashcheck.HashFault.{HashFault}
+use Rattle.elf_hash_check.specs.declared.hashcheck.HashFault.TheVariants.{Endless, PastChains, Unreadable, WrongBucket}
 use Rattle.elf_parts.specs.SysvFind.{SysvTable}
 use Rattle.elf_worked.proofs.Below.{below_five, below_one, below_three, below_two, some_other, suc_other}
 use Rattle.elf_worked.specs.Files.{in_four}

@@ -26,7 +26,7 @@ use Rattle.elf.specs.Headers.{if_found}
 use Rattle.elf.specs.Names.{name_index, name_section, name_table}
 use Rattle.elf.specs.ObjectFile.{object_file}
 use Rattle.elf.specs.Headers.{section_at, section_range}
-use Rattle.elf_check.proofs.Reading.{ok_from_some}
+use Rattle.elf_hash_check.proofs.Reading.{ok_from_some}
 use Rattle.std.proofs.lemmas.Option.{slice_get_within}
 use Rattle.elf_reading.specs.Opening.{first_section, header_at_front, opened_file, section_count, section_table, segment_count, segment_table, table_bytes}
 use Rattle.elf_reading.specs.Opening.{section_list, segment_list}

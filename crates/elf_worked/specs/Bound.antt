@@ -6,12 +6,12 @@ use Rattle.elf_records.specs.declared.file.Class.TheVariants.{ELF64}
 use Rattle.elf_parts.specs.declared.gnu_symver.records.VerDef.{VerDef}
 use Rattle.elf_parts.specs.declared.gnu_symver.records.VerDefAux.{VerDefAux}
 use Rattle.elf_records.specs.declared.symbol.Symbol.{Symbol}
-use Rattle.elf_binding.specs.Binding.{IsChosen, NamedVersion, named_version}
-use Rattle.elf_check.specs.NamedSymbols.{AreAllNamed}
-use Rattle.elf_check.specs.Object.{Object}
-use Rattle.elf_binding.specs.declared.Unreadable.{Unreadable}
-use Rattle.elf_binding.specs.declared.Version.{Version}
-use Rattle.elf_binding.specs.declared.Wanted.{Wanted}
+use Rattle.elf_linking.specs.Binding.{IsChosen, NamedVersion, named_version}
+use Rattle.elf_hash_check.specs.NamedSymbols.{AreAllNamed}
+use Rattle.elf_hash_check.specs.Object.{Object}
+use Rattle.elf_linking.specs.declared.Unreadable.{Unreadable}
+use Rattle.elf_linking.specs.declared.Version.{Version}
+use Rattle.elf_linking.specs.declared.Wanted.{Wanted}
 use Rattle.elf_worked.specs.Files.{in_two}
 use Rattle.elf_worked.specs.Parts.{strings_of_needs}
 

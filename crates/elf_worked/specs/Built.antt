@@ -9,7 +9,7 @@ use Rattle.elf_parts.specs.Hash.{gnu_hash_of, sysv_hash_of, word_count}
 use Rattle.elf_parts.specs.SysvFind.{SysvTable}
 use Rattle.elf_records.specs.Table.{Table}
 use Rattle.elf_parts.specs.declared.hash.gnu.GnuHashHeader.{GnuHashHeader}
-use Rattle.elf_check.specs.WithSymbols.{WithSymbols, bloom, name_at, word}
+use Rattle.elf_hash_check.specs.WithSymbols.{WithSymbols, bloom, name_at, word}
 
 -- the words of a table: their number, and these
 abbrev pub AreWords : Table → ℕ → (ℕ → ℕ) → Type 0

@@ -4,7 +4,7 @@ use Rattle.elf_parts.specs.GnuFind.{GnuTable}
 use Rattle.elf_parts.specs.SysvFind.{SysvTable}
 use Rattle.elf_records.specs.Table.{Table, table_in}
 use Rattle.elf_records.specs.declared.file.Class.TheVariants.{ELF32}
-use Rattle.elf_check.specs.WithSymbols.{WithSymbols}
+use Rattle.elf_hash_check.specs.WithSymbols.{WithSymbols}
 use Rattle.elf_worked.specs.Files.{in_four, zeros}
 
 abbrev pub strings_of_a : List ℕ

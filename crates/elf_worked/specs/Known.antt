@@ -14,8 +14,8 @@ use Rattle.elf.specs.Names.{name_table}
 use Rattle.elf.specs.ObjectFile.{object_file}
 use Rattle.elf_reading.specs.Opening.{opened_file}
 use Rattle.elf_reading.specs.Opening.{FileView}
-use Rattle.elf_calls.specs.Question.{Question}
-use Rattle.elf_calls.specs.Text.{text}
+use Rattle.elfshow.specs.Question.{Question}
+use Rattle.elfshow.specs.Text.{text}
 use Rattle.elf_worked.specs.Files.{elsewhere, header_of_tables, in_eight, in_four, in_two, loaded_segment}
 use Rattle.elf_worked.specs.Files.{names_section, null_section, small_file, two_sections, zeros}
 

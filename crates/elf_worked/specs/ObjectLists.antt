@@ -5,10 +5,10 @@ use Rattle.elf_records.specs.Number.{ok_map}
 use Rattle.elf_records.specs.declared.parse.ParseError.{ParseError}
 use Rattle.elf_records.specs.declared.symbol.Symbol.{Symbol}
 use Rattle.elf.specs.ObjectFile.{object_file}
-use Rattle.elf_check.specs.Object.{ByGnu, BySysv, Object}
-use Rattle.elf_binding.specs.ObjectTable.{object_of}
-use Rattle.elf_binding.specs.Resolve.{IsResolved}
-use Rattle.elf_binding.specs.declared.resolve.ObjectFault.{ObjectFault}
+use Rattle.elf_hash_check.specs.Object.{ByGnu, BySysv, Object}
+use Rattle.elf_linking.specs.ObjectTable.{object_of}
+use Rattle.elf_linking.specs.Resolve.{IsResolved}
+use Rattle.elf_linking.specs.declared.resolve.ObjectFault.{ObjectFault}
 use Rattle.elf_worked.specs.Files.{in_four}
 use Rattle.elf_worked.specs.Known.{opening}
 use Rattle.elf_worked.specs.SoundSections.{gnu_with, sysv_with}

@@ -7,11 +7,11 @@ use Rattle.elf_records.specs.Table.{table_in}
 use Rattle.elf_records.specs.declared.file.Class.TheVariants.{ELF32}
 use Rattle.elf_records.specs.declared.parse.ParseError.{ParseError}
 use Rattle.elf_records.specs.declared.symbol.Symbol.{Symbol}
-use Rattle.elf_check.specs.Faults.{IsTrueOfGnu, IsTrueOfSysv}
-use Rattle.elf_check.specs.SoundGnu.{SoundGnu}
-use Rattle.elf_check.specs.SoundSysv.{SoundSysv}
-use Rattle.elf_check.specs.WithSymbols.{WithSymbols, with_symbols}
-use Rattle.elf_check.specs.declared.hashcheck.HashFault.{HashFault}
+use Rattle.elf_hash_check.specs.Faults.{IsTrueOfGnu, IsTrueOfSysv}
+use Rattle.elf_hash_check.specs.SoundGnu.{SoundGnu}
+use Rattle.elf_hash_check.specs.SoundSysv.{SoundSysv}
+use Rattle.elf_hash_check.specs.WithSymbols.{WithSymbols, with_symbols}
+use Rattle.elf_hash_check.specs.declared.hashcheck.HashFault.{HashFault}
 use Rattle.elf_worked.specs.Files.{in_four, zeros}
 
 -- the bytes of a symbol with this st_name, and the symbol

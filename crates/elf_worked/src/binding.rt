@@ -1,12 +1,12 @@
 //! Which symbols a reference may bind to, and which of them serves it.
 ghost use Rattle.std.specs.Prelude.{◌≡◌, ℕ, List, [], ◌∷◌, true, false, Ok, Err, None, Some};
-ghost use Rattle.elf_binding.specs.Binding.{VersionedObject, ChosenAt, IsBinding, is_definition, unreadable};
-ghost use Rattle.elf_binding.specs.Binding.{IsBindingFor, IsChosenFor, is_definition_for, version_of};
-ghost use Rattle.elf_binding.specs.ReferenceKinds.{reference_kind};
-ghost use Rattle.elf_binding.specs.declared.ReferenceKind.TheVariants.{Address, Copied, JumpSlot};
-ghost use Rattle.elf_binding.specs.declared.Version.{Version};
-ghost use Rattle.elf_binding.specs.declared.Wanted.{Wanted};
-ghost use Rattle.elf_binding.specs.declared.Wanted.TheVariants.{Any, Compatible, Only};
+ghost use Rattle.elf_linking.specs.Binding.{VersionedObject, ChosenAt, IsBinding, is_definition, unreadable};
+ghost use Rattle.elf_linking.specs.Binding.{IsBindingFor, IsChosenFor, is_definition_for, version_of};
+ghost use Rattle.elf_linking.specs.ReferenceKinds.{reference_kind};
+ghost use Rattle.elf_linking.specs.declared.ReferenceKind.TheVariants.{Address, Copied, JumpSlot};
+ghost use Rattle.elf_linking.specs.declared.Version.{Version};
+ghost use Rattle.elf_linking.specs.declared.Wanted.{Wanted};
+ghost use Rattle.elf_linking.specs.declared.Wanted.TheVariants.{Any, Compatible, Only};
 ghost use Rattle.elf_records.specs.declared.symbol.Symbol.{Symbol};
 ghost use Rattle.elf_worked.specs.Bound.{IsFor, Takes, library_versions, symbol_at, takes, v, w};
 ghost use Rattle.elf_worked.specs.Parts.{versions};

@@ -13,10 +13,10 @@ ghost use Rattle.elf_records.specs.declared.file.Class.{Class as AnyClass};
 ghost use Rattle.elf_records.specs.declared.file.Class.TheVariants.{ELF32};
 ghost use Rattle.elf_parts.specs.declared.hash.gnu.GnuHashHeader.{GnuHashHeader};
 ghost use Rattle.elf_records.specs.declared.symbol.Symbol.{Symbol as AnySymbol};
-ghost use Rattle.elf_check.specs.Indexed.{IndexedSysv, IsFirstNamed, IsLeastNamed};
-ghost use Rattle.elf_check.specs.SoundGnu.{SoundGnu};
-ghost use Rattle.elf_check.specs.SoundSysv.{SoundSysv};
-ghost use Rattle.elf_check.specs.WithSymbols.{WithSymbols, with_symbols};
+ghost use Rattle.elf_hash_check.specs.Indexed.{IndexedSysv, IsFirstNamed, IsLeastNamed};
+ghost use Rattle.elf_hash_check.specs.SoundGnu.{SoundGnu};
+ghost use Rattle.elf_hash_check.specs.SoundSysv.{SoundSysv};
+ghost use Rattle.elf_hash_check.specs.WithSymbols.{WithSymbols, with_symbols};
 ghost use Rattle.elf_worked.specs.Built.{CanPutIn, CanWrite, IsBuiltGnu, IsBuiltSysv, gnu_hashes, name_in};
 ghost use Rattle.elf_worked.specs.BuiltBytes.{gnu_section_bytes, sysv_section_bytes};
 ghost use Rattle.elf_worked.specs.BuiltSections.{gnu_built_names, sysv_built_names, sysv_built_order};
@@ -27,7 +27,7 @@ use elf::endian::EndianParse;
 use elf::file::Class;
 use elf::string_table::StringTable;
 use elf::symbol::{Symbol, SymbolTable};
-use elf_check::hashcheck::{Checked, check_gnu, check_sysv};
+use elf_hash_check::hashcheck::{Checked, check_gnu, check_sysv};
 
 /// A SysV section that was built for any symbols is sound, it indexes exactly those that were put in, and `find`,
 /// whose contract is `IsFirstNamed`, finds the name of each.

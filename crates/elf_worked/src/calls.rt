@@ -1,8 +1,8 @@
 //! Whole calls of a listing, from the bytes of small files on.
 ghost use Rattle.std.specs.Prelude.{◌≡◌, [], ◌∷◌, ◌++◌, Ok, codes};
-ghost use Rattle.elf_check.specs.declared.hashcheck.any.HashKind.TheVariants.{Gnu, Sysv};
-ghost use Rattle.elf_calls.specs.Question.{Data, DynSyms, Dynamic, Hash, Name, Notes, Relas, Rels};
-ghost use Rattle.elf_calls.specs.Question.{Seg, SegNotes, Segments, Strings, Symbols, Versions};
+ghost use Rattle.elf_hash_check.specs.declared.hashcheck.any.HashKind.TheVariants.{Gnu, Sysv};
+ghost use Rattle.elfshow.specs.Question.{Data, DynSyms, Dynamic, Hash, Name, Notes, Relas, Rels};
+ghost use Rattle.elfshow.specs.Question.{Seg, SegNotes, Segments, Strings, Symbols, Versions};
 ghost use Rattle.elf_worked.specs.Files.{compressed_section, in_four, in_two, one_segment, small_file, two_sections};
 ghost use Rattle.elf_worked.specs.Known.{listing};
 ghost use Rattle.elf_worked.specs.Listed.{dynamic_file, gnu_type, gnuu_note, note_section_file};

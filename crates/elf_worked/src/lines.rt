@@ -3,19 +3,19 @@ ghost use Rattle.std.specs.Prelude.{◌≡◌, [], ◌∷◌, ◌++◌, Ok, Err,
 ghost use Rattle.elf_parts.specs.Note.{AbiTag, BuildId, Other};
 ghost use Rattle.elf_records.specs.declared.parse.ParseError.TheVariants.{BadOffset};
 ghost use Rattle.std.proofs.Common.{inl, inr};
-ghost use Rattle.elf_calls.specs.Verdicts.{verdict};
-ghost use Rattle.elf_lines.specs.Data.{section_data_line, segment_data_line};
-ghost use Rattle.elf_lines.specs.Dynamic.{dyn_line};
-ghost use Rattle.elf_calls.specs.Hashes.{verdict_line};
-ghost use Rattle.elf_lines.specs.Counted.{counted_lines};
-ghost use Rattle.elf_lines.specs.Notes.{note_line};
-ghost use Rattle.elf_lines.specs.Relocations.{rel_line, rela_line};
-ghost use Rattle.elf_lines.specs.Sections.{found_line};
-ghost use Rattle.elf_lines.specs.Segments.{segment_line};
-ghost use Rattle.elf_lines.specs.NoAnswer.{absent_line, none_line, refused_line};
-ghost use Rattle.elf_lines.specs.Strings.{string_line, strings_of};
-ghost use Rattle.elf_lines.specs.Symbols.{symbol_line};
-ghost use Rattle.elf_lines.specs.Versions.{version_line, versions_listed};
+ghost use Rattle.elfshow.specs.Verdicts.{verdict};
+ghost use Rattle.elfshow_lines.specs.Data.{section_data_line, segment_data_line};
+ghost use Rattle.elfshow_lines.specs.Dynamic.{dyn_line};
+ghost use Rattle.elfshow.specs.Hashes.{verdict_line};
+ghost use Rattle.elfshow_lines.specs.Counted.{counted_lines};
+ghost use Rattle.elfshow_lines.specs.Notes.{note_line};
+ghost use Rattle.elfshow_lines.specs.Relocations.{rel_line, rela_line};
+ghost use Rattle.elfshow_lines.specs.Sections.{found_line};
+ghost use Rattle.elfshow_lines.specs.Segments.{segment_line};
+ghost use Rattle.elfshow_lines.specs.NoAnswer.{absent_line, none_line, refused_line};
+ghost use Rattle.elfshow_lines.specs.Strings.{string_line, strings_of};
+ghost use Rattle.elfshow_lines.specs.Symbols.{symbol_line};
+ghost use Rattle.elfshow_lines.specs.Versions.{version_line, versions_listed};
 ghost use Rattle.elf_worked.specs.Parts.{versions};
 
 /// The lines in the place of an answer, and a list of nothing.

@@ -1,13 +1,13 @@
 //! A name over a list of two objects, and what files are as objects.
-#![tactic(auto, unfolding(elf::specs::Data::section_data, elf_check::specs::WithSymbols::symbol_and_name, elf_check::specs::WithSymbols::word, elf_parts::specs::GnuFind::gnu_section, elf_parts::specs::Hash::named_symbol, elf_parts::specs::Hash::word_at, elf_parts::specs::SysvFind::sysv_section, elf_reading::specs::Opening::header_at_front, elf_reading::specs::Opening::section_table, elf_reading::specs::Opening::segment_table, elf_records::specs::File::ident_of, elf_records::specs::Number::bytes_at, elf_records::specs::Number::number_at, elf_records::specs::Record::numbers_at, elf_records::specs::StringTable::string_at))]
+#![tactic(auto, unfolding(elf::specs::Data::section_data, elf_hash_check::specs::WithSymbols::symbol_and_name, elf_hash_check::specs::WithSymbols::word, elf_parts::specs::GnuFind::gnu_section, elf_parts::specs::Hash::named_symbol, elf_parts::specs::Hash::word_at, elf_parts::specs::SysvFind::sysv_section, elf_reading::specs::Opening::header_at_front, elf_reading::specs::Opening::section_table, elf_reading::specs::Opening::segment_table, elf_records::specs::File::ident_of, elf_records::specs::Number::bytes_at, elf_records::specs::Number::number_at, elf_records::specs::Record::numbers_at, elf_records::specs::StringTable::string_at))]
 
 ghost use Rattle.std.specs.Prelude.{◌≡◌, [], ◌∷◌, None, Ok, Err, Some, codes};
 ghost use Rattle.elf_records.specs.declared.parse.ParseError.TheVariants.{SliceReadError};
-ghost use Rattle.elf_check.specs.NamedSymbols.{chain_from, symbols_with_name, run_from};
-ghost use Rattle.elf_check.specs.Object.{ByGnu, BySysv};
-ghost use Rattle.elf_binding.specs.ObjectTable.{IsFaultOf, object_of};
-ghost use Rattle.elf_check.specs.declared.hashcheck.HashFault.TheVariants.{Endless};
-ghost use Rattle.elf_binding.specs.declared.resolve.ObjectFault.TheVariants.{Faulty, NoSymbols, Read};
+ghost use Rattle.elf_hash_check.specs.NamedSymbols.{chain_from, symbols_with_name, run_from};
+ghost use Rattle.elf_hash_check.specs.Object.{ByGnu, BySysv};
+ghost use Rattle.elf_linking.specs.ObjectTable.{IsFaultOf, object_of};
+ghost use Rattle.elf_hash_check.specs.declared.hashcheck.HashFault.TheVariants.{Endless};
+ghost use Rattle.elf_linking.specs.declared.resolve.ObjectFault.TheVariants.{Faulty, NoSymbols, Read};
 ghost use Rattle.elf_worked.specs.Files.{counted_file, in_four, two_sections};
 ghost use Rattle.elf_worked.specs.HashesOfA.{gnu_of_a, sysv_of_a};
 ghost use Rattle.elf_worked.specs.Listed.{gnu_type, symbol_a, symbol_a_with};

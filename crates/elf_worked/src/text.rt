@@ -2,8 +2,8 @@
 ghost use Rattle.std.specs.Prelude.{◌≡◌, ◌-◌, ◌^◌, [], ◌∷◌, ◌++◌, Ok, Err, codes, take};
 ghost use Rattle.std.specs.Fmt.{decimal};
 ghost use Rattle.elf_records.specs.declared.parse.ParseError.TheVariants.{SliceReadError};
-ghost use Rattle.elf_calls.specs.Question.{Header, Sections};
-ghost use Rattle.elf_lines.specs.Pieces.{escaped_text, hex};
+ghost use Rattle.elfshow.specs.Question.{Header, Sections};
+ghost use Rattle.elfshow_lines.specs.Pieces.{escaped_text, hex};
 ghost use Rattle.elf_worked.specs.Files.{compressed_section, counted_by_size, elsewhere, in_four, in_two, ones};
 ghost use Rattle.elf_worked.specs.Files.{small_file, two_sections, two_sections_big, two_with, zeros};
 ghost use Rattle.elf_worked.specs.Known.{listing};

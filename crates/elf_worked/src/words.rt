@@ -1,9 +1,9 @@
 //! What the words of a command line request.
 ghost use Rattle.std.specs.Prelude.{◌≡◌, [], ◌∷◌, ◌++◌, Some, None, codes};
-ghost use Rattle.elf_check.specs.declared.hashcheck.any.HashKind.TheVariants.{Gnu, Sysv};
-ghost use Rattle.elf_calls.specs.Question.{Data, DynSyms, Dynamic, Hash, Header, Name, Notes, Relas, Rels};
-ghost use Rattle.elf_calls.specs.Question.{Sections, Seg, SegNotes, Segments, Strings, Symbols, Versions};
-ghost use Rattle.elf_lines.specs.Pieces.{newline};
+ghost use Rattle.elf_hash_check.specs.declared.hashcheck.any.HashKind.TheVariants.{Gnu, Sysv};
+ghost use Rattle.elfshow.specs.Question.{Data, DynSyms, Dynamic, Hash, Header, Name, Notes, Relas, Rels};
+ghost use Rattle.elfshow.specs.Question.{Sections, Seg, SegNotes, Segments, Strings, Symbols, Versions};
+ghost use Rattle.elfshow_lines.specs.Pieces.{newline};
 ghost use Rattle.elfshow.specs.Failure.{status_of};
 ghost use Rattle.elfshow.specs.Show.{agreement, mode_of, shown_by};
 ghost use Rattle.elfshow.specs.Words.{call_of, index_of};

@@ -15,13 +15,13 @@ use Rattle.elf_records.specs.Number.{ok_map}
 use Rattle.elf_records.specs.declared.file.FileHeader.{FileHeader}
 use Rattle.elf_records.specs.declared.parse.ParseError.{ParseError}
 use Rattle.elf_records.specs.inner.RecordLaws.{ok_map-ok}
-use Rattle.elf_calls.specs.Question.{Question, question}
+use Rattle.elfshow.specs.Question.{Question, question}
 use Rattle.elfshow.specs.Show.{RanOver}
-use Rattle.elf_calls.specs.Run.{Ran}
-use Rattle.elf_calls.specs.Text.{text}
-use Rattle.elf_calls.specs.declared.calls.Call.{Call}
-use Rattle.elf_calls.specs.declared.runs.RunError.{RunError}
-use Rattle.elf_calls.specs.declared.runs.RunError.TheVariants.{Fault, Open, Write}
+use Rattle.elfshow.specs.Run.{Ran}
+use Rattle.elfshow.specs.Text.{text}
+use Rattle.elfshow.specs.declared.calls.Call.{Call}
+use Rattle.elfshow.specs.declared.runs.RunError.{RunError}
+use Rattle.elfshow.specs.declared.runs.RunError.TheVariants.{Fault, Open, Write}
 
 may_fault : (k : Kind) (before now : ℕ) (can_fail : Bool) → IsRefused before now can_fail ⊥ k → MayRefuse can_fail (Unit {0}) ⊥ k
 may_fault Kind.SourceFailure before now can_fail h = h.1

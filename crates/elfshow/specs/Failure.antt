@@ -1,7 +1,7 @@
 -- Why the program stops: by what stopped a part of it, and with which exit status.
 use Rattle.std.specs.Prelude.{ℕ, Option, Some, None, Result, Ok, Err}
-use Rattle.elf_calls.specs.declared.runs.RunError.{RunError}
-use Rattle.elf_calls.specs.declared.runs.RunError.TheVariants as run
+use Rattle.elfshow.specs.declared.runs.RunError.{RunError}
+use Rattle.elfshow.specs.declared.runs.RunError.TheVariants as run
 use Rattle.elfshow.specs.declared.failure.Failure.{Failure}
 use Rattle.elfshow.specs.declared.failure.Failure.TheVariants as failure
 use Rattle.elfshow.specs.declared.show.RequestError.{RequestError}

@@ -9,11 +9,11 @@ use denote.Ref.{Bor}
 use Rattle.elf_reading.specs.Refusals.{MayRefuse}
 use Rattle.elf_reading.specs.Refusals.{Kind, kind}
 use Rattle.elf_records.specs.declared.parse.ParseError.{ParseError}
-use Rattle.elf_lines.specs.Pieces.{◌⧺◌, newline}
+use Rattle.elfshow_lines.specs.Pieces.{◌⧺◌, newline}
 use Rattle.elfshow.specs.Words.{call_of}
-use Rattle.elf_calls.specs.Question.{Question}
-use Rattle.elf_calls.specs.declared.runs.RunError.{RunError}
-use Rattle.elf_calls.specs.declared.runs.RunError.TheVariants.{Fault, Open, Write}
+use Rattle.elfshow.specs.Question.{Question}
+use Rattle.elfshow.specs.declared.runs.RunError.{RunError}
+use Rattle.elfshow.specs.declared.runs.RunError.TheVariants.{Fault, Open, Write}
 use Rattle.elfshow.specs.declared.show.Mode.{Mode}
 use Rattle.elfshow.specs.declared.show.Mode.TheVariants.{Both, Bytes, Stream}
 

@@ -1,1 +1,3 @@
+pub mod CallSteps
 pub mod RunSteps
+pub mod MemoryRuns

@@ -3,7 +3,7 @@ ghost use Rattle.std.specs.Prelude.{◌≡◌};
 ghost use Rattle.elfshow.specs.Failure.{failure_of, failure_of_request, status_of};
 ghost use Rattle.elfshow.specs.declared.failure.Failure.TheVariants.{OutOfMemory};
 
-use crate::calls::RunError;
+use crate::runs::RunError;
 use crate::show::RequestError;
 use elf::ParseError;
 use std::alloc::AllocError;

@@ -6,24 +6,24 @@ ghost use Rattle.std.specs.Io.KnownBytes.{Appends};
 ghost use Rattle.elf_records.specs.Endian.{any_is_little, any_of_byte};
 ghost use Rattle.elf.specs.ObjectFile.{object_file};
 ghost use Rattle.elf_reading.specs.Opening.{opened_file};
-ghost use Rattle.elf_calls.specs.Question.{question};
-ghost use Rattle.elf_calls.specs.Text.{text};
+ghost use Rattle.elfshow.specs.Question.{question};
+ghost use Rattle.elfshow.specs.Text.{text};
 ghost use Rattle.elfshow.specs.Failure.{IsFailureOfFile, run_of, status_of};
-ghost use Rattle.elfshow.specs.inner.RunSteps.{IsUnfailing, in_memory};
-ghost use Rattle.elf_lines.specs.Pieces.{◌⧺◌};
+ghost use Rattle.elfshow.specs.inner.MemoryRuns.{IsUnfailing, in_memory};
+ghost use Rattle.elfshow_lines.specs.Pieces.{◌⧺◌};
 ghost use Rattle.elfshow.specs.Show.{IsStopOfBoth, IsStopOfBytes, IsUnwritten, RanOver, agreement, calls_of, mode_of};
 ghost use Rattle.elfshow.specs.Show.{request_of, shown_by};
 ghost use Rattle.elfshow.specs.declared.failure.Failure.TheVariants.{Usage};
 ghost use Rattle.elfshow.specs.declared.show.Mode.TheVariants.{Both, Bytes, Stream};
 ghost use Rattle.elfshow.specs.declared.show.RequestError.TheVariants.{OutOfMemory};
 
-use crate::calls::{Call, RunError, run_bytes_with_memory, run_stream};
 use crate::failure::{Failure, report};
 use crate::file_system::FileSystem;
+use crate::readers::texts_are_the_same;
+use crate::runs::{Call, RunError, run_bytes_with_memory, run_stream};
 use crate::words::parse_call;
 use elf::endian::AnyEndian;
 use elf::{ElfStream, MemSource, ParseError, StreamSource};
-use elf_calls::readers::texts_are_the_same;
 use std::alloc::{AllocFailed, Global};
 use std::io;
 use std::io::{BufWriter, Write};
@@ -159,7 +159,7 @@ pub fn show<F: FileSystem, W: Write + Drop, V: Write>(
 }
 
 // Writes the text of the requested calls, and flushes the writer.
-#[tactic(auto, using(elf_lines::proofs::Writing::emptied_buffer))]
+#[tactic(auto, using(elfshow_lines::proofs::Writing::emptied_buffer))]
 fn list<F: FileSystem, W: Write + Drop>(
     alloc: Global,
     words: &[&str],

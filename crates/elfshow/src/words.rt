@@ -1,11 +1,11 @@
 //! What the words of a command line spell.
 ghost use Rattle.std.specs.Prelude.{◌≡◌, ◌==◌};
 ghost use Rattle.std.specs.Option.{option_map};
-ghost use Rattle.elf_calls.specs.Question.{question};
+ghost use Rattle.elfshow.specs.Question.{question};
 ghost use Rattle.elfshow.specs.Words.{call_of, index_of, indexed_call, is_digit, keyed_call, number_of};
 ghost use Rattle.elfshow.specs.Words.{plain_call, with_digit};
 
-use crate::calls::Call;
+use crate::runs::Call;
 
 // The most digits that a number may have.
 const MOST_DIGITS: usize = 20;

@@ -11,20 +11,19 @@ mod changes;
 mod source;
 
 use changes::change;
-use elf_tools::tree::Libraries;
+use elf_linking::tree::Libraries;
 use nugwier_commands::run::run;
 use nugwier_files::files::Files;
+use nugwier_files::system::SystemFiles;
 use source::{CaseSource, broken, failing_read};
 use std::alloc::AllocError;
-use std::fs::File;
 use std::io::Write;
-use std::str::from_utf8;
 use std::{fs, io};
 
-/// The files beside the program.
+/// The files of the system beside the program.
 #[derive(Drop)]
 struct CaseFiles<'a> {
-    rt: &'a HostRuntime,
+    system: SystemFiles<'a>,
 }
 
 impl Files for CaseFiles<'_> {
@@ -38,20 +37,20 @@ impl Files for CaseFiles<'_> {
             Some((name, word)) => (name, Some(failing_read(word)?)),
             None => (path, None),
         };
-        let file = File::open(self.rt, name).ok()?;
+        let file = self.system.open(name)?;
         Some(CaseSource::new(file, reads))
     }
 
     fn read(&self, path: &str) -> io::Result<Vec<u8>> {
         match path.split_once(',') {
             Some((_, word)) if word.starts_with("fails=") => Err(broken()),
-            Some((name, word)) if word.starts_with("slips=") => fs::read(self.rt, name),
+            Some((name, word)) if word.starts_with("slips=") => self.system.read(name),
             Some((name, changes)) => {
-                let mut data = fs::read(self.rt, name)?;
+                let mut data = self.system.read(name)?;
                 change(data.as_mut_slice(), changes)?;
                 Ok(data)
             }
-            None => fs::read(self.rt, path),
+            None => self.system.read(path),
         }
     }
 
@@ -63,16 +62,10 @@ impl Libraries for CaseFiles<'_> {
 
     // Only files beside the program are read, so that those of the machine do not count.
     fn read_library(&self, path: &[u8]) -> Result<Option<Vec<u8>>, AllocError> {
-        let Ok(path) = from_utf8(path) else {
-            return Ok(None);
-        };
-        if path.starts_with('/') {
+        if path.starts_with(b"/") {
             return Ok(None);
         }
-        match fs::read(self.rt, path) {
-            Ok(data) => Ok(Some(data)),
-            Err(_) => Ok(None),
-        }
+        self.system.read_library(path)
     }
 }
 
@@ -87,7 +80,9 @@ fn main(rt: HostRuntime) -> io::Result<()> {
 
 fn show_case<W: Write>(rt: &HostRuntime, case: &str, out: &mut W) -> io::Result<()> {
     let words: Vec<&str> = case.split_whitespace().collect(rt.alloc())?;
-    let files = CaseFiles { rt };
+    let files = CaseFiles {
+        system: SystemFiles::new(rt),
+    };
     let (outcome, listed, told) = run(
         rt.alloc(),
         words.as_slice(),

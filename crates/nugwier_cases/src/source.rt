@@ -2,7 +2,6 @@
 ghost use Rattle.std.specs.Prelude.{None, true};
 
 use elf::{FileSource, StreamSource};
-use std::fs::File;
 use std::io;
 use std::io::ErrorKind;
 
@@ -16,11 +15,8 @@ pub(crate) struct CaseSource {
 
 impl CaseSource {
     /// The source of a file, whose reads succeed, or as many of them as are given.
-    pub(crate) fn new(file: File, left: Option<u64>) -> CaseSource {
-        CaseSource {
-            file: FileSource::new(file),
-            left,
-        }
+    pub(crate) fn new(file: FileSource, left: Option<u64>) -> CaseSource {
+        CaseSource { file, left }
     }
 }
 

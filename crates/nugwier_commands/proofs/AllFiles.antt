@@ -1,6 +1,8 @@
 -- What is said of files, one file more at a time.
 use Rattle.std.proofs.Common.{◌≡◌, ◌<◌, ℕ, ◌+◌, Bool, true, false, ◌&&◌, List, [], ◌∷◌, ◌++◌, length, drop, get_or, Option, Some, None, Result, Ok, IfOk, refl, sym, ap, ◌∙◌, subst, append_assoc, append-nil}
+use Rattle.std.proofs.Math.Bool.{and-true, and_assoc}
 use Rattle.std.proofs.lemmas.List.{drop_more}
+use Rattle.std.proofs.lemmas.Result.{IfOk-at_ok}
 use Rattle.std.specs.Borrow.{Bor}
 use Rattle.std.specs.Io.KnownBytes.{Appends}
 use Rattle.std.specs.List.{flat_map, list_all}
@@ -35,14 +37,6 @@ append_none : (a : Option (List ℕ)) → Appends a a []
 append_none None = tt
 append_none (Some a) = sym (append-nil a)
 
-and_assoc : (a b c : Bool) → ((a && b) && c) ≡ (a && (b && c))
-and_assoc true b c = refl
-and_assoc false b c = refl
-
-and_true : (a : Bool) → (a && true) ≡ a
-and_true true = refl
-and_true false = refl
-
 module _ (known : Known) (task : Task) (before : Option (List ℕ)) (paths : List (Bor (List ℕ))) where
   pub first_of_all : AreSoFar known task before paths 0 before true
   first_of_all rest after are written = (rest, are, written, refl)
@@ -62,11 +56,8 @@ module _ (known : Known) (task : Task) (before : Option (List ℕ)) (paths : Lis
   pub none_left : (i : ℕ) (now : Option (List ℕ)) (is_right : Bool) → drop i paths ≡ [] → AreSoFar known task before paths i now is_right
       → AreWritten known task before paths now is_right
   none_left i now is_right none so =
-      subst (λ (b : Bool). AreWritten known task before paths now b) (and_true is_right)
+      subst (λ (b : Bool). AreWritten known task before paths now b) (and-true is_right)
       (so [] now (rw none tt) (rw none (append_none now)))
-
-at_ok : {A X : Type 0} (P : A → Type 0) (r : Result A X) (x : A) → r ≡ Ok x → IfOk r P → P x
-at_ok P r x is h = subst (λ (s : Result _ _). IfOk s P) is h
 
 -- the file at place i was said, and what is said of it was written
 pub one_ended : {W V : Type 0} (contents : W → Option (List ℕ)) (known : Known) (task : Task) (before : Option (List ℕ)) (paths : List (Bor (List ℕ)))
@@ -77,5 +68,5 @@ pub one_ended : {W V : Type 0} (contents : W → Option (List ℕ)) (known : Kno
 one_ended contents known task before paths i d heading now ended is_right own_right within above is said so =
     let path = get_or paths i d in
     let here = subst (λ (h : Option Kind). IsPathEnded contents known task h path.now now ended) above said in
-    let done = at_ok _ ended.said own_right is here in
+    let done = IfOk-at_ok _ is here in
     one_more known task before paths i path now (contents ended.out) is_right own_right done.0 (drop_more paths i d within) done.1 done.2.0 done.2.1 so

@@ -10,7 +10,7 @@ use Rattle.elf_records.specs.declared.endian.AnyEndian.{AnyEndian}
 use Rattle.elf_records.specs.declared.parse.ParseError.{ParseError}
 use Rattle.elf_reading.specs.Opening.{FileView, headers_of, opened_file}
 use Rattle.elf.specs.StreamFile.{listed_file}
-use Rattle.elf_tools.specs.Tree.{file_of}
+use Rattle.elf_linking.specs.Tree.{file_of}
 use Rattle.nugwier_listing.specs.Job.{IsSaidOf}
 use Rattle.nugwier_programs.specs.Bindings.{IsBindingsSaid}
 use Rattle.nugwier_programs.specs.Tree.{IsTreeSaid}

@@ -1,6 +1,7 @@
 //! How saying a file ended.
-ghost use Rattle.std.specs.Prelude.{[], ◌≡◌, ◌∷◌, ◌++◌, IfOk, List, OnOk};
-ghost use Rattle.nugwier_report.specs.Said.{Said, saying, whole, wrong};
+ghost use Rattle.std.specs.Prelude.{[], ◌≡◌, ◌∷◌, ◌++◌, false, IfOk, List, Ok, OnOk};
+ghost use Rattle.nugwier_report.specs.Said.{Said, all_right, saying, whole, wrong};
+ghost use Rattle.nugwier_report.specs.Told.{IsTold};
 ghost use Rattle.nugwier_report.specs.declared.problem.Part.TheVariants.{File};
 ghost use Rattle.nugwier_commands.specs.Run.{IsProgramSaid, IsWritten, heading_said};
 ghost use Rattle.nugwier_listing.specs.inner.Job.{IsTablesSaid};
@@ -10,18 +11,17 @@ use elf::endian::EndianParse;
 use nugwier_files::files::Files;
 use nugwier_listing::job::{JobTables, say_job};
 use nugwier_programs::bindings::say_bindings;
-use nugwier_programs::tree::say_tree;
+use nugwier_programs::tree::{FILE, say_tree};
 use nugwier_report::json::Value;
 use nugwier_report::kind::Kind;
 use nugwier_report::names::Labels;
-use nugwier_report::problem::{Fault, Item, Part, Place, Stop};
+use nugwier_report::problem::{Fault, Stop};
 use nugwier_report::report::Report;
 use nugwier_words::words::{Command, Job};
 use std::alloc::Global;
 use std::io::Write;
 
-/// A file of which something is said: what is asked for, its path, and what is written above, if several files are
-/// listed.
+/// A file of a command line: what is asked for, its path, and what is written above it, if several files are listed.
 #[derive(Clone, Copy)]
 pub(crate) struct Target<'j> {
     pub job: &'j Job<'j>,
@@ -29,12 +29,40 @@ pub(crate) struct Target<'j> {
     pub heading: Option<Kind>,
 }
 
+// No section has a name with which problems are told.
+const NO_LABELS: Labels<'static> = Labels {
+    sections: &[],
+    names: None,
+};
+
 /// The writers of listings and of problems, after a file: whether nothing is wrong with it, or why the listing stopped.
 #[derive(Drop)]
 pub struct Ended<W: Write, V: Write> {
     pub said: Result<bool, Stop>,
     pub out: W,
     pub err: V,
+}
+
+impl<W: Write, V: Write> Ended<W, V> {
+    // After all was said in a report.
+    fn all_said(report: Report<'_, W, V>) -> Ended<W, V>
+        ensures said { result.said ≡ Ok (all_right report.entry.said) }
+        ensures text { report.entry.is_lost ≡ false → IsTold report.entry.is_json report.entry.path report.entry.start
+            (W.contents result.out) report.entry.said }
+    {
+        let (is_right, out, err) = report.end();
+        let said = Ok(is_right);
+        Ended { said, out, err }
+    }
+
+    // After a report was stopped.
+    fn stopped(report: Report<'_, W, V>, stop: Stop) -> Ended<W, V>
+        ensures { IfOk result.said (λ _. ⊥) }
+    {
+        let (_, out, err) = report.end();
+        let said = Err(stop);
+        Ended { said, out, err }
+    }
 }
 
 impl<'j> Target<'j> {
@@ -76,11 +104,7 @@ impl<'j> Target<'j> {
             (heading_said self.now.heading self.now.path.now ++ wrong (whole File) fault.entry ∷ [])) }
     {
         self.say_heading(report)?;
-        let place = Place {
-            part: Part::File,
-            item: Item::Whole,
-        };
-        report.problem(place, fault)
+        report.problem(FILE, fault)
     }
 
     /// Says the tables that were taken of the file.
@@ -98,19 +122,9 @@ impl<'j> Target<'j> {
             (heading_said self.now.heading self.now.path.now ++ said)) }
     {
         let mut report = Report::new(self.path, self.job.is_json, labels, out, err);
-        let said = self.say(alloc, tables, &mut report);
-        let (is_right, out, err) = report.end();
-        match said {
-            Ok(()) => Ended {
-                said: Ok(is_right),
-                out,
-                err,
-            },
-            Err(stop) => Ended {
-                said: Err(stop),
-                out,
-                err,
-            },
+        match self.say(alloc, tables, &mut report) {
+            Ok(()) => Ended::all_said(report),
+            Err(stop) => Ended::stopped(report, stop),
         }
     }
 
@@ -149,24 +163,10 @@ impl<'j> Target<'j> {
             (heading_said self.now.heading self.now.path.now ++ said)) }
     {
         files.has_libraries();
-        let labels = Labels {
-            sections: &[],
-            names: None,
-        };
-        let mut report = Report::new(self.path, self.job.is_json, labels, out, err);
-        let said = self.say_loaded(alloc, files, data, &mut report);
-        let (is_right, out, err) = report.end();
-        match said {
-            Ok(()) => Ended {
-                said: Ok(is_right),
-                out,
-                err,
-            },
-            Err(stop) => Ended {
-                said: Err(stop),
-                out,
-                err,
-            },
+        let mut report = Report::new(self.path, self.job.is_json, NO_LABELS, out, err);
+        match self.say_loaded(alloc, files, data, &mut report) {
+            Ok(()) => Ended::all_said(report),
+            Err(stop) => Ended::stopped(report, stop),
         }
     }
 
@@ -181,24 +181,10 @@ impl<'j> Target<'j> {
             (W.contents result.out) is_right
             (heading_said self.now.heading self.now.path.now ++ wrong (whole File) fault.entry ∷ [])) }
     {
-        let labels = Labels {
-            sections: &[],
-            names: None,
-        };
-        let mut report = Report::new(self.path, self.job.is_json, labels, out, err);
-        let said = self.tell(fault, &mut report);
-        let (is_right, out, err) = report.end();
-        match said {
-            Ok(()) => Ended {
-                said: Ok(is_right),
-                out,
-                err,
-            },
-            Err(stop) => Ended {
-                said: Err(stop),
-                out,
-                err,
-            },
+        let mut report = Report::new(self.path, self.job.is_json, NO_LABELS, out, err);
+        match self.tell(fault, &mut report) {
+            Ok(()) => Ended::all_said(report),
+            Err(stop) => Ended::stopped(report, stop),
         }
     }
 }

@@ -56,7 +56,7 @@ fn list_stream<E: EndianParse, S: StreamSource, W: Write, V: Write>(
     ensures { IsStreamListed W.contents E.little E.of_byte (task_of target.entry.job.now) target.entry.heading
         target.entry.path.now stream.old (W.contents out) result }
 {
-    if let Err(error) = preload(target.job, stream) {
+    if let Err(error) = preload(alloc, target.job, stream) {
         return Listed::Unread(error, out, err);
     }
     'rounds: for _ in 0..u64::MAX {
@@ -95,9 +95,6 @@ fn take_all<'f, 'w, E: EndianParse, S: StreamSource>(
 pub(crate) fn stopped<W: Write, V: Write>(out: W, err: V) -> Ended<W, V>
     ensures { IfOk result.said (λ _. ⊥) }
 {
-    Ended {
-        said: Err(Stop::Memory),
-        out,
-        err,
-    }
+    let said = Err(Stop::Memory);
+    Ended { said, out, err }
 }

@@ -7,23 +7,48 @@ use elf::section::SectionHeader;
 use elf::segment::ProgramHeader;
 use elf::{ElfStream, ParseError, StreamSource, abi};
 use nugwier_words::words::{Command, Job};
-use std::alloc::Global;
+use std::alloc::{AllocError, Global};
+
+// A range of a file, by its start and its size.
+type Range = (u64, u64);
 
 /// Loads the relocations, notes and versions that a job takes, with the sections that they link to. A file may declare
 /// many of them that overlap: if they are in sum longer than the file, it is loaded whole. The error is that of the
 /// source or of an allocation.
 pub(crate) fn preload<E: EndianParse, S: StreamSource>(
+    alloc: Global,
     job: &Job<'_>,
     stream: &mut ElfStream<E, S, Global>,
 ) -> Result<(), ParseError>
     ensures { Keeps stream.old stream.new }
 {
+    let ranges = ranges_of(alloc, job, stream)?;
     let len = stream.source_len();
-    if size_of(job, stream) > len {
+    if sum(ranges.as_slice()) > len {
         return stream.load_range(0, len);
     }
-    load_segments(job, stream)?;
-    load_sections(job, stream)
+    load(ranges.as_slice(), stream)
+}
+
+fn load<E: EndianParse, S: StreamSource>(
+    ranges: &[Range],
+    stream: &mut ElfStream<E, S, Global>,
+) -> Result<(), ParseError>
+    ensures { Keeps stream.old stream.new }
+{
+    for range in ranges {
+        stream.load_range(range.0, range.1)?;
+    }
+    Ok(())
+}
+
+// The sum of the sizes, or the largest number if it is larger.
+fn sum(ranges: &[Range]) -> u64 {
+    let mut sum: u64 = 0;
+    for range in ranges {
+        sum = sum.saturating_add(range.1);
+    }
+    sum
 }
 
 // Whether a job takes all sections of a type.
@@ -49,135 +74,65 @@ fn takes_segment(job: &Job<'_>, segment: &ProgramHeader) -> bool {
     segment.p_type == abi::PT_NOTE && takes_notes(job)
 }
 
-// The size of all that is loaded, or the largest number if it is larger.
-fn size_of<E: EndianParse, S: StreamSource>(
+// The ranges that a job takes of many sections or segments.
+fn ranges_of<E: EndianParse, S: StreamSource>(
+    alloc: Global,
     job: &Job<'_>,
     stream: &ElfStream<E, S, Global>,
-) -> u64 {
-    let segments = segments_size(job, stream.segments().as_slice());
-    segments.saturating_add(sections_size(job, stream.section_headers().as_slice()))
-}
-
-fn segments_size(job: &Job<'_>, segments: &[ProgramHeader]) -> u64 {
-    let mut size: u64 = 0;
-    for segment in segments {
+) -> Result<Vec<Range>, AllocError> {
+    let mut ranges = Vec::new(alloc);
+    for segment in stream.segments().as_slice() {
         if takes_segment(job, segment) {
-            size = size.saturating_add(segment.p_filesz);
+            ranges.push((segment.p_offset, segment.p_filesz))?;
         }
     }
-    size
+    add_sections(job, stream.section_headers().as_slice(), &mut ranges)?;
+    Ok(ranges)
 }
 
-// Sections that follow one another often link to the same one, which counts once.
-fn sections_size(job: &Job<'_>, sections: &[SectionHeader]) -> u64 {
-    let mut size: u64 = 0;
+// Sections that follow one another often link to the same one, which is added once.
+fn add_sections(
+    job: &Job<'_>,
+    sections: &[SectionHeader],
+    ranges: &mut Vec<Range>,
+) -> Result<(), AllocError> {
     let mut last_link = 0;
     for section in sections {
         if takes_sections(job, section.sh_type) {
-            size = size.saturating_add(section.sh_size);
+            add_section(section, ranges)?;
             if section.sh_link != last_link {
-                size = size.saturating_add(links_size(sections, section));
+                add_links(sections, section, ranges)?;
             }
             last_link = section.sh_link;
         }
     }
-    size
+    Ok(())
 }
 
-// The size of the section that a section links to, and of the one that this links to.
-fn links_size(sections: &[SectionHeader], section: &SectionHeader) -> u64 {
+// The section that a section links to, and the one that this links to: relocations link to symbols, and these to names.
+fn add_links(
+    sections: &[SectionHeader],
+    section: &SectionHeader,
+    ranges: &mut Vec<Range>,
+) -> Result<(), AllocError> {
     let Some(linked) = linked_in(sections, section) else {
-        return 0;
+        return Ok(());
     };
-    match linked_in(sections, &linked) {
-        Some(strings) => linked.sh_size.saturating_add(strings.sh_size),
-        None => linked.sh_size,
+    add_section(&linked, ranges)?;
+    let Some(names) = linked_in(sections, &linked) else {
+        return Ok(());
+    };
+    add_section(&names, ranges)
+}
+
+// A section of type `SHT_NOBITS` has no bytes in the file.
+fn add_section(section: &SectionHeader, ranges: &mut Vec<Range>) -> Result<(), AllocError> {
+    if section.sh_type != abi::SHT_NOBITS {
+        ranges.push((section.sh_offset, section.sh_size))?;
     }
+    Ok(())
 }
 
 fn linked_in(sections: &[SectionHeader], section: &SectionHeader) -> Option<SectionHeader> {
     sections.get(section.sh_link as usize).copied()
-}
-
-fn load_segments<E: EndianParse, S: StreamSource>(
-    job: &Job<'_>,
-    stream: &mut ElfStream<E, S, Global>,
-) -> Result<(), ParseError>
-    ensures { Keeps stream.old stream.new }
-{
-    for place in 0..stream.segments().len() {
-        load_segment(job, place, stream)?;
-    }
-    Ok(())
-}
-
-fn load_segment<E: EndianParse, S: StreamSource>(
-    job: &Job<'_>,
-    place: usize,
-    stream: &mut ElfStream<E, S, Global>,
-) -> Result<(), ParseError>
-    ensures { Keeps stream.old stream.new }
-{
-    match stream.segments().as_slice().get(place).copied() {
-        Some(segment) if takes_segment(job, &segment) => {
-            stream.load_range(segment.p_offset, segment.p_filesz)
-        }
-        _ => Ok(()),
-    }
-}
-
-fn load_sections<E: EndianParse, S: StreamSource>(
-    job: &Job<'_>,
-    stream: &mut ElfStream<E, S, Global>,
-) -> Result<(), ParseError>
-    ensures { Keeps stream.old stream.new }
-{
-    for place in 0..stream.section_headers().len() {
-        load_section(job, place, stream)?;
-    }
-    Ok(())
-}
-
-fn load_section<E: EndianParse, S: StreamSource>(
-    job: &Job<'_>,
-    place: usize,
-    stream: &mut ElfStream<E, S, Global>,
-) -> Result<(), ParseError>
-    ensures { Keeps stream.old stream.new }
-{
-    match stream.section_headers().as_slice().get(place).copied() {
-        Some(section) if takes_sections(job, section.sh_type) => load_with_links(section, stream),
-        _ => Ok(()),
-    }
-}
-
-// A section, the one that it links to, and the one that this links to: relocations link to symbols, and these to names.
-fn load_with_links<E: EndianParse, S: StreamSource>(
-    section: SectionHeader,
-    stream: &mut ElfStream<E, S, Global>,
-) -> Result<(), ParseError>
-    ensures { Keeps stream.old stream.new }
-{
-    load(&section, stream)?;
-    let Some(linked) = linked_in(stream.section_headers().as_slice(), &section) else {
-        return Ok(());
-    };
-    load(&linked, stream)?;
-    let Some(names) = linked_in(stream.section_headers().as_slice(), &linked) else {
-        return Ok(());
-    };
-    load(&names, stream)
-}
-
-// A section of type `SHT_NOBITS` has no bytes in the file.
-fn load<E: EndianParse, S: StreamSource>(
-    section: &SectionHeader,
-    stream: &mut ElfStream<E, S, Global>,
-) -> Result<(), ParseError>
-    ensures { Keeps stream.old stream.new }
-{
-    if section.sh_type == abi::SHT_NOBITS {
-        return Ok(());
-    }
-    stream.load_range(section.sh_offset, section.sh_size)
 }

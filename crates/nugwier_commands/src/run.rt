@@ -1,5 +1,5 @@
 //! Runs the program, apart from the operating system.
-ghost use Rattle.std.specs.Prelude.{◌≡◌, ◌++◌, codes, true, IfOk, Ok, OnOk};
+ghost use Rattle.std.specs.Prelude.{◌≡◌, ◌++◌, codes, true, IfOk, Ok};
 ghost use Rattle.std.specs.Io.KnownBytes.{Appends};
 ghost use Rattle.nugwier_commands.specs.Run.{IsAnswered, IsBytesSaid, IsProgramSaid, IsRun, has_headings, heading_of};
 ghost use Rattle.nugwier_commands.specs.Run.{status_of};
@@ -124,26 +124,18 @@ fn print<W: Write, V: Write>(text: &str, mut out: W, err: V) -> Ended<W, V>
     ensures { IfOk result.said (λ is_right. Appends (W.contents out) (W.contents result.out) (text.now ++ codes "\n")
         × (is_right ≡ true)) }
 {
-    match print_line(text, &mut out) {
-        Ok(()) => Ended {
-            said: Ok(true),
-            out,
-            err,
-        },
-        Err(error) => Ended {
-            said: Err(Stop::Write(error)),
-            out,
-            err,
-        },
-    }
+    let said = print_line(text, &mut out);
+    Ended { said, out, err }
 }
 
-fn print_line<W: Write>(text: &str, out: &mut W) -> io::Result<()>
-    ensures { OnOk result (Appends (W.contents out.old) (W.contents out.new) (text.now ++ codes "\n")) }
+fn print_line<W: Write>(text: &str, out: &mut W) -> Result<bool, Stop>
+    ensures { IfOk result (λ is_right. Appends (W.contents out.old) (W.contents out.new) (text.now ++ codes "\n")
+        × (is_right ≡ true)) }
 {
     out.write_all(text.as_bytes())?;
     out.write_all(b"\n")?;
-    out.flush()
+    out.flush()?;
+    Ok(true)
 }
 
 // Says of each file what is asked for.
@@ -203,20 +195,11 @@ fn run_files<F: Files, W: Write, V: Write>(
         err = ended.err;
         match ended.said {
             Ok(is_right) => are_right &= is_right,
-            Err(stop) => {
-                return Ended {
-                    said: Err(stop),
-                    out,
-                    err,
-                };
-            }
+            said => return Ended { said, out, err },
         }
     }
-    Ended {
-        said: Ok(are_right),
-        out,
-        err,
-    }
+    let said = Ok(are_right);
+    Ended { said, out, err }
 }
 
 // What is above a file, by its place among the files: of several files each has its path above it, except for `check`,

@@ -4,7 +4,7 @@ ghost use Rattle.std.specs.IoError.{error_kind};
 ghost use Rattle.std.specs.declared.io.ErrorKind.TheVariants.{OutOfMemory};
 
 use elf::StreamSource;
-use elf_tools::tree::Libraries;
+use elf_linking::tree::Libraries;
 use std::io;
 
 /// Files by their paths.

@@ -1,12 +1,12 @@
 //! Files in memory, whose contents are known.
 ghost use Rattle.std.specs.Prelude.{◌≡◌, Some};
 ghost use Rattle.std.specs.Option.{option_map};
-ghost use Rattle.elf_tools.specs.Tree.{content_in};
+ghost use Rattle.elf_linking.specs.Tree.{content_in};
 
 use crate::files::Files;
 use elf::MemSource;
-use elf_tools::tree::Libraries;
-use elf_tools::tree::memory::MemFile;
+use elf_linking::tree::Libraries;
+use elf_linking::tree::memory::MemFile;
 use std::alloc::{AllocError, Global};
 use std::io;
 

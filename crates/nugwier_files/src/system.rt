@@ -3,7 +3,7 @@ ghost use Rattle.std.specs.Prelude.{None};
 
 use crate::files::Files;
 use elf::FileSource;
-use elf_tools::tree::Libraries;
+use elf_linking::tree::Libraries;
 use std::alloc::AllocError;
 use std::fs::File;
 use std::io::Read;

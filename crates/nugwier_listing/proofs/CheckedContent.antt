@@ -8,7 +8,7 @@ use Rattle.elf_records.specs.inner.RecordLaws.{bytes_at-from}
 use Rattle.elf_reading.specs.Opening.{FileView, opened_file}
 use Rattle.elf.specs.ElfStream.{IsOfFile, StreamView}
 use Rattle.elf.specs.Loaded.{AreLoadedOf}
-use Rattle.elf_whole.specs.declared.faults.FileFault.{FileFault}
+use Rattle.elf_check.specs.declared.faults.FileFault.{FileFault}
 use Rattle.nugwier_listing.specs.Check.{AreContentFaults, AreFoundFaults, AreOpenedFaults, AreReadFaults, AreFaultsOf}
 use Rattle.nugwier_listing.specs.Whole.{range_by, whole_file}
 

@@ -3,8 +3,8 @@ use Rattle.std.specs.Prelude.{◌≡◌, ℕ, Bool, List, [], ◌∷◌, Option,
 use Rattle.elf_records.specs.declared.parse.ParseError.{ParseError}
 use Rattle.elf_reading.specs.Opening.{FileView, opened_file}
 use Rattle.elf.specs.ObjectFile.{ObjectFile, object_file}
-use Rattle.elf_whole.specs.AllFaults.{AreAllFaults}
-use Rattle.elf_whole.specs.declared.faults.FileFault.{FileFault}
+use Rattle.elf_check.specs.AllFaults.{AreAllFaults}
+use Rattle.elf_check.specs.declared.faults.FileFault.{FileFault}
 use Rattle.nugwier_report.specs.Said.{Said, whole, wrong}
 use Rattle.nugwier_report.specs.Verdicts.{IsVerdictSaid}
 use Rattle.nugwier_report.specs.declared.problem.Fault.TheVariants.{Read}

@@ -11,7 +11,8 @@ use Rattle.elf_records.specs.declared.section.SectionHeader.{SectionHeader}
 use Rattle.elf.specs.Data.{content}
 use Rattle.elf.specs.Names.{has_name}
 use Rattle.elf.specs.ObjectFile.{ObjectFile}
-use Rattle.nugwier_listing.specs.Headings.{known_names, read_said}
+use Rattle.nugwier_listing.specs.Headings.{known_names}
+use Rattle.nugwier_listing.specs.Read.{read_said}
 use Rattle.nugwier_report.specs.Contents.{data_said, strings_said}
 use Rattle.nugwier_report.specs.Said.{Members, Said, states, text, whole, wrong}
 use Rattle.nugwier_report.specs.declared.kind.Kind.{Kind}

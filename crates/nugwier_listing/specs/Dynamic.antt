@@ -8,14 +8,15 @@ use Rattle.elf_records.specs.declared.parse.ParseError.{ParseError}
 use Rattle.elf_records.specs.declared.parse.ParseError.TheVariants.{OutOfMemory, SliceReadError}
 use Rattle.elf.specs.Answers.{dynamic}
 use Rattle.elf.specs.ObjectFile.{ObjectFile}
-use Rattle.elf_tools.specs.Needed.{entries_in, strings_by}
-use Rattle.elf_tools.specs.declared.needed.NamesError.{NamesError}
-use Rattle.elf_tools.specs.declared.needed.NamesError.TheVariants as error
+use Rattle.elf_linking.specs.Needed.{entries_in, strings_by}
+use Rattle.elf_linking.specs.declared.needed.NamesError.{NamesError}
+use Rattle.elf_linking.specs.declared.needed.NamesError.TheVariants as error
+use Rattle.nugwier_listing.specs.Read.{answer_said, missing}
 use Rattle.nugwier_report.specs.Dynamic.{entry_said, needed_said}
 use Rattle.nugwier_report.specs.Said.{Said, numbered, states, whole, wrong}
 use Rattle.nugwier_report.specs.declared.kind.Kind.TheVariants.{EntriesHeading}
 use Rattle.nugwier_report.specs.declared.problem.Fault.{Fault}
-use Rattle.nugwier_report.specs.declared.problem.Fault.TheVariants.{Missing, NoAddress, NoSize, NotLoaded, Read}
+use Rattle.nugwier_report.specs.declared.problem.Fault.TheVariants.{NoAddress, NoSize, NotLoaded, Read}
 use Rattle.nugwier_report.specs.declared.problem.Part.TheVariants.{Dynamic, DynamicStrings}
 
 -- the entries up to DT_NULL, and the strings that they name
@@ -61,18 +62,12 @@ needed_if entries (Some strings) = numbered (needed_said strings) 0 entries
 abbrev pub names_said : Entries → List Said
 names_said (entries, strings) = strings_missed strings ++ needed_if entries (result_ok strings)
 
--- of the entries, if they can be read; if there are none, what is said of that
-abbrev pub said_by : List Said → (Entries → List Said) → Result (Option Entries) ParseError → List Said
-said_by none said (Ok (Some entries)) = said entries
-said_by none said (Ok None) = none
-said_by none said (Err e) = wrong (whole Dynamic) (Read e) ∷ []
-
 abbrev pub all_said : Result (Option Entries) ParseError → List Said
-all_said entries = said_by [] each_said entries
+all_said entries = answer_said Dynamic [] each_said entries
 
 -- there have to be entries
 abbrev pub all_names_said : Result (Option Entries) ParseError → List Said
-all_names_said entries = said_by (wrong (whole Dynamic) Missing ∷ []) names_said entries
+all_names_said entries = answer_said Dynamic (missing Dynamic) names_said entries
 
 -- ---- of a file
 

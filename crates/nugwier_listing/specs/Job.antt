@@ -1,12 +1,13 @@
 -- What is said of a file for each command.
-use Rattle.std.specs.Prelude.{◌≡◌, ℕ, Bool, true, false, List, [], ◌++◌, Option}
+use Rattle.std.specs.Prelude.{◌≡◌, ℕ, Bool, if◌then◌else◌, List, [], ◌∷◌, ◌++◌, Option}
+use Rattle.std.specs.List.{flat_map}
 use Rattle.elf.specs.ObjectFile.{ObjectFile}
 use Rattle.elf_records.specs.declared.file.FileHeader.{FileHeader}
 use Rattle.nugwier_listing.specs.Addresses.{AreAddressesSaid}
 use Rattle.nugwier_listing.specs.Check.{IsCheckSaid}
 use Rattle.nugwier_listing.specs.Contents.{said_of_contents}
 use Rattle.nugwier_listing.specs.Dynamic.{said_of_entries, said_of_needed}
-use Rattle.nugwier_listing.specs.Header.{said_of_header}
+use Rattle.nugwier_report.specs.Header.{header_said}
 use Rattle.nugwier_listing.specs.Identity.{said_of_identity}
 use Rattle.nugwier_listing.specs.Notes.{said_of_notes}
 use Rattle.nugwier_listing.specs.Plan.{IsPlanSaid}
@@ -15,6 +16,8 @@ use Rattle.nugwier_listing.specs.Sections.{said_of_sections}
 use Rattle.nugwier_listing.specs.Segments.{said_of_segments}
 use Rattle.nugwier_listing.specs.Symbols.{said_of_dynamic_symbols, said_of_exports, said_of_letters, said_of_symbols}
 use Rattle.nugwier_listing.specs.VersionLists.{said_of_version_lists}
+use Rattle.nugwier_listing.specs.declared.list.ListedPart.{ListedPart}
+use Rattle.nugwier_listing.specs.declared.list.ListedPart.TheVariants as part
 use Rattle.nugwier_report.specs.Said.{Said}
 use Rattle.nugwier_words.specs.Words.{Task}
 use Rattle.nugwier_words.specs.declared.words.Command.{Command}
@@ -22,29 +25,39 @@ use Rattle.nugwier_words.specs.declared.words.Command.TheVariants.{Address, Bind
 use Rattle.nugwier_words.specs.declared.words.Command.TheVariants.{List as ListCommand, Needed, Plan, Symbols, Tree}
 use Rattle.nugwier_words.specs.declared.words.Parts.{Parts}
 
--- what is said of a part, if it is listed
-abbrev pub if_listed : Bool → List Said → List Said
-if_listed true said = said
-if_listed false said = []
+-- whether a part is asked for
+abbrev pub is_listed : Parts → ListedPart → Bool
+is_listed parts part.Header = parts.header
+is_listed parts part.Sections = parts.sections
+is_listed parts part.Segments = parts.segments
+is_listed parts part.Symbols = parts.symbols
+is_listed parts part.DynamicSymbols = parts.dynamic_symbols
+is_listed parts part.Dynamic = parts.dynamic
+is_listed parts part.Relocations = parts.relocations
+is_listed parts part.Notes = parts.notes
+is_listed parts part.Versions = parts.versions
 
 module _ {E : Type 0} (little : E → Bool) where
-  -- `list`: the headers that are asked for
-  abbrev pub said_of_headers : Parts → FileHeader E → ObjectFile → List Said
-  said_of_headers parts header file =
-      if_listed parts.header (said_of_header little header) ++ if_listed parts.sections (said_of_sections file)
-      ++ if_listed parts.segments (said_of_segments file)
+  abbrev pub said_of_part : FileHeader E → ObjectFile → ListedPart → List Said
+  said_of_part header file part.Header = header_said little header
+  said_of_part header file part.Sections = said_of_sections file
+  said_of_part header file part.Segments = said_of_segments file
+  said_of_part header file part.Symbols = said_of_symbols file
+  said_of_part header file part.DynamicSymbols = said_of_dynamic_symbols file
+  said_of_part header file part.Dynamic = said_of_entries file
+  said_of_part header file part.Relocations = said_of_relocations file
+  said_of_part header file part.Notes = said_of_notes file
+  said_of_part header file part.Versions = said_of_version_lists file
 
-  -- the tables that are asked for
-  abbrev pub said_of_tables : Parts → ObjectFile → List Said
-  said_of_tables parts file =
-      if_listed parts.symbols (said_of_symbols file) ++ if_listed parts.dynamic_symbols (said_of_dynamic_symbols file)
-      ++ if_listed parts.dynamic (said_of_entries file) ++ if_listed parts.relocations (said_of_relocations file)
-      ++ if_listed parts.notes (said_of_notes file) ++ if_listed parts.versions (said_of_version_lists file)
+  abbrev pub said_if_listed : Parts → FileHeader E → ObjectFile → ListedPart → List Said
+  said_if_listed parts header file p = if is_listed parts p then said_of_part header file p else []
 
-  -- and the contents of sections
+  -- `list`: the parts that are asked for, in this order, and the contents of sections
   abbrev pub said_of_list : Task → FileHeader E → ObjectFile → List Said
   said_of_list task header file =
-      said_of_headers task.parts header file ++ said_of_tables task.parts file ++ said_of_contents file task.contents
+      flat_map (said_if_listed task.parts header file) (part.Header ∷ part.Sections ∷ part.Segments ∷ part.Symbols
+      ∷ part.DynamicSymbols ∷ part.Dynamic ∷ part.Relocations ∷ part.Notes ∷ part.Versions ∷ [])
+      ++ said_of_contents file task.contents
 
   module _ (of_byte : ℕ → Option E) where
     -- by the command, of a file of this path; `tree` and `bindings` say nothing of one file

@@ -1,7 +1,8 @@
 -- the file that a stream is of
 pub mod Whole
+-- what is said of what was read
+pub mod Read
 -- what is said of each part of a file
-pub mod Header
 pub mod Identity
 pub mod Plan
 pub mod Sections
@@ -16,6 +17,8 @@ pub mod Addresses
 pub mod Dynamic
 -- the names of sections in headings
 pub mod Headings
+-- the names that problems are told with
+pub mod Labels
 -- the relocations
 pub mod Relocations
 -- what is said of a file that is checked

@@ -7,7 +7,8 @@ use Rattle.elf_records.specs.declared.section.SectionHeader.{SectionHeader}
 use Rattle.elf_records.specs.declared.segment.ProgramHeader.{ProgramHeader}
 use Rattle.elf.specs.Answers.{section_data_as_notes, segment_data_as_notes}
 use Rattle.elf.specs.ObjectFile.{ObjectFile}
-use Rattle.nugwier_listing.specs.Headings.{heading_members, known_names, name_shown, read_said}
+use Rattle.nugwier_listing.specs.Headings.{heading_members, known_names, name_shown}
+use Rattle.nugwier_listing.specs.Read.{read_said}
 use Rattle.nugwier_report.specs.Notes.{notes_said}
 use Rattle.nugwier_report.specs.Said.{Members, Said, number, numbered, states}
 use Rattle.nugwier_report.specs.declared.kind.Kind.TheVariants.{SectionNotesHeading, SegmentNotesHeading}
@@ -18,10 +19,10 @@ abbrev pub section_notes_said : ℕ → List ℕ → Result (List NoteContent) P
 section_notes_said k name notes =
     states SectionNotesHeading (heading_members k name) ∷ read_said (Section k) (notes_said (Section k)) notes
 
--- the same of segment k
 abbrev pub segment_members : ℕ → Members
 segment_members k = (codes "segment", number k) ∷ []
 
+-- the same of segment k
 abbrev pub segment_notes_said : ℕ → Result (List NoteContent) ParseError → List Said
 segment_notes_said k notes =
     states SegmentNotesHeading (segment_members k) ∷ read_said (Segment k) (notes_said (Segment k)) notes

@@ -1,6 +1,5 @@
 -- What is said of the relocations of a file.
 use Rattle.std.specs.Prelude.{ℕ, ◌==◌, ◌||◌, Bool, if◌then◌else◌, List, [], ◌∷◌, ◌++◌, Option, Some, None, Result, Ok}
-use Rattle.std.specs.Prelude.{Err}
 use Rattle.elf_abi.specs.Values.{sht_dynsym, sht_rel, sht_rela, sht_symtab}
 use Rattle.elf_records.specs.Number.{ok_map}
 use Rattle.elf_records.specs.Record.{◌>>=◌}
@@ -11,11 +10,11 @@ use Rattle.elf_records.specs.declared.relocation.Rela.{Rela}
 use Rattle.elf_records.specs.declared.section.SectionHeader.{SectionHeader}
 use Rattle.elf.specs.Answers.{section_data_as_relas, section_data_as_rels, symbols_of}
 use Rattle.elf.specs.ObjectFile.{ObjectFile}
-use Rattle.nugwier_listing.specs.Headings.{heading_members, if_read, known_names, name_shown}
+use Rattle.nugwier_listing.specs.Headings.{heading_members, known_names, name_shown}
+use Rattle.nugwier_listing.specs.Read.{if_read, read_said}
 use Rattle.nugwier_report.specs.Relocations.{rel_said, rela_said}
-use Rattle.nugwier_report.specs.Said.{Said, numbered, states, unread, whole, wrong}
+use Rattle.nugwier_report.specs.Said.{Said, numbered, states, unread}
 use Rattle.nugwier_report.specs.declared.kind.Kind.TheVariants.{RelocationsHeading}
-use Rattle.nugwier_report.specs.declared.problem.Fault.TheVariants.{Read}
 use Rattle.nugwier_report.specs.declared.problem.Item.TheVariants.{Symbols}
 use Rattle.nugwier_report.specs.declared.problem.Part.TheVariants.{Section}
 
@@ -53,8 +52,7 @@ each_said k symbols (relas records) = numbered (rela_said k symbols) 0 records
 
 -- the same, or that they cannot be read
 abbrev pub records_said : ℕ → Option (Table × List ℕ) → Result Records ParseError → List Said
-records_said k symbols (Ok records) = each_said k symbols records
-records_said k symbols (Err e) = wrong (whole (Section k)) (Read e) ∷ []
+records_said k symbols records = read_said (Section k) (each_said k symbols) records
 
 -- that its symbols cannot be read
 abbrev pub symbols_unread : ℕ → Result (Option (Table × List ℕ)) ParseError → List Said

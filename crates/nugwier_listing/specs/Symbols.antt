@@ -1,23 +1,17 @@
 -- What is said of the symbols of a file.
-use Rattle.std.specs.Prelude.{ℕ, List, [], ◌∷◌, ◌++◌, Option, Some, None, Result, Ok, Err}
+use Rattle.std.specs.Prelude.{ℕ, List, [], ◌∷◌, ◌++◌, Option, None, Result}
 use Rattle.elf.specs.Answers.{dynamic_symbol_table, symbol_table, symbol_version_table}
 use Rattle.elf.specs.ObjectFile.{ObjectFile}
 use Rattle.elf_parts.specs.gnu_symver.Table.{Versions}
 use Rattle.elf_records.specs.Symbol.{symbol_reads}
 use Rattle.elf_records.specs.Table.{Table, table_items}
 use Rattle.elf_records.specs.declared.parse.ParseError.{ParseError}
-use Rattle.nugwier_report.specs.Said.{Said, numbered, states, unread, whole, wrong}
+use Rattle.nugwier_listing.specs.Read.{answer_said, if_read, missing}
+use Rattle.nugwier_report.specs.Said.{Said, numbered, states, unread, whole}
 use Rattle.nugwier_report.specs.Symbols.{Manner, all_fields, by_letter, exports_alone, symbol_said}
 use Rattle.nugwier_report.specs.declared.kind.Kind.TheVariants as kind
-use Rattle.nugwier_report.specs.declared.problem.Fault.TheVariants.{Missing, Read}
 use Rattle.nugwier_report.specs.declared.problem.Part.{Part}
 use Rattle.nugwier_report.specs.declared.problem.Part.TheVariants.{DynamicSymbols, Symbols, Versions as VersionPart}
-
--- of a part that has this answer: that it cannot be read; if there is none, this; and else what is in it
-abbrev pub answer_said : {A : Type 0} → Part → List Said → (A → List Said) → Result (Option A) ParseError → List Said
-answer_said part none said (Ok (Some x)) = said x
-answer_said part none said (Ok None) = none
-answer_said part none said (Err e) = wrong (whole part) (Read e) ∷ []
 
 -- of each symbol of a table of this part, with their strings and versions
 abbrev pub rows_said : Manner → Part → Option Versions → Table × List ℕ → List Said
@@ -30,15 +24,13 @@ abbrev pub plain_said : Table × List ℕ → List Said
 plain_said symbols = states kind.SymbolsHeading [] ∷ rows_said all_fields Symbols None symbols
 
 -- all symbols, if there are any
+abbrev pub all_said : Result (Option (Table × List ℕ)) ParseError → List Said
+all_said symbols = answer_said Symbols [] plain_said symbols
+
 abbrev pub said_of_symbols : ObjectFile → List Said
-said_of_symbols file = answer_said Symbols [] plain_said (symbol_table file)
+said_of_symbols file = all_said (symbol_table file)
 
 -- ---- the symbols for dynamic linking
-
--- what was read, if it was
-abbrev pub readable : {A : Type 0} → Result (Option A) ParseError → Option A
-readable (Ok found) = found
-readable (Err e) = None
 
 abbrev pub heading_said : Manner → List Said
 heading_said all_fields = states kind.DynamicSymbolsHeading [] ∷ []
@@ -49,13 +41,13 @@ heading_said exports_alone = []
 abbrev pub versioned_said : Manner → Result (Option Versions) ParseError → Table × List ℕ → List Said
 versioned_said manner versions symbols =
     unread (whole VersionPart) versions ++ heading_said manner
-    ++ rows_said manner DynamicSymbols (readable versions) symbols
+    ++ rows_said manner DynamicSymbols (if_read versions) symbols
 
 -- if there are none: a listing of all fields needs none
 abbrev pub none_said : Manner → List Said
 none_said all_fields = []
-none_said (by_letter class sections) = wrong (whole DynamicSymbols) Missing ∷ []
-none_said exports_alone = wrong (whole DynamicSymbols) Missing ∷ []
+none_said (by_letter class sections) = missing DynamicSymbols
+none_said exports_alone = missing DynamicSymbols
 
 abbrev pub said_of_linked : Manner → ObjectFile → List Said
 said_of_linked manner file =

@@ -12,7 +12,8 @@ use Rattle.elf_records.specs.declared.parse.ParseError.{ParseError}
 use Rattle.elf_records.specs.declared.section.SectionHeader.{SectionHeader}
 use Rattle.elf.specs.Data.{content}
 use Rattle.elf.specs.ObjectFile.{ObjectFile}
-use Rattle.nugwier_listing.specs.Headings.{heading_members, known_names, name_shown, read_said}
+use Rattle.nugwier_listing.specs.Headings.{heading_members, known_names, name_shown}
+use Rattle.nugwier_listing.specs.Read.{read_said}
 use Rattle.nugwier_report.specs.Said.{Said, numbered, states}
 use Rattle.nugwier_report.specs.VersionRecords.{definitions_said, needs_said}
 use Rattle.nugwier_report.specs.declared.kind.Kind.{Kind}

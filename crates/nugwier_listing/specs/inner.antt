@@ -1,6 +1,4 @@
 -- what is said of what was taken
-pub mod Identity
-pub mod Plan
 pub mod Sections
 -- the symbols that were taken
 pub mod Symbols

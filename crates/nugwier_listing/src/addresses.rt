@@ -7,12 +7,11 @@ ghost use Rattle.nugwier_listing.specs.Addresses.{AreEachSaid, AreSaidBy, all_sy
 ghost use Rattle.nugwier_listing.specs.Whole.{whole_file};
 ghost use Rattle.nugwier_report.specs.Said.{Said, saying};
 
-use crate::symbols::whole;
 use crate::taking;
-use crate::taking::{NotTaken, Symbols};
+use crate::taking::{FoundSymbols, NotTaken, Symbols};
 use elf::endian::EndianParse;
 use elf::string_table::TerminatedStrings;
-use elf::{ElfStream, ParseError, StreamSource};
+use elf::{ElfStream, StreamSource};
 use elf_tools::addresses::Addresses;
 use nugwier_report::addresses::AddressRow;
 use nugwier_report::problem::{Fault, Part, Stop};
@@ -21,13 +20,10 @@ use nugwier_report::rows::say_slice;
 use std::alloc::Global;
 use std::io::Write;
 
-/// The symbols that were taken, if there are any.
-pub type AllSymbols<'f, E> = Result<Option<Symbols<'f, E>>, ParseError>;
-
 /// Takes the symbols of the section of type `SHT_SYMTAB`, or if there is none those for dynamic linking.
 pub(crate) fn take_all_symbols<'f, E: EndianParse, S: StreamSource>(
     stream: &'f ElfStream<E, S, Global>,
-) -> Result<AllSymbols<'f, E>, NotTaken>
+) -> Result<FoundSymbols<'f, E>, NotTaken>
     ensures { IfOk result (λ found. ok_map (option_map symbols_view) found
         ≡ all_symbols (whole_file E.little stream.now)) }
 {
@@ -42,7 +38,7 @@ pub(crate) fn take_all_symbols<'f, E: EndianParse, S: StreamSource>(
 /// or before, or if its name cannot be read.
 pub(crate) fn say_addresses<E: EndianParse, W: Write, V: Write>(
     alloc: Global,
-    symbols: AllSymbols<'_, E>,
+    symbols: FoundSymbols<'_, E>,
     addresses: &[u64],
     report: &mut Report<'_, W, V>,
 ) -> Result<(), Stop>
@@ -52,8 +48,8 @@ pub(crate) fn say_addresses<E: EndianParse, W: Write, V: Write>(
 {
     match symbols {
         Ok(Some(symbols)) => say_each(alloc, symbols, addresses, report),
-        Ok(None) => report.problem(whole(Part::Symbols), Fault::Missing),
-        Err(error) => report.problem(whole(Part::Symbols), Fault::Read(error)),
+        Ok(None) => report.problem(Part::Symbols.whole(), Fault::Missing),
+        Err(error) => report.problem(Part::Symbols.whole(), Fault::Read(error)),
     }
 }
 

@@ -1,25 +1,23 @@
 //! Whether a file is sound, and its faults. It is read whole.
-ghost use Rattle.std.specs.Prelude.{◌≡◌, ◌<◌, ◌^◌, ◌∷◌, [], List, Result, IfOk, IfSome, OnOk, length};
+ghost use Rattle.std.specs.Prelude.{◌≡◌, ◌<◌, ◌^◌, List, Result, IfOk, IfSome, OnOk, length};
 ghost use Rattle.elf.specs.ElfBytes.{view};
 ghost use Rattle.elf.specs.ObjectFile.{object_file};
 ghost use Rattle.elf_records.specs.Number.{ok_map};
 ghost use Rattle.elf_records.specs.declared.parse.ParseError.{ParseError};
 ghost use Rattle.elf_reading.specs.Opening.{opened_file};
-ghost use Rattle.elf_whole.specs.AllFaults.{AreAllFaults};
-ghost use Rattle.elf_whole.specs.declared.faults.FileFault.{FileFault};
+ghost use Rattle.elf_check.specs.AllFaults.{AreAllFaults};
+ghost use Rattle.elf_check.specs.declared.faults.FileFault.{FileFault};
 ghost use Rattle.nugwier_listing.specs.Check.{AreContentFaults, AreFaultsOf, AreFoundSaid, AreOpenedFaults};
 ghost use Rattle.nugwier_listing.specs.Whole.{whole_file};
-ghost use Rattle.nugwier_report.specs.Said.{Said, saying, whole, wrong};
-ghost use Rattle.nugwier_report.specs.declared.problem.Fault.TheVariants.{Read};
-ghost use Rattle.nugwier_report.specs.declared.problem.Part.TheVariants.{File};
+ghost use Rattle.nugwier_report.specs.Said.{Said, saying};
 
 use crate::taking;
 use crate::taking::NotTaken;
 use elf::endian::EndianParse;
 use elf::{ElfBytes, ElfStream, ParseError, StreamSource};
-use elf_whole::all_faults_in;
-use elf_whole::faults::FileFault;
-use nugwier_report::problem::{Fault, Item, Part, Place, Stop};
+use elf_check::all_faults_in;
+use elf_check::faults::FileFault;
+use nugwier_report::problem::{Fault, Part, Stop};
 use nugwier_report::report::Report;
 use nugwier_report::verdicts::say_verdict;
 use std::alloc::{AllocError, Global};
@@ -109,19 +107,6 @@ pub(crate) fn say_check<W: Write, V: Write>(
 {
     match checked {
         Ok(faults) => say_verdict(alloc, path, faults.as_slice(), report),
-        Err(error) => say_unread(error, report),
+        Err(error) => report.problem(Part::File.whole(), Fault::Read(error)),
     }
-}
-
-fn say_unread<W: Write, V: Write>(
-    error: ParseError,
-    report: &mut Report<'_, W, V>,
-) -> Result<(), Stop>
-    ensures { OnOk result (report.new ≡ saying report.old (wrong (whole File) (Read error) ∷ [])) }
-{
-    let place = Place {
-        part: Part::File,
-        item: Item::Whole,
-    };
-    report.problem(place, Fault::Read(error))
 }

@@ -6,14 +6,16 @@ ghost use Rattle.elf.specs.Names.{has_name};
 ghost use Rattle.nugwier_listing.specs.Contents.{bytes_said, content_of, content_said, first_named, form_said};
 ghost use Rattle.nugwier_listing.specs.Contents.{found_said, heading_members, heading_of};
 ghost use Rattle.nugwier_listing.specs.Contents.{number_in, or_numbered, said_of_contents, section_of_number};
-ghost use Rattle.nugwier_listing.specs.Headings.{known_names, read_said};
+ghost use Rattle.nugwier_listing.specs.Headings.{known_names};
+ghost use Rattle.nugwier_listing.specs.Read.{read_said};
 ghost use Rattle.nugwier_listing.specs.Whole.{whole_file};
-ghost use Rattle.nugwier_listing.specs.inner.Contents.{bytes_view, content_tables_said, found_view, part_said};
+ghost use Rattle.nugwier_listing.specs.inner.Contents.{bytes_view, found_view, part_said};
 ghost use Rattle.nugwier_report.specs.Noted.{members_said};
 ghost use Rattle.nugwier_report.specs.Said.{saying};
 ghost use Rattle.nugwier_report.specs.declared.problem.Part.TheVariants.{Section};
 
 use crate::headings::known_names;
+use crate::parts::TakenPart;
 use crate::taking;
 use crate::taking::NotTaken;
 use elf::endian::EndianParse;
@@ -24,39 +26,50 @@ use elf::{ElfStream, ParseError, StreamSource};
 use nugwier_report::contents::{say_data, say_strings};
 use nugwier_report::json::{Member, Value};
 use nugwier_report::kind::Kind;
-use nugwier_report::problem::{Fault, Item, Part, Place, Stop};
+use nugwier_report::problem::{Fault, Part, Stop};
 use nugwier_report::quoted::Quoted;
 use nugwier_report::report::Report;
 use nugwier_words::words::{Form, Wanted};
 use std::alloc::Global;
 use std::io::Write;
 
-// A section that is wanted, and its number and its bytes, if there is such a section.
+/// A section that is wanted, and its number and its bytes, if there is such a section.
 #[derive(Drop)]
-struct ContentPart<'w, 'f> {
+pub struct ContentPart<'w, 'f> {
     wanted: Wanted<'w>,
     found: Option<(u64, Result<&'f [u8], ParseError>)>,
 }
 
-/// The content of the sections that are wanted.
-#[derive(Drop)]
-pub struct ContentTables<'w, 'f>(Vec<ContentPart<'w, 'f>>);
+impl TakenPart for ContentPart<'_, '_> {
+    ghost said = { part_said };
 
-/// Takes the content of sections, in order.
+    fn say<W: Write, V: Write>(self, report: &mut Report<'_, W, V>) -> Result<(), Stop> {
+        let ContentPart { wanted, found } = self;
+        match found {
+            Some((number, bytes)) => say_read(wanted, number, bytes, report),
+            None => say_missing(wanted, report),
+        }
+    }
+}
+
+/// Takes the content of sections, in order. Of no section, nothing is read.
 pub(crate) fn take_contents<'w, 'f, E: EndianParse, S: StreamSource>(
     alloc: Global,
     stream: &'f ElfStream<E, S, Global>,
     contents: &[Wanted<'w>],
-) -> Result<ContentTables<'w, 'f>, NotTaken>
-    ensures { IfOk result (λ tables. content_tables_said tables
+) -> Result<Vec<ContentPart<'w, 'f>>, NotTaken>
+    ensures { IfOk result (λ parts. flat_map part_said parts.items
         ≡ said_of_contents (whole_file E.little stream.now) contents.now) }
 {
-    let names = known_names(stream)?;
     let mut parts = Vec::new(alloc);
+    if contents.is_empty() {
+        return Ok(parts);
+    }
+    let names = known_names(stream)?;
     for wanted in contents {
         add_content(stream, &names, *wanted, &mut parts)?;
     }
-    Ok(ContentTables(parts))
+    Ok(parts)
 }
 
 // Takes the content of a section, and adds it.
@@ -176,33 +189,6 @@ fn section_of_number<E: EndianParse, S: StreamSource>(
     }
 }
 
-/// Says the bytes or the strings of sections, for people under a heading each.
-pub(crate) fn say_contents<W: Write, V: Write>(
-    tables: ContentTables<'_, '_>,
-    report: &mut Report<'_, W, V>,
-) -> Result<(), Stop>
-    ensures { OnOk result (report.new ≡ saying report.old (content_tables_said tables.entry)) }
-{
-    for part in tables.0 {
-        say_part(part, report)?;
-    }
-    Ok(())
-}
-
-// Says the content of a section, or that there is no such section.
-fn say_part<W: Write, V: Write>(
-    part: ContentPart<'_, '_>,
-    report: &mut Report<'_, W, V>,
-) -> Result<(), Stop>
-    ensures { OnOk result (report.new ≡ saying report.old (part_said part.entry)) }
-{
-    let ContentPart { wanted, found } = part;
-    match found {
-        Some((number, bytes)) => say_read(wanted, number, bytes, report),
-        None => say_missing(wanted, report),
-    }
-}
-
 // Says of the file that it has no such section.
 fn say_missing<W: Write, V: Write>(
     wanted: Wanted<'_>,
@@ -211,14 +197,8 @@ fn say_missing<W: Write, V: Write>(
     ensures { OnOk result (report.new
         ≡ saying report.old (found_said wanted.entry.form wanted.entry.section.now None)) }
 {
-    let place = Place {
-        part: Part::File,
-        item: Item::Whole,
-    };
-    report.problem(
-        place,
-        Fault::NoSection(Quoted::new(wanted.section.as_bytes())),
-    )
+    let word = Quoted::new(wanted.section.as_bytes());
+    report.problem(Part::File.whole(), Fault::NoSection(word))
 }
 
 // Says the bytes of a section, or that they cannot be read.
@@ -234,13 +214,7 @@ fn say_read<W: Write, V: Write>(
 {
     match bytes {
         Ok(bytes) => say_bytes(wanted, number, bytes, report),
-        Err(error) => {
-            let place = Place {
-                part: Part::Section(number),
-                item: Item::Whole,
-            };
-            report.problem(place, Fault::Read(error))
-        }
+        Err(error) => report.problem(Part::Section(number).whole(), Fault::Read(error)),
     }
 }
 

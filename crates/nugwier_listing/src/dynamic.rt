@@ -3,9 +3,7 @@ ghost use Rattle.std.specs.Prelude.{◌≡◌, IfOk, OnOk};
 ghost use Rattle.std.specs.Option.{option_map};
 ghost use Rattle.std.specs.Result.{result_ok};
 ghost use Rattle.elf_records.specs.Number.{ok_map};
-ghost use Rattle.nugwier_listing.specs.Dynamic.{each_said, entries_of, names_fault, names_said, said_of_entries};
-ghost use Rattle.nugwier_listing.specs.Dynamic.{said_of_needed};
-ghost use Rattle.nugwier_listing.specs.Dynamic.{strings_missed};
+ghost use Rattle.nugwier_listing.specs.Dynamic.{each_said, entries_of, names_fault, names_said, strings_missed};
 ghost use Rattle.nugwier_listing.specs.Whole.{whole_file};
 ghost use Rattle.nugwier_listing.specs.inner.Dynamic.{entries_said, entries_view, needed_said};
 ghost use Rattle.nugwier_report.specs.Said.{saying};
@@ -16,52 +14,30 @@ use elf::dynamic::Dyn;
 use elf::endian::EndianParse;
 use elf::string_table::{StringTable, TerminatedStrings};
 use elf::{ElfStream, ParseError, StreamSource};
-use elf_tools::needed::{NamesError, entries_in};
+use elf_linking::needed::{NamesError, entries_in};
 use nugwier_report::dynamic::{EntryRow, NeededRow};
 use nugwier_report::kind::Kind;
-use nugwier_report::problem::{Fault, Item, Part, Place, Stop};
+use nugwier_report::problem::{Fault, Part, Stop};
 use nugwier_report::report::Report;
 use nugwier_report::rows::say_slice;
 use std::alloc::Global;
 use std::io::Write;
 
-const ENTRIES: Place = Place {
-    part: Part::Dynamic,
-    item: Item::Whole,
-};
-
-const STRINGS: Place = Place {
-    part: Part::DynamicStrings,
-    item: Item::Whole,
-};
-
-// Dynamic entries, and the strings that they name.
+/// Dynamic entries, and the strings that they name.
 #[derive(Debug, Drop)]
-struct DynamicEntries<'f> {
+pub struct DynamicEntries<'f> {
     entries: Vec<Dyn>,
     strings: Result<&'f [u8], NamesError>,
 }
 
-/// The dynamic entries of a file, if it has any, and the strings that they name.
-#[derive(Debug, Drop)]
-pub struct DynamicTables<'f>(Result<Option<DynamicEntries<'f>>, ParseError>);
+/// The dynamic entries of a file, if it has any.
+pub type FoundEntries<'f> = Result<Option<DynamicEntries<'f>>, ParseError>;
 
 /// Takes the dynamic entries, if there are any, and the strings that they name.
 pub(crate) fn take_dynamic<'f, E: EndianParse, S: StreamSource>(
     alloc: Global,
     stream: &'f ElfStream<E, S, Global>,
-) -> Result<DynamicTables<'f>, NotTaken>
-    ensures entries { IfOk result (λ tables. entries_said tables ≡ said_of_entries (whole_file E.little stream.now)) }
-    ensures needed { IfOk result (λ tables. needed_said tables ≡ said_of_needed (whole_file E.little stream.now)) }
-{
-    let entries = take_entries(alloc, stream)?;
-    Ok(DynamicTables(entries))
-}
-
-fn take_entries<'f, E: EndianParse, S: StreamSource>(
-    alloc: Global,
-    stream: &'f ElfStream<E, S, Global>,
-) -> Result<Result<Option<DynamicEntries<'f>>, ParseError>, NotTaken>
+) -> Result<FoundEntries<'f>, NotTaken>
     ensures { IfOk result (λ found. ok_map (option_map entries_view) found
         ≡ entries_of (whole_file E.little stream.now)) }
 {
@@ -78,29 +54,29 @@ fn take_entries<'f, E: EndianParse, S: StreamSource>(
 
 /// Says each dynamic entry, if there are any, for people under a heading.
 pub(crate) fn say_entries<W: Write, V: Write>(
-    tables: DynamicTables<'_>,
+    found: FoundEntries<'_>,
     report: &mut Report<'_, W, V>,
 ) -> Result<(), Stop>
-    ensures { OnOk result (report.new ≡ saying report.old (entries_said tables.entry)) }
+    ensures { OnOk result (report.new ≡ saying report.old (entries_said found.entry)) }
 {
-    match tables.0 {
+    match found {
         Ok(Some(entries)) => say_each(entries, report),
         Ok(None) => Ok(()),
-        Err(error) => report.problem(ENTRIES, Fault::Read(error)),
+        Err(error) => report.problem(Part::Dynamic.whole(), Fault::Read(error)),
     }
 }
 
 /// Says the libraries that the entries name, and the search paths. It is wrong if there are no entries.
 pub(crate) fn say_needed<W: Write, V: Write>(
-    tables: DynamicTables<'_>,
+    found: FoundEntries<'_>,
     report: &mut Report<'_, W, V>,
 ) -> Result<(), Stop>
-    ensures { OnOk result (report.new ≡ saying report.old (needed_said tables.entry)) }
+    ensures { OnOk result (report.new ≡ saying report.old (needed_said found.entry)) }
 {
-    match tables.0 {
+    match found {
         Ok(Some(entries)) => say_names(entries, report),
-        Ok(None) => report.problem(ENTRIES, Fault::Missing),
-        Err(error) => report.problem(ENTRIES, Fault::Read(error)),
+        Ok(None) => report.problem(Part::Dynamic.whole(), Fault::Missing),
+        Err(error) => report.problem(Part::Dynamic.whole(), Fault::Read(error)),
     }
 }
 
@@ -143,7 +119,7 @@ fn found_strings<'f, W: Write, V: Write>(
     match strings {
         Ok(bytes) => Ok(Some(TerminatedStrings::new(&StringTable::new(bytes)))),
         Err(error) => {
-            report.problem(STRINGS, fault_of(error))?;
+            report.problem(Part::DynamicStrings.whole(), fault_of(error))?;
             Ok(None)
         }
     }

@@ -1,21 +1,22 @@
 //! What is said of a file for a command: its tables are taken, and then what is said of them is written.
 ghost use Rattle.std.specs.Prelude.{◌≡◌, ℕ, IfOk, List, OnOk};
-ghost use Rattle.nugwier_listing.specs.Job.{IsSaidBy, IsSaidOf};
+ghost use Rattle.nugwier_listing.specs.Job.{IsSaidOf};
 ghost use Rattle.nugwier_listing.specs.Whole.{whole_file};
 ghost use Rattle.nugwier_listing.specs.inner.Job.{IsTablesSaid};
 ghost use Rattle.nugwier_report.specs.Said.{Said, saying};
 ghost use Rattle.nugwier_words.specs.Words.{task_of};
 
-use crate::addresses::{AllSymbols, say_addresses, take_all_symbols};
+use crate::addresses::{say_addresses, take_all_symbols};
 use crate::check::{Checked, say_check, take_check};
-use crate::dynamic::{DynamicTables, say_needed, take_dynamic};
-use crate::identity::{IdentityTables, say_identity, take_identity};
+use crate::dynamic::{FoundEntries, say_needed, take_dynamic};
+use crate::identity::say_identity;
 use crate::list::{ListTables, say_list, take_list};
-use crate::plan::{PlanTables, say_plan, take_plan};
+use crate::plan::{say_plan, take_plan};
 use crate::symbols::{LinkedTables, say_linked, take_exports, take_letters};
-use crate::taking::NotTaken;
+use crate::taking::{self, FoundSymbols, NotTaken};
 use elf::endian::EndianParse;
-use elf::{ElfStream, StreamSource};
+use elf::{ElfStream, ParseError, StreamSource};
+use elf_tools::load_plan::{Mapping, PlanError};
 use nugwier_report::problem::Stop;
 use nugwier_report::report::Report;
 use nugwier_words::words::{Command, Job};
@@ -28,11 +29,11 @@ pub enum JobTables<'f, 'w, E: EndianParse> {
     Listed(ListTables<'f, 'w, E>),
     /// For `symbols` and `exports`.
     Linked(LinkedTables<'f, E>),
-    Needed(DynamicTables<'f>),
-    BuildId(IdentityTables<'f>),
-    Plan(PlanTables),
+    Needed(FoundEntries<'f>),
+    BuildId(Result<Option<&'f [u8]>, ParseError>),
+    Plan(Result<Vec<Mapping>, PlanError>),
     Check(Checked),
-    Address(AllSymbols<'f, E>),
+    Address(FoundSymbols<'f, E>),
     /// Nothing is said of one file.
     Nothing,
 }
@@ -50,124 +51,16 @@ pub fn take_job<'f, 'w, E: EndianParse, S: StreamSource>(
         (whole_file E.little stream.now) said) }
 {
     match job.command {
-        Command::List => take_listed(alloc, job, stream),
-        Command::Symbols => take_lettered(job, stream),
-        Command::Exports => take_exported(job, stream),
-        Command::Needed => take_needed(alloc, job, stream),
-        Command::BuildId => take_build_id(job, stream),
-        Command::Plan => take_planned(alloc, job, stream),
-        Command::Check => take_checked(alloc, job, stream),
-        Command::Address => take_addressed(job, stream),
+        Command::List => Ok(JobTables::Listed(take_list(alloc, job, stream)?)),
+        Command::Symbols => Ok(JobTables::Linked(take_letters(stream)?)),
+        Command::Exports => Ok(JobTables::Linked(take_exports(stream)?)),
+        Command::Needed => Ok(JobTables::Needed(take_dynamic(alloc, stream)?)),
+        Command::BuildId => Ok(JobTables::BuildId(taking::build_id(stream)?)),
+        Command::Plan => Ok(JobTables::Plan(take_plan(alloc, stream)?)),
+        Command::Check => Ok(JobTables::Check(take_check(alloc, stream)?)),
+        Command::Address => Ok(JobTables::Address(take_all_symbols(stream)?)),
         Command::Tree | Command::Bindings => Ok(JobTables::Nothing),
     }
-}
-
-fn take_listed<'f, 'w, E: EndianParse, S: StreamSource>(
-    alloc: Global,
-    job: &'w Job<'w>,
-    stream: &'f ElfStream<E, S, Global>,
-) -> Result<JobTables<'f, 'w, E>, NotTaken>
-    ensures { IfOk result (λ tables. (path : List ℕ) (said : List Said)
-        → IsTablesSaid E.little path (task_of job.now).addresses tables said
-        → IsSaidBy E.little E.of_byte Command.List (task_of job.now) path stream.now.headers.ehdr
-        (whole_file E.little stream.now) said) }
-{
-    let tables = take_list(alloc, job, stream)?;
-    Ok(JobTables::Listed(tables))
-}
-
-fn take_lettered<'f, 'w, E: EndianParse, S: StreamSource>(
-    _job: &'w Job<'w>,
-    stream: &'f ElfStream<E, S, Global>,
-) -> Result<JobTables<'f, 'w, E>, NotTaken>
-    ensures { IfOk result (λ tables. (path : List ℕ) (said : List Said)
-        → IsTablesSaid E.little path (task_of _job.now).addresses tables said
-        → IsSaidBy E.little E.of_byte Command.Symbols (task_of _job.now) path stream.now.headers.ehdr
-        (whole_file E.little stream.now) said) }
-{
-    let tables = take_letters(stream)?;
-    Ok(JobTables::Linked(tables))
-}
-
-fn take_exported<'f, 'w, E: EndianParse, S: StreamSource>(
-    _job: &'w Job<'w>,
-    stream: &'f ElfStream<E, S, Global>,
-) -> Result<JobTables<'f, 'w, E>, NotTaken>
-    ensures { IfOk result (λ tables. (path : List ℕ) (said : List Said)
-        → IsTablesSaid E.little path (task_of _job.now).addresses tables said
-        → IsSaidBy E.little E.of_byte Command.Exports (task_of _job.now) path stream.now.headers.ehdr
-        (whole_file E.little stream.now) said) }
-{
-    let tables = take_exports(stream)?;
-    Ok(JobTables::Linked(tables))
-}
-
-fn take_needed<'f, 'w, E: EndianParse, S: StreamSource>(
-    alloc: Global,
-    _job: &'w Job<'w>,
-    stream: &'f ElfStream<E, S, Global>,
-) -> Result<JobTables<'f, 'w, E>, NotTaken>
-    ensures { IfOk result (λ tables. (path : List ℕ) (said : List Said)
-        → IsTablesSaid E.little path (task_of _job.now).addresses tables said
-        → IsSaidBy E.little E.of_byte Command.Needed (task_of _job.now) path stream.now.headers.ehdr
-        (whole_file E.little stream.now) said) }
-{
-    let tables = take_dynamic(alloc, stream)?;
-    Ok(JobTables::Needed(tables))
-}
-
-fn take_build_id<'f, 'w, E: EndianParse, S: StreamSource>(
-    _job: &'w Job<'w>,
-    stream: &'f ElfStream<E, S, Global>,
-) -> Result<JobTables<'f, 'w, E>, NotTaken>
-    ensures { IfOk result (λ tables. (path : List ℕ) (said : List Said)
-        → IsTablesSaid E.little path (task_of _job.now).addresses tables said
-        → IsSaidBy E.little E.of_byte Command.BuildId (task_of _job.now) path stream.now.headers.ehdr
-        (whole_file E.little stream.now) said) }
-{
-    let tables = take_identity(stream)?;
-    Ok(JobTables::BuildId(tables))
-}
-
-fn take_planned<'f, 'w, E: EndianParse, S: StreamSource>(
-    alloc: Global,
-    _job: &'w Job<'w>,
-    stream: &'f ElfStream<E, S, Global>,
-) -> Result<JobTables<'f, 'w, E>, NotTaken>
-    ensures { IfOk result (λ tables. (path : List ℕ) (said : List Said)
-        → IsTablesSaid E.little path (task_of _job.now).addresses tables said
-        → IsSaidBy E.little E.of_byte Command.Plan (task_of _job.now) path stream.now.headers.ehdr
-        (whole_file E.little stream.now) said) }
-{
-    let tables = take_plan(alloc, stream)?;
-    Ok(JobTables::Plan(tables))
-}
-
-fn take_checked<'f, 'w, E: EndianParse, S: StreamSource>(
-    alloc: Global,
-    _job: &'w Job<'w>,
-    stream: &'f ElfStream<E, S, Global>,
-) -> Result<JobTables<'f, 'w, E>, NotTaken>
-    ensures { IfOk result (λ tables. (path : List ℕ) (said : List Said)
-        → IsTablesSaid E.little path (task_of _job.now).addresses tables said
-        → IsSaidBy E.little E.of_byte Command.Check (task_of _job.now) path stream.now.headers.ehdr
-        (whole_file E.little stream.now) said) }
-{
-    let tables = take_check(alloc, stream)?;
-    Ok(JobTables::Check(tables))
-}
-
-fn take_addressed<'f, 'w, E: EndianParse, S: StreamSource>(
-    _job: &'w Job<'w>,
-    stream: &'f ElfStream<E, S, Global>,
-) -> Result<JobTables<'f, 'w, E>, NotTaken>
-    ensures { IfOk result (λ tables. (path : List ℕ) (said : List Said)
-        → IsTablesSaid E.little path (task_of _job.now).addresses tables said
-        → IsSaidBy E.little E.of_byte Command.Address (task_of _job.now) path stream.now.headers.ehdr
-        (whole_file E.little stream.now) said) }
-{
-    let tables = take_all_symbols(stream)?;
-    Ok(JobTables::Address(tables))
 }
 
 /// Says what was taken of a file of this path.
@@ -185,9 +78,9 @@ pub fn say_job<E: EndianParse, W: Write, V: Write>(
     match tables {
         JobTables::Listed(tables) => say_list(alloc, tables, report),
         JobTables::Linked(tables) => say_linked(alloc, tables, report),
-        JobTables::Needed(tables) => say_needed(tables, report),
-        JobTables::BuildId(tables) => say_identity(tables, report),
-        JobTables::Plan(tables) => say_plan(tables, report),
+        JobTables::Needed(entries) => say_needed(entries, report),
+        JobTables::BuildId(found) => say_identity(found, report),
+        JobTables::Plan(planned) => say_plan(planned, report),
         JobTables::Check(checked) => say_check(alloc, path, checked, report),
         JobTables::Address(symbols) => {
             say_addresses(alloc, symbols, job.addresses.as_slice(), report)

@@ -1,13 +1,14 @@
 //! The names of the sections, for what is told of them.
-ghost use Rattle.std.specs.Prelude.{◌≡◌};
-ghost use Rattle.nugwier_listing.specs.Sections.{names_in};
+ghost use Rattle.std.specs.Prelude.{◌≡◌, IfOk};
+ghost use Rattle.nugwier_listing.specs.Labels.{has_sections, names_told, tells_sections};
 ghost use Rattle.nugwier_listing.specs.Whole.{whole_file};
+ghost use Rattle.nugwier_words.specs.Words.{task_of};
 
-use crate::taking;
+use crate::headings::known_names;
 use crate::taking::NotTaken;
 use elf::endian::EndianParse;
 use elf::string_table::TerminatedStrings;
-use elf::{ElfStream, ParseError, StreamSource};
+use elf::{ElfStream, StreamSource};
 use nugwier_report::names::Labels;
 use nugwier_words::words::{Command, Job, Parts};
 use std::alloc::Global;
@@ -17,16 +18,34 @@ use std::alloc::Global;
 pub fn take_labels<'f, E: EndianParse, S: StreamSource>(
     job: &Job<'_>,
     stream: &'f ElfStream<E, S, Global>,
-) -> Result<Labels<'f>, NotTaken> {
+) -> Result<Labels<'f>, NotTaken>
+    ensures sections { IfOk result (λ labels. labels.sections.now ≡ (whole_file E.little stream.now).sections) }
+    ensures names { IfOk result (λ labels. labels.names
+        ≡ names_told (task_of job.now) (whole_file E.little stream.now)) }
+{
+    let names = names_told(job, stream)?;
+    Ok(Labels {
+        sections: stream.section_headers().as_slice(),
+        names,
+    })
+}
+
+fn names_told<'f, E: EndianParse, S: StreamSource>(
+    job: &Job<'_>,
+    stream: &'f ElfStream<E, S, Global>,
+) -> Result<Option<TerminatedStrings<'f>>, NotTaken>
+    ensures { IfOk result (λ names. names ≡ names_told (task_of job.now) (whole_file E.little stream.now)) }
+{
     if !tells_sections(job) {
-        return Ok(labels(stream, Ok(None)));
+        return Ok(None);
     }
-    let names = taking::names(stream)?;
-    Ok(labels(stream, names))
+    known_names(stream)
 }
 
 // Whether something of a section can be wrong. Headers alone need no names, which may be far away in a large file.
-fn tells_sections(job: &Job<'_>) -> bool {
+fn tells_sections(job: &Job<'_>) -> bool
+    ensures { result ≡ tells_sections job.now.command (task_of job.now) }
+{
     match job.command {
         Command::Plan | Command::BuildId | Command::Tree | Command::Bindings => false,
         Command::List => has_sections(&job.parts) || !job.contents.is_empty(),
@@ -34,25 +53,9 @@ fn tells_sections(job: &Job<'_>) -> bool {
     }
 }
 
-fn has_sections(parts: &Parts) -> bool {
+fn has_sections(parts: &Parts) -> bool
+    ensures { result ≡ has_sections parts.now }
+{
     let listed = parts.sections || parts.symbols || parts.dynamic_symbols || parts.dynamic;
     listed || parts.relocations || parts.notes || parts.versions
-}
-
-// The sections of a stream, with these names if they can be read.
-fn labels<'f, E: EndianParse, S: StreamSource>(
-    stream: &'f ElfStream<E, S, Global>,
-    names: Result<Option<TerminatedStrings<'f>>, ParseError>,
-) -> Labels<'f>
-    ensures sections { result.sections.now ≡ (whole_file E.little stream.now).sections }
-    ensures names { result.names ≡ names_in names.entry }
-{
-    let sections = stream.section_headers().as_slice();
-    match names {
-        Ok(names) => Labels { sections, names },
-        Err(_) => Labels {
-            sections,
-            names: None,
-        },
-    }
 }

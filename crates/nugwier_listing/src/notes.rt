@@ -3,15 +3,17 @@ ghost use Rattle.std.specs.Prelude.{◌≡◌, ◌++◌, IfOk, OnOk};
 ghost use Rattle.std.specs.List.{flat_map};
 ghost use Rattle.elf_parts.specs.Note.{notes_left};
 ghost use Rattle.elf_records.specs.Number.{ok_map};
-ghost use Rattle.nugwier_listing.specs.Headings.{known_names, read_said};
+ghost use Rattle.nugwier_listing.specs.Headings.{known_names};
 ghost use Rattle.nugwier_listing.specs.Notes.{said_of_notes, section_notes_in, segment_members, segment_notes_in};
+ghost use Rattle.nugwier_listing.specs.Read.{read_said};
 ghost use Rattle.nugwier_listing.specs.Whole.{whole_file};
-ghost use Rattle.nugwier_listing.specs.inner.Notes.{note_tables_said, part_said};
+ghost use Rattle.nugwier_listing.specs.inner.Notes.{part_said};
 ghost use Rattle.nugwier_report.specs.Noted.{members_said};
 ghost use Rattle.nugwier_report.specs.Notes.{notes_said};
 ghost use Rattle.nugwier_report.specs.Said.{numbered, saying};
 
 use crate::headings::{heading_members, known_names, name_shown};
+use crate::parts::TakenPart;
 use crate::taking;
 use crate::taking::NotTaken;
 use elf::endian::EndianParse;
@@ -24,28 +26,41 @@ use elf::{ElfStream, ParseError, StreamSource, abi};
 use nugwier_report::json::{Member, Value};
 use nugwier_report::kind::Kind;
 use nugwier_report::notes;
-use nugwier_report::problem::{Fault, Item, Part, Place, Stop};
+use nugwier_report::problem::{Fault, Part, Stop};
 use nugwier_report::report::Report;
 use std::alloc::Global;
 use std::io::Write;
 
-// The notes of a section, by its number and its name, or of a segment, by its number.
+/// The notes of a section, by its number and its name, or of a segment, by its number.
 #[derive(Drop)]
-enum NotePart<'f, E: EndianParse> {
+pub enum NotePart<'f, E: EndianParse> {
     Section(u64, &'f [u8], Result<NoteIterator<'f, E>, ParseError>),
     Segment(u64, Result<NoteIterator<'f, E>, ParseError>),
 }
 
-/// The notes of each section of a file that has some or, if no sections are declared, of each segment.
-#[derive(Drop)]
-pub struct NoteTables<'f, E: EndianParse>(Vec<NotePart<'f, E>>);
+impl<'f, E: EndianParse> TakenPart for NotePart<'f, E> {
+    ghost said = { part_said };
+
+    fn say<W: Write, V: Write>(self, report: &mut Report<'_, W, V>) -> Result<(), Stop> {
+        match self {
+            NotePart::Section(number, name, notes) => {
+                report.state(Kind::SectionNotesHeading, &heading_members(number, name))?;
+                say_read(Part::Section(number), notes, report)
+            }
+            NotePart::Segment(number, notes) => {
+                report.state(Kind::SegmentNotesHeading, &segment_members(number))?;
+                say_read(Part::Segment(number), notes, report)
+            }
+        }
+    }
+}
 
 /// Takes the notes of the sections or, if no sections are declared, of the segments.
 pub(crate) fn take_notes<'f, E: EndianParse, S: StreamSource>(
     alloc: Global,
     stream: &'f ElfStream<E, S, Global>,
-) -> Result<NoteTables<'f, E>, NotTaken>
-    ensures { IfOk result (λ tables. note_tables_said tables ≡ said_of_notes (whole_file E.little stream.now)) }
+) -> Result<Vec<NotePart<'f, E>>, NotTaken>
+    ensures { IfOk result (λ parts. flat_map part_said parts.items ≡ said_of_notes (whole_file E.little stream.now)) }
 {
     if stream.declares_sections() {
         take_sections(alloc, stream)
@@ -57,9 +72,9 @@ pub(crate) fn take_notes<'f, E: EndianParse, S: StreamSource>(
 fn take_sections<'f, E: EndianParse, S: StreamSource>(
     alloc: Global,
     stream: &'f ElfStream<E, S, Global>,
-) -> Result<NoteTables<'f, E>, NotTaken>
+) -> Result<Vec<NotePart<'f, E>>, NotTaken>
     ensures { let whole = whole_file E.little stream.now in
-        IfOk result (λ tables. note_tables_said tables ≡ numbered (section_notes_in whole) 0 whole.sections) }
+        IfOk result (λ parts. flat_map part_said parts.items ≡ numbered (section_notes_in whole) 0 whole.sections) }
 {
     let names = known_names(stream)?;
     let mut parts = Vec::new(alloc);
@@ -68,7 +83,7 @@ fn take_sections<'f, E: EndianParse, S: StreamSource>(
         add_section(stream, &names, number, section, &mut parts)?;
         number += 1;
     }
-    Ok(NoteTables(parts))
+    Ok(parts)
 }
 
 // Takes the notes of a section, if it has any, and adds them.
@@ -94,9 +109,9 @@ fn add_section<'f, E: EndianParse, S: StreamSource>(
 fn take_segments<'f, E: EndianParse, S: StreamSource>(
     alloc: Global,
     stream: &'f ElfStream<E, S, Global>,
-) -> Result<NoteTables<'f, E>, NotTaken>
+) -> Result<Vec<NotePart<'f, E>>, NotTaken>
     ensures { let whole = whole_file E.little stream.now in
-        IfOk result (λ tables. note_tables_said tables ≡ numbered (segment_notes_in whole) 0 whole.segments) }
+        IfOk result (λ parts. flat_map part_said parts.items ≡ numbered (segment_notes_in whole) 0 whole.segments) }
 {
     let mut parts = Vec::new(alloc);
     let mut number = 0;
@@ -104,7 +119,7 @@ fn take_segments<'f, E: EndianParse, S: StreamSource>(
         add_segment(stream, number, segment, &mut parts)?;
         number += 1;
     }
-    Ok(NoteTables(parts))
+    Ok(parts)
 }
 
 // Takes the notes of a segment, if it has any, and adds them.
@@ -125,38 +140,6 @@ fn add_segment<'f, E: EndianParse, S: StreamSource>(
     Ok(())
 }
 
-/// Says the notes of each section or of each segment, for people under a heading.
-pub(crate) fn say_notes<E: EndianParse, W: Write, V: Write>(
-    tables: NoteTables<'_, E>,
-    report: &mut Report<'_, W, V>,
-) -> Result<(), Stop>
-    ensures { OnOk result (report.new ≡ saying report.old (note_tables_said tables.entry)) }
-{
-    for part in tables.0 {
-        say_part(part, report)?;
-    }
-    Ok(())
-}
-
-// Says the notes of a section or of a segment.
-fn say_part<E: EndianParse, W: Write, V: Write>(
-    part: NotePart<'_, E>,
-    report: &mut Report<'_, W, V>,
-) -> Result<(), Stop>
-    ensures { OnOk result (report.new ≡ saying report.old (part_said part.entry)) }
-{
-    match part {
-        NotePart::Section(number, name, notes) => {
-            report.state(Kind::SectionNotesHeading, &heading_members(number, name))?;
-            say_read(Part::Section(number), notes, report)
-        }
-        NotePart::Segment(number, notes) => {
-            report.state(Kind::SegmentNotesHeading, &segment_members(number))?;
-            say_read(Part::Segment(number), notes, report)
-        }
-    }
-}
-
 fn segment_members(number: u64) -> [Member<'static>; 1]
     ensures { members_said result ≡ segment_members number }
 {
@@ -174,12 +157,6 @@ fn say_read<E: EndianParse, W: Write, V: Write>(
 {
     match notes {
         Ok(notes) => notes::say_notes(part, notes, report),
-        Err(error) => {
-            let place = Place {
-                part,
-                item: Item::Whole,
-            };
-            report.problem(place, Fault::Read(error))
-        }
+        Err(error) => report.problem(part.whole(), Fault::Read(error)),
     }
 }

@@ -3,17 +3,18 @@ ghost use Rattle.std.specs.Prelude.{◌≡◌, ◌++◌, IfOk, OnOk};
 ghost use Rattle.std.specs.List.{flat_map};
 ghost use Rattle.std.specs.Option.{option_map};
 ghost use Rattle.elf_records.specs.Number.{ok_map};
-ghost use Rattle.nugwier_listing.specs.Headings.{if_read, known_names, name_shown};
+ghost use Rattle.nugwier_listing.specs.Headings.{known_names, name_shown};
+ghost use Rattle.nugwier_listing.specs.Read.{if_read};
 ghost use Rattle.nugwier_listing.specs.Relocations.{are_relocations, each_said, linked_symbols, records_of};
-ghost use Rattle.nugwier_listing.specs.Relocations.{records_said};
-ghost use Rattle.nugwier_listing.specs.Relocations.{relocations_in, said_of_relocations, section_said, symbols_if};
-ghost use Rattle.nugwier_listing.specs.Relocations.{symbols_unread};
+ghost use Rattle.nugwier_listing.specs.Relocations.{records_said, relocations_in, said_of_relocations};
+ghost use Rattle.nugwier_listing.specs.Relocations.{section_said, symbols_if, symbols_unread};
 ghost use Rattle.nugwier_listing.specs.Whole.{whole_file};
-ghost use Rattle.nugwier_listing.specs.inner.Relocations.{part_said, records_view, relocations_said};
+ghost use Rattle.nugwier_listing.specs.inner.Relocations.{part_said, records_view};
 ghost use Rattle.nugwier_report.specs.Relocations.{symbols_view};
 ghost use Rattle.nugwier_report.specs.Said.{saying};
 
 use crate::headings::{heading_members, known_names, name_shown};
+use crate::parts::TakenPart;
 use crate::taking;
 use crate::taking::NotTaken;
 use elf::endian::EndianParse;
@@ -23,7 +24,7 @@ use elf::section::SectionHeader;
 use elf::string_table::TerminatedStrings;
 use elf::{ElfStream, ParseError, StreamSource, abi};
 use nugwier_report::kind::Kind;
-use nugwier_report::problem::{Fault, Item, Part, Place, Stop};
+use nugwier_report::problem::{Fault, Item, Part, Stop};
 use nugwier_report::relocations::{RelRow, RelaRow, Symbols};
 use nugwier_report::report::Report;
 use nugwier_report::rows::say_records;
@@ -37,25 +38,38 @@ enum TakenRecords<'f, E: EndianParse> {
     Relas(RelaIterator<'f, E>),
 }
 
-// The relocations of a section, with its number and its name, and the symbols that they use, if there are any.
+/// The relocations of a section, with its number and its name, and the symbols that they use, if there are any.
 #[derive(Drop)]
-struct RelocationPart<'f, E: EndianParse> {
+pub struct RelocationPart<'f, E: EndianParse> {
     number: u64,
     name: &'f [u8],
     symbols: Result<Option<Symbols<'f, E>>, ParseError>,
     records: Result<TakenRecords<'f, E>, ParseError>,
 }
 
-/// The relocations of each section of a file that has them.
-#[derive(Drop)]
-pub struct RelocationTables<'f, E: EndianParse>(Vec<RelocationPart<'f, E>>);
+impl<'f, E: EndianParse> TakenPart for RelocationPart<'f, E> {
+    ghost said = { part_said };
+
+    fn say<W: Write, V: Write>(self, report: &mut Report<'_, W, V>) -> Result<(), Stop> {
+        let RelocationPart {
+            number,
+            name,
+            symbols,
+            records,
+        } = self;
+        report.state(Kind::RelocationsHeading, &heading_members(number, name))?;
+        let symbols = known_symbols(number, symbols, report)?;
+        say_read(number, symbols, records, report)
+    }
+}
 
 /// Takes the relocations of each section that has them.
 pub(crate) fn take_relocations<'f, E: EndianParse, S: StreamSource>(
     alloc: Global,
     stream: &'f ElfStream<E, S, Global>,
-) -> Result<RelocationTables<'f, E>, NotTaken>
-    ensures { IfOk result (λ tables. relocations_said tables ≡ said_of_relocations (whole_file E.little stream.now)) }
+) -> Result<Vec<RelocationPart<'f, E>>, NotTaken>
+    ensures { IfOk result (λ parts. flat_map part_said parts.items
+        ≡ said_of_relocations (whole_file E.little stream.now)) }
 {
     let names = known_names(stream)?;
     let mut parts = Vec::new(alloc);
@@ -64,7 +78,7 @@ pub(crate) fn take_relocations<'f, E: EndianParse, S: StreamSource>(
         add_section(stream, &names, number, section, &mut parts)?;
         number += 1;
     }
-    Ok(RelocationTables(parts))
+    Ok(parts)
 }
 
 // Takes the relocations of a section, if it has any, and adds them.
@@ -87,13 +101,6 @@ fn add_section<'f, E: EndianParse, S: StreamSource>(
     Ok(())
 }
 
-// Whether the section has relocations, by its type.
-fn are_relocations(section: &SectionHeader) -> bool
-    ensures { result ≡ are_relocations section.now }
-{
-    section.sh_type == abi::SHT_REL || section.sh_type == abi::SHT_RELA
-}
-
 fn take_part<'f, E: EndianParse, S: StreamSource>(
     stream: &'f ElfStream<E, S, Global>,
     names: &Option<TerminatedStrings<'f>>,
@@ -112,6 +119,13 @@ fn take_part<'f, E: EndianParse, S: StreamSource>(
         symbols,
         records,
     })
+}
+
+// Whether the section has relocations, by its type.
+fn are_relocations(section: &SectionHeader) -> bool
+    ensures { result ≡ are_relocations section.now }
+{
+    section.sh_type == abi::SHT_REL || section.sh_type == abi::SHT_RELA
 }
 
 // The symbols of the section of this number. Section 0 is none.
@@ -171,37 +185,6 @@ fn take_records<'f, E: EndianParse, S: StreamSource>(
     }
 }
 
-/// Says the relocations of each section, for people under a heading.
-pub(crate) fn say_relocations<E: EndianParse, W: Write, V: Write>(
-    tables: RelocationTables<'_, E>,
-    report: &mut Report<'_, W, V>,
-) -> Result<(), Stop>
-    ensures { OnOk result (report.new ≡ saying report.old (relocations_said tables.entry)) }
-{
-    for part in tables.0 {
-        say_part(part, report)?;
-    }
-    Ok(())
-}
-
-// Says the relocations of a section.
-fn say_part<E: EndianParse, W: Write, V: Write>(
-    part: RelocationPart<'_, E>,
-    report: &mut Report<'_, W, V>,
-) -> Result<(), Stop>
-    ensures { OnOk result (report.new ≡ saying report.old (part_said part.entry)) }
-{
-    let RelocationPart {
-        number,
-        name,
-        symbols,
-        records,
-    } = part;
-    report.state(Kind::RelocationsHeading, &heading_members(number, name))?;
-    let symbols = known_symbols(number, symbols, report)?;
-    say_read(number, symbols, records, report)
-}
-
 // The symbols, or the problem that they cannot be read.
 fn known_symbols<'f, E: EndianParse, W: Write, V: Write>(
     section: u64,
@@ -216,11 +199,10 @@ fn known_symbols<'f, E: EndianParse, W: Write, V: Write>(
     match symbols {
         Ok(symbols) => Ok(symbols),
         Err(error) => {
-            let place = Place {
-                part: Part::Section(section),
-                item: Item::Symbols,
-            };
-            report.problem(place, Fault::Read(error))?;
+            report.problem(
+                Part::Section(section).item(Item::Symbols),
+                Fault::Read(error),
+            )?;
             Ok(None)
         }
     }
@@ -238,13 +220,7 @@ fn say_read<E: EndianParse, W: Write, V: Write>(
 {
     match records {
         Ok(records) => say_each(section, symbols, records, report),
-        Err(error) => {
-            let place = Place {
-                part: Part::Section(section),
-                item: Item::Whole,
-            };
-            report.problem(place, Fault::Read(error))
-        }
+        Err(error) => report.problem(Part::Section(section).whole(), Fault::Read(error)),
     }
 }
 

@@ -1,6 +1,7 @@
 //! The sections.
 ghost use Rattle.std.specs.Prelude.{◌≡◌, IfOk, OnOk};
-ghost use Rattle.nugwier_listing.specs.Sections.{names_in, said_of_sections, sections_said};
+ghost use Rattle.nugwier_listing.specs.Read.{if_read};
+ghost use Rattle.nugwier_listing.specs.Sections.{said_of_sections, sections_said};
 ghost use Rattle.nugwier_listing.specs.Whole.{whole_file};
 ghost use Rattle.nugwier_listing.specs.inner.Sections.{taken_sections_said};
 ghost use Rattle.nugwier_report.specs.Said.{saying, unread, whole};
@@ -13,7 +14,7 @@ use elf::section::SectionHeader;
 use elf::string_table::TerminatedStrings;
 use elf::{ElfStream, ParseError, StreamSource};
 use nugwier_report::kind::Kind;
-use nugwier_report::problem::{Item, Part, Place, Stop};
+use nugwier_report::problem::{Part, Stop};
 use nugwier_report::report::Report;
 use nugwier_report::rows::say_slice;
 use nugwier_report::sections::SectionRow;
@@ -72,14 +73,10 @@ fn say_names<'f, W: Write, V: Write>(
     names: Result<Option<TerminatedStrings<'f>>, ParseError>,
     report: &mut Report<'_, W, V>,
 ) -> Result<Option<TerminatedStrings<'f>>, Stop>
-    ensures names { IfOk result (λ found. found ≡ names_in names.entry) }
+    ensures names { IfOk result (λ found. found ≡ if_read names.entry) }
     ensures said { OnOk result (report.new ≡ saying report.old (unread (whole IsSectionNames) names.entry)) }
 {
-    let place = Place {
-        part: Part::SectionNames,
-        item: Item::Whole,
-    };
-    match report.readable(place, names)? {
+    match report.readable(Part::SectionNames.whole(), names)? {
         Some(names) => Ok(names),
         None => Ok(None),
     }

@@ -4,24 +4,25 @@ ghost use Rattle.std.specs.Option.{option_map};
 ghost use Rattle.elf.specs.Answers.{symbols_view};
 ghost use Rattle.elf_parts.specs.gnu_symver.Table.{versions_view};
 ghost use Rattle.elf_records.specs.Number.{ok_map};
-ghost use Rattle.nugwier_listing.specs.Symbols.{heading_said, none_said, plain_said, readable, rows_said};
+ghost use Rattle.nugwier_listing.specs.Read.{if_read};
+ghost use Rattle.nugwier_listing.specs.Symbols.{all_said, heading_said, none_said, plain_said, rows_said};
 ghost use Rattle.nugwier_listing.specs.Symbols.{said_of_dynamic_symbols, said_of_exports, said_of_letters};
-ghost use Rattle.nugwier_listing.specs.Symbols.{said_of_linked, said_of_symbols};
+ghost use Rattle.nugwier_listing.specs.Symbols.{said_of_linked};
 ghost use Rattle.nugwier_listing.specs.Whole.{whole_file};
-ghost use Rattle.nugwier_listing.specs.inner.Symbols.{linked_said, one_linked_said, symbols_said};
+ghost use Rattle.nugwier_listing.specs.inner.Symbols.{linked_said, one_linked_said};
 ghost use Rattle.nugwier_report.specs.Said.{saying, unread, whole};
 ghost use Rattle.nugwier_report.specs.Symbols.{form_view};
 ghost use Rattle.nugwier_report.specs.declared.problem.Part.TheVariants.{DynamicSymbols, Versions as VersionPart};
 
 use crate::taking;
-use crate::taking::{NotTaken, Symbols};
+use crate::taking::{FoundSymbols, NotTaken, Symbols};
 use elf::endian::EndianParse;
 use elf::gnu_symver::{IndexedVersions, SymbolVersionTable, SymbolVersions};
 use elf::string_table::TerminatedStrings;
 use elf::{ElfStream, ParseError, StreamSource};
-use elf_tools::versions::indexed;
+use elf_linking::indexed;
 use nugwier_report::kind::Kind;
-use nugwier_report::problem::{Fault, Item, Part, Place, Stop};
+use nugwier_report::problem::{Fault, Part, Stop};
 use nugwier_report::report::Report;
 use nugwier_report::rows::say_records;
 use nugwier_report::symbols::{Form, Names, SymbolRow};
@@ -29,33 +30,18 @@ use std::alloc::Global;
 use std::io::Write;
 use std::marker::PhantomData;
 
-/// The symbols that were taken.
-#[derive(Drop)]
-pub struct SymbolTables<'f, E: EndianParse> {
-    symbols: Result<Option<Symbols<'f, E>>, ParseError>,
-}
-
-/// Takes the symbols of the section of type `SHT_SYMTAB`.
-pub(crate) fn take_symbols<'f, E: EndianParse, S: StreamSource>(
-    stream: &'f ElfStream<E, S, Global>,
-) -> Result<SymbolTables<'f, E>, NotTaken>
-    ensures { IfOk result (λ tables. symbols_said tables ≡ said_of_symbols (whole_file E.little stream.now)) }
-{
-    let symbols = taking::symbols(stream)?;
-    Ok(SymbolTables { symbols })
-}
-
 /// Says the symbols that were taken, if there are any, under a heading.
 pub(crate) fn say_symbols<E: EndianParse, W: Write, V: Write>(
-    tables: SymbolTables<'_, E>,
+    symbols: FoundSymbols<'_, E>,
     report: &mut Report<'_, W, V>,
 ) -> Result<(), Stop>
-    ensures { OnOk result (report.new ≡ saying report.old (symbols_said tables.entry)) }
+    ensures { OnOk result (report.new ≡ saying report.old
+        (all_said (ok_map (option_map symbols_view) symbols.entry))) }
 {
-    match tables.symbols {
+    match symbols {
         Ok(Some(symbols)) => say_plain(symbols, report),
         Ok(None) => Ok(()),
-        Err(error) => report.problem(whole(Part::Symbols), Fault::Read(error)),
+        Err(error) => report.problem(Part::Symbols.whole(), Fault::Read(error)),
     }
 }
 
@@ -165,7 +151,7 @@ pub(crate) fn say_linked<E: EndianParse, W: Write, V: Write>(
     match tables.linked {
         Ok(Some(linked)) => say_versioned(alloc, tables.form, linked, report),
         Ok(None) => say_none(tables.form, report),
-        Err(error) => report.problem(whole(Part::DynamicSymbols), Fault::Read(error)),
+        Err(error) => report.problem(Part::DynamicSymbols.whole(), Fault::Read(error)),
     }
 }
 
@@ -175,7 +161,7 @@ fn say_none<W: Write, V: Write>(form: Form<'_>, report: &mut Report<'_, W, V>) -
     match form {
         Form::Fields => Ok(()),
         Form::Letter { .. } | Form::Export => {
-            report.problem(whole(Part::DynamicSymbols), Fault::Missing)
+            report.problem(Part::DynamicSymbols.whole(), Fault::Missing)
         }
     }
 }
@@ -200,14 +186,14 @@ fn known_versions<'f, E: EndianParse, W: Write, V: Write>(
     report: &mut Report<'_, W, V>,
 ) -> Result<Option<SymbolVersionTable<'f, E>>, Stop>
     ensures versions { IfOk result (λ known. option_map versions_view known
-        ≡ readable (ok_map (option_map versions_view) versions.entry)) }
+        ≡ if_read (ok_map (option_map versions_view) versions.entry)) }
     ensures wrong { OnOk result (report.new ≡ saying report.old
         (unread (whole VersionPart) (ok_map (option_map versions_view) versions.entry))) }
 {
     match versions {
         Ok(versions) => Ok(versions),
         Err(error) => {
-            report.problem(whole(Part::Versions), Fault::Read(error))?;
+            report.problem(Part::Versions.whole(), Fault::Read(error))?;
             Ok(None)
         }
     }
@@ -238,14 +224,4 @@ fn say_indexed<'f, E: EndianParse, W: Write, V: Write>(
 {
     let versions = indexed(alloc, versions.as_ref())?;
     say_rows(Part::DynamicSymbols, form, symbols, versions, report)
-}
-
-// All of a part of the file.
-pub(crate) fn whole(part: Part) -> Place
-    ensures { result ≡ whole part }
-{
-    Place {
-        part,
-        item: Item::Whole,
-    }
 }

@@ -20,7 +20,7 @@ ghost use Rattle.elf_records.specs.Number.{ok_map};
 ghost use Rattle.elf_records.specs.StringTable.{strings_view};
 ghost use Rattle.elf_records.specs.Table.{table_view};
 ghost use Rattle.elf_tools.specs.BuildId.{build_id};
-ghost use Rattle.elf_tools.specs.Needed.{missing_of, strings_by};
+ghost use Rattle.elf_linking.specs.Needed.{missing_of, strings_by};
 ghost use Rattle.nugwier_listing.specs.Whole.{whole_file};
 ghost use Rattle.nugwier_listing.specs.declared.taking.NotTaken.TheVariants.{Memory as IsMemory};
 
@@ -37,8 +37,8 @@ use elf::segment::ProgramHeader;
 use elf::string_table::{StringTable, TerminatedStrings};
 use elf::symbol::SymbolTable;
 use elf::{ElfStream, ParseError, ReadError, StreamSource, reader};
+use elf_linking::needed::NamesError;
 use elf_tools::laws::part_build_id_as_whole;
-use elf_tools::needed::NamesError;
 use std::alloc::{AllocError, AllocFailed, Global};
 
 /// Why something is not taken of a stream.
@@ -68,6 +68,9 @@ impl<T: Drop> From<AllocFailed<T>> for NotTaken {
 
 /// A table of symbols, with the strings of their names.
 pub type Symbols<'f, E> = (SymbolTable<'f, E>, StringTable<'f>);
+
+/// The symbols of a file, if it has any.
+pub type FoundSymbols<'f, E> = Result<Option<Symbols<'f, E>>, ParseError>;
 
 /// States that the file of a stream over known content is the one that the content holds.
 #[tactic(auto, using(crate::proofs::Taken::whole_same))]
@@ -102,7 +105,7 @@ fn taken<T>(read: Result<T, ReadError>) -> Result<Result<T, ParseError>, NotTake
 /// Takes the symbols of the first section of type `SHT_SYMTAB`, and their strings.
 pub(crate) fn symbols<'f, E: EndianParse, S: StreamSource>(
     stream: &'f ElfStream<E, S, Global>,
-) -> Result<Result<Option<Symbols<'f, E>>, ParseError>, NotTaken>
+) -> Result<FoundSymbols<'f, E>, NotTaken>
     ensures { IfOk result (λ found. ok_map (option_map symbols_view) found
         ≡ symbol_table (whole_file E.little stream.now)) }
 {
@@ -113,7 +116,7 @@ pub(crate) fn symbols<'f, E: EndianParse, S: StreamSource>(
 /// Takes the symbols for dynamic linking, and their strings.
 pub(crate) fn dynamic_symbols<'f, E: EndianParse, S: StreamSource>(
     stream: &'f ElfStream<E, S, Global>,
-) -> Result<Result<Option<Symbols<'f, E>>, ParseError>, NotTaken>
+) -> Result<FoundSymbols<'f, E>, NotTaken>
     ensures { IfOk result (λ found. ok_map (option_map symbols_view) found
         ≡ dynamic_symbol_table (whole_file E.little stream.now)) }
 {
@@ -295,7 +298,7 @@ pub(crate) fn strings_of<'f, E: EndianParse, S: StreamSource>(
     ensures no_missing { IfOk result (λ found. missing_of found ≡ None) }
 {
     is_part(stream);
-    match elf_tools::needed::strings_of(stream, entries) {
+    match elf_linking::needed::strings_of(stream, entries) {
         Err(NamesError::Missing(range)) => Err(NotTaken::Missing(range)),
         found => Ok(found),
     }

@@ -3,16 +3,18 @@ ghost use Rattle.std.specs.Prelude.{◌≡◌, ◌++◌, IfOk, OnOk};
 ghost use Rattle.std.specs.List.{flat_map};
 ghost use Rattle.elf_records.specs.Number.{ok_map};
 ghost use Rattle.elf_records.specs.Table.{table_in};
-ghost use Rattle.nugwier_listing.specs.Headings.{known_names, name_shown, read_said};
+ghost use Rattle.nugwier_listing.specs.Headings.{known_names, name_shown};
+ghost use Rattle.nugwier_listing.specs.Read.{read_said};
 ghost use Rattle.nugwier_listing.specs.VersionLists.{has_versions, heading_of, is_defining, linked_content, records_in};
-ghost use Rattle.nugwier_listing.specs.VersionLists.{records_said};
-ghost use Rattle.nugwier_listing.specs.VersionLists.{said_of_version_lists, section_said, versions_in, versions_of};
+ghost use Rattle.nugwier_listing.specs.VersionLists.{records_said, said_of_version_lists, section_said};
+ghost use Rattle.nugwier_listing.specs.VersionLists.{versions_in, versions_of};
 ghost use Rattle.nugwier_listing.specs.Whole.{whole_file};
-ghost use Rattle.nugwier_listing.specs.inner.VersionLists.{part_said, records_view, version_lists_said, versions_view};
+ghost use Rattle.nugwier_listing.specs.inner.VersionLists.{part_said, records_view, versions_view};
 ghost use Rattle.nugwier_report.specs.Said.{saying};
 ghost use Rattle.nugwier_report.specs.declared.problem.Part.TheVariants.{Section};
 
 use crate::headings::{heading_members, known_names, name_shown};
+use crate::parts::TakenPart;
 use crate::taking;
 use crate::taking::NotTaken;
 use elf::endian::EndianParse;
@@ -23,7 +25,7 @@ use elf::section::SectionHeader;
 use elf::string_table::{StringTable, TerminatedStrings};
 use elf::{ElfStream, ParseError, StreamSource, abi};
 use nugwier_report::kind::Kind;
-use nugwier_report::problem::{Fault, Item, Part, Place, Stop};
+use nugwier_report::problem::{Fault, Part, Stop};
 use nugwier_report::report::Report;
 use nugwier_report::version_records::{VersionNames, say_definitions, say_needs};
 use std::alloc::Global;
@@ -43,25 +45,37 @@ struct TakenVersions<'f, E: EndianParse> {
     strings: TerminatedStrings<'f>,
 }
 
-// The same with the number and the name of the section, and whether it defines them.
+/// The versions of a section, with its number and its name, and whether it defines them.
 #[derive(Drop)]
-struct VersionPart<'f, E: EndianParse> {
+pub struct VersionPart<'f, E: EndianParse> {
     number: u64,
     name: &'f [u8],
     is_defining: bool,
     versions: Result<TakenVersions<'f, E>, ParseError>,
 }
 
-/// The versions of each section of a file that defines or needs some.
-#[derive(Drop)]
-pub struct VersionLists<'f, E: EndianParse>(Vec<VersionPart<'f, E>>);
+impl<'f, E: EndianParse> TakenPart for VersionPart<'f, E> {
+    ghost said = { part_said };
+
+    fn say<W: Write, V: Write>(self, report: &mut Report<'_, W, V>) -> Result<(), Stop> {
+        let VersionPart {
+            number,
+            name,
+            is_defining,
+            versions,
+        } = self;
+        report.state(heading_of(is_defining), &heading_members(number, name))?;
+        say_read(number, versions, report)
+    }
+}
 
 /// Takes the versions of each section that defines or needs some.
 pub(crate) fn take_version_lists<'f, E: EndianParse, S: StreamSource>(
     alloc: Global,
     stream: &'f ElfStream<E, S, Global>,
-) -> Result<VersionLists<'f, E>, NotTaken>
-    ensures { IfOk result (λ lists. version_lists_said lists ≡ said_of_version_lists (whole_file E.little stream.now)) }
+) -> Result<Vec<VersionPart<'f, E>>, NotTaken>
+    ensures { IfOk result (λ parts. flat_map part_said parts.items
+        ≡ said_of_version_lists (whole_file E.little stream.now)) }
 {
     let names = known_names(stream)?;
     let mut parts = Vec::new(alloc);
@@ -70,7 +84,7 @@ pub(crate) fn take_version_lists<'f, E: EndianParse, S: StreamSource>(
         add_section(stream, &names, number, section, &mut parts)?;
         number += 1;
     }
-    Ok(VersionLists(parts))
+    Ok(parts)
 }
 
 // Takes the versions of a section, if it has any, and adds them.
@@ -93,19 +107,6 @@ fn add_section<'f, E: EndianParse, S: StreamSource>(
     Ok(())
 }
 
-// Whether a section defines or needs versions.
-fn has_versions(section: &SectionHeader) -> bool
-    ensures { result ≡ has_versions section.now }
-{
-    is_defining(section) || section.sh_type == abi::SHT_GNU_VERNEED
-}
-
-fn is_defining(section: &SectionHeader) -> bool
-    ensures { result ≡ is_defining section.now }
-{
-    section.sh_type == abi::SHT_GNU_VERDEF
-}
-
 fn take_part<'f, E: EndianParse, S: StreamSource>(
     stream: &'f ElfStream<E, S, Global>,
     names: &Option<TerminatedStrings<'f>>,
@@ -122,6 +123,19 @@ fn take_part<'f, E: EndianParse, S: StreamSource>(
         is_defining: is_defining(section),
         versions,
     })
+}
+
+// Whether a section defines or needs versions.
+fn has_versions(section: &SectionHeader) -> bool
+    ensures { result ≡ has_versions section.now }
+{
+    is_defining(section) || section.sh_type == abi::SHT_GNU_VERNEED
+}
+
+fn is_defining(section: &SectionHeader) -> bool
+    ensures { result ≡ is_defining section.now }
+{
+    section.sh_type == abi::SHT_GNU_VERDEF
 }
 
 // The versions of a section, and the strings of the section that it links to.
@@ -176,36 +190,6 @@ fn records_in<'f, E: EndianParse>(
     }
 }
 
-/// Says the versions of each section, for people under a heading.
-pub(crate) fn say_version_lists<E: EndianParse, W: Write, V: Write>(
-    lists: VersionLists<'_, E>,
-    report: &mut Report<'_, W, V>,
-) -> Result<(), Stop>
-    ensures { OnOk result (report.new ≡ saying report.old (version_lists_said lists.entry)) }
-{
-    for part in lists.0 {
-        say_part(part, report)?;
-    }
-    Ok(())
-}
-
-// Says the versions of a section.
-fn say_part<E: EndianParse, W: Write, V: Write>(
-    part: VersionPart<'_, E>,
-    report: &mut Report<'_, W, V>,
-) -> Result<(), Stop>
-    ensures { OnOk result (report.new ≡ saying report.old (part_said part.entry)) }
-{
-    let VersionPart {
-        number,
-        name,
-        is_defining,
-        versions,
-    } = part;
-    report.state(heading_of(is_defining), &heading_members(number, name))?;
-    say_read(number, versions, report)
-}
-
 fn heading_of(is_defining: bool) -> Kind
     ensures { result ≡ heading_of is_defining }
 {
@@ -227,13 +211,7 @@ fn say_read<E: EndianParse, W: Write, V: Write>(
 {
     match versions {
         Ok(versions) => say_each(section, versions, report),
-        Err(error) => {
-            let place = Place {
-                part: Part::Section(section),
-                item: Item::Whole,
-            };
-            report.problem(place, Fault::Read(error))
-        }
+        Err(error) => report.problem(Part::Section(section).whole(), Fault::Read(error)),
     }
 }
 

@@ -1,37 +1,34 @@
 -- What is said of the symbols of files: objects that are the same have the same look-ups.
 use Rattle.std.proofs.Common.{◌≡◌, ℕ, Bool, List, length, map, Option, Some, None, Result, Ok, Err, ap, sym, subst, ◌∙◌, arith}
 use Rattle.std.proofs.lemmas.List.{length-map}
-use Rattle.std.proofs.lemmas.Option.{slice_get-map}
-use Rattle.std.specs.Prelude.{slice_get, IfSome}
+use Rattle.std.proofs.lemmas.Option.{IfSome_then, slice_get-map}
+use Rattle.std.specs.Prelude.{slice_get}
 use Rattle.std.specs.Option.{IsSomeAnd, option_map}
 use Rattle.elf_parts.specs.gnu_symver.Table.{Versions}
 use Rattle.elf_records.specs.Table.{Table}
 use Rattle.elf_records.specs.declared.symbol.Symbol.{Symbol}
-use Rattle.elf_binding.specs.Binding.{FoundAt, IsBindingFor, IsFirst, IsFoundAt, VersionedObject}
-use Rattle.elf_binding.specs.declared.BindingFault.{BindingFault}
-use Rattle.elf_binding.specs.declared.ReferenceKind.{ReferenceKind}
-use Rattle.elf_binding.specs.declared.ReferenceKind.TheVariants.{Address, Copied, JumpSlot}
-use Rattle.elf_binding.specs.declared.Unreadable.{Unreadable}
-use Rattle.elf_binding.specs.declared.Wanted.{Wanted}
-use Rattle.elf_tools.specs.SymbolBindings.{AreAllBound, AreKindsBound, IsBoundBy, IsBoundFor, IsBoundIf, IsNamedBound, IsSymbolBound, kinds_of}
-use Rattle.elf_tools.specs.SymbolUses.{uses_at}
-use Rattle.elf_tools.specs.declared.bindings.Bound.{Bound}
-use Rattle.elf_tools.specs.declared.bindings.Bound.TheVariants.{To, Weak, Missing}
-use Rattle.elf_tools.specs.declared.bindings.kinds.SymbolBinding.{SymbolBinding}
-use Rattle.elf_tools.specs.declared.bindings.kinds.SymbolFault.{SymbolFault}
-use Rattle.elf_tools.specs.declared.bindings.kinds.SymbolFault.TheVariants.{Name, Object, Version}
-use Rattle.elf_tools.specs.declared.bindings.uses.SymbolUses.{SymbolUses}
-use Rattle.elf_tools.specs.declared.bindings.uses.UsesError.{UsesError}
+use Rattle.elf_linking.specs.Binding.{FoundAt, IsBindingFor, IsFirst, IsFoundAt, VersionedObject}
+use Rattle.elf_linking.specs.declared.BindingFault.{BindingFault}
+use Rattle.elf_linking.specs.declared.ReferenceKind.{ReferenceKind}
+use Rattle.elf_linking.specs.declared.ReferenceKind.TheVariants.{Address, Copied, JumpSlot}
+use Rattle.elf_linking.specs.declared.Unreadable.{Unreadable}
+use Rattle.elf_linking.specs.declared.Wanted.{Wanted}
+use Rattle.elf_linking.specs.SymbolBindings.{AreAllBound, AreKindsBound, IsBoundBy, IsBoundFor, IsBoundIf, IsNamedBound}
+use Rattle.elf_linking.specs.SymbolBindings.{IsSymbolBound, kinds_of}
+use Rattle.elf_linking.specs.SymbolUses.{uses_at}
+use Rattle.elf_linking.specs.declared.bindings.Bound.{Bound}
+use Rattle.elf_linking.specs.declared.bindings.Bound.TheVariants.{To, Weak, Missing}
+use Rattle.elf_linking.specs.declared.bindings.kinds.SymbolBinding.{SymbolBinding}
+use Rattle.elf_linking.specs.declared.bindings.kinds.SymbolFault.{SymbolFault}
+use Rattle.elf_linking.specs.declared.bindings.kinds.SymbolFault.TheVariants.{Name, Object, Version}
+use Rattle.elf_linking.specs.declared.bindings.uses.SymbolUses.{SymbolUses}
+use Rattle.elf_linking.specs.declared.bindings.uses.UsesError.{UsesError}
 use Rattle.nugwier_programs.specs.Bindings.{AreSymbolsSaid, looked_up}
 use Rattle.nugwier_report.specs.Said.{Said}
 
 some_weaker : {A : Type 0} (P Q : A → Type 0) → ((x : A) → P x → Q x) → (o : Option A) → IsSomeAnd o P → IsSomeAnd o Q
 some_weaker P Q h (Some x) p = h x p
 some_weaker P Q h None p = absurd p
-
-if_weaker : {A : Type 0} (P Q : A → Type 0) → ((x : A) → P x → Q x) → (o : Option A) → IfSome o P → IfSome o Q
-if_weaker P Q h (Some x) p = h x p
-if_weaker P Q h None p = tt
 
 first_moved : (At Bt : ℕ → Result (Option (ℕ × Symbol)) Unreadable → Type 0) (n m : ℕ) → ((k : ℕ) (r : Result (Option (ℕ × Symbol)) Unreadable) → At k r → Bt k r) → n ≡ m →
     (result : Result (Option (ℕ × ℕ × Symbol)) BindingFault) → IsFirst At n result → IsFirst Bt m result
@@ -91,8 +88,8 @@ module _ {C D : Type 0} (f : C → VersionedObject) (g : D → VersionedObject) 
           AreAllBound g ys strings versions uses symbols all
       all_moved uses symbols all h = (
         h.0,
-        λ k less. if_weaker (λ (one : ℕ × Symbol). IsSomeAnd (slice_get all k) (IsBoundBy f xs strings versions uses one)) (λ (one : ℕ × Symbol). IsSomeAnd (slice_get all k) (IsBoundBy g ys strings versions uses one))
-            (λ one. some_weaker (IsBoundBy f xs strings versions uses one) (IsBoundBy g ys strings versions uses one) (λ b. kinds_moved (kinds_of one.1 (uses_at uses one.0)) one b) (slice_get all k)) (slice_get symbols k) (h.1 k less),
+        λ k less. IfSome_then (slice_get symbols k) (h.1 k less)
+            (λ one. some_weaker (IsBoundBy f xs strings versions uses one) (IsBoundBy g ys strings versions uses one) (λ b. kinds_moved (kinds_of one.1 (uses_at uses one.0)) one b) (slice_get all k)),
       )
 
     pub uses_moved : (paths : List (List ℕ)) (all : List VersionedObject) (path : List ℕ) (symbols : Table × List ℕ) (versions : Option Versions) (read : Result (List SymbolUses) UsesError) (said : List Said) →

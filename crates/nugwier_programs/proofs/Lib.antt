@@ -1,4 +1,3 @@
 pub mod Walk
 pub mod Bound
 pub mod Scopes
-pub mod Each

@@ -10,26 +10,25 @@ use Rattle.std.specs.declared.cmp.PartialEq.{Ghosts as PartialEqGhosts}
 use Rattle.std.specs.declared.default.Default.{Ghosts as DefaultGhosts}
 use Rattle.elf_records.specs.declared.endian.AnyEndian.{AnyEndian}
 use Rattle.elf_records.specs.declared.endian.EndianParse.{Ghosts as EndianGhosts}
-use Rattle.elf_parts.specs.gnu_symver.Table.{Versions, versions_view}
-use Rattle.elf_check.specs.CheckedTable.{object_view}
-use Rattle.elf_check.specs.Object.{Object}
-use Rattle.elf_check.specs.declared.hashcheck.any.HashSection.{HashSection}
-use Rattle.elf_check.specs.declared.hashcheck.gnu.CheckedGnuHash.{CheckedGnuHash}
-use Rattle.elf_check.specs.declared.hashcheck.sysv.CheckedSysvHash.{CheckedSysvHash}
-use Rattle.elf_binding.specs.Binding.{VersionedObject}
-use Rattle.elf_binding.specs.declared.VersionedObject.{VersionedObject as Versioned}
+use Rattle.elf_parts.specs.gnu_symver.Table.{Versions}
+use Rattle.elf_hash_check.specs.Object.{Object}
+use Rattle.elf_hash_check.specs.declared.hashcheck.any.HashSection.{HashSection}
+use Rattle.elf_hash_check.specs.declared.hashcheck.gnu.CheckedGnuHash.{CheckedGnuHash}
+use Rattle.elf_hash_check.specs.declared.hashcheck.sysv.CheckedSysvHash.{CheckedSysvHash}
+use Rattle.elf_linking.specs.Binding.{VersionedObject}
+use Rattle.elf_linking.specs.declared.VersionedObject.{VersionedObject as Versioned}
 use Rattle.elf_records.specs.Endian.{any_is_little, any_of_byte}
 use Rattle.elf_records.specs.Table.{Table}
 use Rattle.elf_records.specs.declared.parse.ParseError.{ParseError}
 use Rattle.elf_reading.specs.Opening.{FileView, opened_file}
 use Rattle.elf.specs.Answers.{dynamic_symbol_table}
-use Rattle.elf_binding.specs.BindingObjects.{GivesVersioned}
-use Rattle.elf_binding.specs.declared.resolve.ObjectFault.{ObjectFault}
-use Rattle.elf_tools.specs.Tree.{Entry, entry_view}
-use Rattle.elf_tools.specs.declared.tree.Object.{Object as LoadedObject}
+use Rattle.elf_linking.specs.BindingObjects.{GivesVersioned}
+use Rattle.elf_linking.specs.declared.resolve.ObjectFault.{ObjectFault}
+use Rattle.elf_linking.specs.Tree.{Entry, entry_view}
+use Rattle.elf_linking.specs.declared.tree.Object.{Object as LoadedObject}
 use Rattle.nugwier_programs.specs.Bindings.{AreAllFilesSaid, AreFilesSaid, AreSaidFrom, AreSearched, AreSymbolsSaid, IsFileSaid, IsFileSearched, IsOpenedSearched, IsSearchedBy, SearchedFile, Searching, Searched, Unsearchable, WithoutSymbols, file_heading, file_uses, files_of, objects_of, opened_object, paths_of, search_problem, searched_by}
 use Rattle.nugwier_report.specs.Said.{Said}
-use Rattle.nugwier_programs.specs.inner.Scope.{AreFound, AreInScope, Opened, file_view, indexed_view, object_of, opened_of, paired_object, scope_paths, searched_file, table_of, versions_of}
+use Rattle.nugwier_programs.specs.inner.Scope.{AreInScope, Opened, file_view, indexed_view, object_of, opened_of, paired_object, scope_paths, searched_file, versions_of}
 use Rattle.nugwier_programs.specs.declared.bindings.objects.BoundFile.{BoundFile}
 use Rattle.nugwier_programs.proofs.Bound.{get_same, uses_moved}
 
@@ -121,25 +120,25 @@ file_at all files same k file at =
     mapped opened_of (slice_get all k) (file_view file)
     (sym (slice_get-map opened_of all k) ∙ ap (λ (l : List Opened). slice_get l k) (sym same) ∙ slice_get-map file_view files k ∙ ap (option_map file_view) at)
 
+abbrev WithTable : EndianGhosts AnyEndian → DefaultGhosts AnyEndian → PartialEqGhosts AnyEndian → Type 0
+WithTable order default equal = BoundFile × HashSection (CheckedSysvHash AnyEndian order default equal) (CheckedGnuHash AnyEndian order default equal)
+
 module _ {order : EndianGhosts AnyEndian} {default : DefaultGhosts AnyEndian} {equal : PartialEqGhosts AnyEndian} where
-  -- the objects of files and tables
-  pub paired_objects : (all : List SearchedFile) (files : List BoundFile)
-      (tables : List (HashSection (CheckedSysvHash AnyEndian order default equal) (CheckedGnuHash AnyEndian order default equal))) →
-      AreFound all files tables → map paired_object (zip files tables) ≡ map object_of all
-  paired_objects [] [] tables found = refl
-  paired_objects (s ∷ all) [] tables found = let e = found.0 in absurd (cc)
-  paired_objects [] (f ∷ files) tables found = let e = found.0 in absurd (cc)
-  paired_objects (s ∷ all) (f ∷ files) [] found = let e = found.1 in absurd (cc)
-  paired_objects (s ∷ all) (f ∷ files) (t ∷ tables) found =
-      let e = found.0 in
-      let d = found.1 in
-      let one : file_view f ≡ opened_of s = cc in
-      let two : object_view t ≡ table_of s = cc in
-      let ones : map file_view files ≡ map opened_of all = cc in
-      let twos : map object_view tables ≡ map table_of all = cc in
-      let versions = ap (λ (o : Opened). o.versions) one in
-      cons_same (paired_object (f, t)) (object_of s) (map paired_object (zip files tables)) (map object_of all)
-      (made_same (object_view t) s.object.symbols (option_map versions_view f.versions) s.object.versions two versions) (paired_objects all files tables (ones, twos))
+  -- one file more
+  pub one_found : (before after : List (WithTable order default equal)) (one given : WithTable order default equal) → after ≡ before ++ given ∷ [] → given ≡ one →
+      map searched_file after ≡ map searched_file before ++ searched_file one ∷ []
+  one_found before after one given e is =
+      ap (map searched_file) e ∙ map-append searched_file before (given ∷ [])
+      ∙ ap (λ (p : WithTable order default equal). map searched_file before ++ searched_file p ∷ []) is
+
+  -- the files and the objects of what was found
+  files_there : (found : List (WithTable order default equal)) → map file_view (map (λ (p : WithTable order default equal). p.0) found) ≡ map opened_of (map searched_file found)
+  files_there [] = refl
+  files_there (p ∷ found) = ap (λ (l : List Opened). file_view p.0 ∷ l) (files_there found)
+
+  objects_there : (found : List (WithTable order default equal)) → map paired_object (zip (map (λ (p : WithTable order default equal). p.0) found) (map (λ (p : WithTable order default equal). p.1) found)) ≡ map object_of (map searched_file found)
+  objects_there [] = refl
+  objects_there (p ∷ found) = ap (λ (l : List VersionedObject). paired_object p ∷ l) (objects_there found)
 
   module _ (all : List SearchedFile) (files : List BoundFile) (objects : List (Versioned AnyEndian Versions order default equal)) (scope : AreInScope all files objects) where
     -- what is said of the file at a place, as the objects say it
@@ -180,17 +179,6 @@ module _ {order : EndianGhosts AnyEndian} {default : DefaultGhosts AnyEndian} {e
     pub same_length : length all ≡ length files
     same_length = sym (length-map all opened_of) ∙ ap (λ (l : List Opened). length l) (sym scope.0) ∙ length-map files file_view
 
-  -- one file more with its table
-  pub found_more : (all : List SearchedFile) (files more : List BoundFile) (tables grown : List (HashSection (CheckedSysvHash AnyEndian order default equal) (CheckedGnuHash AnyEndian order default equal)))
-      (file : BoundFile) (table : HashSection (CheckedSysvHash AnyEndian order default equal) (CheckedGnuHash AnyEndian order default equal)) →
-      more ≡ files ++ file ∷ [] → grown ≡ tables ++ table ∷ [] → AreFound all files tables → AreFound (all ++ searched_file (file, table) ∷ []) more grown
-  found_more all files more tables grown file table e d found =
-      let one = searched_file (file, table) in (
-        ap (map file_view) e ∙ map-append file_view files (file ∷ []) ∙ ap (λ (l : List Opened). l ++ file_view file ∷ []) found.0 ∙ sym (map-append opened_of all (one ∷ [])),
-        ap (λ (l : List (HashSection (CheckedSysvHash AnyEndian order default equal) (CheckedGnuHash AnyEndian order default equal))). map object_view l) d
-            ∙ map-append object_view tables (table ∷ []) ∙ ap (λ (l : List Object). l ++ object_view table ∷ []) found.1 ∙ sym (map-append table_of all (one ∷ [])),
-      )
-
   -- one object more
   pub objects_more : (files : List BoundFile) (k : ℕ) (file : BoundFile) (objects grown : List (Versioned AnyEndian Versions order default equal)) (o : Versioned AnyEndian Versions order default equal)
       (tables left : List (HashSection (CheckedSysvHash AnyEndian order default equal) (CheckedGnuHash AnyEndian order default equal)))
@@ -210,34 +198,32 @@ module _ {order : EndianGhosts AnyEndian} {default : DefaultGhosts AnyEndian} {e
       ∙ before
 
   -- the scope of files and of the objects that were made of them
-  pub in_scope : (all : List SearchedFile) (files lent first : List BoundFile) (tables : List (HashSection (CheckedSysvHash AnyEndian order default equal) (CheckedGnuHash AnyEndian order default equal)))
-      (objects shown : List (Versioned AnyEndian Versions order default equal)) → AreFound all files tables → first ≡ files → lent ≡ files → shown ≡ objects →
-      map indexed_view objects ≡ map paired_object (zip first tables) → AreInScope all lent shown
-  in_scope all files lent first tables objects shown found e d s made = (
-    ap (map file_view) d ∙ found.0,
-    ap (λ (l : List (Versioned AnyEndian Versions order default equal)). map indexed_view l) s ∙ made
-        ∙ ap (λ (l : List BoundFile). map paired_object (zip l tables)) e ∙ paired_objects all files tables found,
+  pub in_scope : (found : List (WithTable order default equal)) (lent first : List BoundFile) (tables : List (HashSection (CheckedSysvHash AnyEndian order default equal) (CheckedGnuHash AnyEndian order default equal)))
+      (objects shown : List (Versioned AnyEndian Versions order default equal)) → first ≡ map (λ (p : WithTable order default equal). p.0) found → lent ≡ map (λ (p : WithTable order default equal). p.0) found →
+      tables ≡ map (λ (p : WithTable order default equal). p.1) found → shown ≡ objects → map indexed_view objects ≡ map paired_object (zip first tables) → AreInScope (map searched_file found) lent shown
+  in_scope found lent first tables objects shown e d t s is = (
+    ap (map file_view) d ∙ files_there found,
+    ap (λ (l : List (Versioned AnyEndian Versions order default equal)). map indexed_view l) s ∙ is
+        ∙ ap (λ (l : List BoundFile). map paired_object (zip l tables)) e
+        ∙ ap (λ (l : List (HashSection (CheckedSysvHash AnyEndian order default equal) (CheckedGnuHash AnyEndian order default equal))). map paired_object (zip (map (λ (p : WithTable order default equal). p.0) found) l)) t
+        ∙ objects_there found,
   )
 
   -- ---- the program and its libraries
 
-  -- without a table after the program, it is not searched
-  pub not_searched : (one : Searching) (files : List BoundFile) (tables : List (HashSection (CheckedSysvHash AnyEndian order default equal) (CheckedGnuHash AnyEndian order default equal))) (libraries : List Entry) →
-      AreFound (files_of one) files tables → length tables ≡ 0 → AreSaidFrom one libraries []
-  not_searched (Searched f) files tables libraries found none =
-      let long = sym (length-map tables object_view) ∙ ap (λ (l : List Object). length l) found.1 in
-      absurd (omega (arith, long, none))
-  not_searched WithoutSymbols files tables libraries found none = refl
-  not_searched (Unsearchable fault) files tables libraries found none = refl
+  -- if nothing was found, the program is not searched
+  pub not_searched : (one : Searching) (found : List (WithTable order default equal)) (libraries : List Entry) → map searched_file found ≡ files_of one → length found ≡ 0 → AreSaidFrom one libraries []
+  not_searched (Searched f) [] libraries is none = absurd (cc)
+  not_searched (Searched f) (p ∷ found) libraries is none = absurd (cc)
+  not_searched WithoutSymbols found libraries is none = refl
+  not_searched (Unsearchable fault) found libraries is none = refl
 
-  -- with one, it is, and the files are those of the program and of the libraries
-  pub then_said : (one : Searching) (files : List BoundFile) (tables : List (HashSection (CheckedSysvHash AnyEndian order default equal) (CheckedGnuHash AnyEndian order default equal))) (libraries : List Entry) (others : List Searching) (said : List Said) →
-      AreFound (files_of one) files tables → 0 < length tables → AreSearched libraries others →
+  -- else it is, and the files are those of the program and of the libraries
+  pub then_said : (one : Searching) (found : List (WithTable order default equal)) (libraries : List Entry) (others : List Searching) (said : List Said) →
+      map searched_file found ≡ files_of one → 0 < length found → AreSearched libraries others →
       AreAllFilesSaid (files_of one ++ flat_map files_of others) said → AreSaidFrom one libraries (flat_map search_problem others ++ said)
-  then_said (Searched f) files tables libraries others said found some searched all = (others, searched, said, all, refl)
-  then_said WithoutSymbols files tables libraries others said found some searched all =
-      let long = sym (length-map tables object_view) ∙ ap (λ (l : List Object). length l) found.1 in
-      absurd (omega (arith, long, some))
-  then_said (Unsearchable fault) files tables libraries others said found some searched all =
-      let long = sym (length-map tables object_view) ∙ ap (λ (l : List Object). length l) found.1 in
-      absurd (omega (arith, long, some))
+  then_said (Searched f) found libraries others said is some searched all = (others, searched, said, all, refl)
+  then_said WithoutSymbols [] libraries others said is some searched all = absurd (omega (arith, some))
+  then_said WithoutSymbols (p ∷ found) libraries others said is some searched all = absurd (cc)
+  then_said (Unsearchable fault) [] libraries others said is some searched all = absurd (omega (arith, some))
+  then_said (Unsearchable fault) (p ∷ found) libraries others said is some searched all = absurd (cc)

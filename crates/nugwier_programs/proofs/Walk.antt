@@ -2,15 +2,27 @@
 use Rattle.std.proofs.Common.{◌≡◌, ◌≢◌, ℕ, zero, suc, ◌+◌, ◌<◌, ◌≤◌, ◌==◌, Bool, true, false, List, [], ◌∷◌, ◌++◌, drop, get_or, length, map, reverse, replicate, Option, Some, None, refl, ap, sym, ◌∙◌, arith, append_assoc, append-nil}
 use Rattle.std.proofs.lemmas.Bool.Decides.{nat_tests}
 use Rattle.std.proofs.lemmas.Grind.{flat_map-append}
-use Rattle.std.proofs.lemmas.List.{drop_all, get_or-set_other, get_or-set_same, length-replicate, length-set, map-append, reverse-append}
+use Rattle.std.proofs.lemmas.List.{drop_all, drop_more, get_or-replicate, get_or-set_other, get_or-set_same, length-replicate, length-set, map-append, reverse-append}
 use Rattle.std.specs.List.{flat_map}
-use Rattle.std.specs.Prelude.{if◌then◌else◌, nat_lt, set}
-use Rattle.elf_tools.specs.Search.{Others}
-use Rattle.elf_tools.specs.Tree.{Entry, loader_at}
+use Rattle.std.specs.Prelude.{IfSome, if◌then◌else◌, nat_lt, set}
+use Rattle.std.specs.Option.{option_map}
+use Rattle.elf_linking.specs.Cache.{Cache, cache_view, cached_path, flags_of, flags_view}
+use Rattle.elf_linking.specs.Search.{Others, cached_by}
+use Rattle.elf_linking.specs.declared.cache.LibraryFlags.{LibraryFlags}
+use Rattle.elf_linking.specs.declared.cache.LinkerCache.{LinkerCache}
+use Rattle.elf_linking.specs.declared.tree.Kind.{Kind}
+use Rattle.elf_linking.specs.Tree.{Entry, loader_at}
+use Rattle.elf_linking.specs.Binding.{VersionedObject}
+use Rattle.elf_parts.specs.gnu_symver.Table.{Versions}
+use Rattle.elf_records.specs.declared.symbol.Symbol.{Symbol}
+use Rattle.elf_linking.specs.declared.bindings.kinds.SymbolBinding.{SymbolBinding}
+use Rattle.nugwier_report.specs.Bindings.{BoundSymbol}
 use Rattle.nugwier_report.specs.Said.{Said, Telling, saying}
-use Rattle.nugwier_programs.specs.Tree.{Listed, after_it, first_by, walk}
+use Rattle.nugwier_programs.specs.Tree.{Listed, after_it, cached_in, first_by, walk}
+use Rattle.nugwier_programs.specs.Symbols.{one_said, symbol_of, symbol_said}
 use Rattle.nugwier_programs.specs.inner.Walk.{AreFirsts, listed_view, stack_view, with_first}
 use Rattle.nugwier_programs.specs.declared.tree.Listed.{Listed as Given}
+use denote.Ref.{Bor}
 
 -- ---- what was said, and what is left to say
 
@@ -41,12 +53,6 @@ walked f objects n m x rest waiting after r now whole count is next said before 
     ap (λ (k : ℕ). walk k objects waiting) count ∙ ap (λ (l : List Listed). walk (suc m) objects l) is
     ∙ ap (λ (l : List Listed). x ∷ walk m objects l) (sym next) in
     say_first f r now x (walk m objects after) (walk n objects waiting) first said ∙ before
-
--- the walk is at its end
-pub no_more : (f : Listed → List Said) (objects : List Entry) (n : ℕ) (waiting : List Listed) (r whole : Telling) → n ≡ 0 →
-    saying r (flat_map f (walk n objects waiting)) ≡ whole → r ≡ whole
-no_more f objects n waiting r whole none before =
-    sym (saying_nothing r) ∙ ap (λ (k : ℕ). saying r (flat_map f (walk k objects waiting))) (sym none) ∙ before
 
 walk_nothing : (n : ℕ) (objects : List Entry) → walk n objects [] ≡ []
 walk_nothing zero objects = refl
@@ -102,19 +108,11 @@ firsts_more objects k firsts grown less is before = (
       ∙ ap (λ (r : Option ℕ). if loader_at objects k == p then Some k else r) (before.1 p within) ∙ sym (first_step objects k p k less),
 )
 
-abbrev pub no_first : ℕ → List (Option ℕ)
-no_first n = replicate n None
-
-none_yet : (n p : ℕ) → get_or (no_first n) p None ≡ None
-none_yet zero p = refl
-none_yet (suc n) zero = refl
-none_yet (suc n) (suc p) = none_yet n p
-
 pub no_firsts : (objects : List Entry) (n : ℕ) (firsts : List (Option ℕ)) → n ≡ length objects → firsts ≡ replicate n None → AreFirsts objects n firsts
 no_firsts objects n firsts long is =
     let count : length objects ≤ n = omega (arith, long) in (
       ap (λ (l : List (Option ℕ)). length l) is ∙ length-replicate n None ∙ long,
-      λ p within. ap (λ (l : List (Option ℕ)). get_or l p None) is ∙ none_yet n p ∙ sym (ap (first_by p n) (drop_all n objects count)),
+      λ p within. ap (λ (l : List (Option ℕ)). get_or l p None) is ∙ get_or-replicate n p None None (omega (arith, within, long)) ∙ sym (ap (first_by p n) (drop_all n objects count)),
     )
 
 -- all are known at the first place
@@ -125,11 +123,26 @@ firsts_known objects (suc (suc k)) firsts past empty known = absurd (omega (arit
 
 -- ---- the folders that are searched
 
-abbrev pub made_others : List ℕ → List (List ℕ) → Others
-made_others path usual = record { library_path = Some path; usual_folders = usual }
+abbrev pub made_others : List ℕ → List ℕ → List ℕ → (List ℕ → Option (List ℕ)) → List (List ℕ) → Others
+made_others path lib platform cached usual =
+    record { library_path = Some path; lib = lib; platform = platform; cached = cached; usual_folders = usual }
 
-pub same_others : (a b : List ℕ) (u v : List (List ℕ)) → a ≡ b → u ≡ v → made_others a u ≡ made_others b v
-same_others a b u v same usual = ap (λ (path : List ℕ). made_others path u) same ∙ ap (made_others b) usual
+pub same_others : (a b l m p q : List ℕ) (c d : List ℕ → Option (List ℕ)) (u v : List (List ℕ)) → a ≡ b → l ≡ m → p ≡ q → c ≡ d → u ≡ v → made_others a l p c u ≡ made_others b m q d v
+same_others a b l m p q c d u v same lib platform cached usual =
+    ap (λ (path : List ℕ). made_others path l p c u) same ∙ ap (λ (k : List ℕ). made_others b k p c u) lib
+    ∙ ap (λ (k : List ℕ). made_others b m k c u) platform ∙ ap (λ (k : List ℕ → Option (List ℕ)). made_others b m q k u) cached
+    ∙ ap (made_others b m q d) usual
+
+-- the cache that was read is the one of the file
+pub same_cached : (o : Option (Bor LinkerCache)) (flags : LibraryFlags) (kind : Kind) (cache : Option Cache) → flags_view flags ≡ flags_of kind.machine kind.class →
+    option_map (λ (b : Bor LinkerCache). cache_view b.now) o ≡ cache → cached_by o flags ≡ cached_in cache kind
+same_cached None flags kind cache e is = ap (λ (c : Option Cache). cached_in c kind) is
+same_cached (Some b) flags kind cache e is =
+    ap (λ (f : List ℕ). λ (name : List ℕ). cached_path (cache_view b.now) f name) e ∙ ap (λ (c : Option Cache). cached_in c kind) is
+
+pub both_known : {A : Type 0} (P Q R : A → Type 0) (o : Option A) → IfSome o P → IfSome o Q → ((x : A) → P x → Q x → R x) → IfSome o R
+both_known P Q R None p q f = tt
+both_known P Q R (Some x) p q f = f x p q
 
 pub nothing_left : {A : Type 0} (xs : List A) → length xs ≡ 0 → xs ≡ []
 nothing_left [] none = refl
@@ -149,3 +162,13 @@ said_three r a b c p s t first second third =
 
 pub flat_more : {X A : Type 0} (f : X → List A) (xs : List X) (x : X) → flat_map f (xs ++ x ∷ []) ≡ flat_map f xs ++ f x
 flat_more f xs x = flat_map-append f xs (x ∷ []) ∙ ap (λ (t : List _). flat_map f xs ++ t) (append-nil (f x))
+
+-- ---- symbols
+
+-- of one symbol more, with what it binds to
+pub one_more : (paths : List (List ℕ)) (objects : List VersionedObject) (path strings : List ℕ) (versions : Option Versions) (bound : List ((ℕ × Symbol) × SymbolBinding)) (k : ℕ) (d : (ℕ × Symbol) × SymbolBinding)
+    (symbol : BoundSymbol) (r now whole : Telling) → k < length bound → symbol ≡ symbol_of path strings versions (get_or bound k d).0 → now ≡ saying r (symbol_said paths objects symbol (get_or bound k d).1) →
+    saying r (flat_map (one_said paths objects path strings versions) (drop k bound)) ≡ whole → saying now (flat_map (one_said paths objects path strings versions) (drop (k + 1) bound)) ≡ whole
+one_more paths objects path strings versions bound k d symbol r now whole less is said before =
+    say_first (one_said paths objects path strings versions) r now (get_or bound k d) (drop (k + 1) bound) (drop k bound) (drop_more bound k d less)
+    (said ∙ ap (λ (s : BoundSymbol). saying r (symbol_said paths objects s (get_or bound k d).1)) is) ∙ before

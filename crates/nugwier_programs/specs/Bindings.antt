@@ -3,7 +3,7 @@
 -- Linking", sections "Shared Object Dependencies" and "Hash Table").
 use Rattle.std.specs.Prelude.{◌≡◌, ℕ, ◌+◌, ◌==◌, if◌then◌else◌, List, [], ◌∷◌, ◌++◌, codes, filter, map, replicate}
 use Rattle.std.specs.Prelude.{Option, Some, None, Result, Ok, Err}
-use Rattle.std.specs.List.{enumerate_from, flat_map}
+use Rattle.std.specs.List.{enumerate_from, flat_map, zip}
 use Rattle.elf_records.specs.Endian.{any_is_little, any_of_byte}
 use Rattle.elf_records.specs.Symbol.{symbol_reads}
 use Rattle.elf_records.specs.Table.{Table, table_items, table_len}
@@ -14,16 +14,16 @@ use Rattle.elf_parts.specs.gnu_symver.Table.{Versions}
 use Rattle.elf_reading.specs.Opening.{FileView, opened_file}
 use Rattle.elf.specs.Answers.{dynamic_symbol_table}
 use Rattle.elf.specs.ObjectFile.{ObjectFile, object_file}
-use Rattle.elf_binding.specs.Binding.{VersionedObject}
-use Rattle.elf_binding.specs.BindingObjects.{GivesVersioned}
-use Rattle.elf_binding.specs.declared.resolve.ObjectFault.{ObjectFault}
-use Rattle.elf_binding.specs.declared.resolve.ObjectFault.TheVariants.{Read as IsRead}
-use Rattle.elf_tools.specs.SymbolBindings.{AreAllBound, is_bound}
-use Rattle.elf_tools.specs.SymbolUses.{no_uses, uses_at, uses_by}
-use Rattle.elf_tools.specs.Tree.{Entry, Found}
-use Rattle.elf_tools.specs.declared.bindings.kinds.SymbolBinding.{SymbolBinding}
-use Rattle.elf_tools.specs.declared.bindings.uses.SymbolUses.{SymbolUses}
-use Rattle.elf_tools.specs.declared.bindings.uses.UsesError.{UsesError}
+use Rattle.elf_linking.specs.Binding.{VersionedObject}
+use Rattle.elf_linking.specs.BindingObjects.{GivesVersioned}
+use Rattle.elf_linking.specs.declared.resolve.ObjectFault.{ObjectFault}
+use Rattle.elf_linking.specs.declared.resolve.ObjectFault.TheVariants.{Read as IsRead}
+use Rattle.elf_linking.specs.SymbolBindings.{AreAllBound, is_bound}
+use Rattle.elf_linking.specs.SymbolUses.{no_uses, uses_at, uses_by}
+use Rattle.elf_linking.specs.Tree.{Entry, Found}
+use Rattle.elf_linking.specs.declared.bindings.kinds.SymbolBinding.{SymbolBinding}
+use Rattle.elf_linking.specs.declared.bindings.uses.SymbolUses.{SymbolUses}
+use Rattle.elf_linking.specs.declared.bindings.uses.UsesError.{UsesError}
 use Rattle.nugwier_report.specs.Said.{Said, states, text, whole, wrong}
 use Rattle.nugwier_report.specs.declared.kind.Kind.TheVariants.{FileHeading, NextFileHeading}
 use Rattle.nugwier_report.specs.declared.problem.Fault.{Fault}
@@ -123,7 +123,7 @@ module _ {C : Type 0} (view : C → VersionedObject) (scope : List C) (paths : L
       (uses : List SymbolUses) × AreUses read uses × (bindings : List SymbolBinding)
       × AreAllBound view scope symbols.1 versions uses (looked_up symbols.0 uses) bindings
       × (said ≡ uses_problem path read
-      ++ symbols_said paths objects path symbols.1 versions (looked_up symbols.0 uses) bindings)
+      ++ symbols_said paths objects path symbols.1 versions (zip (looked_up symbols.0 uses) bindings))
 
 -- ---- all files
 

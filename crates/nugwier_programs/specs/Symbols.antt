@@ -1,20 +1,21 @@
 -- What is said of the symbols of a file that are bound: a record for each kind of references to them, and then which
--- are missing and of which it is not known what they bind to.
+-- are missing, and which may bind to what is not known.
 use Rattle.std.specs.Prelude.{ℕ, ◌==◌, ◌&&◌, Bool, true, false, if◌then◌else◌, List, [], ◌∷◌, ◌++◌, codes}
 use Rattle.std.specs.Prelude.{Option, Some, None, Result, Ok, Err, slice_get, unwrap_or}
+use Rattle.std.specs.List.{flat_map}
 use Rattle.std.specs.Result.{result_ok}
 use Rattle.elf_records.specs.StringTable.{string_at}
 use Rattle.elf_records.specs.declared.symbol.Symbol.{Symbol}
 use Rattle.elf_parts.specs.gnu_symver.Table.{Versions}
-use Rattle.elf_binding.specs.Binding.{NamedVersion, VersionedObject}
-use Rattle.elf_binding.specs.BindingObjects.{version_in}
-use Rattle.elf_binding.specs.declared.Unreadable.{Unreadable}
+use Rattle.elf_linking.specs.Binding.{NamedVersion, VersionedObject}
+use Rattle.elf_linking.specs.BindingObjects.{version_in}
+use Rattle.elf_linking.specs.declared.Unreadable.{Unreadable}
 use Rattle.elf_tools.specs.SymbolVersions.{Defined, Needed, WrittenVersion, symbol_version_in}
-use Rattle.elf_tools.specs.declared.bindings.Bound.{Bound}
-use Rattle.elf_tools.specs.declared.bindings.Bound.TheVariants as bound
-use Rattle.elf_tools.specs.declared.bindings.kinds.SymbolBinding.{SymbolBinding}
-use Rattle.elf_tools.specs.declared.bindings.kinds.SymbolFault.{SymbolFault}
-use Rattle.elf_tools.specs.declared.bindings.kinds.SymbolFault.TheVariants.{Name, Object, Version}
+use Rattle.elf_linking.specs.declared.bindings.Bound.{Bound}
+use Rattle.elf_linking.specs.declared.bindings.Bound.TheVariants as bound
+use Rattle.elf_linking.specs.declared.bindings.kinds.SymbolBinding.{SymbolBinding}
+use Rattle.elf_linking.specs.declared.bindings.kinds.SymbolFault.{SymbolFault}
+use Rattle.elf_linking.specs.declared.bindings.kinds.SymbolFault.TheVariants.{Name, Object, Version}
 use Rattle.nugwier_report.specs.Bindings.{BoundSymbol, Missing, Target, ToSymbol, Unknown, Weak, binding_said}
 use Rattle.nugwier_report.specs.Said.{Said, whole, wrong}
 use Rattle.nugwier_report.specs.declared.bindings.Place.{Place}
@@ -88,27 +89,23 @@ same_outcome (Ok a) (Err fault) = false
 same_outcome (Err fault) (Ok b) = false
 same_outcome (Err fault) (Err other) = true
 
-abbrev pub address_place : Option Outcome → Outcome → Place
+abbrev pub address_place : Option Outcome → Option Outcome → Place
+address_place (Some calls) (Some address) = if same_outcome calls address then Same else Elsewhere
+address_place (Some calls) None = First
 address_place None address = First
-address_place (Some calls) address = if same_outcome calls address then Same else Elsewhere
 
 -- ---- what is said of a symbol
 
 module _ (paths : List (List ℕ)) (objects : List VersionedObject) (symbol : BoundSymbol) where
-  abbrev pub reference_said : List ℕ → Option Outcome → List Said
-  reference_said reference (Some outcome) = binding_said symbol First reference (target_of paths objects outcome)
-  reference_said reference None = []
-
-  abbrev pub address_said : Option Outcome → Option Outcome → List Said
-  address_said calls (Some address) =
-      binding_said symbol (address_place calls address) (codes "address") (target_of paths objects address)
-  address_said calls None = []
+  abbrev pub reference_said : Place → List ℕ → Option Outcome → List Said
+  reference_said place reference (Some outcome) = binding_said symbol place reference (target_of paths objects outcome)
+  reference_said place reference None = []
 
   abbrev pub symbol_said : SymbolBinding → List Said
   symbol_said binding =
-      reference_said (codes "jump_slot") binding.jump_slot
-      ++ address_said binding.jump_slot binding.address
-      ++ reference_said (codes "copy") binding.copied
+      reference_said First (codes "jump_slot") binding.jump_slot
+      ++ reference_said (address_place binding.jump_slot binding.address) (codes "address") binding.address
+      ++ reference_said First (codes "copy") binding.copied
 
 -- ---- what is wrong with it
 
@@ -128,43 +125,30 @@ module _ (paths : List (List ℕ)) (symbol : BoundSymbol) where
   outcome_problem (Ok bound.Missing) = wrong (whole File) (MissingSymbol symbol.path (quoted symbol)) ∷ []
   outcome_problem (Err fault) = fault_problem fault
 
-  abbrev pub reference_problem : Option Outcome → List Said
-  reference_problem (Some outcome) = outcome_problem outcome
-  reference_problem None = []
-
   -- it is told once
-  abbrev pub problem_at : Place → Outcome → List Said
-  problem_at First outcome = outcome_problem outcome
-  problem_at Elsewhere outcome = outcome_problem outcome
-  problem_at Same outcome = []
-
-  abbrev pub address_problem : Option Outcome → Option Outcome → List Said
-  address_problem calls (Some address) = problem_at (address_place calls address) address
-  address_problem calls None = []
+  abbrev pub reference_problem : Place → Option Outcome → List Said
+  reference_problem First (Some outcome) = outcome_problem outcome
+  reference_problem Elsewhere (Some outcome) = outcome_problem outcome
+  reference_problem Same (Some outcome) = []
+  reference_problem place None = []
 
   abbrev pub symbol_problems : SymbolBinding → List Said
   symbol_problems binding =
-      reference_problem binding.jump_slot
-      ++ address_problem binding.jump_slot binding.address
-      ++ reference_problem binding.copied
+      reference_problem First binding.jump_slot
+      ++ reference_problem (address_place binding.jump_slot binding.address) binding.address
+      ++ reference_problem First binding.copied
 
 -- ---- all symbols, each with what it binds to
 
-abbrev pub each : (ℕ × Symbol → SymbolBinding → List Said) → List (ℕ × Symbol) → List SymbolBinding → List Said
-each said (one ∷ symbols) (binding ∷ bindings) = said one binding ++ each said symbols bindings
-each said [] bindings = []
-each said (one ∷ symbols) [] = []
-
 -- of the file at a path, whose names are in these strings
-abbrev pub one_problems : List (List ℕ) → List ℕ → List ℕ → Option Versions → ℕ × Symbol → SymbolBinding → List Said
-one_problems paths path strings versions one binding =
-    symbol_problems paths (symbol_of path strings versions one) binding
+abbrev pub one_problems : List (List ℕ) → List ℕ → List ℕ → Option Versions → (ℕ × Symbol) × SymbolBinding → List Said
+one_problems paths path strings versions bound =
+    symbol_problems paths (symbol_of path strings versions bound.0) bound.1
 
 module _ (paths : List (List ℕ)) (objects : List VersionedObject) (path strings : List ℕ)
     (versions : Option Versions) where
-  abbrev pub one_said : ℕ × Symbol → SymbolBinding → List Said
-  one_said one binding = symbol_said paths objects (symbol_of path strings versions one) binding
+  abbrev pub one_said : (ℕ × Symbol) × SymbolBinding → List Said
+  one_said bound = symbol_said paths objects (symbol_of path strings versions bound.0) bound.1
 
-  abbrev pub symbols_said : List (ℕ × Symbol) → List SymbolBinding → List Said
-  symbols_said symbols bindings =
-      each one_said symbols bindings ++ each (one_problems paths path strings versions) symbols bindings
+  abbrev pub symbols_said : List ((ℕ × Symbol) × SymbolBinding) → List Said
+  symbols_said bound = flat_map one_said bound ++ flat_map (one_problems paths path strings versions) bound

@@ -1,22 +1,26 @@
 -- What is said of a program and the libraries that it loads: each below the one that needed it first, and then those
 -- that are missing and those whose names are not known.
 use Rattle.std.specs.Prelude.{◌≡◌, ℕ, ◌+◌, zero, suc, ◌==◌, nat_lt, Bool, false, if◌then◌else◌, List, [], ◌∷◌, ◌++◌}
-use Rattle.std.specs.Prelude.{drop}
+use Rattle.std.specs.Prelude.{codes, drop}
 use Rattle.std.specs.Prelude.{length, Option, Some, None, Result, Ok, Err, IfSome, IsErr, slice_get, unwrap_or}
 use Rattle.std.specs.List.{flat_map, join_by}
 use Rattle.std.specs.Option.{option_map}
+use Rattle.std.specs.Result.{result_ok}
+use Rattle.elf_records.specs.Endian.{any_is_little}
+use Rattle.elf_records.specs.declared.endian.AnyEndian.{AnyEndian}
 use Rattle.elf_records.specs.declared.parse.ParseError.{ParseError}
-use Rattle.elf_tools.specs.Search.{Others}
-use Rattle.elf_tools.specs.Needed.{Named}
-use Rattle.elf_tools.specs.Tree.{Entry, Found, IsLoadOrder, found_view, loader_at}
-use Rattle.elf_tools.specs.declared.needed.NamesError.{NamesError}
-use Rattle.elf_tools.specs.declared.tree.Kind.{Kind}
-use Rattle.elf_tools.specs.declared.tree.LoadedFile.{LoadedFile}
+use Rattle.elf_linking.specs.Cache.{Cache, cache_of, cached_path, flags_of}
+use Rattle.elf_linking.specs.Search.{Others}
+use Rattle.elf_linking.specs.Needed.{Named}
+use Rattle.elf_linking.specs.Tree.{Entry, Found, IsLoadOrder, found_view, loader_at}
+use Rattle.elf_linking.specs.declared.needed.NamesError.{NamesError}
+use Rattle.elf_linking.specs.declared.tree.Kind.{Kind}
+use Rattle.elf_linking.specs.declared.tree.LoadedFile.{LoadedFile}
 use Rattle.nugwier_report.specs.Objects.{object_said}
 use Rattle.nugwier_report.specs.Said.{Said, whole, wrong}
 use Rattle.nugwier_report.specs.declared.problem.Fault.TheVariants.{Names, NotFound, Read}
 use Rattle.nugwier_report.specs.declared.problem.Part.TheVariants.{File}
-use Rattle.nugwier_programs.specs.Usual.{usual_folders}
+use Rattle.nugwier_programs.specs.Usual.{lib_of, platform_of, usual_folders}
 use denote.Ref.{Bor}
 
 -- ---- the program and its libraries
@@ -30,10 +34,25 @@ IsProgram file (Some program) = file ≡ Ok (found_view program)
 abbrev pub library_path : List (Bor (List ℕ)) → List ℕ
 library_path searches = join_by (λ (folder : Bor (List ℕ)). folder.now) (58 ∷ []) searches
 
--- these, and the usual folders of the program's kind
-abbrev pub others_of : List (Bor (List ℕ)) → Kind → Others
-others_of searches kind =
-    record { library_path = Some (library_path searches); usual_folders = usual_folders kind }
+-- the linker's cache in this file, if there is one that can be read
+abbrev pub cache_in : AnyEndian → Option (List ℕ) → Option Cache
+cache_in order None = None
+cache_in order (Some file) = result_ok (cache_of (any_is_little order) file)
+
+-- the path that it has for a name, of a library for programs of this kind
+abbrev pub cached_in : Option Cache → Kind → List ℕ → Option (List ℕ)
+cached_in None kind name = None
+cached_in (Some cache) kind name = cached_path cache (flags_of kind.machine kind.class) name
+
+-- these, the cache, and what belongs to the program's kind
+abbrev pub others_of : (List ℕ → Option (List ℕ)) → List (Bor (List ℕ)) → Kind → Others
+others_of files searches kind = record {
+  library_path = Some (library_path searches);
+  lib = lib_of kind;
+  platform = platform_of kind;
+  cached = cached_in (cache_in kind.order (files (codes "/etc/ld.so.cache"))) kind;
+  usual_folders = usual_folders kind;
+}
 
 -- the contents of files by their paths, if the files are known
 abbrev pub Contents : Type 0
@@ -42,7 +61,7 @@ Contents = Option (List ℕ → Option (List ℕ))
 -- the program with the libraries that it loads, in order
 abbrev pub AreObjects : Contents → List (Bor (List ℕ)) → Found → List Entry → Type 0
 AreObjects contents searches program objects =
-    IfSome contents (λ files. IsLoadOrder files (others_of searches program.kind) program objects)
+    IfSome contents (λ files. IsLoadOrder files (others_of files searches program.kind) program objects)
 
 -- ---- the order in which they are listed
 

@@ -1,12 +1,12 @@
 -- The folders in which the dynamic linker of glibc looks for libraries that no search path names: those of Debian for
 -- the machine, then those of other systems.
-use Rattle.std.specs.Prelude.{ℕ, ◌==◌, if◌then◌else◌, List, [], ◌∷◌, codes}
+use Rattle.std.specs.Prelude.{ℕ, ◌==◌, if◌then◌else◌, List, [], ◌∷◌, codes, drop, slice_get, unwrap_or}
 use Rattle.elf_abi.specs.declared.abi.TheConstants.{EM_386, EM_AARCH64, EM_ARM, EM_PPC64, EM_RISCV, EM_S390, EM_X86_64}
 use Rattle.elf_records.specs.declared.endian.AnyEndian.{AnyEndian}
 use Rattle.elf_records.specs.declared.endian.AnyEndian.TheVariants.{Big, Little}
 use Rattle.elf_records.specs.declared.file.Class.{Class}
 use Rattle.elf_records.specs.declared.file.Class.TheVariants.{ELF32, ELF64}
-use Rattle.elf_tools.specs.declared.tree.Kind.{Kind}
+use Rattle.elf_linking.specs.declared.tree.Kind.{Kind}
 
 -- ---- the folders of each machine
 
@@ -134,3 +134,20 @@ folders_by ELF32 order machine = folders_of_32 machine
 
 abbrev pub usual_folders : Kind → List (List ℕ)
 usual_folders kind = folders_by kind.class kind.order kind.machine
+
+-- ---- what stands for $LIB and $PLATFORM
+
+-- the first usual folder without the slash before it, as on Debian
+abbrev pub lib_of : Kind → List ℕ
+lib_of kind = drop 1 (unwrap_or (slice_get (usual_folders kind) 0) [])
+
+-- the name of the machine, where the processor does not matter
+abbrev pub platform_by : ℕ → List ℕ
+platform_by machine =
+    if machine == EM_X86_64 then codes "x86_64"
+    else if machine == EM_386 then codes "i686"
+    else if machine == EM_AARCH64 then codes "aarch64"
+    else []
+
+abbrev pub platform_of : Kind → List ℕ
+platform_of kind = platform_by kind.machine

@@ -1,19 +1,19 @@
 //! What the symbols of a program and of its libraries bind to.
 ghost use Rattle.std.specs.Prelude.{◌≡◌, ◌∷◌, List, OnOk, map};
-ghost use Rattle.elf_tools.specs.Tree.{entry_view, file_of};
+ghost use Rattle.elf_linking.specs.Tree.{entry_view, file_of};
 ghost use Rattle.nugwier_programs.specs.Bindings.{AreAllFilesSaid, AreObjectsSaid, IsBindingsSaid, SearchedFile};
-ghost use Rattle.nugwier_programs.specs.inner.Scope.{AreFound, AreInScope};
+ghost use Rattle.nugwier_programs.specs.inner.Scope.{AreInScope, searched_file};
 ghost use Rattle.nugwier_report.specs.Said.{Said, saying};
 
 mod objects;
 mod rows;
 mod targets;
 
-use crate::bindings::objects::{Found, add_file, add_files, index_objects};
+use crate::bindings::objects::{WithTable, add_file, add_files, index_objects, split};
 use crate::bindings::rows::say_file;
 use crate::bindings::targets::Scope;
 use crate::tree::{objects, open_program, say_problems};
-use elf_tools::tree::{Libraries, Object};
+use elf_linking::tree::{Libraries, Object};
 use nugwier_report::problem::Stop;
 use nugwier_report::report::Report;
 use std::alloc::Global;
@@ -76,9 +76,9 @@ fn say_program<W: Write, V: Write>(
         × AreObjectsSaid (entry_view program.now ∷ map entry_view libraries.now) said
         × (report.new ≡ saying report.old said)) }
 {
-    let mut found = Found::none(alloc);
+    let mut found = Vec::new(alloc);
     add_file(program, &mut found, report)?;
-    if found.tables.is_empty() {
+    if found.is_empty() {
         return Ok(());
     }
     add_files(libraries, &mut found, report)?;
@@ -89,14 +89,13 @@ fn say_program<W: Write, V: Write>(
 // Says it of the files that were found.
 fn say_found<W: Write, V: Write>(
     alloc: Global,
-    found: Found<'_>,
+    found: Vec<WithTable<'_>>,
     report: &mut Report<'_, W, V>,
 ) -> Result<(), Stop>
-    ensures { OnOk result ((said : List Said) × ((all : List SearchedFile)
-        → AreFound all found.entry.files.items found.entry.tables.items → AreAllFilesSaid all said)
+    ensures { OnOk result ((said : List Said) × AreAllFilesSaid (map searched_file found.entry.items) said
         × (report.new ≡ saying report.old said)) }
 {
-    let Found { files, tables } = found;
+    let (files, tables) = split(alloc, found)?;
     let objects = index_objects(alloc, files.as_slice(), tables)?;
     let scope = Scope {
         files: files.as_slice(),

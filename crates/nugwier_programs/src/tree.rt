@@ -2,8 +2,10 @@
 ghost use Rattle.std.specs.Prelude.{◌≡◌, ◌++◌, List, Some, IfOk, OnOk, map, slice_get};
 ghost use Rattle.std.specs.List.{flat_map};
 ghost use Rattle.std.specs.Option.{option_copied, option_map};
-ghost use Rattle.elf_tools.specs.Tree.{Entry, entry_view, file_of, found_view, loader_at};
-ghost use Rattle.nugwier_programs.specs.Tree.{AreObjects, IsProgram, IsTreeSaid, after_it, at_depth, entry_said};
+ghost use Rattle.std.specs.Vec.{vec_items};
+ghost use Rattle.elf_linking.specs.Cache.{cache_view};
+ghost use Rattle.elf_linking.specs.Tree.{Entry, entry_view, file_of, found_view, loader_at};
+ghost use Rattle.nugwier_programs.specs.Tree.{AreObjects, IsProgram, IsTreeSaid, after_it, at_depth, cache_in, entry_said};
 ghost use Rattle.nugwier_programs.specs.Tree.{first_needed};
 ghost use Rattle.nugwier_programs.specs.Tree.{is_needed_by, library_path, listed, listed_said, names_problem};
 ghost use Rattle.nugwier_programs.specs.Tree.{next_beside};
@@ -12,9 +14,11 @@ ghost use Rattle.nugwier_programs.specs.inner.Walk.{AreFirsts, listed_view, stac
 ghost use Rattle.nugwier_report.specs.Said.{Said, saying, unread, whole};
 ghost use Rattle.nugwier_report.specs.declared.problem.Part.TheVariants.{File};
 
-use crate::usual::usual_folders;
-use elf_tools::search::Surroundings;
-use elf_tools::tree::{Libraries, LoadedFile, Object, OpenError, load_order};
+use crate::usual::{lib_of, platform_of, usual_folders};
+use elf::endian::AnyEndian;
+use elf_linking::cache::{LibraryFlags, LinkerCache};
+use elf_linking::search::Surroundings;
+use elf_linking::tree::{Libraries, LoadedFile, Object, OpenError, load_order};
 use nugwier_report::objects::ListedObject;
 use nugwier_report::problem::{Fault, Item, Part, Place, Stop};
 use nugwier_report::quoted::{NamesFault, Quoted};
@@ -22,9 +26,9 @@ use nugwier_report::report::Report;
 use std::alloc::{AllocError, Global};
 use std::io::Write;
 
-/// Says which libraries a program loads, and of which of them nothing was found or no names are known. `searches` are
-/// folders in which they are searched for, as if `LD_LIBRARY_PATH` named them. The path and the data are those of the
-/// program. The errors are that of the writer, and a failed allocation.
+/// Says which libraries a program loads, which of them are not found, and which have names that are not known.
+/// `searches` are folders in which they are searched for, as if `LD_LIBRARY_PATH` named them. The path and the data are
+/// those of the program. The errors are that of the writer, and a failed allocation.
 pub fn say_tree<L: Libraries, W: Write, V: Write>(
     alloc: Global,
     searches: &[&str],
@@ -67,10 +71,13 @@ pub(crate) fn open_program<W: Write, V: Write>(
 }
 
 /// The file as a whole.
-pub(crate) const FILE: Place = Place {
+pub const FILE: Place = Place {
     part: Part::File,
     item: Item::Whole,
 };
+
+// The path of the linker's cache of libraries.
+const CACHE: &[u8] = b"/etc/ld.so.cache";
 
 /// Returns the program with its libraries, in the order in which they are loaded.
 pub(crate) fn objects<L: Libraries>(
@@ -84,11 +91,27 @@ pub(crate) fn objects<L: Libraries>(
 {
     let library_path = library_path(alloc, searches)?;
     let usual_folders = usual_folders(alloc, program.kind)?;
+    let file = libraries.read_library(CACHE)?;
+    let cache = cache_in(program.kind.order, &file);
     let surroundings = Surroundings {
         library_path: Some(library_path.as_slice()),
+        lib: lib_of(program.kind),
+        platform: platform_of(program.kind),
+        cache: cache.as_ref(),
+        flags: LibraryFlags::of(program.kind.machine, program.kind.class),
         usual_folders: usual_folders.as_slice(),
     };
     load_order(alloc, libraries, &surroundings, program)
+}
+
+// The linker's cache in a file, if there is one that can be read.
+fn cache_in(order: AnyEndian, file: &Option<Vec<u8>>) -> Option<LinkerCache<'_>>
+    ensures { option_map cache_view result ≡ cache_in order (option_map vec_items file.now) }
+{
+    match file {
+        Some(bytes) => LinkerCache::new(order, bytes.as_slice()).ok(),
+        None => None,
+    }
 }
 
 // The folders as the value of `LD_LIBRARY_PATH`: with colons between them.

@@ -1,11 +1,12 @@
 //! The folders in which the dynamic linker of glibc looks for libraries that no search path names.
 ghost use Rattle.std.specs.Prelude.{◌≡◌, IfOk, map};
-ghost use Rattle.nugwier_programs.specs.Usual.{folders_of_32, folders_of_64, folders_of_ppc64, usual_folders};
+ghost use Rattle.nugwier_programs.specs.Usual.{folders_of_32, folders_of_64, folders_of_ppc64, lib_of, platform_of};
+ghost use Rattle.nugwier_programs.specs.Usual.{usual_folders};
 
 use elf::abi;
 use elf::endian::AnyEndian;
 use elf::file::Class;
-use elf_tools::tree::Kind;
+use elf_linking::tree::Kind;
 use std::alloc::{AllocError, Global};
 
 static X86_64: [&str; 6] = [
@@ -87,8 +88,7 @@ static OTHERS_64: [&str; 4] = ["/lib64", "/usr/lib64", "/lib", "/usr/lib"];
 static OTHERS_32: [&str; 2] = ["/lib", "/usr/lib"];
 
 /// Returns the usual folders of a kind of files, in order: those of Debian for the machine, then those of other
-/// systems. The linker's cache and its configuration (`ld.so.conf`) are not read. The only error is a failed
-/// allocation.
+/// systems. The only error is a failed allocation.
 pub(crate) fn usual_folders(alloc: Global, kind: Kind) -> Result<Vec<&'static [u8]>, AllocError>
     ensures { IfOk result (λ folders. map (λ folder. folder.now) folders.items ≡ usual_folders kind) }
 {
@@ -138,5 +138,28 @@ fn folders_of_32(machine: u16) -> &'static [&'static str]
         abi::EM_386 => &I386,
         abi::EM_ARM => &ARM,
         _ => &OTHERS_32,
+    }
+}
+
+/// Returns what stands for `$LIB`: the first usual folder without the slash before it, as on Debian.
+pub(crate) fn lib_of(kind: Kind) -> &'static [u8]
+    ensures { result.now ≡ lib_of kind }
+{
+    match folders_of(kind).first() {
+        Some(folder) => folder.as_bytes().get(1..).unwrap_or(&[]),
+        None => &[],
+    }
+}
+
+/// Returns what stands for `$PLATFORM`: the name of the machine, or nothing where it depends on the processor. Before glibc
+/// 2.39 it does on x86-64 too.
+pub(crate) fn platform_of(kind: Kind) -> &'static [u8]
+    ensures { result.now ≡ platform_of kind }
+{
+    match kind.machine {
+        abi::EM_X86_64 => b"x86_64",
+        abi::EM_386 => b"i686",
+        abi::EM_AARCH64 => b"aarch64",
+        _ => b"",
     }
 }

@@ -4,8 +4,8 @@ use Rattle.std.proofs.lemmas.Str.{chars-nil, chars_past_char}
 use Rattle.std.specs.Char.{encode_utf8}
 use Rattle.std.specs.List.{flat_map}
 use Rattle.std.specs.Str.{IsUtf8, chars}
-use Rattle.elf_lines.specs.Adding.{Adds}
-use Rattle.elf_lines.proofs.Adding.{Leads, adds_more}
+use Rattle.elfshow_lines.specs.Adding.{Adds}
+use Rattle.elfshow_lines.proofs.Adding.{Leads, adds_more}
 use Rattle.nugwier_report.proofs.JsonStrings.{added_all}
 
 module _ (text_of : ℕ → List ℕ) where

@@ -3,10 +3,10 @@ use Rattle.std.proofs.Common.{◌≡◌, ℕ, zero, suc, ◌+◌, ◌-◌, ◌*�
 use Rattle.std.proofs.Math.Nat.{min-le_left, min-le_right}
 use Rattle.std.proofs.lemmas.List.{drop-drop}
 use Rattle.std.specs.Int.{div_ceil}
-use Rattle.elf_lines.specs.Pieces.{◌⧺◌}
+use Rattle.elfshow_lines.specs.Pieces.{◌⧺◌}
 use Rattle.nugwier_report.specs.Text.{dump_line, dump_lines}
 
--- a line that is one of so many begins in the bytes
+-- a line with a number below the count begins in the bytes
 pub line_begins : (size line : ℕ) → line < div_ceil size 16 → 16 * line < size
 line_begins size line h = omega (arith, h, min-le_left 1 (size % 16), min-le_right 1 (size % 16))
 

@@ -2,7 +2,7 @@
 use Rattle.std.proofs.Common.{◌≡◌, ◌<◌, ◌≤◌, ℕ, ◌+◌, ◌++◌, List, [], drop, length, refl, sym, subst, ap, ◌∙◌, append_assoc, append-nil}
 use Rattle.std.proofs.Math.ListN.{get_or}
 use Rattle.std.proofs.lemmas.List.{drop_more, drop_all}
-use Rattle.elf_whole.specs.declared.faults.FileFault.{FileFault}
+use Rattle.elf_check.specs.declared.faults.FileFault.{FileFault}
 use Rattle.nugwier_report.specs.Said.{Said, Telling, saying}
 use Rattle.nugwier_report.specs.Verdicts.{AreFaultsSaid, IsFaultSaid}
 

@@ -9,7 +9,7 @@ use Rattle.std.specs.Fmt.{digit_glyph}
 use Rattle.std.specs.List.{flat_map}
 use Rattle.std.specs.Option.{option_map}
 use Rattle.std.specs.Str.{IsUtf8, all_scalars, chars, encode_utf8_all}
-use Rattle.elf_lines.specs.Pieces.{hex_pair}
+use Rattle.elfshow_lines.specs.Pieces.{hex_pair}
 use Rattle.nugwier_report.specs.Escape.{is_hidden}
 use Rattle.nugwier_report.specs.Json.{escape, json_string, spelled, stands_for_itself}
 use Rattle.nugwier_report.proofs.JsonStrings.{digit_small, digits_of}

@@ -9,10 +9,10 @@ use Rattle.std.specs.Char.{encode_utf8}
 use Rattle.std.specs.Fmt.{digit_glyph}
 use Rattle.std.specs.List.{flat_map}
 use Rattle.std.specs.Str.{IsUtf8, chars, encode_utf8_all, is_utf8}
-use Rattle.elf_lines.specs.Adding.{Adds}
-use Rattle.elf_lines.specs.Pieces.{hex_of, hex_pair}
-use Rattle.elf_lines.proofs.Adding.{Leads, adds_more}
-use Rattle.nugwier_report.specs.Json.{bytes_member, escape, json_string, pair, spelled, stands_for_itself, text_member}
+use Rattle.elfshow_lines.specs.Adding.{Adds}
+use Rattle.elfshow_lines.specs.Pieces.{hex_of, hex_pair}
+use Rattle.elfshow_lines.proofs.Adding.{Leads, adds_more}
+use Rattle.nugwier_report.specs.Json.{bytes_value, escape, spelled, stands_for_itself, string_value, text_value}
 
 -- the text of the characters of a string
 abbrev pub inner_text : List ℕ → List ℕ
@@ -98,12 +98,12 @@ spelled_escape c is = rw is (sym (escape_ascii c))
 
 -- ---- texts of the file
 
-pub is_text : (key bytes : List ℕ) → IsUtf8 bytes → pair key (json_string bytes) ≡ text_member key bytes
-is_text key bytes utf8 = rw (is_utf8-from_IsUtf8 bytes utf8) refl
+pub is_text : (bytes : List ℕ) → IsUtf8 bytes → string_value bytes ≡ text_value bytes
+is_text bytes utf8 = rw (is_utf8-from_IsUtf8 bytes utf8) refl
 
 pub no_utf8 : (b : Bool) (bytes : List ℕ) → is_utf8 bytes ≡ b → (IsUtf8 bytes → ⊥) → is_utf8 bytes ≡ false
 no_utf8 true bytes is other = absurd (other (IsUtf8-from_is_utf8 bytes is))
 no_utf8 false bytes is other = is
 
-pub is_no_text : (key bytes : List ℕ) → (IsUtf8 bytes → ⊥) → bytes_member key bytes ≡ text_member key bytes
-is_no_text key bytes other = rw (no_utf8 (is_utf8 bytes) bytes refl other) refl
+pub is_no_text : (bytes : List ℕ) → (IsUtf8 bytes → ⊥) → bytes_value bytes ≡ text_value bytes
+is_no_text bytes other = rw (no_utf8 (is_utf8 bytes) bytes refl other) refl

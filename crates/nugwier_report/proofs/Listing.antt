@@ -3,7 +3,7 @@ use Rattle.std.proofs.Common.{refl, map, ◌≡◌, ℕ, ◌+◌, List, [], ◌�
 use Rattle.std.specs.Result.{OnOk}
 use Rattle.std.specs.Iterator.{Drains, YieldsFirst, YieldsFirstBy}
 use Rattle.std.proofs.lemmas.List.{append-nil}
-use Rattle.elf_lines.proofs.Listing.{drained_by}
+use Rattle.elfshow_lines.proofs.Listing.{drained_by}
 use Rattle.nugwier_report.specs.Said.{Said, Telling, numbered, saying}
 
 numbered_more : {X : Type 0} (said : ℕ → X → List Said) (k : ℕ) (xs : List X) (x : X) → numbered said k (xs ++ x ∷ []) ≡ numbered said k xs ++ said (k + length xs) x

@@ -35,7 +35,7 @@ ends section start place all rest h in_all is =
     ap (λ (ys : List ℕ). strings_from section start string ys) is
     ∙ ap (λ n. string_said section start string ++ strings_from section n [] rest) next
 
--- where it goes on
+-- where the string continues
 goes_on : (section start place b : ℕ) (all rest : List ℕ) → start ≤ place → drop place all ≡ b ∷ rest → (b == 0) ≡ false → strings_from section start (take (place - start) (drop start all)) (drop place all) ≡ strings_from section start (take (place + 1 - start) (drop start all)) rest
 goes_on section start place b all rest h is other =
     let string = take (place - start) (drop start all) in

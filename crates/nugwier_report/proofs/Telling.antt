@@ -1,33 +1,11 @@
 -- What a writer got, one thing that is said more.
 use Rattle.std.proofs.Common.{◌≡◌, ℕ, Bool, true, false, ◌&&◌, List, [], ◌∷◌, ◌++◌, Option, Some, None, refl, sym, ap, ◌∙◌, append_assoc, append-nil}
-use Rattle.std.specs.Borrow.{Bor}
 use Rattle.std.specs.Io.KnownBytes.{Appends, Keeps}
 use Rattle.std.specs.List.{flat_map}
-use Rattle.nugwier_report.specs.Json.{member, member_of}
 use Rattle.nugwier_report.specs.declared.problem.Fault.{Fault}
 use Rattle.nugwier_report.specs.declared.problem.Place.{Place}
-use Rattle.nugwier_report.specs.declared.json.Value.{Value}
-use Rattle.nugwier_report.specs.declared.json.Value.TheVariants.{Bytes, Character, Flag, Null, Number, Signed, Text, Word}
-use Rattle.nugwier_report.specs.Noted.{content_of, members_said}
-use Rattle.nugwier_report.specs.Told.{IsTold, told_line, member_text, members_text}
+use Rattle.nugwier_report.specs.Told.{IsTold, told_line}
 use Rattle.nugwier_report.specs.Said.{Said, all_right, is_right_one, wrong}
-
-content_text : (key : List ℕ) (v : Value) → member key v ≡ member_text key (content_of v)
-content_text key Null = refl
-content_text key (Flag b) = refl
-content_text key (Number n) = refl
-content_text key (Signed n) = refl
-content_text key (Word w) = refl
-content_text key (Character c) = refl
-content_text key (Text t) = refl
-content_text key (Bytes b) = refl
-
--- the text of members is that of what they say
-pub text_same : (ms : List (Bor (List ℕ) × Value)) → flat_map member_of ms ≡ members_text (members_said ms)
-text_same [] = refl
-text_same (m ∷ ms) =
-    ap (λ (t : List ℕ). t ++ flat_map member_of ms) (content_text m.0.now m.1)
-    ∙ ap (λ (t : List ℕ). member_text m.0.now (content_of m.1) ++ t) (text_same ms)
 
 text_more : (line : Said → List ℕ) (said : List Said) (s : Said) → flat_map line (said ++ s ∷ []) ≡ flat_map line said ++ line s
 text_more line [] s = append-nil (line s)

@@ -1,7 +1,8 @@
 -- What is said of the symbols of a program that are bound, and of what they bind to.
-use Rattle.std.specs.Prelude.{ℕ, Bool, List, [], ◌∷◌, Option, Some, None, codes}
+use Rattle.std.specs.Prelude.{ℕ, List, [], ◌∷◌, Option, Some, None, codes}
 use Rattle.std.specs.Option.{option_copied, option_map}
-use Rattle.nugwier_report.specs.Said.{Content, Members, Said, flag, nothing, number, states, text, word}
+use Rattle.nugwier_report.specs.Said.{Content, Members, Said, nothing, number, states, text, word}
+use Rattle.nugwier_report.specs.Versions.{Version, version_default, version_name}
 use Rattle.nugwier_report.specs.declared.bindings.BoundSymbol.{BoundSymbol as GivenSymbol}
 use Rattle.nugwier_report.specs.declared.bindings.OwnVersion.{OwnVersion as GivenVersion}
 use Rattle.nugwier_report.specs.declared.bindings.Place.{Place}
@@ -21,7 +22,7 @@ pub record BoundSymbol : Type 0 where
 -- what it binds to: a symbol of the file at a path, by its index and its version, which may be the default one;
 -- nothing, which a weak reference may; or it is not known
 pub data Target : Type 0 where
-  ToSymbol : List ℕ → ℕ → Option (List ℕ × Bool) → Target
+  ToSymbol : List ℕ → ℕ → Option Version → Target
   Weak : Target
   Missing : Target
   Unknown : Target
@@ -34,29 +35,15 @@ target_word Unknown = codes "unknown"
 
 abbrev pub target_path : Target → Option (List ℕ)
 target_path (ToSymbol path index version) = Some path
-target_path Weak = None
-target_path Missing = None
-target_path Unknown = None
+target_path _ = None
 
 abbrev pub target_index : Target → Content
 target_index (ToSymbol path index version) = number index
-target_index Weak = nothing
-target_index Missing = nothing
-target_index Unknown = nothing
+target_index _ = nothing
 
-abbrev pub target_version : Target → Option (List ℕ × Bool)
+abbrev pub target_version : Target → Option Version
 target_version (ToSymbol path index version) = version
-target_version Weak = None
-target_version Missing = None
-target_version Unknown = None
-
-abbrev pub version_name : Option (List ℕ × Bool) → Option (List ℕ)
-version_name (Some version) = Some version.0
-version_name None = None
-
-abbrev pub version_default : Option (List ℕ × Bool) → Content
-version_default (Some version) = flag version.1
-version_default None = nothing
+target_version _ = None
 
 -- references of a kind to a symbol, and what they bind to
 abbrev pub binding_members : BoundSymbol → List ℕ → Target → Members
@@ -76,14 +63,10 @@ binding_members symbol reference target =
 -- people are told of an address that it is one if calls go elsewhere, and nothing if they go to the same place
 abbrev pub binding_kind : Place → Target → Kind
 binding_kind place.First (ToSymbol path index version) = kind.Bound
-binding_kind place.First Weak = kind.Unbound
-binding_kind place.First Missing = kind.Unbound
-binding_kind place.First Unknown = kind.Unbound
+binding_kind place.First _ = kind.Unbound
 binding_kind place.Elsewhere (ToSymbol path index version) = kind.BoundAddress
-binding_kind place.Elsewhere Weak = kind.UnboundAddress
-binding_kind place.Elsewhere Missing = kind.UnboundAddress
-binding_kind place.Elsewhere Unknown = kind.UnboundAddress
-binding_kind place.Same target = kind.SameAddress
+binding_kind place.Elsewhere _ = kind.UnboundAddress
+binding_kind place.Same _ = kind.SameAddress
 
 abbrev pub binding_said : BoundSymbol → Place → List ℕ → Target → List Said
 binding_said symbol place reference target =
@@ -99,7 +82,7 @@ bound_view s = record {
   version = option_copied s.version;
 }
 
-abbrev pub version_view : GivenVersion → List ℕ × Bool
+abbrev pub version_view : GivenVersion → Version
 version_view version = (version.name.now, version.is_default)
 
 abbrev pub target_view : GivenTarget → Target

@@ -4,22 +4,14 @@ use Rattle.nugwier_report.specs.Said.{Members, Said, bytes, number, states, text
 use Rattle.nugwier_report.specs.declared.kind.Kind.TheVariants as kind
 
 -- the bytes of section i
-abbrev pub data_members : ℕ → List ℕ → Members
-data_members i content =
-    (codes "section", number i)
-    ∷ (codes "data", bytes content)
-    ∷ []
-
 abbrev pub data_said : ℕ → List ℕ → List Said
-data_said i content = states kind.SectionData (data_members i content) ∷ []
+data_said i content =
+    states kind.SectionData ((codes "section", number i) ∷ (codes "data", bytes content) ∷ []) ∷ []
 
 -- a string of section i, by its offset in the section
 abbrev pub string_members : ℕ → ℕ → List ℕ → Members
 string_members i start string =
-    (codes "section", number i)
-    ∷ (codes "offset", number start)
-    ∷ (codes "string", text (Some string))
-    ∷ []
+    (codes "section", number i) ∷ (codes "offset", number start) ∷ (codes "string", text (Some string)) ∷ []
 
 -- nothing of an empty one
 abbrev pub string_said : ℕ → ℕ → List ℕ → List Said

@@ -1,5 +1,5 @@
 -- What is said of dynamic entries (gABI, chapter "Dynamic Section").
-use Rattle.std.specs.Prelude.{ℕ, ℤ, Bool, ◌||◌, if◌then◌else◌, List, [], ◌∷◌, ◌++◌, Option, Some, None, Result, codes}
+use Rattle.std.specs.Prelude.{ℕ, is_some, if◌then◌else◌, List, [], ◌∷◌, ◌++◌, Option, Some, None, Result, codes}
 use Rattle.std.specs.Ordering.{int_eq}
 use Rattle.std.specs.Result.{result_ok}
 use Rattle.elf_abi.specs.DynamicNames.{d_tag_names}
@@ -15,23 +15,24 @@ use Rattle.nugwier_report.specs.declared.kind.Kind.TheVariants as kind
 use Rattle.nugwier_report.specs.declared.problem.Item.TheVariants.{EntryName}
 use Rattle.nugwier_report.specs.declared.problem.Part.TheVariants.{Dynamic}
 
-unfoldable pub d_tag_name : ℤ → Option (List ℕ)
-d_tag_name n = name_of int_eq d_tag_names n
-
 -- entry i, with the string that it names
 abbrev pub entry_members : ℕ → Dyn → Option (List ℕ) → Members
 entry_members i entry name =
     (codes "index", number i)
     ∷ (codes "d_tag", signed entry.d_tag)
-    ∷ (codes "d_tag_name", word (d_tag_name entry.d_tag))
+    ∷ (codes "d_tag_name", word (name_of int_eq d_tag_names entry.d_tag))
     ∷ (codes "d_un", number (d_un_view entry))
     ∷ (codes "name", text name)
     ∷ []
 
--- the number of the entry is the offset of a string
-abbrev pub names_string : Dyn → Bool
-names_string entry =
-    has_tag dt_needed entry || has_tag dt_soname entry || has_tag dt_rpath entry || has_tag dt_runpath entry
+-- how an entry that names a library or a search path is shown; its number is the offset of a string
+abbrev pub needed_kind : Dyn → Option Kind
+needed_kind entry =
+    if has_tag dt_needed entry then Some kind.Needed
+    else if has_tag dt_soname entry then Some kind.Soname
+    else if has_tag dt_rpath entry then Some kind.Rpath
+    else if has_tag dt_runpath entry then Some kind.Runpath
+    else None
 
 -- the string that it names
 abbrev pub entry_string : List ℕ → Dyn → Result (List ℕ) ParseError
@@ -50,16 +51,7 @@ nameless_said i entry = states kind.Entry (entry_members i entry None) ∷ []
 abbrev pub entry_said : Option (List ℕ) → ℕ → Dyn → List Said
 entry_said None i entry = nameless_said i entry
 entry_said (Some strings) i entry =
-    if names_string entry then named_said kind.NamedEntry strings i entry else nameless_said i entry
-
--- how an entry that names a library or a search path is shown
-abbrev pub needed_kind : Dyn → Option Kind
-needed_kind entry =
-    if has_tag dt_needed entry then Some kind.Needed
-    else if has_tag dt_soname entry then Some kind.Soname
-    else if has_tag dt_rpath entry then Some kind.Rpath
-    else if has_tag dt_runpath entry then Some kind.Runpath
-    else None
+    if is_some (needed_kind entry) then named_said kind.NamedEntry strings i entry else nameless_said i entry
 
 -- such an entry; nothing is said of others
 abbrev pub needed_said : List ℕ → ℕ → Dyn → List Said

@@ -3,7 +3,7 @@ use Rattle.std.specs.Prelude.{ℕ, ◌==◌, ◌||◌, ◌&&◌, not, Bool, nat_
 use Rattle.std.specs.Int.{is_in_range}
 use Rattle.std.specs.List.{flat_map}
 use Rattle.std.specs.Str.{chars, encode_utf8_all, is_utf8}
-use Rattle.elf_lines.specs.Pieces.{◌⧺◌, hex_of}
+use Rattle.elfshow_lines.specs.Pieces.{◌⧺◌, hex_of}
 
 -- a terminal obeys it (Unicode, control characters), does not show it, or turns the direction of writing; or it begins
 -- an escape (the backslash, 5c)

@@ -27,18 +27,9 @@ order_number is_little = if is_little then elfdata2lsb else elfdata2msb
 abbrev pub order_name : Bool → List ℕ
 order_name is_little = if is_little then codes "ELFDATA2LSB" else codes "ELFDATA2MSB"
 
-unfoldable pub osabi_name : ℕ → Option (List ℕ)
-osabi_name n = name_of nat_eq e_osabi_names n
-
-unfoldable pub e_type_name : ℕ → Option (List ℕ)
-e_type_name n = name_of nat_eq e_type_names n
-
-unfoldable pub e_machine_name : ℕ → Option (List ℕ)
-e_machine_name n = name_of nat_eq e_machine_names n
-
 -- ---- the record
 
--- of a header whose byte orders are little as this says
+-- `little` says whether the byte order is little
 unfoldable pub header_members : {E : Type 0} → (E → Bool) → FileHeader E → Members
 header_members little h =
     (codes "ei_class", number (class_number h.class))
@@ -46,12 +37,12 @@ header_members little h =
     ∷ (codes "ei_data", number (order_number (little h.endianness)))
     ∷ (codes "ei_data_name", word (Some (order_name (little h.endianness))))
     ∷ (codes "ei_osabi", number h.osabi)
-    ∷ (codes "ei_osabi_name", word (osabi_name h.osabi))
+    ∷ (codes "ei_osabi_name", word (name_of nat_eq e_osabi_names h.osabi))
     ∷ (codes "ei_abiversion", number h.abiversion)
     ∷ (codes "e_type", number h.e_type)
-    ∷ (codes "e_type_name", word (e_type_name h.e_type))
+    ∷ (codes "e_type_name", word (name_of nat_eq e_type_names h.e_type))
     ∷ (codes "e_machine", number h.e_machine)
-    ∷ (codes "e_machine_name", word (e_machine_name h.e_machine))
+    ∷ (codes "e_machine_name", word (name_of nat_eq e_machine_names h.e_machine))
     ∷ (codes "e_version", number h.version)
     ∷ (codes "e_entry", number h.e_entry)
     ∷ (codes "e_phoff", number h.e_phoff)

@@ -1,21 +1,16 @@
 -- Records as objects of JSON, one a line (RFC 8259).
 use Rattle.std.specs.Prelude.{ℕ, ◌/◌, ◌%◌, ◌==◌, ◌&&◌, ◌||◌, not, Bool, true, false, if◌then◌else◌}
-use Rattle.std.specs.Prelude.{List, [], ◌∷◌, Option, Some, None, codes}
-use Rattle.std.specs.Borrow.{Bor}
+use Rattle.std.specs.Prelude.{List, ◌∷◌, [], Some, codes}
 use Rattle.std.specs.Fmt.{decimal, signed_decimal}
 use Rattle.std.specs.List.{flat_map}
-use Rattle.std.specs.Option.{option_copied}
 use Rattle.std.specs.Str.{chars, encode_utf8_all, is_utf8}
-use Rattle.elf_lines.specs.Pieces.{◌⧺◌, hex_of}
+use Rattle.elfshow_lines.specs.Pieces.{◌⧺◌, hex_of}
 use Rattle.nugwier_report.specs.Escape.{is_shown}
-use Rattle.nugwier_report.specs.declared.json.Value.{Value}
-use Rattle.nugwier_report.specs.declared.json.Value.TheVariants.{Bytes, Character, Flag, Null, Number, Signed, Text}
-use Rattle.nugwier_report.specs.declared.json.Value.TheVariants.{Word}
+use Rattle.nugwier_report.specs.Said.{Content, Members, bytes, character, flag, number, signed, text, word}
 
 -- ---- strings (section 7)
 
--- written as it is: none that a terminal obeys or does not show, among them the control characters and the backslash,
--- and not the quotation mark
+-- written as it is: a character that is shown, and not the quotation mark
 unfoldable pub stands_for_itself : ℕ → Bool
 stands_for_itself c = is_shown c && not (c == 0x22)
 
@@ -30,51 +25,40 @@ spelled c = if stands_for_itself c then c ∷ [] else escape c
 
 -- of a text in UTF-8
 unfoldable pub json_string : List ℕ → List ℕ
-json_string text = codes "\"" ⧺ encode_utf8_all (flat_map spelled (chars text)) ⧺ codes "\""
+json_string t = codes "\"" ⧺ encode_utf8_all (flat_map spelled (chars t)) ⧺ codes "\""
 
 -- ---- members of an object (section 4)
 
--- a member after others: its key, which needs no escapes, and its value
-abbrev pub pair : List ℕ → List ℕ → List ℕ
-pair key value = codes ",\"" ⧺ key ⧺ codes "\":" ⧺ value
+-- What follows a key, whose own quotation mark is still open. The key of bytes ends with _hex.
 
-abbrev pub word_value : Option (List ℕ) → List ℕ
-word_value None = codes "null"
-word_value (Some word) = json_string word
+abbrev pub string_value : List ℕ → List ℕ
+string_value t = codes "\":" ⧺ json_string t
 
-abbrev pub character_value : Option ℕ → List ℕ
-character_value None = codes "null"
-character_value (Some c) = codes "\"" ⧺ encode_utf8_all (spelled c) ⧺ codes "\""
+abbrev pub character_value : ℕ → List ℕ
+character_value c = codes "\":\"" ⧺ encode_utf8_all (spelled c) ⧺ codes "\""
 
 -- two digits for each byte
-abbrev pub bytes_member : List ℕ → List ℕ → List ℕ
-bytes_member key bytes = codes ",\"" ⧺ key ⧺ codes "_hex\":\"" ⧺ hex_of bytes ⧺ codes "\""
+abbrev pub bytes_value : List ℕ → List ℕ
+bytes_value b = codes "_hex\":\"" ⧺ hex_of b ⧺ codes "\""
 
 -- a text in UTF-8 as a string, any other as its bytes
-abbrev pub text_member : List ℕ → List ℕ → List ℕ
-text_member key text = if is_utf8 text then pair key (json_string text) else bytes_member key text
+abbrev pub text_value : List ℕ → List ℕ
+text_value t = if is_utf8 t then string_value t else bytes_value t
 
--- a text, if it could be read
-abbrev pub optional_text : List ℕ → Option (List ℕ) → List ℕ
-optional_text key None = pair key (codes "null")
-optional_text key (Some text) = text_member key text
+abbrev pub after_key : Content → List ℕ
+after_key (flag true) = codes "\":true"
+after_key (flag false) = codes "\":false"
+after_key (number n) = codes "\":" ⧺ decimal n
+after_key (signed n) = codes "\":" ⧺ signed_decimal n
+after_key (word (Some w)) = string_value w
+after_key (character (Some c)) = character_value c
+after_key (text (Some t)) = text_value t
+after_key (bytes b) = bytes_value b
+after_key _ = codes "\":null"
 
-abbrev pub flag_value : Bool → List ℕ
-flag_value true = codes "true"
-flag_value false = codes "false"
-
-abbrev pub member : List ℕ → Value → List ℕ
-member key Null = pair key (codes "null")
-member key (Flag flag) = pair key (flag_value flag)
-member key (Number n) = pair key (decimal n)
-member key (Signed n) = pair key (signed_decimal n)
-member key (Word word) = pair key (word_value (option_copied word))
-member key (Character c) = pair key (character_value c)
-member key (Text text) = optional_text key (option_copied text)
-member key (Bytes bytes) = bytes_member key bytes.now
-
-abbrev pub member_of : Bor (List ℕ) × Value → List ℕ
-member_of m = member m.0.now m.1
+-- a member after others: its key, which needs no escapes, and its value
+abbrev pub member_text : List ℕ × Content → List ℕ
+member_text m = codes ",\"" ⧺ m.0 ⧺ after_key m.1
 
 -- ---- records
 
@@ -82,6 +66,6 @@ member_of m = member m.0.now m.1
 abbrev pub front : List ℕ → List ℕ → List ℕ
 front path kind = codes "{\"file\":" ⧺ json_string path ⧺ codes ",\"record\":" ⧺ json_string kind
 
--- the line of an object with the text of its further members
-abbrev pub object : List ℕ → List ℕ → List ℕ → List ℕ
-object path kind members = front path kind ⧺ members ⧺ codes "}\n"
+-- the line of an object with these further members
+abbrev pub object : List ℕ → List ℕ → Members → List ℕ
+object path kind members = front path kind ⧺ flat_map member_text members ⧺ codes "}\n"

@@ -12,9 +12,6 @@ use Rattle.nugwier_report.specs.Said.{Members, Said, bytes, nothing, number, num
 use Rattle.nugwier_report.specs.declared.kind.Kind.TheVariants as kind
 use Rattle.nugwier_report.specs.declared.problem.Part.{Part}
 
-unfoldable pub os_name : ℕ → Option (List ℕ)
-os_name n = name_of nat_eq note_abi_tag_os_names n
-
 -- a name ends in a 0 byte, which belongs to its size
 abbrev pub ends_in_nul : List ℕ → Bool
 ends_in_nul name = pointwise (λ a b. a == b) (drop (length name - 1) name) (0 ∷ [])
@@ -31,7 +28,7 @@ abi_tag_members part i tag =
     ∷ (codes "n_type_name", word (Some (codes "NT_GNU_ABI_TAG")))
     ∷ (codes "name", word (Some (codes "GNU")))
     ∷ (codes "os", number tag.os)
-    ∷ (codes "os_name", word (os_name tag.os))
+    ∷ (codes "os_name", word (name_of nat_eq note_abi_tag_os_names tag.os))
     ∷ (codes "major", number tag.major)
     ∷ (codes "minor", number tag.minor)
     ∷ (codes "subminor", number tag.subminor)

@@ -10,9 +10,6 @@ use Rattle.nugwier_report.specs.declared.kind.Kind.TheVariants as kind
 use Rattle.nugwier_report.specs.declared.problem.Item.TheVariants.{Name}
 use Rattle.nugwier_report.specs.declared.problem.Part.TheVariants.{Section}
 
-unfoldable pub sh_type_name : ℕ → Option (List ℕ)
-sh_type_name n = name_of nat_eq sh_type_names n
-
 -- section i, with this name
 abbrev pub section_members : ℕ → SectionHeader → Option (List ℕ) → Members
 section_members i s name =
@@ -20,7 +17,7 @@ section_members i s name =
     ∷ (codes "sh_name", number s.sh_name)
     ∷ (codes "name", text name)
     ∷ (codes "sh_type", number s.sh_type)
-    ∷ (codes "sh_type_name", word (sh_type_name s.sh_type))
+    ∷ (codes "sh_type_name", word (name_of nat_eq sh_type_names s.sh_type))
     ∷ (codes "sh_flags", number s.sh_flags)
     ∷ (codes "sh_addr", number s.sh_addr)
     ∷ (codes "sh_offset", number s.sh_offset)

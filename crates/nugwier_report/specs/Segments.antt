@@ -6,15 +6,12 @@ use Rattle.elf_records.specs.declared.segment.ProgramHeader.{ProgramHeader}
 use Rattle.nugwier_report.specs.Said.{Members, Said, number, states, word}
 use Rattle.nugwier_report.specs.declared.kind.Kind.TheVariants as kind
 
-unfoldable pub p_type_name : ℕ → Option (List ℕ)
-p_type_name n = name_of nat_eq p_type_names n
-
 -- segment i
 unfoldable pub segment_members : ℕ → ProgramHeader → Members
 segment_members i p =
     (codes "index", number i)
     ∷ (codes "p_type", number p.p_type)
-    ∷ (codes "p_type_name", word (p_type_name p.p_type))
+    ∷ (codes "p_type_name", word (name_of nat_eq p_type_names p.p_type))
     ∷ (codes "p_flags", number p.p_flags)
     ∷ (codes "p_offset", number p.p_offset)
     ∷ (codes "p_vaddr", number p.p_vaddr)

@@ -20,7 +20,7 @@ use Rattle.elf_records.specs.declared.symbol.Symbol.{Symbol}
 use Rattle.elf_tools.specs.Addresses.{shn_common}
 use Rattle.nugwier_report.specs.Said.{Content, Members, Said, character, flag, nothing, number, states, text, unread}
 use Rattle.nugwier_report.specs.Said.{word}
-use Rattle.nugwier_report.specs.Versions.{Version, shown_version}
+use Rattle.nugwier_report.specs.Versions.{Version, shown_version, version_default, version_name}
 use Rattle.nugwier_report.specs.declared.kind.Kind.{Kind}
 use Rattle.nugwier_report.specs.declared.kind.Kind.TheVariants as kind
 use Rattle.nugwier_report.specs.declared.problem.Item.TheVariants.{SymbolName, SymbolVersion}
@@ -28,15 +28,6 @@ use Rattle.nugwier_report.specs.declared.problem.Part.{Part}
 use Rattle.nugwier_report.specs.declared.problem.Part.TheVariants as part
 use Rattle.nugwier_report.specs.declared.symbols.Form.{Form}
 use Rattle.nugwier_report.specs.declared.symbols.Form.TheVariants.{Export, Fields, Letter}
-
-unfoldable pub st_bind_name : ℕ → Option (List ℕ)
-st_bind_name n = name_of nat_eq st_bind_names n
-
-unfoldable pub st_type_name : ℕ → Option (List ℕ)
-st_type_name n = name_of nat_eq st_symtype_names n
-
-unfoldable pub st_visibility_name : ℕ → Option (List ℕ)
-st_visibility_name n = name_of nat_eq st_vis_names n
 
 -- the name of a section number that is no section
 abbrev pub st_shndx_name : ℕ → Option (List ℕ)
@@ -48,16 +39,7 @@ st_shndx_name n =
 abbrev pub table_name : Part → Option (List ℕ)
 table_name part.Symbols = Some (codes "SHT_SYMTAB")
 table_name part.DynamicSymbols = Some (codes "SHT_DYNSYM")
-table_name part.File = None
-table_name part.SectionNames = None
-table_name (part.Section i) = None
-table_name (part.Segment i) = None
-table_name part.Versions = None
-table_name part.Dynamic = None
-table_name part.DynamicStrings = None
-table_name part.BuildId = None
-table_name (part.Address a) = None
-table_name part.LoadPlan = None
+table_name _ = None
 
 -- ---- letters, as nm has them
 
@@ -154,9 +136,8 @@ symbol_kind exports_alone s = kind.Export
 
 -- the letter, if it is shown
 abbrev pub shown_letter : Manner → Symbol → Option ℕ
-shown_letter all_fields s = None
 shown_letter (by_letter class sections) s = Some (letter_of sections s)
-shown_letter exports_alone s = None
+shown_letter _ s = None
 
 -- ---- versions
 
@@ -170,14 +151,6 @@ abbrev pub version_known : Result (Option Version) ParseError → Option Version
 version_known (Ok version) = version
 version_known (Err e) = None
 
-abbrev pub version_name : Option Version → Option (List ℕ)
-version_name (Some version) = Some version.0
-version_name None = None
-
-abbrev pub version_default : Option Version → Content
-version_default (Some version) = flag version.1
-version_default None = nothing
-
 -- ---- records
 
 -- symbol i of this part of the file, with this name, this version and this letter
@@ -189,12 +162,12 @@ symbol_members part i s name version letter =
     ∷ (codes "name", text name)
     ∷ (codes "st_info", number s.st_info)
     ∷ (codes "st_bind", number (symbol_binding s))
-    ∷ (codes "st_bind_name", word (st_bind_name (symbol_binding s)))
+    ∷ (codes "st_bind_name", word (name_of nat_eq st_bind_names (symbol_binding s)))
     ∷ (codes "st_type", number (symbol_type s))
-    ∷ (codes "st_type_name", word (st_type_name (symbol_type s)))
+    ∷ (codes "st_type_name", word (name_of nat_eq st_symtype_names (symbol_type s)))
     ∷ (codes "st_other", number s.st_other)
     ∷ (codes "st_visibility", number (symbol_visibility s))
-    ∷ (codes "st_visibility_name", word (st_visibility_name (symbol_visibility s)))
+    ∷ (codes "st_visibility_name", word (name_of nat_eq st_vis_names (symbol_visibility s)))
     ∷ (codes "st_shndx", number s.st_shndx)
     ∷ (codes "st_shndx_name", word (st_shndx_name s.st_shndx))
     ∷ (codes "st_value", number s.st_value)

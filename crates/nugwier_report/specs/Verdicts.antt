@@ -1,8 +1,9 @@
 -- What is said of whether a file is sound. The texts of faults are free: they are for people.
 use Rattle.std.specs.Prelude.{◌≡◌, ℕ, true, false, List, [], ◌∷◌, ◌++◌, Some, codes}
-use Rattle.elf_whole.specs.declared.faults.FileFault.{FileFault}
-use Rattle.elf_whole.specs.declared.faults.FileFault.TheVariants.{NoNames, Repeated, Section, Segments, Versions}
-use Rattle.nugwier_report.specs.Said.{Content, Members, Said, flag, nothing, number, states, text, whole, wrong}
+use Rattle.elf_check.specs.declared.faults.FileFault.{FileFault}
+use Rattle.elf_check.specs.declared.faults.FileFault.TheVariants.{Section}
+use Rattle.nugwier_report.specs.Parts.{part_member}
+use Rattle.nugwier_report.specs.Said.{Members, Said, flag, nothing, states, text, whole, wrong}
 use Rattle.nugwier_report.specs.declared.kind.Kind.TheVariants as kind
 use Rattle.nugwier_report.specs.declared.problem.Fault.{Fault}
 use Rattle.nugwier_report.specs.declared.problem.Fault.TheVariants.{File as OfFile, Section as OfSection}
@@ -17,7 +18,7 @@ sound_file_members path = (codes "path", text (Some path)) ∷ []
 abbrev pub sound_members : Members
 sound_members = (codes "is_sound", flag true) ∷ (codes "section", nothing) ∷ (codes "fault", nothing) ∷ []
 
--- its path, for people, and a record that is for programs
+-- its path, for people, and a record for programs
 abbrev pub sound_said : List ℕ → List Said
 sound_said path = states kind.SoundFile (sound_file_members path) ∷ states kind.Verdict sound_members ∷ []
 
@@ -26,31 +27,17 @@ sound_said path = states kind.SoundFile (sound_file_members path) ∷ states kin
 -- it is in a section, or in the file as a whole
 abbrev pub fault_part : FileFault → Part
 fault_part (Section index fault) = PartSection index
-fault_part NoNames = File
-fault_part (Repeated sh_type) = File
-fault_part (Versions fault) = File
-fault_part (Segments fault) = File
+fault_part _ = File
 
 -- as it is told of its place
 abbrev pub fault_told : FileFault → Fault
 fault_told (Section index fault) = OfSection fault
-fault_told NoNames = OfFile NoNames
-fault_told (Repeated sh_type) = OfFile (Repeated sh_type)
-fault_told (Versions fault) = OfFile (Versions fault)
-fault_told (Segments fault) = OfFile (Segments fault)
-
--- the number of the section
-abbrev pub fault_section : FileFault → Content
-fault_section (Section index fault) = number index
-fault_section NoNames = nothing
-fault_section (Repeated sh_type) = nothing
-fault_section (Versions fault) = nothing
-fault_section (Segments fault) = nothing
+fault_told fault = OfFile fault
 
 -- with this text
 abbrev pub fault_members : FileFault → List ℕ → Members
 fault_members fault t =
-    (codes "is_sound", flag false) ∷ (codes "section", fault_section fault) ∷ (codes "fault", text (Some t)) ∷ []
+    (codes "is_sound", flag false) ∷ part_member (fault_part fault) ∷ (codes "fault", text (Some t)) ∷ []
 
 -- a record with the text, then the problem
 abbrev pub fault_said : FileFault → List ℕ → List Said

@@ -63,7 +63,7 @@ definitions_said part strings definitions = flat_map (definition_said part strin
 
 -- ---- needs
 
--- a file of which versions are needed, with its name
+-- a file from which versions are needed, with its name
 abbrev pub need_members : Part → VerNeed → Option (List ℕ) → Members
 need_members part need name =
     part_member part

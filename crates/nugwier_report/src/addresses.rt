@@ -1,16 +1,13 @@
 //! What is said of addresses.
 ghost use Rattle.std.specs.Prelude.{◌≡◌, Some, OnOk};
-ghost use Rattle.std.specs.Option.{option_copied};
 ghost use Rattle.elf_records.specs.Number.{ok_map};
 ghost use Rattle.elf_records.specs.Table.{table_view};
-ghost use Rattle.nugwier_report.specs.Addresses.{address_kind, address_members, address_said, nearest_said};
-ghost use Rattle.nugwier_report.specs.Addresses.{symbol_name};
-ghost use Rattle.nugwier_report.specs.Noted.{members_said};
+ghost use Rattle.nugwier_report.specs.Addresses.{address_kind, address_said, nearest_said, symbol_name};
 ghost use Rattle.nugwier_report.specs.Said.{saying};
 
-use crate::json::{Member, Value};
+use crate::json::Value;
 use crate::kind::Kind;
-use crate::problem::{Fault, Item, Part, Place, Stop};
+use crate::problem::{Fault, Item, Part, Stop};
 use crate::report::Report;
 use crate::rows::Row;
 use elf_parts::endian::EndianParse;
@@ -51,13 +48,16 @@ impl<'a, E: EndianParse> AddressRow<'a, E> {
         ensures { OnOk result (report.new ≡ saying report.old
             (nearest_said (table_view self.now.symbols) self.now.strings address (Some nearest.now))) }
     {
-        let place = Place {
-            part: Part::Address(address),
-            item: Item::Name,
-        };
+        let place = Part::Address(address).item(Item::Name);
         let name = report.readable(place, self.name_of(nearest.symbol))?;
-        let kind = address_kind(nearest.is_inside);
-        report.state(kind, &address_members(address, nearest, name))
+        let members = [
+            ("address", Value::Number(address)),
+            ("symbol", Value::Number(nearest.symbol as u64)),
+            ("name", Value::Text(name)),
+            ("distance", Value::Number(nearest.distance)),
+            ("is_inside", Value::Flag(nearest.is_inside)),
+        ];
+        report.state(address_kind(nearest.is_inside), &members)
     }
 }
 
@@ -74,13 +74,7 @@ impl<E: EndianParse> Row for AddressRow<'_, E> {
     ) -> Result<(), Stop> {
         match self.by_address.find(*address) {
             Some(nearest) => self.say_nearest(*address, &nearest, report),
-            None => {
-                let place = Place {
-                    part: Part::Address(*address),
-                    item: Item::Whole,
-                };
-                report.problem(place, Fault::NoSymbol)
-            }
+            None => report.problem(Part::Address(*address).whole(), Fault::NoSymbol),
         }
     }
 }
@@ -93,16 +87,4 @@ fn address_kind(is_inside: bool) -> Kind
     } else {
         Kind::PastEnd
     }
-}
-
-fn address_members<'a>(address: u64, nearest: &Nearest, name: Option<&'a [u8]>) -> [Member<'a>; 5]
-    ensures { members_said result ≡ address_members address nearest.now (option_copied name.entry) }
-{
-    [
-        ("address", Value::Number(address)),
-        ("symbol", Value::Number(nearest.symbol as u64)),
-        ("name", Value::Text(name)),
-        ("distance", Value::Number(nearest.distance)),
-        ("is_inside", Value::Flag(nearest.is_inside)),
-    ]
 }

@@ -1,11 +1,11 @@
 //! What is said of the symbols of a program that are bound.
 ghost use Rattle.std.specs.Prelude.{◌≡◌, OnOk};
-ghost use Rattle.std.specs.Option.{option_copied, option_map};
+ghost use Rattle.std.specs.Option.{option_copied};
 ghost use Rattle.nugwier_report.specs.Bindings.{binding_kind, binding_members, binding_said, bound_view, target_index};
-ghost use Rattle.nugwier_report.specs.Bindings.{target_path, target_version, target_view, target_word, version_default};
-ghost use Rattle.nugwier_report.specs.Bindings.{version_name, version_view};
+ghost use Rattle.nugwier_report.specs.Bindings.{target_path, target_version, target_view, target_word};
 ghost use Rattle.nugwier_report.specs.Noted.{content_of, members_said};
 ghost use Rattle.nugwier_report.specs.Said.{saying};
+ghost use Rattle.nugwier_report.specs.Versions.{version_default, version_name};
 
 use crate::json::{Member, Value};
 use crate::kind::Kind;
@@ -14,7 +14,7 @@ use crate::report::Report;
 use std::io::Write;
 
 /// A symbol that is bound.
-#[derive(Debug, Clone, Copy)]
+#[derive(Clone, Copy)]
 pub struct BoundSymbol<'a> {
     /// The path of its file.
     pub path: &'a [u8],
@@ -26,14 +26,14 @@ pub struct BoundSymbol<'a> {
 }
 
 /// The version of a symbol to which another one binds.
-#[derive(Debug, Clone, Copy)]
+#[derive(Clone, Copy)]
 pub struct OwnVersion<'a> {
     pub name: &'a [u8],
     pub is_default: bool,
 }
 
 /// What a symbol binds to.
-#[derive(Debug, Clone, Copy)]
+#[derive(Clone, Copy)]
 pub enum Target<'a> {
     /// A symbol of the same name, of the file at this path.
     Symbol {
@@ -50,7 +50,7 @@ pub enum Target<'a> {
 }
 
 /// How people are told what references of a kind bind to.
-#[derive(Debug, Clone, Copy)]
+#[derive(Clone, Copy)]
 pub enum Place {
     /// As the first, or as a copy.
     First,
@@ -60,45 +60,50 @@ pub enum Place {
     Same,
 }
 
+// What is said of a target: a word, and of a symbol the path of its file, its index, the name of its version, if it has
+// one, and whether this is the default one.
+type TargetParts<'a> = (
+    &'static str,
+    Option<&'a [u8]>,
+    Value<'static>,
+    Option<&'a [u8]>,
+    Value<'static>,
+);
+
 impl<'a> Target<'a> {
-    fn word(&self) -> &'static str
-        ensures { result.now ≡ target_word (target_view self.now) }
+    fn parts(&self) -> TargetParts<'a>
+        ensures word { result.0.now ≡ target_word (target_view self.now) }
+        ensures path { option_copied result.1 ≡ target_path (target_view self.now) }
+        ensures index { content_of result.2 ≡ target_index (target_view self.now) }
+        ensures version { option_copied result.3 ≡ version_name (target_version (target_view self.now)) }
+        ensures is_default { content_of result.4 ≡ version_default (target_version (target_view self.now)) }
     {
-        match self {
-            Target::Symbol { .. } => "bound",
-            Target::Weak => "weak",
-            Target::Missing => "missing",
-            Target::Unknown => "unknown",
-        }
-    }
-
-    // The path of the file, if it binds to a symbol.
-    fn path(&self) -> Option<&'a [u8]>
-        ensures { option_copied result ≡ target_path (target_view self.now) }
-    {
-        match self {
-            Target::Symbol { path, .. } => Some(*path),
-            _ => None,
-        }
-    }
-
-    // The index of the symbol.
-    fn index(&self) -> Value<'static>
-        ensures { content_of result ≡ target_index (target_view self.now) }
-    {
-        match self {
-            Target::Symbol { index, .. } => Value::Number(*index as u64),
-            _ => Value::Null,
-        }
-    }
-
-    // The version of the symbol, if it has one.
-    fn version(&self) -> Option<OwnVersion<'a>>
-        ensures { option_map version_view result ≡ target_version (target_view self.now) }
-    {
-        match self {
-            Target::Symbol { version, .. } => *version,
-            _ => None,
+        match *self {
+            Target::Symbol {
+                path,
+                index,
+                version: Some(version),
+            } => (
+                "bound",
+                Some(path),
+                Value::Number(index as u64),
+                Some(version.name),
+                Value::Flag(version.is_default),
+            ),
+            Target::Symbol {
+                path,
+                index,
+                version: None,
+            } => (
+                "bound",
+                Some(path),
+                Value::Number(index as u64),
+                None,
+                Value::Null,
+            ),
+            Target::Weak => ("weak", None, Value::Null, None, Value::Null),
+            Target::Missing => ("missing", None, Value::Null, None, Value::Null),
+            Target::Unknown => ("unknown", None, Value::Null, None, Value::Null),
         }
     }
 
@@ -112,26 +117,6 @@ impl<'a> Target<'a> {
             (Place::Elsewhere, _) => Kind::UnboundAddress,
             (Place::Same, _) => Kind::SameAddress,
         }
-    }
-}
-
-// The name of a version, if there is one.
-fn name_of<'a>(version: Option<OwnVersion<'a>>) -> Option<&'a [u8]>
-    ensures { option_copied result ≡ version_name (option_map version_view version.entry) }
-{
-    match version {
-        Some(version) => Some(version.name),
-        None => None,
-    }
-}
-
-// Whether a version is the default one, if there is one.
-fn default_of(version: Option<OwnVersion<'_>>) -> Value<'static>
-    ensures { content_of result ≡ version_default (option_map version_view version.entry) }
-{
-    match version {
-        Some(version) => Value::Flag(version.is_default),
-        None => Value::Null,
     }
 }
 
@@ -157,17 +142,17 @@ fn binding_members<'a>(
 ) -> [Member<'a>; 10]
     ensures { members_said result ≡ binding_members (bound_view symbol.now) reference.now (target_view target.now) }
 {
-    let version = target.version();
+    let (word, path, index, version, is_default) = target.parts();
     [
         ("object", Value::Text(Some(symbol.path))),
         ("index", Value::Number(symbol.index as u64)),
         ("name", Value::Text(symbol.name)),
         ("version", Value::Text(symbol.version)),
         ("reference", Value::Word(Some(reference))),
-        ("result", Value::Word(Some(target.word()))),
-        ("path", Value::Text(target.path())),
-        ("symbol", target.index()),
-        ("symbol_version", Value::Text(name_of(version))),
-        ("symbol_version_is_default", default_of(version)),
+        ("result", Value::Word(Some(word))),
+        ("path", Value::Text(path)),
+        ("symbol", index),
+        ("symbol_version", Value::Text(version)),
+        ("symbol_version_is_default", is_default),
     ]
 }

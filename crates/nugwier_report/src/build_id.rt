@@ -1,10 +1,9 @@
 //! What is said of a build id.
 ghost use Rattle.std.specs.Prelude.{◌≡◌, OnOk};
-ghost use Rattle.nugwier_report.specs.BuildId.{build_id_members, build_id_said};
-ghost use Rattle.nugwier_report.specs.Noted.{members_said};
+ghost use Rattle.nugwier_report.specs.BuildId.{build_id_said};
 ghost use Rattle.nugwier_report.specs.Said.{saying};
 
-use crate::json::{Member, Value};
+use crate::json::Value;
 use crate::kind::Kind;
 use crate::problem::Stop;
 use crate::report::Report;
@@ -17,11 +16,5 @@ pub fn say_build_id<W: Write, V: Write>(
 ) -> Result<(), Stop>
     ensures { OnOk result (report.new ≡ saying report.old (build_id_said id.now)) }
 {
-    report.state(Kind::BuildId, &build_id_members(id))
-}
-
-fn build_id_members(id: &[u8]) -> [Member<'_>; 1]
-    ensures { members_said result ≡ build_id_members id.now }
-{
-    [("build_id", Value::Bytes(id))]
+    report.state(Kind::BuildId, &[("build_id", Value::Bytes(id))])
 }

@@ -1,6 +1,6 @@
 //! What is said of the content of sections.
 ghost use Rattle.std.specs.Prelude.{◌≡◌, OnOk};
-ghost use Rattle.nugwier_report.specs.Contents.{data_members, data_said, string_members, string_said, strings_said};
+ghost use Rattle.nugwier_report.specs.Contents.{data_said, string_members, string_said, strings_said};
 ghost use Rattle.nugwier_report.specs.Noted.{members_said};
 ghost use Rattle.nugwier_report.specs.Said.{saying};
 
@@ -18,16 +18,13 @@ pub fn say_data<W: Write, V: Write>(
 ) -> Result<(), Stop>
     ensures { OnOk result (report.new ≡ saying report.old (data_said section bytes.now)) }
 {
-    report.state(Kind::SectionData, &data_members(section, bytes))
-}
-
-fn data_members<'a>(section: u64, bytes: &'a [u8]) -> [Member<'a>; 2]
-    ensures { members_said result ≡ data_members section bytes.now }
-{
-    [
-        ("section", Value::Number(section)),
-        ("data", Value::Bytes(bytes)),
-    ]
+    report.state(
+        Kind::SectionData,
+        &[
+            ("section", Value::Number(section)),
+            ("data", Value::Bytes(bytes)),
+        ],
+    )
 }
 
 /// Says the strings of a section, each with its offset, without empty ones. Bytes after the last 0 byte are no string.

@@ -1,15 +1,13 @@
 //! What is said of dynamic entries.
 ghost use Rattle.std.specs.Prelude.{◌≡◌, OnOk};
 ghost use Rattle.std.specs.Option.{option_copied};
-ghost use Rattle.nugwier_report.specs.Dynamic.{d_tag_name, entry_members, entry_said, named_said, names_string};
-ghost use Rattle.nugwier_report.specs.Dynamic.{needed_kind};
-ghost use Rattle.nugwier_report.specs.Dynamic.{needed_said};
+ghost use Rattle.nugwier_report.specs.Dynamic.{entry_members, entry_said, named_said, needed_kind, needed_said};
 ghost use Rattle.nugwier_report.specs.Noted.{members_said};
 ghost use Rattle.nugwier_report.specs.Said.{saying};
 
 use crate::json::{Member, Value};
 use crate::kind::Kind;
-use crate::problem::{Item, Part, Place, Stop};
+use crate::problem::{Item, Part, Stop};
 use crate::report::Report;
 use crate::rows::Row;
 use elf_abi::{abi, to_str};
@@ -35,7 +33,7 @@ impl Row for EntryRow<'_> {
         report: &mut Report<'_, W, V>,
     ) -> Result<(), Stop> {
         match &self.strings {
-            Some(strings) if names_string(entry) => say_named(
+            Some(strings) if needed_kind(entry).is_some() => say_named(
                 Kind::NamedEntry,
                 strings,
                 number,
@@ -71,16 +69,7 @@ impl Row for NeededRow<'_> {
     }
 }
 
-// The number of the entry is the offset of a string, for these tags.
-fn names_string(entry: &Dyn) -> bool
-    ensures { result ≡ names_string entry.now }
-{
-    match entry.d_tag {
-        abi::DT_NEEDED | abi::DT_SONAME | abi::DT_RPATH | abi::DT_RUNPATH => true,
-        _ => false,
-    }
-}
-
+// The kind of an entry that names a library or a search path. Its number is the offset of a string.
 fn needed_kind(entry: &Dyn) -> Option<Kind>
     ensures { result ≡ needed_kind entry.now }
 {
@@ -103,10 +92,7 @@ fn say_named<W: Write, V: Write>(
 ) -> Result<(), Stop>
     ensures { OnOk result (report.new ≡ saying report.old (named_said kind strings.now number entry.now)) }
 {
-    let place = Place {
-        part: Part::Dynamic,
-        item: Item::EntryName(number),
-    };
+    let place = Part::Dynamic.item(Item::EntryName(number));
     let name = report.readable(place, strings.get_raw(entry.d_val() as usize))?;
     report.state(kind, &entry_members(number, entry, name))
 }
@@ -117,15 +103,8 @@ fn entry_members<'a>(number: u64, entry: &Dyn, name: Option<&'a [u8]>) -> [Membe
     [
         ("index", Value::Number(number)),
         ("d_tag", Value::Signed(entry.d_tag)),
-        ("d_tag_name", Value::Word(tag_name(entry.d_tag))),
+        ("d_tag_name", Value::Word(to_str::d_tag_to_str(entry.d_tag))),
         ("d_un", Value::Number(entry.d_val())),
         ("name", Value::Text(name)),
     ]
-}
-
-#[tactic(auto, unfolding(crate::specs::Dynamic::d_tag_name))]
-fn tag_name(d_tag: i64) -> Option<&'static str>
-    ensures { option_copied result ≡ d_tag_name d_tag }
-{
-    to_str::d_tag_to_str(d_tag)
 }

@@ -2,11 +2,11 @@
 ghost use Rattle.std.specs.Prelude.{◌≡◌};
 ghost use Rattle.std.specs.List.{flat_map};
 ghost use Rattle.std.specs.Str.{chars};
-ghost use Rattle.elf_lines.specs.Adding.{Adds};
+ghost use Rattle.elfshow_lines.specs.Adding.{Adds};
 ghost use Rattle.nugwier_report.specs.Escape.{escaped_byte, is_plain, is_shown, shown_byte, shown_bytes};
 ghost use Rattle.nugwier_report.specs.Escape.{shown_character};
 
-use elf_lines::line_buffer::LineBuffer;
+use elfshow_lines::line_buffer::LineBuffer;
 use std::fmt;
 use std::io::Write;
 use std::str::from_utf8;

@@ -1,8 +1,7 @@
 //! What is said of the file header.
 ghost use Rattle.std.specs.Prelude.{◌≡◌, ◌∷◌, [], OnOk};
-ghost use Rattle.std.specs.Option.{option_copied};
-ghost use Rattle.nugwier_report.specs.Header.{class_name, class_number, e_machine_name, e_type_name, header_members};
-ghost use Rattle.nugwier_report.specs.Header.{header_said, order_name, order_number, osabi_name};
+ghost use Rattle.nugwier_report.specs.Header.{class_name, class_number, header_members, header_said, order_name};
+ghost use Rattle.nugwier_report.specs.Header.{order_number};
 ghost use Rattle.nugwier_report.specs.Noted.{members_said};
 ghost use Rattle.nugwier_report.specs.Said.{saying};
 
@@ -29,21 +28,28 @@ pub fn say_header<E: EndianParse, W: Write, V: Write>(
 fn header_members<E: EndianParse>(header: &FileHeader<E>) -> [Member<'static>; 22]
     ensures { members_said result ≡ header_members E.little header.now }
 {
-    let is_little = header.endianness.is_little();
+    let (class, class_name) = class_parts(header.class);
+    let (order, order_name) = order_parts(header.endianness.is_little());
     [
-        ("ei_class", Value::Number(class_number(header.class) as u64)),
-        ("ei_class_name", Value::Word(Some(class_name(header.class)))),
-        ("ei_data", Value::Number(order_number(is_little) as u64)),
-        ("ei_data_name", Value::Word(Some(order_name(is_little)))),
+        ("ei_class", Value::Number(class as u64)),
+        ("ei_class_name", Value::Word(Some(class_name))),
+        ("ei_data", Value::Number(order as u64)),
+        ("ei_data_name", Value::Word(Some(order_name))),
         ("ei_osabi", Value::Number(header.osabi as u64)),
-        ("ei_osabi_name", Value::Word(osabi_name(header.osabi))),
+        (
+            "ei_osabi_name",
+            Value::Word(to_str::e_osabi_to_str(header.osabi)),
+        ),
         ("ei_abiversion", Value::Number(header.abiversion as u64)),
         ("e_type", Value::Number(header.e_type as u64)),
-        ("e_type_name", Value::Word(type_name(header.e_type))),
+        (
+            "e_type_name",
+            Value::Word(to_str::e_type_to_str(header.e_type)),
+        ),
         ("e_machine", Value::Number(header.e_machine as u64)),
         (
             "e_machine_name",
-            Value::Word(machine_name(header.e_machine)),
+            Value::Word(to_str::e_machine_to_str(header.e_machine)),
         ),
         ("e_version", Value::Number(header.version as u64)),
         ("e_entry", Value::Number(header.e_entry)),
@@ -59,61 +65,23 @@ fn header_members<E: EndianParse>(header: &FileHeader<E>) -> [Member<'static>; 2
     ]
 }
 
-fn class_number(class: Class) -> u8
-    ensures { result ≡ class_number class }
+fn class_parts(class: Class) -> (u8, &'static str)
+    ensures number { result.0 ≡ class_number class }
+    ensures name { result.1.now ≡ class_name class }
 {
     match class {
-        Class::ELF32 => abi::ELFCLASS32,
-        Class::ELF64 => abi::ELFCLASS64,
+        Class::ELF32 => (abi::ELFCLASS32, "ELFCLASS32"),
+        Class::ELF64 => (abi::ELFCLASS64, "ELFCLASS64"),
     }
 }
 
-fn class_name(class: Class) -> &'static str
-    ensures { result.now ≡ class_name class }
-{
-    match class {
-        Class::ELF32 => "ELFCLASS32",
-        Class::ELF64 => "ELFCLASS64",
-    }
-}
-
-fn order_number(is_little: bool) -> u8
-    ensures { result ≡ order_number is_little }
+fn order_parts(is_little: bool) -> (u8, &'static str)
+    ensures number { result.0 ≡ order_number is_little }
+    ensures name { result.1.now ≡ order_name is_little }
 {
     if is_little {
-        abi::ELFDATA2LSB
+        (abi::ELFDATA2LSB, "ELFDATA2LSB")
     } else {
-        abi::ELFDATA2MSB
+        (abi::ELFDATA2MSB, "ELFDATA2MSB")
     }
-}
-
-fn order_name(is_little: bool) -> &'static str
-    ensures { result.now ≡ order_name is_little }
-{
-    if is_little {
-        "ELFDATA2LSB"
-    } else {
-        "ELFDATA2MSB"
-    }
-}
-
-#[tactic(auto, unfolding(crate::specs::Header::osabi_name))]
-fn osabi_name(osabi: u8) -> Option<&'static str>
-    ensures { option_copied result ≡ osabi_name osabi }
-{
-    to_str::e_osabi_to_str(osabi)
-}
-
-#[tactic(auto, unfolding(crate::specs::Header::e_type_name))]
-fn type_name(e_type: u16) -> Option<&'static str>
-    ensures { option_copied result ≡ e_type_name e_type }
-{
-    to_str::e_type_to_str(e_type)
-}
-
-#[tactic(auto, unfolding(crate::specs::Header::e_machine_name))]
-fn machine_name(e_machine: u16) -> Option<&'static str>
-    ensures { option_copied result ≡ e_machine_name e_machine }
-{
-    to_str::e_machine_to_str(e_machine)
 }

@@ -2,25 +2,23 @@
 ghost use Rattle.std.specs.Prelude.{◌≡◌, Some, OnOk};
 ghost use Rattle.std.specs.Io.KnownBytes.{Appends};
 ghost use Rattle.std.specs.List.{flat_map};
-ghost use Rattle.std.specs.Option.{option_copied};
 ghost use Rattle.std.specs.Str.{chars, encode_utf8_all};
-ghost use Rattle.elf_lines.specs.Adding.{Adds};
-ghost use Rattle.nugwier_report.specs.Json.{bytes_member, character_value, escape, front, json_string, member};
-ghost use Rattle.nugwier_report.specs.Json.{member_of, object, pair};
-ghost use Rattle.nugwier_report.specs.Json.{spelled, stands_for_itself, text_member, word_value};
+ghost use Rattle.elfshow_lines.specs.Adding.{Adds};
+ghost use Rattle.nugwier_report.specs.Json.{after_key, bytes_value, character_value, escape, front, json_string};
+ghost use Rattle.nugwier_report.specs.Json.{member_text, object, spelled, stands_for_itself, string_value, text_value};
 ghost use Rattle.nugwier_report.specs.JsonReading.{read_string};
-ghost use Rattle.nugwier_report.specs.Noted.{member_said};
+ghost use Rattle.nugwier_report.specs.Noted.{content_of, member_said, members_said};
 ghost use Rattle.nugwier_report.specs.Parts.{part_member};
 
 use crate::escape::is_shown;
 use crate::problem::Part;
-use elf_lines::line_buffer::LineBuffer;
+use elfshow_lines::line_buffer::LineBuffer;
 use std::io;
 use std::io::Write;
 use std::str::from_utf8;
 
 /// What a member of an object says.
-#[derive(Debug, Clone, Copy)]
+#[derive(Clone, Copy)]
 pub enum Value<'a> {
     /// Nothing.
     Null,
@@ -60,7 +58,7 @@ pub fn write_object<W: Write>(
     out: &mut W,
 ) -> io::Result<()>
     ensures { OnOk result (Appends (W.contents out.old) (W.contents out.new)
-        (object path.now kind.now (flat_map member_of members.now))) }
+        (object path.now kind.now (members_said members.now))) }
 {
     let mut lines = LineBuffer::empty();
     add_front(path, kind, &mut lines, out);
@@ -79,108 +77,74 @@ fn add_front<W: Write>(path: &str, kind: &str, lines: &mut LineBuffer, out: &mut
 }
 
 fn add_members<W: Write>(members: &[Member<'_>], lines: &mut LineBuffer, out: &mut W)
-    ensures { Adds (W.contents out.old) lines.old (W.contents out.new) lines.new (flat_map member_of members.now) }
+    ensures { Adds (W.contents out.old) lines.old (W.contents out.new) lines.new
+        (flat_map member_text (members_said members.now)) }
 {
     for member in members {
-        add_member(member.0, member.1, lines, out);
+        add_member(member, lines, out);
     }
 }
 
 // Adds a member after others.
-fn add_member<W: Write>(key: &str, value: Value<'_>, lines: &mut LineBuffer, out: &mut W)
-    ensures { Adds (W.contents out.old) lines.old (W.contents out.new) lines.new (member key.now value.entry) }
+fn add_member<W: Write>(member: &Member<'_>, lines: &mut LineBuffer, out: &mut W)
+    ensures { Adds (W.contents out.old) lines.old (W.contents out.new) lines.new
+        (member_text (member_said member.now)) }
+{
+    lines.text(",\"", out);
+    lines.text(member.0, out);
+    add_value(member.1, lines, out);
+}
+
+// Adds what follows a key: the end of its string, a colon, and the value.
+fn add_value<W: Write>(value: Value<'_>, lines: &mut LineBuffer, out: &mut W)
+    ensures { Adds (W.contents out.old) lines.old (W.contents out.new) lines.new
+        (after_key (content_of value.entry)) }
 {
     match value {
-        Value::Null => add_plain(key, "null", lines, out),
-        Value::Flag(true) => add_plain(key, "true", lines, out),
-        Value::Flag(false) => add_plain(key, "false", lines, out),
-        Value::Number(number) => {
-            lines.text(",\"", out);
-            lines.text(key, out);
-            lines.decimal("\":", number, out);
-        }
-        Value::Signed(number) => {
-            lines.text(",\"", out);
-            lines.text(key, out);
-            lines.signed("\":", number, out);
-        }
-        Value::Word(word) => add_word(key, word, lines, out),
-        Value::Character(character) => add_letter(key, character, lines, out),
-        Value::Text(Some(bytes)) => add_text(key, bytes, lines, out),
-        Value::Text(None) => add_plain(key, "null", lines, out),
-        Value::Bytes(bytes) => add_bytes(key, bytes, lines, out),
+        Value::Flag(true) => lines.text("\":true", out),
+        Value::Flag(false) => lines.text("\":false", out),
+        Value::Number(number) => lines.decimal("\":", number, out),
+        Value::Signed(number) => lines.signed("\":", number, out),
+        Value::Word(Some(word)) => add_string_value(word, lines, out),
+        Value::Character(Some(character)) => add_character_value(character, lines, out),
+        Value::Text(Some(bytes)) => add_text_value(bytes, lines, out),
+        Value::Bytes(bytes) => add_bytes_value(bytes, lines, out),
+        _ => lines.text("\":null", out),
     }
 }
 
-// Adds a member whose value is a word of JSON.
-fn add_plain<W: Write>(key: &str, word: &str, lines: &mut LineBuffer, out: &mut W)
-    ensures { Adds (W.contents out.old) lines.old (W.contents out.new) lines.new (pair key.now word.now) }
+fn add_string_value<W: Write>(text: &str, lines: &mut LineBuffer, out: &mut W)
+    ensures { Adds (W.contents out.old) lines.old (W.contents out.new) lines.new (string_value text.now) }
 {
-    lines.text(",\"", out);
-    lines.text(key, out);
-    lines.text("\":", out);
-    lines.text(word, out);
-}
-
-// Adds a member whose value is a name, if there is one.
-fn add_word<W: Write>(key: &str, word: Option<&'static str>, lines: &mut LineBuffer, out: &mut W)
-    ensures { Adds (W.contents out.old) lines.old (W.contents out.new) lines.new
-        (pair key.now (word_value (option_copied word.entry))) }
-{
-    match word {
-        Some(word) => add_named_string(key, word, lines, out),
-        None => add_plain(key, "null", lines, out),
-    }
-}
-
-// Adds a member whose value is a character, if there is one.
-fn add_letter<W: Write>(key: &str, character: Option<char>, lines: &mut LineBuffer, out: &mut W)
-    ensures { Adds (W.contents out.old) lines.old (W.contents out.new) lines.new
-        (pair key.now (character_value character)) }
-{
-    match character {
-        Some(character) => {
-            lines.text(",\"", out);
-            lines.text(key, out);
-            lines.text("\":\"", out);
-            add_character(character, lines, out);
-            lines.text("\"", out);
-        }
-        None => add_plain(key, "null", lines, out),
-    }
-}
-
-// Adds a member whose value is a string.
-fn add_named_string<W: Write>(key: &str, text: &str, lines: &mut LineBuffer, out: &mut W)
-    ensures { Adds (W.contents out.old) lines.old (W.contents out.new) lines.new (pair key.now (json_string text.now)) }
-{
-    lines.text(",\"", out);
-    lines.text(key, out);
     lines.text("\":", out);
     add_string(text, lines, out);
 }
 
-// Adds a member whose value is a text of the file.
-fn add_text<W: Write>(key: &str, bytes: &[u8], lines: &mut LineBuffer, out: &mut W)
-    ensures { Adds (W.contents out.old) lines.old (W.contents out.new) lines.new (text_member key.now bytes.now) }
+fn add_character_value<W: Write>(character: char, lines: &mut LineBuffer, out: &mut W)
+    ensures { Adds (W.contents out.old) lines.old (W.contents out.new) lines.new (character_value character) }
+{
+    lines.text("\":\"", out);
+    add_character(character, lines, out);
+    lines.text("\"", out);
+}
+
+fn add_text_value<W: Write>(bytes: &[u8], lines: &mut LineBuffer, out: &mut W)
+    ensures { Adds (W.contents out.old) lines.old (W.contents out.new) lines.new (text_value bytes.now) }
 {
     match from_utf8(bytes) {
-        Ok(text) => add_named_string(key, text, lines, out),
-        Err(_) => add_bytes(key, bytes, lines, out),
+        Ok(text) => add_string_value(text, lines, out),
+        Err(_) => add_bytes_value(bytes, lines, out),
     }
 }
 
-// Adds a member whose value is the digits of bytes.
-fn add_bytes<W: Write>(key: &str, bytes: &[u8], lines: &mut LineBuffer, out: &mut W)
-    ensures { Adds (W.contents out.old) lines.old (W.contents out.new) lines.new (bytes_member key.now bytes.now) }
+// The key ends with `_hex`, and the value is the digits of the bytes.
+fn add_bytes_value<W: Write>(bytes: &[u8], lines: &mut LineBuffer, out: &mut W)
+    ensures { Adds (W.contents out.old) lines.old (W.contents out.new) lines.new (bytes_value bytes.now) }
 {
-    lines.text(",\"", out);
-    lines.text(key, out);
     lines.bytes("_hex\":\"", bytes, out);
     lines.text("\"", out);
 }
 
-// Adds a string.
 #[tactic(auto, unfolding(crate::specs::Json::json_string))]
 fn add_string<W: Write>(text: &str, lines: &mut LineBuffer, out: &mut W)
     ensures { Adds (W.contents out.old) lines.old (W.contents out.new) lines.new (json_string text.now) }
@@ -190,7 +154,6 @@ fn add_string<W: Write>(text: &str, lines: &mut LineBuffer, out: &mut W)
     lines.text("\"", out);
 }
 
-// Adds the characters of a text.
 fn add_characters<W: Write>(text: &str, lines: &mut LineBuffer, out: &mut W)
     ensures { Adds (W.contents out.old) lines.old (W.contents out.new) lines.new
         (encode_utf8_all (flat_map spelled (chars text.now))) }
@@ -220,7 +183,6 @@ fn stands_for_itself(character: char) -> bool
     is_shown(character) && character != '"'
 }
 
-// Adds the escape of a character.
 #[tactic(auto, using(crate::proofs::JsonStrings::escape_other), unfolding(crate::specs::Json::escape))]
 fn add_escape<W: Write>(character: char, lines: &mut LineBuffer, out: &mut W)
     ensures { Adds (W.contents out.old) lines.old (W.contents out.new) lines.new (escape character) }

@@ -2,30 +2,34 @@
 //! column stands in the place of each `%` in the text.
 ghost use Rattle.std.specs.Prelude.{◌≡◌};
 ghost use Rattle.std.specs.Option.{option_copied};
-ghost use Rattle.nugwier_report.specs.Kinds.{kind_columns, kind_name, kind_row};
+ghost use Rattle.nugwier_report.specs.Kinds.{layout_of};
 
-use crate::text::{Column, Shown};
+use crate::text::Column;
+use crate::text::Shown::{
+    Character, Decimal, Depth, Digits8, Digits16, Dump, Hexadecimal, Index, Name, Order, Pairs,
+    Rest, SectionFlags, SegmentFlags, Signed, Text, Version,
+};
 
 /// A kind of record.
-#[derive(Debug, Clone, Copy)]
+#[derive(Clone, Copy)]
 pub enum Kind {
-    /// The path of a file above what is said of it.
+    /// The heading of a file: its path.
     FileHeading,
-    /// The path of a file after another one.
+    /// The heading of a file that follows another one.
     NextFileHeading,
     /// The file header (gABI, chapter "ELF Header").
     FileHeader,
-    /// What is above the sections.
+    /// The heading of the sections.
     SectionsHeading,
     /// A section (gABI, chapter "Sections").
     Section,
-    /// What is above the segments.
+    /// The heading of the segments.
     SegmentsHeading,
     /// A segment (gABI, chapter "Program Header").
     Segment,
-    /// What is above the symbols.
+    /// The heading of the symbols.
     SymbolsHeading,
-    /// What is above the symbols for dynamic linking.
+    /// The heading of the symbols for dynamic linking.
     DynamicSymbolsHeading,
     /// A symbol with all its fields (gABI, chapter "Symbol Table").
     Symbol,
@@ -39,7 +43,7 @@ pub enum Kind {
     Undefined64,
     /// A symbol by its name and its version.
     Export,
-    /// What is above the dynamic entries.
+    /// The heading of the dynamic entries.
     EntriesHeading,
     /// A dynamic entry (gABI, chapter "Dynamic Section").
     Entry,
@@ -53,15 +57,15 @@ pub enum Kind {
     Rpath,
     /// A search path, of `DT_RUNPATH`.
     Runpath,
-    /// What is above the relocations of a section: its number and its name.
+    /// The heading of the relocations of a section: its number and its name.
     RelocationsHeading,
     /// A relocation without an addend (gABI, chapter "Relocation").
     Rel,
     /// A relocation with an addend.
     Rela,
-    /// What is above the notes of a section: its number and its name.
+    /// The heading of the notes of a section: its number and its name.
     SectionNotesHeading,
-    /// What is above the notes of a segment: its number.
+    /// The heading of the notes of a segment: its number.
     SegmentNotesHeading,
     /// A note with the build id.
     BuildIdNote,
@@ -69,31 +73,31 @@ pub enum Kind {
     AbiTagNote,
     /// Any other note (gABI, chapter "Program Loading", "Note Section").
     Note,
-    /// What is above the versions that a file defines: the number and the name of their section.
+    /// The heading of the versions that a file defines: the number and the name of their section.
     DefinedHeading,
-    /// What is above the versions that a file needs: the number and the name of their section.
+    /// The heading of the versions that a file needs: the number and the name of their section.
     NeededHeading,
     /// A version that a file defines; its names follow (GNU symbol versioning).
     Verdef,
     /// A name of a version that a file defines.
     Verdaux,
-    /// After the names of a version.
+    /// The end of the names of a version.
     VerdefEnd,
-    /// A file of which versions are needed.
+    /// A file from which versions are needed.
     Verneed,
     /// A version that is needed.
     Vernaux,
-    /// What is above the bytes of a section: its name or its number, as it was asked for.
+    /// The heading of the bytes of a section: its name or its number, as in the command.
     BytesHeading,
-    /// What is above the strings of a section.
+    /// The heading of the strings of a section.
     StringsHeading,
     /// The bytes of a section.
     SectionData,
     /// A string of a section, with its offset.
     SectionString,
-    /// What is above the mappings of a file.
+    /// The heading of the mappings of a file.
     MappingsHeading,
-    /// What a loader maps.
+    /// A part of memory that a loader maps.
     Mapping,
     /// The build id of a file.
     BuildId,
@@ -103,7 +107,7 @@ pub enum Kind {
     PastEnd,
     /// The path of a file that is sound.
     SoundFile,
-    /// Whether a file is sound, or a fault of it. People are told a fault as a problem alone.
+    /// That a file is sound, or one of its faults. For people a fault is a problem alone.
     Verdict,
     /// A program, by its path.
     Program,
@@ -113,213 +117,95 @@ pub enum Kind {
     MissingLibrary,
     /// References to a symbol, and the symbol that they bind to.
     Bound,
-    /// The same of the address of a function whose calls go elsewhere.
+    /// The same for the address of a function whose calls go elsewhere.
     BoundAddress,
     /// References to a symbol that bind to none, and why.
     Unbound,
-    /// The same of the address of a function whose calls go elsewhere.
+    /// The same for the address of a function whose calls go elsewhere.
     UnboundAddress,
-    /// The address of a function whose calls go to the same place. People are not told twice.
+    /// The address of a function whose calls go to the same place. People are told once.
     SameAddress,
 }
 
+/// The name of a kind in an object of JSON, and the text and the columns of its row for people. A kind without a name,
+/// as a heading, is for people alone.
+pub type Layout = (Option<&'static str>, &'static str, &'static [Column]);
+
 impl Kind {
-    /// Returns the name of the kind in an object of JSON. A kind without a name, as a heading, is for people alone.
-    pub fn name(self) -> Option<&'static str>
-        ensures { option_copied result ≡ kind_name self }
+    /// Returns the layout of records of the kind.
+    pub fn layout(self) -> Layout
+        ensures name { option_copied result.0 ≡ (layout_of self).name }
+        ensures row { result.1.now ≡ (layout_of self).row }
+        ensures columns { result.2.now ≡ (layout_of self).columns }
     {
         match self {
-            Kind::FileHeading
-            | Kind::NextFileHeading
-            | Kind::SectionsHeading
-            | Kind::SegmentsHeading
-            | Kind::SymbolsHeading
-            | Kind::DynamicSymbolsHeading
-            | Kind::EntriesHeading
-            | Kind::RelocationsHeading
-            | Kind::SectionNotesHeading
-            | Kind::SegmentNotesHeading
-            | Kind::DefinedHeading
-            | Kind::NeededHeading
-            | Kind::VerdefEnd
-            | Kind::BytesHeading
-            | Kind::StringsHeading
-            | Kind::MappingsHeading
-            | Kind::SoundFile => None,
-            Kind::FileHeader => Some("file_header"),
-            Kind::Section => Some("section_header"),
-            Kind::Segment => Some("program_header"),
-            Kind::Symbol
-            | Kind::Symbol32
-            | Kind::Symbol64
-            | Kind::Undefined32
-            | Kind::Undefined64
-            | Kind::Export => Some("symbol"),
-            Kind::Entry
-            | Kind::NamedEntry
-            | Kind::Needed
-            | Kind::Soname
-            | Kind::Rpath
-            | Kind::Runpath => Some("dynamic"),
-            Kind::Rel | Kind::Rela => Some("relocation"),
-            Kind::BuildIdNote | Kind::AbiTagNote | Kind::Note => Some("note"),
-            Kind::Verdef => Some("verdef"),
-            Kind::Verdaux => Some("verdaux"),
-            Kind::Verneed => Some("verneed"),
-            Kind::Vernaux => Some("vernaux"),
-            Kind::SectionData => Some("section_data"),
-            Kind::SectionString => Some("section_string"),
-            Kind::Mapping => Some("mapping"),
-            Kind::BuildId => Some("build_id"),
-            Kind::Inside | Kind::PastEnd => Some("address"),
-            Kind::Verdict => Some("check"),
-            Kind::Program | Kind::Library | Kind::MissingLibrary => Some("object"),
-            Kind::Bound
-            | Kind::BoundAddress
-            | Kind::Unbound
-            | Kind::UnboundAddress
-            | Kind::SameAddress => Some("binding"),
-        }
-    }
-
-    /// Returns the text of a row of the kind.
-    pub fn row(self) -> &'static str
-        ensures { result.now ≡ kind_row self }
-    {
-        match self {
-            Kind::FileHeading => FILE_HEADING_ROW,
-            Kind::NextFileHeading => NEXT_FILE_HEADING_ROW,
-            Kind::FileHeader => FILE_HEADER_ROW,
-            Kind::SectionsHeading => SECTIONS_HEADING_ROW,
-            Kind::Section => SECTION_ROW,
-            Kind::SegmentsHeading => SEGMENTS_HEADING_ROW,
-            Kind::Segment => SEGMENT_ROW,
-            Kind::SymbolsHeading => SYMBOLS_HEADING_ROW,
-            Kind::DynamicSymbolsHeading => DYNAMIC_SYMBOLS_HEADING_ROW,
-            Kind::Symbol => SYMBOL_ROW,
-            Kind::Symbol32 => SYMBOL_32_ROW,
-            Kind::Symbol64 => SYMBOL_64_ROW,
-            Kind::Undefined32 => UNDEFINED_32_ROW,
-            Kind::Undefined64 => UNDEFINED_64_ROW,
-            Kind::Export => EXPORT_ROW,
-            Kind::EntriesHeading => ENTRIES_HEADING_ROW,
-            Kind::Entry => ENTRY_ROW,
-            Kind::NamedEntry => NAMED_ENTRY_ROW,
-            Kind::Needed => NEEDED_ROW,
-            Kind::Soname => SONAME_ROW,
-            Kind::Rpath => RPATH_ROW,
-            Kind::Runpath => RUNPATH_ROW,
-            Kind::RelocationsHeading => RELOCATIONS_HEADING_ROW,
-            Kind::Rel => REL_ROW,
-            Kind::Rela => RELA_ROW,
-            Kind::SectionNotesHeading => SECTION_NOTES_HEADING_ROW,
-            Kind::SegmentNotesHeading => SEGMENT_NOTES_HEADING_ROW,
-            Kind::BuildIdNote => BUILD_ID_NOTE_ROW,
-            Kind::AbiTagNote => ABI_TAG_NOTE_ROW,
-            Kind::Note => NOTE_ROW,
-            Kind::DefinedHeading => DEFINED_HEADING_ROW,
-            Kind::NeededHeading => NEEDED_HEADING_ROW,
-            Kind::Verdef => VERDEF_ROW,
-            Kind::Verdaux => VERDAUX_ROW,
-            Kind::VerdefEnd => VERDEF_END_ROW,
-            Kind::Verneed => VERNEED_ROW,
-            Kind::Vernaux => VERNAUX_ROW,
-            Kind::BytesHeading => BYTES_HEADING_ROW,
-            Kind::StringsHeading => STRINGS_HEADING_ROW,
-            Kind::SectionData => SECTION_DATA_ROW,
-            Kind::SectionString => SECTION_STRING_ROW,
-            Kind::MappingsHeading => MAPPINGS_HEADING_ROW,
-            Kind::Mapping => MAPPING_ROW,
-            Kind::BuildId => BUILD_ID_ROW,
-            Kind::Inside => INSIDE_ROW,
-            Kind::PastEnd => PAST_END_ROW,
-            Kind::SoundFile => SOUND_FILE_ROW,
-            Kind::Verdict => VERDICT_ROW,
-            Kind::Program => PROGRAM_ROW,
-            Kind::Library => LIBRARY_ROW,
-            Kind::MissingLibrary => MISSING_LIBRARY_ROW,
-            Kind::Bound => BOUND_ROW,
-            Kind::BoundAddress => BOUND_ADDRESS_ROW,
-            Kind::Unbound => UNBOUND_ROW,
-            Kind::UnboundAddress => UNBOUND_ADDRESS_ROW,
-            Kind::SameAddress => SAME_ADDRESS_ROW,
-        }
-    }
-
-    /// Returns the columns of a row of the kind.
-    pub fn columns(self) -> &'static [Column]
-        ensures { result.now ≡ kind_columns self }
-    {
-        match self {
-            Kind::FileHeading => &FILE_HEADING_COLUMNS,
-            Kind::NextFileHeading => &NEXT_FILE_HEADING_COLUMNS,
-            Kind::FileHeader => &FILE_HEADER_COLUMNS,
-            Kind::Section => &SECTION_COLUMNS,
-            Kind::Segment => &SEGMENT_COLUMNS,
-            Kind::Symbol => &SYMBOL_COLUMNS,
-            Kind::Symbol32 => &SYMBOL_32_COLUMNS,
-            Kind::Symbol64 => &SYMBOL_64_COLUMNS,
-            Kind::Undefined32 => &UNDEFINED_32_COLUMNS,
-            Kind::Undefined64 => &UNDEFINED_64_COLUMNS,
-            Kind::Export => &EXPORT_COLUMNS,
-            Kind::Entry => &ENTRY_COLUMNS,
-            Kind::NamedEntry => &NAMED_ENTRY_COLUMNS,
-            Kind::Needed => &NEEDED_COLUMNS,
-            Kind::Soname => &SONAME_COLUMNS,
-            Kind::Rpath => &RPATH_COLUMNS,
-            Kind::Runpath => &RUNPATH_COLUMNS,
-            Kind::RelocationsHeading => &RELOCATIONS_HEADING_COLUMNS,
-            Kind::Rel => &REL_COLUMNS,
-            Kind::Rela => &RELA_COLUMNS,
-            Kind::SectionNotesHeading => &SECTION_NOTES_HEADING_COLUMNS,
-            Kind::SegmentNotesHeading => &SEGMENT_NOTES_HEADING_COLUMNS,
-            Kind::BuildIdNote => &BUILD_ID_NOTE_COLUMNS,
-            Kind::AbiTagNote => &ABI_TAG_NOTE_COLUMNS,
-            Kind::Note => &NOTE_COLUMNS,
-            Kind::DefinedHeading => &DEFINED_HEADING_COLUMNS,
-            Kind::NeededHeading => &NEEDED_HEADING_COLUMNS,
-            Kind::Verdef => &VERDEF_COLUMNS,
-            Kind::Verdaux => &VERDAUX_COLUMNS,
-            Kind::Verneed => &VERNEED_COLUMNS,
-            Kind::Vernaux => &VERNAUX_COLUMNS,
-            Kind::BytesHeading => &BYTES_HEADING_COLUMNS,
-            Kind::StringsHeading => &STRINGS_HEADING_COLUMNS,
-            Kind::SectionData => &SECTION_DATA_COLUMNS,
-            Kind::SectionString => &SECTION_STRING_COLUMNS,
-            Kind::Mapping => &MAPPING_COLUMNS,
-            Kind::BuildId => &BUILD_ID_COLUMNS,
-            Kind::Inside => &INSIDE_COLUMNS,
-            Kind::PastEnd => &PAST_END_COLUMNS,
-            Kind::SoundFile => &SOUND_FILE_COLUMNS,
-            Kind::Program => &PROGRAM_COLUMNS,
-            Kind::Library => &LIBRARY_COLUMNS,
-            Kind::MissingLibrary => &MISSING_LIBRARY_COLUMNS,
-            Kind::Bound => &BOUND_COLUMNS,
-            Kind::BoundAddress => &BOUND_ADDRESS_COLUMNS,
-            Kind::Unbound => &UNBOUND_COLUMNS,
-            Kind::UnboundAddress => &UNBOUND_ADDRESS_COLUMNS,
-            Kind::SectionsHeading
-            | Kind::SegmentsHeading
-            | Kind::SymbolsHeading
-            | Kind::DynamicSymbolsHeading
-            | Kind::EntriesHeading
-            | Kind::VerdefEnd
-            | Kind::MappingsHeading
-            | Kind::Verdict
-            | Kind::SameAddress => &[],
+            Kind::FileHeading => FILE_HEADING,
+            Kind::NextFileHeading => NEXT_FILE_HEADING,
+            Kind::FileHeader => FILE_HEADER,
+            Kind::SectionsHeading => SECTIONS_HEADING,
+            Kind::Section => SECTION,
+            Kind::SegmentsHeading => SEGMENTS_HEADING,
+            Kind::Segment => SEGMENT,
+            Kind::SymbolsHeading => SYMBOLS_HEADING,
+            Kind::DynamicSymbolsHeading => DYNAMIC_SYMBOLS_HEADING,
+            Kind::Symbol => SYMBOL,
+            Kind::Symbol32 => SYMBOL_32,
+            Kind::Symbol64 => SYMBOL_64,
+            Kind::Undefined32 => UNDEFINED_32,
+            Kind::Undefined64 => UNDEFINED_64,
+            Kind::Export => EXPORT,
+            Kind::EntriesHeading => ENTRIES_HEADING,
+            Kind::Entry => ENTRY,
+            Kind::NamedEntry => NAMED_ENTRY,
+            Kind::Needed => NEEDED,
+            Kind::Soname => SONAME,
+            Kind::Rpath => RPATH,
+            Kind::Runpath => RUNPATH,
+            Kind::RelocationsHeading => RELOCATIONS_HEADING,
+            Kind::Rel => REL,
+            Kind::Rela => RELA,
+            Kind::SectionNotesHeading => SECTION_NOTES_HEADING,
+            Kind::SegmentNotesHeading => SEGMENT_NOTES_HEADING,
+            Kind::BuildIdNote => BUILD_ID_NOTE,
+            Kind::AbiTagNote => ABI_TAG_NOTE,
+            Kind::Note => NOTE,
+            Kind::DefinedHeading => DEFINED_HEADING,
+            Kind::NeededHeading => NEEDED_HEADING,
+            Kind::Verdef => VERDEF,
+            Kind::Verdaux => VERDAUX,
+            Kind::VerdefEnd => VERDEF_END,
+            Kind::Verneed => VERNEED,
+            Kind::Vernaux => VERNAUX,
+            Kind::BytesHeading => BYTES_HEADING,
+            Kind::StringsHeading => STRINGS_HEADING,
+            Kind::SectionData => SECTION_DATA,
+            Kind::SectionString => SECTION_STRING,
+            Kind::MappingsHeading => MAPPINGS_HEADING,
+            Kind::Mapping => MAPPING,
+            Kind::BuildId => BUILD_ID,
+            Kind::Inside => INSIDE,
+            Kind::PastEnd => PAST_END,
+            Kind::SoundFile => SOUND_FILE,
+            Kind::Verdict => VERDICT,
+            Kind::Program => PROGRAM,
+            Kind::Library => LIBRARY,
+            Kind::MissingLibrary => MISSING_LIBRARY,
+            Kind::Bound => BOUND,
+            Kind::BoundAddress => BOUND_ADDRESS,
+            Kind::Unbound => UNBOUND,
+            Kind::UnboundAddress => UNBOUND_ADDRESS,
+            Kind::SameAddress => SAME_ADDRESS,
         }
     }
 }
 
-pub const FILE_HEADING_ROW: &str = "%:\n";
+pub const FILE_HEADING: Layout = (None, "%:\n", &[Column(0, Text)]);
 
-pub static FILE_HEADING_COLUMNS: [Column; 1] = [Column(0, Shown::Text)];
+pub const NEXT_FILE_HEADING: Layout = (None, "\n%:\n", &[Column(0, Text)]);
 
-pub const NEXT_FILE_HEADING_ROW: &str = "\n%:\n";
-
-pub static NEXT_FILE_HEADING_COLUMNS: [Column; 1] = [Column(0, Shown::Text)];
-
-pub const FILE_HEADER_ROW: &str = "\
+pub const FILE_HEADER: Layout = (
+    Some("file_header"),
+    "\
 File header:
   class                ELF%
   byte order           % (%)
@@ -333,367 +219,342 @@ File header:
   program headers      % of % bytes, at offset %
   section headers      % of % bytes, at offset %
   names of sections    section %
-";
+",
+    &[
+        Column(1, Rest(8)),
+        Column(3, Name(0, 2)),
+        Column(2, Order),
+        Column(5, Name(0, 4)),
+        Column(6, Decimal(0)),
+        Column(8, Name(0, 7)),
+        Column(10, Name(0, 9)),
+        Column(11, Decimal(0)),
+        Column(12, Hexadecimal),
+        Column(15, Hexadecimal),
+        Column(16, Decimal(0)),
+        Column(18, Decimal(0)),
+        Column(17, Decimal(0)),
+        Column(13, Decimal(0)),
+        Column(20, Decimal(0)),
+        Column(19, Decimal(0)),
+        Column(14, Decimal(0)),
+        Column(21, Decimal(0)),
+    ],
+);
 
-pub static FILE_HEADER_COLUMNS: [Column; 18] = [
-    Column(1, Shown::Rest(8)),
-    Column(3, Shown::Name(0, 2)),
-    Column(2, Shown::Order),
-    Column(5, Shown::Name(0, 4)),
-    Column(6, Shown::Decimal(0)),
-    Column(8, Shown::Name(0, 7)),
-    Column(10, Shown::Name(0, 9)),
-    Column(11, Shown::Decimal(0)),
-    Column(12, Shown::Hexadecimal),
-    Column(15, Shown::Hexadecimal),
-    Column(16, Shown::Decimal(0)),
-    Column(18, Shown::Decimal(0)),
-    Column(17, Shown::Decimal(0)),
-    Column(13, Shown::Decimal(0)),
-    Column(20, Shown::Decimal(0)),
-    Column(19, Shown::Decimal(0)),
-    Column(14, Shown::Decimal(0)),
-    Column(21, Shown::Decimal(0)),
+pub const SECTIONS_HEADING: Layout = (
+    None,
+    "Sections:\n   nr type               address          offset   size     entsize link info align name, flags\n",
+    &[],
+);
+
+pub const SECTION: Layout = (
+    Some("section_header"),
+    "% % % % % % % % % % %\n",
+    &[
+        Column(0, Decimal(5)),
+        Column(4, Name(18, 3)),
+        Column(6, Digits16),
+        Column(7, Digits8),
+        Column(8, Digits8),
+        Column(12, Decimal(7)),
+        Column(9, Decimal(4)),
+        Column(10, Decimal(4)),
+        Column(11, Decimal(5)),
+        Column(2, Text),
+        Column(5, SectionFlags),
+    ],
+);
+
+pub const SEGMENTS_HEADING: Layout = (
+    None,
+    "Segments:\n   nr type               offset   address          physical address file size memory   flags align\n",
+    &[],
+);
+
+pub const SEGMENT: Layout = (
+    Some("program_header"),
+    "% % % % % %  % %   %\n",
+    &[
+        Column(0, Decimal(5)),
+        Column(2, Name(18, 1)),
+        Column(4, Digits8),
+        Column(5, Digits16),
+        Column(6, Digits16),
+        Column(7, Digits8),
+        Column(8, Digits8),
+        Column(3, SegmentFlags),
+        Column(9, Hexadecimal),
+    ],
+);
+
+pub const SYMBOLS_HEADING: Layout = (
+    None,
+    "Symbols:\n    nr value                size type          binding    visibility    section name\n",
+    &[],
+);
+
+pub const DYNAMIC_SYMBOLS_HEADING: Layout = (
+    None,
+    "Symbols for dynamic linking:\n    nr value                size type          binding    visibility    section name\n",
+    &[],
+);
+
+pub const SYMBOL: Layout = (
+    Some("symbol"),
+    "% % % % % % % %%\n",
+    &[
+        Column(1, Decimal(6)),
+        Column(14, Digits16),
+        Column(15, Decimal(8)),
+        Column(8, Name(13, 7)),
+        Column(6, Name(10, 5)),
+        Column(11, Name(13, 10)),
+        Column(13, Index(7, 12)),
+        Column(3, Text),
+        Column(16, Version(17)),
+    ],
+);
+
+pub const SYMBOL_32: Layout = (
+    Some("symbol"),
+    "% % %%\n",
+    &[
+        Column(14, Digits8),
+        Column(18, Character),
+        Column(3, Text),
+        Column(16, Version(17)),
+    ],
+);
+
+pub const SYMBOL_64: Layout = (
+    Some("symbol"),
+    "% % %%\n",
+    &[
+        Column(14, Digits16),
+        Column(18, Character),
+        Column(3, Text),
+        Column(16, Version(17)),
+    ],
+);
+
+const LETTER_COLUMNS: [Column; 3] = [
+    Column(18, Character),
+    Column(3, Text),
+    Column(16, Version(17)),
 ];
 
-pub const SECTIONS_HEADING_ROW: &str =
-    "Sections:\n   nr type               address          offset   size     entsize link info align name, flags\n";
+pub const UNDEFINED_32: Layout = (Some("symbol"), "         % %%\n", &LETTER_COLUMNS);
 
-pub const SECTION_ROW: &str = "% % % % % % % % % % %\n";
+pub const UNDEFINED_64: Layout = (Some("symbol"), "                 % %%\n", &LETTER_COLUMNS);
 
-pub static SECTION_COLUMNS: [Column; 11] = [
-    Column(0, Shown::Decimal(5)),
-    Column(4, Shown::Name(18, 3)),
-    Column(6, Shown::Digits16),
-    Column(7, Shown::Digits8),
-    Column(8, Shown::Digits8),
-    Column(12, Shown::Decimal(7)),
-    Column(9, Shown::Decimal(4)),
-    Column(10, Shown::Decimal(4)),
-    Column(11, Shown::Decimal(5)),
-    Column(2, Shown::Text),
-    Column(5, Shown::SectionFlags),
+pub const EXPORT: Layout = (
+    Some("symbol"),
+    "%%\n",
+    &[Column(3, Text), Column(16, Version(17))],
+);
+
+pub const ENTRIES_HEADING: Layout = (
+    None,
+    "Dynamic entries:\n   nr tag                  value, string\n",
+    &[],
+);
+
+pub const ENTRY: Layout = (
+    Some("dynamic"),
+    "% % %\n",
+    &[
+        Column(0, Decimal(5)),
+        Column(2, Name(20, 1)),
+        Column(3, Hexadecimal),
+    ],
+);
+
+pub const NAMED_ENTRY: Layout = (
+    Some("dynamic"),
+    "% % %  %\n",
+    &[
+        Column(0, Decimal(5)),
+        Column(2, Name(20, 1)),
+        Column(3, Hexadecimal),
+        Column(4, Text),
+    ],
+);
+
+pub const NEEDED: Layout = (Some("dynamic"), "needed  %\n", &[Column(4, Text)]);
+
+pub const SONAME: Layout = (Some("dynamic"), "soname  %\n", &[Column(4, Text)]);
+
+pub const RPATH: Layout = (Some("dynamic"), "rpath   %\n", &[Column(4, Text)]);
+
+pub const RUNPATH: Layout = (Some("dynamic"), "runpath %\n", &[Column(4, Text)]);
+
+const HEADING_COLUMNS: [Column; 2] = [Column(0, Decimal(0)), Column(1, Text)];
+
+pub const RELOCATIONS_HEADING: Layout = (
+    None,
+    "Relocations of section % (%):\n    nr offset             type symbol name, addend\n",
+    &HEADING_COLUMNS,
+);
+
+pub const REL: Layout = (
+    Some("relocation"),
+    "% % % % %\n",
+    &[
+        Column(1, Decimal(6)),
+        Column(2, Digits16),
+        Column(5, Decimal(6)),
+        Column(3, Decimal(6)),
+        Column(4, Text),
+    ],
+);
+
+pub const RELA: Layout = (
+    Some("relocation"),
+    "% % % % % %\n",
+    &[
+        Column(1, Decimal(6)),
+        Column(2, Digits16),
+        Column(5, Decimal(6)),
+        Column(3, Decimal(6)),
+        Column(4, Text),
+        Column(6, Signed),
+    ],
+);
+
+pub const SECTION_NOTES_HEADING: Layout = (None, "Notes of section % (%):\n", &HEADING_COLUMNS);
+
+pub const SEGMENT_NOTES_HEADING: Layout = (None, "Notes of segment %:\n", &[Column(0, Decimal(0))]);
+
+pub const BUILD_ID_NOTE: Layout = (Some("note"), "  GNU build id  %\n", &[Column(5, Pairs)]);
+
+pub const ABI_TAG_NOTE: Layout = (
+    Some("note"),
+    "  GNU ABI tag   % %.%.%\n",
+    &[
+        Column(6, Name(0, 5)),
+        Column(7, Decimal(0)),
+        Column(8, Decimal(0)),
+        Column(9, Decimal(0)),
+    ],
+);
+
+pub const NOTE: Layout = (
+    Some("note"),
+    "  % type %  %\n",
+    &[Column(4, Text), Column(2, Hexadecimal), Column(5, Pairs)],
+);
+
+pub const DEFINED_HEADING: Layout = (
+    None,
+    "Versions defined, of section % (%):\n",
+    &HEADING_COLUMNS,
+);
+
+pub const NEEDED_HEADING: Layout = (
+    None,
+    "Versions needed, of section % (%):\n",
+    &HEADING_COLUMNS,
+);
+
+pub const VERDEF: Layout = (
+    Some("verdef"),
+    "  % flags % ",
+    &[Column(2, Decimal(5)), Column(1, Hexadecimal)],
+);
+
+pub const VERDAUX: Layout = (Some("verdaux"), " %", &[Column(3, Text)]);
+
+pub const VERDEF_END: Layout = (None, "\n", &[]);
+
+pub const VERNEED: Layout = (Some("verneed"), "  of %\n", &[Column(3, Text)]);
+
+pub const VERNAUX: Layout = (
+    Some("vernaux"),
+    "  % flags %  %\n",
+    &[
+        Column(4, Decimal(5)),
+        Column(3, Hexadecimal),
+        Column(6, Text),
+    ],
+);
+
+pub const BYTES_HEADING: Layout = (None, "Bytes of section %:\n", &[Column(0, Text)]);
+
+pub const STRINGS_HEADING: Layout = (None, "Strings of section %:\n", &[Column(0, Text)]);
+
+pub const SECTION_DATA: Layout = (Some("section_data"), "%", &[Column(1, Dump)]);
+
+pub const SECTION_STRING: Layout = (
+    Some("section_string"),
+    "  [%]  %\n",
+    &[Column(1, Digits8), Column(2, Text)],
+);
+
+pub const MAPPINGS_HEADING: Layout = (
+    None,
+    "address            memory     bytes of the file      flags\n",
+    &[],
+);
+
+pub const MAPPING: Layout = (
+    Some("mapping"),
+    "0x% 0x% 0x% at 0x% %\n",
+    &[
+        Column(0, Digits16),
+        Column(1, Digits8),
+        Column(3, Digits8),
+        Column(2, Digits8),
+        Column(4, SegmentFlags),
+    ],
+);
+
+pub const BUILD_ID: Layout = (Some("build_id"), "%\n", &[Column(0, Pairs)]);
+
+const ADDRESS_COLUMNS: [Column; 3] = [
+    Column(0, Hexadecimal),
+    Column(2, Text),
+    Column(3, Hexadecimal),
 ];
 
-pub const SEGMENTS_HEADING_ROW: &str =
-    "Segments:\n   nr type               offset   address          physical address file size memory   flags align\n";
+pub const INSIDE: Layout = (Some("address"), "% %+%\n", &ADDRESS_COLUMNS);
 
-pub const SEGMENT_ROW: &str = "% % % % % %  % %   %\n";
+pub const PAST_END: Layout = (Some("address"), "% %+% past its end\n", &ADDRESS_COLUMNS);
 
-pub static SEGMENT_COLUMNS: [Column; 9] = [
-    Column(0, Shown::Decimal(5)),
-    Column(2, Shown::Name(18, 1)),
-    Column(4, Shown::Digits8),
-    Column(5, Shown::Digits16),
-    Column(6, Shown::Digits16),
-    Column(7, Shown::Digits8),
-    Column(8, Shown::Digits8),
-    Column(3, Shown::SegmentFlags),
-    Column(9, Shown::Hexadecimal),
+pub const SOUND_FILE: Layout = (None, "%: sound\n", &[Column(0, Text)]);
+
+pub const VERDICT: Layout = (Some("check"), "", &[]);
+
+pub const PROGRAM: Layout = (Some("object"), "%%\n", &[Column(0, Depth), Column(2, Text)]);
+
+pub const LIBRARY: Layout = (
+    Some("object"),
+    "%% => %\n",
+    &[Column(0, Depth), Column(1, Text), Column(2, Text)],
+);
+
+pub const MISSING_LIBRARY: Layout = (
+    Some("object"),
+    "%% => not found\n",
+    &[Column(0, Depth), Column(1, Text)],
+);
+
+const BOUND_COLUMNS: [Column; 5] = [
+    Column(2, Text),
+    Column(3, Version(5)),
+    Column(6, Text),
+    Column(2, Text),
+    Column(8, Version(9)),
 ];
 
-pub const SYMBOLS_HEADING_ROW: &str =
-    "Symbols:\n    nr value                size type          binding    visibility    section name\n";
+pub const BOUND: Layout = (Some("binding"), "%% => %: %%\n", &BOUND_COLUMNS);
 
-pub const DYNAMIC_SYMBOLS_HEADING_ROW: &str =
-    "Symbols for dynamic linking:\n    nr value                size type          binding    visibility    section name\n";
+pub const BOUND_ADDRESS: Layout = (Some("binding"), "%% => %: %% (address)\n", &BOUND_COLUMNS);
 
-pub const SYMBOL_ROW: &str = "% % % % % % % %%\n";
+const UNBOUND_COLUMNS: [Column; 3] = [Column(2, Text), Column(3, Version(5)), Column(5, Rest(0))];
 
-pub static SYMBOL_COLUMNS: [Column; 9] = [
-    Column(1, Shown::Decimal(6)),
-    Column(14, Shown::Digits16),
-    Column(15, Shown::Decimal(8)),
-    Column(8, Shown::Name(13, 7)),
-    Column(6, Shown::Name(10, 5)),
-    Column(11, Shown::Name(13, 10)),
-    Column(13, Shown::Index(7, 12)),
-    Column(3, Shown::Text),
-    Column(16, Shown::Version(17)),
-];
+pub const UNBOUND: Layout = (Some("binding"), "%% => %\n", &UNBOUND_COLUMNS);
 
-pub const SYMBOL_32_ROW: &str = "% % %%\n";
+pub const UNBOUND_ADDRESS: Layout = (Some("binding"), "%% => % (address)\n", &UNBOUND_COLUMNS);
 
-pub static SYMBOL_32_COLUMNS: [Column; 4] = [
-    Column(14, Shown::Digits8),
-    Column(18, Shown::Character),
-    Column(3, Shown::Text),
-    Column(16, Shown::Version(17)),
-];
-
-pub const SYMBOL_64_ROW: &str = "% % %%\n";
-
-pub static SYMBOL_64_COLUMNS: [Column; 4] = [
-    Column(14, Shown::Digits16),
-    Column(18, Shown::Character),
-    Column(3, Shown::Text),
-    Column(16, Shown::Version(17)),
-];
-
-pub const UNDEFINED_32_ROW: &str = "         % %%\n";
-
-pub static UNDEFINED_32_COLUMNS: [Column; 3] = [
-    Column(18, Shown::Character),
-    Column(3, Shown::Text),
-    Column(16, Shown::Version(17)),
-];
-
-pub const UNDEFINED_64_ROW: &str = "                 % %%\n";
-
-pub static UNDEFINED_64_COLUMNS: [Column; 3] = [
-    Column(18, Shown::Character),
-    Column(3, Shown::Text),
-    Column(16, Shown::Version(17)),
-];
-
-pub const EXPORT_ROW: &str = "%%\n";
-
-pub static EXPORT_COLUMNS: [Column; 2] = [Column(3, Shown::Text), Column(16, Shown::Version(17))];
-
-pub const ENTRIES_HEADING_ROW: &str =
-    "Dynamic entries:\n   nr tag                  value, string\n";
-
-pub const ENTRY_ROW: &str = "% % %\n";
-
-pub static ENTRY_COLUMNS: [Column; 3] = [
-    Column(0, Shown::Decimal(5)),
-    Column(2, Shown::Name(20, 1)),
-    Column(3, Shown::Hexadecimal),
-];
-
-pub const NAMED_ENTRY_ROW: &str = "% % %  %\n";
-
-pub static NAMED_ENTRY_COLUMNS: [Column; 4] = [
-    Column(0, Shown::Decimal(5)),
-    Column(2, Shown::Name(20, 1)),
-    Column(3, Shown::Hexadecimal),
-    Column(4, Shown::Text),
-];
-
-pub const NEEDED_ROW: &str = "needed  %\n";
-
-pub static NEEDED_COLUMNS: [Column; 1] = [Column(4, Shown::Text)];
-
-pub const SONAME_ROW: &str = "soname  %\n";
-
-pub static SONAME_COLUMNS: [Column; 1] = [Column(4, Shown::Text)];
-
-pub const RPATH_ROW: &str = "rpath   %\n";
-
-pub static RPATH_COLUMNS: [Column; 1] = [Column(4, Shown::Text)];
-
-pub const RUNPATH_ROW: &str = "runpath %\n";
-
-pub static RUNPATH_COLUMNS: [Column; 1] = [Column(4, Shown::Text)];
-
-pub const RELOCATIONS_HEADING_ROW: &str =
-    "Relocations of section % (%):\n    nr offset             type symbol name, addend\n";
-
-pub static RELOCATIONS_HEADING_COLUMNS: [Column; 2] = [
-    Column(0, Shown::Decimal(0)),
-    Column(1, Shown::Text),
-];
-
-pub const REL_ROW: &str = "% % % % %\n";
-
-pub static REL_COLUMNS: [Column; 5] = [
-    Column(1, Shown::Decimal(6)),
-    Column(2, Shown::Digits16),
-    Column(5, Shown::Decimal(6)),
-    Column(3, Shown::Decimal(6)),
-    Column(4, Shown::Text),
-];
-
-pub const RELA_ROW: &str = "% % % % % %\n";
-
-pub static RELA_COLUMNS: [Column; 6] = [
-    Column(1, Shown::Decimal(6)),
-    Column(2, Shown::Digits16),
-    Column(5, Shown::Decimal(6)),
-    Column(3, Shown::Decimal(6)),
-    Column(4, Shown::Text),
-    Column(6, Shown::Signed),
-];
-
-pub const SECTION_NOTES_HEADING_ROW: &str = "Notes of section % (%):\n";
-
-pub static SECTION_NOTES_HEADING_COLUMNS: [Column; 2] = [
-    Column(0, Shown::Decimal(0)),
-    Column(1, Shown::Text),
-];
-
-pub const SEGMENT_NOTES_HEADING_ROW: &str = "Notes of segment %:\n";
-
-pub static SEGMENT_NOTES_HEADING_COLUMNS: [Column; 1] = [Column(0, Shown::Decimal(0))];
-
-pub const BUILD_ID_NOTE_ROW: &str = "  GNU build id  %\n";
-
-pub static BUILD_ID_NOTE_COLUMNS: [Column; 1] = [Column(5, Shown::Pairs)];
-
-pub const ABI_TAG_NOTE_ROW: &str = "  GNU ABI tag   % %.%.%\n";
-
-pub static ABI_TAG_NOTE_COLUMNS: [Column; 4] = [
-    Column(6, Shown::Name(0, 5)),
-    Column(7, Shown::Decimal(0)),
-    Column(8, Shown::Decimal(0)),
-    Column(9, Shown::Decimal(0)),
-];
-
-pub const NOTE_ROW: &str = "  % type %  %\n";
-
-pub static NOTE_COLUMNS: [Column; 3] = [
-    Column(4, Shown::Text),
-    Column(2, Shown::Hexadecimal),
-    Column(5, Shown::Pairs),
-];
-
-pub const DEFINED_HEADING_ROW: &str = "Versions defined, of section % (%):\n";
-
-pub static DEFINED_HEADING_COLUMNS: [Column; 2] = [
-    Column(0, Shown::Decimal(0)),
-    Column(1, Shown::Text),
-];
-
-pub const NEEDED_HEADING_ROW: &str = "Versions needed, of section % (%):\n";
-
-pub static NEEDED_HEADING_COLUMNS: [Column; 2] = [
-    Column(0, Shown::Decimal(0)),
-    Column(1, Shown::Text),
-];
-
-pub const VERDEF_ROW: &str = "  % flags % ";
-
-pub static VERDEF_COLUMNS: [Column; 2] = [
-    Column(2, Shown::Decimal(5)),
-    Column(1, Shown::Hexadecimal),
-];
-
-pub const VERDAUX_ROW: &str = " %";
-
-pub static VERDAUX_COLUMNS: [Column; 1] = [Column(3, Shown::Text)];
-
-pub const VERDEF_END_ROW: &str = "\n";
-
-pub const VERNEED_ROW: &str = "  of %\n";
-
-pub static VERNEED_COLUMNS: [Column; 1] = [Column(3, Shown::Text)];
-
-pub const VERNAUX_ROW: &str = "  % flags %  %\n";
-
-pub static VERNAUX_COLUMNS: [Column; 3] = [
-    Column(4, Shown::Decimal(5)),
-    Column(3, Shown::Hexadecimal),
-    Column(6, Shown::Text),
-];
-
-pub const BYTES_HEADING_ROW: &str = "Bytes of section %:\n";
-
-pub static BYTES_HEADING_COLUMNS: [Column; 1] = [Column(0, Shown::Text)];
-
-pub const STRINGS_HEADING_ROW: &str = "Strings of section %:\n";
-
-pub static STRINGS_HEADING_COLUMNS: [Column; 1] = [Column(0, Shown::Text)];
-
-pub const SECTION_DATA_ROW: &str = "%";
-
-pub static SECTION_DATA_COLUMNS: [Column; 1] = [Column(1, Shown::Dump)];
-
-pub const SECTION_STRING_ROW: &str = "  [%]  %\n";
-
-pub static SECTION_STRING_COLUMNS: [Column; 2] = [
-    Column(1, Shown::Digits8),
-    Column(2, Shown::Text),
-];
-
-pub const MAPPINGS_HEADING_ROW: &str =
-    "address            memory     bytes of the file      flags\n";
-
-pub const MAPPING_ROW: &str = "0x% 0x% 0x% at 0x% %\n";
-
-pub static MAPPING_COLUMNS: [Column; 5] = [
-    Column(0, Shown::Digits16),
-    Column(1, Shown::Digits8),
-    Column(3, Shown::Digits8),
-    Column(2, Shown::Digits8),
-    Column(4, Shown::SegmentFlags),
-];
-
-pub const BUILD_ID_ROW: &str = "%\n";
-
-pub static BUILD_ID_COLUMNS: [Column; 1] = [Column(0, Shown::Pairs)];
-
-pub const INSIDE_ROW: &str = "% %+%\n";
-
-pub static INSIDE_COLUMNS: [Column; 3] = [
-    Column(0, Shown::Hexadecimal),
-    Column(2, Shown::Text),
-    Column(3, Shown::Hexadecimal),
-];
-
-pub const PAST_END_ROW: &str = "% %+% past its end\n";
-
-pub static PAST_END_COLUMNS: [Column; 3] = [
-    Column(0, Shown::Hexadecimal),
-    Column(2, Shown::Text),
-    Column(3, Shown::Hexadecimal),
-];
-
-pub const SOUND_FILE_ROW: &str = "%: sound\n";
-
-pub static SOUND_FILE_COLUMNS: [Column; 1] = [Column(0, Shown::Text)];
-
-pub const VERDICT_ROW: &str = "";
-
-pub const PROGRAM_ROW: &str = "%%\n";
-
-pub static PROGRAM_COLUMNS: [Column; 2] = [Column(0, Shown::Depth), Column(2, Shown::Text)];
-
-pub const LIBRARY_ROW: &str = "%% => %\n";
-
-pub static LIBRARY_COLUMNS: [Column; 3] = [
-    Column(0, Shown::Depth),
-    Column(1, Shown::Text),
-    Column(2, Shown::Text),
-];
-
-pub const MISSING_LIBRARY_ROW: &str = "%% => not found\n";
-
-pub static MISSING_LIBRARY_COLUMNS: [Column; 2] = [Column(0, Shown::Depth), Column(1, Shown::Text)];
-
-pub const BOUND_ROW: &str = "%% => %: %%\n";
-
-pub static BOUND_COLUMNS: [Column; 5] = [
-    Column(2, Shown::Text),
-    Column(3, Shown::Version(5)),
-    Column(6, Shown::Text),
-    Column(2, Shown::Text),
-    Column(8, Shown::Version(9)),
-];
-
-pub const BOUND_ADDRESS_ROW: &str = "%% => %: %% (address)\n";
-
-pub static BOUND_ADDRESS_COLUMNS: [Column; 5] = [
-    Column(2, Shown::Text),
-    Column(3, Shown::Version(5)),
-    Column(6, Shown::Text),
-    Column(2, Shown::Text),
-    Column(8, Shown::Version(9)),
-];
-
-pub const UNBOUND_ROW: &str = "%% => %\n";
-
-pub static UNBOUND_COLUMNS: [Column; 3] = [
-    Column(2, Shown::Text),
-    Column(3, Shown::Version(5)),
-    Column(5, Shown::Rest(0)),
-];
-
-pub const UNBOUND_ADDRESS_ROW: &str = "%% => % (address)\n";
-
-pub static UNBOUND_ADDRESS_COLUMNS: [Column; 3] = [
-    Column(2, Shown::Text),
-    Column(3, Shown::Version(5)),
-    Column(5, Shown::Rest(0)),
-];
-
-pub const SAME_ADDRESS_ROW: &str = "";
+pub const SAME_ADDRESS: Layout = (Some("binding"), "", &[]);

@@ -30,18 +30,27 @@ pub(crate) enum Note<'a> {
 impl<W> Log<W> {
     ghost use Rattle.nugwier_report.specs.Noted.{noted};
 
-    /// Nothing was said yet.
+    // A log of this content, which the proof of the caller picks from what is passed.
     #[inline(always)]
-    pub(crate) fn new(_start: &W) -> Log<W>
-        ensures { (result.start ≡ _start.now) × (result.said ≡ []) }
+    fn picked<A>(_from: &A, _note: &Note<'_>) -> Log<W>
+        ghost log: { record { start : W; said : List Said } }
+        ensures { (result.start ≡ log.start) × (result.said ≡ log.said) }
     {
         Log { of: PhantomData }
     }
 
+    /// Nothing was said yet.
     #[inline(always)]
-    pub(crate) fn then(&self, _note: &Note<'_>) -> Log<W>
-        ensures { (result.start ≡ self.now.start) × (result.said ≡ self.now.said ++ noted _note.now ∷ []) }
+    pub(crate) fn new(start: &W) -> Log<W>
+        ensures { (result.start ≡ start.now) × (result.said ≡ []) }
     {
-        Log { of: PhantomData }
+        Log::picked(start, &Note::States(Kind::FileHeading, &[]))
+    }
+
+    #[inline(always)]
+    pub(crate) fn then(&self, note: &Note<'_>) -> Log<W>
+        ensures { (result.start ≡ self.now.start) × (result.said ≡ self.now.said ++ noted note.now ∷ []) }
+    {
+        Log::picked(self, note)
     }
 }

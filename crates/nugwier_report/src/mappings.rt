@@ -1,9 +1,7 @@
 //! What is said of the memory that a loader maps.
-ghost use Rattle.std.specs.Prelude.{◌≡◌};
-ghost use Rattle.nugwier_report.specs.Mappings.{mapping_members, mapping_said};
-ghost use Rattle.nugwier_report.specs.Noted.{members_said};
+ghost use Rattle.nugwier_report.specs.Mappings.{mapping_said};
 
-use crate::json::{Member, Value};
+use crate::json::Value;
 use crate::kind::Kind;
 use crate::problem::Stop;
 use crate::report::Report;
@@ -12,7 +10,7 @@ use elf_tools::load_plan::Mapping;
 use std::io::Write;
 
 /// A mapping.
-#[derive(Debug, Clone, Copy)]
+#[derive(Clone, Copy)]
 pub struct MappingRow;
 
 impl Row for MappingRow {
@@ -26,25 +24,13 @@ impl Row for MappingRow {
         mapping: &Mapping,
         report: &mut Report<'_, W, V>,
     ) -> Result<(), Stop> {
-        report.state(Kind::Mapping, &mapping_members(mapping))
+        let members = [
+            ("p_vaddr", Value::Number(mapping.address)),
+            ("p_memsz", Value::Number(mapping.memory_size)),
+            ("p_offset", Value::Number(mapping.offset)),
+            ("p_filesz", Value::Number(mapping.file_size)),
+            ("p_flags", Value::Number(mapping.flags as u64)),
+        ];
+        report.state(Kind::Mapping, &members)
     }
-}
-
-fn mapping_members(mapping: &Mapping) -> [Member<'static>; 5]
-    ensures { members_said result ≡ mapping_members mapping.now }
-{
-    let Mapping {
-        address,
-        memory_size,
-        offset,
-        file_size,
-        flags,
-    } = *mapping;
-    [
-        ("p_vaddr", Value::Number(address)),
-        ("p_memsz", Value::Number(memory_size)),
-        ("p_offset", Value::Number(offset)),
-        ("p_filesz", Value::Number(file_size)),
-        ("p_flags", Value::Number(flags as u64)),
-    ]
 }

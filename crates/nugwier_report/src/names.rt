@@ -7,7 +7,7 @@ use elf_parts::section::SectionHeader;
 use elf_parts::string_table::TerminatedStrings;
 
 /// The sections of a file, and their names, if these are known.
-#[derive(Debug, Drop)]
+#[derive(Drop)]
 pub struct Labels<'a> {
     pub sections: &'a [SectionHeader],
     pub names: Option<TerminatedStrings<'a>>,

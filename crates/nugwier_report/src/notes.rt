@@ -1,9 +1,8 @@
 //! What is said of notes.
 ghost use Rattle.std.specs.Prelude.{◌≡◌, OnOk};
-ghost use Rattle.std.specs.Option.{option_copied};
 ghost use Rattle.elf_parts.specs.Note.{AbiTag, note_view, notes_left};
 ghost use Rattle.nugwier_report.specs.Noted.{members_said};
-ghost use Rattle.nugwier_report.specs.Notes.{abi_tag_members, build_id_members, note_said, notes_said, os_name};
+ghost use Rattle.nugwier_report.specs.Notes.{abi_tag_members, build_id_members, note_said, notes_said};
 ghost use Rattle.nugwier_report.specs.Notes.{other_members, without_nul};
 ghost use Rattle.nugwier_report.specs.Said.{saying};
 
@@ -78,31 +77,21 @@ fn say_abi_tag<W: Write, V: Write>(
 fn abi_tag_members(part: Part, number: u64, tag: &NoteGnuAbiTag) -> [Member<'static>; 10]
     ensures { members_said result ≡ abi_tag_members part number tag.now }
 {
-    let NoteGnuAbiTag {
-        os,
-        major,
-        minor,
-        subminor,
-    } = *tag;
     [
         part_member(part),
         ("index", Value::Number(number)),
         ("n_type", Value::Number(abi::NT_GNU_ABI_TAG)),
         ("n_type_name", Value::Word(Some("NT_GNU_ABI_TAG"))),
         ("name", Value::Word(Some("GNU"))),
-        ("os", Value::Number(os as u64)),
-        ("os_name", Value::Word(os_name(os))),
-        ("major", Value::Number(major as u64)),
-        ("minor", Value::Number(minor as u64)),
-        ("subminor", Value::Number(subminor as u64)),
+        ("os", Value::Number(tag.os as u64)),
+        (
+            "os_name",
+            Value::Word(to_str::note_abi_tag_os_to_str(tag.os)),
+        ),
+        ("major", Value::Number(tag.major as u64)),
+        ("minor", Value::Number(tag.minor as u64)),
+        ("subminor", Value::Number(tag.subminor as u64)),
     ]
-}
-
-#[tactic(auto, unfolding(crate::specs::Notes::os_name))]
-fn os_name(os: u32) -> Option<&'static str>
-    ensures { option_copied result ≡ os_name os }
-{
-    to_str::note_abi_tag_os_to_str(os)
 }
 
 fn build_id_members<'a>(part: Part, number: u64, id: &'a [u8]) -> [Member<'a>; 6]

@@ -1,18 +1,17 @@
 //! What is said of the objects of a program.
 ghost use Rattle.std.specs.Prelude.{◌≡◌, OnOk};
 ghost use Rattle.std.specs.Option.{option_copied};
-ghost use Rattle.nugwier_report.specs.Noted.{members_said};
-ghost use Rattle.nugwier_report.specs.Objects.{listed_view, object_kind, object_members, object_said};
+ghost use Rattle.nugwier_report.specs.Objects.{listed_view, object_kind, object_said};
 ghost use Rattle.nugwier_report.specs.Said.{saying};
 
-use crate::json::{Member, Value};
+use crate::json::Value;
 use crate::kind::Kind;
 use crate::problem::Stop;
 use crate::report::Report;
 use std::io::Write;
 
 /// The program, a library that it loads, or one that was not found.
-#[derive(Debug, Clone, Copy)]
+#[derive(Clone, Copy)]
 pub struct ListedObject<'a> {
     /// The number of its loaders: the object that needed it first, the one that needed that one first, and so on.
     pub depth: usize,
@@ -24,37 +23,27 @@ pub struct ListedObject<'a> {
     pub loader: &'a [u8],
 }
 
-impl<'a> ListedObject<'a> {
+impl ListedObject<'_> {
     /// Says it of the object. The only error is that of the writer.
     pub fn say<W: Write, V: Write>(&self, report: &mut Report<'_, W, V>) -> Result<(), Stop>
         ensures { OnOk result (report.new ≡ saying report.old (object_said (listed_view self.now))) }
     {
-        report.state(self.kind(), &self.members())
+        let members = [
+            ("depth", Value::Number(self.depth as u64)),
+            ("name", Value::Text(Some(self.name))),
+            ("path", Value::Text(self.path)),
+            ("loader", Value::Text(Some(self.loader))),
+        ];
+        report.state(self.kind(), &members)
     }
 
     fn kind(&self) -> Kind
         ensures { result ≡ object_kind self.now.depth (option_copied self.now.path) }
     {
         match self.path {
-            Some(_) => {
-                if self.depth == 0 {
-                    Kind::Program
-                } else {
-                    Kind::Library
-                }
-            }
+            Some(_) if self.depth == 0 => Kind::Program,
+            Some(_) => Kind::Library,
             None => Kind::MissingLibrary,
         }
-    }
-
-    fn members(&self) -> [Member<'a>; 4]
-        ensures { members_said result ≡ object_members (listed_view self.now) }
-    {
-        [
-            ("depth", Value::Number(self.depth as u64)),
-            ("name", Value::Text(Some(self.name))),
-            ("path", Value::Text(self.path)),
-            ("loader", Value::Text(Some(self.loader))),
-        ]
     }
 }

@@ -1,20 +1,21 @@
 //! What is wrong in a file, and where.
 ghost use Rattle.std.specs.Prelude.{◌≡◌};
+ghost use Rattle.nugwier_report.specs.Said.{whole};
 ghost use Rattle.nugwier_report.specs.declared.problem.Stop.TheVariants.{Memory as IsMemory, Write as IsWrite};
 
 use crate::escape::Escaped;
 use crate::quoted::{NamesFault, Quoted, QuotedSymbol, UnknownBinding};
-use elf_binding::resolve::ObjectFault;
+use elf_check::faults::{FileFault, SectionFault};
+use elf_linking::bindings::uses::UsesError;
+use elf_linking::resolve::ObjectFault;
 use elf_parts::parse::ParseError;
-use elf_tools::bindings::uses::UsesError;
 use elf_tools::load_plan::PlanError;
-use elf_whole::faults::{FileFault, SectionFault};
 use std::alloc::{AllocError, AllocFailed};
 use std::{fmt, io};
 use thiserror::Error;
 
 /// A part of a file. Sections and segments are counted from 0.
-#[derive(Debug, Clone, Copy)]
+#[derive(Clone, Copy)]
 pub enum Part {
     /// The file as a whole. It has no text of its own, since the file's name comes before it.
     File,
@@ -39,10 +40,26 @@ pub enum Part {
     LoadPlan,
 }
 
-/// What of a part. Each kind of item is counted from 0.
-#[derive(Debug, Clone, Copy)]
+impl Part {
+    /// Returns the place of the whole part.
+    pub fn whole(self) -> Place
+        ensures { result ≡ whole self }
+    {
+        self.item(Item::Whole)
+    }
+
+    /// Returns the place of an item of the part.
+    pub fn item(self, item: Item) -> Place
+        ensures { result ≡ record { part = self; item = item } }
+    {
+        Place { part: self, item }
+    }
+}
+
+/// An item of a part. Each kind of item is counted from 0.
+#[derive(Clone, Copy)]
 pub enum Item {
-    /// All of it.
+    /// The whole part.
     Whole,
     /// Its name.
     Name,
@@ -54,12 +71,12 @@ pub enum Item {
     EntryName(u64),
     /// The symbol of a relocation, or its name.
     RelocationSymbol(u64),
-    /// The name of the version of this index; of index 0 the name of a file that versions are needed of.
+    /// The name of the version of this index. For index 0 the name of a file from which versions are needed.
     VersionName(u64),
 }
 
 /// A place in a file.
-#[derive(Debug, Clone, Copy)]
+#[derive(Clone, Copy)]
 pub struct Place {
     pub part: Part,
     pub item: Item,
@@ -74,7 +91,7 @@ pub enum Fault<'a> {
     /// The error of the system.
     #[error("{0}")]
     System(io::Error),
-    /// The file has none.
+    /// The file has no such part.
     #[error("the file has none")]
     Missing,
     /// No entry gives the address of the strings.

@@ -1,9 +1,9 @@
-//! What a problem tells of a file. Contracts see its value, not where it lies.
+//! What a problem tells of a file. Contracts see the values, not the references.
 ghost use Rattle.std.specs.Prelude.{◌≡◌};
 
 use crate::escape::Escaped;
-use elf_tools::bindings::kinds::SymbolFault;
-use elf_tools::needed::NamesError;
+use elf_linking::bindings::kinds::SymbolFault;
+use elf_linking::needed::NamesError;
 use std::fmt;
 use std::marker::Model;
 
@@ -45,7 +45,7 @@ pub struct NamesFault<'a> {
 }
 
 impl<'a> Model for NamesFault<'a> {
-    ghost use Rattle.elf_tools.specs.declared.needed.NamesError.{NamesError};
+    ghost use Rattle.elf_linking.specs.declared.needed.NamesError.{NamesError};
 
     ghost Value = { NamesError };
 
@@ -74,7 +74,7 @@ pub struct UnknownBinding<'a> {
 }
 
 impl<'a> Model for UnknownBinding<'a> {
-    ghost use Rattle.elf_tools.specs.declared.bindings.kinds.SymbolFault.{SymbolFault};
+    ghost use Rattle.elf_linking.specs.declared.bindings.kinds.SymbolFault.{SymbolFault};
 
     ghost Value = { SymbolFault };
 

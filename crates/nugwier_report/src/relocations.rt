@@ -12,7 +12,7 @@ ghost use Rattle.nugwier_report.specs.Said.{nothing, saying, signed};
 
 use crate::json::{Member, Value};
 use crate::kind::Kind;
-use crate::problem::{Item, Part, Place, Stop};
+use crate::problem::{Item, Part, Stop};
 use crate::report::Report;
 use crate::rows::Row;
 use elf_parts::endian::EndianParse;
@@ -100,10 +100,7 @@ fn symbol_name<'a, E: EndianParse, W: Write, V: Write>(
     ensures wrong { OnOk result (report.new ≡ saying report.old
         (symbol_unread section number (name_used (option_map symbols_view symbols.now) symbol))) }
 {
-    let place = Place {
-        part: Part::Section(section),
-        item: Item::RelocationSymbol(number),
-    };
+    let place = Part::Section(section).item(Item::RelocationSymbol(number));
     report.readable(place, name_used(symbols, symbol))
 }
 

@@ -2,11 +2,10 @@
 ghost use Rattle.std.specs.Prelude.{◌≡◌, ◌∷◌, [], ◌++◌, false, true, IfOk, OnOk, List};
 ghost use Rattle.std.specs.Io.KnownBytes.{Appends};
 ghost use Rattle.std.specs.Result.{result_ok};
-ghost use Rattle.nugwier_report.specs.Json.{object};
-ghost use Rattle.nugwier_report.specs.Kinds.{kind_name};
+ghost use Rattle.nugwier_report.specs.Kinds.{layout_of};
 ghost use Rattle.nugwier_report.specs.Noted.{members_said, noted};
 ghost use Rattle.nugwier_report.specs.Said.{all_right, is_right_one, saying, states, unread, wrong};
-ghost use Rattle.nugwier_report.specs.Told.{IsTold, members_text, object_if, told_line};
+ghost use Rattle.nugwier_report.specs.Told.{IsTold, object_if, told_line};
 
 use crate::escape::Escaped;
 use crate::json::{Member, write_object};
@@ -152,7 +151,10 @@ fn write_note<W: Write>(path: &str, is_json: bool, note: &Note<'_>, out: &mut W)
 {
     match *note {
         Note::States(kind, members) if is_json => write_named(path, kind, members, out),
-        Note::States(kind, members) => write_row(kind.row(), kind.columns(), members, out),
+        Note::States(kind, members) => {
+            let (_, row, columns) = kind.layout();
+            write_row(row, columns, members, out)
+        }
         Note::Wrong(_, _) => Ok(()),
     }
 }
@@ -165,24 +167,12 @@ fn write_named<W: Write>(
     out: &mut W,
 ) -> io::Result<()>
     ensures { OnOk result (Appends (W.contents out.old) (W.contents out.new)
-        (object_if path.now (kind_name kind) (members_said members.now))) }
+        (object_if path.now (layout_of kind).name (members_said members.now))) }
 {
-    match kind.name() {
-        Some(name) => write_members(path, name, members, out),
+    match kind.layout().0 {
+        Some(name) => write_object(path, name, members, out),
         None => Ok(()),
     }
-}
-
-fn write_members<W: Write>(
-    path: &str,
-    name: &str,
-    members: &[Member<'_>],
-    out: &mut W,
-) -> io::Result<()>
-    ensures { OnOk result (Appends (W.contents out.old) (W.contents out.new)
-        (object path.now name.now (members_text (members_said members.now)))) }
-{
-    write_object(path, name, members, out)
 }
 
 // Tells what is wrong, a line with the path of the file.

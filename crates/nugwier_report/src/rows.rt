@@ -27,8 +27,8 @@ pub trait Row {
         ensures { OnOk result (report.new ≡ saying report.old (said self.now number item.now)) };
 }
 
-/// Says it of the items of an iterator.
-pub fn say_items<R: Row, I: Iterator<Item = R::Item> + Drop, W: Write, V: Write>(
+// Says it of the items of an iterator.
+pub(crate) fn say_items<R: Row, I: Iterator<Item = R::Item> + Drop, W: Write, V: Write>(
     items: I,
     row: &R,
     report: &mut Report<'_, W, V>,

@@ -3,11 +3,11 @@ ghost use Rattle.std.specs.Prelude.{◌≡◌, IfOk, OnOk};
 ghost use Rattle.std.specs.Option.{option_copied};
 ghost use Rattle.nugwier_report.specs.Noted.{members_said};
 ghost use Rattle.nugwier_report.specs.Said.{saying};
-ghost use Rattle.nugwier_report.specs.Sections.{name_read, name_unread, section_members, section_said, sh_type_name};
+ghost use Rattle.nugwier_report.specs.Sections.{name_read, name_unread, section_members, section_said};
 
 use crate::json::{Member, Value};
 use crate::kind::Kind;
-use crate::problem::{Item, Part, Place, Stop};
+use crate::problem::{Item, Part, Stop};
 use crate::report::Report;
 use crate::rows::Row;
 use elf_abi::to_str;
@@ -50,10 +50,7 @@ fn section_name<'a, W: Write, V: Write>(
     let Some(names) = names else {
         return Ok(Some(&[]));
     };
-    let place = Place {
-        part: Part::Section(number),
-        item: Item::Name,
-    };
+    let place = Part::Section(number).item(Item::Name);
     report.readable(place, names.get_raw(section.sh_name as usize))
 }
 
@@ -64,38 +61,22 @@ fn section_members<'a>(
 ) -> [Member<'a>; 13]
     ensures { members_said result ≡ section_members number section.now (option_copied name.entry) }
 {
-    let SectionHeader {
-        sh_name,
-        sh_type,
-        sh_flags,
-        sh_addr,
-        sh_offset,
-        sh_size,
-        sh_link,
-        sh_info,
-        sh_addralign,
-        sh_entsize,
-    } = *section;
     [
         ("index", Value::Number(number)),
-        ("sh_name", Value::Number(sh_name as u64)),
+        ("sh_name", Value::Number(section.sh_name as u64)),
         ("name", Value::Text(name)),
-        ("sh_type", Value::Number(sh_type as u64)),
-        ("sh_type_name", Value::Word(type_name(sh_type))),
-        ("sh_flags", Value::Number(sh_flags)),
-        ("sh_addr", Value::Number(sh_addr)),
-        ("sh_offset", Value::Number(sh_offset)),
-        ("sh_size", Value::Number(sh_size)),
-        ("sh_link", Value::Number(sh_link as u64)),
-        ("sh_info", Value::Number(sh_info as u64)),
-        ("sh_addralign", Value::Number(sh_addralign)),
-        ("sh_entsize", Value::Number(sh_entsize)),
+        ("sh_type", Value::Number(section.sh_type as u64)),
+        (
+            "sh_type_name",
+            Value::Word(to_str::sh_type_to_str(section.sh_type)),
+        ),
+        ("sh_flags", Value::Number(section.sh_flags)),
+        ("sh_addr", Value::Number(section.sh_addr)),
+        ("sh_offset", Value::Number(section.sh_offset)),
+        ("sh_size", Value::Number(section.sh_size)),
+        ("sh_link", Value::Number(section.sh_link as u64)),
+        ("sh_info", Value::Number(section.sh_info as u64)),
+        ("sh_addralign", Value::Number(section.sh_addralign)),
+        ("sh_entsize", Value::Number(section.sh_entsize)),
     ]
-}
-
-#[tactic(auto, unfolding(crate::specs::Sections::sh_type_name))]
-fn type_name(sh_type: u32) -> Option<&'static str>
-    ensures { option_copied result ≡ sh_type_name sh_type }
-{
-    to_str::sh_type_to_str(sh_type)
 }

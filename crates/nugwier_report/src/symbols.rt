@@ -6,17 +6,15 @@ ghost use Rattle.elf_records.specs.StringTable.{string_at};
 ghost use Rattle.nugwier_report.specs.Noted.{content_of, members_said};
 ghost use Rattle.nugwier_report.specs.Said.{saying, unread};
 ghost use Rattle.nugwier_report.specs.Symbols.{form_view, is_export, is_listed, letter_in, letter_kind, letter_of};
-ghost use Rattle.nugwier_report.specs.Symbols.{section_letter, shown_letter, st_bind_name, st_shndx_name, st_type_name};
-ghost use Rattle.nugwier_report.specs.Symbols.{st_visibility_name, symbol_kind, symbol_members, symbol_said};
-ghost use Rattle.nugwier_report.specs.Symbols.{table_name};
-ghost use Rattle.nugwier_report.specs.Symbols.{undefined_letter, version_default, version_known, version_name};
-ghost use Rattle.nugwier_report.specs.Symbols.{version_read, weak_letter};
-ghost use Rattle.nugwier_report.specs.Versions.{version_view};
+ghost use Rattle.nugwier_report.specs.Symbols.{section_letter, shown_letter, st_shndx_name, symbol_kind, symbol_members};
+ghost use Rattle.nugwier_report.specs.Symbols.{symbol_said, table_name, undefined_letter, version_known, version_read};
+ghost use Rattle.nugwier_report.specs.Symbols.{weak_letter};
+ghost use Rattle.nugwier_report.specs.Versions.{version_default, version_name, version_view};
 ghost use Rattle.nugwier_report.specs.declared.problem.Item.TheVariants.{SymbolName, SymbolVersion};
 
 use crate::json::{Member, Value};
 use crate::kind::Kind;
-use crate::problem::{Fault, Item, Part, Place, Stop};
+use crate::problem::{Fault, Item, Part, Stop};
 use crate::report::Report;
 use crate::rows::Row;
 use crate::versions::{ShownVersion, shown_version};
@@ -55,10 +53,7 @@ impl<'a, E: EndianParse, V: SymbolVersions<E> + Drop> Names<'a, E, V> {
             (unread (record { part = self.now.part; item = SymbolName number })
             (string_at self.now.strings symbol.now.st_name))) }
     {
-        let place = Place {
-            part: self.part,
-            item: Item::SymbolName(number),
-        };
+        let place = self.part.item(Item::SymbolName(number));
         report.readable(place, self.strings.get_raw(symbol.st_name as usize))
     }
 
@@ -81,10 +76,7 @@ impl<'a, E: EndianParse, V: SymbolVersions<E> + Drop> Names<'a, E, V> {
         match shown_version::<E, V>(versions, number as usize, symbol) {
             Ok(version) => Ok(version),
             Err(error) => {
-                let place = Place {
-                    part: self.part,
-                    item: Item::SymbolVersion(number),
-                };
+                let place = self.part.item(Item::SymbolVersion(number));
                 report.problem(place, Fault::Read(error))?;
                 Ok(None)
             }
@@ -93,7 +85,7 @@ impl<'a, E: EndianParse, V: SymbolVersions<E> + Drop> Names<'a, E, V> {
 }
 
 /// What a row of a symbol shows.
-#[derive(Clone, Copy, Debug)]
+#[derive(Clone, Copy)]
 pub enum Form<'a> {
     /// All its fields.
     Fields,
@@ -194,58 +186,48 @@ fn symbol_members<'a>(
     ensures { members_said result ≡ symbol_members part number symbol.now (option_copied name.entry)
         (option_map version_view version.entry) letter }
 {
-    let Symbol {
-        st_name,
-        st_shndx,
-        st_info,
-        st_other,
-        st_value,
-        st_size,
-    } = *symbol;
+    let (version, is_default) = version_parts(version);
     let (binding, kind, visibility) = (symbol.st_bind(), symbol.st_symtype(), symbol.st_vis());
     [
         ("table", Value::Word(table_name(part))),
         ("index", Value::Number(number)),
-        ("st_name", Value::Number(st_name as u64)),
+        ("st_name", Value::Number(symbol.st_name as u64)),
         ("name", Value::Text(name)),
-        ("st_info", Value::Number(st_info as u64)),
+        ("st_info", Value::Number(symbol.st_info as u64)),
         ("st_bind", Value::Number(binding as u64)),
-        ("st_bind_name", Value::Word(bind_name(binding))),
+        ("st_bind_name", Value::Word(to_str::st_bind_to_str(binding))),
         ("st_type", Value::Number(kind as u64)),
-        ("st_type_name", Value::Word(type_name(kind))),
-        ("st_other", Value::Number(st_other as u64)),
+        ("st_type_name", Value::Word(to_str::st_symtype_to_str(kind))),
+        ("st_other", Value::Number(symbol.st_other as u64)),
         ("st_visibility", Value::Number(visibility as u64)),
         (
             "st_visibility_name",
-            Value::Word(visibility_name(visibility)),
+            Value::Word(to_str::st_vis_to_str(visibility)),
         ),
-        ("st_shndx", Value::Number(st_shndx as u64)),
-        ("st_shndx_name", Value::Word(special_section(st_shndx))),
-        ("st_value", Value::Number(st_value)),
-        ("st_size", Value::Number(st_size)),
-        ("version", Value::Text(version_name(version))),
-        ("version_is_default", default_value(version)),
+        ("st_shndx", Value::Number(symbol.st_shndx as u64)),
+        (
+            "st_shndx_name",
+            Value::Word(special_section(symbol.st_shndx)),
+        ),
+        ("st_value", Value::Number(symbol.st_value)),
+        ("st_size", Value::Number(symbol.st_size)),
+        ("version", Value::Text(version)),
+        ("version_is_default", is_default),
         ("letter", Value::Character(letter)),
     ]
 }
 
-// The name of a version, if there is one.
-fn version_name<'a>(version: Option<ShownVersion<'a>>) -> Option<&'a [u8]>
-    ensures { option_copied result ≡ version_name (option_map version_view version.entry) }
+// The name of a version and whether it is the default one, if there is a version.
+fn version_parts<'a>(version: Option<ShownVersion<'a>>) -> (Option<&'a [u8]>, Value<'static>)
+    ensures name { option_copied result.0 ≡ version_name (option_map version_view version.entry) }
+    ensures is_default { content_of result.1 ≡ version_default (option_map version_view version.entry) }
 {
     match version {
-        Some(version) => Some(version.name.as_bytes()),
-        None => None,
-    }
-}
-
-// Whether a version is the default one, if there is one.
-fn default_value(version: Option<ShownVersion<'_>>) -> Value<'static>
-    ensures { content_of result ≡ version_default (option_map version_view version.entry) }
-{
-    match version {
-        Some(version) => Value::Flag(version.is_default),
-        None => Value::Null,
+        Some(version) => (
+            Some(version.name.as_bytes()),
+            Value::Flag(version.is_default),
+        ),
+        None => (None, Value::Null),
     }
 }
 
@@ -270,27 +252,6 @@ fn special_section(st_shndx: u16) -> Option<&'static str>
         abi::SHN_COMMON => Some("SHN_COMMON"),
         _ => None,
     }
-}
-
-#[tactic(auto, unfolding(crate::specs::Symbols::st_bind_name))]
-fn bind_name(st_bind: u8) -> Option<&'static str>
-    ensures { option_copied result ≡ st_bind_name st_bind }
-{
-    to_str::st_bind_to_str(st_bind)
-}
-
-#[tactic(auto, unfolding(crate::specs::Symbols::st_type_name))]
-fn type_name(st_symtype: u8) -> Option<&'static str>
-    ensures { option_copied result ≡ st_type_name st_symtype }
-{
-    to_str::st_symtype_to_str(st_symtype)
-}
-
-#[tactic(auto, unfolding(crate::specs::Symbols::st_visibility_name))]
-fn visibility_name(st_vis: u8) -> Option<&'static str>
-    ensures { option_copied result ≡ st_visibility_name st_vis }
-{
-    to_str::st_vis_to_str(st_vis)
 }
 
 // The letter of a symbol, as `nm` has it: in lower case if the symbol is local.

@@ -3,71 +3,67 @@ ghost use Rattle.std.specs.Prelude.{◌≡◌, ◌+◌, ◌-◌, ◌*◌, ◌/�
 ghost use Rattle.std.specs.Fmt.{decimal};
 ghost use Rattle.std.specs.Io.KnownBytes.{Appends};
 ghost use Rattle.std.specs.List.{after_first, before_first, flat_map};
-ghost use Rattle.std.specs.Option.{option_copied};
-ghost use Rattle.elf_lines.specs.Adding.{Adds};
+ghost use Rattle.elfshow_lines.specs.Adding.{Adds};
 ghost use Rattle.nugwier_report.specs.Noted.{content_of, members_said};
-ghost use Rattle.nugwier_report.specs.Text.{all_digits, ascii, ascii_text, dump, dump_characters, dump_columns};
-ghost use Rattle.nugwier_report.specs.Text.{dump_group, dump_line, dump_offset};
-ghost use Rattle.nugwier_report.specs.Text.{bytes_in, cell, is_mark, letters_of, character_in, content_at, flag_in};
-ghost use Rattle.nugwier_report.specs.Text.{number_in, row_text};
-ghost use Rattle.nugwier_report.specs.Text.{other_flags, segment_flags, shown, shown_character, shown_decimal};
-ghost use Rattle.nugwier_report.specs.Text.{shown_depth, shown_digits16};
-ghost use Rattle.nugwier_report.specs.Text.{shown_digits8, shown_hexadecimal, nameless_signed, shown_index, shown_name};
-ghost use Rattle.nugwier_report.specs.Text.{shown_nameless, shown_order, wide};
-ghost use Rattle.nugwier_report.specs.Text.{left_of, right_of, section_flags, section_letter, segment_letter};
-ghost use Rattle.nugwier_report.specs.Text.{shown_rest, shown_signed, shown_text};
-ghost use Rattle.nugwier_report.specs.Text.{shown_version, signed_in, text_in, with_sign, word_in};
+ghost use Rattle.nugwier_report.specs.Text.{all_digits, ascii, ascii_text, at_signs, bytes_in, cell, content_at, dump};
+ghost use Rattle.nugwier_report.specs.Text.{dump_characters, dump_columns, dump_group, dump_line, dump_offset, is_mark};
+ghost use Rattle.nugwier_report.specs.Text.{letters_of, nameless_signed, number_text, other_flags};
+ghost use Rattle.nugwier_report.specs.Text.{row_text, section_letter, segment_flags, segment_letter, shown};
+ghost use Rattle.nugwier_report.specs.Text.{shown_character, shown_decimal, shown_index, shown_name, shown_nameless};
+ghost use Rattle.nugwier_report.specs.Text.{shown_number, shown_order, shown_rest, shown_signed, shown_text};
+ghost use Rattle.nugwier_report.specs.Text.{shown_version, wide, with_sign};
 
 use crate::escape::add_shown;
 use crate::json::{Member, Value};
-use elf_lines::line_buffer::LineBuffer;
+use elf_abi::abi;
+use elfshow_lines::line_buffer::LineBuffer;
 use std::io;
 use std::io::Write;
 
-/// How a member is shown for people. A place is that of another member of the record.
-#[derive(Debug, Clone, Copy)]
+/// How a member is shown for people. A place is the index of another member of the record. A value of another type is
+/// shown as `-`.
+#[derive(Clone, Copy)]
 pub enum Shown {
-    /// Not at all: the column is its text alone.
-    Nothing,
-    /// A number in decimal, to the right of a column of this width.
+    /// A number in decimal, aligned to the right in a column of this width.
     Decimal(usize),
     /// A number in hexadecimal, after `0x`.
     Hexadecimal,
-    /// A number as 8 hexadecimal digits, or as 16 if 8 do not hold it.
+    /// A number as 8 hexadecimal digits, or as 16 if it has more than 32 bits.
     Digits8,
     /// A number as 16 hexadecimal digits.
     Digits16,
-    /// A number with its sign.
-    Signed,
-    /// A name, to the left of a column of this width; of a value without a name the number at this place.
-    Name(usize, usize),
-    /// A name without its first bytes, as many as these.
-    Rest(usize),
-    /// What a special section number stands for, without `SHN_`, or the number at this place; to the right of a column
-    /// of this width.
-    Index(usize, usize),
     /// The byte order that a number of `EI_DATA` stands for.
     Order,
-    /// A text of the file, escaped, or a mark that it cannot be read.
-    Text,
-    /// A version after its symbol: `@NAME`, or `@@NAME` if the flag at this place says that it is the default one;
-    /// nothing of a symbol without a version.
-    Version(usize),
-    /// A character.
-    Character,
     /// The flags of a section or of a segment, as letters.
     SectionFlags,
     SegmentFlags,
-    /// Bytes, as two digits each.
-    Pairs,
     /// Two spaces for each level of a depth.
     Depth,
+    /// A number with its sign.
+    Signed,
+    /// A name, aligned to the left in a column of this width. A value without a name is shown as the number at this
+    /// place.
+    Name(usize, usize),
+    /// A name without this number of bytes at its start.
+    Rest(usize),
+    /// The name of a special section number without `SHN_`, or the number at this place, aligned to the right in a
+    /// column of this width.
+    Index(usize, usize),
+    /// A text of the file, escaped, or a mark that it cannot be read.
+    Text,
+    /// A version after its symbol: `@NAME`, or `@@NAME` if the flag at this place says that it is the default one. A
+    /// symbol without a version has nothing there.
+    Version(usize),
+    /// A character.
+    Character,
+    /// Bytes, as two digits each.
+    Pairs,
     /// Bytes, 16 in a line: the offset of the first, their digits, and the characters of ASCII that they are.
     Dump,
 }
 
 /// A column: the place of the member that it shows, and how.
-#[derive(Debug, Clone, Copy)]
+#[derive(Clone, Copy)]
 pub struct Column(pub usize, pub Shown);
 
 /// Writes the row of a record: this text, with a column in the place of each `%`.
@@ -145,95 +141,20 @@ fn add_value<W: Write>(
         (shown form (content_of value.entry) (members_said members.now)) }
 {
     match form {
-        Shown::Nothing => lines.text("", out),
-        Shown::Decimal(width) => add_decimal(width, number_in(value), lines, out),
-        Shown::Hexadecimal => add_hexadecimal(number_in(value), lines, out),
-        Shown::Digits8 => add_digits8(number_in(value), lines, out),
-        Shown::Digits16 => add_digits16(number_in(value), lines, out),
         Shown::Signed => add_signed(value, lines, out),
         Shown::Name(width, number) => {
-            let number = value_at(members, number);
-            add_name(width, word_in(value), number, lines, out);
+            add_name(width, value, value_at(members, number), lines, out);
         }
-        Shown::Rest(count) => add_rest(count, word_in(value), lines, out),
+        Shown::Rest(count) => add_rest(count, value, lines, out),
         Shown::Index(width, number) => {
-            let number = number_in(value_at(members, number));
-            add_index(width, word_in(value), number, lines, out);
+            add_index(width, value, value_at(members, number), lines, out);
         }
-        Shown::Order => add_order(number_in(value), lines, out),
-        Shown::Text => add_text(text_in(value), lines, out),
-        Shown::Version(flag) => {
-            let is_default = flag_in(value_at(members, flag));
-            add_version(text_in(value), is_default, lines, out);
-        }
-        Shown::Character => add_character(character_in(value), lines, out),
-        Shown::SectionFlags => add_section_flags(number_in(value), lines, out),
-        Shown::SegmentFlags => add_segment_flags(number_in(value), lines, out),
+        Shown::Text => add_text(value, lines, out),
+        Shown::Version(flag) => add_version(value, value_at(members, flag), lines, out),
+        Shown::Character => add_character(value, lines, out),
         Shown::Pairs => lines.bytes("", bytes_in(value), out),
-        Shown::Depth => add_depth(number_in(value), lines, out),
         Shown::Dump => add_dump(bytes_in(value), lines, out),
-    }
-}
-
-// ---- the values of members, if they are of this type
-
-fn number_in(value: Value<'_>) -> Option<u64>
-    ensures { result ≡ number_in (content_of value.entry) }
-{
-    match value {
-        Value::Number(n) => Some(n),
-        Value::Null | Value::Flag(_) | Value::Signed(_) | Value::Word(_) => None,
-        Value::Character(_) | Value::Text(_) | Value::Bytes(_) => None,
-    }
-}
-
-fn signed_in(value: Value<'_>) -> Option<i64>
-    ensures { result ≡ signed_in (content_of value.entry) }
-{
-    match value {
-        Value::Signed(n) => Some(n),
-        Value::Null | Value::Flag(_) | Value::Number(_) | Value::Word(_) => None,
-        Value::Character(_) | Value::Text(_) | Value::Bytes(_) => None,
-    }
-}
-
-fn word_in(value: Value<'_>) -> Option<&'static str>
-    ensures { option_copied result ≡ word_in (content_of value.entry) }
-{
-    match value {
-        Value::Word(word) => word,
-        Value::Null | Value::Flag(_) | Value::Signed(_) | Value::Number(_) => None,
-        Value::Character(_) | Value::Text(_) | Value::Bytes(_) => None,
-    }
-}
-
-fn text_in<'a>(value: Value<'a>) -> Option<&'a [u8]>
-    ensures { option_copied result ≡ text_in (content_of value.entry) }
-{
-    match value {
-        Value::Text(text) => text,
-        Value::Null | Value::Flag(_) | Value::Signed(_) | Value::Number(_) => None,
-        Value::Character(_) | Value::Word(_) | Value::Bytes(_) => None,
-    }
-}
-
-fn flag_in(value: Value<'_>) -> bool
-    ensures { result ≡ flag_in (content_of value.entry) }
-{
-    match value {
-        Value::Flag(flag) => flag,
-        Value::Null | Value::Text(_) | Value::Signed(_) | Value::Number(_) => false,
-        Value::Character(_) | Value::Word(_) | Value::Bytes(_) => false,
-    }
-}
-
-fn character_in(value: Value<'_>) -> Option<char>
-    ensures { result ≡ character_in (content_of value.entry) }
-{
-    match value {
-        Value::Character(character) => character,
-        Value::Null | Value::Text(_) | Value::Signed(_) | Value::Number(_) => None,
-        Value::Flag(_) | Value::Word(_) | Value::Bytes(_) => None,
+        _ => add_number(form, value, lines, out),
     }
 }
 
@@ -242,44 +163,48 @@ fn bytes_in<'a>(value: Value<'a>) -> &'a [u8]
 {
     match value {
         Value::Bytes(bytes) => bytes,
-        Value::Null | Value::Text(_) | Value::Signed(_) | Value::Number(_) => &[],
-        Value::Flag(_) | Value::Word(_) | Value::Character(_) => &[],
+        _ => &[],
     }
 }
 
 // ---- numbers
 
-fn add_decimal<W: Write>(width: usize, n: Option<u64>, lines: &mut LineBuffer, out: &mut W)
+fn add_number<W: Write>(form: Shown, value: Value<'_>, lines: &mut LineBuffer, out: &mut W)
+    ensures { Adds (W.contents out.old) lines.old (W.contents out.new) lines.new
+        (shown_number form (content_of value.entry)) }
+{
+    match value {
+        Value::Number(n) => add_digits(form, n, lines, out),
+        _ => lines.text("-", out),
+    }
+}
+
+fn add_digits<W: Write>(form: Shown, n: u64, lines: &mut LineBuffer, out: &mut W)
+    ensures { Adds (W.contents out.old) lines.old (W.contents out.new) lines.new (number_text form n) }
+{
+    match form {
+        Shown::Decimal(width) => add_decimal(width, n, lines, out),
+        Shown::Digits8 => add_wide(n, lines, out),
+        Shown::Digits16 => add_all_digits(n, lines, out),
+        Shown::Order => add_order(n, lines, out),
+        Shown::SectionFlags => add_flags(n, lines, out),
+        Shown::SegmentFlags => add_segment_flags(n, lines, out),
+        Shown::Depth => {
+            add_spaces(n as usize, lines, out);
+            add_spaces(n as usize, lines, out);
+        }
+        _ => lines.hex("", n, out),
+    }
+}
+
+fn add_decimal<W: Write>(width: usize, n: u64, lines: &mut LineBuffer, out: &mut W)
     ensures { Adds (W.contents out.old) lines.old (W.contents out.new) lines.new (shown_decimal width n) }
 {
-    match n {
-        Some(n) => {
-            add_spaces(width.saturating_sub(decimal_length(n)), lines, out);
-            lines.decimal("", n, out);
-        }
-        None => lines.text("-", out),
-    }
+    add_spaces(width.saturating_sub(decimal_length(n)), lines, out);
+    lines.decimal("", n, out);
 }
 
-fn add_hexadecimal<W: Write>(n: Option<u64>, lines: &mut LineBuffer, out: &mut W)
-    ensures { Adds (W.contents out.old) lines.old (W.contents out.new) lines.new (shown_hexadecimal n) }
-{
-    match n {
-        Some(n) => lines.hex("", n, out),
-        None => lines.text("-", out),
-    }
-}
-
-fn add_digits8<W: Write>(n: Option<u64>, lines: &mut LineBuffer, out: &mut W)
-    ensures { Adds (W.contents out.old) lines.old (W.contents out.new) lines.new (shown_digits8 n) }
-{
-    match n {
-        Some(n) => add_wide(n, lines, out),
-        None => lines.text("-", out),
-    }
-}
-
-// 8 digits, or 16 if 8 do not hold the number.
+// 8 digits, or 16 if the number has more than 32 bits.
 fn add_wide<W: Write>(n: u64, lines: &mut LineBuffer, out: &mut W)
     ensures { Adds (W.contents out.old) lines.old (W.contents out.new) lines.new (wide n) }
 {
@@ -290,81 +215,61 @@ fn add_wide<W: Write>(n: u64, lines: &mut LineBuffer, out: &mut W)
     }
 }
 
-fn add_digits16<W: Write>(n: Option<u64>, lines: &mut LineBuffer, out: &mut W)
-    ensures { Adds (W.contents out.old) lines.old (W.contents out.new) lines.new (shown_digits16 n) }
-{
-    match n {
-        Some(n) => add_all_digits(n, lines, out),
-        None => lines.text("-", out),
-    }
-}
-
 fn add_all_digits<W: Write>(n: u64, lines: &mut LineBuffer, out: &mut W)
     ensures { Adds (W.contents out.old) lines.old (W.contents out.new) lines.new (all_digits n) }
 {
     lines.bytes("", &n.to_be_bytes(), out);
 }
 
+fn add_order<W: Write>(n: u64, lines: &mut LineBuffer, out: &mut W)
+    ensures { Adds (W.contents out.old) lines.old (W.contents out.new) lines.new (shown_order n) }
+{
+    if n == abi::ELFDATA2LSB as u64 {
+        lines.text("little endian", out);
+    } else {
+        lines.text("big endian", out);
+    }
+}
+
 fn add_signed<W: Write>(value: Value<'_>, lines: &mut LineBuffer, out: &mut W)
     ensures { Adds (W.contents out.old) lines.old (W.contents out.new) lines.new
-        (shown_signed (signed_in (content_of value.entry))) }
+        (shown_signed (content_of value.entry)) }
 {
-    match signed_in(value) {
-        Some(n) => add_with_sign(n, lines, out),
-        None => lines.text("-", out),
+    match value {
+        Value::Signed(n) => add_with_sign(n, lines, out),
+        _ => lines.text("-", out),
     }
 }
 
 fn add_with_sign<W: Write>(n: i64, lines: &mut LineBuffer, out: &mut W)
     ensures { Adds (W.contents out.old) lines.old (W.contents out.new) lines.new (with_sign n) }
 {
-    if n < 0 {
-        lines.decimal("-", n.unsigned_abs(), out);
-    } else {
-        lines.decimal("+", n.unsigned_abs(), out);
-    }
-}
-
-fn add_depth<W: Write>(n: Option<u64>, lines: &mut LineBuffer, out: &mut W)
-    ensures { Adds (W.contents out.old) lines.old (W.contents out.new) lines.new
-        (shown_depth n) }
-{
-    match n {
-        Some(n) => {
-            add_spaces(n as usize, lines, out);
-            add_spaces(n as usize, lines, out);
-        }
-        None => lines.text("", out),
-    }
+    let sign = if n < 0 { "-" } else { "+" };
+    lines.decimal(sign, n.unsigned_abs(), out);
 }
 
 // ---- names
 
 fn add_name<W: Write>(
     width: usize,
-    name: Option<&'static str>,
+    name: Value<'_>,
     number: Value<'_>,
     lines: &mut LineBuffer,
     out: &mut W,
 )
     ensures { Adds (W.contents out.old) lines.old (W.contents out.new) lines.new
-        (shown_name width (option_copied name.entry) (content_of number.entry)) }
+        (shown_name width (content_of name.entry) (content_of number.entry)) }
 {
     match name {
-        Some(name) => add_left(width, name, lines, out),
-        None => add_nameless(number, lines, out),
+        Value::Word(Some(name)) => {
+            lines.text(name, out);
+            add_spaces(width.saturating_sub(name.len()), lines, out);
+        }
+        _ => add_nameless(number, lines, out),
     }
 }
 
-// A text to the left of a column.
-fn add_left<W: Write>(width: usize, text: &str, lines: &mut LineBuffer, out: &mut W)
-    ensures { Adds (W.contents out.old) lines.old (W.contents out.new) lines.new (left_of width text.now) }
-{
-    lines.text(text, out);
-    add_spaces(width.saturating_sub(text.len()), lines, out);
-}
-
-// A number that has no name.
+// The number of a value that has no name.
 fn add_nameless<W: Write>(number: Value<'_>, lines: &mut LineBuffer, out: &mut W)
     ensures { Adds (W.contents out.old) lines.old (W.contents out.new) lines.new
         (shown_nameless (content_of number.entry)) }
@@ -372,8 +277,7 @@ fn add_nameless<W: Write>(number: Value<'_>, lines: &mut LineBuffer, out: &mut W
     match number {
         Value::Number(n) => lines.hex("", n, out),
         Value::Signed(n) => add_nameless_signed(n, lines, out),
-        Value::Null | Value::Flag(_) | Value::Word(_) => lines.text("-", out),
-        Value::Character(_) | Value::Text(_) | Value::Bytes(_) => lines.text("-", out),
+        _ => lines.text("-", out),
     }
 }
 
@@ -387,13 +291,13 @@ fn add_nameless_signed<W: Write>(n: i64, lines: &mut LineBuffer, out: &mut W)
     }
 }
 
-fn add_rest<W: Write>(count: usize, name: Option<&'static str>, lines: &mut LineBuffer, out: &mut W)
+fn add_rest<W: Write>(count: usize, name: Value<'_>, lines: &mut LineBuffer, out: &mut W)
     ensures { Adds (W.contents out.old) lines.old (W.contents out.new) lines.new
-        (shown_rest count (option_copied name.entry)) }
+        (shown_rest count (content_of name.entry)) }
 {
     match name {
-        Some(name) => add_shown(rest_of(count, name.as_bytes()), lines, out),
-        None => lines.text("-", out),
+        Value::Word(Some(name)) => add_shown(rest_of(count, name.as_bytes()), lines, out),
+        _ => lines.text("-", out),
     }
 }
 
@@ -409,71 +313,73 @@ fn rest_of(count: usize, bytes: &[u8]) -> &[u8]
 
 fn add_index<W: Write>(
     width: usize,
-    name: Option<&'static str>,
-    number: Option<u64>,
+    name: Value<'_>,
+    number: Value<'_>,
     lines: &mut LineBuffer,
     out: &mut W,
 )
     ensures { Adds (W.contents out.old) lines.old (W.contents out.new) lines.new
-        (shown_index width (option_copied name.entry) number) }
+        (shown_index width (content_of name.entry) (content_of number.entry)) }
 {
     match name {
-        Some(name) => add_right(width, rest_of(4, name.as_bytes()), lines, out),
-        None => add_decimal(width, number, lines, out),
-    }
-}
-
-// A text to the right of a column.
-fn add_right<W: Write>(width: usize, text: &[u8], lines: &mut LineBuffer, out: &mut W)
-    ensures { Adds (W.contents out.old) lines.old (W.contents out.new) lines.new (right_of width text.now) }
-{
-    add_spaces(width.saturating_sub(text.len()), lines, out);
-    add_shown(text, lines, out);
-}
-
-fn add_order<W: Write>(n: Option<u64>, lines: &mut LineBuffer, out: &mut W)
-    ensures { Adds (W.contents out.old) lines.old (W.contents out.new) lines.new (shown_order n) }
-{
-    match n {
-        Some(1) => lines.text("little endian", out),
-        _ => lines.text("big endian", out),
+        Value::Word(Some(name)) => {
+            let name = rest_of(4, name.as_bytes());
+            add_spaces(width.saturating_sub(name.len()), lines, out);
+            add_shown(name, lines, out);
+        }
+        _ => add_number(Shown::Decimal(width), number, lines, out),
     }
 }
 
 // ---- texts of the file
 
-fn add_text<W: Write>(text: Option<&[u8]>, lines: &mut LineBuffer, out: &mut W)
+fn add_text<W: Write>(value: Value<'_>, lines: &mut LineBuffer, out: &mut W)
     ensures { Adds (W.contents out.old) lines.old (W.contents out.new) lines.new
-        (shown_text (option_copied text.entry)) }
+        (shown_text (content_of value.entry)) }
 {
-    match text {
-        Some(text) => add_shown(text, lines, out),
-        None => lines.text("<unreadable>", out),
+    match value {
+        Value::Text(Some(text)) => add_shown(text, lines, out),
+        _ => lines.text("<unreadable>", out),
     }
 }
 
-fn add_version<W: Write>(name: Option<&[u8]>, is_default: bool, lines: &mut LineBuffer, out: &mut W)
+fn add_version<W: Write>(
+    name: Value<'_>,
+    is_default: Value<'_>,
+    lines: &mut LineBuffer,
+    out: &mut W,
+)
     ensures { Adds (W.contents out.old) lines.old (W.contents out.new) lines.new
-        (shown_version (option_copied name.entry) is_default) }
+        (shown_version (content_of name.entry) (content_of is_default.entry)) }
 {
     match name {
-        Some(name) => {
-            lines.text(if is_default { "@@" } else { "@" }, out);
+        Value::Text(Some(name)) => {
+            lines.text(at_signs(is_default), out);
             add_shown(name, lines, out);
         }
-        None => lines.text("", out),
+        _ => lines.text("", out),
     }
 }
 
-fn add_character<W: Write>(character: Option<char>, lines: &mut LineBuffer, out: &mut W)
-    ensures { Adds (W.contents out.old) lines.old (W.contents out.new) lines.new (shown_character character) }
+fn at_signs(is_default: Value<'_>) -> &'static str
+    ensures { result.now ≡ at_signs (content_of is_default.entry) }
 {
-    match character {
-        Some(character) => {
+    match is_default {
+        Value::Flag(true) => "@@",
+        _ => "@",
+    }
+}
+
+fn add_character<W: Write>(value: Value<'_>, lines: &mut LineBuffer, out: &mut W)
+    ensures { Adds (W.contents out.old) lines.old (W.contents out.new) lines.new
+        (shown_character (content_of value.entry)) }
+{
+    match value {
+        Value::Character(Some(character)) => {
             let mut room = [0; 4];
             lines.text(character.encode_utf8(&mut room), out);
         }
-        None => lines.text("-", out),
+        _ => lines.text("-", out),
     }
 }
 
@@ -543,7 +449,7 @@ fn add_columns<W: Write>(line: &[u8], lines: &mut LineBuffer, out: &mut W)
     add_group(rest_of(12, line), lines, out);
 }
 
-// The digits of the first four bytes, to the left of a column, and a space.
+// The digits of the first four bytes, filled up with spaces, and a space.
 fn add_group<W: Write>(bytes: &[u8], lines: &mut LineBuffer, out: &mut W)
     ensures { Adds (W.contents out.old) lines.old (W.contents out.new) lines.new (dump_group bytes.now) }
 {
@@ -595,15 +501,6 @@ pub static LETTERS: [(u64, char); 14] = [
 /// The flags of a section without a letter.
 pub const OTHER_FLAGS: u64 = 0xffff_ffff_6fdf_f008;
 
-fn add_section_flags<W: Write>(n: Option<u64>, lines: &mut LineBuffer, out: &mut W)
-    ensures { Adds (W.contents out.old) lines.old (W.contents out.new) lines.new (section_flags n) }
-{
-    match n {
-        Some(n) => add_flags(n, lines, out),
-        None => lines.text("-", out),
-    }
-}
-
 fn add_flags<W: Write>(n: u64, lines: &mut LineBuffer, out: &mut W)
     ensures { Adds (W.contents out.old) lines.old (W.contents out.new) lines.new (letters_of n) }
 {
@@ -646,18 +543,13 @@ fn add_others<W: Write>(n: u64, lines: &mut LineBuffer, out: &mut W)
     }
 }
 
-fn add_segment_flags<W: Write>(n: Option<u64>, lines: &mut LineBuffer, out: &mut W)
+fn add_segment_flags<W: Write>(n: u64, lines: &mut LineBuffer, out: &mut W)
     ensures { Adds (W.contents out.old) lines.old (W.contents out.new) lines.new (segment_flags n) }
 {
-    match n {
-        Some(n) => {
-            lines.text(segment_letter(n, 4, "R"), out);
-            lines.text(segment_letter(n, 2, "W"), out);
-            lines.text(segment_letter(n, 1, "E"), out);
-            add_others(n / 8 * 8, lines, out);
-        }
-        None => lines.text("-", out),
-    }
+    lines.text(segment_letter(n, 4, "R"), out);
+    lines.text(segment_letter(n, 2, "W"), out);
+    lines.text(segment_letter(n, 1, "E"), out);
+    add_others(n / 8 * 8, lines, out);
 }
 
 fn segment_letter(n: u64, mask: u64, letter: &'static str) -> &'static str

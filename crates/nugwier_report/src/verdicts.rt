@@ -1,16 +1,15 @@
 //! What is said of whether a file is sound.
 ghost use Rattle.std.specs.Prelude.{◌≡◌, ◌∷◌, [], List, OnOk};
-ghost use Rattle.nugwier_report.specs.Noted.{content_of, members_said};
+ghost use Rattle.nugwier_report.specs.Noted.{members_said};
 ghost use Rattle.nugwier_report.specs.Said.{Said, saying};
 ghost use Rattle.nugwier_report.specs.Verdicts.{AreFaultsSaid, IsFaultSaid, IsVerdictSaid, fault_members, fault_part};
-ghost use Rattle.nugwier_report.specs.Verdicts.{fault_section, fault_told, sound_file_members, sound_members};
-ghost use Rattle.nugwier_report.specs.Verdicts.{sound_said};
+ghost use Rattle.nugwier_report.specs.Verdicts.{fault_told, sound_file_members, sound_members, sound_said};
 
-use crate::json::{Member, Value};
+use crate::json::{Member, Value, part_member};
 use crate::kind::Kind;
-use crate::problem::{Fault, Item, Part, Place, Stop};
+use crate::problem::{Fault, Part, Stop};
 use crate::report::Report;
-use elf_whole::faults::FileFault;
+use elf_check::faults::FileFault;
 use std::alloc::Global;
 use std::io::Write;
 
@@ -77,11 +76,7 @@ fn say_fault<W: Write, V: Write>(
 {
     let text = text_of(alloc, fault)?;
     report.state(Kind::Verdict, &fault_members(fault, text.as_str()))?;
-    let place = Place {
-        part: part_of(fault),
-        item: Item::Whole,
-    };
-    report.problem(place, told_of(fault))
+    report.problem(part_of(fault).whole(), told_of(fault))
 }
 
 fn fault_members<'a>(fault: FileFault, text: &'a str) -> [Member<'a>; 3]
@@ -89,19 +84,9 @@ fn fault_members<'a>(fault: FileFault, text: &'a str) -> [Member<'a>; 3]
 {
     [
         ("is_sound", Value::Flag(false)),
-        ("section", section_of(fault)),
+        part_member(part_of(fault)),
         ("fault", Value::Text(Some(text.as_bytes()))),
     ]
-}
-
-// The number of the section that has a fault.
-fn section_of(fault: FileFault) -> Value<'static>
-    ensures { content_of result ≡ fault_section fault }
-{
-    match fault {
-        FileFault::Section { index, .. } => Value::Number(index as u64),
-        _ => Value::Null,
-    }
 }
 
 // Where a fault is: in a section, or in the file as a whole.

@@ -5,14 +5,13 @@ ghost use Rattle.elf_parts.specs.gnu_symver.Lists.{ver_def_aux_left, ver_defs_le
 ghost use Rattle.nugwier_report.specs.Noted.{members_said};
 ghost use Rattle.nugwier_report.specs.Said.{saying};
 ghost use Rattle.nugwier_report.specs.VersionRecords.{definition_members, definition_said, definitions_said};
-ghost use Rattle.nugwier_report.specs.VersionRecords.{name_members, name_said, names_said, need_members, need_said};
-ghost use Rattle.nugwier_report.specs.VersionRecords.{needs_said};
-ghost use Rattle.nugwier_report.specs.VersionRecords.{version_members, version_name, version_name_unread, version_said};
-ghost use Rattle.nugwier_report.specs.VersionRecords.{versions_said};
+ghost use Rattle.nugwier_report.specs.VersionRecords.{name_said, names_said};
+ghost use Rattle.nugwier_report.specs.VersionRecords.{need_said, needs_said, version_name, version_name_unread};
+ghost use Rattle.nugwier_report.specs.VersionRecords.{version_said, versions_said};
 
 use crate::json::{Member, Value, part_member};
 use crate::kind::Kind;
-use crate::problem::{Item, Part, Place, Stop};
+use crate::problem::{Item, Part, Stop};
 use crate::report::Report;
 use elf_parts::endian::EndianParse;
 use elf_parts::gnu_symver::{
@@ -41,10 +40,7 @@ impl<'a> VersionNames<'a> {
         ensures wrong { OnOk result (report.new ≡ saying report.old
             (version_name_unread self.now.part self.now.strings index offset)) }
     {
-        let place = Place {
-            part: self.part,
-            item: Item::VersionName(index as u64),
-        };
+        let place = self.part.item(Item::VersionName(index as u64));
         report.readable(place, self.strings.get_raw(offset as usize))
     }
 }
@@ -116,26 +112,16 @@ fn say_name<W: Write, V: Write>(
         (name_said names.now.part names.now.strings index aux.now)) }
 {
     let name = names.name(index, aux.vda_name, report)?;
-    report.state(Kind::Verdaux, &name_members(names.part, index, aux, name))
-}
-
-fn name_members<'a>(
-    part: Part,
-    index: u16,
-    aux: &VerDefAux,
-    name: Option<&'a [u8]>,
-) -> [Member<'a>; 4]
-    ensures { members_said result ≡ name_members part index aux.now (option_copied name.entry) }
-{
-    [
-        part_member(part),
+    let members = [
+        part_member(names.part),
         ("vd_ndx", Value::Number(index as u64)),
         ("vda_name", Value::Number(aux.vda_name as u64)),
         ("name", Value::Text(name)),
-    ]
+    ];
+    report.state(Kind::Verdaux, &members)
 }
 
-/// Says the files that versions are needed of, each with these versions.
+/// Says the files from which versions are needed, each with these versions.
 pub fn say_needs<E: EndianParse, W: Write, V: Write>(
     needs: VerNeedIterator<'_, E>,
     names: &VersionNames<'_>,
@@ -160,22 +146,17 @@ fn say_need<E: EndianParse, W: Write, V: Write>(
         (need_said names.now.part names.now.strings (need.now, ver_need_aux_left records.entry))) }
 {
     let file = names.name(0, need.vn_file, report)?;
-    report.state(Kind::Verneed, &need_members(names.part, need, file))?;
+    let members = [
+        part_member(names.part),
+        ("vn_cnt", Value::Number(need.vn_cnt as u64)),
+        ("vn_file", Value::Number(need.vn_file as u64)),
+        ("name", Value::Text(file)),
+    ];
+    report.state(Kind::Verneed, &members)?;
     say_versions(need.vn_file, records, names, report)
 }
 
-fn need_members<'a>(part: Part, need: &VerNeed, name: Option<&'a [u8]>) -> [Member<'a>; 4]
-    ensures { members_said result ≡ need_members part need.now (option_copied name.entry) }
-{
-    [
-        part_member(part),
-        ("vn_cnt", Value::Number(need.vn_cnt as u64)),
-        ("vn_file", Value::Number(need.vn_file as u64)),
-        ("name", Value::Text(name)),
-    ]
-}
-
-// Says the versions that are needed of the file whose name is at this offset.
+// Says the versions that are needed from the file whose name is at this offset.
 fn say_versions<E: EndianParse, W: Write, V: Write>(
     file: u32,
     records: VerNeedAuxIterator<'_, E>,
@@ -201,27 +182,14 @@ fn say_version<W: Write, V: Write>(
         (version_said names.now.part names.now.strings file version.now)) }
 {
     let name = names.name(version.vna_other, version.vna_name, report)?;
-    report.state(
-        Kind::Vernaux,
-        &version_members(names.part, file, version, name),
-    )
-}
-
-fn version_members<'a>(
-    part: Part,
-    file: u32,
-    version: &VerNeedAux,
-    name: Option<&'a [u8]>,
-) -> [Member<'a>; 7]
-    ensures { members_said result ≡ version_members part file version.now (option_copied name.entry) }
-{
-    [
-        part_member(part),
+    let members = [
+        part_member(names.part),
         ("vn_file", Value::Number(file as u64)),
         ("vna_hash", Value::Number(version.vna_hash as u64)),
         ("vna_flags", Value::Number(version.vna_flags as u64)),
         ("vna_other", Value::Number(version.vna_other as u64)),
         ("vna_name", Value::Number(version.vna_name as u64)),
         ("name", Value::Text(name)),
-    ]
+    ];
+    report.state(Kind::Vernaux, &members)
 }

@@ -13,7 +13,7 @@ use elf_parts::symbol::Symbol;
 
 /// The version of a symbol. It is the default version of the symbol's name, unless it is hidden or belongs to another
 /// file.
-#[derive(Clone, Copy, Debug)]
+#[derive(Clone, Copy)]
 pub struct ShownVersion<'a> {
     pub name: &'a str,
     pub is_default: bool,

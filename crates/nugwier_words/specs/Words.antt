@@ -3,7 +3,7 @@ use Rattle.std.specs.Prelude.{◌≡◌, ◌⊎◌, ◌^◌, ◌==◌, ◌||◌,
 use Rattle.std.specs.Prelude.{List, [], ◌∷◌, ◌++◌, codes, drop, slice_index, Option, Some, None, is_some, option_map}
 use Rattle.std.specs.Prelude.{Result, Ok, Err}
 use Rattle.std.specs.Char.{is_digit}
-use Rattle.std.specs.List.{starts_with}
+use Rattle.std.specs.List.{find, starts_with}
 use Rattle.std.specs.Str.{bytes_eq}
 use Rattle.std.specs.Str.Parse.{digits_value}
 use Rattle.nugwier_words.specs.declared.asked.Asked.{Asked}
@@ -24,7 +24,7 @@ use Rattle.nugwier_words.specs.declared.words.Request.TheVariants.{Help as HelpR
 use Rattle.nugwier_words.specs.declared.words.Wanted.{Wanted}
 use Rattle.nugwier_words.specs.declared.words.WordError.{WordError}
 use Rattle.nugwier_words.specs.declared.words.WordError.TheVariants.{Address as NotAddress, Command as NotCommand}
-use Rattle.nugwier_words.specs.declared.words.WordError.TheVariants.{Memory, NoAddress, NoCommand, NoFile, NoValue}
+use Rattle.nugwier_words.specs.declared.words.WordError.TheVariants.{Memory, NoAddress, NoCommand, NoFile, NoFolder, NoSection}
 use Rattle.nugwier_words.specs.declared.words.WordError.TheVariants.{Option as NotOption}
 use Rattle.std.specs.Global.{Vec}
 use Prim.Native.String.{String}
@@ -82,19 +82,10 @@ word_of Address = codes "address"
 word_of Tree = codes "tree"
 word_of Bindings = codes "bindings"
 
-abbrev pub command_of : List ℕ → Option Command
+unfoldable pub command_of : List ℕ → Option Command
 command_of word =
-    if bytes_eq word (codes "list") then Some ListCommand
-    else if bytes_eq word (codes "symbols") then Some Symbols
-    else if bytes_eq word (codes "needed") then Some Needed
-    else if bytes_eq word (codes "exports") then Some Exports
-    else if bytes_eq word (codes "build-id") then Some BuildId
-    else if bytes_eq word (codes "plan") then Some Plan
-    else if bytes_eq word (codes "check") then Some Check
-    else if bytes_eq word (codes "address") then Some Address
-    else if bytes_eq word (codes "tree") then Some Tree
-    else if bytes_eq word (codes "bindings") then Some Bindings
-    else None
+    find (λ command. bytes_eq (word_of command) word) (ListCommand ∷ Symbols ∷ Needed ∷ Exports ∷ BuildId ∷ Plan ∷ Check
+    ∷ Address ∷ Tree ∷ Bindings ∷ [])
 
 -- ---- the options of `list`, a letter each
 
@@ -194,7 +185,7 @@ pub data Step : Type 0 where
   helps : Step
   wrong : WordError → Step
 
--- a word of letters, of which the last may need a section
+-- a word of letters; the last one may need a section
 abbrev pub awaited_form : Option Form → Bor (List ℕ) → Awaited
 awaited_form None word = Nothing
 awaited_form (Some form) word = Section form word
@@ -322,8 +313,8 @@ with_files command asked (file ∷ others) = with_file command asked file others
 -- an option whose word is missing, or the files
 abbrev pub finished_for : Awaited → Command → SoFar → Result Answer WordError
 finished_for Nothing command asked = with_files command asked asked.files
-finished_for (Section form option) command asked = Err (NoValue command option)
-finished_for (Folder option) command asked = Err (NoValue command option)
+finished_for (Section form option) command asked = Err (NoSection option)
+finished_for (Folder option) command asked = Err (NoFolder command option)
 
 abbrev pub finished : Command → SoFar → Result Answer WordError
 finished command asked = finished_for asked.awaited command asked

@@ -134,8 +134,8 @@ impl<'a> Asked<'a> {
     {
         match self.awaited {
             Awaited::Nothing => self.with_files(alloc, command),
-            Awaited::Section(_, word) => Err(WordError::NoValue(command, word)),
-            Awaited::Folder(word) => Err(WordError::NoValue(command, word)),
+            Awaited::Section(_, word) => Err(WordError::NoSection(word)),
+            Awaited::Folder(word) => Err(WordError::NoFolder(command, word)),
         }
     }
 

@@ -114,9 +114,9 @@ that is found, or 'not found'. A library stands below the one that needs it firs
   --search FOLDER   looks for libraries in this folder, as if LD_LIBRARY_PATH named it
 
 Libraries are looked for as the dynamic linker does: in the folders of DT_RPATH of the object that needs them and of its
-loaders, those of --search, those of DT_RUNPATH of the object, and the usual ones of its machine, such as
-/lib/x86_64-linux-gnu, /lib64 and /usr/lib. $ORIGIN is the folder of the object's path. LD_LIBRARY_PATH, ld.so.conf and
-the cache of the dynamic linker are not read.";
+loaders, those of --search, those of DT_RUNPATH of the object, then at the path that /etc/ld.so.cache has, and in the
+usual folders of its machine, such as /lib/x86_64-linux-gnu, /lib64 and /usr/lib. $ORIGIN is the folder of the object's
+path. LD_LIBRARY_PATH and ld.so.conf are not read.";
 
 const BINDINGS: &str = "\
 usage: nugwier bindings [--json] [--search FOLDER].. FILE..

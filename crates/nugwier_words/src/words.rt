@@ -8,6 +8,7 @@ use crate::asked::Asked;
 use nugwier_report::escape::Escaped;
 use std::alloc::{AllocFailed, Global};
 use std::fmt;
+use thiserror::Error;
 
 /// What is listed of each file.
 #[derive(Debug, Clone, Copy, PartialEq, Eq)]
@@ -23,6 +24,19 @@ pub enum Command {
     Tree,
     Bindings,
 }
+
+static COMMANDS: [Command; 10] = [
+    Command::List,
+    Command::Symbols,
+    Command::Needed,
+    Command::Exports,
+    Command::BuildId,
+    Command::Plan,
+    Command::Check,
+    Command::Address,
+    Command::Tree,
+    Command::Bindings,
+];
 
 impl Command {
     /// The word that asks for the command.
@@ -41,6 +55,12 @@ impl Command {
             Command::Tree => "tree",
             Command::Bindings => "bindings",
         }
+    }
+}
+
+impl fmt::Display for Command {
+    fn fmt<W: fmt::Write>(&self, f: &mut fmt::Formatter<W>) -> fmt::Result {
+        f.write_str(self.word())
     }
 }
 
@@ -118,17 +138,28 @@ pub enum Request<'a> {
 }
 
 /// Why words are no request.
-#[derive(Debug, Clone, Copy)]
+#[derive(Debug, Clone, Copy, Error)]
 pub enum WordError<'a> {
+    #[error("nugwier: no command; see nugwier --help")]
     NoCommand,
+    #[error("nugwier: unknown command '{word}'; see nugwier --help", word = Escaped(.0.as_bytes()))]
     Command(&'a str),
+    #[error("nugwier {0}: unknown option '{word}'; see nugwier {0} --help", word = Escaped(.1.as_bytes()))]
     Option(Command, &'a str),
-    /// The option needs one more word.
-    NoValue(Command, &'a str),
+    /// The option of `list` needs a section.
+    #[error("nugwier list: no section after '{word}'; see nugwier list --help", word = Escaped(.0.as_bytes()))]
+    NoSection(&'a str),
+    /// The option needs a folder.
+    #[error("nugwier {0}: no folder after '{word}'; see nugwier {0} --help", word = Escaped(.1.as_bytes()))]
+    NoFolder(Command, &'a str),
+    #[error("nugwier {0}: no file; see nugwier {0} --help")]
     NoFile(Command),
     /// The word is no address in hexadecimal.
+    #[error("nugwier address: '{word}' is no address; see nugwier address --help", word = Escaped(.0.as_bytes()))]
     Address(&'a str),
+    #[error("nugwier address: no address; see nugwier address --help")]
     NoAddress,
+    #[error("nugwier: out of memory")]
     Memory,
 }
 
@@ -140,62 +171,12 @@ impl<'a, T: Drop> From<AllocFailed<T>> for WordError<'a> {
     }
 }
 
-impl fmt::Display for WordError<'_> {
-    fn fmt<W: fmt::Write>(&self, f: &mut fmt::Formatter<W>) -> fmt::Result {
-        match self {
-            WordError::NoCommand => write!(f, "nugwier: no command; see nugwier --help"),
-            WordError::Command(word) => {
-                let word = Escaped(word.as_bytes());
-                write!(f, "nugwier: unknown command '{word}'; see nugwier --help")
-            }
-            WordError::Option(command, word) => {
-                let word = Escaped(word.as_bytes());
-                let command = command.word();
-                write!(
-                    f,
-                    "nugwier {command}: unknown option '{word}'; see nugwier {command} --help"
-                )
-            }
-            WordError::NoValue(command, word) => {
-                let wanted = if *command == Command::List {
-                    "section"
-                } else {
-                    "folder"
-                };
-                let word = Escaped(word.as_bytes());
-                let command = command.word();
-                write!(
-                    f,
-                    "nugwier {command}: no {wanted} after '{word}'; see nugwier {command} --help"
-                )
-            }
-            WordError::NoFile(command) => {
-                let command = command.word();
-                write!(
-                    f,
-                    "nugwier {command}: no file; see nugwier {command} --help"
-                )
-            }
-            WordError::Address(word) => {
-                let word = Escaped(word.as_bytes());
-                write!(
-                    f,
-                    "nugwier address: '{word}' is no address; see nugwier address --help"
-                )
-            }
-            WordError::NoAddress => {
-                write!(f, "nugwier address: no address; see nugwier address --help")
-            }
-            WordError::Memory => write!(f, "nugwier: out of memory"),
-        }
-    }
-}
-
 /// Returns what the words, the arguments after the program's name, ask for.
 ///
 /// Errors, in order: `NoCommand` without words; `Command` if the first word is no command; then, of the first word
-/// that is wrong, `Option` or `NoValue`; `NoFile` if no word is a file; of `address`, `Address` for the first word
-/// after the file that is no address, and `NoAddress` if there is no such word. `Memory` if an allocation failed.
+/// that is wrong, `Option`, `NoSection` or `NoFolder`; `NoFile` if no word is a file; of `address`, `Address` for the
+/// first word after the file that is no address, and `NoAddress` if there is no such word. `Memory` if an allocation
+/// failed.
 pub fn parse_words<'a>(alloc: Global, words: &[&'a str]) -> Result<Request<'a>, WordError<'a>>
     ensures { IsParsed (parsed words.now) result }
 {
@@ -222,22 +203,14 @@ fn parse_from<'a>(
     }
 }
 
+#[tactic(auto, unfolding(crate::specs::Words::command_of))]
 fn parse_command(word: &str) -> Option<Command>
     ensures { result ≡ command_of word.now }
 {
-    match word {
-        "list" => Some(Command::List),
-        "symbols" => Some(Command::Symbols),
-        "needed" => Some(Command::Needed),
-        "exports" => Some(Command::Exports),
-        "build-id" => Some(Command::BuildId),
-        "plan" => Some(Command::Plan),
-        "check" => Some(Command::Check),
-        "address" => Some(Command::Address),
-        "tree" => Some(Command::Tree),
-        "bindings" => Some(Command::Bindings),
-        _ => None,
-    }
+    COMMANDS
+        .iter()
+        .copied()
+        .find(|command| command.word() == word)
 }
 
 fn parse_rest<'a>(

@@ -6,15 +6,14 @@ use elf::gnu_symver::{IndexedVersions, SymbolVersionTable};
 use elf::section::SectionHeader;
 use elf::string_table::StringTable;
 use elf::symbol::{Symbol, SymbolTable};
-use elf::{ElfBytes, MemSource, ParseError, ReadError};
-use elf_binding::resolve::resolve;
-use elf_tools::bindings::reading::open_library;
+use elf::{ElfBytes, ParseError, ReadError};
+use elf_linking::indexed;
+use elf_linking::resolve::resolve;
+use elf_linking::resolver::{definition, tables};
 use elf_tools::build_id::build_id;
 use elf_tools::functions::{function_version, functions};
 use elf_tools::hash_lint::lint;
 use elf_tools::load_plan::{Mapping, load_plan};
-use elf_tools::resolver::{definition, tables};
-use elf_tools::versions::indexed;
 use std::alloc::Global;
 use std::io;
 use std::io::Write;
@@ -257,7 +256,7 @@ fn print_definition<W: Write>(
 fn print_bindings_in<W: Write>(alloc: Global, out: &mut W, files: &[Vec<u8>]) -> io::Result<()> {
     let mut libraries = Vec::new(alloc);
     for data in files {
-        libraries.push(open_library(alloc, MemSource::new(data.as_slice())))?;
+        libraries.push(ElfBytes::minimal_parse(data.as_slice()))?;
     }
     print_bindings(alloc, out, libraries.as_slice())
 }

@@ -1,20 +1,18 @@
 //! What the references of a list of libraries bind to, as lines.
-use elf::ParseError;
 use elf::endian::AnyEndian;
 use elf::gnu_symver::{IndexedVersions, SymbolVersionTable};
 use elf::string_table::StringTable;
 use elf::symbol::Symbol;
-use elf_binding::{Unreadable, VersionedObject, Wanted, reference};
-use elf_check::hashcheck::AnyChecked;
-use elf_tools::bindings::library::Library;
-use elf_tools::bindings::{Bound, IndexedObject, bind_reference, references, with_index};
-use elf_tools::versions::indexed;
+use elf::{ElfBytes, ParseError};
+use elf_hash_check::hashcheck::AnyChecked;
+use elf_linking::bindings::{Bound, IndexedObject, bind_reference, references, with_index};
+use elf_linking::{Unreadable, VersionedObject, Wanted, indexed, reference, versioned_object};
 use std::alloc::Global;
 use std::io;
 use std::io::Write;
 
 /// A library, or why its file could not be opened.
-pub(super) type Opened = Result<Library<AnyEndian>, ParseError>;
+pub(super) type Opened<'data> = Result<ElfBytes<'data, AnyEndian>, ParseError>;
 
 /// The objects in which references are bound, and for each object the place of its library in the list of libraries.
 #[derive(Drop)]
@@ -27,7 +25,7 @@ struct Scope<'a, 'data> {
 pub(super) fn print_bindings<W: Write>(
     alloc: Global,
     out: &mut W,
-    libraries: &[Opened],
+    libraries: &[Opened<'_>],
 ) -> io::Result<()> {
     let mut tables = Vec::new(alloc);
     let mut versions = Vec::new(alloc);
@@ -45,7 +43,7 @@ pub(super) fn print_bindings<W: Write>(
 /// Adds the table, the versions and the place of each library that is an object, and prints why the others are none.
 fn find_objects<'a, W: Write>(
     out: &mut W,
-    libraries: &'a [Opened],
+    libraries: &[Opened<'a>],
     tables: &mut Vec<AnyChecked<'a, AnyEndian>>,
     versions: &mut Vec<Option<SymbolVersionTable<'a, AnyEndian>>>,
     places: &mut Vec<usize>,
@@ -77,7 +75,7 @@ fn print_bindings_in<W: Write>(
     alloc: Global,
     out: &mut W,
     scope: &Scope<'_, '_>,
-    libraries: &[Opened],
+    libraries: &[Opened<'_>],
 ) -> io::Result<()> {
     for (place, library) in libraries.iter().enumerate() {
         if let Ok(library) = library {
@@ -91,7 +89,7 @@ fn print_bindings_in<W: Write>(
 fn print_object<'a, W: Write>(
     out: &mut W,
     place: usize,
-    library: &'a Opened,
+    library: &Opened<'a>,
 ) -> io::Result<Option<VersionedObject<'a, AnyEndian>>> {
     let library = match library {
         Ok(library) => library,
@@ -100,7 +98,7 @@ fn print_object<'a, W: Write>(
             return Ok(None);
         }
     };
-    match library.object() {
+    match versioned_object(library) {
         Ok(Some(object)) => Ok(Some(object)),
         Ok(None) => {
             writeln!(out, "object {place}: no hash section")?;
@@ -118,7 +116,7 @@ fn print_bindings_of<W: Write>(
     out: &mut W,
     scope: &Scope<'_, '_>,
     place: usize,
-    library: &Library<AnyEndian>,
+    library: &ElfBytes<'_, AnyEndian>,
 ) -> io::Result<()> {
     let Ok(Some((symbols, strings))) = library.dynamic_symbol_table() else {
         return Ok(());

@@ -1,7 +1,7 @@
 //! The results of `needed`, as lines.
 use elf::endian::AnyEndian;
 use elf::{ElfStream, FileSource, MemSource, ParseError, StreamSource};
-use elf_tools::needed::{Name, Names, NamesError, read_dynamic_names};
+use elf_linking::needed::{Name, Names, NamesError, read_dynamic_names};
 use std::alloc::Global;
 use std::fs::File;
 use std::io;

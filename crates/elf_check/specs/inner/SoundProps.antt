@@ -1,58 +1,108 @@
--- That a section is sound, and that its words can be read, is true in one way only: so a checked table can store it.
-use Rattle.std.specs.Prelude.{◌≡◌, ℕ, ◌<◌, ◌≤◌, Option}
-use Rattle.std.specs.Coded.{Coded-set, codes, le_prop, Π_prop}
-use Rattle.std.specs.Option.{IsSomeAnd, IsSomeAnd-prop}
-use Rattle.std.proofs.Common.{ap, subst, inl, inr, arith}
-use Rattle.std.proofs.lemmas.Bool.{cases_lt}
-use Rattle.elf_parts.specs.GnuFind.{GnuTable, ReadsBloom}
-use Rattle.elf_parts.specs.Hash.{ReadsBelowCount}
-use Rattle.elf_parts.specs.SysvFind.{SysvTable}
-use Rattle.elf_check.specs.SoundGnu.{SoundGnu}
-use Rattle.elf_check.specs.SoundSysv.{Belongs, EndsAt, SoundSysv}
-use Rattle.elf_check.specs.WithSymbols.{WithSymbols}
+-- That a file is sound is true in one way only: so a struct can store it.
+use Rattle.std.specs.Prelude.{◌≡◌, ℕ, List, Option, Some}
+use Rattle.std.specs.Coded.{Coded-set, codes, le_prop}
+use Rattle.std.specs.Option.{IsSomeAnd-prop}
+use Rattle.elf_records.specs.Record.{RecordType}
+use Rattle.std.specs.Result.{IsOkAnd-prop, result_ok}
+use Rattle.elf.specs.Names.{name_table}
+use Rattle.elf_records.specs.declared.section.SectionHeader.{SectionHeader}
+use Rattle.elf_records.specs.Table.{Table}
+use Rattle.elf_hash_check.specs.Object.{ByGnu, BySysv, IsSound, Object}
+use Rattle.elf_hash_check.specs.declared.hashcheck.any.HashKind.{HashKind}
+use Rattle.elf_hash_check.specs.inner.SoundProps.{SoundGnu-prop, SoundSysv-prop}
+use Rattle.elf.specs.ObjectFile.{ObjectFile}
+use Rattle.elf_records.specs.declared.symbol.Symbol.{Symbol}
+use Rattle.elf_parts.specs.gnu_symver.Table.{Versions}
+use Rattle.elf_reading.specs.Versions.{version_sections}
+use Rattle.elf_reading.specs.declared.versions.VersionSections.{VersionSections}
+use Rattle.elf_check.specs.inner.SegmentsProps.{SoundSegments-prop}
+use Rattle.elf_check.specs.inner.VersionProps.{IfSome-prop, SoundDefs-prop, SoundNeeds-prop}
+use Rattle.elf_check.specs.versions.InFile.{SoundDefsOf, SoundIndexesOf, SoundNeedsOf, SoundVersions, SoundVersionsOf}
+use Rattle.elf_check.specs.Symbols.{AllNamed}
+use Rattle.elf_check.specs.Hashes.{SoundHash}
+use Rattle.elf_check.specs.Notes.{SoundNotes}
+use Rattle.elf_check.specs.Relocations.{SoundRelocations}
+use Rattle.elf_check.specs.Dynamic.{SoundDynamic}
+use Rattle.elf_check.specs.Sections.{SoundContent, SoundSection}
+use Rattle.elf_check.specs.Sound.{SoundFile}
+use Rattle.elf_check.specs.Symbols.{SoundSymbolTable, SoundSymbols}
 
--- ---- GNU
+-- the table of the names of sections
+abbrev pub HasNameTable : ObjectFile → Option (List ℕ) → Type 0
+HasNameTable file names = result_ok (name_table file) ≡ Some names
 
--- the words of a table can be read, as they can where it was cut from a section
-abbrev pub GnuReads : GnuTable → Type 0
-GnuReads t = ReadsBelowCount t.buckets × ReadsBelowCount t.chains × ReadsBloom t
+pub HasNameTable-prop : (file : ObjectFile) (names : Option (List ℕ)) → IsProp (HasNameTable file names)
+HasNameTable-prop file names = hlevel (Coded-set, codes)
 
-pub GnuReads-prop : (t : GnuTable) → IsProp (GnuReads t)
-GnuReads-prop t = hlevel (le_prop, Coded-set, codes)
+pub SoundSymbolTable-prop : (sections : ℕ) (symbols : Table) (strings : List ℕ) → IsProp (SoundSymbolTable sections
+    symbols strings)
+SoundSymbolTable-prop sections symbols strings = hlevel (le_prop, Coded-set, codes)
 
-pub SoundGnu-prop : (s : WithSymbols GnuTable) → IsProp (SoundGnu s)
-SoundGnu-prop s = hlevel (IsSomeAnd-prop, le_prop, Coded-set, codes)
+pub SoundSymbols-prop : (file : ObjectFile) (s : SectionHeader) → IsProp (SoundSymbols file s)
+SoundSymbols-prop file s = hlevel (IsOkAnd-prop, SoundSymbolTable-prop, le_prop, Coded-set, codes)
 
--- ---- SysV
+pub SoundRelocations-prop : {R : Type 0} (reads : RecordType R) (symbol_of : R → ℕ) (file : ObjectFile) (s :
+    SectionHeader) → IsProp (SoundRelocations reads symbol_of file s)
+SoundRelocations-prop reads symbol_of file s = hlevel (IsSomeAnd-prop, IsOkAnd-prop, le_prop, Coded-set, codes)
 
-abbrev pub SysvReads : SysvTable → Type 0
-SysvReads t = ReadsBelowCount t.buckets × ReadsBelowCount t.chains
+pub IsSound-prop : (object : Object) → IsProp (IsSound object)
+IsSound-prop (BySysv s) = SoundSysv-prop s
+IsSound-prop (ByGnu s) = SoundGnu-prop s
 
-pub SysvReads-prop : (t : SysvTable) → IsProp (SysvReads t)
-SysvReads-prop t = hlevel (le_prop, Coded-set, codes)
+pub SoundHash-prop : (kind : HashKind) (file : ObjectFile) (s : SectionHeader) → IsProp (SoundHash kind file s)
+SoundHash-prop kind file s = hlevel (IsOkAnd-prop, IsSound-prop, Coded-set, codes)
 
-EndsAt-prop : (s : WithSymbols SysvTable) (bucket j : ℕ) → IsProp (EndsAt s bucket j)
-EndsAt-prop s bucket j = hlevel (IsSomeAnd-prop, le_prop, Coded-set, codes)
+pub SoundNotes-prop : (file : ObjectFile) (s : SectionHeader) → IsProp (SoundNotes file s)
+SoundNotes-prop file s = hlevel (IsOkAnd-prop, le_prop)
 
--- a chain does not end before its first 0
-no_less : (s : WithSymbols SysvTable) (bucket j k : ℕ) → EndsAt s bucket j → EndsAt s bucket k → j ≤ k
-no_less s bucket j k a b = elim (cases_lt k j) [
-  | inr least ↦ least
-  | inl less ↦
-      let P : Option ℕ → Type 0 = λ v. IsSomeAnd v (λ index. (0 < index) × Belongs s bucket index) in
-      let zero_there = subst P b.1 (a.2 k less) in
-      absurd (omega (arith, zero_there.0))
-]
+pub SoundDynamic-prop : (file : ObjectFile) (s : SectionHeader) → IsProp (SoundDynamic file s)
+SoundDynamic-prop file s = hlevel (IsOkAnd-prop, Coded-set, codes)
 
-pub same_end : (s : WithSymbols SysvTable) (bucket j k : ℕ) → EndsAt s bucket j → EndsAt s bucket k → j ≡ k
-same_end s bucket j k a b = omega (arith, no_less s bucket j k a b, no_less s bucket k j b a)
+SoundContent-prop : (file : ObjectFile) (s : SectionHeader) → IsProp (SoundContent file s)
+SoundContent-prop file s = hlevel (
+  IsOkAnd-prop,
+  SoundDynamic-prop,
+  SoundHash-prop,
+  SoundNotes-prop,
+  SoundRelocations-prop,
+  SoundSymbols-prop,
+  le_prop,
+  Coded-set,
+  codes,
+)
 
--- at most one proof, where the number is determined
-one_number : (P : ℕ → Type 0) → ((j : ℕ) → IsProp (P j)) → ((j k : ℕ) → P j → P k → j ≡ k) → IsProp ((j : ℕ) × P j)
-one_number P prop same = λ x y.
-    let M : ℕ → Type 0 = λ n. (r : P n) → ◌≡◌ {A = (j : ℕ) × P j} x (n, r) in
-    subst M (same x.0 y.0 x.1 y.1) (λ r. ap (λ (t : P x.0). (x.0, t)) (prop x.0 x.1 r)) y.1
+pub SoundSection-prop : (file : ObjectFile) (s : SectionHeader) → IsProp (SoundSection file s)
+SoundSection-prop file s = hlevel (SoundContent-prop, Coded-set, codes)
 
-pub SoundSysv-prop : (s : WithSymbols SysvTable) → IsProp (SoundSysv s)
-SoundSysv-prop s =
-    Π_prop (λ bucket. Π_prop (λ _. one_number (EndsAt s bucket) (EndsAt-prop s bucket) (same_end s bucket)))
+SoundNeedsOf-prop : (file : ObjectFile) (s : SectionHeader) → IsProp (SoundNeedsOf file s)
+SoundNeedsOf-prop file s = hlevel (IsOkAnd-prop, SoundNeeds-prop)
+
+SoundDefsOf-prop : (file : ObjectFile) (s : SectionHeader) → IsProp (SoundDefsOf file s)
+SoundDefsOf-prop file s = hlevel (IsOkAnd-prop, SoundDefs-prop)
+
+SoundIndexesOf-prop : (file : ObjectFile) (versions : Versions) → IsProp (SoundIndexesOf file versions)
+SoundIndexesOf-prop file versions = hlevel (IsOkAnd-prop, IsSomeAnd-prop, Coded-set, codes)
+
+SoundVersionsOf-prop : (file : ObjectFile) (chosen : VersionSections) (s : SectionHeader) → IsProp (SoundVersionsOf
+    file chosen s)
+SoundVersionsOf-prop file chosen s =
+    hlevel (
+      IfSome-prop (SoundNeedsOf file) (SoundNeedsOf-prop file),
+      IfSome-prop (SoundDefsOf file)
+          (SoundDefsOf-prop file),
+      IsOkAnd-prop,
+      SoundIndexesOf-prop,
+      Coded-set,
+      codes,
+    )
+
+SoundVersions-prop : (file : ObjectFile) → IsProp (SoundVersions file)
+SoundVersions-prop file =
+    let chosen = version_sections file.sections in
+    IfSome-prop (SoundVersionsOf file chosen) (SoundVersionsOf-prop file chosen) chosen.indexes
+
+pub SoundFile-prop : (file : ObjectFile) → IsProp (SoundFile file)
+SoundFile-prop file = hlevel (SoundSection-prop, SoundVersions-prop, SoundSegments-prop, Coded-set, codes)
+
+pub AllNamed-prop : (strings : List ℕ) (symbols : List Symbol) → IsProp (AllNamed strings symbols)
+AllNamed-prop strings symbols = hlevel (Coded-set, codes)

@@ -1,14 +1,12 @@
 -- The content of sections that was taken.
 use Rattle.std.specs.Prelude.{ℕ, List, Result}
 use Rattle.std.specs.Borrow.{Bor}
-use Rattle.std.specs.List.{flat_map}
 use Rattle.std.specs.Option.{option_map}
 use Rattle.elf_records.specs.Number.{ok_map}
 use Rattle.elf_records.specs.declared.parse.ParseError.{ParseError}
 use Rattle.nugwier_report.specs.Said.{Said}
 use Rattle.nugwier_listing.specs.Contents.{found_said}
 use Rattle.nugwier_listing.specs.declared.contents.ContentPart.{ContentPart}
-use Rattle.nugwier_listing.specs.declared.contents.ContentTables.{ContentTables}
 
 abbrev pub bytes_view : Result (Bor (List ℕ)) ParseError → Result (List ℕ) ParseError
 bytes_view bytes = ok_map (λ b. b.now) bytes
@@ -19,6 +17,3 @@ found_view found = (found.0, bytes_view found.1)
 -- of a section that is wanted, and that was taken
 abbrev pub part_said : ContentPart → List Said
 part_said part = found_said part.wanted.form part.wanted.section.now (option_map found_view part.found)
-
-abbrev pub content_tables_said : ContentTables → List Said
-content_tables_said tables = flat_map part_said tables.0.items

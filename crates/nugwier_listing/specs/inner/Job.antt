@@ -1,50 +1,52 @@
 -- What is said of tables that were taken, for each command.
-use Rattle.std.specs.Prelude.{◌≡◌, ℕ, Bool, List, [], ◌++◌, Option, Some, None}
+use Rattle.std.specs.Prelude.{◌≡◌, ℕ, Bool, List, [], ◌++◌}
+use Rattle.std.specs.List.{flat_map}
 use Rattle.std.specs.Option.{option_map}
 use Rattle.elf.specs.Answers.{symbols_view}
 use Rattle.elf_records.specs.Number.{ok_map}
 use Rattle.nugwier_listing.specs.Addresses.{AreSaidBy}
 use Rattle.nugwier_listing.specs.Check.{AreFoundSaid}
+use Rattle.nugwier_listing.specs.Identity.{identity_said}
+use Rattle.nugwier_listing.specs.Plan.{plan_said}
 use Rattle.nugwier_listing.specs.Segments.{segments_said}
+use Rattle.nugwier_listing.specs.Symbols.{all_said}
 use Rattle.nugwier_listing.specs.declared.job.JobTables.{JobTables}
 use Rattle.nugwier_listing.specs.declared.job.JobTables.TheVariants.{Address, BuildId, Check, Linked, Listed, Needed}
 use Rattle.nugwier_listing.specs.declared.job.JobTables.TheVariants.{Nothing, Plan}
-use Rattle.nugwier_listing.specs.declared.list.HeaderTables.{HeaderTables}
 use Rattle.nugwier_listing.specs.declared.list.ListTables.{ListTables}
 use Rattle.nugwier_listing.specs.declared.list.PartTables.{PartTables}
-use Rattle.nugwier_listing.specs.inner.Contents.{content_tables_said}
+use Rattle.nugwier_listing.specs.declared.list.PartTables.TheVariants as part
+use Rattle.nugwier_listing.specs.inner.Contents.{part_said as content_said}
 use Rattle.nugwier_listing.specs.inner.Dynamic.{entries_said, needed_said}
-use Rattle.nugwier_listing.specs.inner.Identity.{taken_identity_said}
-use Rattle.nugwier_listing.specs.inner.Notes.{note_tables_said}
-use Rattle.nugwier_listing.specs.inner.Plan.{taken_plan_said}
-use Rattle.nugwier_listing.specs.inner.Relocations.{relocations_said}
+use Rattle.nugwier_listing.specs.inner.Notes.{part_said as notes_said}
+use Rattle.nugwier_listing.specs.inner.Relocations.{part_said as relocations_said}
 use Rattle.nugwier_listing.specs.inner.Sections.{taken_sections_said}
-use Rattle.nugwier_listing.specs.inner.Symbols.{linked_said, symbols_said}
-use Rattle.nugwier_listing.specs.inner.VersionLists.{version_lists_said}
+use Rattle.nugwier_listing.specs.inner.Symbols.{linked_said}
+use Rattle.nugwier_listing.specs.inner.VersionLists.{part_said as versions_said}
 use Rattle.nugwier_report.specs.Header.{header_said}
-use Rattle.nugwier_report.specs.Said.{Said, said_if}
+use Rattle.nugwier_report.specs.Said.{Said}
 
 module _ {E : Type 0} (little : E → Bool) where
-  abbrev pub headers_said : HeaderTables E → List Said
-  headers_said t =
-      said_if (header_said little) t.header ++ said_if taken_sections_said t.sections
-      ++ said_if (λ segments. segments_said segments.now) t.segments
+  unfoldable pub part_said : PartTables E → List Said
+  part_said (part.Header h) = header_said little h
+  part_said (part.Sections t) = taken_sections_said t
+  part_said (part.Segments segments) = segments_said segments.now
+  part_said (part.Symbols t) = all_said (ok_map (option_map symbols_view) t)
+  part_said (part.DynamicSymbols t) = linked_said t
+  part_said (part.Dynamic t) = entries_said t
+  part_said (part.Relocations t) = flat_map relocations_said t.items
+  part_said (part.Notes t) = flat_map notes_said t.items
+  part_said (part.Versions t) = flat_map versions_said t.items
 
-  abbrev pub parts_said : PartTables E → List Said
-  parts_said t =
-      said_if symbols_said t.symbols ++ said_if linked_said t.dynamic_symbols
-      ++ said_if entries_said t.dynamic ++ said_if relocations_said t.relocations
-      ++ said_if note_tables_said t.notes ++ said_if version_lists_said t.versions
-
-  abbrev pub list_said : ListTables E → List Said
-  list_said t = headers_said t.headers ++ parts_said t.parts ++ said_if content_tables_said t.contents
+  unfoldable pub list_said : ListTables E → List Said
+  list_said t = flat_map part_said t.parts.items ++ flat_map content_said t.contents.items
 
   abbrev pub IsTablesSaid : List ℕ → List ℕ → JobTables E → List Said → Type 0
   IsTablesSaid path addresses (Listed t) said = said ≡ list_said t
   IsTablesSaid path addresses (Linked t) said = said ≡ linked_said t
   IsTablesSaid path addresses (Needed t) said = said ≡ needed_said t
-  IsTablesSaid path addresses (BuildId t) said = said ≡ taken_identity_said t
-  IsTablesSaid path addresses (Plan t) said = said ≡ taken_plan_said t
+  IsTablesSaid path addresses (BuildId t) said = said ≡ identity_said (ok_map (option_map (λ id. id.now)) t)
+  IsTablesSaid path addresses (Plan t) said = said ≡ plan_said (ok_map (λ plan. plan.items) t)
   IsTablesSaid path addresses (Check checked) said = AreFoundSaid path (ok_map (λ faults. faults.items) checked) said
   IsTablesSaid path addresses (Address t) said = AreSaidBy addresses (ok_map (option_map symbols_view) t) said
   IsTablesSaid path addresses Nothing said = said ≡ []

@@ -1,18 +1,13 @@
 -- The notes that were taken.
 use Rattle.std.specs.Prelude.{List}
-use Rattle.std.specs.List.{flat_map}
 use Rattle.elf_parts.specs.Note.{notes_left}
 use Rattle.elf_records.specs.Number.{ok_map}
 use Rattle.nugwier_report.specs.Said.{Said}
 use Rattle.nugwier_listing.specs.Notes.{section_notes_said, segment_notes_said}
 use Rattle.nugwier_listing.specs.declared.notes.NotePart.{NotePart}
 use Rattle.nugwier_listing.specs.declared.notes.NotePart.TheVariants as part
-use Rattle.nugwier_listing.specs.declared.notes.NoteTables.{NoteTables}
 
 -- of a section or a segment that was taken
 abbrev pub part_said : {E : Type 0} → NotePart E → List Said
 part_said (part.Section k name notes) = section_notes_said k name.now (ok_map notes_left notes)
 part_said (part.Segment k notes) = segment_notes_said k (ok_map notes_left notes)
-
-abbrev pub note_tables_said : {E : Type 0} → NoteTables E → List Said
-note_tables_said tables = flat_map part_said tables.0.items

@@ -1,19 +1,16 @@
 -- What is said of the symbols that were taken.
-use Rattle.std.specs.Prelude.{List, []}
+use Rattle.std.specs.Prelude.{List}
 use Rattle.std.specs.Option.{option_map}
 use Rattle.elf.specs.Answers.{symbols_view}
 use Rattle.elf_parts.specs.gnu_symver.Table.{versions_view}
 use Rattle.elf_records.specs.Number.{ok_map}
-use Rattle.nugwier_listing.specs.Symbols.{answer_said, none_said, plain_said, versioned_said}
+use Rattle.nugwier_listing.specs.Read.{answer_said}
+use Rattle.nugwier_listing.specs.Symbols.{none_said, versioned_said}
 use Rattle.nugwier_listing.specs.declared.symbols.LinkedSymbols.{LinkedSymbols}
 use Rattle.nugwier_listing.specs.declared.symbols.LinkedTables.{LinkedTables}
-use Rattle.nugwier_listing.specs.declared.symbols.SymbolTables.{SymbolTables}
 use Rattle.nugwier_report.specs.Said.{Said}
 use Rattle.nugwier_report.specs.Symbols.{Manner, form_view}
-use Rattle.nugwier_report.specs.declared.problem.Part.TheVariants.{DynamicSymbols, Symbols}
-
-abbrev pub symbols_said : {E : Type 0} → SymbolTables E → List Said
-symbols_said tables = answer_said Symbols [] plain_said (ok_map (option_map symbols_view) tables.symbols)
+use Rattle.nugwier_report.specs.declared.problem.Part.TheVariants.{DynamicSymbols}
 
 abbrev pub one_linked_said : {E : Type 0} → Manner → LinkedSymbols E → List Said
 one_linked_said manner linked =

@@ -1,6 +1,5 @@
 -- The versions that were taken.
 use Rattle.std.specs.Prelude.{ℕ, List}
-use Rattle.std.specs.List.{flat_map}
 use Rattle.elf_parts.specs.gnu_symver.Lists.{ver_defs_left, ver_needs_left}
 use Rattle.elf_records.specs.Number.{ok_map}
 use Rattle.nugwier_report.specs.Said.{Said}
@@ -9,7 +8,6 @@ use Rattle.nugwier_listing.specs.declared.version_lists.TakenVersions.{TakenVers
 use Rattle.nugwier_listing.specs.declared.version_lists.TakenRecords.{TakenRecords}
 use Rattle.nugwier_listing.specs.declared.version_lists.TakenRecords.TheVariants as taken
 use Rattle.nugwier_listing.specs.declared.version_lists.VersionPart.{VersionPart}
-use Rattle.nugwier_listing.specs.declared.version_lists.VersionLists.{VersionLists}
 
 abbrev pub records_view : {E : Type 0} → TakenRecords E → Records
 records_view (taken.Defined definitions) = defined (ver_defs_left definitions)
@@ -21,6 +19,3 @@ versions_view versions = (records_view versions.records, versions.strings)
 -- of a section that was taken
 abbrev pub part_said : {E : Type 0} → VersionPart E → List Said
 part_said part = section_said part.number part.name.now part.is_defining (ok_map versions_view part.versions)
-
-abbrev pub version_lists_said : {E : Type 0} → VersionLists E → List Said
-version_lists_said lists = flat_map part_said lists.0.items

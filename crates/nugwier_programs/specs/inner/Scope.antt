@@ -9,14 +9,13 @@ use Rattle.elf_records.specs.declared.endian.EndianParse.{Ghosts as EndianGhosts
 use Rattle.elf_parts.specs.gnu_symver.Table.{Versions, versions_view}
 use Rattle.elf_reading.specs.Opening.{FileView}
 use Rattle.elf.specs.ElfBytes.{view}
-use Rattle.elf_check.specs.CheckedTable.{object_view}
-use Rattle.elf_check.specs.Object.{Object as Checked}
-use Rattle.elf_check.specs.declared.hashcheck.any.HashSection.{HashSection}
-use Rattle.elf_check.specs.declared.hashcheck.gnu.CheckedGnuHash.{CheckedGnuHash}
-use Rattle.elf_check.specs.declared.hashcheck.sysv.CheckedSysvHash.{CheckedSysvHash}
-use Rattle.elf_binding.specs.Binding.{VersionedObject}
-use Rattle.elf_binding.specs.VersionedView.{versioned_view}
-use Rattle.elf_binding.specs.declared.VersionedObject.{VersionedObject as Versioned}
+use Rattle.elf_hash_check.specs.CheckedTable.{object_view}
+use Rattle.elf_hash_check.specs.declared.hashcheck.any.HashSection.{HashSection}
+use Rattle.elf_hash_check.specs.declared.hashcheck.gnu.CheckedGnuHash.{CheckedGnuHash}
+use Rattle.elf_hash_check.specs.declared.hashcheck.sysv.CheckedSysvHash.{CheckedSysvHash}
+use Rattle.elf_linking.specs.Binding.{VersionedObject}
+use Rattle.elf_linking.specs.VersionedView.{versioned_view}
+use Rattle.elf_linking.specs.declared.VersionedObject.{VersionedObject as Versioned}
 use Rattle.nugwier_programs.specs.Bindings.{SearchedFile, Searching, Searched, Unsearchable, WithoutSymbols}
 use Rattle.nugwier_programs.specs.declared.bindings.objects.BoundFile.{BoundFile}
 use Rattle.nugwier_programs.specs.declared.bindings.objects.SearchFault.{SearchFault}
@@ -46,9 +45,6 @@ opened_of file = record {
   symbols = file.symbols;
   versions = file.object.versions;
 }
-
-abbrev pub table_of : SearchedFile → Checked
-table_of file = file.object.symbols
 
 abbrev pub object_of : SearchedFile → VersionedObject
 object_of file = file.object
@@ -91,13 +87,7 @@ module _ {order : EndianGhosts AnyEndian} {default : DefaultGhosts AnyEndian} {e
   abbrev pub indexed_view : Versioned AnyEndian Versions order default equal → VersionedObject
   indexed_view object = versioned_view (λ (index : Versions). index) object
 
-  -- the files and the tables, or the files and the objects, are those of these files
-  abbrev pub AreFound : List SearchedFile → List BoundFile
-      → List (HashSection (CheckedSysvHash AnyEndian order default equal)
-      (CheckedGnuHash AnyEndian order default equal))
-      → Type 0
-  AreFound all files tables = (map file_view files ≡ map opened_of all) × (map object_view tables ≡ map table_of all)
-
+  -- the files and the objects are those of these files
   abbrev pub AreInScope : List SearchedFile → List BoundFile
       → List (Versioned AnyEndian Versions order default equal) → Type 0
   AreInScope all files objects =

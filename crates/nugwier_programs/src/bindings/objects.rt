@@ -1,16 +1,16 @@
 //! The files of a program as objects of look-ups.
-ghost use Rattle.std.specs.Prelude.{[], ◌≡◌, ◌++◌, ◌∷◌, IfOk, List, OnOk, map};
+ghost use Rattle.std.specs.Prelude.{◌≡◌, ◌++◌, IfOk, List, OnOk, map};
 ghost use Rattle.std.specs.List.{flat_map, zip};
 ghost use Rattle.elf_records.specs.Endian.{any_is_little, any_of_byte};
 ghost use Rattle.elf_reading.specs.Opening.{opened_file};
-ghost use Rattle.elf_tools.specs.Tree.{entry_view, found_view};
-ghost use Rattle.nugwier_programs.specs.Bindings.{AreSearched, IsFileSearched, IsOpenedSearched, SearchedFile};
+ghost use Rattle.elf_linking.specs.Tree.{entry_view, found_view};
+ghost use Rattle.nugwier_programs.specs.Bindings.{AreSearched, IsFileSearched, IsOpenedSearched};
 ghost use Rattle.nugwier_programs.specs.Bindings.{Searching};
 ghost use Rattle.nugwier_programs.specs.Bindings.{files_of, search_problem};
-ghost use Rattle.nugwier_programs.specs.inner.Scope.{AreFound, indexed_view, paired_object, search_fault};
+ghost use Rattle.nugwier_programs.specs.inner.Scope.{indexed_view, paired_object, search_fault};
 ghost use Rattle.nugwier_programs.specs.inner.Scope.{searched_file, searching_of};
 ghost use Rattle.nugwier_programs.specs.declared.bindings.objects.SearchFault.TheVariants.{Object as IsObject};
-ghost use Rattle.elf_binding.specs.declared.resolve.ObjectFault.TheVariants.{Read as IsRead};
+ghost use Rattle.elf_linking.specs.declared.resolve.ObjectFault.TheVariants.{Read as IsRead};
 ghost use Rattle.nugwier_report.specs.Said.{saying};
 
 use crate::tree::FILE;
@@ -19,11 +19,11 @@ use elf::gnu_symver::SymbolVersionTable;
 use elf::string_table::TerminatedStrings;
 use elf::symbol::SymbolTable;
 use elf::{ElfBytes, ParseError};
-use elf_binding::resolve::ObjectFault;
-use elf_binding::{VersionedObject, versioned_object};
-use elf_check::hashcheck::AnyChecked;
-use elf_tools::bindings::{IndexedObject, with_index};
-use elf_tools::tree::{LoadedFile, Object};
+use elf_hash_check::hashcheck::AnyChecked;
+use elf_linking::bindings::{IndexedObject, with_index};
+use elf_linking::resolve::ObjectFault;
+use elf_linking::tree::{LoadedFile, Object};
+use elf_linking::{VersionedObject, versioned_object};
 use nugwier_report::problem::{Fault, Stop};
 use nugwier_report::quoted::Quoted;
 use nugwier_report::report::Report;
@@ -40,38 +40,8 @@ pub(crate) struct BoundFile<'a> {
     pub versions: Option<SymbolVersionTable<'a, AnyEndian>>,
 }
 
-/// The files that look-ups search, in order, and their hash tables.
-#[derive(Drop)]
-pub(crate) struct Found<'a> {
-    pub files: Vec<BoundFile<'a>>,
-    pub tables: Vec<AnyChecked<'a, AnyEndian>>,
-}
-
-impl<'a> Found<'a> {
-    pub(crate) fn none(alloc: Global) -> Found<'a>
-        ensures { AreFound [] result.files.items result.tables.items }
-    {
-        Found {
-            files: Vec::new(alloc),
-            tables: Vec::new(alloc),
-        }
-    }
-
-    fn add(
-        &mut self,
-        file: BoundFile<'a>,
-        table: AnyChecked<'a, AnyEndian>,
-    ) -> Result<(), AllocError>
-        ensures { IfOk result (λ done. (all : List SearchedFile)
-            → AreFound all self.old.files.items self.old.tables.items
-            → AreFound (all ++ searched_file (file.entry, table.entry) ∷ [])
-            self.new.files.items self.new.tables.items) }
-    {
-        self.files.push(file)?;
-        self.tables.push(table)?;
-        Ok(())
-    }
-}
+/// A file that look-ups search, with its hash table.
+pub(crate) type WithTable<'a> = (BoundFile<'a>, AnyChecked<'a, AnyEndian>);
 
 // Why a file cannot be searched.
 #[derive(Drop)]
@@ -81,9 +51,6 @@ enum SearchFault {
     NoHash,
 }
 
-// A file with its hash table. `None` if it has no symbols for dynamic linking.
-type WithTable<'a> = Option<(BoundFile<'a>, AnyChecked<'a, AnyEndian>)>;
-
 impl From<ParseError> for SearchFault {
     ghost from_gives = { λ error fault. fault ≡ IsObject (IsRead error) };
 
@@ -92,7 +59,8 @@ impl From<ParseError> for SearchFault {
     }
 }
 
-fn open(loaded: &LoadedFile) -> Result<WithTable<'_>, SearchFault>
+// Opens a file. Returns `None` if it has no symbols for dynamic linking.
+fn open(loaded: &LoadedFile) -> Result<Option<WithTable<'_>>, SearchFault>
     ensures { let path = loaded.now.path.items in
         IsOpenedSearched path (opened_file any_is_little any_of_byte loaded.now.bytes.items)
         (searching_of path result) }
@@ -122,20 +90,19 @@ fn open(loaded: &LoadedFile) -> Result<WithTable<'_>, SearchFault>
 #[tactic(auto, using(crate::proofs::Walk::saying_nothing))]
 pub(crate) fn add_file<'a, W: Write, V: Write>(
     object: &'a Object,
-    found: &mut Found<'a>,
+    found: &mut Vec<WithTable<'a>>,
     report: &mut Report<'_, W, V>,
 ) -> Result<(), Stop>
     ensures { OnOk result ((searching : Searching) × IsFileSearched (entry_view object.now).file searching
         × (report.new ≡ saying report.old (search_problem searching))
-        × ((all : List SearchedFile) → AreFound all found.old.files.items found.old.tables.items
-        → AreFound (all ++ files_of searching) found.new.files.items found.new.tables.items)) }
+        × (map searched_file found.new.items ≡ map searched_file found.old.items ++ files_of searching)) }
 {
     let Some(loaded) = &object.file else {
         return Ok(());
     };
     match open(loaded) {
-        Ok(Some((file, table))) => {
-            found.add(file, table)?;
+        Ok(Some(one)) => {
+            found.push(one)?;
             Ok(())
         }
         Ok(None) => Ok(()),
@@ -160,18 +127,34 @@ fn problem_of(path: &[u8], fault: SearchFault) -> Fault<'_>
 /// Adds the files of these objects, and says which cannot be searched.
 pub(crate) fn add_files<'a, W: Write, V: Write>(
     objects: &'a [Object],
-    found: &mut Found<'a>,
+    found: &mut Vec<WithTable<'a>>,
     report: &mut Report<'_, W, V>,
 ) -> Result<(), Stop>
     ensures { OnOk result ((all : List Searching) × AreSearched (map entry_view objects.now) all
         × (report.new ≡ saying report.old (flat_map search_problem all))
-        × ((before : List SearchedFile) → AreFound before found.old.files.items found.old.tables.items
-        → AreFound (before ++ flat_map files_of all) found.new.files.items found.new.tables.items)) }
+        × (map searched_file found.new.items ≡ map searched_file found.old.items ++ flat_map files_of all)) }
 {
     for object in objects {
         add_file(object, found, report)?;
     }
     Ok(())
+}
+
+/// Returns the files and their hash tables, apart.
+pub(crate) fn split<'a>(
+    alloc: Global,
+    found: Vec<WithTable<'a>>,
+) -> Result<(Vec<BoundFile<'a>>, Vec<AnyChecked<'a, AnyEndian>>), AllocError>
+    ensures files { IfOk result (λ both. both.0.items ≡ map (λ one. one.0) found.entry.items) }
+    ensures tables { IfOk result (λ both. both.1.items ≡ map (λ one. one.1) found.entry.items) }
+{
+    let mut files = Vec::new(alloc);
+    let mut tables = Vec::new(alloc);
+    for (file, table) in found {
+        files.push(file)?;
+        tables.push(table)?;
+    }
+    Ok((files, tables))
 }
 
 /// Returns the objects of these files and tables, each with an index of its versions.

@@ -1,19 +1,21 @@
 //! What is said of what the symbols of a file bind to.
 ghost use Rattle.std.specs.Prelude.{◌≡◌, ◌++◌, IfOk, List, OnOk, map, replicate, slice_get};
+ghost use Rattle.std.specs.List.{flat_map, zip};
 ghost use Rattle.std.specs.Option.{option_copied, option_map};
 ghost use Rattle.elf.specs.ElfBytes.{view};
 ghost use Rattle.elf.specs.ObjectFile.{object_file};
 ghost use Rattle.elf_records.specs.Endian.{any_is_little};
 ghost use Rattle.elf_records.specs.Table.{table_view};
-ghost use Rattle.elf_tools.specs.SymbolBindings.{AreAllBound};
-ghost use Rattle.elf_tools.specs.SymbolUses.{no_uses, uses_by};
+ghost use Rattle.elf_linking.specs.SymbolBindings.{AreAllBound};
+ghost use Rattle.elf_linking.specs.declared.bindings.kinds.SymbolBinding.{SymbolBinding as IsBinding};
+ghost use Rattle.elf_linking.specs.SymbolUses.{no_uses, uses_by};
 ghost use Rattle.nugwier_programs.specs.Bindings.{AreSymbolsSaid, AreUses, file_heading, file_uses, looked_up};
 ghost use Rattle.nugwier_programs.specs.Bindings.{uses_problem};
-ghost use Rattle.nugwier_programs.specs.Symbols.{address_problem, address_said, each, fault_problem, one_problems};
+ghost use Rattle.nugwier_programs.specs.Symbols.{fault_problem, one_problems};
 ghost use Rattle.nugwier_programs.specs.Symbols.{one_said};
 ghost use Rattle.nugwier_programs.specs.Symbols.{outcome_problem, quoted, reference_problem, reference_said};
 ghost use Rattle.nugwier_programs.specs.Symbols.{symbol_problems};
-ghost use Rattle.nugwier_programs.specs.Symbols.{symbol_said, symbols_said};
+ghost use Rattle.nugwier_programs.specs.Symbols.{symbol_said};
 ghost use Rattle.nugwier_programs.specs.inner.Scope.{file_view, indexed_view, scope_paths, versions_of};
 ghost use Rattle.nugwier_report.specs.Bindings.{bound_view};
 ghost use Rattle.nugwier_report.specs.Said.{Said, saying};
@@ -22,9 +24,9 @@ use crate::bindings::objects::BoundFile;
 use crate::bindings::targets::{Outcome, Scope, Versions, address_place, bound_symbol};
 use crate::tree::FILE;
 use elf::symbol::Symbol;
-use elf_tools::bindings::Bound;
-use elf_tools::bindings::kinds::{SymbolBinding, SymbolFault, bind_symbols, bound_symbols};
-use elf_tools::bindings::uses::{NO_USES, SymbolUses, add_uses};
+use elf_linking::bindings::Bound;
+use elf_linking::bindings::kinds::{SymbolBinding, SymbolFault, bind_symbols, bound_symbols};
+use elf_linking::bindings::uses::{NO_USES, SymbolUses, add_uses};
 use nugwier_report::bindings::{BoundSymbol, Place, say_binding};
 use nugwier_report::json::Value;
 use nugwier_report::kind::Kind;
@@ -34,14 +36,11 @@ use nugwier_report::report::Report;
 use std::alloc::{AllocError, Global};
 use std::io::Write;
 
-// The symbols of a file that are bound, each with its index, and what they bind to.
-#[derive(Drop)]
-struct Bindings {
-    symbols: Vec<(usize, Symbol)>,
-    bindings: Vec<SymbolBinding>,
-}
+// A symbol that is bound, with its index, and what it binds to.
+type BoundOne = ((usize, Symbol), SymbolBinding);
 
-/// Says what the symbols of a file, whose object is at this place, bind to, for people under a heading.
+/// Says what each symbol of a file, whose object is at this place, binds to, and then what is missing or not known, for
+/// people under a heading.
 pub(crate) fn say_file<W: Write, V: Write>(
     alloc: Global,
     scope: Scope<'_, '_, '_, '_>,
@@ -57,8 +56,13 @@ pub(crate) fn say_file<W: Write, V: Write>(
         opened.symbols versions (file_uses opened.opened opened.symbols.0) said
         × (report.new ≡ saying report.old (file_heading place opened.path ++ said))) }
 {
+    let versions = scope.versions(place);
     say_heading(place, file, report)?;
-    say_symbols(alloc, scope, file, scope.versions(place), report)?;
+    let uses = uses_of(alloc, file, report)?;
+    let bound = bind_all(alloc, scope, file, &uses, versions)?;
+    let bound = bound.as_slice();
+    say_bindings(scope, file, bound, versions, report)?;
+    say_problems(scope, file, bound, versions, report)?;
     Ok(())
 }
 
@@ -76,43 +80,6 @@ fn say_heading<W: Write, V: Write>(
         Kind::NextFileHeading
     };
     report.state(kind, &[("path", Value::Text(Some(file.path)))])
-}
-
-// Says what the symbols of a file with these versions bind to.
-fn say_symbols<'n, W: Write, V: Write>(
-    alloc: Global,
-    scope: Scope<'_, '_, '_, '_>,
-    file: &BoundFile<'n>,
-    versions: Option<&'n Versions<'_, '_>>,
-    report: &mut Report<'_, W, V>,
-) -> Result<(), Stop>
-    ensures { let opened = file_view file.now in
-        let objects = scope.entry.objects.now in
-        OnOk result ((said : List Said)
-        × AreSymbolsSaid indexed_view objects (scope_paths scope.entry.files.now) (map indexed_view objects) opened.path
-        opened.symbols (option_map (λ index. index.now) versions.entry) (file_uses opened.opened opened.symbols.0) said
-        × (report.new ≡ saying report.old said)) }
-{
-    let uses = uses_of(alloc, file, report)?;
-    let bindings = bind_all(alloc, scope, file, &uses, versions)?;
-    say_bound(scope, file, &bindings, versions, report)?;
-    Ok(())
-}
-
-// Says of each symbol what it binds to, and then what is missing or not known.
-fn say_bound<'n, W: Write, V: Write>(
-    scope: Scope<'_, '_, '_, '_>,
-    file: &BoundFile<'n>,
-    bindings: &Bindings,
-    versions: Option<&'n Versions<'_, '_>>,
-    report: &mut Report<'_, W, V>,
-) -> Result<(), Stop>
-    ensures { OnOk result (report.new ≡ saying report.old (symbols_said (scope_paths scope.entry.files.now)
-        (map indexed_view scope.entry.objects.now) file.now.path.now file.now.strings
-        (option_map (λ index. index.now) versions.entry) bindings.now.symbols.items bindings.now.bindings.items)) }
-{
-    say_bindings(scope, file, bindings, versions, report)?;
-    say_problems(scope, file, bindings, versions, report)
 }
 
 // No uses of this many symbols.
@@ -166,11 +133,11 @@ fn bind_all(
     file: &BoundFile<'_>,
     uses: &[SymbolUses],
     versions: Option<&Versions<'_, '_>>,
-) -> Result<Bindings, AllocError>
-    ensures { let table = table_view file.now.symbols in
-        IfOk result (λ found. (found.symbols.items ≡ looked_up table uses.now)
+) -> Result<Vec<BoundOne>, AllocError>
+    ensures { let symbols = looked_up (table_view file.now.symbols) uses.now in
+        IfOk result (λ bound. (bindings : List IsBinding) × (bound.items ≡ zip symbols bindings)
         × AreAllBound indexed_view scope.entry.objects.now file.now.strings
-        (option_map (λ index. index.now) versions.entry) uses.now (looked_up table uses.now) found.bindings.items) }
+        (option_map (λ index. index.now) versions.entry) uses.now symbols bindings) }
 {
     let symbols = bound_symbols(alloc, &file.symbols, uses)?;
     let bindings = bind_symbols(
@@ -181,44 +148,34 @@ fn bind_all(
         &file.strings,
         versions,
     )?;
-    Ok(Bindings { symbols, bindings })
+    paired(alloc, symbols, bindings)
 }
 
-// The symbol at a place, if there is one.
-fn symbol_at(bindings: &Bindings, place: usize) -> Option<&(usize, Symbol)>
-    ensures { option_map (λ one. one.now) result ≡ slice_get bindings.now.symbols.items place }
+// The symbols, each with what it binds to.
+fn paired(
+    alloc: Global,
+    symbols: Vec<(usize, Symbol)>,
+    bindings: Vec<SymbolBinding>,
+) -> Result<Vec<BoundOne>, AllocError>
+    ensures { IfOk result (λ bound. bound.items ≡ zip symbols.items bindings.items) }
 {
-    bindings.symbols.get(place)
-}
-
-// What the symbol at a place binds to, if there is one.
-fn binding_at(bindings: &Bindings, place: usize) -> Option<&SymbolBinding>
-    ensures { option_map (λ binding. binding.now) result ≡ slice_get bindings.now.bindings.items place }
-{
-    bindings.bindings.get(place)
+    symbols.into_iter().zip(bindings).collect(alloc)
 }
 
 // Says what the symbols bind to.
 fn say_bindings<'n, W: Write, V: Write>(
     scope: Scope<'_, '_, '_, '_>,
     file: &BoundFile<'n>,
-    bindings: &Bindings,
+    bound: &[BoundOne],
     versions: Option<&'n Versions<'_, '_>>,
     report: &mut Report<'_, W, V>,
 ) -> Result<(), Stop>
     ensures { let said = one_said (scope_paths scope.entry.files.now) (map indexed_view scope.entry.objects.now)
         file.now.path.now file.now.strings (option_map (λ index. index.now) versions.entry) in
-        OnOk result (report.new
-        ≡ saying report.old (each said bindings.now.symbols.items bindings.now.bindings.items)) }
+        OnOk result (report.new ≡ saying report.old (flat_map said bound.now)) }
 {
-    for place in 0..bindings.symbols.len() {
-        let Some(one) = symbol_at(bindings, place) else {
-            return Ok(());
-        };
-        let Some(binding) = binding_at(bindings, place) else {
-            return Ok(());
-        };
-        say_symbol(scope, &bound_symbol(file, versions, one), binding, report)?;
+    for one in bound {
+        say_symbol(scope, &bound_symbol(file, versions, &one.0), &one.1, report)?;
     }
     Ok(())
 }
@@ -227,28 +184,22 @@ fn say_bindings<'n, W: Write, V: Write>(
 fn say_problems<'n, W: Write, V: Write>(
     scope: Scope<'_, '_, '_, '_>,
     file: &BoundFile<'n>,
-    bindings: &Bindings,
+    bound: &[BoundOne],
     versions: Option<&'n Versions<'_, '_>>,
     report: &mut Report<'_, W, V>,
 ) -> Result<(), Stop>
     ensures { let said = one_problems (scope_paths scope.entry.files.now) file.now.path.now file.now.strings
         (option_map (λ index. index.now) versions.entry) in
-        OnOk result (report.new
-        ≡ saying report.old (each said bindings.now.symbols.items bindings.now.bindings.items)) }
+        OnOk result (report.new ≡ saying report.old (flat_map said bound.now)) }
 {
-    for place in 0..bindings.symbols.len() {
-        let Some(one) = symbol_at(bindings, place) else {
-            return Ok(());
-        };
-        let Some(binding) = binding_at(bindings, place) else {
-            return Ok(());
-        };
-        say_symbol_problems(scope, &bound_symbol(file, versions, one), binding, report)?;
+    for one in bound {
+        say_symbol_problems(scope, &bound_symbol(file, versions, &one.0), &one.1, report)?;
     }
     Ok(())
 }
 
-// Says what a symbol binds to, by each kind of references.
+// Says what a symbol binds to, by each kind of references. A function whose address is found elsewhere than its calls go
+// has a line for each.
 fn say_symbol<W: Write, V: Write>(
     scope: Scope<'_, '_, '_, '_>,
     symbol: &BoundSymbol<'_>,
@@ -258,52 +209,33 @@ fn say_symbol<W: Write, V: Write>(
     ensures { OnOk result (report.new ≡ saying report.old (symbol_said (scope_paths scope.entry.files.now)
         (map indexed_view scope.entry.objects.now) (bound_view symbol.now) binding.now)) }
 {
-    say_reference(scope, symbol, "jump_slot", &binding.jump_slot, report)?;
-    say_address(scope, symbol, &binding.jump_slot, &binding.address, report)?;
-    say_reference(scope, symbol, "copy", &binding.copied, report)
+    let calls = &binding.jump_slot;
+    let address = &binding.address;
+    say_reference(scope, symbol, Place::First, "jump_slot", calls, report)?;
+    say_reference(
+        scope,
+        symbol,
+        address_place(calls, address),
+        "address",
+        address,
+        report,
+    )?;
+    say_reference(scope, symbol, Place::First, "copy", &binding.copied, report)
 }
 
 fn say_reference<W: Write, V: Write>(
     scope: Scope<'_, '_, '_, '_>,
     symbol: &BoundSymbol<'_>,
+    place: Place,
     reference: &'static str,
     outcome: &Option<Outcome>,
     report: &mut Report<'_, W, V>,
 ) -> Result<(), Stop>
     ensures { OnOk result (report.new ≡ saying report.old (reference_said (scope_paths scope.entry.files.now)
-        (map indexed_view scope.entry.objects.now) (bound_view symbol.now) reference.now outcome.now)) }
+        (map indexed_view scope.entry.objects.now) (bound_view symbol.now) place reference.now outcome.now)) }
 {
     match outcome {
-        Some(outcome) => say_binding(
-            symbol,
-            Place::First,
-            reference,
-            &scope.target(outcome),
-            report,
-        ),
-        None => Ok(()),
-    }
-}
-
-// A function whose address is found elsewhere than its calls go has a line for each.
-fn say_address<W: Write, V: Write>(
-    scope: Scope<'_, '_, '_, '_>,
-    symbol: &BoundSymbol<'_>,
-    calls: &Option<Outcome>,
-    address: &Option<Outcome>,
-    report: &mut Report<'_, W, V>,
-) -> Result<(), Stop>
-    ensures { OnOk result (report.new ≡ saying report.old (address_said (scope_paths scope.entry.files.now)
-        (map indexed_view scope.entry.objects.now) (bound_view symbol.now) calls.now address.now)) }
-{
-    match address {
-        Some(address) => say_binding(
-            symbol,
-            address_place(calls, address),
-            "address",
-            &scope.target(address),
-            report,
-        ),
+        Some(outcome) => say_binding(symbol, place, reference, &scope.target(outcome), report),
         None => Ok(()),
     }
 }
@@ -318,44 +250,36 @@ fn say_symbol_problems<W: Write, V: Write>(
     ensures { OnOk result (report.new ≡ saying report.old
         (symbol_problems (scope_paths scope.entry.files.now) (bound_view symbol.now) binding.now)) }
 {
-    say_reference_problem(scope, symbol, &binding.jump_slot, report)?;
-    say_address_problem(scope, symbol, &binding.jump_slot, &binding.address, report)?;
-    say_reference_problem(scope, symbol, &binding.copied, report)
+    let calls = &binding.jump_slot;
+    let address = &binding.address;
+    say_reference_problem(scope, symbol, Place::First, calls, report)?;
+    say_reference_problem(
+        scope,
+        symbol,
+        address_place(calls, address),
+        address,
+        report,
+    )?;
+    say_reference_problem(scope, symbol, Place::First, &binding.copied, report)
 }
 
+// What is the same for the calls is told with these.
 fn say_reference_problem<W: Write, V: Write>(
     scope: Scope<'_, '_, '_, '_>,
     symbol: &BoundSymbol<'_>,
+    place: Place,
     outcome: &Option<Outcome>,
     report: &mut Report<'_, W, V>,
 ) -> Result<(), Stop>
     ensures { OnOk result (report.new ≡ saying report.old
-        (reference_problem (scope_paths scope.entry.files.now) (bound_view symbol.now) outcome.now)) }
+        (reference_problem (scope_paths scope.entry.files.now) (bound_view symbol.now) place outcome.now)) }
 {
-    match outcome {
-        Some(outcome) => say_outcome(scope, symbol, outcome, report),
-        None => Ok(()),
-    }
-}
-
-// What is the same for the calls is told with these.
-fn say_address_problem<W: Write, V: Write>(
-    scope: Scope<'_, '_, '_, '_>,
-    symbol: &BoundSymbol<'_>,
-    calls: &Option<Outcome>,
-    address: &Option<Outcome>,
-    report: &mut Report<'_, W, V>,
-) -> Result<(), Stop>
-    ensures { OnOk result (report.new ≡ saying report.old
-        (address_problem (scope_paths scope.entry.files.now) (bound_view symbol.now) calls.now address.now)) }
-{
-    let Some(address) = address else {
+    let Some(outcome) = outcome else {
         return Ok(());
     };
-    match address_place(calls, address) {
+    match place {
         Place::Same => Ok(()),
-        Place::First => say_outcome(scope, symbol, address, report),
-        Place::Elsewhere => say_outcome(scope, symbol, address, report),
+        Place::First | Place::Elsewhere => say_outcome(scope, symbol, outcome, report),
     }
 }
 

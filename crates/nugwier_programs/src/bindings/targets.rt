@@ -1,7 +1,7 @@
 //! The symbols of a file, and what they bind to.
 ghost use Rattle.std.specs.Prelude.{◌≡◌, map, slice_get};
 ghost use Rattle.std.specs.Option.{option_copied, option_map};
-ghost use Rattle.elf_binding.specs.BindingObjects.{version_in};
+ghost use Rattle.elf_linking.specs.BindingObjects.{version_in};
 ghost use Rattle.elf_tools.specs.SymbolVersions.{symbol_version_in};
 ghost use Rattle.nugwier_programs.specs.Symbols.{address_place, bound_place, own_version, path_in, same_outcome};
 ghost use Rattle.nugwier_programs.specs.Symbols.{same_place};
@@ -13,9 +13,9 @@ use crate::bindings::objects::BoundFile;
 use elf::endian::AnyEndian;
 use elf::gnu_symver::IndexedVersions;
 use elf::symbol::Symbol;
-use elf_binding::{Wanted, reference};
-use elf_tools::bindings::kinds::SymbolFault;
-use elf_tools::bindings::{Bound, IndexedObject};
+use elf_linking::bindings::kinds::SymbolFault;
+use elf_linking::bindings::{Bound, IndexedObject};
+use elf_linking::{Wanted, reference};
 use elf_tools::symbol_versions::{SymbolVersion, symbol_version};
 use nugwier_report::bindings::{BoundSymbol, OwnVersion, Place, Target};
 use std::alloc::Global;
@@ -145,18 +145,13 @@ fn own_version<'v>(versions: Option<&'v Versions<'_, '_>>, symbol: usize) -> Opt
 }
 
 /// Returns how people are told what the address of a symbol binds to, beside what calls of it bind to.
-pub(crate) fn address_place(calls: &Option<Outcome>, address: &Outcome) -> Place
+pub(crate) fn address_place(calls: &Option<Outcome>, address: &Option<Outcome>) -> Place
     ensures { result ≡ address_place calls.now address.now }
 {
-    match calls {
-        Some(calls) => {
-            if is_same(calls, address) {
-                Place::Same
-            } else {
-                Place::Elsewhere
-            }
-        }
-        None => Place::First,
+    match (calls, address) {
+        (Some(calls), Some(address)) if is_same(calls, address) => Place::Same,
+        (Some(_), Some(_)) => Place::Elsewhere,
+        _ => Place::First,
     }
 }
 

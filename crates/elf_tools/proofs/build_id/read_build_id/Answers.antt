@@ -4,7 +4,7 @@ use Rattle.std.specs.Vec.{vec_items}
 use Rattle.elf.specs.declared.read_error.ReadError.TheVariants.{NotLoaded, Parse}
 use Rattle.elf_tools.specs.BuildId.{MissesId}
 use Rattle.elf_tools.proofs.BuildIds.{id_copied, id_refused}
-use Rattle.elf_tools.proofs.Missing.{has_loaded, known_before, loads_more}
+use Rattle.elf_linking.proofs.Missing.{has_loaded, known_before, loads_more}
 use Rattle.elf_tools.proofs.build_id.read_build_id.Goals as goal
 
 pub returns-in-Ok-clause-id : goal.returns-in-Ok-clause-id

@@ -1,5 +1,5 @@
 use Rattle.elf_tools.specs.BuildId.{MissesId}
-use Rattle.elf_tools.proofs.Missing.{Loading}
+use Rattle.elf_linking.proofs.Missing.{Loading}
 use Rattle.elf_tools.proofs.build_id.read_build_id.Given as goal
 
 -- what was loaded so far was missing

@@ -4,7 +4,7 @@ use Rattle.elf_records.specs.Record.{numbers_at}
 use Rattle.elf_parts.specs.gnu_symver.Links.{links_in}
 use Rattle.elf_records.specs.StringTable.{string_at}
 use Rattle.elf_parts.specs.gnu_symver.Table.{defined_version, needed_version}
-use Rattle.elf_binding.specs.Binding.{unreadable}
+use Rattle.elf_linking.specs.Binding.{unreadable}
 use Rattle.elf_worked.specs.Bound.{functions_of, takes}
 use Rattle.elf_worked.proofs.binding.taken_without_a_version.Goals as goal
 

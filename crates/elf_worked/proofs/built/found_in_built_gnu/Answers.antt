@@ -1,7 +1,7 @@
 use Rattle.std.proofs.Common.{ℕ, List, sym, subst}
 use Rattle.elf_parts.specs.GnuFind.{GnuTable}
-use Rattle.elf_check.specs.Indexed.{IsLeastNamed}
-use Rattle.elf_check.specs.WithSymbols.{WithSymbols}
+use Rattle.elf_hash_check.specs.Indexed.{IsLeastNamed}
+use Rattle.elf_hash_check.specs.WithSymbols.{WithSymbols}
 use Rattle.elf_worked.proofs.BuiltSound.{gnu_found, gnu_sound}
 use Rattle.elf_worked.proofs.built.found_in_built_gnu.Goals as goal
 

@@ -1,7 +1,7 @@
 use Rattle.std.proofs.Common.{ℕ, List, sym, subst}
 use Rattle.elf_parts.specs.SysvFind.{SysvTable}
-use Rattle.elf_check.specs.Indexed.{IsFirstNamed}
-use Rattle.elf_check.specs.WithSymbols.{WithSymbols}
+use Rattle.elf_hash_check.specs.Indexed.{IsFirstNamed}
+use Rattle.elf_hash_check.specs.WithSymbols.{WithSymbols}
 use Rattle.elf_worked.proofs.BuiltSound.{sysv_found, sysv_sound}
 use Rattle.elf_worked.proofs.built.found_in_built_sysv.Goals as goal
 

@@ -7,13 +7,13 @@ use Rattle.elf_parts.specs.Hash.{word_at}
 use Rattle.elf_records.specs.Number.{bytes_at, number_at}
 use Rattle.elf_records.specs.Record.{numbers_at}
 use Rattle.elf_parts.specs.SysvFind.{sysv_section}
-use Rattle.elf_check.specs.Indexed.{chain_lengths}
-use Rattle.elf_check.specs.WithSymbols.{word}
+use Rattle.elf_hash_check.specs.Indexed.{chain_lengths}
+use Rattle.elf_hash_check.specs.WithSymbols.{word}
 use Rattle.std.specs.Fmt.{digits}
 use Rattle.std.proofs.Common.{ap, ℕ, List, [], ◌++◌, Result, Ok}
 use Rattle.elf_records.specs.declared.parse.ParseError.{ParseError}
-use Rattle.elf_check.specs.Object.{ByGnu, BySysv}
-use Rattle.elf_check.specs.inner.Decisions.{decide}
+use Rattle.elf_hash_check.specs.Object.{ByGnu, BySysv}
+use Rattle.elf_hash_check.specs.inner.Decisions.{decide}
 use Rattle.elf_worked.proofs.Below.{known_faulty, known_sound}
 use Rattle.elf_worked.proofs.HashesOfA.{gnu_of_a_sound, sysv_of_a_cyclic, sysv_of_a_sound}
 use Rattle.elf_worked.specs.HashesOfA.{gnu_of_a, sysv_of_a}

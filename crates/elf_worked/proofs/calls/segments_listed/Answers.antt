@@ -3,7 +3,7 @@ use Rattle.elf_reading.specs.Opening.{header_at_front, section_table, segment_ta
 use Rattle.elf_records.specs.File.{ident_of}
 use Rattle.elf_records.specs.Number.{bytes_at, number_at}
 use Rattle.elf_records.specs.Record.{numbers_at}
-use Rattle.elf_lines.specs.Segments.{segment_places, segment_sizes}
+use Rattle.elfshow_lines.specs.Segments.{segment_places, segment_sizes}
 use Rattle.std.specs.Fmt.{digits}
 use Rattle.elf_worked.proofs.calls.segments_listed.Goals as goal
 

@@ -5,7 +5,7 @@ use Rattle.elf_records.specs.File.{ident_of}
 use Rattle.elf_records.specs.Number.{bytes_at, number_at}
 use Rattle.elf_records.specs.Record.{numbers_at}
 use Rattle.elf_records.specs.StringTable.{string_at}
-use Rattle.elf_lines.specs.Symbols.{symbol_fields}
+use Rattle.elfshow_lines.specs.Symbols.{symbol_fields}
 use Rattle.std.specs.Fmt.{digits}
 use Rattle.elf_worked.proofs.calls.symbols_listed.Goals as goal
 

@@ -1,5 +1,5 @@
 use Rattle.std.proofs.Common.{refl}
-use Rattle.elf_lines.specs.Segments.{segment_places, segment_sizes}
+use Rattle.elfshow_lines.specs.Segments.{segment_places, segment_sizes}
 use Rattle.std.specs.Fmt.{digits}
 use Rattle.elf_worked.proofs.lines.segment_written.Goals as goal
 

@@ -1,6 +1,6 @@
 use Rattle.std.proofs.Common.{refl}
 use Rattle.elf_records.specs.StringTable.{string_at}
-use Rattle.elf_lines.specs.Symbols.{symbol_fields}
+use Rattle.elfshow_lines.specs.Symbols.{symbol_fields}
 use Rattle.std.specs.Fmt.{digits}
 use Rattle.elf_worked.proofs.lines.symbols_written.Goals as goal
 

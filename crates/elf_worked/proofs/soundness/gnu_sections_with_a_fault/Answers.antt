@@ -2,8 +2,8 @@ use Rattle.std.proofs.Common.{ap}
 use Rattle.elf_records.specs.Number.{bytes_at, number_at}
 use Rattle.elf_records.specs.Record.{numbers_at}
 use Rattle.elf_parts.specs.GnuFind.{gnu_section}
-use Rattle.elf_check.specs.Object.{ByGnu}
-use Rattle.elf_check.specs.inner.Decisions.{decide}
+use Rattle.elf_hash_check.specs.Object.{ByGnu}
+use Rattle.elf_hash_check.specs.inner.Decisions.{decide}
 use Rattle.std.specs.Prelude.{Ok}
 use Rattle.elf_worked.specs.SoundSections.{gnu_with}
 use Rattle.elf_worked.proofs.Below.{known_faulty}

@@ -4,11 +4,11 @@ use Rattle.elf_parts.specs.Hash.{word_at}
 use Rattle.elf_records.specs.Number.{bytes_at, number_at}
 use Rattle.elf_records.specs.Record.{numbers_at}
 use Rattle.elf_parts.specs.SysvFind.{sysv_section}
-use Rattle.elf_check.proofs.SysvVerdicts.{true_fault}
-use Rattle.elf_check.specs.Indexed.{chain_lengths}
-use Rattle.elf_check.specs.WithSymbols.{word}
-use Rattle.elf_check.specs.Object.{BySysv}
-use Rattle.elf_check.specs.inner.Decisions.{decide}
+use Rattle.elf_hash_check.proofs.SysvVerdicts.{true_fault}
+use Rattle.elf_hash_check.specs.Indexed.{chain_lengths}
+use Rattle.elf_hash_check.specs.WithSymbols.{word}
+use Rattle.elf_hash_check.specs.Object.{BySysv}
+use Rattle.elf_hash_check.specs.inner.Decisions.{decide}
 use Rattle.std.specs.Prelude.{Ok}
 use Rattle.elf_worked.specs.Files.{in_four}
 use Rattle.elf_worked.specs.SoundSections.{sysv_with}

@@ -3,8 +3,8 @@ use Rattle.elf_records.specs.Number.{bytes_at, number_at}
 use Rattle.elf_records.specs.Record.{numbers_at}
 use Rattle.elf_parts.specs.SysvFind.{sysv_section}
 use Rattle.std.specs.Prelude.{Ok}
-use Rattle.elf_check.specs.Object.{BySysv}
-use Rattle.elf_check.specs.inner.Decisions.{decide}
+use Rattle.elf_hash_check.specs.Object.{BySysv}
+use Rattle.elf_hash_check.specs.inner.Decisions.{decide}
 use Rattle.elf_worked.specs.Files.{in_four}
 use Rattle.elf_worked.specs.SoundSections.{sysv_with}
 use Rattle.elf_worked.proofs.Below.{known_faulty}

@@ -6,7 +6,7 @@ use Rattle.elf_records.specs.File.{ident_of}
 use Rattle.elf_records.specs.StringTable.{string_at}
 use Rattle.elf.specs.Names.{name_section, name_table}
 use Rattle.elf_reading.specs.Opening.{header_at_front, section_table, segment_table}
-use Rattle.elf_lines.specs.Sections.{place_fields, reading_fields}
+use Rattle.elfshow_lines.specs.Sections.{place_fields, reading_fields}
 use Rattle.elf_worked.proofs.text.name_that_is_refused.Goals as goal
 
 pub returns : goal.returns

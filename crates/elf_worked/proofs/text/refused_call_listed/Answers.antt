@@ -5,7 +5,7 @@ use Rattle.elf_records.specs.Record.{numbers_at}
 use Rattle.elf_records.specs.File.{ident_of}
 use Rattle.elf.specs.Names.{name_section, name_table}
 use Rattle.elf_reading.specs.Opening.{header_at_front, section_table, segment_table}
-use Rattle.elf_lines.specs.Header.{ident_fields, file_fields, size_fields}
+use Rattle.elfshow_lines.specs.Header.{ident_fields, file_fields, size_fields}
 use Rattle.elf_worked.proofs.text.refused_call_listed.Goals as goal
 
 pub returns : goal.returns

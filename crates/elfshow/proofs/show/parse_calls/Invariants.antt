@@ -1,6 +1,6 @@
 use Rattle.std.proofs.Common.{◌≡◌, ◌++◌, drop, map}
 use Rattle.std.specs.Option.{option_map}
-use Rattle.elf_calls.specs.Question.{question}
+use Rattle.elfshow.specs.Question.{question}
 use Rattle.elfshow.specs.Show.{calls_of}
 use Rattle.elfshow.proofs.show.parse_calls.Given as goal
 

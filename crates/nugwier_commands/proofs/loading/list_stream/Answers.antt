@@ -1,4 +1,5 @@
 use Rattle.std.proofs.Common.{◌≡◌, ℕ, List, Option, Some, None, Result, Ok, Err, IfOk, IfSome, Bool, subst}
+use Rattle.std.proofs.lemmas.Result.{IfOk-weaker}
 use Rattle.elf.specs.ElfStream.{Keeps, StreamView}
 use Rattle.elf.specs.ObjectFile.{ObjectFile}
 use Rattle.elf.specs.StreamFile.{listed_file, stream_file}
@@ -17,10 +18,6 @@ of_content little of_byte task path said whole old now keeps (Some bytes) same i
     subst (λ h. IsSaidOf little of_byte task path h.ehdr (listed_file little h bytes) said) keeps.headers
     (subst (λ (file : ObjectFile). IsSaidOf little of_byte task path now.headers.ehdr file said) same is)
 
-mapped : {A X : Type 0} (P Q : A → Type 0) (r : Result A X) → ((x : A) → P x → Q x) → IfOk r P → IfOk r Q
-mapped P Q (Ok x) f h = f x h
-mapped P Q (Err e) f h = tt
-
 pub returns-in-Ok : goal.returns-in-Ok
 returns-in-Ok g c =
     let little = g.E.EndianParse.little in
@@ -30,4 +27,4 @@ returns-in-Ok g c =
     let task = task_of c.args.target.job.now in
     let path = c.args.target.path.now in
     let same = subst (λ (content : Option (List ℕ)). IfSome content (λ bytes. whole_file little now ≡ stream_file little now bytes)) keeps.content c.whole_is_content.ensures in
-    mapped _ _ c.say_taken.result.said (λ is_right h. (h.0, of_content little g.E.EndianParse.of_byte task path h.0 (whole_file little now) old now keeps old.content same (c.in-Ok.ensures path h.0 h.1), h.2)) c.say_taken.ensures
+    IfOk-weaker c.say_taken.result.said _ _ (λ is_right h. (h.0, of_content little g.E.EndianParse.of_byte task path h.0 (whole_file little now) old now keeps old.content same (c.in-Ok.ensures path h.0 h.1), h.2)) c.say_taken.ensures

@@ -1,7 +1,7 @@
 use Rattle.std.proofs.Common.{◌≡◌, ℕ, true, false, List, sym, ◌∙◌, subst, ap, append-nil}
 use Rattle.std.specs.Char.{encode_utf8}
 use Rattle.std.specs.List.{flat_map}
-use Rattle.elf_lines.specs.Adding.{Adds}
+use Rattle.elfshow_lines.specs.Adding.{Adds}
 use Rattle.nugwier_report.specs.Escape.{escaped_byte, is_shown, shown_character}
 use Rattle.nugwier_report.proofs.escape.add_character.Goals as goal
 

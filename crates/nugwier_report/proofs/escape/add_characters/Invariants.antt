@@ -1,6 +1,6 @@
 use Rattle.std.proofs.Common.{IsUtf8}
 use Rattle.std.specs.Str.Iter.{chars_rest}
-use Rattle.elf_lines.proofs.Adding.{Leads}
+use Rattle.elfshow_lines.proofs.Adding.{Leads}
 use Rattle.nugwier_report.specs.Escape.{shown_character}
 use Rattle.nugwier_report.proofs.Characters.{inner}
 use Rattle.nugwier_report.proofs.escape.add_characters.Given as goal

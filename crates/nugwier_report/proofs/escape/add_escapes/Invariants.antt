@@ -1,6 +1,6 @@
 use Rattle.std.proofs.Common.{drop}
 use Rattle.std.specs.List.{flat_map}
-use Rattle.elf_lines.proofs.Adding.{Leads}
+use Rattle.elfshow_lines.proofs.Adding.{Leads}
 use Rattle.nugwier_report.specs.Escape.{escaped_byte}
 use Rattle.nugwier_report.proofs.escape.add_escapes.Given as goal
 

@@ -2,7 +2,7 @@ use Rattle.std.proofs.Common.{◌≡◌, ℕ, List, refl, subst, ap, ◌∙◌}
 use Rattle.std.proofs.lemmas.Str.{is_utf8-from_IsUtf8}
 use Rattle.std.specs.List.{flat_map}
 use Rattle.std.specs.Str.{IsUtf8, chars, is_utf8}
-use Rattle.elf_lines.specs.Adding.{Adds}
+use Rattle.elfshow_lines.specs.Adding.{Adds}
 use Rattle.nugwier_report.specs.Escape.{shown_byte, shown_bytes, shown_character}
 use Rattle.nugwier_report.proofs.JsonStrings.{no_utf8}
 use Rattle.nugwier_report.proofs.escape.add_shown.Goals as goal

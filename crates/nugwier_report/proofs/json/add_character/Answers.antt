@@ -1,5 +1,5 @@
 use Rattle.std.proofs.Common.{ℕ, List, sym, ◌∙◌, subst}
-use Rattle.elf_lines.specs.Adding.{Adds}
+use Rattle.elfshow_lines.specs.Adding.{Adds}
 use Rattle.nugwier_report.proofs.JsonStrings.{spelled_escape, spelled_itself}
 use Rattle.nugwier_report.proofs.json.add_character.Goals as goal
 

@@ -1,6 +1,6 @@
 use Rattle.std.proofs.Common.{IsUtf8}
 use Rattle.std.specs.Str.Iter.{chars_rest}
-use Rattle.elf_lines.proofs.Adding.{Leads}
+use Rattle.elfshow_lines.proofs.Adding.{Leads}
 use Rattle.nugwier_report.proofs.JsonStrings.{inner_text}
 use Rattle.nugwier_report.proofs.json.add_characters.Given as goal
 

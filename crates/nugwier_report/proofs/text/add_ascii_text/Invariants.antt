@@ -1,5 +1,5 @@
 use Rattle.std.proofs.Common.{drop}
-use Rattle.elf_lines.proofs.Adding.{Leads}
+use Rattle.elfshow_lines.proofs.Adding.{Leads}
 use Rattle.nugwier_report.specs.Text.{ascii_text}
 use Rattle.nugwier_report.proofs.text.add_ascii_text.Given as goal
 

@@ -1,7 +1,7 @@
 use Rattle.std.proofs.Common.{drop}
 use denote.Shadow.{shadow}
 use denote.Text.{Utf8}
-use Rattle.elf_lines.proofs.Adding.{Leads}
+use Rattle.elfshow_lines.proofs.Adding.{Leads}
 use Rattle.nugwier_report.specs.Noted.{members_said}
 use Rattle.nugwier_report.specs.Text.{row_text}
 use Rattle.nugwier_report.proofs.text.add_cells.Given as goal

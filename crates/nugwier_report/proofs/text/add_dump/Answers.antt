@@ -1,6 +1,6 @@
 use Rattle.std.proofs.Common.{◌≡◌, ◌*◌, List, ℕ, drop, take, ap, subst, ◌∙◌, arith}
-use Rattle.elf_lines.proofs.Adding.{adds_more}
-use Rattle.elf_lines.specs.Adding.{Adds}
+use Rattle.elfshow_lines.proofs.Adding.{adds_more}
+use Rattle.elfshow_lines.specs.Adding.{Adds}
 use Rattle.nugwier_report.proofs.Dump.{next_line}
 use Rattle.nugwier_report.specs.Text.{dump, dump_line}
 use Rattle.nugwier_report.proofs.text.add_dump.Goals as goal

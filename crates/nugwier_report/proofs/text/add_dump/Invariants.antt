@@ -1,6 +1,6 @@
 use Rattle.std.proofs.Common.{◌≡◌, ◌-◌, ◌*◌, ◌≤◌, drop, length}
 use Rattle.std.specs.Int.{div_ceil}
-use Rattle.elf_lines.proofs.Adding.{Leads}
+use Rattle.elfshow_lines.proofs.Adding.{Leads}
 use Rattle.nugwier_report.specs.Text.{dump, dump_lines}
 use Rattle.nugwier_report.proofs.text.add_dump.Given as goal
 

@@ -1,5 +1,5 @@
 use Rattle.std.proofs.lemmas.Bool.{ne_eqb}
-use Rattle.elf_lines.proofs.Adding.{adds_both}
+use Rattle.elfshow_lines.proofs.Adding.{adds_both}
 use Rattle.nugwier_report.proofs.text.add_flags.Goals as goal
 
 pub returns-else-n-eq0 : goal.returns-else-n-eq0

@@ -1,6 +1,6 @@
 use Rattle.std.proofs.Common.{drop}
 use Rattle.std.specs.List.{flat_map}
-use Rattle.elf_lines.proofs.Adding.{Leads}
+use Rattle.elfshow_lines.proofs.Adding.{Leads}
 use Rattle.nugwier_report.specs.Text.{section_letter}
 use Rattle.nugwier_report.proofs.text.add_letters.Given as goal
 

@@ -1,5 +1,5 @@
 use Rattle.std.proofs.Common.{replicate}
-use Rattle.elf_lines.proofs.Adding.{Leads}
+use Rattle.elfshow_lines.proofs.Adding.{Leads}
 use Rattle.nugwier_report.proofs.text.add_spaces.Given as goal
 
 -- what was added so far, and then the spaces that are left, is all

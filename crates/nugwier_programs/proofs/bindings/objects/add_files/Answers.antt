@@ -1,11 +1,11 @@
-use Rattle.std.proofs.Common.{append-nil, ◌≡◌, ℕ, ◌≤◌, ◌∷◌, [], ◌++◌, List, Some, length, map, ap, refl, subst, sym, ◌∙◌}
-use Rattle.std.proofs.lemmas.List.{flat_map_more, length-map}
+use Rattle.std.proofs.Common.{append-nil, append_assoc, ◌≡◌, ℕ, ◌≤◌, ◌∷◌, [], ◌++◌, List, Some, length, map, ap, refl, subst, sym, ◌∙◌}
+use Rattle.std.proofs.lemmas.List.{length-map}
 use Rattle.std.proofs.lemmas.Option.{slice_get-map, slice_get_read}
 use Rattle.std.specs.Option.{option_map}
 use Rattle.std.specs.Prelude.{slice_get}
-use Rattle.elf_tools.specs.Tree.{entry_view}
+use Rattle.elf_linking.specs.Tree.{entry_view}
 use Rattle.nugwier_programs.specs.Bindings.{SearchedFile, files_of, search_problem}
-use Rattle.nugwier_programs.specs.inner.Scope.{AreFound}
+use Rattle.nugwier_programs.specs.inner.Scope.{searched_file}
 use Rattle.nugwier_report.specs.Said.{saying}
 use Rattle.std.specs.List.{flat_map}
 use Rattle.nugwier_programs.proofs.Walk.{flat_more, said_two, saying_nothing}
@@ -13,7 +13,7 @@ use Rattle.nugwier_programs.proofs.Scopes.{search_done, search_more}
 use Rattle.nugwier_programs.proofs.bindings.objects.add_files.Goals as goal
 
 pub loop-object-init : goal.loop-object-init
-loop-object-init g c = ([], λ rest searched. searched, sym (saying_nothing c.args.report.now), λ before found. subst (λ (l : List SearchedFile). AreFound l c.args.found.now.files.items c.args.found.now.tables.items) (sym (append-nil before)) found)
+loop-object-init g c = ([], λ rest searched. searched, sym (saying_nothing c.args.report.now), sym (append-nil (map searched_file c.args.found.now.items)))
 
 pub loop-object-preserved : goal.loop-object-preserved
 loop-object-preserved g c =
@@ -27,8 +27,8 @@ loop-object-preserved g c =
       before.0 ++ one.0 ∷ [],
       search_more (map entry_view objects) k (entry_view item) before.0 one.0 at one.1 before.1,
       said_two c.args.report.now c.loop-object.report c.add_file.new.report (flat_map search_problem before.0) (search_problem one.0) before.2 one.2 ∙ ap (saying c.args.report.now) (sym (flat_more search_problem before.0 one.0)),
-      λ all found. subst (λ (l : List SearchedFile). AreFound l c.add_file.new.found.files.items c.add_file.new.found.tables.items) (flat_map_more files_of all before.0 one.0)
-          (one.3 _ (before.3 all found)),
+      one.3 ∙ ap (λ (l : List SearchedFile). l ++ files_of one.0) before.3 ∙ append_assoc (map searched_file c.args.found.now.items) (flat_map files_of before.0) (files_of one.0)
+          ∙ ap (λ (l : List SearchedFile). map searched_file c.args.found.now.items ++ l) (sym (flat_more files_of before.0 one.0)),
     )
 
 pub returns : goal.returns

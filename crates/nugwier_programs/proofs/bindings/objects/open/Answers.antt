@@ -1,7 +1,7 @@
 use Rattle.std.proofs.Common.{◌≡◌, ℕ, List, Ok, Err, Some, None, ap, sym, subst, ◌∙◌}
 use Rattle.elf.specs.Answers.{dynamic_symbol_table}
 use Rattle.elf.specs.ElfBytes.{view}
-use Rattle.elf_binding.specs.VersionedView.{versioned_view}
+use Rattle.elf_linking.specs.VersionedView.{versioned_view}
 use Rattle.elf_parts.specs.gnu_symver.Table.{versions_view}
 use Rattle.elf_reading.specs.Opening.{opened_file}
 use Rattle.elf_records.specs.Endian.{any_is_little, any_of_byte}

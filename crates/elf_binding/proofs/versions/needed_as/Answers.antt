@@ -1,6 +1,0 @@
-use Rattle.std.proofs.Common.{sym}
-use Rattle.elf_binding.proofs.Bindings.{needed_refused}
-use Rattle.elf_binding.proofs.versions.needed_as.Goals as goal
-
-pub returns-in-Err : goal.returns-in-Err
-returns-in-Err g c = sym (needed_refused c.args.symbol _ c.in-Err.field-0 c.in-Err.ensures)

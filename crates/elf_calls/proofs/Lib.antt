@@ -1,4 +1,0 @@
-pub mod SameTexts
-pub mod Verdicts
-pub mod StreamCalls
-pub mod StreamRuns

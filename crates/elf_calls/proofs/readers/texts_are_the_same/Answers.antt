@@ -1,8 +1,0 @@
-use Rattle.elf.specs.ElfBytes.{with_header}
-use Rattle.elf_calls.proofs.SameTexts.{text_of_both}
-use Rattle.elf_calls.proofs.readers.texts_are_the_same.Goals as goal
-
-pub returns : goal.returns
-returns g c = λ bytes v header s calls read shown.
-    text_of_both g.E.EndianParse.little bytes (with_header v header) s calls shown
-    (c.list_answers_as_table.ensures bytes v header s read shown)

@@ -1,2 +1,0 @@
-pub mod CallSteps
-pub mod RunSteps

@@ -1,0 +1,9 @@
+-- What the contracts of this crate cite, in reading order.
+
+-- packed relative relocations: their words, and the addresses that these stand for
+pub mod Relr
+-- what is seen of a file through its segments
+pub mod dynamic_view
+-- the lines of the configuration of libraries
+pub mod Conf
+pub mod KnownLines

@@ -1,0 +1,12 @@
+pub mod Reading
+pub mod GnuScan
+pub mod Chosen
+pub mod GnuVerdicts
+pub mod Intervals
+pub mod SysvScan
+pub mod SysvCount
+pub mod SysvFirst
+pub mod NamedLists
+pub mod AllNamed
+pub mod SysvVerdicts
+pub mod VersionEntries

@@ -1,0 +1,20 @@
+use Rattle.std.proofs.Common.{◌≡◌, Option, ℕ, subst}
+use Rattle.elf_records.specs.declared.symbol.Symbol.{Symbol}
+use Rattle.elf_hash_check.specs.Indexed.{IsLeastNamed}
+use Rattle.elf_hash_check.specs.WithSymbols.{gnu_with}
+use Rattle.elf_hash_check.proofs.GnuScan.{gnu_scan}
+use Rattle.elf_hash_check.proofs.hashcheck.gnu.CheckedGnuHash.find.Goals as goal
+
+pub returns-in-Ok : goal.returns-in-Ok
+returns-in-Ok g c =
+    let s = gnu_with c.args.self.now.table c.args.self.now.symtab c.args.self.now.strtab in
+    let answer = gnu_scan s c.args.name.now c.args.self.now.sound c.args.self.now.readable in
+    let same : answer.found ≡ c.in-Ok.found = cc (c.in-Ok.ensures, answer.is) in
+    let P : Option (ℕ × Symbol) → Type 0 = λ found. IsLeastNamed s c.args.name.now found in
+    subst P same answer.least
+
+pub returns-in-Err : goal.returns-in-Err
+returns-in-Err g c =
+    let s = gnu_with c.args.self.now.table c.args.self.now.symtab c.args.self.now.strtab in
+    let answer = gnu_scan s c.args.name.now c.args.self.now.sound c.args.self.now.readable in
+    absurd (cc (c.in-Err.ensures, answer.is))

@@ -1,0 +1,4 @@
+//! The checker of hash sections (`hashcheck`).
+#![tactic(auto)]
+
+pub mod hashcheck;

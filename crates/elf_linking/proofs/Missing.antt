@@ -1,0 +1,64 @@
+-- A reading of a stream that loads whatever is missing, one round after another.
+use Rattle.std.proofs.Common.{◌≡◌, ◌⊎◌, inl, inr, ℕ, ◌-◌, Bool, List, [], ◌∷◌, Option, Some, None, refl, subst, ◌∙◌, IfSome}
+use Rattle.elf.specs.ElfStream.{IsCached, IsRequested, Keeps, StreamView}
+use Rattle.elf.specs.Loaded.{AreLoadedOf}
+use Rattle.elf.specs.ObjectFile.{FileOf, Partial}
+use Rattle.elf_linking.specs.Missing.{IsMissed, LoadsMissing, loaded_part}
+use Rattle.elf_linking.proofs.Readings.{keeps_then}
+
+module _ {E : Type 0} (little : E → Bool) (Misses : FileOf Partial → ℕ × ℕ → Type 0) where
+  -- what the rounds have loaded so far
+  pub record Loading (old now : StreamView E) : Type 0 where
+    pub keeps : Keeps old now
+    pub only : (low high : ℕ) → IsCached now low high → IsCached old low high
+        ⊎ ((range : ℕ × ℕ) × IsMissed little Misses old range × IsRequested ((range.0, range.1 - range.0) ∷ []) low high)
+    pub moved : (now ≡ old) ⊎ ((range : ℕ × ℕ) × Misses (loaded_part little old) range)
+
+  pub nothing_loaded : (s : StreamView E) → Loading s s
+  nothing_loaded s = record {
+    keeps = record { content = refl; can_fail = refl; headers = refl; cached = λ start end h. h };
+    only = λ low high h. inl h;
+    moved = inl refl;
+  }
+
+  module _ (old middle new : StreamView E) (range : ℕ × ℕ) (so_far : Loading old middle)
+      (content : IfSome middle.content (λ bytes. AreLoadedOf little middle bytes)) (missed : Misses (loaded_part little middle) range) where
+    by_cached : (low high : ℕ) → IsCached middle low high ⊎ IsRequested ((range.0, range.1 - range.0) ∷ []) low high → IsCached old low high
+        ⊎ ((range : ℕ × ℕ) × IsMissed little Misses old range × IsRequested ((range.0, range.1 - range.0) ∷ []) low high)
+    by_cached low high (inl before) = so_far.only low high before
+    by_cached low high (inr there) =
+        inr (range, record { middle = middle; keeps = so_far.keeps; content = subst (λ known. IfSome known (λ bytes. AreLoadedOf little middle bytes)) so_far.keeps.content content; missed = missed }, there)
+
+    moved_by : (middle ≡ old) ⊎ ((range : ℕ × ℕ) × Misses (loaded_part little old) range) → (range : ℕ × ℕ) × Misses (loaded_part little old) range
+    moved_by (inl same) = (range, subst (λ s. Misses (loaded_part little s) range) same missed)
+    moved_by (inr before) = before
+
+    pub missed_first : (range : ℕ × ℕ) × Misses (loaded_part little old) range
+    missed_first = moved_by so_far.moved
+
+    pub loads_more : {size : ℕ} → size ≡ range.1 - range.0 → Keeps middle new → ((low high : ℕ) → IsCached new low high → IsCached middle low high ⊎ IsRequested ((range.0, size) ∷ []) low high) → Loading old new
+    loads_more is keeps only = record {
+      keeps = keeps_then old middle new so_far.keeps keeps;
+      only = λ low high h. by_cached low high (subst (λ n. IsCached middle low high ⊎ IsRequested ((range.0, n) ∷ []) low high) is (only low high h));
+      moved = inr missed_first;
+    }
+
+  untouched_by : (old now : StreamView E) → (now ≡ old) ⊎ ((range : ℕ × ℕ) × Misses (loaded_part little old) range) → ((range : ℕ × ℕ) → Misses (loaded_part little old) range → ⊥) → now ≡ old
+  untouched_by old now (inl same) none = same
+  untouched_by old now (inr missed) none = absurd (none missed.0 missed.1)
+
+  pub has_loaded : (old now : StreamView E) → Loading old now → LoadsMissing little Misses old now
+  has_loaded old now h = record { only = h.only; untouched = untouched_by old now h.moved }
+
+-- what is loaded is of the content that was known before
+pub known_before : {E : Type 0} (little : E → Bool) (old now : StreamView E) → Keeps old now → IfSome now.content (λ bytes. AreLoadedOf little now bytes) → IfSome old.content (λ bytes. AreLoadedOf little now bytes)
+known_before little old now keeps of = subst (λ known. IfSome known (λ bytes. AreLoadedOf little now bytes)) keeps.content of
+
+-- no step has failed
+pub same_failures : {E : Type 0} (old middle new : StreamView E) → Keeps old middle → IfSome old.content (λ bytes. middle.failures ≡ old.failures) → IfSome middle.content (λ bytes. new.failures ≡ middle.failures) → IfSome old.content (λ bytes. new.failures ≡ old.failures)
+same_failures old middle new keeps first then =
+    all_same old.content old.failures middle.failures new.failures first (subst (λ known. IfSome known (λ bytes. new.failures ≡ middle.failures)) keeps.content then)
+  where
+    all_same : (known : Option (List ℕ)) (before between now : ℕ) → IfSome known (λ bytes. between ≡ before) → IfSome known (λ bytes. now ≡ between) → IfSome known (λ bytes. now ≡ before)
+    all_same None before between now a b = tt
+    all_same (Some bytes) before between now a b = b ∙ a

@@ -1,0 +1,133 @@
+-- The names of a partly loaded file.
+use Rattle.std.proofs.Common.{◌≡◌, inl, inr, ℕ, Bool, true, false, List, [], ◌∷◌, Result, Ok, Err, Option, Some, None, refl, ap, sym, subst, ◌∙◌, true≢false}
+use Rattle.std.specs.Prelude.{IfSome, cond}
+use Rattle.std.specs.List.{find}
+use Rattle.std.specs.Option.{option_map}
+use Rattle.elf_records.specs.Number.{ok_map}
+use Rattle.elf_records.specs.Record.{◌>>=◌}
+use Rattle.elf_records.specs.declared.dynamic.Dyn.{Dyn}
+use Rattle.elf_records.specs.declared.parse.ParseError.{ParseError}
+use Rattle.elf.specs.Answers.{dynamic}
+use Rattle.elf.specs.ElfStream.{Keeps, StreamView}
+use Rattle.elf_reading.specs.Refusals.{IsRefused, kind}
+use Rattle.elf.specs.Headers.{if_found}
+use Rattle.elf.specs.Loaded.{AreLoadedOf, is_not_cached, loaded_ranges}
+use Rattle.elf.specs.ObjectFile.{FileOf, ObjectFile, Partial, Whole, err_map}
+use Rattle.elf.specs.Parts.{ArePartOf, Follows, Ranges, all_ranges, loaded}
+use Rattle.elf.specs.StreamFile.{stream_file}
+use Rattle.elf.specs.declared.read_error.ReadError.{ReadError}
+use Rattle.elf.specs.Readers.{Dynamic}
+use Rattle.elf.proofs.Partly.{follows_map, part_follows}
+use Rattle.elf.proofs.stream.Parted.{streamed_loaded}
+use Rattle.elf_linking.specs.Missing.{loaded_part}
+use Rattle.elf_linking.specs.Needed.{IsAnswered, IsNamesAnswer, Named, NamesFollow, entries_in, entries_of, missing_of}
+use Rattle.elf_linking.specs.Needed.{names, names_by, names_in, read_error, string_part, strings_by}
+use Rattle.elf_linking.specs.declared.needed.NamesError.{NamesError}
+use Rattle.elf_linking.specs.declared.needed.NamesError.TheVariants.{Memory, Missing, Name, NoAddress, NoSize}
+use Rattle.elf_linking.specs.declared.needed.NamesError.TheVariants.{NotLoaded, Read}
+use Rattle.elf_linking.proofs.Readings.{same_file}
+
+-- ---- what is found passes the test
+
+found_or : {X : Type 0} (p : X → Bool) (b : Bool) (y x : X) (rest : Option X) → p y ≡ b → (rest ≡ Some x → p x ≡ true) → cond b (Some y) rest ≡ Some x → p x ≡ true
+found_or p true y x rest is later e = let same : y ≡ x = cc in subst (λ z. p z ≡ true) same is
+found_or p false y x rest is later e = later e
+
+pub found_passes : {X : Type 0} (p : X → Bool) (xs : List X) (x : X) → find p xs ≡ Some x → p x ≡ true
+found_passes p [] x e = cc
+found_passes p (y ∷ ys) x e = found_or p (p y) y x (find p ys) refl (λ f. found_passes p ys x f) e
+
+-- ---- the names of a part are those of the whole file, or a range is missing
+
+module _ (is_missing : ℕ × ℕ → Bool) where
+  read_follows : {A : Type 0} (x : Result A ParseError) (y : Result A ReadError) → Follows is_missing x y → NamesFollow is_missing (err_map (read_error Whole) x) (err_map (read_error Partial) y)
+  read_follows (Ok a) y (inl h) = inl (ap (err_map (read_error Partial)) h)
+  read_follows (Err e) y (inl h) = inl (ap (err_map (read_error Partial)) h)
+  read_follows x y (inr h) = inr (h.0, h.1, ap (err_map (read_error Partial)) h.2)
+
+  then_follows : {A B : Type 0} (x y : Result A NamesError) (f g : A → Result B NamesError) → NamesFollow is_missing x y → ((a : A) → NamesFollow is_missing (f a) (g a)) → NamesFollow is_missing (x >>= f) (y >>= g)
+  then_follows (Ok a) y f g (inl h) later = rw h (later a)
+  then_follows (Err e) y f g (inl h) later = inl (ap (λ r. r >>= g) h)
+  then_follows x y f g (inr h) later = inr (h.0, h.1, ap (λ r. r >>= g) h.2)
+
+  some_follows : {A : Type 0} (x y : Result A NamesError) → NamesFollow is_missing x y → NamesFollow is_missing (ok_map Some x) (ok_map Some y)
+  some_follows x y (inl h) = inl (ap (ok_map Some) h)
+  some_follows x y (inr h) = inr (h.0, h.1, ap (ok_map Some) h.2)
+
+  if_follows : {A B : Type 0} (f g : A → Result B NamesError) (o : Option A) → ((a : A) → NamesFollow is_missing (f a) (g a)) → NamesFollow is_missing (if_found f o) (if_found g o)
+  if_follows f g None each = inl refl
+  if_follows f g (Some a) each = some_follows (f a) (g a) (each a)
+
+module _ (whole : ObjectFile) (range : Ranges) (is_missing : ℕ × ℕ → Bool) (each : ArePartOf whole is_missing range) where
+  abbrev part : FileOf Partial
+  part = loaded whole range
+
+  pub strings_follow : (entries : List Dyn) → NamesFollow is_missing (strings_by whole entries) (strings_by part entries)
+  strings_follow entries =
+      then_follows is_missing (string_part whole.segments entries) (string_part whole.segments entries) _ _ (inl refl) (λ p. read_follows is_missing (whole.range p.0 p.1) (range p.0 p.1) (each p.0 p.1))
+
+  pub names_follow : NamesFollow is_missing (names whole) (names part)
+  names_follow =
+      then_follows is_missing (entries_of whole) (entries_of part) (if_found (names_by whole)) (if_found (names_by part))
+      (read_follows is_missing _ _ (follows_map is_missing (option_map entries_in) (dynamic whole) (dynamic part) (part_follows whole range is_missing each Dynamic))) (λ o.
+      if_follows is_missing (names_by whole) (names_by part) o (λ entries.
+      then_follows is_missing (strings_by whole entries) (strings_by part entries) (λ strings. names_in strings entries) (λ strings. names_in strings entries) (strings_follow entries) (λ strings. inl refl)))
+
+nothing_missing : {A : Type 0} (whole other : Result A NamesError) → NamesFollow (λ _. false) whole other → other ≡ whole
+nothing_missing whole other (inl h) = h
+nothing_missing whole other (inr h) = absurd (true≢false (sym h.1))
+
+pub whole_strings : (whole : ObjectFile) (entries : List Dyn) → strings_by (loaded whole (all_ranges whole)) entries ≡ strings_by whole entries
+whole_strings whole entries = nothing_missing _ _ (strings_follow whole (all_ranges whole) (λ _. false) (λ start size. inl refl) entries)
+
+pub whole_names : (whole : ObjectFile) → names (loaded whole (all_ranges whole)) ≡ names whole
+whole_names whole = nothing_missing _ _ (names_follow whole (all_ranges whole) (λ _. false) (λ start size. inl refl))
+
+-- an error of a whole file
+pub whole_error : {T : Type 0} (shown : T → Option Named) (whole : ObjectFile) (e : NamesError) → IsAnswered shown (names (loaded whole (all_ranges whole))) (Err e) → (e ≡ Memory → ⊥) → Err e ≡ names whole
+whole_error shown whole Memory is some = absurd (some refl)
+whole_error shown whole (Read e) is some = sym is.0 ∙ whole_names whole
+whole_error shown whole (Missing range) is some = sym is ∙ whole_names whole
+whole_error shown whole NoAddress is some = sym is ∙ whole_names whole
+whole_error shown whole NoSize is some = sym is ∙ whole_names whole
+whole_error shown whole (NotLoaded a) is some = sym is ∙ whole_names whole
+whole_error shown whole (Name e) is some = sym is ∙ whole_names whole
+
+-- ---- a stream
+
+module _ {T : Type 0} (shown : T → Option Named) where
+  -- what is missing, if that is the error; and else nothing is
+  pub missed_of : (answer : Result (Option Named) NamesError) (r : Result T NamesError) (range : ℕ × ℕ) → IsAnswered shown answer r → missing_of r ≡ Some range → answer ≡ Err (Missing range)
+  missed_of answer (Err (Missing at)) range is some = let same : at ≡ range = cc some in is ∙ ap (λ x. Err (Missing x)) same
+  missed_of answer r range is some = cc some
+
+  none_missed : (whole : Result (Option Named) NamesError) (range : ℕ × ℕ) (r : Result T NamesError) → IsAnswered shown (Err (Missing range)) r → missing_of r ≡ None → IsAnswered shown whole r
+  none_missed whole range (Err Memory) is none = tt
+  none_missed whole range (Err (Missing at)) is none = cc none
+  none_missed whole range (Err (Read e)) is none = cc is.0
+  none_missed whole range r is none = cc is
+
+  answered : (is_missing : ℕ × ℕ → Bool) (whole part : Result (Option Named) NamesError) (r : Result T NamesError) → NamesFollow is_missing whole part → IsAnswered shown part r → missing_of r ≡ None → IsAnswered shown whole r
+  answered is_missing whole one r (inl h) is none = subst (λ p. IsAnswered shown p r) h is
+  answered is_missing whole one r (inr h) is none = none_missed whole h.0 r (subst (λ p. IsAnswered shown p r) h.2 is) none
+
+-- what was loaded for it so far changes nothing of the file
+module _ {E : Type 0} (little : E → Bool) (old now : StreamView E) (keeps : Keeps old now) where
+  pub part_of_old : (bytes : List ℕ) → AreLoadedOf little now bytes → loaded_part little now ≡ loaded (stream_file little old bytes) (loaded_ranges now)
+  part_of_old bytes h = streamed_loaded little now bytes h ∙ ap (λ file. loaded file (loaded_ranges now)) (same_file little old now bytes keeps)
+
+  pub ranges_of_old : (bytes : List ℕ) → AreLoadedOf little now bytes → ArePartOf (stream_file little old bytes) (is_not_cached now) (loaded_ranges now)
+  ranges_of_old bytes h = subst (λ file. ArePartOf file (is_not_cached now) (loaded_ranges now)) (same_file little old now bytes keeps) h.part
+
+  pub stream_answered : {T : Type 0} (known : Option (List ℕ)) (shown : T → Option Named) (r : Result T NamesError) → IfSome known (λ bytes. AreLoadedOf little now bytes) → IfSome known (λ bytes. now.failures ≡ old.failures) → IsAnswered shown (names (loaded_part little now)) r → missing_of r ≡ None
+      → IfSome known (λ bytes. IsNamesAnswer shown (names (stream_file little old bytes)) old.can_fail old.failures now.failures r)
+  stream_answered None shown r of same is none = tt
+  stream_answered (Some bytes) shown r of same is none =
+      let whole = stream_file little old bytes in
+      let part = subst (λ p. IsAnswered shown (names p) r) (part_of_old bytes of) is in
+      inl (same, answered shown (is_not_cached now) (names whole) (names (loaded whole (loaded_ranges now))) r (names_follow whole (loaded_ranges now) (is_not_cached now) (ranges_of_old bytes of)) part none)
+
+  pub load_refused : {T : Type 0} (shown : T → Option Named) (known : Option (List ℕ)) (later : ℕ) (e : ParseError) → IfSome known (λ bytes. now.failures ≡ old.failures) → IfSome known (λ bytes. IsRefused now.failures later now.can_fail ⊥ (kind e)) → IfSome known (λ bytes. IsNamesAnswer shown (names (stream_file little old bytes)) old.can_fail old.failures later (Err (Read e)))
+  load_refused shown None later e same h = tt
+  load_refused shown (Some bytes) later e same h =
+      inr (e, refl, subst (λ b. IsRefused old.failures later b ⊥ (kind e)) keeps.can_fail (subst (λ n. IsRefused n later now.can_fail ⊥ (kind e)) same h))

@@ -1,0 +1,17 @@
+use Rattle.std.proofs.Common.{rules, tests}
+use Rattle.std.proofs.lemmas.Iterator.{items_from_collect}
+use Rattle.std.proofs.lemmas.Iterator.Consumers.{YieldsList-from_enumerate, YieldsList-from_filter, YieldsList-from_first}
+use Rattle.elf_records.specs.Symbol.{symbol_reads}
+use Rattle.elf_records.specs.Table.{items_left, table_items, table_view}
+use Rattle.elf_linking.specs.SymbolBindings.{is_bound}
+use Rattle.elf_linking.specs.SymbolUses.{uses_at}
+use Rattle.elf_linking.proofs.bindings.kinds.bound_symbols.Goals as goal
+
+pub returns : goal.returns
+returns g c =
+    let left = items_left symbol_reads in
+    let all = table_items symbol_reads (table_view c.args.symbols.now) in
+    items_from_collect _ c.collect.ensures.ran
+    (YieldsList-from_filter _ (λ one. is_bound one.1 (uses_at c.args.uses.now one.0))
+    (YieldsList-from_enumerate {ys = all} (YieldsList-from_first (λ x. x) left all cc) cc)
+    c.filter.ensures.closure (λ x b q k. search (rules, tests)))

@@ -1,0 +1,34 @@
+use Rattle.std.proofs.Common.{◌≡◌, ◌++◌, ℕ, List, Option, Some, true, false, ap, sym, ◌∙◌, map, vec_items}
+use Rattle.std.specs.Prelude.{is_some}
+use Rattle.std.specs.Option.{option_map, option_to_list}
+use Rattle.std.proofs.lemmas.Result.{IfOk-weaker}
+use Rattle.elf_linking.specs.Search.{joined_path, paths_of, places_view}
+use Rattle.elf_linking.specs.Tree.{first_fitting, found_view}
+use Rattle.elf_linking.proofs.Loading.{first_after, first_before, is_some_of}
+use Rattle.elf_linking.proofs.tree.first_at.Goals as goal
+
+pub returns-then-is_some : goal.returns-then-is_some
+returns-then-is_some g c =
+    let name = c.args.name.now in
+    let places = places_view c.args.places.now in
+    let later = option_to_list (places.cached name) ++ map (joined_path name) places.usual in
+    let some : is_some (option_map found_view c.in_ok-found.found) ≡ true =
+    is_some_of found_view c.in_ok-found.found ∙ sym c.is_some.ensures ∙ c.if-is_some.true in
+    λ files is.
+    first_before files c.args.kind (map (joined_path name) places.folders) later (option_map found_view c.in_ok-found.found) some
+    (c.in_ok-found.ensures files is ∙ ap (λ l. first_fitting files c.args.kind (map (joined_path name) (map vec_items l))) c.deref.ensures.value)
+
+pub returns : goal.returns
+returns g c =
+    let name = c.args.name.now in
+    let places = places_view c.args.places.now in
+    let later = option_to_list (places.cached name) ++ map (joined_path name) places.usual in
+    let none : is_some (option_map found_view c.in_ok-found.found) ≡ false =
+    is_some_of found_view c.in_ok-found.found ∙ sym c.is_some.ensures ∙ c.if-is_some.false in
+    IfOk-weaker c.cached_or_usual.result
+    (λ found. (files : List ℕ → Option (List ℕ)) → g.L.Libraries.contents c.args.libraries.now ≡ Some files → option_map found_view found ≡ first_fitting files c.args.kind later)
+    (λ found. (files : List ℕ → Option (List ℕ)) → g.L.Libraries.contents c.args.libraries.now ≡ Some files → option_map found_view found ≡ first_fitting files c.args.kind (paths_of name places))
+    (λ found h files is. h files is
+    ∙ first_after files c.args.kind (map (joined_path name) places.folders) later (option_map found_view c.in_ok-found.found) none
+    (c.in_ok-found.ensures files is ∙ ap (λ l. first_fitting files c.args.kind (map (joined_path name) (map vec_items l))) c.deref.ensures.value))
+    c.cached_or_usual.ensures

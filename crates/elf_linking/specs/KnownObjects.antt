@@ -1,0 +1,38 @@
+-- Objects in search of a library, for the theorems over known values.
+use Rattle.std.specs.Str.{bytes_eq}
+use Rattle.std.specs.Prelude.{if◌then◌else◌, ℕ, List, [], ◌∷◌, codes, Option, Some, None}
+use Rattle.elf_linking.specs.Search.{Object, Others, Tokens}
+
+-- a program, a library with DT_RPATH alone, and one with both paths
+abbrev pub program : Object
+program = record { folder = codes "/p"; runpath = None; rpath = Some (codes "/p1") }
+
+abbrev pub with_rpath : Object
+with_rpath = record { folder = codes "/l"; runpath = None; rpath = Some (codes "$ORIGIN/x") }
+
+abbrev pub with_both : Object
+with_both = record { folder = codes "/m"; runpath = Some (codes "/m1"); rpath = Some (codes "/m2") }
+
+abbrev pub without_paths : Object
+without_paths = record { folder = codes "/w"; runpath = None; rpath = None }
+
+-- what stands for the sequences of an object in /o
+abbrev pub tokens : Tokens
+tokens = record { origin = codes "/o"; lib = codes "lib/x86_64-linux-gnu"; platform = codes "haswell" }
+
+-- a cache that has a path for the name c
+abbrev pub cached : List ℕ → Option (List ℕ)
+cached name = if bytes_eq name (codes "c") then Some (codes "/opt/c") else None
+
+-- LD_LIBRARY_PATH, what stands for $LIB and $PLATFORM, the cache and the usual folders
+abbrev pub others : Others
+others = record {
+  library_path = Some (codes "$ORIGIN/e");
+  lib = codes "lib64";
+  platform = codes "x86_64";
+  cached = cached;
+  usual_folders = codes "/lib" ∷ codes "/usr/lib" ∷ [];
+}
+
+abbrev pub no_others : Others
+no_others = record { library_path = None; lib = []; platform = []; cached = λ _. None; usual_folders = [] }

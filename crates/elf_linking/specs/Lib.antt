@@ -1,0 +1,25 @@
+-- which object of a list has a name
+pub mod Resolve
+-- which object a file is
+pub mod ObjectTable
+-- how a relocation refers to a symbol
+pub mod ReferenceKinds
+-- an object with the versions of its symbols, and what a reference binds to
+pub mod VersionedView
+pub mod Binding
+-- which object with versions a file is, and the version that a symbol of a file requires
+pub mod BindingObjects
+pub mod Resolver
+pub mod Bindings
+pub mod SymbolUses
+pub mod SymbolBindings
+pub mod Missing
+pub mod Needed
+pub mod Readings
+-- the linker's cache of libraries
+pub mod Cache
+pub mod Search
+pub mod Tree
+pub mod KnownObjects
+pub mod KnownCaches
+pub mod inner

@@ -1,0 +1,182 @@
+-- The names by which the dynamic linker finds a file and the libraries that it needs (gABI, chapter "Dynamic Section"),
+-- of a whole file or of a part, and what is answered of them over a stream.
+use Rattle.std.specs.Prelude.{◌≡◌, ◌⊎◌, ℕ, ◌+◌, ◌-◌, ◌^◌, ◌==◌, ◌&&◌, nat_le, nat_lt, not, Bool, IsTrue, ℤ, List, [], ◌∷◌, map}
+use Rattle.std.specs.Prelude.{filter, unwrap_or}
+use Rattle.std.specs.Prelude.{Option, Some, None, Result, Ok, Err, IfSome, ok_or}
+use Rattle.std.specs.List.{find, take_while}
+use Rattle.std.specs.Option.{option_map}
+use Rattle.std.specs.Result.{result_ok}
+use Rattle.elf_abi.specs.Values.{dt_needed, dt_null, dt_rpath, dt_runpath, dt_soname, dt_strsz, dt_strtab, pt_load}
+use Rattle.elf_records.specs.Dynamic.{d_un_view, dyn_reads, has_tag}
+use Rattle.elf_records.specs.Number.{ok_map}
+use Rattle.elf_records.specs.Record.{◌>>=◌}
+use Rattle.elf_records.specs.StringTable.{string_at}
+use Rattle.elf_records.specs.Table.{Table, table_items}
+use Rattle.elf_records.specs.declared.dynamic.Dyn.{Dyn}
+use Rattle.elf_records.specs.declared.parse.ParseError.{ParseError}
+use Rattle.elf_records.specs.declared.segment.ProgramHeader.{ProgramHeader}
+use Rattle.elf.specs.Answers.{dynamic}
+use Rattle.elf.specs.ElfStream.{Keeps, StreamView}
+use Rattle.elf_reading.specs.Refusals.{IsRefused, Kind, kind}
+use Rattle.elf.specs.Headers.{if_found}
+use Rattle.elf.specs.ObjectFile.{ErrorOf, Extent, FileOf, Partial, Whole, err_map}
+use Rattle.elf.specs.declared.read_error.ReadError.TheVariants.{Parse, NotLoaded as NotRead}
+use Rattle.elf_linking.specs.declared.needed.Name.{Name}
+use Rattle.elf_linking.specs.declared.needed.Names.{Names}
+use Rattle.elf_linking.specs.declared.needed.NamesError.{NamesError}
+use Rattle.elf_linking.specs.declared.needed.NamesError.TheVariants.{Memory, Missing, NoAddress, NoSize, NotLoaded}
+use Rattle.elf_linking.specs.declared.needed.NamesError.TheVariants.{Read}
+use Rattle.elf_linking.specs.declared.needed.NamesError.TheVariants.{Name as Unnamed}
+
+-- why something cannot be read
+abbrev pub read_error : (x : Extent) → ErrorOf x → NamesError
+read_error Whole e = Read e
+read_error Partial (Parse e) = Read e
+read_error Partial (NotRead range) = Missing range
+
+-- ---- the entries
+
+-- the entries of a table up to the first with the tag DT_NULL, which ends it
+abbrev pub entries_in : Table → List Dyn
+entries_in table = take_while (λ entry. not (has_tag dt_null entry)) (table_items dyn_reads table)
+
+-- the first entry with a tag
+abbrev pub first_entry : ℤ → List Dyn → Option Dyn
+first_entry tag entries = find (has_tag tag) entries
+
+-- ---- the string table: DT_STRTAB gives its address and DT_STRSZ its size. An address is one of memory, and the
+-- segments of type PT_LOAD say which bytes of the file are loaded there (gABI, chapter "Program Header").
+
+-- the segment has the bytes of these addresses in the file
+abbrev pub holds : ℕ → ℕ → ProgramHeader → Bool
+holds address size p =
+    p.p_type == pt_load && nat_le p.p_vaddr address && nat_le (address + size) (p.p_vaddr + p.p_filesz)
+    && nat_lt (p.p_offset + (address - p.p_vaddr)) (2 ^ 64)
+
+-- where in the file the byte of an address of the segment is
+abbrev pub offset_in : ℕ → ProgramHeader → ℕ
+offset_in address p = p.p_offset + (address - p.p_vaddr)
+
+-- where these addresses are in the file, by the first segment that holds them
+abbrev pub offset_of : List ProgramHeader → ℕ → ℕ → Result ℕ NamesError
+offset_of segments address size =
+    ok_or (option_map (offset_in address) (find (holds address size) segments)) (NotLoaded address)
+
+-- the address and the size that the entries give
+abbrev pub string_range : List Dyn → Result (ℕ × ℕ) NamesError
+string_range entries =
+    ok_or (first_entry dt_strtab entries) NoAddress >>= λ start. ok_or (first_entry dt_strsz entries) NoSize >>= λ size.
+    Ok (d_un_view start, d_un_view size)
+
+-- the range of the string table in the file, by its start and its size
+abbrev pub string_part : List ProgramHeader → List Dyn → Result (ℕ × ℕ) NamesError
+string_part segments entries =
+    string_range entries >>= λ range. ok_map (λ start. (start, range.1)) (offset_of segments range.0 range.1)
+
+-- ---- the names: the number of an entry is the offset of its string in the string table
+
+abbrev pub name_of : List ℕ → Dyn → Result (List ℕ) NamesError
+name_of strings entry = err_map Unnamed (string_at strings (d_un_view entry))
+
+-- the name of the first entry with a tag
+abbrev pub first_name : List ℕ → ℤ → List Dyn → Result (Option (List ℕ)) NamesError
+first_name strings tag entries = if_found (name_of strings) (first_entry tag entries)
+
+-- the names of entries, in order, or the error of the first that cannot be read
+abbrev pub names_of_all : List ℕ → List Dyn → Result (List (List ℕ)) NamesError
+names_of_all strings [] = Ok []
+names_of_all strings (entry ∷ entries) =
+    name_of strings entry >>= λ name. names_of_all strings entries >>= λ names. Ok (name ∷ names)
+
+-- the names of all entries with a tag
+abbrev pub all_names : List ℕ → ℤ → List Dyn → Result (List (List ℕ)) NamesError
+all_names strings tag entries = names_of_all strings (filter (has_tag tag) entries)
+
+-- the soname, the needed libraries, and the search paths
+pub record Named : Type 0 where
+  pub soname : Option (List ℕ)
+  pub needed : List (List ℕ)
+  pub runpath : Option (List ℕ)
+  pub rpath : Option (List ℕ)
+
+abbrev pub names_in : List ℕ → List Dyn → Result Named NamesError
+names_in strings entries =
+    first_name strings dt_soname entries >>= λ soname. all_names strings dt_needed entries >>= λ needed.
+    first_name strings dt_runpath entries >>= λ runpath. first_name strings dt_rpath entries >>= λ rpath.
+    Ok (record { soname = soname; needed = needed; runpath = runpath; rpath = rpath })
+
+-- the bytes of a name in the string table; none where no string is at its offset
+abbrev pub name_bytes : List ℕ → Name → List ℕ
+name_bytes strings name = unwrap_or (result_ok (string_at strings name.start)) []
+
+-- the view of the result
+abbrev pub names_view : Names → Named
+names_view n =
+    let bytes = name_bytes n.strings.items in
+    record {
+      soname = option_map bytes n.soname;
+      needed = map bytes n.needed.items;
+      runpath = option_map bytes n.runpath;
+      rpath = option_map bytes n.rpath;
+    }
+
+-- the answer, or an allocation failed; nothing is read
+abbrev pub IsGiven : {T Y : Type 0} → (T → Y) → Result Y NamesError → Result T NamesError → Type 0
+IsGiven shown answer (Ok x) = answer ≡ Ok (shown x)
+IsGiven shown answer (Err Memory) = Unit {0}
+IsGiven shown answer (Err (Read e)) = ⊥
+IsGiven shown answer (Err e) = answer ≡ Err e
+
+-- ---- over a file
+
+-- its dynamic entries, if it has any
+abbrev pub entries_of : {x : Extent} → FileOf x → Result (Option (List Dyn)) NamesError
+entries_of {x} file = err_map (read_error x) (ok_map (option_map entries_in) (dynamic file))
+
+-- the string table of the entries
+abbrev pub strings_by : {x : Extent} → FileOf x → List Dyn → Result (List ℕ) NamesError
+strings_by {x} file entries =
+    string_part file.segments entries >>= λ part. err_map (read_error x) (file.range part.0 part.1)
+
+abbrev pub names_by : {x : Extent} → FileOf x → List Dyn → Result Named NamesError
+names_by file entries = strings_by file entries >>= λ strings. names_in strings entries
+
+-- its names, if it has dynamic entries
+abbrev pub names : {x : Extent} → FileOf x → Result (Option Named) NamesError
+names file = entries_of file >>= if_found (names_by file)
+
+-- the answer, with an error of reading that bytes can have; or an allocation failed
+abbrev pub IsAnswered : {T Y : Type 0} → (T → Y) → Result Y NamesError → Result T NamesError → Type 0
+IsAnswered shown answer (Ok x) = answer ≡ Ok (shown x)
+IsAnswered shown answer (Err Memory) = Unit {0}
+IsAnswered shown answer (Err (Read e)) = (answer ≡ Err (Read e)) × (kind e ≡ Kind.Refusal)
+IsAnswered shown answer (Err e) = answer ≡ Err e
+
+-- the result over a part is that of the whole file, or it names a range that is missing
+abbrev pub NamesFollow : {A : Type 0} → (ℕ × ℕ → Bool) → Result A NamesError → Result A NamesError → Type 0
+NamesFollow is_missing whole part =
+    (part ≡ whole) ⊎ ((range : ℕ × ℕ) × IsTrue (is_missing range) × (part ≡ Err (Missing range)))
+
+-- ---- over a stream
+
+-- the answer, and the source did not fail; or the error with which the source or an allocation failed
+abbrev pub IsNamesAnswer : {T Y : Type 0} → (T → Y) → Result Y NamesError → Bool → ℕ → ℕ → Result T NamesError → Type 0
+IsNamesAnswer shown answer can_fail before now r =
+    ((now ≡ before) × IsAnswered shown answer r)
+    ⊎ ((e : ParseError) × (r ≡ Err (Read e)) × IsRefused before now can_fail ⊥ (kind e))
+
+-- the same file, no cached range lost, and where the content is known its answer
+pub record GivesNames {E T Y : Type 0} (shown : T → Y) (answer : List ℕ → Result Y NamesError) (old new : StreamView E)
+    (r : Result T NamesError) : Type 0 where
+  pub keeps : Keeps old new
+  pub answers : IfSome old.content (λ bytes.
+      IsNamesAnswer shown (answer bytes) old.can_fail old.failures new.failures r)
+
+-- the range that is missing, if that is the error
+abbrev pub missing_of : {A : Type 0} → Result A NamesError → Option (ℕ × ℕ)
+missing_of (Err (Missing range)) = Some range
+missing_of _ = None
+
+-- the range is missing for the names of the part
+abbrev pub MissesNames : FileOf Partial → ℕ × ℕ → Type 0
+MissesNames part range = names part ≡ Err (Missing range)

@@ -1,0 +1,84 @@
+-- By which kinds of references the relocations of a file name its symbols for dynamic linking.
+use Rattle.std.specs.Prelude.{ℕ, ◌-◌, ◌==◌, ◌&&◌, ◌||◌, nat_lt, if◌then◌else◌, Bool, true, false}
+use Rattle.std.specs.Prelude.{List, [], ◌∷◌, length, map, slice_index_or, slice_set, Result, Ok, Err}
+use Rattle.elf_abi.specs.Values.{sht_dynsym, sht_rel, sht_rela}
+use Rattle.elf_records.specs.Number.{ok_map}
+use Rattle.elf_records.specs.Record.{◌>>=◌}
+use Rattle.elf_records.specs.declared.parse.ParseError.{ParseError}
+use Rattle.elf_records.specs.declared.relocation.Rel.{Rel}
+use Rattle.elf_records.specs.declared.relocation.Rela.{Rela}
+use Rattle.elf_records.specs.declared.section.SectionHeader.{SectionHeader}
+use Rattle.elf.specs.Answers.{section_data_as_relas, section_data_as_rels}
+use Rattle.elf.specs.ObjectFile.{ObjectFile}
+use Rattle.elf_linking.specs.ReferenceKinds.{reference_kind}
+use Rattle.elf_linking.specs.declared.ReferenceKind.{ReferenceKind}
+use Rattle.elf_linking.specs.declared.ReferenceKind.TheVariants.{Address, Copied, JumpSlot}
+use Rattle.elf_linking.specs.declared.bindings.uses.SymbolUses.{SymbolUses}
+use Rattle.elf_linking.specs.declared.bindings.uses.UsesError.{UsesError}
+use Rattle.elf_linking.specs.declared.bindings.uses.UsesError.TheVariants.{Read, TooLarge}
+
+-- ---- the uses of a symbol
+
+abbrev pub no_uses : SymbolUses
+no_uses = record { jump_slot = false; address = false; copied = false }
+
+abbrev pub with_use : ReferenceKind → SymbolUses → SymbolUses
+with_use JumpSlot uses = record uses { jump_slot = true }
+with_use Address uses = record uses { address = true }
+with_use Copied uses = record uses { copied = true }
+
+abbrev pub uses_at : List SymbolUses → ℕ → SymbolUses
+uses_at uses i = if nat_lt i (length uses) then slice_index_or uses i no_uses else no_uses
+
+-- ---- after relocations, each by the index of its symbol and its type
+
+-- with one of symbol i, if there is a symbol i
+abbrev pub use_added : List SymbolUses → ℕ → ReferenceKind → List SymbolUses
+use_added uses i kind =
+    if nat_lt i (length uses) then slice_set uses i (with_use kind (slice_index_or uses i no_uses)) else uses
+
+abbrev pub uses_after : ℕ → List SymbolUses → List (ℕ × ℕ) → List SymbolUses
+uses_after machine uses [] = uses
+uses_after machine uses (r ∷ relocations) =
+    uses_after machine (use_added uses r.0 (reference_kind machine r.1)) relocations
+
+abbrev pub rel_parts : Rel → ℕ × ℕ
+rel_parts r = (r.r_sym, r.r_type)
+
+abbrev pub rela_parts : Rela → ℕ × ℕ
+rela_parts r = (r.r_sym, r.r_type)
+
+-- ---- those of a file for this machine
+
+abbrev pub has_type : ℕ → Result SectionHeader ParseError → Bool
+has_type sh_type (Ok s) = s.sh_type == sh_type
+has_type sh_type (Err e) = false
+
+-- a section of relocations, linked to the symbols for dynamic linking
+abbrev pub is_dynamic : ObjectFile → SectionHeader → Bool
+is_dynamic file s =
+    (s.sh_type == sht_rel || s.sh_type == sht_rela) && has_type sht_dynsym (file.section_at s.sh_link)
+
+abbrev pub section_uses : ℕ → ObjectFile → SectionHeader → List SymbolUses → Result (List SymbolUses) ParseError
+section_uses machine file s uses =
+    if s.sh_type == sht_rel
+    then ok_map (λ rels. uses_after machine uses (map rel_parts rels)) (section_data_as_rels file s)
+    else if s.sh_type == sht_rela
+    then ok_map (λ relas. uses_after machine uses (map rela_parts relas)) (section_data_as_relas file s)
+    else Ok uses
+
+abbrev pub or_read : {A : Type 0} → Result A ParseError → Result A UsesError
+or_read (Ok x) = Ok x
+or_read (Err e) = Err (Read e)
+
+-- of the sections, which may have this many bytes together
+abbrev pub sections_uses : ℕ → ObjectFile → ℕ → List SectionHeader → List SymbolUses → Result (List SymbolUses) UsesError
+sections_uses machine file left [] uses = Ok uses
+sections_uses machine file left (s ∷ sections) uses =
+    if is_dynamic file s
+    then (if nat_lt left s.sh_size then Err TooLarge
+    else or_read (section_uses machine file s uses) >>= sections_uses machine file (left - s.sh_size) sections)
+    else sections_uses machine file left sections uses
+
+abbrev pub uses_by : ℕ → ObjectFile → List SymbolUses → Result (List SymbolUses) UsesError
+uses_by machine file uses = sections_uses machine file file.size file.sections uses

@@ -1,0 +1,243 @@
+-- The libraries that a program loads, and the files that the dynamic linker takes for them (the manual page ld.so(8); gABI,
+-- chapter "Dynamic Linking", section "Shared Object Dependencies"). Libraries are searched for breadth first: those that
+-- the program needs in the order of its entries DT_NEEDED, then those that the first of these needs, and so on. A library
+-- is loaded once.
+use Rattle.std.specs.Prelude.{◌≡◌, ◌≤◌, ℕ, ◌+◌, ◌==◌, ◌&&◌, zero, suc, Bool, true, false, if◌then◌else◌}
+use Rattle.std.specs.Prelude.{List, [], ◌∷◌, ◌++◌, codes, length, map, take, slice_get}
+use Rattle.std.specs.Prelude.{Option, Some, None, unwrap_or, Result, Ok, Err}
+use Rattle.std.specs.List.{flat_map, list_any}
+use Rattle.std.specs.Option.{option_map, option_to_list}
+use Rattle.std.specs.Str.{bytes_eq}
+use Rattle.elf_records.specs.Endian.{any_is_little, any_of_byte}
+use Rattle.elf_records.specs.Number.{ok_map}
+use Rattle.elf_records.specs.declared.endian.AnyEndian.{AnyEndian}
+use Rattle.elf_records.specs.declared.endian.AnyEndian.TheVariants.{Big, Little}
+use Rattle.elf_records.specs.declared.file.Class.{Class}
+use Rattle.elf_records.specs.declared.file.Class.TheVariants.{ELF32, ELF64}
+use Rattle.elf_records.specs.declared.file.FileHeader.{FileHeader}
+use Rattle.elf_records.specs.declared.parse.ParseError.{ParseError}
+use Rattle.elf_reading.specs.Opening.{FileView, opened_file}
+use Rattle.elf.specs.ObjectFile.{object_file}
+use Rattle.elf_linking.specs.Needed.{Named, names, names_view}
+use Rattle.elf_linking.specs.Search.{Object as Searching, Others, Places, candidates_of, expansion, places, tokens_in}
+use Rattle.elf_linking.specs.declared.needed.NamesError.{NamesError}
+use Rattle.elf_linking.specs.declared.tree.Kind.{Kind}
+use Rattle.elf_linking.specs.declared.tree.LoadedFile.{LoadedFile}
+use Rattle.elf_linking.specs.declared.tree.Object.{Object}
+use Rattle.elf_linking.specs.declared.tree.OpenError.{OpenError}
+use Rattle.elf_linking.specs.declared.tree.memory.MemFile.{MemFile}
+use Rattle.elf_linking.specs.declared.tree.memory.MemLibraries.{MemLibraries}
+use Rattle.elf_linking.specs.declared.tree.OpenError.TheVariants.{Memory, Open}
+
+-- ---- files
+
+abbrev pub same_class : Class → Class → Bool
+same_class ELF32 ELF32 = true
+same_class ELF32 ELF64 = false
+same_class ELF64 ELF32 = false
+same_class ELF64 ELF64 = true
+
+abbrev pub same_order : AnyEndian → AnyEndian → Bool
+same_order Little Little = true
+same_order Little Big = false
+same_order Big Little = false
+same_order Big Big = true
+
+-- files that can be loaded into one program
+abbrev pub same_kind : Kind → Kind → Bool
+same_kind a b = same_class a.class b.class && same_order a.order b.order && (a.machine == b.machine)
+
+abbrev pub kind_of : FileHeader AnyEndian → Kind
+kind_of h = record { class = h.class; order = h.endianness; machine = h.e_machine }
+
+-- a file that was opened: its path, its bytes, its kind, and the names that its dynamic entries give, or why they give
+-- none
+pub record Found : Type 0 where
+  pub path : List ℕ
+  pub bytes : List ℕ
+  pub kind : Kind
+  pub names : Result (Option Named) NamesError
+
+abbrev pub found_in : List ℕ → List ℕ → FileView AnyEndian → Found
+found_in path bytes v = record {
+  path = path;
+  bytes = bytes;
+  kind = kind_of v.ehdr;
+  names = names (object_file any_is_little v);
+}
+
+-- the ELF file that the bytes at a path are, or why they are none
+abbrev pub file_of : List ℕ → List ℕ → Result Found ParseError
+file_of path bytes = ok_map (found_in path bytes) (opened_file any_is_little any_of_byte bytes)
+
+-- a file that cannot be loaded beside those of this kind is passed over
+abbrev pub if_same : Kind → Result Found ParseError → Option Found
+if_same kind (Ok found) = if same_kind found.kind kind then Some found else None
+if_same kind (Err e) = None
+
+abbrev pub fitting : Kind → List ℕ → Option (List ℕ) → Option Found
+fitting kind path None = None
+fitting kind path (Some bytes) = if_same kind (file_of path bytes)
+
+abbrev pub or_next : Option Found → Option Found → Option Found
+or_next None later = later
+or_next (Some found) later = Some found
+
+-- the file at the first of the paths that has one of this kind; `files` are the contents of the files by their paths
+abbrev pub first_fitting : (List ℕ → Option (List ℕ)) → Kind → List (List ℕ) → Option Found
+first_fitting files kind [] = None
+first_fitting files kind (path ∷ paths) =
+    or_next (fitting kind path (files path)) (first_fitting files kind paths)
+
+-- ---- the folder of a file, which $ORIGIN stands for: its path up to the last slash
+
+-- the place of the last slash, counted from k, or else `last`
+abbrev pub last_slash : ℕ → Option ℕ → List ℕ → Option ℕ
+last_slash k last [] = last
+last_slash k last (b ∷ bytes) = last_slash (k + 1) (if b == 47 then Some k else last) bytes
+
+abbrev pub folder_before : List ℕ → Option ℕ → List ℕ
+folder_before path None = codes "."
+folder_before path (Some place) = if place == 0 then codes "/" else take place path
+
+abbrev pub folder_of : List ℕ → List ℕ
+folder_of path = folder_before path (last_slash 0 None path)
+
+-- ---- objects
+
+-- an object: the name by which it was needed first (of the program its path), the place of the object that needed it, and
+-- its file, or none if none was found
+pub record Entry : Type 0 where
+  pub name : List ℕ
+  pub loader : ℕ
+  pub file : Option Found
+
+abbrev pub no_names : Named
+no_names = record { soname = None; needed = []; runpath = None; rpath = None }
+
+-- those that are known
+abbrev pub known : Result (Option Named) NamesError → Named
+known (Ok (Some names)) = names
+known (Ok None) = no_names
+known (Err e) = no_names
+
+-- by these names a library is found among the objects: that by which it was needed first, its path, and its soname
+abbrev pub names_by : List ℕ → Option Found → List (List ℕ)
+names_by name None = []
+names_by name (Some found) = name ∷ found.path ∷ option_to_list (known found.names).soname
+
+abbrev pub names_of : Entry → List (List ℕ)
+names_of e = names_by e.name e.file
+
+abbrev pub is_loaded : List ℕ → List Entry → Bool
+is_loaded name objects = list_any (bytes_eq name) (flat_map names_of objects)
+
+abbrev pub file_at : List Entry → ℕ → Option Found
+file_at objects place = unwrap_or (option_map (λ (e : Entry). e.file) (slice_get objects place)) None
+
+-- the search paths of a file
+abbrev pub searching : Option Found → Searching
+searching None = record { folder = []; runpath = None; rpath = None }
+searching (Some found) =
+    let names = known found.names in
+    record { folder = folder_of found.path; runpath = names.runpath; rpath = names.rpath }
+
+abbrev pub searching_at : List Entry → ℕ → Searching
+searching_at objects place = searching (file_at objects place)
+
+-- the libraries that a file needs, in order
+abbrev pub needed_by : Others → Option Found → List (List ℕ)
+needed_by others None = []
+needed_by others (Some found) =
+    map (expansion (tokens_in others (folder_of found.path))) (known found.names).needed
+
+-- the loaders of an object: the one that needed it first, the one that needed that one first, and so on up to the
+-- program, which is at place 0. Each is before the next, so there are at most as many as the place says.
+abbrev pub loader_at : List Entry → ℕ → ℕ
+loader_at objects place = unwrap_or (option_map (λ (e : Entry). e.loader) (slice_get objects place)) 0
+
+abbrev pub loader_places : ℕ → List Entry → ℕ → List ℕ
+loader_places zero objects place = []
+loader_places (suc n) objects place =
+    if place == 0 then [] else loader_at objects place ∷ loader_places n objects (loader_at objects place)
+
+abbrev pub loaders_at : List Entry → ℕ → List Searching
+loaders_at objects place = map (searching_at objects) (loader_places place objects place)
+
+-- where the libraries of an object are searched for
+abbrev pub places_at : Others → List Entry → ℕ → Places
+places_at others objects place = places (searching_at objects place) (loaders_at objects place) others
+
+-- ---- loading
+
+-- the file is an object already
+abbrev pub is_loaded_file : Option Found → List Entry → Bool
+is_loaded_file None objects = false
+is_loaded_file (Some found) objects = is_loaded found.path objects
+
+-- the objects with one more, which the object at a place needs by a name: with its file, or missing. A file that is an
+-- object already is no new one.
+abbrev pub add : List ℕ → ℕ → Option Found → List Entry → List Entry
+add name place found objects =
+    if is_loaded_file found objects then objects
+    else objects ++ record { name = name; loader = place; file = found } ∷ []
+
+module _ (files : List ℕ → Option (List ℕ)) (kind : Kind) where
+  -- a library that is loaded is not searched for; any other one is searched for in these places
+  abbrev pub need : Places → ℕ → List Entry → List ℕ → List Entry
+  need places place objects name =
+      if is_loaded name objects then objects
+      else add name place (first_fitting files kind (candidates_of name places)) objects
+
+  -- each of the names, in order
+  abbrev pub need_all : Places → ℕ → List Entry → List (List ℕ) → List Entry
+  need_all places place objects [] = objects
+  need_all places place objects (name ∷ names) = need_all places place (need places place objects name) names
+
+  -- with the libraries that the object at a place needs
+  abbrev pub with_needed : Others → List Entry → ℕ → List Entry
+  with_needed others objects place =
+      need_all (places_at others objects place) place objects (needed_by others (file_at objects place))
+
+  -- with those that the first n objects need, one object after the other
+  abbrev pub loaded_after : Others → Entry → ℕ → List Entry
+  loaded_after others program zero = program ∷ []
+  loaded_after others program (suc n) = with_needed others (loaded_after others program n) n
+
+-- the program as an object
+abbrev pub program_entry : Found → Entry
+program_entry program = record { name = program.path; loader = 0; file = Some program }
+
+-- all that are loaded, in order: the libraries of each were searched for
+abbrev pub IsLoadOrder : (List ℕ → Option (List ℕ)) → Others → Found → List Entry → Type 0
+IsLoadOrder files others program objects =
+    (n : ℕ) × (length objects ≤ n)
+    × (objects ≡ loaded_after files program.kind others (program_entry program) n)
+
+-- ---- the view of the structs
+
+abbrev pub found_view : LoadedFile → Found
+found_view f = record {
+  path = f.path.items;
+  bytes = f.bytes.items;
+  kind = f.kind;
+  names = ok_map (option_map names_view) f.names;
+}
+
+abbrev pub entry_view : Object → Entry
+entry_view o = record { name = o.name.items; loader = o.loader; file = option_map found_view o.file }
+
+-- the file, or why the bytes are none, or an allocation failed
+abbrev pub IsOpened : List ℕ → List ℕ → Result LoadedFile OpenError → Type 0
+IsOpened path bytes (Ok f) = file_of path bytes ≡ Ok (found_view f)
+IsOpened path bytes (Err (Open e)) = file_of path bytes ≡ Err e
+IsOpened path bytes (Err Memory) = Unit {0}
+
+-- ---- files in memory
+
+abbrev pub mem_files : MemLibraries → List MemFile
+mem_files s = s.files.now
+
+abbrev pub content_in : List MemFile → List ℕ → Option (List ℕ)
+content_in [] path = None
+content_in (file ∷ files) path = if bytes_eq file.path.now path then Some file.bytes.now else content_in files path

@@ -1,0 +1,2 @@
+-- the names of objects, as a set
+pub mod LoadedNames

@@ -1,0 +1,179 @@
+//! How the relocations of a file refer to its symbols.
+ghost use Rattle.std.specs.Prelude.{◌≡◌, map};
+ghost use Rattle.elf.specs.Answers.{relas_left, rels_left};
+ghost use Rattle.elf.specs.ElfBytes.{view};
+ghost use Rattle.elf.specs.ObjectFile.{object_file};
+ghost use Rattle.elf_records.specs.Number.{ok_map};
+ghost use Rattle.elf_linking.specs.SymbolUses.{is_dynamic, rel_parts, rela_parts, section_uses, use_added, uses_after};
+ghost use Rattle.elf_linking.specs.SymbolUses.{uses_at, uses_by, with_use};
+ghost use Rattle.elf_linking.specs.declared.bindings.uses.UsesError.TheVariants.{Read as IsRead};
+
+use crate::{ReferenceKind, reference_kind};
+use elf::endian::EndianParse;
+use elf::headers::Headers;
+use elf::relocation::{RelIterator, RelaIterator};
+use elf::section::SectionHeader;
+use elf::{ElfBytes, ParseError, abi};
+use thiserror::Error;
+
+/// The kinds of references that relocations make to a symbol.
+#[derive(Debug, Clone, Copy)]
+pub struct SymbolUses {
+    pub jump_slot: bool,
+    pub address: bool,
+    pub copied: bool,
+}
+
+/// No reference.
+pub const NO_USES: SymbolUses = SymbolUses {
+    jump_slot: false,
+    address: false,
+    copied: false,
+};
+
+/// Why the relocations of a file are not known.
+#[derive(Debug, Drop, Error)]
+pub enum UsesError {
+    /// A section of relocations cannot be read.
+    #[error("{0}")]
+    Read(ParseError),
+    /// The sections of relocations are together larger than the file.
+    #[error("the sections of relocations are larger than the file")]
+    TooLarge,
+}
+
+impl From<ParseError> for UsesError {
+    ghost from_gives = { λ error fault. fault ≡ IsRead error };
+
+    fn from(error: ParseError) -> UsesError {
+        UsesError::Read(error)
+    }
+}
+
+// These uses with one of a kind.
+fn with_use(kind: ReferenceKind, uses: SymbolUses) -> SymbolUses
+    ensures { result ≡ with_use kind uses }
+{
+    match kind {
+        ReferenceKind::JumpSlot => SymbolUses {
+            jump_slot: true,
+            ..uses
+        },
+        ReferenceKind::Address => SymbolUses {
+            address: true,
+            ..uses
+        },
+        ReferenceKind::Copied => SymbolUses {
+            copied: true,
+            ..uses
+        },
+    }
+}
+
+/// Returns the uses of a symbol by its index, or none if the index lies past the end.
+pub fn uses_at(uses: &[SymbolUses], index: usize) -> SymbolUses
+    ensures { result ≡ uses_at uses.now index }
+{
+    if index < uses.len() {
+        uses[index]
+    } else {
+        NO_USES
+    }
+}
+
+// Adds a use of a symbol. A symbol that there is not has none.
+fn add_use(uses: &mut [SymbolUses], symbol: usize, kind: ReferenceKind)
+    ensures { uses.new ≡ use_added uses.old symbol kind }
+{
+    if symbol < uses.len() {
+        uses[symbol] = with_use(kind, uses[symbol]);
+    }
+}
+
+// Adds the uses of relocations without addends.
+fn add_rels<E: EndianParse>(machine: u16, rels: RelIterator<'_, E>, uses: &mut [SymbolUses])
+    ensures { uses.new ≡ uses_after machine uses.old (map rel_parts (rels_left rels.entry)) }
+{
+    for rel in rels {
+        add_use(
+            uses,
+            rel.r_sym as usize,
+            reference_kind(machine, rel.r_type),
+        );
+    }
+}
+
+// Adds the uses of relocations with addends.
+fn add_relas<E: EndianParse>(machine: u16, relas: RelaIterator<'_, E>, uses: &mut [SymbolUses])
+    ensures { uses.new ≡ uses_after machine uses.old (map rela_parts (relas_left relas.entry)) }
+{
+    for rela in relas {
+        add_use(
+            uses,
+            rela.r_sym as usize,
+            reference_kind(machine, rela.r_type),
+        );
+    }
+}
+
+// Adds the uses of the relocations of a section, if it has any.
+fn add_section<E: EndianParse>(
+    file: &ElfBytes<'_, E>,
+    section: &SectionHeader,
+    uses: &mut [SymbolUses],
+) -> Result<(), ParseError>
+    ensures { ok_map (λ _. uses.new) result
+        ≡ section_uses file.now.ehdr.e_machine (object_file E.little (view file.now)) section.now uses.old }
+{
+    let machine = file.ehdr.e_machine;
+    if section.sh_type == abi::SHT_REL {
+        let rels = file.section_data_as_rels(section)?;
+        add_rels(machine, rels, uses);
+    } else if section.sh_type == abi::SHT_RELA {
+        let relas = file.section_data_as_relas(section)?;
+        add_relas(machine, relas, uses);
+    }
+    Ok(())
+}
+
+// Whether the section has relocations of symbols for dynamic linking.
+fn is_dynamic<E: EndianParse>(file: &ElfBytes<'_, E>, section: &SectionHeader) -> bool
+    ensures { result ≡ is_dynamic (object_file E.little (view file.now)) section.now }
+{
+    if section.sh_type != abi::SHT_REL && section.sh_type != abi::SHT_RELA {
+        return false;
+    }
+    match file.section_at(section.sh_link as usize) {
+        Ok(linked) => linked.sh_type == abi::SHT_DYNSYM,
+        Err(_) => false,
+    }
+}
+
+/// Adds the uses that the relocations of a file make of its symbols for dynamic linking, in the order of their table:
+/// those of each section of type `SHT_REL` or `SHT_RELA` that is linked to a section of type `SHT_DYNSYM`.
+///
+/// Errors, of the first such section with one, in order: `TooLarge` if its size and those of the ones before it are
+/// together larger than the file; `Read` with that of `section_data_as_rels` or `section_data_as_relas`. So the time is
+/// that of one walk over the sections and the bytes of the file.
+pub fn add_uses<E: EndianParse>(
+    file: &ElfBytes<'_, E>,
+    uses: &mut [SymbolUses],
+) -> Result<(), UsesError>
+    ensures { ok_map (λ _. uses.new) result
+        ≡ uses_by file.now.ehdr.e_machine (object_file E.little (view file.now)) uses.old }
+{
+    let Some(sections) = file.section_headers() else {
+        return Ok(());
+    };
+    let mut left = file.data().len() as u64;
+    for section in sections {
+        if is_dynamic(file, &section) {
+            if section.sh_size > left {
+                return Err(UsesError::TooLarge);
+            }
+            left -= section.sh_size;
+            add_section(file, &section, uses)?;
+        }
+    }
+    Ok(())
+}

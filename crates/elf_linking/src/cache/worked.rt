@@ -1,0 +1,41 @@
+//! The definitions of the cache at known values.
+#![tactic(auto, unfolding(elf_records::specs::Number::bytes_at, elf_records::specs::Number::number_at, elf_records::specs::Record::numbers_at, elf_records::specs::StringTable::string_at))]
+
+ghost use Rattle.std.specs.Prelude.{◌≡◌, [], ◌∷◌, codes, take, true, false, None, Some, Ok, Err};
+ghost use Rattle.elf_abi.specs.declared.abi.TheConstants.{EM_386, EM_AARCH64, EM_X86_64};
+ghost use Rattle.elf_records.specs.declared.file.Class.TheVariants.{ELF32, ELF64};
+ghost use Rattle.elf_records.specs.declared.parse.ParseError.TheVariants.{SliceReadError};
+ghost use Rattle.elf_linking.specs.KnownCaches.{known, known_after_old, old, path_for};
+ghost use Rattle.elf_linking.specs.declared.cache.CacheError.TheVariants.{ByteOrder, Magic, OldFormat, Read};
+
+/// Of several entries with one name the first counts whose flags are those of the machine, and which is for each of its
+/// processors. A path without an end is none.
+pub fn paths_of_names()
+    ensures first { path_for true (known true 2) EM_X86_64 ELF64 (codes "a.so") ≡ Ok (Some (codes "/l/a.so")) }
+    ensures other_class { path_for true (known true 2) EM_386 ELF32 (codes "a.so") ≡ Ok (Some (codes "/m/a.so")) }
+    ensures x32 { path_for true (known true 2) EM_X86_64 ELF32 (codes "a.so") ≡ Ok None }
+    ensures other_machine { path_for true (known true 2) EM_AARCH64 ELF64 (codes "a.so") ≡ Ok None }
+    ensures no_end { path_for true (known true 2) EM_X86_64 ELF64 (codes "b.so") ≡ Ok None }
+    ensures longer { path_for true (known true 2) EM_X86_64 ELF64 (codes "a.so.1") ≡ Ok None }
+    ensures shorter { path_for true (known true 2) EM_X86_64 ELF64 (codes "a.s") ≡ Ok None }
+    ensures big { path_for false (known false 3) EM_X86_64 ELF64 (codes "a.so") ≡ Ok (Some (codes "/l/a.so")) }
+    ensures unmarked { path_for true (known true 0) EM_X86_64 ELF64 (codes "a.so") ≡ Ok (Some (codes "/l/a.so")) }
+    ensures after_old { path_for true (known_after_old true) EM_X86_64 ELF64 (codes "a.so")
+        ≡ Ok (Some (codes "/l/a.so")) }
+{}
+
+/// What is no cache, a cache of the older format alone, one of another order, and one that is cut off, are errors.
+pub fn errors_of_caches()
+    ensures empty { path_for true [] EM_X86_64 ELF64 (codes "a.so") ≡ Err Magic }
+    ensures no_cache { path_for true (codes "glibc-ld.so.cache1.0") EM_X86_64 ELF64 (codes "a.so") ≡ Err Magic }
+    ensures old_alone { path_for true (old true) EM_X86_64 ELF64 (codes "a.so") ≡ Err OldFormat }
+    ensures old_cut { path_for true (take 15 (old true)) EM_X86_64 ELF64 (codes "a.so")
+        ≡ Err (Read (SliceReadError (12, 16))) }
+    ensures other_order { path_for true (known true 3) EM_X86_64 ELF64 (codes "a.so") ≡ Err (ByteOrder 3) }
+    ensures little_for_big { path_for false (known false 2) EM_X86_64 ELF64 (codes "a.so") ≡ Err (ByteOrder 2) }
+    ensures invalid { path_for true (known true 1) EM_X86_64 ELF64 (codes "a.so") ≡ Err (ByteOrder 1) }
+    ensures header_cut { path_for true (take 20 (known true 2)) EM_X86_64 ELF64 (codes "a.so")
+        ≡ Err (Read (SliceReadError (20, 24))) }
+    ensures entries_cut { path_for true (take 167 (known true 2)) EM_X86_64 ELF64 (codes "a.so")
+        ≡ Err (Read (SliceReadError (48, 168))) }
+{}

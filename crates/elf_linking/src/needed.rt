@@ -1,0 +1,403 @@
+//! The names by which the dynamic linker finds a file and the libraries that it needs.
+ghost use Rattle.std.specs.Prelude.{◌≡◌, ◌≢◌, Err, IfOk, IfSome, IsTrue, None, Ok, map};
+ghost use Rattle.std.specs.List.{find};
+ghost use Rattle.std.specs.Option.{option_map};
+ghost use Rattle.elf_records.specs.Dynamic.{has_tag};
+ghost use Rattle.elf_records.specs.Number.{ok_map};
+ghost use Rattle.elf_records.specs.Table.{table_view};
+ghost use Rattle.elf.specs.Answers.{dynamic};
+ghost use Rattle.elf.specs.ObjectFile.{Partial};
+ghost use Rattle.elf.specs.Parts.{loaded};
+ghost use Rattle.elf.specs.StreamFile.{stream_file};
+ghost use Rattle.elf_linking.specs.Missing.{LoadsMissing};
+ghost use Rattle.elf_linking.specs.Needed.{GivesNames, IsAnswered, IsGiven, MissesNames};
+ghost use Rattle.elf_linking.specs.Needed.{all_names, entries_in, first_entry, first_name, holds, missing_of};
+ghost use Rattle.elf_linking.specs.Needed.{name_bytes, name_of, names, names_by, names_in, names_view, offset_in};
+ghost use Rattle.elf_linking.specs.Needed.{read_error};
+ghost use Rattle.elf_linking.specs.Needed.{string_part, string_range, strings_by};
+ghost use Rattle.elf_linking.specs.Readings.{ReadsFile};
+ghost use Rattle.elf_linking.specs.declared.needed.NamesError.TheVariants.{Memory as IsMemory};
+
+use elf::dynamic::{Dyn, DynamicTable};
+use elf::endian::EndianParse;
+use elf::reader::{Reader, dynamic};
+use elf::segment::ProgramHeader;
+use elf::string_table::{StringTable, TerminatedStrings};
+use elf::{ElfStream, ParseError, ReadError, StreamSource, abi};
+use std::alloc::{AllocError, AllocFailed, Allocator, Global};
+use thiserror::Error;
+
+/// A name in the string table of a file, by its offset in bytes. `Names::bytes` returns its bytes.
+#[derive(Debug, Clone, Copy)]
+pub struct Name {
+    start: usize,
+}
+
+/// The names that the dynamic entries of a file give, in one copy of its string table. Many entries may name one long
+/// string, so a name is neither copied nor read to its end before its bytes are requested.
+#[derive(Debug, Drop)]
+pub struct Names {
+    strings: Vec<u8>,
+    /// The file's own name, by its first entry `DT_SONAME`.
+    pub soname: Option<Name>,
+    /// The libraries that it needs, by its entries `DT_NEEDED`, in order.
+    pub needed: Vec<Name>,
+    /// The search paths of libraries, by its first entry `DT_RUNPATH` and by its first entry `DT_RPATH`.
+    pub runpath: Option<Name>,
+    pub rpath: Option<Name>,
+}
+
+impl Names {
+    /// Returns the bytes of a name, without the 0 byte that ends it. Of a name of another file it returns the string at
+    /// its offset, or no bytes if there is none. The time grows with the length of the name.
+    pub fn bytes(&self, name: &Name) -> &[u8]
+        ensures { result.now ≡ name_bytes self.now.strings.items name.now }
+    {
+        match StringTable::new(&self.strings).get_raw(name.start) {
+            Ok(bytes) => bytes,
+            Err(_) => &[],
+        }
+    }
+}
+
+/// Why the names of a file are not available.
+#[derive(Debug, Drop, Error)]
+pub enum NamesError {
+    /// The bytes cannot be read.
+    #[error("{0}")]
+    Read(ParseError),
+    /// The bytes from a start to an end, which lie in the file, are not loaded.
+    #[error("Bytes in range [0x{:X}, 0x{:X}) are not loaded", .0.0, .0.1)]
+    Missing((u64, u64)),
+    /// No entry gives the address of the string table.
+    #[error("no entry DT_STRTAB")]
+    NoAddress,
+    /// No entry gives the size of the string table.
+    #[error("no entry DT_STRSZ")]
+    NoSize,
+    /// No loaded segment has the string table, which begins at this address, in the file.
+    #[error("no segment holds the string table at 0x{0:x}")]
+    NotLoaded(u64),
+    /// The string that an entry names cannot be read.
+    #[error("{0}")]
+    Name(ParseError),
+    /// An allocation failed.
+    #[error("out of memory")]
+    Memory,
+}
+
+impl From<AllocError> for NamesError {
+    ghost from_gives = { λ _ error. error ≡ IsMemory };
+
+    fn from(_error: AllocError) -> NamesError {
+        NamesError::Memory
+    }
+}
+
+impl<T: Drop> From<AllocFailed<T>> for NamesError {
+    ghost from_gives = { λ _ error. error ≡ IsMemory };
+
+    fn from(_error: AllocFailed<T>) -> NamesError {
+        NamesError::Memory
+    }
+}
+
+impl From<ReadError> for NamesError {
+    ghost from_gives = { λ read error. error ≡ read_error Partial read };
+
+    fn from(error: ReadError) -> NamesError {
+        match error {
+            ReadError::Parse(error) => NamesError::Read(error),
+            ReadError::NotLoaded(range) => NamesError::Missing(range),
+        }
+    }
+}
+
+// Whether the entry has a tag, one of `DT_*`.
+fn has_tag(entry: &Dyn, tag: i64) -> bool
+    ensures { result ≡ has_tag tag entry.now }
+{
+    entry.d_tag == tag
+}
+
+/// Returns the entries of a table before the first with the tag `DT_NULL`, which ends it. The only error is a failed
+/// allocation.
+pub fn entries_in<E: EndianParse>(
+    alloc: Global,
+    table: &DynamicTable<'_, E>,
+) -> Result<Vec<Dyn>, AllocError>
+    ensures { IfOk result (λ entries. entries.items ≡ entries_in (table_view table.now)) }
+{
+    table
+        .iter()
+        .take_while(|entry| !has_tag(entry, abi::DT_NULL))
+        .collect(alloc)
+}
+
+// The first entry with a tag.
+fn first_entry(entries: &[Dyn], tag: i64) -> Option<&Dyn>
+    ensures { option_map (λ entry. entry.now) result ≡ first_entry tag entries.now }
+{
+    entries.iter().find(|entry| has_tag(entry, tag))
+}
+
+// Whether the segment is loaded and has the bytes of these addresses in the file.
+fn holds(segment: &ProgramHeader, address: u64, size: u64) -> bool
+    ensures { result ≡ holds address size segment.now }
+{
+    if segment.p_type != abi::PT_LOAD || address < segment.p_vaddr {
+        return false;
+    }
+    let before = address - segment.p_vaddr;
+    before <= segment.p_filesz
+        && size <= segment.p_filesz - before
+        && before <= u64::MAX - segment.p_offset
+}
+
+// The offset in the file of the byte of an address.
+fn offset_in(segment: &ProgramHeader, address: u64, size: u64) -> u64
+    requires { IsTrue (holds address size segment.now) }
+    ensures { result ≡ offset_in address segment.now }
+{
+    segment.p_offset + (address - segment.p_vaddr)
+}
+
+// The first segment of a file that holds this many bytes from an address on.
+fn first_holding<E: EndianParse, R: Reader<E>>(
+    file: &R,
+    address: u64,
+    size: u64,
+) -> Option<ProgramHeader>
+    ensures { result ≡ find (holds address size) (R.file file.now).segments }
+{
+    file.each_segment()
+        .find(|segment| holds(segment, address, size))
+}
+
+// The address of the string table, and its size.
+fn string_range(entries: &[Dyn]) -> Result<(u64, u64), NamesError>
+    ensures value { result ≡ string_range entries.now }
+    ensures plain { IsGiven (λ range. range) (string_range entries.now) result }
+{
+    let Some(start) = first_entry(entries, abi::DT_STRTAB) else {
+        return Err(NamesError::NoAddress);
+    };
+    let Some(length) = first_entry(entries, abi::DT_STRSZ) else {
+        return Err(NamesError::NoSize);
+    };
+    Ok((start.d_ptr(), length.d_val()))
+}
+
+/// Returns the range of the string table of the entries in the file, by its start and its size. Their address is one of
+/// memory, and the segments of type `PT_LOAD` say which bytes of the file are loaded there.
+///
+/// Errors, in order: `NoAddress` and `NoSize` if no entry gives the address or the size of the string table;
+/// `NotLoaded` if no segment of type `PT_LOAD` holds it.
+pub fn string_part<E: EndianParse, R: Reader<E>>(
+    file: &R,
+    entries: &[Dyn],
+) -> Result<(u64, u64), NamesError>
+    ensures value { result ≡ string_part (R.file file.now).segments entries.now }
+    ensures plain { IsGiven (λ part. part) (string_part (R.file file.now).segments entries.now) result }
+{
+    let (address, size) = match string_range(entries) {
+        Ok(range) => range,
+        Err(error) => return Err(error),
+    };
+    match first_holding(file, address, size) {
+        Some(segment) => Ok((offset_in(&segment, address, size), size)),
+        None => Err(NamesError::NotLoaded(address)),
+    }
+}
+
+/// Returns the string table of the dynamic entries of a file. The errors are those of `string_part`, then `Read` if the
+/// bytes cannot be read, or `Missing` if they are not loaded.
+pub fn strings_of<'f, E: EndianParse, R: Reader<E>>(
+    file: &'f R,
+    entries: &[Dyn],
+) -> Result<&'f [u8], NamesError>
+    ensures value { ok_map (λ bytes. bytes.now) result
+        ≡ strings_by (loaded (R.file file.now) (R.ranges file.now)) entries.now }
+    ensures plain { IsAnswered (λ bytes. bytes.now)
+        (strings_by (loaded (R.file file.now) (R.ranges file.now)) entries.now) result }
+{
+    let (start, size) = match string_part(file, entries) {
+        Ok(part) => part,
+        Err(error) => return Err(error),
+    };
+    match file.range(start, size) {
+        Ok(bytes) => Ok(bytes),
+        Err(error) => Err(NamesError::from(error)),
+    }
+}
+
+// The string that an entry names. Comparing it with the empty name gives the error, and reads at most one byte of it.
+fn name_of(strings: &TerminatedStrings<'_>, entry: &Dyn) -> Result<Name, NamesError>
+    ensures { ok_map (name_bytes strings.now) result ≡ name_of strings.now entry.now }
+{
+    let start = entry.d_val() as usize;
+    match strings.is(start, &[]) {
+        Ok(_) => Ok(Name { start }),
+        Err(error) => Err(NamesError::Name(error)),
+    }
+}
+
+// The string that the first entry with a tag names.
+fn first_name(
+    strings: &TerminatedStrings<'_>,
+    entries: &[Dyn],
+    tag: i64,
+) -> Result<Option<Name>, NamesError>
+    ensures { ok_map (option_map (name_bytes strings.now)) result ≡ first_name strings.now tag entries.now }
+{
+    match first_entry(entries, tag) {
+        Some(entry) => name_of(strings, entry).map(Some),
+        None => Ok(None),
+    }
+}
+
+// The strings that the entries with a tag name, in order.
+fn all_names(
+    alloc: Global,
+    strings: &TerminatedStrings<'_>,
+    entries: &[Dyn],
+    tag: i64,
+) -> Result<Vec<Name>, NamesError>
+    ensures { IsGiven (λ names. map (name_bytes strings.now) names.items)
+        (all_names strings.now tag entries.now) result }
+{
+    let mut names = Vec::new(alloc);
+    for entry in entries {
+        if has_tag(entry, tag) {
+            names.push(name_of(strings, entry)?)?;
+        }
+    }
+    Ok(names)
+}
+
+// The names that the entries give in a string table, with a copy of it.
+fn names_in(alloc: Global, table: &[u8], entries: &[Dyn]) -> Result<Names, NamesError>
+    ensures { IsGiven names_view (names_in table.now entries.now) result }
+{
+    let strings = TerminatedStrings::new(&StringTable::new(table));
+    let soname = first_name(&strings, entries, abi::DT_SONAME)?;
+    let needed = all_names(alloc, &strings, entries, abi::DT_NEEDED)?;
+    let runpath = first_name(&strings, entries, abi::DT_RUNPATH)?;
+    let rpath = first_name(&strings, entries, abi::DT_RPATH)?;
+    Ok(Names {
+        strings: Vec::from_slice(alloc, table)?,
+        soname,
+        needed,
+        runpath,
+        rpath,
+    })
+}
+
+/// Returns the dynamic entries of a file before the first with the tag `DT_NULL`, copied, or `None` if it has none. The
+/// errors are those of `dynamic`, then `OutOfMemory` if an allocation failed.
+pub fn read_entries<E: EndianParse, S: StreamSource, A: Allocator + Copy>(
+    alloc: Global,
+    stream: &mut ElfStream<E, S, A>,
+) -> Result<Option<Vec<Dyn>>, ParseError>
+    ensures { ReadsFile stream.old stream.new result (option_map (λ entries. entries.items))
+        (λ bytes. ok_map (option_map entries_in) (dynamic (stream_file E.little stream.old bytes))) }
+{
+    match stream.dynamic() {
+        Ok(Some(table)) => {
+            let entries = entries_in(alloc, &table)?;
+            Ok(Some(entries))
+        }
+        Ok(None) => Ok(None),
+        Err(error) => Err(error),
+    }
+}
+
+// The names that the entries of a file give.
+fn names_by<E: EndianParse, R: Reader<E>>(
+    alloc: Global,
+    file: &R,
+    entries: &[Dyn],
+) -> Result<Names, NamesError>
+    ensures { IsAnswered names_view
+        (names_by (loaded (R.file file.now) (R.ranges file.now)) entries.now) result }
+{
+    match strings_of(file, entries) {
+        Ok(strings) => names_in(alloc, strings, entries),
+        Err(error) => Err(error),
+    }
+}
+
+/// Returns the soname of a file, the libraries that it needs and its search paths, or `None` if it has no dynamic
+/// entries. The string table is found by its address, as the dynamic linker finds it, so no section header is needed.
+/// Of a stream it reads what is loaded; `read_dynamic_names` loads the rest.
+///
+/// Errors, in order: `Read` if the dynamic entries cannot be read; `NoAddress` and `NoSize` if no entry gives the
+/// address or the size of the string table; `NotLoaded` if no segment of type `PT_LOAD` holds it; `Read` if its bytes
+/// cannot be read; `Name` if the string of an entry cannot be read: of the soname, then of the needed libraries in
+/// order, of `DT_RUNPATH` and of `DT_RPATH`. In place of `Read`, `Missing` if the bytes lie in the file and are not
+/// loaded. `Memory` if an allocation failed, which is possible only if the file has dynamic entries.
+pub fn dynamic_names<E: EndianParse, R: Reader<E>>(
+    alloc: Global,
+    file: &R,
+) -> Result<Option<Names>, NamesError>
+    ensures names { IsAnswered (option_map names_view)
+        (names (loaded (R.file file.now) (R.ranges file.now))) result }
+    ensures memory { result ≡ Err NamesError.Memory →
+        names (loaded (R.file file.now) (R.ranges file.now)) ≢ Ok None }
+{
+    let entries = match dynamic(file) {
+        Ok(Some(table)) => entries_in(alloc, &table)?,
+        Ok(None) => return Ok(None),
+        Err(error) => return Err(NamesError::from(error)),
+    };
+    match names_by(alloc, file, entries.as_slice()) {
+        Ok(names) => Ok(Some(names)),
+        Err(error) => Err(error),
+    }
+}
+
+// The range that is missing, if that is the error.
+fn missing_of(found: &Result<Option<Names>, NamesError>) -> Option<(u64, u64)>
+    ensures { result ≡ missing_of found.now }
+{
+    match found {
+        Err(NamesError::Missing(range)) => Some(*range),
+        _ => None,
+    }
+}
+
+/// Returns of a stream what `dynamic_names` returns of a file in memory, with the same errors in the same order. It
+/// loads each range that is missing, and no other. `Read` also if the source failed, or if an allocation for a range
+/// failed.
+///
+/// ```rust
+/// if let Some(names) = read_dynamic_names(rt.alloc(), &mut stream)? {
+///     for name in &names.needed {
+///         println!(rt; "{}", from_utf8(names.bytes(name))?)?;
+///     }
+/// }
+/// ```
+pub fn read_dynamic_names<E: EndianParse, S: StreamSource, A: Allocator + Copy>(
+    alloc: Global,
+    stream: &mut ElfStream<E, S, A>,
+) -> Result<Option<Names>, NamesError>
+    ensures names { GivesNames (option_map names_view) (λ bytes. names (stream_file E.little stream.old bytes))
+        stream.old stream.new result }
+    ensures memory { result ≡ Err NamesError.Memory → IfSome stream.old.content (λ bytes.
+        names (stream_file E.little stream.old bytes) ≢ Ok None) }
+    ensures only { LoadsMissing E.little MissesNames stream.old stream.new }
+{
+    // Each round loads a range that was missing, and no source has that many.
+    'rounds: for round in 0..u64::MAX {
+        stream.is_part_of_file();
+        let found = dynamic_names(alloc, &*stream);
+        let Some((start, end)) = missing_of(&found) else {
+            return found;
+        };
+        match stream.load_range(start, end.saturating_sub(start)) {
+            Ok(()) => {}
+            Err(error) => return Err(NamesError::Read(error)),
+        }
+    }
+    Err(NamesError::Memory)
+}

@@ -1,0 +1,37 @@
+//! Looks a name up in an ordered list of objects, as a dynamic linker does: the first object that has the name
+//! decides.
+//!
+//! An object is given by its checked hash table, so a look-up returns no error and misses no indexed symbol.
+//! Nothing is allocated.
+ghost use Rattle.std.specs.Prelude.{◌≡◌};
+ghost use Rattle.elf_linking.specs.declared.resolve.ObjectFault.TheVariants.{Read as IsRead};
+
+mod objects;
+
+use elf::parse::ParseError;
+use elf_hash_check::hashcheck::HashFault;
+pub use elf_hash_check::hashcheck::{AnyChecked, HashSection};
+pub use objects::{object_table, resolve, section_table};
+use thiserror::Error;
+
+/// Why a file with a hash section has no checked table.
+#[derive(Debug, Drop, Error)]
+pub enum ObjectFault {
+    /// The bytes of the section, the dynamic symbols, or the table in these bytes cannot be read.
+    #[error("{0}")]
+    Read(ParseError),
+    /// The file has no dynamic symbol table.
+    #[error("no dynamic symbol table")]
+    NoSymbols,
+    /// The section is not sound for the dynamic symbols.
+    #[error("hash section is not sound: {0:?}")]
+    Faulty(HashFault),
+}
+
+impl From<ParseError> for ObjectFault {
+    ghost from_gives = { λ error fault. fault ≡ IsRead error };
+
+    fn from(error: ParseError) -> ObjectFault {
+        ObjectFault::Read(error)
+    }
+}

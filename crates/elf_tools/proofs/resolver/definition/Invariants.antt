@@ -1,7 +1,0 @@
-use Rattle.elf_check.specs.CheckedTable.{object_view}
-use Rattle.elf_tools.specs.Resolver.{UndefinedBefore}
-use Rattle.elf_tools.proofs.resolver.definition.Given as goal
-
--- no library so far defines the name
-abbrev pub invariant-loop-library : goal.invariant-loop-library
-invariant-loop-library g l = UndefinedBefore object_view l.tables l.name l.library

@@ -1,9 +1,0 @@
-use Rattle.std.proofs.Common.{◌<◌}
-use Rattle.elf_records.specs.Table.{table_get, table_view}
-use Rattle.elf_whole.specs.Members.{SoundBelow}
-use Rattle.elf_whole.proofs.relocations.first_without_symbol.Given as goal
-
--- the relocations so far name a symbol
-abbrev pub invariant-loop-index : goal.invariant-loop-index
-invariant-loop-index g l =
-    SoundBelow (table_get g.P.ParseAt.reads (table_view l.table)) (λ r. g.P.Relocation.symbol_of r < l.symbols) l.index

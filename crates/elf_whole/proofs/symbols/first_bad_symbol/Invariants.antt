@@ -1,9 +1,0 @@
-use Rattle.elf_parts.specs.Hash.{symbol_at}
-use Rattle.elf_records.specs.Table.{table_view}
-use Rattle.elf_whole.specs.Members.{SoundBelow}
-use Rattle.elf_whole.specs.Symbols.{SoundSymbol}
-use Rattle.elf_whole.proofs.symbols.first_bad_symbol.Given as goal
-
--- the symbols so far are sound
-abbrev pub invariant-loop-index : goal.invariant-loop-index
-invariant-loop-index g l = SoundBelow (symbol_at (table_view l.symbols)) (SoundSymbol l.sections l.strings) l.index

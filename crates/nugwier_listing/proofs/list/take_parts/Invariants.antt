@@ -1,0 +1,13 @@
+use Rattle.std.proofs.Common.{◌≡◌, ◌++◌, drop}
+use Rattle.std.specs.List.{flat_map}
+use Rattle.nugwier_listing.specs.Job.{said_if_listed}
+use Rattle.nugwier_listing.specs.Whole.{whole_file}
+use Rattle.nugwier_listing.specs.inner.Job.{part_said}
+use Rattle.nugwier_listing.proofs.list.take_parts.Given as goal
+
+-- what was taken so far, and then the parts that are left, is the whole
+abbrev pub invariant-loop-part : goal.invariant-loop-part
+invariant-loop-part g l =
+    let little = g.E.EndianParse.little in
+    let said = flat_map (said_if_listed little l.parts l.stream.headers.ehdr (whole_file little l.stream)) in
+    flat_map (part_said little) l.tables.items ++ said (drop l.part-index l.all) ≡ said l.all
