@@ -96,8 +96,9 @@ build_unproved() {
     (cd "$folder" && TMPDIR=$work/try rt try -- $1 "$work/pipe" $2) </dev/null >"$out/unproved.log" 2>&1
     [ -x "$work/program" ] || stop "the build without proof failed: read $out/unproved.log, or run $top/prove"
     # Another run may be at the same work, so each file is put there whole. Without the checksum no program is current.
+    # Other users may run it too.
     rm -f "$unproved.sources"
-    if ! cp "$work/program" "$unproved.$$" || ! mv "$unproved.$$" "$unproved" ||
+    if ! cp "$work/program" "$unproved.$$" || ! chmod 755 "$unproved.$$" || ! mv "$unproved.$$" "$unproved" ||
         ! cp -p "$work/sources" "$unproved.$$" || ! mv "$unproved.$$" "$unproved.sources"; then
         stop "cannot write $unproved: make room for it"
     fi

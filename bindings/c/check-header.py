@@ -4,7 +4,7 @@
 Reads the `#[repr(C)]` structs and the exports of crates/elf_c/src/*.rt, and writes to standard output a C file that
 compiles (as C and as C++) exactly if each struct of the header has the fields, the sizes and the offsets of the Rattle
 struct, and each function the parameters and the result of the export. It also fails if the header declares a function
-or a struct that the sources do not have, or leaves one out.
+or a struct that the sources do not have, or leaves one out, also in the namespace of C++.
 
 usage: check-header.py CRATE-SRC-FOLDER HEADER > checks.c
 """
@@ -151,7 +151,8 @@ def main():
         if count != expected:
             fail(f"struct {c_name(name)} has {count} fields in the header, {expected} in the sources")
 
-    out = ['#include "nugwier.h"', "", "#ifdef __cplusplus", "#define CHECK(fact) static_assert(fact, #fact)", "#else",
+    out = ['#include "nugwier.h"', "", "#ifdef __cplusplus", "#include <type_traits>",
+           "#define CHECK(fact) static_assert(fact, #fact)", "#else",
            "#define CHECK(fact) _Static_assert(fact, #fact)", "#endif", ""]
     for name in structs:
         size, align, offsets = layout(name, structs)
@@ -168,9 +169,11 @@ def main():
         returned = "void" if result is None else c_parameter(result)[0]
         # a declaration of another type is an error
         out.append(f'{returned} {name}({", ".join(kinds) or "void"});')
+    aliases = [f"CHECK((std::is_same<nugwier::{c_name(name)[8:]}, struct {c_name(name)}>::value));" for name in structs]
     text = "\n".join(out)
     opening, closing = "#ifdef __cplusplus\nextern \"C\" {\n#endif", "#ifdef __cplusplus\n}\n#endif"
     print(f"{text.split('CHECK(sizeof', 1)[0]}{opening}\nCHECK(sizeof{text.split('CHECK(sizeof', 1)[1]}\n{closing}")
+    print("\n".join(["#ifdef __cplusplus", *aliases, "#endif"]))
     print(f"check-header.py: {len(structs)} structs, {len(exports)} functions", file=sys.stderr)
 
 

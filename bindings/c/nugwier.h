@@ -491,4 +491,43 @@ size_t nugwier_error_text(const struct nugwier_status *status, uint8_t *text, si
 }
 #endif
 
+/* In C++ some structs have the name of a function, as nugwier_section, so that `struct` has to be written before it.
+ * Here each struct has a name without that: nugwier::section. */
+#if defined(__cplusplus) && __cplusplus >= 201103L
+namespace nugwier {
+using status = struct ::nugwier_status;
+using bytes = struct ::nugwier_bytes;
+using table = struct ::nugwier_table;
+using symbol = struct ::nugwier_symbol;
+using named_symbol = struct ::nugwier_named_symbol;
+using section = struct ::nugwier_section;
+using segment = struct ::nugwier_segment;
+using rel = struct ::nugwier_rel;
+using rela = struct ::nugwier_rela;
+using dynamic = struct ::nugwier_dynamic;
+using header = struct ::nugwier_header;
+using file = struct ::nugwier_file;
+using compression = struct ::nugwier_compression;
+using data = struct ::nugwier_data;
+using notes = struct ::nugwier_notes;
+using symbol_table = struct ::nugwier_symbol_table;
+using dynamic_table = struct ::nugwier_dynamic_table;
+using section_names = struct ::nugwier_section_names;
+using abi_tag = struct ::nugwier_abi_tag;
+using note = struct ::nugwier_note;
+using found = struct ::nugwier_found;
+using verdict = struct ::nugwier_verdict;
+using gnu = struct ::nugwier_gnu;
+using sysv = struct ::nugwier_sysv;
+using common = struct ::nugwier_common;
+using entries = struct ::nugwier_entries;
+using versions = struct ::nugwier_versions;
+using version = struct ::nugwier_version;
+using requirement = struct ::nugwier_requirement;
+using version_names = struct ::nugwier_version_names;
+using definition = struct ::nugwier_definition;
+using name = struct ::nugwier_name;
+}
+#endif
+
 #endif

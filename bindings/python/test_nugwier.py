@@ -62,8 +62,25 @@ class Reading(unittest.TestCase):
     def test_closed(self):
         file = nugwier.open(FILE)
         file.close()
-        with self.assertRaises(ValueError):
-            list(file.sections())
+        for call in (lambda: list(file.sections()), lambda: file.header, lambda: file.find("x"), file.check):
+            with self.assertRaises(ValueError):
+                call()
+
+    def test_iterators_end_with_an_error_after_close(self):
+        for iterate in (nugwier.ElfFile.sections, nugwier.ElfFile.segments, nugwier.ElfFile.symbols,
+                        lambda file: file.symbols(dynamic=True)):
+            with nugwier.open(FILE) as file:
+                iterator = iterate(file)
+                if next(iterator, None) is None:
+                    continue
+            with self.assertRaises(ValueError):
+                next(iterator)
+
+    def test_files_without_a_size_are_read(self):
+        self.assertEqual(os.stat("/proc/self/status").st_size, 0)
+        with self.assertRaises(nugwier.ElfError) as caught:
+            nugwier.open("/proc/self/status")
+        self.assertEqual(caught.exception.kind, "BadMagic")
 
 
 if __name__ == "__main__":

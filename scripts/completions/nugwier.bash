@@ -18,11 +18,11 @@ _nugwier() {
                 ;;
         esac
     elif [ "${COMP_WORDS[1]}" = tree ] || [ "${COMP_WORDS[1]}" = bindings ]; then
-        if [ "$before" = --search ]; then
+        if [ "$before" = --search ] || [ "$before" = --root ]; then
             mapfile -t COMPREPLY < <(compgen -d -- "$word")
             return
         elif [ "${word#-}" != "$word" ]; then
-            mapfile -t COMPREPLY < <(compgen -W "--search --json --help" -- "$word")
+            mapfile -t COMPREPLY < <(compgen -W "--search --root --no-cache --json --help" -- "$word")
             return
         fi
     elif [ "${word#-}" != "$word" ]; then

@@ -28,3 +28,5 @@ complete -c nugwier -n "__fish_seen_subcommand_from list" -s a -d all
 complete -c nugwier -n "__fish_seen_subcommand_from list" -s x -x -d "bytes of a section"
 complete -c nugwier -n "__fish_seen_subcommand_from list" -s p -x -d "strings of a section"
 complete -c nugwier -n "__fish_seen_subcommand_from tree bindings" -l search -x -a "(__fish_complete_directories)" -d "folder of libraries"
+complete -c nugwier -n "__fish_seen_subcommand_from tree bindings" -l root -x -a "(__fish_complete_directories)" -d "folder of an image"
+complete -c nugwier -n "__fish_seen_subcommand_from tree bindings" -l no-cache -d "without ld.so.cache"

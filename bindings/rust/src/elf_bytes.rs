@@ -217,14 +217,14 @@ impl<'data, E: EndianParse> ElfBytes<'data, E> {
     pub fn find_common_data(&self) -> Result<CommonElfData<'data, E>, ParseError> {
         let mut found = ffi::Common::default();
         checked(ffi::common(&self.handle(), &mut found))?;
-        let (symtab, symtab_strs) = with_strings(&found.symbols).unzip();
-        let (dynsyms, dynsyms_strs) = with_strings(&found.dynamic_symbols).unzip();
+        let all = with_strings(&found.symbols);
+        let dynamic_ones = with_strings(&found.dynamic_symbols);
         let dynamic = found.dynamics;
         Ok(CommonElfData {
-            symtab,
-            symtab_strs,
-            dynsyms,
-            dynsyms_strs,
+            symtab: all.map(|(symbols, _)| symbols),
+            symtab_strs: all.map(|(_, strings)| strings),
+            dynsyms: dynamic_ones.map(|(symbols, _)| symbols),
+            dynsyms_strs: dynamic_ones.map(|(_, strings)| strings),
             dynamic: dynamic.found.then(|| ParsingTable::of(dynamic.entries)),
             sysv_hash: found.has_sysv.then(|| SysVHashTable::of(found.sysv)),
             gnu_hash: found.has_gnu.then(|| GnuHashTable::of(found.gnu)),

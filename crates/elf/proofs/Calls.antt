@@ -60,7 +60,7 @@ module _ {E : Type 0} (little : E → Bool) (bytes : List ℕ) (v : FileView E)
       (one_call (answer call.method (object_file little (with_header v call.header))) (answer call.method (stream_file little old bytes)) old.can_fail old.failures call.new.failures call.result
       ((law call.header old now).methods call.method)
       (known bytes old.content (λ bytes. IsAnswer (λ x. x) (answer call.method (stream_file little old bytes)) old.can_fail old.failures call.new.failures call.result) content leaves.answers))
-      (calls_alike call.new calls (leaves.keeps.content ∙ content) (stay v old call.new leaves.keeps now) made.1)
+      (calls_alike call.new calls (leaves.left.keeps.content ∙ content) (stay v old call.new leaves.left.keeps now) made.1)
 
 pub stream_alike : {E : Type 0} (little : E → Bool) (of_byte : ℕ → Option E) (s : StreamView E) (known : Option (List ℕ))
     → ((bytes : List ℕ) (v : FileView E) (header : FileHeader E) (s : StreamView E) → opened_file little of_byte bytes ≡ Ok v → s.headers ≡ headers_of (with_header v header) → SameAnswers (object_file little (with_header v header)) (stream_file little s bytes))

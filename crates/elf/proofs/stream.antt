@@ -7,4 +7,5 @@ pub mod Needs
 pub mod SectionAt
 pub mod Parted
 pub mod Given
+pub mod There
 pub mod Cached

@@ -1,5 +1,6 @@
 -- What contracts see of an `ElfStream`, and what a call of it leaves and answers.
-use Rattle.std.specs.Prelude.{◌≡◌, ℕ, ◌+◌, ◌⊎◌, Bool, IsTrue, List, [], ◌∷◌, map}
+use Rattle.std.specs.List.{filter}
+use Rattle.std.specs.Prelude.{◌≡◌, ℕ, ◌+◌, ◌^◌, ◌⊎◌, ◌&&◌, Bool, IsTrue, List, [], ◌∷◌, length, map, nat_le, nat_lt}
 use Rattle.std.specs.Prelude.{Option, None, Result, Ok, Err, IfSome, OnOk, IfErr, IsOk, IsErr}
 use Rattle.elf_records.specs.Number.{bytes_at}
 use Rattle.elf_records.specs.declared.parse.ParseError.{ParseError}
@@ -7,7 +8,8 @@ use Rattle.elf_reading.specs.Opening.{opened_file}
 use Rattle.elf.specs.ElfBytes.{with_header}
 use Rattle.elf_reading.specs.Opening.{StreamHeaders, FileView, headers_of}
 use Rattle.elf_reading.specs.Cache.{Piece, is_cached}
-use Rattle.elf_reading.specs.Refusals.{AllocationFailure, IsAnswer, Kind, MayRefuse, Refusal, SourceFailure, kind}
+use Rattle.elf_reading.specs.Refusals.{AllocationFailure, HasReason, IsAnswer, Kind, MayRefuse, Refusal, SourceFailure}
+use Rattle.elf_reading.specs.Refusals.{kind}
 
 -- a stream: the content of its source, if known, whether the source can fail and how often it did; its headers; and the
 -- ranges of the source that are cached, each by its start and its end
@@ -50,6 +52,7 @@ pub record Keeps {E : Type 0} (old new : StreamView E) : Type 0 where
   pub content : new.content ≡ old.content
   pub can_fail : new.can_fail ≡ old.can_fail
   pub headers : new.headers ≡ old.headers
+  pub size : new.size ≡ old.size
   pub cached : (start end : ℕ) → IsCached old start end → IsCached new start end
 
 -- the same headers and the same cached bytes, over a source that is closed
@@ -73,20 +76,37 @@ IsFor need SourceFailure = need
 IsFor need AllocationFailure = need
 IsFor need Refusal = Unit {0}
 
--- What a call leaves whose answer over a content is given: the same file, no cached range lost, and after an Ok the
--- requested ranges are cached. No range is cached that was not cached before and does not lie within a requested one.
--- Its answer is the content's. If the requested ranges were cached before, as they are if none is requested, the source
--- and memory are not touched: the stream is as it was, and an error is the content's. Else they are used only for a
--- range that lies in the content.
-pub record Leaves {E T Y : Type 0} (requested : List (ℕ × ℕ)) (shown : T → Y)
-    (answer : List ℕ → Result Y ParseError) (old new : StreamView E) (r : Result T ParseError) : Type 0 where
+-- What a call leaves that requests these ranges, whatever it answers: the same file, no cached range lost, and after an
+-- Ok the requested ranges are cached. No range is cached that was not cached before and does not lie within a requested
+-- one. If the requested ranges were cached before, as they are if none is requested, the source and memory are not
+-- touched: the stream is as it was, and an error is the content's. Else they are used only for a range that lies in the
+-- content.
+pub record Left {E T : Type 0} (requested : List (ℕ × ℕ))
+    (old new : StreamView E) (r : Result T ParseError) : Type 0 where
   pub keeps : Keeps old new
   pub loaded : OnOk r (AreCached new requested)
   pub only : (start end : ℕ) → IsCached new start end → IsCached old start end ⊎ IsRequested requested start end
-  pub answers : IfSome old.content (λ bytes. IsAnswer shown (answer bytes) old.can_fail old.failures new.failures r)
-  pub accepted : IfSome old.content (λ bytes. IsOk (answer bytes) → AreCached old requested → IsOk r)
   pub untouched : AreCached old requested → (new ≡ old) × IfErr r (λ e. kind e ≡ Refusal)
   pub needed : IfSome old.content (λ bytes. IfErr r (λ e. IsFor (IsNeeded bytes new requested) (kind e)))
+
+-- The same of a call whose answer over a content is given: its answer is the content's. So it is an Ok if that is one
+-- and the requested ranges were cached before.
+pub record Leaves {E T Y : Type 0} (requested : List (ℕ × ℕ)) (shown : T → Y)
+    (answer : List ℕ → Result Y ParseError) (old new : StreamView E) (r : Result T ParseError) : Type 0 where
+  pub left : Left requested old new r
+  pub answers : IfSome old.content (λ bytes. IsAnswer shown (answer bytes) old.can_fail old.failures new.failures r)
+
+-- whether a range lies in a source of this length
+abbrev pub lies_in : ℕ → ℕ × ℕ → Bool
+lies_in size r = nat_lt (r.0 + r.1) (2 ^ 64) && nat_le (r.0 + r.1) size
+
+-- What a call leaves that loads those of these ranges that lie in the source. An error is a failure of the source or of
+-- an allocation.
+pub record LoadsRanges {E : Type 0} (ranges : List (ℕ × ℕ)) (old new : StreamView E)
+    (r : Result (Unit {0}) ParseError) : Type 0 where
+  pub left : Left (filter (lies_in old.size) ranges) old new r
+  pub size : IfSome old.content (λ bytes. old.size ≡ length bytes)
+  pub reason : IfSome old.content (λ bytes. HasReason old.failures new.failures old.can_fail ⊥ r)
 
 -- ---- what an opening answers
 

@@ -2,6 +2,7 @@
 -- bytes its answer is cut from.
 use Rattle.std.specs.Prelude.{ℕ, Bool, ◌==◌, if◌then◌else◌, List, [], ◌∷◌, ◌++◌, Option, Some}
 use Rattle.std.specs.Prelude.{None, Result, Ok, Err}
+use Rattle.std.specs.Result.{result_ok}
 use Rattle.elf_abi.specs.Values.{pt_dynamic, pt_note, sht_dynamic, sht_nobits}
 use Rattle.elf_records.specs.Dynamic.{dyn_layout}
 use Rattle.elf_records.specs.Record.{◌>>=◌, size_by}
@@ -109,3 +110,14 @@ plan_ranges plan = range_of_section plan.0 ∷ (if_there both_sections plan.1 ++
 -- symbol_version_table
 abbrev pub versions_ranges : ObjectFile → List (ℕ × ℕ)
 versions_ranges file = if_chosen plan_ranges (version_plan file)
+
+-- the section that a section links to, if both are there
+abbrev pub linked_section : ObjectFile → Option SectionHeader → Option SectionHeader
+linked_section file None = None
+linked_section file (Some s) = result_ok (file.section_at s.sh_link)
+
+-- load_linked: a section, the one that it links to, and the one that this links to
+abbrev pub linked_ranges : ObjectFile → SectionHeader → List (ℕ × ℕ)
+linked_ranges file s =
+    let linked = linked_section file (Some s) in
+    section_ranges s ++ (if_there section_ranges linked ++ if_there section_ranges (linked_section file linked))

@@ -3,7 +3,7 @@ ghost use Rattle.std.specs.Prelude.{◌≡◌};
 ghost use Rattle.std.specs.Option.{option_map};
 ghost use Rattle.elf_records.specs.Number.{ok_map};
 ghost use Rattle.elf_records.specs.Table.{table_view};
-ghost use Rattle.elf_reading.specs.Opening.{opened_file};
+ghost use Rattle.elf_reading.specs.Opening.{opened_by_segments, opened_file};
 ghost use Rattle.elf.specs.ElfBytes.{view};
 
 use elf_parts::endian::EndianParse;
@@ -11,7 +11,7 @@ use elf_parts::file::FileHeader;
 use elf_parts::parse::ParseError;
 use elf_parts::section::SectionHeaderTable;
 use elf_parts::segment::SegmentTable;
-use elf_reading::opening::open;
+use elf_reading::opening::{open, open_by_segments};
 
 mod common;
 mod data;
@@ -61,6 +61,30 @@ impl<'data, E: EndianParse> ElfBytes<'data, E> {
         ensures { ok_map view result ≡ opened_file E.little E.of_byte «data».now }
     {
         let found = open(data)?;
+        Ok(ElfBytes {
+            ehdr: found.ehdr,
+            data,
+            shdrs: found.shdrs,
+            phdrs: found.phdrs,
+        })
+    }
+
+    /// Opens a file through its header and its program headers alone, as the dynamic linker does (gABI, chapter "Program
+    /// Header"): the file declares no section headers. So the segments of a file whose section headers cannot be read
+    /// are read, for example of one that was cut short.
+    ///
+    /// The errors of the header are those of `minimal_parse`, and so are those of the program headers.
+    ///
+    /// ```rust
+    /// let file = match ElfBytes::<AnyEndian>::minimal_parse(bytes) {
+    ///     Ok(file) => file,
+    ///     Err(_) => ElfBytes::parse_by_segments(bytes)?,
+    /// };
+    /// ```
+    pub fn parse_by_segments(data: &'data [u8]) -> Result<Self, ParseError>
+        ensures { ok_map view result ≡ opened_by_segments E.little E.of_byte «data».now }
+    {
+        let found = open_by_segments(data)?;
         Ok(ElfBytes {
             ehdr: found.ehdr,
             data,

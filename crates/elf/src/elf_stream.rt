@@ -1,16 +1,20 @@
 //! The reader over a source that is read lazily.
+ghost use Rattle.std.specs.List.{filter};
 ghost use Rattle.std.specs.Prelude.{◌≡◌, ℕ, ◌≤◌, ◌+◌, ◌^◌, ◌<◌, ◌⊎◌, OnOk, OnErr, IfOk, IfErr};
 ghost use Rattle.std.specs.Prelude.{IfSome, Ok, IsOk, length, take, drop, [], ◌∷◌};
 ghost use Rattle.elf_records.specs.Number.{bytes_at, ok_map};
-ghost use Rattle.elf.specs.Ranges.{range_of_section, range_of_segment};
+ghost use Rattle.elf.specs.Ranges.{headers_alone, if_there, linked_ranges, linked_section, range_of_section};
+ghost use Rattle.elf.specs.Ranges.{range_of_segment, section_ranges};
 ghost use Rattle.elf_reading.specs.Opening.{opened_file};
-ghost use Rattle.elf.specs.ElfStream.{IsFor, IsOfFile, Keeps, IsCached, IsOpening};
-ghost use Rattle.elf_reading.specs.Refusals.{HasReason, IsAnswer};
+ghost use Rattle.elf.specs.ElfStream.{IsFor, IsOfFile, Keeps, IsCached, IsOpening, LoadsRanges, lies_in};
+ghost use Rattle.elf_reading.specs.Refusals.{IsAnswer};
 ghost use Rattle.elf_reading.specs.Opening.{headers_of};
 ghost use Rattle.elf_reading.specs.Refusals.{Kind, kind};
 ghost use Rattle.elf.specs.ElfStream.{IsRequested};
 ghost use Rattle.elf.specs.inner.Loads.{Loads};
 
+use crate::headers::Headers;
+use elf_abi::abi;
 use elf_parts::endian::EndianParse;
 use elf_parts::file::FileHeader;
 use elf_parts::parse::ParseError;
@@ -172,8 +176,6 @@ impl<E: EndianParse, S: StreamSource, A: Allocator + Copy> ElfStream<E, S, A> {
         ensures only { (low high : ℕ) → IsCached self.new low high
             → IsCached self.old low high ⊎ IsRequested ((start, size) ∷ []) low high }
         ensures refused { OnErr result (self.new.cached ≡ self.old.cached) }
-        ensures cached { start + size < 2 ^ 64 → IsCached self.old start (start + size)
-            → IsOk result × (self.new ≡ self.old) }
         ensures answer { IfSome self.old.content (λ bytes.
             IsAnswer (λ _. take size (drop start bytes)) (bytes_at size bytes start)
             self.old.can_fail self.old.failures self.new.failures result) }
@@ -195,17 +197,9 @@ impl<E: EndianParse, S: StreamSource, A: Allocator + Copy> ElfStream<E, S, A> {
         self.cache.put(start, bytes)
     }
 
-    /// Loads a range: reads it into the cache, unless it is cached. A range that does not lie in the source is not loaded,
-    /// and is no error. Errors: `IOError` if the source failed, `OutOfMemory`.
-    pub fn load_range(&mut self, start: u64, size: u64) -> Result<(), ParseError>
-        ensures keeps { Keeps self.old self.new }
-        ensures loaded { OnOk result (IfSome self.old.content (λ bytes.
-            IsOk (bytes_at size bytes start) → IsCached self.new start (start + size))) }
-        ensures only { (low high : ℕ) → IsCached self.new low high
-            → IsCached self.old low high ⊎ IsRequested ((start, size) ∷ []) low high }
-        ensures untouched { IsCached self.old start (start + size) → self.new ≡ self.old }
-        ensures reason { IfSome self.old.content (λ bytes.
-            HasReason self.old.failures self.new.failures self.old.can_fail ⊥ result) }
+    // Reads a range into the cache, unless it is cached or does not lie in the source.
+    fn load_inside(&mut self, start: u64, size: u64) -> Result<(), ParseError>
+        ensures { Loads (filter (lies_in self.old.size) ((start, size) ∷ [])) self.old self.new result }
     {
         let Some(end) = start.checked_add(size) else {
             return Ok(());
@@ -214,6 +208,55 @@ impl<E: EndianParse, S: StreamSource, A: Allocator + Copy> ElfStream<E, S, A> {
             return Ok(());
         }
         self.load(start, size)
+    }
+
+    /// Loads a range: reads it into the cache, unless it is cached. A range that does not lie in the source is not
+    /// loaded, and is no error. Errors: `IOError` if the source failed, `OutOfMemory`.
+    pub fn load_range(&mut self, start: u64, size: u64) -> Result<(), ParseError>
+        ensures { LoadsRanges ((start, size) ∷ []) self.old self.new result }
+    {
+        self.is_part_of_file();
+        self.load_inside(start, size)
+    }
+
+    // The section that a section links to, if both are there.
+    fn linked_section(&self, shdr: Option<SectionHeader>) -> Option<SectionHeader>
+        ensures { result ≡ linked_section (headers_alone E.little self.now) shdr }
+    {
+        match shdr {
+            Some(shdr) => self.section_at(shdr.sh_link as usize).ok(),
+            None => None,
+        }
+    }
+
+    // Reads the range of a section into the cache, if the section is there and has bytes, which lie in the source.
+    fn load_if_there(&mut self, shdr: Option<SectionHeader>) -> Result<(), ParseError>
+        ensures { Loads (filter (lies_in self.old.size) (if_there section_ranges shdr)) self.old self.new result }
+    {
+        let Some(shdr) = shdr else {
+            return Ok(());
+        };
+        if shdr.sh_type == abi::SHT_NOBITS {
+            return Ok(());
+        }
+        self.load_inside(shdr.sh_offset, shdr.sh_size)
+    }
+
+    /// Loads the ranges of a section, of the section that its `sh_link` names, and of the one that this names in turn:
+    /// relocations and hash tables link to symbols, and symbols to strings. So the functions of `elf::reader` find what
+    /// they need of the section. A section of type `SHT_NOBITS` has no range, and a link that names no section is
+    /// passed over. A range that does not lie in the source is not loaded, and is no error. Errors: `IOError` if the
+    /// source failed, `OutOfMemory`.
+    pub fn load_linked(&mut self, shdr: &SectionHeader) -> Result<(), ParseError>
+        ensures { LoadsRanges (linked_ranges (headers_alone E.little self.old) shdr.now) self.old self.new result }
+    {
+        let section = Some(*shdr);
+        let linked = self.linked_section(section);
+        let last = self.linked_section(linked);
+        self.is_part_of_file();
+        self.load_if_there(section)?;
+        self.load_if_there(linked)?;
+        self.load_if_there(last)
     }
 
     /// States that what is loaded is of the content, if that is known: a range is read as the file has it, or is not

@@ -15,7 +15,7 @@ use Rattle.elf_parts.specs.declared.gnu_symver.records.VerNeed.{VerNeed}
 use Rattle.elf_parts.specs.declared.gnu_symver.records.VerNeedAux.{VerNeedAux}
 use Rattle.elf_parts.specs.declared.gnu_symver.records.VersionIndex.{VersionIndex}
 use Rattle.elf_parts.specs.declared.gnu_symver.table.SymbolRequirement.{SymbolRequirement}
-use Rattle.elf_hash_check.specs.VersionEntry.{defined_with, entry_of, required_with}
+use Rattle.elf_parts.specs.gnu_symver.VersionEntry.{defined_with, entry_of, required_with}
 use Rattle.elf_check.specs.versions.Indexes.{GlobalVersion, LocalVersion, NamedVersion, SoundVersionTable}
 use Rattle.elf_check.specs.versions.Indexes.{TextDefinition, TextDefinitions, TextNeeds, version_with_index}
 use Rattle.elf_check.specs.versions.Records.{IsText, IsTextAt}

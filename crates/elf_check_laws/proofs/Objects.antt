@@ -24,7 +24,7 @@ use Rattle.elf_linking.specs.Binding.{VersionedObject}
 use Rattle.elf_linking.specs.BindingObjects.{GivesVersioned}
 use Rattle.elf_linking.specs.ObjectTable.{IsFaultOf, or_no_symbols, object_by, or_fault, section_object}
 use Rattle.elf_linking.specs.declared.resolve.ObjectFault.{ObjectFault}
-use Rattle.elf_linking.specs.declared.resolve.ObjectFault.TheVariants.{Faulty, NoSymbols, Read}
+use Rattle.elf_linking.specs.declared.resolve.ObjectFault.TheVariants.{Dynamic, Faulty, NoSymbols, Read}
 use Rattle.elf_check.proofs.Firsts.{found_at}
 use Rattle.elf_check.proofs.SoundVersions.{versions_read}
 use Rattle.elf_check.proofs.Tables.{ok_from_some}
@@ -88,6 +88,7 @@ module _ (file : ObjectFile) (sized : IsSized file) (sound : SoundFile file) (li
   no_fault (Ok object) (Faulty f) fine h = h.0 fine
   no_fault (Ok object) (Read e) fine h = h
   no_fault (Ok object) NoSymbols fine h = h
+  no_fault (Ok object) (Dynamic e) fine h = h
   no_fault (Err first) fault fine h = fine
 
   by_sections : (gnu sysv : Option SectionHeader) (fault : ObjectFault) → ((s : SectionHeader) → gnu ≡ Some s → SoundSection file s) → ((s : SectionHeader) → sysv ≡ Some s → SoundSection file s) → IfSome (kind_and_section gnu sysv) (λ chosen. IsHashSection chosen.0 file chosen.1) → IsSomeAnd (object_by file gnu sysv) (λ object. IsFaultOf object fault) → ⊥

@@ -11,7 +11,7 @@ use Rattle.elf_records.specs.declared.parse.ParseError.{ParseError}
 use Rattle.elf_parts.specs.gnu_symver.Lists.{ver_def_with_aux}
 use Rattle.elf_parts.specs.gnu_symver.Records.{version_index, version_is_hidden}
 use Rattle.elf_parts.specs.gnu_symver.Table.{Definitions, Needs, Versions, defined_version, definition_by, needed_version, raw_names, requirement_by}
-use Rattle.elf_hash_check.specs.VersionEntry.{ByNeed, defined_with, entry_of, required_with, version_entry}
+use Rattle.elf_parts.specs.gnu_symver.VersionEntry.{ByNeed, defined_with, entry_of, required_with, version_entry}
 use Rattle.elf_records.specs.Record.{◌>>=◌}
 use Rattle.elf_parts.specs.declared.gnu_symver.records.VerDef.{VerDef}
 use Rattle.elf_parts.specs.declared.gnu_symver.records.VerDefAux.{VerDefAux}

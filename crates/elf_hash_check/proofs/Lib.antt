@@ -9,4 +9,3 @@ pub mod SysvFirst
 pub mod NamedLists
 pub mod AllNamed
 pub mod SysvVerdicts
-pub mod VersionEntries

@@ -18,7 +18,5 @@ pub mod Object
 pub mod CheckedTable
 -- all symbols of a name, in order
 pub mod NamedSymbols
--- which version an index stands for
-pub mod VersionEntry
 -- what only implementations and private functions cite
 pub mod inner

@@ -2,6 +2,7 @@ pub mod Requirements
 pub mod Tables
 pub mod Missing
 pub mod Naming
-pub mod Readings
+pub mod BySegments
 mod Expanding
 mod Loading
+mod Opening

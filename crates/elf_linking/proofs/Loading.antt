@@ -108,43 +108,43 @@ pub is_some_of : {A B : Type 0} (f : A → B) (o : Option A) → is_some (option
 is_some_of f None = refl
 is_some_of f (Some x) = refl
 
-module _ (files : List ℕ → Option (List ℕ)) (kind : Kind) where
-  first_of_both : (a b : List (List ℕ)) → first_fitting files kind (a ++ b) ≡ or_next (first_fitting files kind a) (first_fitting files kind b)
+module _ (opened : List ℕ → Option Found) (kind : Kind) where
+  first_of_both : (a b : List (List ℕ)) → first_fitting opened kind (a ++ b) ≡ or_next (first_fitting opened kind a) (first_fitting opened kind b)
   first_of_both [] b = refl
   first_of_both (path ∷ a) b =
-      let here = fitting kind path (files path) in
-      ap (or_next here) (first_of_both a b) ∙ or_either here (first_fitting files kind a) (first_fitting files kind b)
+      let here = fitting kind (opened path) in
+      ap (or_next here) (first_of_both a b) ∙ or_either here (first_fitting opened kind a) (first_fitting opened kind b)
 
   -- the first of two lists of paths, if it is in the first list, or not
-  pub first_before : (a b : List (List ℕ)) (found : Option Found) → is_some found ≡ true → found ≡ first_fitting files kind a → found ≡ first_fitting files kind (a ++ b)
+  pub first_before : (a b : List (List ℕ)) (found : Option Found) → is_some found ≡ true → found ≡ first_fitting opened kind a → found ≡ first_fitting opened kind (a ++ b)
   first_before a b found some is =
-      sym (first_of_both a b ∙ ap (λ o. or_next o (first_fitting files kind b)) (sym is) ∙ or_some found (first_fitting files kind b) some)
+      sym (first_of_both a b ∙ ap (λ o. or_next o (first_fitting opened kind b)) (sym is) ∙ or_some found (first_fitting opened kind b) some)
 
-  pub first_after : (a b : List (List ℕ)) (found : Option Found) → is_some found ≡ false → found ≡ first_fitting files kind a → first_fitting files kind b ≡ first_fitting files kind (a ++ b)
+  pub first_after : (a b : List (List ℕ)) (found : Option Found) → is_some found ≡ false → found ≡ first_fitting opened kind a → first_fitting opened kind b ≡ first_fitting opened kind (a ++ b)
   first_after a b found none is =
-      sym (first_of_both a b ∙ ap (λ o. or_next o (first_fitting files kind b)) (sym is) ∙ or_later found (first_fitting files kind b) none)
+      sym (first_of_both a b ∙ ap (λ o. or_next o (first_fitting opened kind b)) (sym is) ∙ or_later found (first_fitting opened kind b) none)
 
-  pub first_alone : (path : List ℕ) → first_fitting files kind (path ∷ []) ≡ fitting kind path (files path)
-  first_alone path = or_none (fitting kind path (files path))
+  pub first_alone : (path : List ℕ) → first_fitting opened kind (path ∷ []) ≡ fitting kind (opened path)
+  first_alone path = or_none (fitting kind (opened path))
 
-  pub first_here : (path : List ℕ) (paths : List (List ℕ)) (found : Found) → fitting kind path (files path) ≡ Some found
-      → first_fitting files kind (path ∷ paths) ≡ Some found
-  first_here path paths found is = ap (λ o. or_next o (first_fitting files kind paths)) is
+  pub first_here : (path : List ℕ) (paths : List (List ℕ)) (found : Found) → fitting kind (opened path) ≡ Some found
+      → first_fitting opened kind (path ∷ paths) ≡ Some found
+  first_here path paths found is = ap (λ o. or_next o (first_fitting opened kind paths)) is
 
-  pub first_later : (path : List ℕ) (paths : List (List ℕ)) → fitting kind path (files path) ≡ None
-      → first_fitting files kind (path ∷ paths) ≡ first_fitting files kind paths
-  first_later path paths is = ap (λ o. or_next o (first_fitting files kind paths)) is
+  pub first_later : (path : List ℕ) (paths : List (List ℕ)) → fitting kind (opened path) ≡ None
+      → first_fitting opened kind (path ∷ paths) ≡ first_fitting opened kind paths
+  first_later path paths is = ap (λ o. or_next o (first_fitting opened kind paths)) is
 
   -- ---- what is needed by a name
 
   module _ (places : Places) (place : ℕ) (objects : List Entry) (name : List ℕ) where
-    pub needs_nothing : is_loaded name objects ≡ true → need files kind places place objects name ≡ objects
-    needs_nothing is = ap (λ b. cond b objects (add name place (first_fitting files kind (candidates_of name places)) objects)) is
+    pub needs_nothing : is_loaded name objects ≡ true → need opened kind places place objects name ≡ objects
+    needs_nothing is = ap (λ b. cond b objects (add name place (first_fitting opened kind (candidates_of name places)) objects)) is
 
-    pub needs_found : (found : Option Found) → is_loaded name objects ≡ false → found ≡ first_fitting files kind (candidates_of name places)
-        → need files kind places place objects name ≡ add name place found objects
+    pub needs_found : (found : Option Found) → is_loaded name objects ≡ false → found ≡ first_fitting opened kind (candidates_of name places)
+        → need opened kind places place objects name ≡ add name place found objects
     needs_found found is same =
-        ap (λ b. cond b objects (add name place (first_fitting files kind (candidates_of name places)) objects)) is
+        ap (λ b. cond b objects (add name place (first_fitting opened kind (candidates_of name places)) objects)) is
         ∙ ap (λ f. add name place f objects) (sym same)
 
 pub adds_nothing : (name : List ℕ) (place : ℕ) (found : Option Found) (objects : List Entry) → is_loaded_file found objects ≡ true → add name place found objects ≡ objects

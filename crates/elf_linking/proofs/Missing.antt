@@ -1,10 +1,18 @@
 -- A reading of a stream that loads whatever is missing, one round after another.
 use Rattle.std.proofs.Common.{◌≡◌, ◌⊎◌, inl, inr, ℕ, ◌-◌, Bool, List, [], ◌∷◌, Option, Some, None, refl, subst, ◌∙◌, IfSome}
-use Rattle.elf.specs.ElfStream.{IsCached, IsRequested, Keeps, StreamView}
+use Rattle.std.specs.List.{filter}
+use Rattle.std.specs.Prelude.{Result}
+use Rattle.elf_records.specs.declared.parse.ParseError.{ParseError}
+use Rattle.elf.proofs.stream.Steps.{keeps_then}
+use Rattle.elf.proofs.stream.There.{requested_in}
+use Rattle.elf.specs.ElfStream.{IsCached, IsRequested, Keeps, Left, StreamView, lies_in}
 use Rattle.elf.specs.Loaded.{AreLoadedOf}
 use Rattle.elf.specs.ObjectFile.{FileOf, Partial}
 use Rattle.elf_linking.specs.Missing.{IsMissed, LoadsMissing, loaded_part}
-use Rattle.elf_linking.proofs.Readings.{keeps_then}
+
+only_of : {P : Type 0} (len size start low high : ℕ) → P ⊎ IsRequested (filter (lies_in len) ((start, size) ∷ [])) low high → P ⊎ IsRequested ((start, size) ∷ []) low high
+only_of len size start low high (inl before) = inl before
+only_of len size start low high (inr there) = inr (requested_in len ((start, size) ∷ []) low high there)
 
 module _ {E : Type 0} (little : E → Bool) (Misses : FileOf Partial → ℕ × ℕ → Type 0) where
   -- what the rounds have loaded so far
@@ -16,7 +24,7 @@ module _ {E : Type 0} (little : E → Bool) (Misses : FileOf Partial → ℕ × 
 
   pub nothing_loaded : (s : StreamView E) → Loading s s
   nothing_loaded s = record {
-    keeps = record { content = refl; can_fail = refl; headers = refl; cached = λ start end h. h };
+    keeps = record { content = refl; can_fail = refl; headers = refl; size = refl; cached = λ start end h. h };
     only = λ low high h. inl h;
     moved = inl refl;
   }
@@ -36,10 +44,10 @@ module _ {E : Type 0} (little : E → Bool) (Misses : FileOf Partial → ℕ × 
     pub missed_first : (range : ℕ × ℕ) × Misses (loaded_part little old) range
     missed_first = moved_by so_far.moved
 
-    pub loads_more : {size : ℕ} → size ≡ range.1 - range.0 → Keeps middle new → ((low high : ℕ) → IsCached new low high → IsCached middle low high ⊎ IsRequested ((range.0, size) ∷ []) low high) → Loading old new
-    loads_more is keeps only = record {
-      keeps = keeps_then old middle new so_far.keeps keeps;
-      only = λ low high h. by_cached low high (subst (λ n. IsCached middle low high ⊎ IsRequested ((range.0, n) ∷ []) low high) is (only low high h));
+    pub loads_more : {size : ℕ} {r : Result (Unit {0}) ParseError} → size ≡ range.1 - range.0 → Left (filter (lies_in middle.size) ((range.0, size) ∷ [])) middle new r → Loading old new
+    loads_more {size} is left = record {
+      keeps = keeps_then old middle new so_far.keeps left.keeps;
+      only = λ low high h. by_cached low high (subst (λ n. IsCached middle low high ⊎ IsRequested ((range.0, n) ∷ []) low high) is (only_of middle.size size range.0 low high (left.only low high h)));
       moved = inr missed_first;
     }
 

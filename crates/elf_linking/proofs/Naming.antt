@@ -25,7 +25,6 @@ use Rattle.elf_linking.specs.Needed.{names, names_by, names_in, read_error, stri
 use Rattle.elf_linking.specs.declared.needed.NamesError.{NamesError}
 use Rattle.elf_linking.specs.declared.needed.NamesError.TheVariants.{Memory, Missing, Name, NoAddress, NoSize}
 use Rattle.elf_linking.specs.declared.needed.NamesError.TheVariants.{NotLoaded, Read}
-use Rattle.elf_linking.proofs.Readings.{same_file}
 
 -- ---- what is found passes the test
 
@@ -113,11 +112,14 @@ module _ {T : Type 0} (shown : T → Option Named) where
 
 -- what was loaded for it so far changes nothing of the file
 module _ {E : Type 0} (little : E → Bool) (old now : StreamView E) (keeps : Keeps old now) where
+  same_file : (bytes : List ℕ) → stream_file little now bytes ≡ stream_file little old bytes
+  same_file bytes = rw keeps.headers refl
+
   pub part_of_old : (bytes : List ℕ) → AreLoadedOf little now bytes → loaded_part little now ≡ loaded (stream_file little old bytes) (loaded_ranges now)
-  part_of_old bytes h = streamed_loaded little now bytes h ∙ ap (λ file. loaded file (loaded_ranges now)) (same_file little old now bytes keeps)
+  part_of_old bytes h = streamed_loaded little now bytes h ∙ ap (λ file. loaded file (loaded_ranges now)) (same_file bytes)
 
   pub ranges_of_old : (bytes : List ℕ) → AreLoadedOf little now bytes → ArePartOf (stream_file little old bytes) (is_not_cached now) (loaded_ranges now)
-  ranges_of_old bytes h = subst (λ file. ArePartOf file (is_not_cached now) (loaded_ranges now)) (same_file little old now bytes keeps) h.part
+  ranges_of_old bytes h = subst (λ file. ArePartOf file (is_not_cached now) (loaded_ranges now)) (same_file bytes) h.part
 
   pub stream_answered : {T : Type 0} (known : Option (List ℕ)) (shown : T → Option Named) (r : Result T NamesError) → IfSome known (λ bytes. AreLoadedOf little now bytes) → IfSome known (λ bytes. now.failures ≡ old.failures) → IsAnswered shown (names (loaded_part little now)) r → missing_of r ≡ None
       → IfSome known (λ bytes. IsNamesAnswer shown (names (stream_file little old bytes)) old.can_fail old.failures now.failures r)

@@ -9,8 +9,8 @@ use Rattle.elf_parts.specs.gnu_symver.Table.{Definition, GivesRequirement, Refus
 use Rattle.elf_records.specs.declared.parse.ParseError.{ParseError}
 use Rattle.elf_parts.specs.declared.gnu_symver.records.VersionIndex.{VersionIndex}
 use Rattle.elf_parts.specs.declared.gnu_symver.table.SymbolRequirement.{SymbolRequirement}
-use Rattle.elf_hash_check.specs.VersionEntry.{ByNeed, VersionEntry, required_with, version_entry}
-use Rattle.elf_hash_check.proofs.VersionEntries.{definition_by_index, entry_defined, entry_needed, requirement_by_index}
+use Rattle.elf_parts.specs.gnu_symver.VersionEntry.{ByNeed, VersionEntry, required_with, version_entry}
+use Rattle.elf_parts.proofs.VersionEntries.{definition_by_index, entry_defined, entry_needed, requirement_by_index}
 use Rattle.elf_linking.specs.Binding.{NamedVersion, defined_as, first_name, index_by, named_version, needed_by}
 use Rattle.elf_linking.specs.Binding.{unreadable, version_by, version_of}
 use Rattle.elf_linking.specs.declared.Unreadable.{Unreadable}

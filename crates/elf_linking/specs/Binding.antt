@@ -16,7 +16,7 @@ use Rattle.elf_records.specs.declared.parse.ParseError.{ParseError}
 use Rattle.elf_records.specs.declared.symbol.Symbol.{Symbol}
 use Rattle.elf_hash_check.specs.NamedSymbols.{AreAllNamed}
 use Rattle.elf_hash_check.specs.Object.{Object}
-use Rattle.elf_hash_check.specs.VersionEntry.{ByDefinition, ByNeed, VersionEntry, version_entry}
+use Rattle.elf_parts.specs.gnu_symver.VersionEntry.{ByDefinition, ByNeed, VersionEntry, version_entry}
 use Rattle.elf_linking.specs.declared.BindingFault.{BindingFault}
 use Rattle.elf_linking.specs.declared.ReferenceKind.{ReferenceKind}
 use Rattle.elf_linking.specs.declared.ReferenceKind.TheVariants.{Address, Copied, JumpSlot}

@@ -5,7 +5,7 @@ use Rattle.std.specs.Result.{IsErrAnd, IsOkAnd}
 use Rattle.elf_parts.specs.gnu_symver.Table.{Versions}
 use Rattle.elf.specs.Answers.{symbol_version_table}
 use Rattle.elf.specs.ObjectFile.{ObjectFile}
-use Rattle.elf_hash_check.specs.Object.{IsSound}
+use Rattle.elf_hash_check.specs.Object.{IsSound, Object}
 use Rattle.elf_linking.specs.ObjectTable.{IsFaultOf, object_of}
 use Rattle.elf_linking.specs.declared.resolve.ObjectFault.{ObjectFault}
 use Rattle.elf_linking.specs.declared.resolve.ObjectFault.TheVariants.{Read}
@@ -14,20 +14,22 @@ use Rattle.elf_linking.specs.declared.Unreadable.{Unreadable}
 use Rattle.elf_linking.specs.declared.Wanted.{Wanted}
 use Rattle.elf_linking.specs.declared.Wanted.TheVariants.{Any, Compatible, Only}
 
--- the file has a hash section, and it is sound
-abbrev pub HasSoundTable : ObjectFile → Type 0
-HasSoundTable file = IsSomeAnd (object_of file) (λ object. IsOkAnd object IsSound)
+-- the view of the object is this table, which is sound, with these versions; an error is that of the table, or where this
+-- is sound that of the versions
+module _ {C E : Type 0} (view : C → VersionedObject) (object : Option (Result Object ObjectFault))
+    (versions : Result (Option Versions) E) (to : E → ObjectFault) where
+  abbrev pub GivesObject : Result (Option C) ObjectFault → Type 0
+  GivesObject (Ok None) = object ≡ None
+  GivesObject (Ok (Some made)) =
+      IsSomeAnd object (λ o. IsOkAnd o (λ table. IsSound table × ((view made).symbols ≡ table)))
+      × (versions ≡ Ok (view made).versions)
+  GivesObject (Err fault) =
+      IsSomeAnd object (λ o. IsFaultOf o fault)
+      ⊎ (IsSomeAnd object (λ o. IsOkAnd o IsSound) × IsErrAnd versions (λ e. fault ≡ to e))
 
--- the view of the object is the file's sound table with the versions of its symbols; an error is that of the table, or
--- where this is sound that of the versions
+-- that of the file's hash section, with the versions of its symbols
 abbrev pub GivesVersioned : {C : Type 0} → (C → VersionedObject) → ObjectFile → Result (Option C) ObjectFault → Type 0
-GivesVersioned view file (Ok None) = object_of file ≡ None
-GivesVersioned view file (Ok (Some object)) =
-    IsSomeAnd (object_of file) (λ o. IsOkAnd o (λ table. IsSound table × ((view object).symbols ≡ table)))
-    × (symbol_version_table file ≡ Ok (view object).versions)
-GivesVersioned view file (Err fault) =
-    IsSomeAnd (object_of file) (λ object. IsFaultOf object fault)
-    ⊎ (HasSoundTable file × IsErrAnd (symbol_version_table file) (λ e. fault ≡ Read e))
+GivesVersioned view file result = GivesObject view (object_of file) (symbol_version_table file) Read result
 
 -- the version of symbol i, if its file has versions at all
 abbrev pub version_in : Option Versions → ℕ → Result (Option NamedVersion) Unreadable

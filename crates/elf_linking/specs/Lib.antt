@@ -12,6 +12,9 @@ pub mod BindingObjects
 pub mod Resolver
 pub mod Bindings
 pub mod SymbolUses
+-- what is looked up and bound of a file, by its sections or through its segments
+pub mod BySegments
+pub mod DynamicFile
 pub mod SymbolBindings
 pub mod Missing
 pub mod Needed

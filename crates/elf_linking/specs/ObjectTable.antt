@@ -18,7 +18,7 @@ use Rattle.elf_hash_check.specs.Object.{IsFirstOfObject, IsSound, Object, object
 use Rattle.elf_hash_check.specs.declared.hashcheck.any.HashKind.{HashKind}
 use Rattle.elf_hash_check.specs.declared.hashcheck.any.HashKind.TheVariants.{Gnu, Sysv}
 use Rattle.elf_linking.specs.declared.resolve.ObjectFault.{ObjectFault}
-use Rattle.elf_linking.specs.declared.resolve.ObjectFault.TheVariants.{Faulty, NoSymbols, Read}
+use Rattle.elf_linking.specs.declared.resolve.ObjectFault.TheVariants.{Dynamic, Faulty, NoSymbols, Read}
 use denote.Ref.{Bor}
 
 -- the error of a reader is a fault
@@ -63,6 +63,7 @@ IsFaultOf (Err first) fault = fault ≡ first
 IsFaultOf (Ok object) (Faulty fault) = (¬ IsSound object) × IsFirstOfObject object fault
 IsFaultOf (Ok object) (Read e) = ⊥
 IsFaultOf (Ok object) NoSymbols = ⊥
+IsFaultOf (Ok object) (Dynamic e) = ⊥
 
 module _ {C : Type 0} (view : C → Object) where
   -- the checked table of an object that is sound

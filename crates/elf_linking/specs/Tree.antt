@@ -7,6 +7,7 @@ use Rattle.std.specs.Prelude.{List, [], ◌∷◌, ◌++◌, codes, length, map,
 use Rattle.std.specs.Prelude.{Option, Some, None, unwrap_or, Result, Ok, Err}
 use Rattle.std.specs.List.{flat_map, list_any}
 use Rattle.std.specs.Option.{option_map, option_to_list}
+use Rattle.std.specs.Result.{result_ok}
 use Rattle.std.specs.Str.{bytes_eq}
 use Rattle.elf_records.specs.Endian.{any_is_little, any_of_byte}
 use Rattle.elf_records.specs.Number.{ok_map}
@@ -50,8 +51,8 @@ same_kind a b = same_class a.class b.class && same_order a.order b.order && (a.m
 abbrev pub kind_of : FileHeader AnyEndian → Kind
 kind_of h = record { class = h.class; order = h.endianness; machine = h.e_machine }
 
--- a file that was opened: its path, its bytes, its kind, and the names that its dynamic entries give, or why they give
--- none
+-- a file that was opened: its path, its bytes, if they are kept, its kind, and the names that its dynamic entries give,
+-- or why they give none
 pub record Found : Type 0 where
   pub path : List ℕ
   pub bytes : List ℕ
@@ -70,24 +71,35 @@ found_in path bytes v = record {
 abbrev pub file_of : List ℕ → List ℕ → Result Found ParseError
 file_of path bytes = ok_map (found_in path bytes) (opened_file any_is_little any_of_byte bytes)
 
--- a file that cannot be loaded beside those of this kind is passed over
-abbrev pub if_same : Kind → Result Found ParseError → Option Found
-if_same kind (Ok found) = if same_kind found.kind kind then Some found else None
-if_same kind (Err e) = None
+-- the ELF file at a path, if one is there; `files` are the contents of the files by their paths
+abbrev pub opened_as : List ℕ → Option (List ℕ) → Option Found
+opened_as path None = None
+opened_as path (Some bytes) = result_ok (file_of path bytes)
 
-abbrev pub fitting : Kind → List ℕ → Option (List ℕ) → Option Found
-fitting kind path None = None
-fitting kind path (Some bytes) = if_same kind (file_of path bytes)
+abbrev pub opened_whole : (List ℕ → Option (List ℕ)) → List ℕ → Option Found
+opened_whole files path = opened_as path (files path)
+
+-- the same without its bytes, where only its names are of use
+abbrev pub without_bytes : Found → Found
+without_bytes found = record found { bytes = [] }
+
+abbrev pub opened_names : (List ℕ → Option (List ℕ)) → List ℕ → Option Found
+opened_names files path = option_map without_bytes (opened_whole files path)
+
+-- a file that cannot be loaded beside those of this kind is passed over
+abbrev pub fitting : Kind → Option Found → Option Found
+fitting kind None = None
+fitting kind (Some found) = if same_kind found.kind kind then Some found else None
 
 abbrev pub or_next : Option Found → Option Found → Option Found
 or_next None later = later
 or_next (Some found) later = Some found
 
--- the file at the first of the paths that has one of this kind; `files` are the contents of the files by their paths
-abbrev pub first_fitting : (List ℕ → Option (List ℕ)) → Kind → List (List ℕ) → Option Found
-first_fitting files kind [] = None
-first_fitting files kind (path ∷ paths) =
-    or_next (fitting kind path (files path)) (first_fitting files kind paths)
+-- the first file of this kind at one of the paths; `opened` are the files at the paths
+abbrev pub first_fitting : (List ℕ → Option Found) → Kind → List (List ℕ) → Option Found
+first_fitting opened kind [] = None
+first_fitting opened kind (path ∷ paths) =
+    or_next (fitting kind (opened path)) (first_fitting opened kind paths)
 
 -- ---- the folder of a file, which $ORIGIN stands for: its path up to the last slash
 
@@ -182,12 +194,12 @@ add name place found objects =
     if is_loaded_file found objects then objects
     else objects ++ record { name = name; loader = place; file = found } ∷ []
 
-module _ (files : List ℕ → Option (List ℕ)) (kind : Kind) where
+module _ (opened : List ℕ → Option Found) (kind : Kind) where
   -- a library that is loaded is not searched for; any other one is searched for in these places
   abbrev pub need : Places → ℕ → List Entry → List ℕ → List Entry
   need places place objects name =
       if is_loaded name objects then objects
-      else add name place (first_fitting files kind (candidates_of name places)) objects
+      else add name place (first_fitting opened kind (candidates_of name places)) objects
 
   -- each of the names, in order
   abbrev pub need_all : Places → ℕ → List Entry → List (List ℕ) → List Entry
@@ -209,10 +221,10 @@ abbrev pub program_entry : Found → Entry
 program_entry program = record { name = program.path; loader = 0; file = Some program }
 
 -- all that are loaded, in order: the libraries of each were searched for
-abbrev pub IsLoadOrder : (List ℕ → Option (List ℕ)) → Others → Found → List Entry → Type 0
-IsLoadOrder files others program objects =
+abbrev pub IsLoadOrder : (List ℕ → Option Found) → Others → Found → List Entry → Type 0
+IsLoadOrder opened others program objects =
     (n : ℕ) × (length objects ≤ n)
-    × (objects ≡ loaded_after files program.kind others (program_entry program) n)
+    × (objects ≡ loaded_after opened program.kind others (program_entry program) n)
 
 -- ---- the view of the structs
 

@@ -1,2 +1,3 @@
 -- the names of objects, as a set
 pub mod LoadedNames
+pub mod BySegments

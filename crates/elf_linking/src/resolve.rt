@@ -4,11 +4,12 @@
 //! An object is given by its checked hash table, so a look-up returns no error and misses no indexed symbol.
 //! Nothing is allocated.
 ghost use Rattle.std.specs.Prelude.{◌≡◌};
-ghost use Rattle.elf_linking.specs.declared.resolve.ObjectFault.TheVariants.{Read as IsRead};
+ghost use Rattle.elf_linking.specs.declared.resolve.ObjectFault.TheVariants.{Dynamic as IsDynamic, Read as IsRead};
 
 mod objects;
 
 use elf::parse::ParseError;
+use elf_dynamic::dynamic_view::DynamicError;
 use elf_hash_check::hashcheck::HashFault;
 pub use elf_hash_check::hashcheck::{AnyChecked, HashSection};
 pub use objects::{object_table, resolve, section_table};
@@ -26,6 +27,17 @@ pub enum ObjectFault {
     /// The section is not sound for the dynamic symbols.
     #[error("hash section is not sound: {0:?}")]
     Faulty(HashFault),
+    /// The file declares no section headers, and what the dynamic linker uses of it is not available.
+    #[error("{0}")]
+    Dynamic(DynamicError),
+}
+
+impl From<DynamicError> for ObjectFault {
+    ghost from_gives = { λ error fault. fault ≡ IsDynamic error };
+
+    fn from(error: DynamicError) -> ObjectFault {
+        ObjectFault::Dynamic(error)
+    }
 }
 
 impl From<ParseError> for ObjectFault {

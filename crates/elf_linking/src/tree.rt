@@ -7,21 +7,24 @@
 //! the program's class, byte order and machine; others are passed over, even those at which the dynamic linker stops. A
 //! file is known by its path, so another path to it is another file.
 ghost use Rattle.std.specs.Prelude.{◌≡◌, ◌<◌, ◌++◌, ◌∷◌, [], ℕ, List, Some, None, if◌then◌else◌, ◌==◌, length, map};
-ghost use Rattle.std.specs.Prelude.{IfOk, IfSome, OnOk, unwrap_or};
+ghost use Rattle.std.specs.Prelude.{IfOk, IfSome, Ok, OnOk, unwrap_or};
 ghost use Rattle.std.specs.Option.{option_map};
 ghost use Rattle.std.specs.Vec.{vec_items};
 ghost use Rattle.std.specs.declared.option.Option.{Option};
 ghost use Rattle.elf.specs.ElfBytes.{view};
 ghost use Rattle.elf.specs.ObjectFile.{object_file};
-ghost use Rattle.elf_records.specs.Endian.{any_is_little};
+ghost use Rattle.elf_reading.specs.Opening.{FileView, headers_of, opened_file};
+ghost use Rattle.elf_records.specs.Endian.{any_is_little, any_of_byte};
+ghost use Rattle.elf_records.specs.declared.endian.AnyEndian.{AnyEndian};
 ghost use Rattle.elf_records.specs.Number.{ok_map};
 ghost use Rattle.elf_linking.specs.Needed.{name_bytes, names, names_view};
 ghost use Rattle.elf_linking.specs.Search.{candidates_of, expansion, joined_path, object_view, others_view, path_view};
 ghost use Rattle.elf_linking.specs.Search.{paths_of, places_view, tokens_view};
 ghost use Rattle.std.specs.Option.{option_to_list};
 ghost use Rattle.elf_linking.specs.Tree.{Entry, IsLoadOrder, IsOpened, entry_view, file_at, file_of, first_fitting};
-ghost use Rattle.elf_linking.specs.Tree.{fitting, folder_of, found_view, if_same, is_loaded_file, kind_of};
+ghost use Rattle.elf_linking.specs.Tree.{Found, fitting, folder_of, found_in, found_view, is_loaded_file, kind_of};
 ghost use Rattle.elf_linking.specs.Tree.{known, last_slash, loader_at, loaders_at, need, need_all, no_names, places_at};
+ghost use Rattle.elf_linking.specs.Tree.{without_bytes};
 ghost use Rattle.elf_linking.specs.Tree.{program_entry};
 ghost use Rattle.elf_linking.specs.Tree.{same_class, same_kind, same_order, searching, searching_at, with_needed};
 ghost use Rattle.elf_linking.specs.inner.LoadedNames.{AreNamesOf};
@@ -29,14 +32,15 @@ ghost use Rattle.elf_linking.specs.declared.tree.OpenError.TheVariants.{Memory a
 
 pub mod memory;
 mod names;
+pub mod whole;
 
-use crate::needed::{Name, Names, NamesError, dynamic_names};
+use crate::needed::{Name, Names, NamesError, dynamic_names, read_dynamic_names};
 use crate::search::{
     SearchPaths, SearchPlaces, Substitutions, Surroundings, expansion, joined_path, places,
 };
 use elf::endian::AnyEndian;
 use elf::file::{Class, FileHeader};
-use elf::{ElfBytes, ParseError};
+use elf::{ElfBytes, ElfStream, ParseError, StreamSource};
 use names::LoadedNames;
 use std::alloc::{AllocError, Global};
 use thiserror::Error;
@@ -53,6 +57,20 @@ pub trait Libraries {
             (λ files. files path.now ≡ option_map vec_items found)) };
 }
 
+/// What opens the libraries that a program loads: `whole::WholeLibraries` with all their bytes.
+pub trait Opener {
+    ghost use Rattle.elf_linking.specs.Tree.{Found, found_view};
+
+    /// The file that is opened at each path, if the files are known.
+    ghost opened: { Self → Option (List ℕ → Option Found) };
+
+    /// Returns the ELF file at a path, or `None` if there is none or it cannot be read. The only error is a failed
+    /// allocation.
+    fn open_at(&self, alloc: Global, path: Vec<u8>) -> Result<Option<LoadedFile>, AllocError>
+        ensures { IfOk result (λ found. IfSome (opened self.now)
+            (λ found_at. found_at path.items ≡ option_map found_view found)) };
+}
+
 /// What the files that are loaded into one program have in common.
 #[derive(Debug, Clone, Copy)]
 pub struct Kind {
@@ -66,6 +84,7 @@ pub struct Kind {
 #[derive(Debug, Drop)]
 pub struct LoadedFile {
     pub path: Vec<u8>,
+    /// Its bytes, if they are kept (`open`), or none (`open_names`).
     pub bytes: Vec<u8>,
     pub kind: Kind,
     /// The names that its dynamic entries give, if it has any, or why they are not available. Without names it needs no
@@ -214,6 +233,56 @@ impl LoadedFile {
         })
     }
 
+    /// Opens the file of a source at a path, and reads of it no more than its headers and its names. The result has no
+    /// bytes. Returns `None` if the source or an allocation failed, if it is no ELF file, or if its names are not
+    /// available; the whole file tells which.
+    pub fn open_names<S: StreamSource>(alloc: Global, path: &[u8], source: S) -> Option<LoadedFile>
+        ensures { IfSome result (λ file. IfSome (S.content source)
+            (λ bytes. ok_map without_bytes (file_of path.now bytes) ≡ Ok (found_view file))) }
+    {
+        match ElfStream::<AnyEndian, S, Global>::open_stream(alloc, source) {
+            Ok(mut stream) => LoadedFile::of_stream(alloc, path, &mut stream),
+            Err(_) => None,
+        }
+    }
+
+    // The same of a stream.
+    fn of_stream<S: StreamSource>(
+        alloc: Global,
+        path: &[u8],
+        stream: &mut ElfStream<AnyEndian, S, Global>,
+    ) -> Option<LoadedFile>
+        ensures { IfSome result (λ file. IfSome stream.old.content (λ bytes. (v : FileView AnyEndian)
+            → opened_file any_is_little any_of_byte bytes ≡ Ok v → stream.old.headers ≡ headers_of v
+            → without_bytes (found_in path.now bytes v) ≡ found_view file)) }
+    {
+        let kind = Kind::of(&stream.ehdr);
+        let Ok(names) = read_dynamic_names(alloc, stream) else {
+            return None;
+        };
+        let Ok(path) = Vec::from_slice(alloc, path) else {
+            return None;
+        };
+        Some(LoadedFile {
+            path,
+            bytes: Vec::new(alloc),
+            kind,
+            names: Ok(names),
+        })
+    }
+
+    /// The same file without its bytes.
+    pub fn without_bytes(self, alloc: Global) -> LoadedFile
+        ensures { found_view result ≡ without_bytes (found_view self) }
+    {
+        LoadedFile {
+            path: self.path,
+            bytes: Vec::new(alloc),
+            kind: self.kind,
+            names: self.names,
+        }
+    }
+
     /// The soname, if it is known.
     pub fn soname(&self) -> Option<&[u8]>
         ensures { path_view result ≡ (known (found_view self.now).names).soname }
@@ -338,59 +407,43 @@ fn places_at<'a>(
     places(alloc, &object, &loaders, surroundings)
 }
 
-// The file that the bytes at a path are, if it can be loaded beside those of a kind.
-fn file_of_kind(
+// The file at a path, if there is one that can be loaded beside those of a kind.
+fn fitting<O: Opener>(
     alloc: Global,
+    opener: &O,
     kind: Kind,
     path: Vec<u8>,
-    bytes: Vec<u8>,
 ) -> Result<Option<LoadedFile>, AllocError>
-    ensures { IfOk result (λ found. option_map found_view found ≡ if_same kind (file_of path.items bytes.items)) }
+    ensures { IfOk result (λ found. (opened : List ℕ → Option Found) → O.opened opener.now ≡ Some opened
+        → option_map found_view found ≡ fitting kind (opened path.items)) }
 {
-    match LoadedFile::open(alloc, path, bytes) {
-        Ok(file) => {
+    match opener.open_at(alloc, path)? {
+        Some(file) => {
             if file.kind.is_same(&kind) {
                 Ok(Some(file))
             } else {
                 Ok(None)
             }
         }
-        Err(OpenError::Open(_)) => Ok(None),
-        Err(OpenError::Memory) => Err(AllocError),
-    }
-}
-
-// The file at a path, if there is one that can be loaded beside those of a kind.
-fn fitting<L: Libraries>(
-    alloc: Global,
-    libraries: &L,
-    kind: Kind,
-    path: Vec<u8>,
-) -> Result<Option<LoadedFile>, AllocError>
-    ensures { IfOk result (λ found. (files : List ℕ → Option (List ℕ)) → L.contents libraries.now ≡ Some files
-        → option_map found_view found ≡ fitting kind path.items (files path.items)) }
-{
-    match libraries.read_library(&path)? {
-        Some(bytes) => file_of_kind(alloc, kind, path, bytes),
         None => Ok(None),
     }
 }
 
 // The first such file of a name in these folders.
-fn first_in<L: Libraries>(
+fn first_in<O: Opener>(
     alloc: Global,
-    libraries: &L,
+    opener: &O,
     kind: Kind,
     folders: &[Vec<u8>],
     name: &[u8],
 ) -> Result<Option<LoadedFile>, AllocError>
-    ensures { IfOk result (λ found. (files : List ℕ → Option (List ℕ)) → L.contents libraries.now ≡ Some files
+    ensures { IfOk result (λ found. (opened : List ℕ → Option Found) → O.opened opener.now ≡ Some opened
         → option_map found_view found
-        ≡ first_fitting files kind (map (joined_path name.now) (map vec_items folders.now))) }
+        ≡ first_fitting opened kind (map (joined_path name.now) (map vec_items folders.now))) }
 {
     for folder in folders {
         let path = joined_path(alloc, folder, name)?;
-        let found = fitting(alloc, libraries, kind, path)?;
+        let found = fitting(alloc, opener, kind, path)?;
         if found.is_some() {
             return Ok(found);
         }
@@ -399,62 +452,62 @@ fn first_in<L: Libraries>(
 }
 
 // The file at the path that the cache has for a name, or else the first in the usual folders.
-fn cached_or_usual<L: Libraries>(
+fn cached_or_usual<O: Opener>(
     alloc: Global,
-    libraries: &L,
+    opener: &O,
     kind: Kind,
     places: &SearchPlaces<'_>,
     name: &[u8],
 ) -> Result<Option<LoadedFile>, AllocError>
-    ensures { IfOk result (λ found. (files : List ℕ → Option (List ℕ)) → L.contents libraries.now ≡ Some files
-        → option_map found_view found ≡ first_fitting files kind
+    ensures { IfOk result (λ found. (opened : List ℕ → Option Found) → O.opened opener.now ≡ Some opened
+        → option_map found_view found ≡ first_fitting opened kind
         (option_to_list ((places_view places.now).cached name.now)
         ++ map (joined_path name.now) (places_view places.now).usual)) }
 {
     if let Some(path) = places.cached(name) {
-        let found = fitting(alloc, libraries, kind, Vec::from_slice(alloc, path)?)?;
+        let found = fitting(alloc, opener, kind, Vec::from_slice(alloc, path)?)?;
         if found.is_some() {
             return Ok(found);
         }
     }
-    first_in(alloc, libraries, kind, &places.usual, name)
+    first_in(alloc, opener, kind, &places.usual, name)
 }
 
 // The first file of a name without a slash.
-fn first_at<L: Libraries>(
+fn first_at<O: Opener>(
     alloc: Global,
-    libraries: &L,
+    opener: &O,
     kind: Kind,
     places: &SearchPlaces<'_>,
     name: &[u8],
 ) -> Result<Option<LoadedFile>, AllocError>
-    ensures { IfOk result (λ found. (files : List ℕ → Option (List ℕ)) → L.contents libraries.now ≡ Some files
-        → option_map found_view found ≡ first_fitting files kind (paths_of name.now (places_view places.now))) }
+    ensures { IfOk result (λ found. (opened : List ℕ → Option Found) → O.opened opener.now ≡ Some opened
+        → option_map found_view found ≡ first_fitting opened kind (paths_of name.now (places_view places.now))) }
 {
-    let found = first_in(alloc, libraries, kind, &places.folders, name)?;
+    let found = first_in(alloc, opener, kind, &places.folders, name)?;
     if found.is_some() {
         return Ok(found);
     }
-    cached_or_usual(alloc, libraries, kind, places, name)
+    cached_or_usual(alloc, opener, kind, places, name)
 }
 
 // The file of a library that is needed by a name.
-fn find<L: Libraries>(
+fn find<O: Opener>(
     alloc: Global,
-    libraries: &L,
+    opener: &O,
     kind: Kind,
     places: &SearchPlaces<'_>,
     name: &[u8],
 ) -> Result<Option<LoadedFile>, AllocError>
-    ensures { IfOk result (λ found. (files : List ℕ → Option (List ℕ)) → L.contents libraries.now ≡ Some files
+    ensures { IfOk result (λ found. (opened : List ℕ → Option Found) → O.opened opener.now ≡ Some opened
         → option_map found_view found
-        ≡ first_fitting files kind (candidates_of name.now (places_view places.now))) }
+        ≡ first_fitting opened kind (candidates_of name.now (places_view places.now))) }
 {
     if name.contains(&b'/') {
         let path = Vec::from_slice(alloc, name)?;
-        return fitting(alloc, libraries, kind, path);
+        return fitting(alloc, opener, kind, path);
     }
-    first_at(alloc, libraries, kind, places, name)
+    first_at(alloc, opener, kind, places, name)
 }
 
 // Whether the file is an object already.
@@ -487,8 +540,8 @@ fn add(
 
 // What the search for the libraries of an object needs: where to search, the objects before, and the place of the object.
 #[derive(Clone, Copy)]
-struct Needing<'a, L> {
-    libraries: &'a L,
+struct Needing<'a, O> {
+    opener: &'a O,
     kind: Kind,
     places: &'a SearchPlaces<'a>,
     objects: &'a [Object],
@@ -496,9 +549,9 @@ struct Needing<'a, L> {
 }
 
 // Adds what the object needs by a name to the new objects, if it is none of the objects.
-fn need<L: Libraries>(
+fn need<O: Opener>(
     alloc: Global,
-    needing: &Needing<'_, L>,
+    needing: &Needing<'_, O>,
     name: Vec<u8>,
     names: &mut LoadedNames,
     added: &mut Vec<Object>,
@@ -506,21 +559,15 @@ fn need<L: Libraries>(
     requires { AreNamesOf names.old (map entry_view needing.now.objects.now ++ map entry_view added.old.items) }
     ensures names { OnOk result
         (AreNamesOf names.new (map entry_view needing.now.objects.now ++ map entry_view added.new.items)) }
-    ensures objects { OnOk result ((files : List ℕ → Option (List ℕ)) → L.contents needing.now.libraries.now ≡ Some files
+    ensures objects { OnOk result ((opened : List ℕ → Option Found) → O.opened needing.now.opener.now ≡ Some opened
         → map entry_view needing.now.objects.now ++ map entry_view added.new.items
-        ≡ need files needing.now.kind (places_view needing.now.places.now) needing.now.place
+        ≡ need opened needing.now.kind (places_view needing.now.places.now) needing.now.place
         (map entry_view needing.now.objects.now ++ map entry_view added.old.items) name.items) }
 {
     if names.has(&name) {
         return Ok(());
     }
-    let file = find(
-        alloc,
-        needing.libraries,
-        needing.kind,
-        needing.places,
-        &name,
-    )?;
+    let file = find(alloc, needing.opener, needing.kind, needing.places, &name)?;
     if is_loaded_file(names, &file) {
         return Ok(());
     }
@@ -533,9 +580,9 @@ fn need<L: Libraries>(
 }
 
 // The new objects that the names of an object add.
-fn need_all<L: Libraries>(
+fn need_all<O: Opener>(
     alloc: Global,
-    needing: &Needing<'_, L>,
+    needing: &Needing<'_, O>,
     substitutions: &Substitutions<'_>,
     needed: &Names,
     names: &mut LoadedNames,
@@ -543,10 +590,10 @@ fn need_all<L: Libraries>(
     requires { AreNamesOf names.old (map entry_view needing.now.objects.now) }
     ensures names { IfOk result (λ added.
         AreNamesOf names.new (map entry_view needing.now.objects.now ++ map entry_view added.items)) }
-    ensures objects { IfOk result (λ added. (files : List ℕ → Option (List ℕ))
-        → L.contents needing.now.libraries.now ≡ Some files
+    ensures objects { IfOk result (λ added. (opened : List ℕ → Option Found)
+        → O.opened needing.now.opener.now ≡ Some opened
         → map entry_view needing.now.objects.now ++ map entry_view added.items
-        ≡ need_all files needing.now.kind (places_view needing.now.places.now) needing.now.place
+        ≡ need_all opened needing.now.kind (places_view needing.now.places.now) needing.now.place
         (map entry_view needing.now.objects.now) (map (expansion (tokens_view substitutions.now)) (names_view needed.now).needed)) }
 {
     let mut added = Vec::new(alloc);
@@ -558,9 +605,9 @@ fn need_all<L: Libraries>(
 }
 
 // The new objects that the object at a place adds.
-fn needed_objects<L: Libraries>(
+fn needed_objects<O: Opener>(
     alloc: Global,
-    libraries: &L,
+    opener: &O,
     surroundings: &Surroundings<'_>,
     kind: Kind,
     objects: &[Object],
@@ -570,9 +617,9 @@ fn needed_objects<L: Libraries>(
     requires { AreNamesOf names.old (map entry_view objects.now) }
     ensures names { IfOk result (λ added.
         AreNamesOf names.new (map entry_view objects.now ++ map entry_view added.items)) }
-    ensures objects { IfOk result (λ added. (files : List ℕ → Option (List ℕ)) → L.contents libraries.now ≡ Some files
+    ensures objects { IfOk result (λ added. (opened : List ℕ → Option Found) → O.opened opener.now ≡ Some opened
         → map entry_view objects.now ++ map entry_view added.items
-        ≡ with_needed files kind (others_view surroundings.now) (map entry_view objects.now) place) }
+        ≡ with_needed opened kind (others_view surroundings.now) (map entry_view objects.now) place) }
 {
     let Some(file) = file_at(objects, place) else {
         return Ok(Vec::new(alloc));
@@ -582,7 +629,7 @@ fn needed_objects<L: Libraries>(
     };
     let places = places_at(alloc, surroundings, objects, place)?;
     let needing = Needing {
-        libraries,
+        opener,
         kind,
         places: &places,
         objects,
@@ -600,14 +647,14 @@ fn needed_objects<L: Libraries>(
 /// paths of its own. No file is loaded twice under one path. So there are at most as many objects as the files that can be
 /// read have paths, and as the entries `DT_NEEDED` in these. For an entry at most one file is read in each folder, and one
 /// that the cache lists, and none if the library is loaded already.
-pub fn load_order<L: Libraries>(
+pub fn load_order<O: Opener>(
     alloc: Global,
-    libraries: &L,
+    opener: &O,
     surroundings: &Surroundings<'_>,
     program: LoadedFile,
 ) -> Result<Vec<Object>, AllocError>
-    ensures { IfOk result (λ objects. IfSome (L.contents libraries.now) (λ files.
-        IsLoadOrder files (others_view surroundings.now) (found_view program) (map entry_view objects.items))) }
+    ensures { IfOk result (λ objects. IfSome (O.opened opener.now) (λ opened.
+        IsLoadOrder opened (others_view surroundings.now) (found_view program) (map entry_view objects.items))) }
 {
     let kind = program.kind;
     let mut names = LoadedNames::new(alloc);
@@ -618,7 +665,7 @@ pub fn load_order<L: Libraries>(
     while place < objects.len() {
         let mut added = needed_objects(
             alloc,
-            libraries,
+            opener,
             surroundings,
             kind,
             &objects,

@@ -3,7 +3,7 @@
 ghost use Rattle.std.specs.Prelude.{◌≡◌, Ok, IfOk, IsNone, IsOk};
 ghost use Rattle.std.specs.Option.{option_map};
 ghost use Rattle.elf_records.specs.Number.{ok_map};
-ghost use Rattle.elf_hash_check.specs.VersionEntry.{ByNeed, required_with};
+ghost use Rattle.elf_parts.specs.gnu_symver.VersionEntry.{ByNeed, required_with};
 ghost use Rattle.elf_parts.specs.gnu_symver.Table.{definition_view, index_of, names_left, versions_view};
 ghost use Rattle.elf_linking.specs.Binding.{defined_as, first_name, is_base, is_version, serves, serves_exactly};
 ghost use Rattle.elf_linking.specs.Binding.{serves_version, version_by, version_index_of, version_of, version_view};

@@ -1,5 +1,6 @@
 pub mod LinkedRecords
 pub mod Versions
+pub mod VersionEntries
 pub mod Placed
 pub mod Walked
 pub mod NoteLists

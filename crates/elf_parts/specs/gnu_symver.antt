@@ -6,3 +6,5 @@ pub mod Records
 pub mod Lists
 -- the versions of the symbols of a file
 pub mod Table
+-- which version an index stands for
+pub mod VersionEntry

@@ -112,6 +112,14 @@ module _ {E : Type 0} (little : E → Bool) where
       segment_table h bytes >>= λ segments.
       Ok (record { ehdr = h; bytes = bytes; sections = sections; segments = segments })
 
+  -- the file through its header and its program headers alone, as the dynamic linker has it: no section headers are
+  -- declared
+  abbrev pub opened_by_segments : (ℕ → Option E) → List ℕ → Result (FileView E) ParseError
+  opened_by_segments of_byte bytes =
+      header_at_front of_byte bytes >>= λ h.
+      segment_table h bytes >>= λ segments.
+      Ok (record { ehdr = h; bytes = bytes; sections = None; segments = segments })
+
 -- the header and the two tables that were found in these bytes
 abbrev pub opened_view : {E : Type 0} → List ℕ → Opened E → FileView E
 opened_view bytes found = record {

@@ -3,5 +3,5 @@
 mod slice;
 mod source;
 
-pub use slice::{Opened, open};
+pub use slice::{Opened, open, open_by_segments};
 pub use source::{SourceHeaders, open_source};

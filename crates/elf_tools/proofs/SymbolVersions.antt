@@ -11,8 +11,8 @@ use Rattle.elf_parts.specs.declared.gnu_symver.records.VersionIndex.{VersionInde
 use Rattle.elf_records.specs.declared.parse.ParseError.{ParseError}
 use Rattle.elf_parts.specs.declared.gnu_symver.table.SymbolRequirement.{SymbolRequirement}
 use Rattle.elf_linking.specs.Binding.{unreadable}
-use Rattle.elf_hash_check.specs.VersionEntry.{ByNeed, VersionEntry, required_with, version_entry}
-use Rattle.elf_hash_check.proofs.VersionEntries.{definition_by_index, entry_defined, entry_needed, requirement_by_index}
+use Rattle.elf_parts.specs.gnu_symver.VersionEntry.{ByNeed, VersionEntry, required_with, version_entry}
+use Rattle.elf_parts.proofs.VersionEntries.{definition_by_index, entry_defined, entry_needed, requirement_by_index}
 use Rattle.elf_tools.specs.SymbolVersions.{WrittenVersion, defined_by_name, definition_version, needed_by_names, symbol_version, symbol_version_by}
 use denote.Ref.{Bor}
 

@@ -12,7 +12,7 @@ use Rattle.elf_parts.specs.gnu_symver.Records.{version_index}
 use Rattle.elf_parts.specs.gnu_symver.Table.{Definition, Versions}
 use Rattle.elf_parts.specs.declared.gnu_symver.records.VersionIndex.{VersionIndex}
 use Rattle.elf_records.specs.StringTable.{text_of}
-use Rattle.elf_hash_check.specs.VersionEntry.{ByDefinition, ByNeed, VersionEntry, version_entry}
+use Rattle.elf_parts.specs.gnu_symver.VersionEntry.{ByDefinition, ByNeed, VersionEntry, version_entry}
 use Rattle.elf_linking.specs.Binding.{unreadable, version_index_of}
 use Rattle.elf_linking.specs.declared.Unreadable.{Unreadable}
 use Rattle.elf_tools.specs.declared.symbol_versions.SymbolVersion.{SymbolVersion}

@@ -5,7 +5,7 @@ ghost use Rattle.elf_records.specs.Number.{ok_map};
 ghost use Rattle.elf_records.specs.Symbol.{symbol_reads};
 ghost use Rattle.elf_records.specs.Table.{table_items, table_view};
 ghost use Rattle.elf_parts.specs.gnu_symver.Table.{definition_view, index_of, names_left};
-ghost use Rattle.elf_hash_check.specs.VersionEntry.{ByNeed, required_with};
+ghost use Rattle.elf_parts.specs.gnu_symver.VersionEntry.{ByNeed, required_with};
 ghost use Rattle.elf_tools.specs.SymbolVersions.{definition_version, defined_by_name, symbol_version_by, symbol_view};
 ghost use Rattle.elf_tools.specs.SymbolVersions.{symbol_version_in};
 ghost use Rattle.elf_tools.specs.SymbolVersions.{symbol_version, symbol_version_view, versioned_symbols};

@@ -23,7 +23,7 @@ use Rattle.elf.specs.Readers as methods
 use Rattle.elf.specs.StreamFile.{listed_file, stream_file}
 use Rattle.elf.specs.inner.Loads.{AreThere}
 use Rattle.elf.proofs.stream.Cached.{stream_alike}
-use Rattle.elf.proofs.stream.Steps.{cached_append, cached_back, cached_front, keeps_then, needed_back, needed_front, only_then, only_wider, still_cached}
+use Rattle.elf.proofs.stream.Steps.{IfSome_both, cached_back, cached_front, left_error, left_given, left_stop, left_then}
 use Rattle.elfshow_lines.specs.NoAnswer.{refused_line}
 use Rattle.elfshow.specs.Question.{Question, Header, Sections, Segments, Name, Data, Strings, Rels, Relas, Notes, Seg}
 use Rattle.elfshow.specs.Question.{SegNotes, Symbols, DynSyms, Dynamic, Versions, Hash}
@@ -33,7 +33,7 @@ use Rattle.elfshow.specs.Stream.{IfFault, IsFaultlessCall, IsLoaded, MayUse, Ran
 use Rattle.elfshow.specs.Text.{call_answer, call_text, or_refused, unless_absent}
 use Rattle.elfshow.specs.declared.stream.Stop.{Stop}
 use Rattle.elfshow.specs.declared.stream.Stop.TheVariants as stop
-use Rattle.elfshow.specs.inner.CallSteps.{IsWritten, LeadsTo, Loads}
+use Rattle.elfshow.specs.inner.CallSteps.{IsWritten, LeadsTo, LeavesAll}
 use Rattle.elfshow.proofs.SameTexts.{AllAlike, call_alike, text_alike}
 
 -- ---- a stream that keeps its file
@@ -61,18 +61,9 @@ dropped (Err e) = Err e
 abbrev done : Result (Unit {0}) ParseError
 done = Ok tt
 
-ok_kept : {A : Type 0} (r : Result A ParseError) → IsOk (r >>= λ _. done) → IsOk r
-ok_kept (Ok x) h = refl
-ok_kept (Err e) h = cc h
-
 err_kept : {A B : Type 0} (r : Result A ParseError) (f : A → Result B ParseError) → IsErr r → IsErr (r >>= f)
 err_kept (Ok x) f h = cc h
 err_kept (Err e) f h = refl
-
-for_so : (P Q : Type 0) (k : Kind) → (P → Q) → IsFor P k → IsFor Q k
-for_so P Q Kind.SourceFailure so h = so h
-for_so P Q Kind.AllocationFailure so h = so h
-for_so P Q Kind.Refusal so h = tt
 
 refused_so : (k : Kind) (P Q : Type 0) (before now : ℕ) (can_fail : Bool) → (P → Q) → IsRefused before now can_fail P k → IsRefused before now can_fail Q k
 refused_so Kind.SourceFailure P Q before now can_fail so h = h
@@ -83,79 +74,47 @@ module _ {E T Y : Type 0} (old new : StreamView E) (requested : List (ℕ × ℕ
   -- what a call leaves whose value is dropped
   leaves_dropped : (whole : Result T ParseError) → Leaves requested shown answer old new whole → Leaves requested (λ x. x) (λ bytes. answer bytes >>= λ _. done) old new (dropped whole)
   leaves_dropped (Ok x) h = record {
-    keeps = h.keeps;
-    loaded = h.loaded;
-    only = h.only;
+    left = left_given old new requested x done tt h.left;
     answers = IfSome_then old.content h.answers (λ bytes a. (a.0, ap (λ r. r >>= λ _. done) a.1));
-    accepted = IfSome_then old.content h.accepted (λ bytes a ok cached. refl);
-    untouched = λ cached. ((h.untouched cached).0, tt);
-    needed = IfSome_then old.content h.needed (λ bytes n. tt);
   }
   leaves_dropped (Err e) h = record {
-    keeps = h.keeps;
-    loaded = tt;
-    only = h.only;
+    left = left_error old new requested e h.left;
     answers = IfSome_then old.content h.answers (λ bytes a. refused_so (kind e) (IsErr (answer bytes)) (IsErr (answer bytes >>= λ _. done)) old.failures new.failures old.can_fail (err_kept (answer bytes) (λ _. done)) a);
-    accepted = IfSome_then old.content h.accepted (λ bytes a ok cached. absurd (never e (a (ok_kept (answer bytes) ok) cached)));
-    untouched = h.untouched;
-    needed = h.needed;
   }
-    where
-      never : (e : ParseError) → IsOk {T = T} (Err e) → ⊥
-      never e h = cc h
 
 module _ {E : Type 0} (little : E → Bool) where
   pub one_loaded : {T : Type 0} (old new : StreamView E) (m : Method) (shown : T → Shown m) (whole : Result T ParseError) (r : Result (Unit {0}) ParseError)
-      → Leaves (requested_ranges m (headers_alone little old)) shown (λ bytes. answer m (stream_file little old bytes)) old new whole → dropped whole ≡ r → Loads little (m ∷ []) old new r
+      → Leaves (requested_ranges m (headers_alone little old)) shown (λ bytes. answer m (stream_file little old bytes)) old new whole → dropped whole ≡ r → LeavesAll little (m ∷ []) old new r
   one_loaded old new m shown whole r h is =
       let rs = requested_ranges m (headers_alone little old) in
       let file = stream_file little old in
-      subst (λ r. Loads little (m ∷ []) old new r) is
+      subst (λ r. LeavesAll little (m ∷ []) old new r) is
       (subst (λ rs. Leaves rs (λ x. x) (λ bytes. answer m (file bytes) >>= λ _. done) old new (dropped whole)) (sym (append-nil rs)) (leaves_dropped old new rs shown (λ bytes. answer m (file bytes)) whole h))
 
   -- nothing is to be loaded
-  pub none_loaded : (s : StreamView E) → Loads little [] s s (Ok tt)
+  pub none_loaded : (s : StreamView E) → LeavesAll little [] s s (Ok tt)
   none_loaded s = record {
-    keeps = record { content = refl; can_fail = refl; headers = refl; cached = λ start end h. h };
-    loaded = tt;
-    only = λ start end h. inl h;
+    left = record {
+      keeps = record { content = refl; can_fail = refl; headers = refl; size = refl; cached = λ start end h. h };
+      loaded = tt;
+      only = λ start end h. inl h;
+      untouched = λ cached. (refl, tt);
+      needed = everywhere s.content (λ _. Unit {0}) (λ bytes. tt);
+    };
     answers = everywhere s.content (λ bytes. IsAnswer (λ x. x) done s.can_fail s.failures s.failures done) (λ bytes. (refl, refl));
-    accepted = everywhere s.content (λ bytes. IsOk done → AreCached s [] → IsOk done) (λ bytes ok cached. refl);
-    untouched = λ cached. (refl, tt);
-    needed = everywhere s.content (λ _. Unit {0}) (λ bytes. tt);
   }
 
 -- what is loaded for a header that is there
 pub present_loaded : {E H : Type 0} (little : E → Bool) (old new : StreamView E) (wanted : H → Bool) (m : H → Method) (o : Option H) (header : H) (r : Result (Unit {0}) ParseError) → o ≡ Some header → wanted header ≡ true
-    → Loads little (m header ∷ []) old new r → Loads little (if_present (λ header. if wanted header then m header ∷ [] else []) o) old new r
+    → LeavesAll little (m header ∷ []) old new r → LeavesAll little (if_present (λ header. if wanted header then m header ∷ [] else []) o) old new r
 present_loaded little old new wanted m o header r there is h = rw (there, is) h
 
 -- ---- one load after another
-
-IfSome_both : {X : Type 0} (o : Option X) {P Q R : X → Type 0} → IfSome o P → IfSome o Q → ((x : X) → P x → Q x → R x) → IfSome o R
-IfSome_both None h k f = tt
-IfSome_both (Some x) h k f = f x h k
-
-ok_so : {P Q : Type 0} (r : Result (Unit {0}) ParseError) → (P → Q) → OnOk r P → OnOk r Q
-ok_so (Ok x) so h = so h
-ok_so (Err e) so h = tt
-
-err_so : (P Q : Type 0) (r : Result (Unit {0}) ParseError) → (P → Q) → IfErr r (λ e. IsFor P (kind e)) → IfErr r (λ e. IsFor Q (kind e))
-err_so P Q (Ok x) so h = tt
-err_so P Q (Err e) so h = for_so P Q (kind e) so h
 
 answered_then : {A : Type 0} (first : Result A ParseError) (rest : Result (Unit {0}) ParseError) (x : Unit {0}) (before now : ℕ) (can_fail : Bool) (r : Result (Unit {0}) ParseError) → (first >>= λ _. done) ≡ Ok x
     → IsAnswer (λ x. x) rest can_fail before now r → IsAnswer (λ x. x) (first >>= λ _. rest) can_fail before now r
 answered_then (Ok a) rest x before now can_fail r is h = h
 answered_then (Err e) rest x before now can_fail r is h = cc is
-
-ok_rest : {A B : Type 0} (first : Result A ParseError) (rest : Result B ParseError) → IsOk (first >>= λ _. rest) → IsOk rest
-ok_rest (Ok a) rest h = h
-ok_rest (Err e) rest h = cc h
-
-ok_first : {A B : Type 0} (first : Result A ParseError) (f : A → Result B ParseError) → IsOk (first >>= f) → IsOk (first >>= λ _. done)
-ok_first (Ok a) f h = refl
-ok_first (Err e) f h = cc h
 
 err_first : {A B : Type 0} (first : Result A ParseError) (f : A → Result B ParseError) → IsErr (first >>= λ _. done) → IsErr (first >>= f)
 err_first (Ok a) f h = cc h
@@ -182,48 +141,32 @@ module _ {E : Type 0} (little : E → Bool) (old middle : StreamView E) (m : Met
   First r = Leaves rs (λ x. x) (λ bytes. first bytes >>= λ _. done) old middle r
 
   -- the first is refused
-  refused_by : (e : ParseError) → First (Err e) → Loads little (m ∷ rest) old middle (Err e)
+  refused_by : (e : ParseError) → First (Err e) → LeavesAll little (m ∷ rest) old middle (Err e)
   refused_by e h = record {
-    keeps = h.keeps;
-    loaded = tt;
-    only = only_wider old middle rs qs h.only;
+    left = left_stop old middle rs qs e h.left;
     answers = IfSome_then old.content h.answers (λ bytes a. refused_so (kind e) (IsErr (first bytes >>= λ _. done)) (IsErr (first bytes >>= λ _. behind bytes)) old.failures middle.failures old.can_fail (err_first (first bytes) (λ _. behind bytes)) a);
-    accepted = IfSome_then old.content h.accepted (λ bytes a ok cached. a (ok_first (first bytes) (λ _. behind bytes) ok) (cached_front old rs qs cached));
-    untouched = λ cached. h.untouched (cached_front old rs qs cached);
-    needed = IfSome_then old.content h.needed (λ bytes n. for_so (IsNeeded bytes middle rs) (IsNeeded bytes middle (rs ++ qs)) (kind e) (needed_front bytes middle rs qs) n);
   }
 
-  pub first_refused : (e : ParseError) (r : Result (Unit {0}) ParseError) → r ≡ Err e → Loads little (m ∷ []) old middle r → Loads little (m ∷ rest) old middle (Err e)
+  pub first_refused : (e : ParseError) (r : Result (Unit {0}) ParseError) → r ≡ Err e → LeavesAll little (m ∷ []) old middle r → LeavesAll little (m ∷ rest) old middle (Err e)
   first_refused e r is h =
-      refused_by e (subst (λ rs. Leaves rs (λ x. x) (λ bytes. first bytes >>= λ _. done) old middle (Err e)) (append-nil rs) (subst (λ r. Loads little (m ∷ []) old middle r) is h))
+      refused_by e (subst (λ rs. Leaves rs (λ x. x) (λ bytes. first bytes >>= λ _. done) old middle (Err e)) (append-nil rs) (subst (λ r. LeavesAll little (m ∷ []) old middle r) is h))
 
   loaded_by : (new : StreamView E) (x : Unit {0}) (r : Result (Unit {0}) ParseError) → ((bytes : List ℕ) → IsOk (first bytes) → AreThere bytes rs)
-      → First (Ok x) → Leaves qs (λ x. x) behind middle new r → Loads little (m ∷ rest) old new r
-  loaded_by new x r there a b =
-      record {
-        keeps = keeps_then old middle new a.keeps b.keeps;
-        loaded = ok_so r (λ cached. cached_append new rs qs (still_cached middle new rs b.keeps a.loaded) cached) b.loaded;
-        only = only_then old middle new rs qs a.only b.only;
-        answers = IfSome_both old.content a.answers (subst (λ known. IfSome known (λ bytes. IsAnswer (λ x. x) (behind bytes) middle.can_fail middle.failures new.failures r)) a.keeps.content b.answers) (λ bytes one two.
-            answered_then (first bytes) (behind bytes) x old.failures new.failures old.can_fail r one.1
-            (subst (λ count. IsAnswer (λ x. x) (behind bytes) old.can_fail count new.failures r) one.0
-            (subst (λ can_fail. IsAnswer (λ x. x) (behind bytes) can_fail middle.failures new.failures r) a.keeps.can_fail two)));
-        accepted = IfSome_then old.content (subst (λ known. IfSome known (λ bytes. IsOk (behind bytes) → AreCached middle qs → IsOk r)) a.keeps.content b.accepted) (λ bytes two ok cached.
-            two (ok_rest (first bytes) (behind bytes) ok) (still_cached old middle qs a.keeps (cached_back old rs qs cached)));
-        untouched = λ cached.
-            let one = a.untouched (cached_front old rs qs cached) in
-            let two = b.untouched (still_cached old middle qs a.keeps (cached_back old rs qs cached)) in
-            (two.0 ∙ one.0, two.1);
-        needed = IfSome_both old.content a.answers (subst (λ known. IfSome known (λ bytes. IfErr r (λ e. IsFor (IsNeeded bytes new qs) (kind e)))) a.keeps.content b.needed) (λ bytes one n.
-            err_so (IsNeeded bytes new qs) (IsNeeded bytes new (rs ++ qs)) r (needed_back bytes new rs qs (there bytes (ok_known (first bytes) x one.1))) n);
-      }
+      → First (Ok x) → Leaves qs (λ x. x) behind middle new r → LeavesAll little (m ∷ rest) old new r
+  loaded_by new x r there a b = record {
+    left = left_then old middle new rs qs x r (IfSome_then old.content a.answers (λ bytes one. there bytes (ok_known (first bytes) x one.1))) a.left b.left;
+    answers = IfSome_both old.content a.answers (subst (λ known. IfSome known (λ bytes. IsAnswer (λ x. x) (behind bytes) middle.can_fail middle.failures new.failures r)) a.left.keeps.content b.answers) (λ bytes one two.
+        answered_then (first bytes) (behind bytes) x old.failures new.failures old.can_fail r one.1
+        (subst (λ count. IsAnswer (λ x. x) (behind bytes) old.can_fail count new.failures r) one.0
+        (subst (λ can_fail. IsAnswer (λ x. x) (behind bytes) can_fail middle.failures new.failures r) a.left.keeps.can_fail two)));
+  }
 
   pub then_loaded : (new : StreamView E) (x : Unit {0}) (r s : Result (Unit {0}) ParseError) → ((bytes : List ℕ) → IsOk (first bytes) → AreThere bytes rs) → r ≡ Ok x
-      → Loads little (m ∷ []) old middle r → Loads little rest middle new s → Loads little (m ∷ rest) old new s
+      → LeavesAll little (m ∷ []) old middle r → LeavesAll little rest middle new s → LeavesAll little (m ∷ rest) old new s
   then_loaded new x r s there is a b =
-      let one : First (Ok x) = subst (λ rs. Leaves rs (λ x. x) (λ bytes. first bytes >>= λ _. done) old middle (Ok x)) (append-nil rs) (subst (λ r. Loads little (m ∷ []) old middle r) is a) in
+      let one : First (Ok x) = subst (λ rs. Leaves rs (λ x. x) (λ bytes. first bytes >>= λ _. done) old middle (Ok x)) (append-nil rs) (subst (λ r. LeavesAll little (m ∷ []) old middle r) is a) in
       loaded_by new x s there one
-      (subst (λ h. Leaves (ranges_of (listed_file little h []) rest) (λ x. x) (λ bytes. all_answered (listed_file little h bytes) rest) middle new s) one.keeps.headers b)
+      (subst (λ h. Leaves (ranges_of (listed_file little h []) rest) (λ x. x) (λ bytes. all_answered (listed_file little h bytes) rest) middle new s) one.left.keeps.headers b)
 
 -- ---- a method of a call that is refused
 
@@ -371,33 +314,33 @@ module _ {E : Type 0} (little : E → Bool) (call : Question) (old new : StreamV
   on_ok (Ok x) P h = h
   on_ok (Err e) P h = tt
 
-  pub written_call : {X : Type 0} (whole : Result (Unit {0}) ParseError) (x : Unit {0}) (w : Result (Unit {0}) X) (r : Result (Unit {0}) Stop) → Loads little loads old new whole → whole ≡ Ok x → IfSome new.content (λ bytes. AreLoadedOf little new bytes)
+  pub written_call : {X : Type 0} (whole : Result (Unit {0}) ParseError) (x : Unit {0}) (w : Result (Unit {0}) X) (r : Result (Unit {0}) Stop) → LeavesAll little loads old new whole → whole ≡ Ok x → IfSome new.content (λ bytes. AreLoadedOf little new bytes)
       → OnOk w (Appends before after (call_text new.headers.ehdr (loaded (streamed_file little new) (loaded_ranges new)) call)) → IsWritten w r → RanCall little call old new before after r
   written_call whole x w r made is known wrote so =
-      let h : Loads little loads old new (Ok x) = subst (λ r. Loads little loads old new r) is made in
-      let there : AreCached new (call_ranges little new call) = subst (λ rs. AreCached new rs) (sym (same_ranges little old new call h.keeps)) h.loaded in
+      let h : LeavesAll little loads old new (Ok x) = subst (λ r. LeavesAll little loads old new r) is made in
+      let there : AreCached new (call_ranges little new call) = subst (λ rs. AreCached new rs) (sym (same_ranges little old new call h.left.keeps)) h.left.loaded in
       record {
-        keeps = h.keeps;
-        ran = IfSome_both old.content h.answers (subst (λ content. IfSome content (λ bytes. AreLoadedOf little new bytes)) h.keeps.content known) (λ bytes a known.
+        keeps = h.left.keeps;
+        ran = IfSome_both old.content h.answers (subst (λ content. IfSome content (λ bytes. AreLoadedOf little new bytes)) h.left.keeps.content known) (λ bytes a known.
             ran_written (stream_answer little old bytes call) before after old.failures new.failures old.can_fail w r a.0
-            (subst (λ text. OnOk w (Appends before after text)) (loaded_text little new bytes known call there ∙ ap or_refused (same_answer little call old new bytes h.keeps)) wrote) so);
-        only = h.only;
-        untouched = λ cached. ((h.untouched cached).0, faultless w r so);
+            (subst (λ text. OnOk w (Appends before after text)) (loaded_text little new bytes known call there ∙ ap or_refused (same_answer little call old new bytes h.left.keeps)) wrote) so);
+        only = h.left.only;
+        untouched = λ cached. ((h.left.untouched cached).0, faultless w r so);
         needed = everywhere old.content (λ bytes. IfFault r (λ e. MayUse little old new bytes call (kind e))) (λ bytes. no_fault_so r (λ e. MayUse little old new bytes call (kind e)) (faultless w r so));
         loaded = on_ok r (IfSome old.content (λ bytes. IsLoaded little new bytes call)) (everywhere old.content (λ bytes. IsLoaded little new bytes call) (λ bytes ok. there));
       }
 
-  pub refused_call : (whole : Result (Unit {0}) ParseError) (e : ParseError) (r : Result (Unit {0}) Stop) → Loads little loads old new whole → whole ≡ Err e → LeadsTo (kind e) before after r → RanCall little call old new before after r
+  pub refused_call : (whole : Result (Unit {0}) ParseError) (e : ParseError) (r : Result (Unit {0}) Stop) → LeavesAll little loads old new whole → whole ≡ Err e → LeadsTo (kind e) before after r → RanCall little call old new before after r
   refused_call whole e r made is leads =
-      let h : Loads little loads old new (Err e) = subst (λ r. Loads little loads old new r) is made in
+      let h : LeavesAll little loads old new (Err e) = subst (λ r. LeavesAll little loads old new r) is made in
       let why = IfSome_then old.content h.answers (λ bytes a. refused_so (kind e) (IsErr (all_answered (stream_file little old bytes) loads)) (IsErr (stream_answer little old bytes call)) old.failures new.failures old.can_fail (refused (stream_file little old bytes) old.headers.ehdr call) a) in
       record {
-        keeps = h.keeps;
+        keeps = h.left.keeps;
         ran = IfSome_then old.content why (λ bytes a. ran_refused (kind e) (stream_answer little old bytes call) before after old.failures new.failures old.can_fail r a leads);
-        only = h.only;
-        untouched = λ cached. let used = h.untouched cached in (used.0, refusal_faultless (kind e) before after r used.1 leads);
-        needed = IfSome_then old.content h.needed (λ bytes n. fault_for (kind e) (IsNeeded bytes new asked) before after r leads n);
-        loaded = never_loaded r (kind e) h.keeps leads why;
+        only = h.left.only;
+        untouched = λ cached. let used = h.left.untouched cached in (used.0, refusal_faultless (kind e) before after r used.1 leads);
+        needed = IfSome_then old.content h.left.needed (λ bytes n. fault_for (kind e) (IsNeeded bytes new asked) before after r leads n);
+        loaded = never_loaded r (kind e) h.left.keeps leads why;
       }
     where
       refused_ok : (k : Kind) (x : Unit {0}) (bytes : List ℕ) {P : Type 0} → LeadsTo k before after (Ok x) → IsRefused old.failures new.failures old.can_fail (IsErr (stream_answer little old bytes call)) k → IsOk (stream_answer little old bytes call) → P

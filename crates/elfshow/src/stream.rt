@@ -9,7 +9,7 @@ ghost use Rattle.elfshow.specs.Question.{question};
 ghost use Rattle.elfshow.specs.Ranges.{if_present, loads_of};
 ghost use Rattle.elfshow.specs.Stream.{RanCall};
 ghost use Rattle.elfshow.specs.Text.{call_text};
-ghost use Rattle.elfshow.specs.inner.CallSteps.{IsWritten, LeadsTo, Loads};
+ghost use Rattle.elfshow.specs.inner.CallSteps.{IsWritten, LeadsTo, LeavesAll};
 ghost use Rattle.elfshow.specs.inner.CallSteps.{is_wanted, section_loads, segment_loads};
 
 use crate::calls::Call;
@@ -80,7 +80,7 @@ fn load_call<E: EndianParse, S: StreamSource, A: Allocator + Copy>(
     stream: &mut ElfStream<E, S, A>,
     call: Call<'_>,
 ) -> Result<(), ParseError>
-    ensures { Loads E.little
+    ensures { LeavesAll E.little
         (loads_of stream.old.headers.sections stream.old.headers.segments (question call.entry))
         stream.old stream.new result }
 {
@@ -108,7 +108,7 @@ fn load_call<E: EndianParse, S: StreamSource, A: Allocator + Copy>(
 fn load_names<E: EndianParse, S: StreamSource, A: Allocator + Copy>(
     stream: &mut ElfStream<E, S, A>,
 ) -> Result<(), ParseError>
-    ensures { Loads E.little (methods.SectionHeadersWithStrtab ∷ []) stream.old stream.new result }
+    ensures { LeavesAll E.little (methods.SectionHeadersWithStrtab ∷ []) stream.old stream.new result }
 {
     match stream.section_headers_with_strtab() {
         Ok(_) => Ok(()),
@@ -119,7 +119,7 @@ fn load_names<E: EndianParse, S: StreamSource, A: Allocator + Copy>(
 fn load_symbols<E: EndianParse, S: StreamSource, A: Allocator + Copy>(
     stream: &mut ElfStream<E, S, A>,
 ) -> Result<(), ParseError>
-    ensures { Loads E.little (methods.SymbolTable ∷ []) stream.old stream.new result }
+    ensures { LeavesAll E.little (methods.SymbolTable ∷ []) stream.old stream.new result }
 {
     match stream.symbol_table() {
         Ok(_) => Ok(()),
@@ -130,7 +130,7 @@ fn load_symbols<E: EndianParse, S: StreamSource, A: Allocator + Copy>(
 fn load_dynamic_symbols<E: EndianParse, S: StreamSource, A: Allocator + Copy>(
     stream: &mut ElfStream<E, S, A>,
 ) -> Result<(), ParseError>
-    ensures { Loads E.little (methods.DynamicSymbolTable ∷ []) stream.old stream.new result }
+    ensures { LeavesAll E.little (methods.DynamicSymbolTable ∷ []) stream.old stream.new result }
 {
     match stream.dynamic_symbol_table() {
         Ok(_) => Ok(()),
@@ -141,7 +141,7 @@ fn load_dynamic_symbols<E: EndianParse, S: StreamSource, A: Allocator + Copy>(
 fn load_dynamic<E: EndianParse, S: StreamSource, A: Allocator + Copy>(
     stream: &mut ElfStream<E, S, A>,
 ) -> Result<(), ParseError>
-    ensures { Loads E.little (methods.Dynamic ∷ []) stream.old stream.new result }
+    ensures { LeavesAll E.little (methods.Dynamic ∷ []) stream.old stream.new result }
 {
     match stream.dynamic() {
         Ok(_) => Ok(()),
@@ -152,7 +152,7 @@ fn load_dynamic<E: EndianParse, S: StreamSource, A: Allocator + Copy>(
 fn load_version_table<E: EndianParse, S: StreamSource, A: Allocator + Copy>(
     stream: &mut ElfStream<E, S, A>,
 ) -> Result<(), ParseError>
-    ensures { Loads E.little (methods.SymbolVersionTable ∷ []) stream.old stream.new result }
+    ensures { LeavesAll E.little (methods.SymbolVersionTable ∷ []) stream.old stream.new result }
 {
     match stream.symbol_version_table() {
         Ok(_) => Ok(()),
@@ -163,7 +163,7 @@ fn load_version_table<E: EndianParse, S: StreamSource, A: Allocator + Copy>(
 fn load_versions<E: EndianParse, S: StreamSource, A: Allocator + Copy>(
     stream: &mut ElfStream<E, S, A>,
 ) -> Result<(), ParseError>
-    ensures { Loads E.little (methods.DynamicSymbolTable ∷ methods.SymbolVersionTable ∷ [])
+    ensures { LeavesAll E.little (methods.DynamicSymbolTable ∷ methods.SymbolVersionTable ∷ [])
         stream.old stream.new result }
 {
     match load_dynamic_symbols(stream) {
@@ -176,7 +176,7 @@ fn load_section_data<E: EndianParse, S: StreamSource, A: Allocator + Copy>(
     stream: &mut ElfStream<E, S, A>,
     section: &SectionHeader,
 ) -> Result<(), ParseError>
-    ensures { Loads E.little (methods.SectionData section.now ∷ []) stream.old stream.new result }
+    ensures { LeavesAll E.little (methods.SectionData section.now ∷ []) stream.old stream.new result }
 {
     match stream.section_data(section) {
         Ok(_) => Ok(()),
@@ -188,7 +188,7 @@ fn load_segment_data<E: EndianParse, S: StreamSource, A: Allocator + Copy>(
     stream: &mut ElfStream<E, S, A>,
     segment: &ProgramHeader,
 ) -> Result<(), ParseError>
-    ensures { Loads E.little (methods.SegmentData segment.now ∷ []) stream.old stream.new result }
+    ensures { LeavesAll E.little (methods.SegmentData segment.now ∷ []) stream.old stream.new result }
 {
     match stream.segment_data(segment) {
         Ok(_) => Ok(()),
@@ -212,7 +212,7 @@ fn load_section<E: EndianParse, S: StreamSource, A: Allocator + Copy>(
     index: u64,
     wanted: Option<u32>,
 ) -> Result<(), ParseError>
-    ensures { Loads E.little (if_present (section_loads wanted) (slice_get stream.old.headers.sections index))
+    ensures { LeavesAll E.little (if_present (section_loads wanted) (slice_get stream.old.headers.sections index))
         stream.old stream.new result }
 {
     let Some(section) = stream.section_headers().get(index as usize).copied() else {
@@ -231,7 +231,7 @@ fn load_segment<E: EndianParse, S: StreamSource, A: Allocator + Copy>(
     index: u64,
     wanted: Option<u32>,
 ) -> Result<(), ParseError>
-    ensures { Loads E.little (if_present (segment_loads wanted) (slice_get stream.old.headers.segments index))
+    ensures { LeavesAll E.little (if_present (segment_loads wanted) (slice_get stream.old.headers.segments index))
         stream.old stream.new result }
 {
     let Some(segment) = stream.segments().get(index as usize).copied() else {
@@ -249,7 +249,7 @@ fn load_checked<E: EndianParse, S: StreamSource, A: Allocator + Copy>(
     stream: &mut ElfStream<E, S, A>,
     section: &SectionHeader,
 ) -> Result<(), ParseError>
-    ensures { Loads E.little (methods.SectionData section.now ∷ methods.DynamicSymbolTable ∷ [])
+    ensures { LeavesAll E.little (methods.SectionData section.now ∷ methods.DynamicSymbolTable ∷ [])
         stream.old stream.new result }
 {
     match load_section_data(stream, section) {
@@ -263,7 +263,7 @@ fn load_hash_section<E: EndianParse, S: StreamSource, A: Allocator + Copy>(
     stream: &mut ElfStream<E, S, A>,
     index: u64,
 ) -> Result<(), ParseError>
-    ensures { Loads E.little (if_present (λ s. methods.SectionData s ∷ methods.DynamicSymbolTable ∷ [])
+    ensures { LeavesAll E.little (if_present (λ s. methods.SectionData s ∷ methods.DynamicSymbolTable ∷ [])
         (slice_get stream.old.headers.sections index)) stream.old stream.new result }
 {
     match stream.section_headers().get(index as usize).copied() {

@@ -14,6 +14,7 @@ use changes::change;
 use elf_linking::tree::Libraries;
 use nugwier_commands::run::run;
 use nugwier_files::files::Files;
+use nugwier_files::opening::Opening;
 use nugwier_files::system::SystemFiles;
 use source::{CaseSource, broken, failing_read};
 use std::alloc::AllocError;
@@ -41,6 +42,18 @@ impl Files for CaseFiles<'_> {
         Some(CaseSource::new(file, reads))
     }
 
+    // Only files beside the program are read, so that those of the machine do not count.
+    fn open_library(&self, path: &[u8]) -> Opening<CaseSource> {
+        if path.starts_with(b"/") {
+            return Opening::Missing;
+        }
+        match self.system.open_library(path) {
+            Opening::Parts(file) => Opening::Parts(CaseSource::new(file, None)),
+            Opening::Whole => Opening::Whole,
+            Opening::Missing => Opening::Missing,
+        }
+    }
+
     fn read(&self, path: &str) -> io::Result<Vec<u8>> {
         match path.split_once(',') {
             Some((_, word)) if word.starts_with("fails=") => Err(broken()),
@@ -60,7 +73,6 @@ impl Files for CaseFiles<'_> {
 impl Libraries for CaseFiles<'_> {
     ghost contents = { λ _. None };
 
-    // Only files beside the program are read, so that those of the machine do not count.
     fn read_library(&self, path: &[u8]) -> Result<Option<Vec<u8>>, AllocError> {
         if path.starts_with(b"/") {
             return Ok(None);

@@ -1,1 +1,2 @@
 pub mod AllFiles
+mod Trees

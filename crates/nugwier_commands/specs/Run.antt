@@ -8,12 +8,13 @@ use Rattle.std.specs.declared.io.Error.{Error}
 use Rattle.elf_records.specs.Endian.{any_is_little, any_of_byte}
 use Rattle.elf_records.specs.declared.endian.AnyEndian.{AnyEndian}
 use Rattle.elf_records.specs.declared.parse.ParseError.{ParseError}
-use Rattle.elf_reading.specs.Opening.{FileView, headers_of, opened_file}
+use Rattle.elf_reading.specs.Opening.{FileView, headers_of, opened_by_segments, opened_file}
 use Rattle.elf.specs.StreamFile.{listed_file}
 use Rattle.elf_linking.specs.Tree.{file_of}
 use Rattle.nugwier_listing.specs.Job.{IsSaidOf}
 use Rattle.nugwier_programs.specs.Bindings.{IsBindingsSaid}
-use Rattle.nugwier_programs.specs.Tree.{IsTreeSaid}
+use Rattle.nugwier_files.specs.Below.{known_below}
+use Rattle.nugwier_programs.specs.Tree.{IsTreeSaid, Search}
 use Rattle.nugwier_report.specs.Said.{Said, all_right, said_if, states, text, whole, wrong}
 use Rattle.nugwier_commands.specs.declared.run.Outcome.{Outcome}
 use Rattle.nugwier_commands.specs.declared.run.Outcome.TheVariants.{Done, Stopped, Wrong}
@@ -21,7 +22,7 @@ use Rattle.nugwier_report.specs.Told.{IsTold, told_line}
 use Rattle.nugwier_report.specs.declared.kind.Kind.{Kind}
 use Rattle.nugwier_report.specs.declared.kind.Kind.TheVariants.{FileHeading, NextFileHeading}
 use Rattle.nugwier_report.specs.declared.problem.Fault.TheVariants.{Read, System}
-use Rattle.nugwier_report.specs.declared.problem.Part.TheVariants.{File}
+use Rattle.nugwier_report.specs.declared.problem.Part.TheVariants.{File, SectionHeaders}
 use Rattle.nugwier_words.specs.Help.{help_of}
 use Rattle.nugwier_words.specs.Words.{Answer, Task, help, run, version}
 use Rattle.nugwier_words.specs.declared.help.TheConstants.{VERSION}
@@ -35,11 +36,25 @@ use Rattle.nugwier_words.specs.declared.words.WordError.{WordError}
 abbrev pub heading_said : Option Kind → List ℕ → List Said
 heading_said heading path = said_if (λ kind. states kind ((codes "path", text (Some path)) ∷ []) ∷ []) heading
 
--- by its headers, as they were opened; or why it is no ELF file
-abbrev pub IsOpenedSaid : Task → List ℕ → List ℕ → Result (FileView AnyEndian) ParseError → List Said → Type 0
-IsOpenedSaid task path bytes (Ok v) said =
+-- by its headers, as they were opened
+abbrev pub IsViewSaid : Task → List ℕ → List ℕ → FileView AnyEndian → List Said → Type 0
+IsViewSaid task path bytes v said =
     IsSaidOf any_is_little any_of_byte task path v.ehdr (listed_file any_is_little (headers_of v) bytes) said
-IsOpenedSaid task path bytes (Err e) said = said ≡ wrong (whole File) (Read e) ∷ []
+
+-- Where opening it has this error: that its section headers cannot be read, and what is said of it through its segments;
+-- or, if it does not open by them either, why it is no ELF file. A file that does not open is not sound, so a check says
+-- the same of both.
+abbrev pub IsUnopenedSaid : Command → Task → List ℕ → List ℕ → ParseError → Result (FileView AnyEndian) ParseError →
+    List Said → Type 0
+IsUnopenedSaid Check task path bytes e by_segments said = said ≡ wrong (whole File) (Read e) ∷ []
+IsUnopenedSaid other task path bytes e (Ok v) said =
+    (rest : List Said) × IsViewSaid task path bytes v rest × (said ≡ wrong (whole SectionHeaders) (Read e) ∷ rest)
+IsUnopenedSaid other task path bytes e (Err _) said = said ≡ wrong (whole File) (Read e) ∷ []
+
+abbrev pub IsOpenedSaid : Task → List ℕ → List ℕ → Result (FileView AnyEndian) ParseError → List Said → Type 0
+IsOpenedSaid task path bytes (Ok v) said = IsViewSaid task path bytes v said
+IsOpenedSaid task path bytes (Err e) said =
+    IsUnopenedSaid task.command task path bytes e (opened_by_segments any_is_little any_of_byte bytes) said
 
 -- what is said of a file with this path and these bytes
 abbrev pub IsBytesSaid : Task → List ℕ → List ℕ → List Said → Type 0
@@ -68,10 +83,14 @@ heading_of task i = heading_at (has_headings task.command task.files) i
 abbrev pub Known : Type 0
 Known = Option (List ℕ → Option (List ℕ))
 
+-- where the libraries of a program are searched for
+abbrev pub search_of : Task → Search
+search_of task = record { folders = task.searches; has_cache = task.has_cache }
+
 -- what is said of a program with this path and these bytes, and of its libraries
 abbrev pub IsProgramSaid : Known → Command → Task → List ℕ → List ℕ → List Said → Type 0
-IsProgramSaid known Bindings task path bytes said = IsBindingsSaid known task.searches (file_of path bytes) said
-IsProgramSaid known other task path bytes said = IsTreeSaid known task.searches (file_of path bytes) said
+IsProgramSaid known Bindings task path bytes said = IsBindingsSaid known (search_of task) (file_of path bytes) said
+IsProgramSaid known other task path bytes said = IsTreeSaid known (search_of task) (file_of path bytes) said
 
 -- of one file, or of a program
 abbrev pub IsContentSaid : Known → Command → Task → List ℕ → List ℕ → List Said → Type 0
@@ -109,14 +128,20 @@ files_text is_json (path ∷ paths) (said ∷ others) =
 
 -- ---- a whole run
 
--- what a run that was not stopped wrote: the help, or the text of what is said of the files
+-- what is said of the files of a task was written
+abbrev pub IsTaskAnswered : Known → Option (List ℕ) → Option (List ℕ) → Bool → Task → Type 0
+IsTaskAnswered known before after is_right task =
+    (all : List (List Said)) × AreFilesSaid known task 0 task.files all
+    × Appends before after (files_text task.is_json task.files all) × (is_right ≡ list_all all_right all)
+
+-- what a run that was not stopped wrote: the help, or the text of what is said of the files, whose paths are taken below
+-- the folder of an image, if one is named
 abbrev pub IsAnswered : Known → Option (List ℕ) → Option (List ℕ) → Bool → Answer → Type 0
 IsAnswered known before after is_right (help command) =
     Appends before after (help_of command ++ codes "\n") × (is_right ≡ true)
 IsAnswered known before after is_right version = Appends before after (VERSION.now ++ codes "\n") × (is_right ≡ true)
 IsAnswered known before after is_right (run task) =
-    (all : List (List Said)) × AreFilesSaid known task 0 task.files all
-    × Appends before after (files_text task.is_json task.files all) × (is_right ≡ list_all all_right all)
+    IsTaskAnswered (known_below task.root known) before after is_right task
 
 -- by what the words ask for: an answer, or that the words are wrong, and nothing is written. A failed write or a failed
 -- allocation stops a run at any time

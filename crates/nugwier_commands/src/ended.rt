@@ -3,19 +3,24 @@ ghost use Rattle.std.specs.Prelude.{[], ◌≡◌, ◌∷◌, ◌++◌, false, I
 ghost use Rattle.nugwier_report.specs.Said.{Said, all_right, saying, whole, wrong};
 ghost use Rattle.nugwier_report.specs.Told.{IsTold};
 ghost use Rattle.nugwier_report.specs.declared.problem.Part.TheVariants.{File};
-ghost use Rattle.nugwier_commands.specs.Run.{IsProgramSaid, IsWritten, heading_said};
+ghost use Rattle.nugwier_commands.specs.Run.{IsProgramSaid, IsWritten, heading_said, search_of};
+ghost use Rattle.nugwier_commands.specs.inner.Loading.{unread_said};
+ghost use Rattle.nugwier_programs.specs.Tree.{search_view, IsNamedSaid};
+ghost use Rattle.elf_linking.specs.Tree.{found_view};
 ghost use Rattle.nugwier_listing.specs.inner.Job.{IsTablesSaid};
 ghost use Rattle.nugwier_words.specs.Words.{task_of};
 
+use elf::ParseError;
 use elf::endian::EndianParse;
+use elf_linking::tree::LoadedFile;
 use nugwier_files::files::Files;
 use nugwier_listing::job::{JobTables, say_job};
 use nugwier_programs::bindings::say_bindings;
-use nugwier_programs::tree::{FILE, say_tree};
+use nugwier_programs::tree::{FILE, Search, say_named, say_tree};
 use nugwier_report::json::Value;
 use nugwier_report::kind::Kind;
 use nugwier_report::names::Labels;
-use nugwier_report::problem::{Fault, Stop};
+use nugwier_report::problem::{Fault, Part, Stop};
 use nugwier_report::report::Report;
 use nugwier_words::words::{Command, Job};
 use std::alloc::Global;
@@ -50,8 +55,8 @@ impl<W: Write, V: Write> Ended<W, V> {
         ensures text { report.entry.is_lost ≡ false → IsTold report.entry.is_json report.entry.path report.entry.start
             (W.contents result.out) report.entry.said }
     {
-        let (is_right, out, err) = report.end();
-        let said = Ok(is_right);
+        let (summary, out, err) = report.end();
+        let said = Ok(summary.is_right);
         Ended { said, out, err }
     }
 
@@ -62,6 +67,19 @@ impl<W: Write, V: Write> Ended<W, V> {
         let (_, out, err) = report.end();
         let said = Err(stop);
         Ended { said, out, err }
+    }
+}
+
+// Says why section headers were not read, if they were not.
+fn say_unread<W: Write, V: Write>(
+    unread: Option<ParseError>,
+    report: &mut Report<'_, W, V>,
+) -> Result<(), Stop>
+    ensures { OnOk result (report.new ≡ saying report.old (unread_said unread)) }
+{
+    match unread {
+        Some(error) => report.problem(Part::SectionHeaders.whole(), Fault::Read(error)),
+        None => Ok(()),
     }
 }
 
@@ -79,18 +97,20 @@ impl<'j> Target<'j> {
         }
     }
 
-    // Says what is above the file, and then its tables.
+    // Says what is above the file, then why its section headers were not read, if they were not, and then its tables.
     fn say<E: EndianParse, W: Write, V: Write>(
         &self,
         alloc: Global,
+        unread: Option<ParseError>,
         tables: JobTables<'_, '_, E>,
         report: &mut Report<'_, W, V>,
     ) -> Result<(), Stop>
         ensures { OnOk result ((said : List Said) × IsTablesSaid E.little self.now.path.now
-            (task_of self.now.job.now).addresses tables.entry said × (report.new
-            ≡ saying report.old (heading_said self.now.heading self.now.path.now ++ said))) }
+            (task_of self.now.job.now).addresses tables.entry said × (report.new ≡ saying report.old
+            (heading_said self.now.heading self.now.path.now ++ (unread_said unread ++ said)))) }
     {
         self.say_heading(report)?;
+        say_unread(unread, report)?;
         say_job(alloc, self.job, self.path, tables, report)
     }
 
@@ -107,10 +127,11 @@ impl<'j> Target<'j> {
         report.problem(FILE, fault)
     }
 
-    /// Says the tables that were taken of the file.
+    /// Says why the section headers of the file were not read, if they were not, and the tables that were taken of it.
     pub(crate) fn say_taken<E: EndianParse, W: Write, V: Write>(
         &self,
         alloc: Global,
+        unread: Option<ParseError>,
         labels: Labels<'_>,
         tables: JobTables<'_, '_, E>,
         out: W,
@@ -119,10 +140,57 @@ impl<'j> Target<'j> {
         ensures { IfOk result.said (λ is_right. (said : List Said)
             × IsTablesSaid E.little self.now.path.now (task_of self.now.job.now).addresses tables.entry said
             × IsWritten self.now.job.now.is_json self.now.path.now (W.contents out) (W.contents result.out) is_right
+            (heading_said self.now.heading self.now.path.now ++ (unread_said unread ++ said))) }
+    {
+        let mut report = Report::new(alloc, self.path, self.job.is_json, labels, out, err);
+        match self.say(alloc, unread, tables, &mut report) {
+            Ok(()) => Ended::all_said(report),
+            Err(stop) => Ended::stopped(report, stop),
+        }
+    }
+
+    // Where the libraries of a program are searched for.
+    fn search(&self) -> Search<'_>
+        ensures { search_view result ≡ search_of (task_of self.now.job.now) }
+    {
+        Search {
+            folders: self.job.searches.as_slice(),
+            has_cache: self.job.has_cache,
+        }
+    }
+
+    // Says what is above the file, and then what is said of the program that was opened by its names alone.
+    fn tell_named<F: Files, W: Write, V: Write>(
+        &self,
+        alloc: Global,
+        files: &F,
+        program: LoadedFile,
+        report: &mut Report<'_, W, V>,
+    ) -> Result<(), Stop>
+        ensures { OnOk result ((said : List Said) × IsNamedSaid (F.known files.now)
+            (search_of (task_of self.now.job.now)) (found_view program) said
+            × (report.new ≡ saying report.old (heading_said self.now.heading self.now.path.now ++ said))) }
+    {
+        self.say_heading(report)?;
+        say_named(alloc, self.search(), files, program, report)
+    }
+
+    /// Says of the program that was opened by its names alone, and of its libraries, which they are.
+    pub(crate) fn say_named<F: Files, W: Write, V: Write>(
+        &self,
+        alloc: Global,
+        files: &F,
+        program: LoadedFile,
+        out: W,
+        err: V,
+    ) -> Ended<W, V>
+        ensures { IfOk result.said (λ is_right. (said : List Said) × IsNamedSaid (F.known files.now)
+            (search_of (task_of self.now.job.now)) (found_view program) said
+            × IsWritten self.now.job.now.is_json self.now.path.now (W.contents out) (W.contents result.out) is_right
             (heading_said self.now.heading self.now.path.now ++ said)) }
     {
-        let mut report = Report::new(self.path, self.job.is_json, labels, out, err);
-        match self.say(alloc, tables, &mut report) {
+        let mut report = Report::new(alloc, self.path, self.job.is_json, NO_LABELS, out, err);
+        match self.tell_named(alloc, files, program, &mut report) {
             Ok(()) => Ended::all_said(report),
             Err(stop) => Ended::stopped(report, stop),
         }
@@ -136,15 +204,17 @@ impl<'j> Target<'j> {
         data: Vec<u8>,
         report: &mut Report<'_, W, V>,
     ) -> Result<(), Stop>
-        ensures { OnOk result ((said : List Said) × IsProgramSaid (F.contents files.now) self.now.job.now.command
+        ensures { OnOk result ((said : List Said) × IsProgramSaid (F.known files.now) self.now.job.now.command
             (task_of self.now.job.now) self.now.path.now «data».items said
             × (report.new ≡ saying report.old (heading_said self.now.heading self.now.path.now ++ said))) }
     {
+        files.has_libraries();
         self.say_heading(report)?;
-        let searches = self.job.searches.as_slice();
         match self.job.command {
-            Command::Bindings => say_bindings(alloc, searches, files, self.path, data, report),
-            _ => say_tree(alloc, searches, files, self.path, data, report),
+            Command::Bindings => {
+                say_bindings(alloc, self.search(), files, self.path, data, report)
+            }
+            _ => say_tree(alloc, self.search(), files, self.path, data, report),
         }
     }
 
@@ -162,8 +232,7 @@ impl<'j> Target<'j> {
             × IsWritten self.now.job.now.is_json self.now.path.now (W.contents out) (W.contents result.out) is_right
             (heading_said self.now.heading self.now.path.now ++ said)) }
     {
-        files.has_libraries();
-        let mut report = Report::new(self.path, self.job.is_json, NO_LABELS, out, err);
+        let mut report = Report::new(alloc, self.path, self.job.is_json, NO_LABELS, out, err);
         match self.say_loaded(alloc, files, data, &mut report) {
             Ok(()) => Ended::all_said(report),
             Err(stop) => Ended::stopped(report, stop),
@@ -173,6 +242,7 @@ impl<'j> Target<'j> {
     /// Says that the file as a whole is wrong.
     pub(crate) fn say_problem<W: Write, V: Write>(
         &self,
+        alloc: Global,
         fault: Fault<'_>,
         out: W,
         err: V,
@@ -181,7 +251,7 @@ impl<'j> Target<'j> {
             (W.contents result.out) is_right
             (heading_said self.now.heading self.now.path.now ++ wrong (whole File) fault.entry ∷ [])) }
     {
-        let mut report = Report::new(self.path, self.job.is_json, NO_LABELS, out, err);
+        let mut report = Report::new(alloc, self.path, self.job.is_json, NO_LABELS, out, err);
         match self.tell(fault, &mut report) {
             Ok(()) => Ended::all_said(report),
             Err(stop) => Ended::stopped(report, stop),

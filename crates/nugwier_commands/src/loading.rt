@@ -1,9 +1,12 @@
-//! A file is read by parts: what a job needs is taken of what is loaded, and where a range is missing, that range is
-//! loaded and the taking begins again. So nothing is written before all is taken.
+//! A source is read by parts: what a job needs is taken of what is loaded, and where a range is missing, that range is
+//! loaded and the taking begins again. So nothing is written before all is taken. Of a file in memory all is loaded.
 ghost use Rattle.std.specs.Prelude.{ℕ, IfOk, List};
-ghost use Rattle.nugwier_commands.specs.inner.Loading.{IsStreamListed, IsSourceListed};
+ghost use Rattle.elf.specs.ElfBytes.{view};
+ghost use Rattle.elf.specs.StreamFile.{listed_file};
+ghost use Rattle.elf_reading.specs.Opening.{headers_of};
+ghost use Rattle.nugwier_commands.specs.inner.Loading.{IsSaidAfter, IsSaidAndWritten, IsSourceListed, IsStreamListed};
 ghost use Rattle.nugwier_listing.specs.Job.{IsSaidOf};
-ghost use Rattle.nugwier_listing.specs.Whole.{whole_file};
+ghost use Rattle.nugwier_listing.specs.Whole.{file_of};
 ghost use Rattle.nugwier_listing.specs.inner.Job.{IsTablesSaid};
 ghost use Rattle.nugwier_report.specs.Said.{Said};
 ghost use Rattle.nugwier_words.specs.Words.{task_of};
@@ -11,14 +14,16 @@ ghost use Rattle.nugwier_words.specs.Words.{task_of};
 use crate::ended::{Ended, Target};
 use crate::preloading::preload;
 use elf::endian::{AnyEndian, EndianParse};
-use elf::{ElfStream, ParseError, StreamSource};
+use elf::{ElfBytes, ElfStream, ParseError, StreamSource};
+use nugwier_listing::in_memory::FileInMemory;
 use nugwier_listing::job::{JobTables, take_job};
 use nugwier_listing::labels::take_labels;
+use nugwier_listing::listed::ListedFile;
 use nugwier_listing::taking::{NotTaken, whole_is_content};
 use nugwier_report::names::Labels;
 use nugwier_report::problem::Stop;
 use nugwier_words::words::Job;
-use std::alloc::Global;
+use std::alloc::{AllocError, Global};
 use std::io::Write;
 
 /// What became of a source: something was said of it; or it cannot be read, and nothing was said yet.
@@ -63,7 +68,7 @@ fn list_stream<E: EndianParse, S: StreamSource, W: Write, V: Write>(
         whole_is_content(stream);
         let range = match take_all(alloc, target.job, &*stream) {
             Ok((labels, tables)) => {
-                return Listed::Said(target.say_taken(alloc, labels, tables, out, err));
+                return Listed::Said(target.say_taken(alloc, None, labels, tables, out, err));
             }
             Err(NotTaken::Missing(range)) => range,
             Err(NotTaken::Memory) => return Listed::Said(stopped(out, err)),
@@ -75,19 +80,61 @@ fn list_stream<E: EndianParse, S: StreamSource, W: Write, V: Write>(
     Listed::Said(stopped(out, err))
 }
 
+/// Lists a file that was opened over these bytes, after it says why its section headers were not read, if they were not.
+pub(crate) fn list_bytes<E: EndianParse, W: Write, V: Write>(
+    alloc: Global,
+    target: Target<'_>,
+    bytes: &[u8],
+    file: &ElfBytes<'_, E>,
+    unread: Option<ParseError>,
+    out: W,
+    err: V,
+) -> Ended<W, V>
+    ensures { IsSaidAndWritten W.contents (IsSaidAfter unread
+        (IsSaidOf E.little E.of_byte (task_of target.entry.job.now) target.entry.path.now (view file.now).ehdr
+        (listed_file E.little (headers_of (view file.now)) bytes.now)))
+        (task_of target.entry.job.now) target.entry.heading target.entry.path.now (W.contents out) result }
+{
+    match FileInMemory::new(alloc, bytes, file) {
+        Ok(file) => list_file(alloc, target, &file, unread, out, err),
+        Err(AllocError) => stopped(out, err),
+    }
+}
+
+// Lists a file of which nothing is missing.
+fn list_file<E: EndianParse, R: ListedFile<E>, W: Write, V: Write>(
+    alloc: Global,
+    target: Target<'_>,
+    file: &R,
+    unread: Option<ParseError>,
+    out: W,
+    err: V,
+) -> Ended<W, V>
+    ensures { IsSaidAndWritten W.contents (IsSaidAfter unread
+        (IsSaidOf E.little E.of_byte (task_of target.entry.job.now) target.entry.path.now (R.header file.now)
+        (file_of (R.file file.now) (R.bytes file.now))))
+        (task_of target.entry.job.now) target.entry.heading target.entry.path.now (W.contents out) result }
+{
+    match take_all(alloc, target.job, file) {
+        Ok((labels, tables)) => target.say_taken(alloc, unread, labels, tables, out, err),
+        // Nothing is missing, so an allocation failed.
+        Err(NotTaken::Missing(_) | NotTaken::Memory) => stopped(out, err),
+    }
+}
+
 // Takes the sections for what is told of them, and what the job needs.
-fn take_all<'f, 'w, E: EndianParse, S: StreamSource>(
+fn take_all<'f, 'w, E: EndianParse, R: ListedFile<E>>(
     alloc: Global,
     job: &'w Job<'w>,
-    stream: &'f ElfStream<E, S, Global>,
+    file: &'f R,
 ) -> Result<(Labels<'f>, JobTables<'f, 'w, E>), NotTaken>
     ensures { IfOk result (λ taken. (path : List ℕ) (said : List Said)
         → IsTablesSaid E.little path (task_of job.now).addresses taken.1 said
-        → IsSaidOf E.little E.of_byte (task_of job.now) path stream.now.headers.ehdr
-        (whole_file E.little stream.now) said) }
+        → IsSaidOf E.little E.of_byte (task_of job.now) path (R.header file.now)
+        (file_of (R.file file.now) (R.bytes file.now)) said) }
 {
-    let labels = take_labels(job, stream)?;
-    let tables = take_job(alloc, job, stream)?;
+    let labels = take_labels(job, file)?;
+    let tables = take_job(alloc, job, file)?;
     Ok((labels, tables))
 }
 

@@ -1,16 +1,21 @@
 //! Runs the program, apart from the operating system.
-ghost use Rattle.std.specs.Prelude.{◌≡◌, ◌++◌, codes, true, IfOk, Ok};
+ghost use Rattle.std.specs.Prelude.{◌≡◌, ◌++◌, codes, true, IfOk, IfSome, Ok};
+ghost use Rattle.elf_linking.specs.Tree.{found_view};
 ghost use Rattle.std.specs.Io.KnownBytes.{Appends};
-ghost use Rattle.nugwier_commands.specs.Run.{IsAnswered, IsBytesSaid, IsProgramSaid, IsRun, has_headings, heading_of};
-ghost use Rattle.nugwier_commands.specs.Run.{status_of};
+ghost use Rattle.elf_reading.specs.Opening.{opened_by_segments};
+ghost use Rattle.elf_records.specs.Endian.{any_is_little, any_of_byte};
+ghost use Rattle.nugwier_commands.specs.Run.{IsAnswered, IsBytesSaid, IsProgramSaid, IsRun, IsUnopenedSaid};
+ghost use Rattle.nugwier_commands.specs.Run.{has_headings, heading_of, status_of, IsTaskAnswered};
 ghost use Rattle.nugwier_commands.specs.inner.Loading.{IsFileEnded, IsOutcomeOf, IsPathEnded, IsSaidAndWritten};
-ghost use Rattle.nugwier_commands.specs.inner.Loading.{IsWordsTold};
+ghost use Rattle.nugwier_commands.specs.inner.Loading.{IsNamed, IsWordsTold};
 ghost use Rattle.nugwier_words.specs.Words.{answer_of, parsed, run as run_answer, task_of};
 
 use crate::ended::{Ended, Target};
-use crate::loading::{Listed, list_source, stopped};
+use crate::loading::{Listed, list_bytes, list_source, stopped};
 use elf::endian::AnyEndian;
-use elf::{ElfBytes, MemSource, ParseError};
+use elf::{ElfBytes, ParseError};
+use elf_linking::tree::LoadedFile;
+use nugwier_files::below::FilesBelow;
 use nugwier_files::files::Files;
 use nugwier_report::kind::Kind;
 use nugwier_report::problem::{Fault, Stop};
@@ -150,7 +155,12 @@ fn run_job<F: Files, W: Write, V: Write>(
         (λ is_right. IsAnswered (F.known files.now) (W.contents out) (W.contents result.out) is_right
         (run_answer (task_of job.now))) }
 {
-    let Ended { said, mut out, err } = run_files(alloc, job, files, out, err);
+    let files = FilesBelow {
+        alloc,
+        root: job.root,
+        files,
+    };
+    let Ended { said, mut out, err } = run_files(alloc, job, &files, out, err);
     match said {
         Ok(is_right) => match out.flush() {
             Ok(()) => Ended {
@@ -180,8 +190,8 @@ fn run_files<F: Files, W: Write, V: Write>(
     mut err: V,
 ) -> Ended<W, V>
     ensures { IfOk result.said
-        (λ is_right. IsAnswered (F.known files.now) (W.contents out) (W.contents result.out) is_right
-        (run_answer (task_of job.now))) }
+        (λ is_right. IsTaskAnswered (F.known files.now) (W.contents out) (W.contents result.out) is_right
+        (task_of job.now)) }
 {
     let mut are_right = true;
     for (place, path) in job.files.as_slice().iter().enumerate() {
@@ -238,12 +248,41 @@ fn run_path<F: Files, W: Write, V: Write>(
         target.entry.path.now (W.contents out) result }
 {
     match target.job.command {
-        Command::Tree | Command::Bindings => run_program(alloc, target, files, out, err),
+        Command::Tree => run_tree(alloc, target, files, out, err),
+        Command::Bindings => run_program(alloc, target, files, out, err),
         _ => run_file(alloc, target, files, out, err),
     }
 }
 
-// A program is read whole, and so are its libraries.
+// The program of a tree is read by parts; one that cannot be read so is read whole.
+fn run_tree<F: Files, W: Write, V: Write>(
+    alloc: Global,
+    target: Target<'_>,
+    files: &F,
+    out: W,
+    err: V,
+) -> Ended<W, V>
+    ensures { target.entry.job.now.command ≡ Command.Tree → IsFileEnded W.contents (F.known files.now)
+        (λ bytes said. IsProgramSaid (F.known files.now) Command.Tree (task_of target.entry.job.now)
+        target.entry.path.now bytes said)
+        (task_of target.entry.job.now) target.entry.heading target.entry.path.now (W.contents out) result }
+{
+    match open_program(alloc, target.path, files) {
+        Some(program) => target.say_named(alloc, files, program, out, err),
+        None => run_program(alloc, target, files, out, err),
+    }
+}
+
+// The program at a path by its names, if it can be read by parts.
+fn open_program<F: Files>(alloc: Global, path: &str, files: &F) -> Option<LoadedFile>
+    ensures { IfSome result (λ program. IfSome (F.known files.now)
+        (λ files. IsNamed path.now (files path.now) (found_view program))) }
+{
+    let source = files.open(path)?;
+    LoadedFile::open_names(alloc, path.as_bytes(), source)
+}
+
+// A program is read whole, and so are the libraries whose symbols are bound.
 fn run_program<F: Files, W: Write, V: Write>(
     alloc: Global,
     target: Target<'_>,
@@ -260,7 +299,7 @@ fn run_program<F: Files, W: Write, V: Write>(
         Ok(data) => target.say_program(alloc, files, data, out, err),
         Err(error) => match error.kind() {
             io::ErrorKind::OutOfMemory => stopped(out, err),
-            _ => target.say_problem(Fault::System(error), out, err),
+            _ => target.say_problem(alloc, Fault::System(error), out, err),
         },
     }
 }
@@ -302,7 +341,7 @@ fn run_whole<F: Files, W: Write, V: Write>(
         Ok(bytes) => run_bytes(alloc, target, bytes.as_slice(), out, err),
         Err(error) => match error.kind() {
             io::ErrorKind::OutOfMemory => stopped(out, err),
-            _ => target.say_problem(Fault::System(error), out, err),
+            _ => target.say_problem(alloc, Fault::System(error), out, err),
         },
     }
 }
@@ -317,13 +356,32 @@ fn run_bytes<W: Write, V: Write>(
     ensures { IsSaidAndWritten W.contents (IsBytesSaid (task_of target.entry.job.now) target.entry.path.now bytes.now)
         (task_of target.entry.job.now) target.entry.heading target.entry.path.now (W.contents out) result }
 {
-    let opened: Result<ElfBytes<'_, AnyEndian>, ParseError> = ElfBytes::minimal_parse(bytes);
-    match opened {
-        Ok(_) => match list_source(alloc, target, MemSource::new(bytes), out, err) {
-            Listed::Said(ended) => ended,
-            // Memory cannot fail as a source, so an allocation failed.
-            Listed::Unread(_, out, err) => stopped(out, err),
-        },
-        Err(error) => target.say_problem(Fault::Read(error), out, err),
+    match ElfBytes::<AnyEndian>::minimal_parse(bytes) {
+        Ok(file) => list_bytes(alloc, target, bytes, &file, None, out, err),
+        Err(error) => run_unopened(alloc, target, bytes, error, out, err),
+    }
+}
+
+// The same of a file that does not open. If its section headers alone cannot be read, it is read through its segments,
+// unless it is checked: it is not sound.
+fn run_unopened<W: Write, V: Write>(
+    alloc: Global,
+    target: Target<'_>,
+    bytes: &[u8],
+    error: ParseError,
+    out: W,
+    err: V,
+) -> Ended<W, V>
+    ensures { let task = task_of target.entry.job.now in IsSaidAndWritten W.contents
+        (IsUnopenedSaid task.command task target.entry.path.now bytes.now error
+        (opened_by_segments any_is_little any_of_byte bytes.now))
+        task target.entry.heading target.entry.path.now (W.contents out) result }
+{
+    if matches!(target.job.command, Command::Check) {
+        return target.say_problem(alloc, Fault::Read(error), out, err);
+    }
+    match ElfBytes::<AnyEndian>::parse_by_segments(bytes) {
+        Ok(file) => list_bytes(alloc, target, bytes, &file, Some(error), out, err),
+        Err(_) => target.say_problem(alloc, Fault::Read(error), out, err),
     }
 }

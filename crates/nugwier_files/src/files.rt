@@ -1,8 +1,10 @@
 //! Files by their paths.
 ghost use Rattle.std.specs.Prelude.{◌≡◌, ◌⊎◌, ℕ, List, None, Option, Some, IfErr, IfOk, IfSome};
 ghost use Rattle.std.specs.IoError.{error_kind};
+ghost use Rattle.nugwier_files.specs.Opening.{IsOpening};
 ghost use Rattle.std.specs.declared.io.ErrorKind.TheVariants.{OutOfMemory};
 
+use crate::opening::Opening;
 use elf::StreamSource;
 use elf_linking::tree::Libraries;
 use std::io;
@@ -19,6 +21,10 @@ pub trait Files: Libraries {
     fn open(&self, path: &str) -> Option<Self::Source>
         ensures { IfSome result (λ source. IfSome (known self.now) (λ files. (bytes : List ℕ)
             × (files path.now ≡ Some bytes) × (Self.Source.content source ≡ Some bytes))) };
+
+    /// Opens the library at a path, so that it can be read by parts.
+    fn open_library(&self, path: &[u8]) -> Opening<Self::Source>
+        ensures { IfSome (known self.now) (λ files. IsOpening Self.Source.content (files path.now) result) };
 
     /// Returns the content of the whole file at a path, or the error of the system: that there is no such file, or that
     /// an allocation failed. `-` is standard input.

@@ -4,6 +4,7 @@ ghost use Rattle.std.specs.Option.{option_map};
 ghost use Rattle.elf_linking.specs.Tree.{content_in};
 
 use crate::files::Files;
+use crate::opening::Opening;
 use elf::MemSource;
 use elf_linking::tree::Libraries;
 use elf_linking::tree::memory::MemFile;
@@ -50,6 +51,13 @@ impl<'a> Files for MemFiles<'a> {
     fn open(&self, path: &str) -> Option<MemSource<'a>> {
         let bytes = self.find(path.as_bytes())?;
         Some(MemSource::new(bytes))
+    }
+
+    fn open_library(&self, path: &[u8]) -> Opening<MemSource<'a>> {
+        match self.find(path) {
+            Some(bytes) => Opening::Parts(MemSource::new(bytes)),
+            None => Opening::Missing,
+        }
     }
 
     fn read(&self, path: &str) -> io::Result<Vec<u8>> {

@@ -2,11 +2,13 @@
 ghost use Rattle.std.specs.Prelude.{None};
 
 use crate::files::Files;
+use crate::opening::Opening;
 use elf::FileSource;
 use elf_linking::tree::Libraries;
 use std::alloc::AllocError;
 use std::fs::File;
 use std::io::Read;
+use std::os::unix::fs::FileTypeExt;
 use std::str::from_utf8;
 use std::{fs, io};
 
@@ -38,6 +40,20 @@ impl Files for SystemFiles<'_> {
         Some(FileSource::new(file))
     }
 
+    fn open_library(&self, path: &[u8]) -> Opening<FileSource> {
+        let Ok(path) = from_utf8(path) else {
+            return Opening::Missing;
+        };
+        match open_regular(self.rt, path) {
+            Ok(Some(file)) => Opening::Parts(FileSource::new(file)),
+            Ok(None) => Opening::Missing,
+            Err(error) => match error.kind() {
+                io::ErrorKind::OutOfMemory => Opening::Whole,
+                _ => Opening::Missing,
+            },
+        }
+    }
+
     // Standard input is read through its own handle, since the system may not allow opening it again.
     fn read(&self, path: &str) -> io::Result<Vec<u8>> {
         match path {
@@ -67,12 +83,19 @@ impl Libraries for SystemFiles<'_> {
     }
 }
 
-// Reads a file if it is a regular one: another one may wait for someone to write it, or have no end.
-fn read_regular(rt: &HostRuntime, path: &str) -> io::Result<Option<Vec<u8>>> {
+// Opens a file if it is a regular one: another one may wait for someone to write it, or have no end.
+fn open_regular(rt: &HostRuntime, path: &str) -> io::Result<Option<File>> {
     if !fs::metadata(rt, path)?.is_file() {
         return Ok(None);
     }
-    Ok(Some(read_file(rt, path)?))
+    Ok(Some(File::open(rt, path)?))
+}
+
+fn read_regular(rt: &HostRuntime, path: &str) -> io::Result<Option<Vec<u8>>> {
+    match open_regular(rt, path)? {
+        Some(file) => Ok(Some(read_to_length(rt, file)?)),
+        None => Ok(None),
+    }
 }
 
 fn read_standard_input(rt: &HostRuntime) -> io::Result<Vec<u8>> {
@@ -81,10 +104,25 @@ fn read_standard_input(rt: &HostRuntime) -> io::Result<Vec<u8>> {
     Ok(data)
 }
 
-// Reads a file into a buffer of the length that the system reports. The buffer grows if the file is longer.
+// Reads a file. A device is refused, since it may have no end. A pipe ends where its writer closes it.
 fn read_file(rt: &HostRuntime, path: &str) -> io::Result<Vec<u8>> {
+    let kind = fs::metadata(rt, path)?.file_type();
+    if kind.is_char_device() || kind.is_block_device() {
+        return Err(io::Error::new(io::ErrorKind::InvalidInput, "is a device"));
+    }
     let mut file = File::open(rt, path)?;
-    let mut data = Vec::with_capacity(rt.alloc(), file.metadata()?.len() as usize)?;
+    if kind.is_file() {
+        return read_to_length(rt, file);
+    }
+    let mut data = Vec::new(rt.alloc());
     file.read_to_end(&mut data)?;
+    Ok(data)
+}
+
+// Reads a regular file up to the length that the system reports: some files of the system have more, without end.
+fn read_to_length(rt: &HostRuntime, file: File) -> io::Result<Vec<u8>> {
+    let length = file.metadata()?.len();
+    let mut data = Vec::with_capacity(rt.alloc(), length as usize)?;
+    file.take(length).read_to_end(&mut data)?;
     Ok(data)
 }

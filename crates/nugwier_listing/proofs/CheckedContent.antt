@@ -7,10 +7,10 @@ use Rattle.elf_records.specs.declared.parse.ParseError.{ParseError}
 use Rattle.elf_records.specs.inner.RecordLaws.{bytes_at-from}
 use Rattle.elf_reading.specs.Opening.{FileView, opened_file}
 use Rattle.elf.specs.ElfStream.{IsOfFile, StreamView}
-use Rattle.elf.specs.Loaded.{AreLoadedOf}
+use Rattle.elf.specs.Loaded.{AreLoadedOf, streamed_file}
 use Rattle.elf_check.specs.declared.faults.FileFault.{FileFault}
 use Rattle.nugwier_listing.specs.Check.{AreContentFaults, AreFoundFaults, AreOpenedFaults, AreReadFaults, AreFaultsOf}
-use Rattle.nugwier_listing.specs.Whole.{range_by, whole_file}
+use Rattle.nugwier_listing.specs.Whole.{range_by, stream_range, file_of}
 
 all_read : (bytes : List ℕ) → length bytes < 2 ^ 64 → bytes_at (length bytes) bytes 0 ≡ Ok bytes
 all_read bytes fits = bytes_at-from (length bytes) bytes 0 (omega (arith, fits)) (omega arith) ∙ ap Ok (take_all (length bytes) bytes (omega arith))
@@ -27,5 +27,5 @@ module _ {E : Type 0} (little : E → Bool) (of_byte : ℕ → Option E) (s : St
       let read : AreOpenedFaults little of_byte (opened_file little of_byte bytes) found = subst (λ (r : Result (List ℕ) ParseError). AreReadFaults little of_byte r found) same h in
       (is.0, is.1, found_faults is.0 found (subst (λ (r : Result (FileView E) ParseError). AreOpenedFaults little of_byte r found) is.1 read))
 
-  pub checked_content : IfSome s.content (λ bytes. AreLoadedOf little s bytes) → IfSome s.content (λ bytes. IsOfFile little of_byte bytes s) → IfSome s.content (λ bytes. length bytes < 2 ^ 64) → IfSome s.content (λ bytes. (found : Result (List FileFault) ParseError) → AreFaultsOf little of_byte (whole_file little s) found → AreContentFaults little of_byte bytes found)
+  pub checked_content : IfSome s.content (λ bytes. AreLoadedOf little s bytes) → IfSome s.content (λ bytes. IsOfFile little of_byte bytes s) → IfSome s.content (λ bytes. length bytes < 2 ^ 64) → IfSome s.content (λ bytes. (found : Result (List FileFault) ParseError) → AreFaultsOf little of_byte (file_of (streamed_file little s) (stream_range s)) found → AreContentFaults little of_byte bytes found)
   checked_content of is fits = by_content s.content of is fits

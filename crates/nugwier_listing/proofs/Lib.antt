@@ -1,5 +1,6 @@
 -- what is loaded of a stream, beside its file
 pub mod Taken
 pub mod CheckedContent
+pub mod Viewed
 -- the number that a word is
 pub mod Numbers

@@ -1,5 +1,5 @@
 -- What is loaded of a stream, beside its file.
-use Rattle.std.proofs.Common.{◌≡◌, inl, inr, ℕ, Bool, true, List, Option, Some, None, Result, Ok, Err, refl, sym, ap, ◌∙◌}
+use Rattle.std.proofs.Common.{◌≡◌, ◌==◌, inl, inr, ℕ, Bool, true, List, Option, Some, None, Result, Ok, Err, refl, sym, ap, ◌∙◌}
 use Rattle.std.specs.Prelude.{IfOk, IfSome}
 use Rattle.elf_records.specs.Number.{bytes_at, ok_map}
 use Rattle.elf_records.specs.declared.parse.ParseError.{ParseError}
@@ -13,11 +13,13 @@ use Rattle.elf.specs.declared.read_error.ReadError.TheVariants.{Parse, NotLoaded
 use Rattle.elf.specs.Answers.{symbols_in, symbols_of, with_linked}
 use Rattle.elf.specs.Headers.{if_found}
 use Rattle.elf.specs.Names.{name_section, name_table}
-use Rattle.elf.specs.ObjectFile.{FileOf, Partial, section_part}
+use Rattle.elf.specs.ObjectFile.{FileOf, Partial, section_part, table_of}
 use Rattle.elf.specs.Parts.{loaded}
-use Rattle.elf.proofs.Partly.{follows_bind, follows_found, linked_follows, section_follows}
+use Rattle.elf.proofs.Partly.{follows_bind, follows_found, follows_if, follows_map, linked_follows, section_follows}
+use Rattle.elf.specs.Data.{content, content_of_type, section_data}
+use Rattle.elf_dynamic.specs.Relr.{section_data_as_relr, sht_relr}
 use Rattle.elf_records.specs.declared.section.SectionHeader.{SectionHeader}
-use Rattle.nugwier_listing.specs.Whole.{range_by, whole_file}
+use Rattle.nugwier_listing.specs.Whole.{range_by, stream_range, file_of}
 
 -- any range may be missing
 any_missing : {A : Type 0} (is_missing : ℕ × ℕ → Bool) (whole : Result A ParseError) (part : Result A ReadError) → Follows is_missing whole part → Follows (λ _. true) whole part
@@ -34,15 +36,15 @@ range_follows : {E : Type 0} (little : E → Bool) (s : StreamView E) (known : O
 range_follows little s (Some bytes) of start size = any_missing (is_not_cached s) (bytes_at size bytes start) (loaded_ranges s start size) (of.part start size)
 range_follows little s None of start size = unknown_follows (loaded_ranges s start size)
 
-pub part_of_whole : {E : Type 0} (little : E → Bool) (s : StreamView E) → IfSome s.content (λ bytes. AreLoadedOf little s bytes) → ArePartOf (whole_file little s) (λ _. true) (loaded_ranges s)
+pub part_of_whole : {E : Type 0} (little : E → Bool) (s : StreamView E) → IfSome s.content (λ bytes. AreLoadedOf little s bytes) → ArePartOf (file_of (streamed_file little s) (stream_range s)) (λ _. true) (loaded_ranges s)
 part_of_whole little s of = range_follows little s s.content of
 
 -- with a known content
-content_same : {E : Type 0} (little : E → Bool) (s : StreamView E) (known : Option (List ℕ)) → IfSome known (λ bytes. AreLoadedOf little s bytes) → IfSome known (λ bytes. record (streamed_file little s) { range = range_by s known } ≡ stream_file little s bytes)
+content_same : {E : Type 0} (little : E → Bool) (s : StreamView E) (known : Option (List ℕ)) → IfSome known (λ bytes. AreLoadedOf little s bytes) → IfSome known (λ bytes. file_of (streamed_file little s) (range_by s known) ≡ stream_file little s bytes)
 content_same little s (Some bytes) of = ap (λ size. record (stream_file little s bytes) { size = size }) of.size
 content_same little s None of = tt
 
-pub whole_same : {E : Type 0} (little : E → Bool) (s : StreamView E) → IfSome s.content (λ bytes. AreLoadedOf little s bytes) → IfSome s.content (λ bytes. whole_file little s ≡ stream_file little s bytes)
+pub whole_same : {E : Type 0} (little : E → Bool) (s : StreamView E) → IfSome s.content (λ bytes. AreLoadedOf little s bytes) → IfSome s.content (λ bytes. file_of (streamed_file little s) (stream_range s) ≡ stream_file little s bytes)
 whole_same little s of = content_same little s s.content of
 
 -- what is had of a part is that of the whole
@@ -90,3 +92,10 @@ module _ (whole : ObjectFile) (range : Ranges) (is_missing : ℕ × ℕ → Bool
 
   pub symbols_follow : (s : SectionHeader) → Follows is_missing (symbols_of whole s) (symbols_of part s)
   symbols_follow s = follows_bind is_missing (with_linked whole s) (with_linked part s) (symbols_in whole) (symbols_in part) (linked_follows whole range is_missing s) both_follow
+
+module _ (whole : ObjectFile) (range : Ranges) (is_missing : ℕ × ℕ → Bool) (s : SectionHeader) where
+  pub relr_follows : Follows is_missing (section_data whole s) (section_data (loaded whole range) s) → Follows is_missing (section_data_as_relr whole s) (section_data_as_relr (loaded whole range) s)
+  relr_follows read =
+      follows_map is_missing (table_of whole) (content_of_type sht_relr whole s) (content_of_type sht_relr (loaded whole range) s)
+      (follows_if is_missing (s.sh_type == sht_relr) (content whole s) (content (loaded whole range) s) _ _
+      (follows_map is_missing (λ found. found.0) (section_data whole s) (section_data (loaded whole range) s) read) (inl refl))

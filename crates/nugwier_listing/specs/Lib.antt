@@ -1,7 +1,9 @@
--- the file that a stream is of
+-- the file of which a part is loaded
 pub mod Whole
 -- what is said of what was read
 pub mod Read
+-- the symbols for dynamic linking
+pub mod Linked
 -- what is said of each part of a file
 pub mod Identity
 pub mod Plan

@@ -1,15 +1,17 @@
 -- What is said of the symbols of a file.
 use Rattle.std.specs.Prelude.{ℕ, List, [], ◌∷◌, ◌++◌, Option, None, Result}
-use Rattle.elf.specs.Answers.{dynamic_symbol_table, symbol_table, symbol_version_table}
-use Rattle.elf.specs.ObjectFile.{ObjectFile}
+use Rattle.elf.specs.Answers.{symbol_table}
+use Rattle.elf.specs.ObjectFile.{ObjectFile, err_map}
 use Rattle.elf_parts.specs.gnu_symver.Table.{Versions}
 use Rattle.elf_records.specs.Symbol.{symbol_reads}
 use Rattle.elf_records.specs.Table.{Table, table_items}
-use Rattle.elf_records.specs.declared.parse.ParseError.{ParseError}
-use Rattle.nugwier_listing.specs.Read.{answer_said, if_read, missing}
-use Rattle.nugwier_report.specs.Said.{Said, numbered, states, unread, whole}
+use Rattle.nugwier_listing.specs.Linked.{linked_symbols, linked_versions}
+use Rattle.nugwier_listing.specs.Read.{fault_said, found_said, if_read, missing}
+use Rattle.nugwier_report.specs.Said.{Said, numbered, states, whole}
 use Rattle.nugwier_report.specs.Symbols.{Manner, all_fields, by_letter, exports_alone, symbol_said}
 use Rattle.nugwier_report.specs.declared.kind.Kind.TheVariants as kind
+use Rattle.nugwier_report.specs.declared.problem.Fault.{Fault}
+use Rattle.nugwier_report.specs.declared.problem.Fault.TheVariants.{Read}
 use Rattle.nugwier_report.specs.declared.problem.Part.{Part}
 use Rattle.nugwier_report.specs.declared.problem.Part.TheVariants.{DynamicSymbols, Symbols, Versions as VersionPart}
 
@@ -24,11 +26,11 @@ abbrev pub plain_said : Table × List ℕ → List Said
 plain_said symbols = states kind.SymbolsHeading [] ∷ rows_said all_fields Symbols None symbols
 
 -- all symbols, if there are any
-abbrev pub all_said : Result (Option (Table × List ℕ)) ParseError → List Said
-all_said symbols = answer_said Symbols [] plain_said symbols
+abbrev pub all_said : Result (Option (Table × List ℕ)) Fault → List Said
+all_said symbols = found_said Symbols [] plain_said symbols
 
 abbrev pub said_of_symbols : ObjectFile → List Said
-said_of_symbols file = all_said (symbol_table file)
+said_of_symbols file = all_said (err_map Read (symbol_table file))
 
 -- ---- the symbols for dynamic linking
 
@@ -38,9 +40,9 @@ heading_said (by_letter class sections) = []
 heading_said exports_alone = []
 
 -- that the versions cannot be read, then the symbols
-abbrev pub versioned_said : Manner → Result (Option Versions) ParseError → Table × List ℕ → List Said
+abbrev pub versioned_said : Manner → Result (Option Versions) Fault → Table × List ℕ → List Said
 versioned_said manner versions symbols =
-    unread (whole VersionPart) versions ++ heading_said manner
+    fault_said (whole VersionPart) versions ++ heading_said manner
     ++ rows_said manner DynamicSymbols (if_read versions) symbols
 
 -- if there are none: a listing of all fields needs none
@@ -51,8 +53,7 @@ none_said exports_alone = missing DynamicSymbols
 
 abbrev pub said_of_linked : Manner → ObjectFile → List Said
 said_of_linked manner file =
-    answer_said DynamicSymbols (none_said manner) (versioned_said manner (symbol_version_table file))
-    (dynamic_symbol_table file)
+    found_said DynamicSymbols (none_said manner) (versioned_said manner (linked_versions file)) (linked_symbols file)
 
 -- all symbols for dynamic linking with their versions, if there are any
 abbrev pub said_of_dynamic_symbols : ObjectFile → List Said

@@ -1,3 +1,5 @@
+-- what was found through the segments
+pub mod Linked
 -- what is said of what was taken
 pub mod Sections
 -- the symbols that were taken

@@ -4,14 +4,15 @@ ghost use Rattle.std.specs.Option.{option_map};
 ghost use Rattle.elf.specs.Answers.{symbols_view};
 ghost use Rattle.elf_records.specs.Number.{ok_map};
 ghost use Rattle.nugwier_listing.specs.Addresses.{AreEachSaid, AreSaidBy, all_symbols};
-ghost use Rattle.nugwier_listing.specs.Whole.{whole_file};
+ghost use Rattle.nugwier_listing.specs.Whole.{file_of};
 ghost use Rattle.nugwier_report.specs.Said.{Said, saying};
 
+use crate::linked::linked_symbols;
+use crate::listed::ListedFile;
 use crate::taking;
 use crate::taking::{FoundSymbols, NotTaken, Symbols};
 use elf::endian::EndianParse;
 use elf::string_table::TerminatedStrings;
-use elf::{ElfStream, StreamSource};
 use elf_tools::addresses::Addresses;
 use nugwier_report::addresses::AddressRow;
 use nugwier_report::problem::{Fault, Part, Stop};
@@ -21,16 +22,16 @@ use std::alloc::Global;
 use std::io::Write;
 
 /// Takes the symbols of the section of type `SHT_SYMTAB`, or if there is none those for dynamic linking.
-pub(crate) fn take_all_symbols<'f, E: EndianParse, S: StreamSource>(
-    stream: &'f ElfStream<E, S, Global>,
+pub(crate) fn take_all_symbols<'f, E: EndianParse, R: ListedFile<E>>(
+    file: &'f R,
 ) -> Result<FoundSymbols<'f, E>, NotTaken>
     ensures { IfOk result (λ found. ok_map (option_map symbols_view) found
-        ≡ all_symbols (whole_file E.little stream.now)) }
+        ≡ all_symbols (file_of (R.file file.now) (R.bytes file.now))) }
 {
-    match taking::symbols(stream)? {
+    match taking::symbols(file)? {
         Ok(Some(symbols)) => Ok(Ok(Some(symbols))),
-        Ok(None) => taking::dynamic_symbols(stream),
-        Err(error) => Ok(Err(error)),
+        Ok(None) => linked_symbols(file),
+        Err(fault) => Ok(Err(fault)),
     }
 }
 
@@ -49,7 +50,7 @@ pub(crate) fn say_addresses<E: EndianParse, W: Write, V: Write>(
     match symbols {
         Ok(Some(symbols)) => say_each(alloc, symbols, addresses, report),
         Ok(None) => report.problem(Part::Symbols.whole(), Fault::Missing),
-        Err(error) => report.problem(Part::Symbols.whole(), Fault::Read(error)),
+        Err(fault) => report.problem(Part::Symbols.whole(), fault),
     }
 }
 

@@ -1,6 +1,7 @@
 //! Whether a file is sound, and its faults. It is read whole.
 ghost use Rattle.std.specs.Prelude.{◌≡◌, ◌<◌, ◌^◌, List, Result, IfOk, IfSome, OnOk, length};
 ghost use Rattle.elf.specs.ElfBytes.{view};
+ghost use Rattle.elf.specs.Loaded.{streamed_file};
 ghost use Rattle.elf.specs.ObjectFile.{object_file};
 ghost use Rattle.elf_records.specs.Number.{ok_map};
 ghost use Rattle.elf_records.specs.declared.parse.ParseError.{ParseError};
@@ -8,9 +9,10 @@ ghost use Rattle.elf_reading.specs.Opening.{opened_file};
 ghost use Rattle.elf_check.specs.AllFaults.{AreAllFaults};
 ghost use Rattle.elf_check.specs.declared.faults.FileFault.{FileFault};
 ghost use Rattle.nugwier_listing.specs.Check.{AreContentFaults, AreFaultsOf, AreFoundSaid, AreOpenedFaults};
-ghost use Rattle.nugwier_listing.specs.Whole.{whole_file};
+ghost use Rattle.nugwier_listing.specs.Whole.{stream_range, file_of};
 ghost use Rattle.nugwier_report.specs.Said.{Said, saying};
 
+use crate::listed::ListedFile;
 use crate::taking;
 use crate::taking::NotTaken;
 use elf::endian::EndianParse;
@@ -30,14 +32,14 @@ const PLACES: usize = 32_768;
 pub type Checked = Result<Vec<FileFault>, ParseError>;
 
 /// Takes all faults of a file.
-pub(crate) fn take_check<E: EndianParse, S: StreamSource>(
+pub(crate) fn take_check<E: EndianParse, R: ListedFile<E>>(
     alloc: Global,
-    stream: &ElfStream<E, S, Global>,
+    file: &R,
 ) -> Result<Checked, NotTaken>
-    ensures { IfOk result (λ checked. AreFaultsOf E.little E.of_byte (whole_file E.little stream.now)
+    ensures { IfOk result (λ checked. AreFaultsOf E.little E.of_byte (file_of (R.file file.now) (R.bytes file.now))
         (ok_map (λ faults. faults.items) checked)) }
 {
-    match taking::whole_bytes(stream)? {
+    match taking::whole_bytes(file)? {
         Ok(bytes) => Ok(checked::<E>(alloc, bytes)?),
         Err(error) => Ok(Err(error)),
     }
@@ -46,7 +48,7 @@ pub(crate) fn take_check<E: EndianParse, S: StreamSource>(
 /// States that the faults of a stream over known content are all faults of the file that the content holds.
 pub(crate) fn content_is_checked<E: EndianParse, S: StreamSource>(stream: &ElfStream<E, S, Global>)
     ensures { IfSome stream.now.content (λ bytes. (found : Result (List FileFault) ParseError) →
-        AreFaultsOf E.little E.of_byte (whole_file E.little stream.now) found →
+        AreFaultsOf E.little E.of_byte (file_of (streamed_file E.little stream.now) (stream_range stream.now)) found →
         AreContentFaults E.little E.of_byte bytes found) }
 {
     stream.is_of_file();

@@ -8,21 +8,22 @@ ghost use Rattle.nugwier_listing.specs.Contents.{found_said, heading_members, he
 ghost use Rattle.nugwier_listing.specs.Contents.{number_in, or_numbered, said_of_contents, section_of_number};
 ghost use Rattle.nugwier_listing.specs.Headings.{known_names};
 ghost use Rattle.nugwier_listing.specs.Read.{read_said};
-ghost use Rattle.nugwier_listing.specs.Whole.{whole_file};
+ghost use Rattle.nugwier_listing.specs.Whole.{file_of};
 ghost use Rattle.nugwier_listing.specs.inner.Contents.{bytes_view, found_view, part_said};
 ghost use Rattle.nugwier_report.specs.Noted.{members_said};
 ghost use Rattle.nugwier_report.specs.Said.{saying};
 ghost use Rattle.nugwier_report.specs.declared.problem.Part.TheVariants.{Section};
 
 use crate::headings::known_names;
+use crate::listed::ListedFile;
 use crate::parts::TakenPart;
 use crate::taking;
 use crate::taking::NotTaken;
+use elf::ParseError;
 use elf::endian::EndianParse;
 use elf::headers::Headers;
 use elf::section::SectionHeader;
 use elf::string_table::TerminatedStrings;
-use elf::{ElfStream, ParseError, StreamSource};
 use nugwier_report::contents::{say_data, say_strings};
 use nugwier_report::json::{Member, Value};
 use nugwier_report::kind::Kind;
@@ -53,82 +54,82 @@ impl TakenPart for ContentPart<'_, '_> {
 }
 
 /// Takes the content of sections, in order. Of no section, nothing is read.
-pub(crate) fn take_contents<'w, 'f, E: EndianParse, S: StreamSource>(
+pub(crate) fn take_contents<'w, 'f, E: EndianParse, R: ListedFile<E>>(
     alloc: Global,
-    stream: &'f ElfStream<E, S, Global>,
+    file: &'f R,
     contents: &[Wanted<'w>],
 ) -> Result<Vec<ContentPart<'w, 'f>>, NotTaken>
     ensures { IfOk result (λ parts. flat_map part_said parts.items
-        ≡ said_of_contents (whole_file E.little stream.now) contents.now) }
+        ≡ said_of_contents (file_of (R.file file.now) (R.bytes file.now)) contents.now) }
 {
     let mut parts = Vec::new(alloc);
     if contents.is_empty() {
         return Ok(parts);
     }
-    let names = known_names(stream)?;
+    let names = known_names(file)?;
     for wanted in contents {
-        add_content(stream, &names, *wanted, &mut parts)?;
+        add_content(file, &names, *wanted, &mut parts)?;
     }
     Ok(parts)
 }
 
 // Takes the content of a section, and adds it.
-fn add_content<'w, 'f, E: EndianParse, S: StreamSource>(
-    stream: &'f ElfStream<E, S, Global>,
+fn add_content<'w, 'f, E: EndianParse, R: ListedFile<E>>(
+    file: &'f R,
     names: &Option<TerminatedStrings<'f>>,
     wanted: Wanted<'w>,
     parts: &mut Vec<ContentPart<'w, 'f>>,
 ) -> Result<(), NotTaken>
-    ensures { let whole = whole_file E.little stream.now in
+    ensures { let whole = file_of (R.file file.now) (R.bytes file.now) in
         names.now ≡ known_names whole → OnOk result (flat_map part_said parts.new.items
         ≡ flat_map part_said parts.old.items ++ content_said whole wanted.entry) }
 {
-    let part = take_content(stream, names, wanted)?;
+    let part = take_content(file, names, wanted)?;
     parts.push(part)?;
     Ok(())
 }
 
 // Takes the content of a section, by its name or its number.
-fn take_content<'w, 'f, E: EndianParse, S: StreamSource>(
-    stream: &'f ElfStream<E, S, Global>,
+fn take_content<'w, 'f, E: EndianParse, R: ListedFile<E>>(
+    file: &'f R,
     names: &Option<TerminatedStrings<'f>>,
     wanted: Wanted<'w>,
 ) -> Result<ContentPart<'w, 'f>, NotTaken>
-    ensures { let whole = whole_file E.little stream.now in
+    ensures { let whole = file_of (R.file file.now) (R.bytes file.now) in
         names.now ≡ known_names whole → IfOk result (λ part. part_said part ≡ content_said whole wanted.entry) }
 {
-    let section = section_of(stream, names, wanted.section);
-    let found = take_found(stream, section)?;
+    let section = section_of(file, names, wanted.section);
+    let found = take_found(file, section)?;
     Ok(ContentPart { wanted, found })
 }
 
 // Takes the bytes of a section, if there is one.
-fn take_found<'f, E: EndianParse, S: StreamSource>(
-    stream: &'f ElfStream<E, S, Global>,
+fn take_found<'f, E: EndianParse, R: ListedFile<E>>(
+    file: &'f R,
     section: Option<(usize, SectionHeader)>,
 ) -> Result<Option<(u64, Result<&'f [u8], ParseError>)>, NotTaken>
     ensures { IfOk result (λ found. option_map found_view found
-        ≡ option_map (content_of (whole_file E.little stream.now)) section) }
+        ≡ option_map (content_of (file_of (R.file file.now) (R.bytes file.now))) section) }
 {
     let Some((number, section)) = section else {
         return Ok(None);
     };
-    let bytes = taking::content(stream, &section)?;
+    let bytes = taking::content(file, &section)?;
     Ok(Some((number as u64, bytes)))
 }
 
 // The first section that has the word as its name; or if none has, the one whose number it is.
-fn section_of<E: EndianParse, S: StreamSource>(
-    stream: &ElfStream<E, S, Global>,
+fn section_of<E: EndianParse, R: ListedFile<E>>(
+    file: &R,
     names: &Option<TerminatedStrings<'_>>,
     word: &str,
 ) -> Option<(usize, SectionHeader)>
-    ensures { let whole = whole_file E.little stream.now in
+    ensures { let whole = file_of (R.file file.now) (R.bytes file.now) in
         result ≡ or_numbered whole word.now (first_named whole.sections word.now names.now) }
 {
-    match first_named(stream.section_headers().as_slice(), names, word) {
+    match first_named(file.section_list(), names, word) {
         Some(one) => Some(one),
-        None => section_of_number(stream, number_in(word)?),
+        None => section_of_number(file, number_in(word)?),
     }
 }
 
@@ -157,13 +158,14 @@ fn first_in(
         .iter()
         .copied()
         .enumerate()
-        .find(|one| has_name(names, &one.1, name))
+        .find(|one| has_name(names, &one.1, name.as_bytes()))
 }
 
-fn has_name(names: &TerminatedStrings<'_>, section: &SectionHeader, name: &str) -> bool
+/// Whether a section has a name.
+pub(crate) fn has_name(names: &TerminatedStrings<'_>, section: &SectionHeader, name: &[u8]) -> bool
     ensures { result ≡ has_name names.now name.now section.now }
 {
-    match names.is(section.sh_name as usize, name.as_bytes()) {
+    match names.is(section.sh_name as usize, name) {
         Ok(is_same) => is_same,
         Err(_) => false,
     }
@@ -177,13 +179,13 @@ fn number_in(word: &str) -> Option<usize>
 }
 
 // The section of a number.
-fn section_of_number<E: EndianParse, S: StreamSource>(
-    stream: &ElfStream<E, S, Global>,
+fn section_of_number<E: EndianParse, R: ListedFile<E>>(
+    file: &R,
     number: usize,
 ) -> Option<(usize, SectionHeader)>
-    ensures { result ≡ section_of_number (whole_file E.little stream.now) number }
+    ensures { result ≡ section_of_number (file_of (R.file file.now) (R.bytes file.now)) number }
 {
-    match stream.section_at(number) {
+    match file.section_at(number) {
         Ok(section) => Some((number, section)),
         Err(_) => None,
     }

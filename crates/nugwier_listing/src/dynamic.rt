@@ -4,16 +4,17 @@ ghost use Rattle.std.specs.Option.{option_map};
 ghost use Rattle.std.specs.Result.{result_ok};
 ghost use Rattle.elf_records.specs.Number.{ok_map};
 ghost use Rattle.nugwier_listing.specs.Dynamic.{each_said, entries_of, names_fault, names_said, strings_missed};
-ghost use Rattle.nugwier_listing.specs.Whole.{whole_file};
+ghost use Rattle.nugwier_listing.specs.Whole.{file_of};
 ghost use Rattle.nugwier_listing.specs.inner.Dynamic.{entries_said, entries_view, needed_said};
 ghost use Rattle.nugwier_report.specs.Said.{saying};
 
+use crate::listed::ListedFile;
 use crate::taking;
 use crate::taking::NotTaken;
+use elf::ParseError;
 use elf::dynamic::Dyn;
 use elf::endian::EndianParse;
 use elf::string_table::{StringTable, TerminatedStrings};
-use elf::{ElfStream, ParseError, StreamSource};
 use elf_linking::needed::{NamesError, entries_in};
 use nugwier_report::dynamic::{EntryRow, NeededRow};
 use nugwier_report::kind::Kind;
@@ -34,17 +35,17 @@ pub struct DynamicEntries<'f> {
 pub type FoundEntries<'f> = Result<Option<DynamicEntries<'f>>, ParseError>;
 
 /// Takes the dynamic entries, if there are any, and the strings that they name.
-pub(crate) fn take_dynamic<'f, E: EndianParse, S: StreamSource>(
+pub(crate) fn take_dynamic<'f, E: EndianParse, R: ListedFile<E>>(
     alloc: Global,
-    stream: &'f ElfStream<E, S, Global>,
+    file: &'f R,
 ) -> Result<FoundEntries<'f>, NotTaken>
     ensures { IfOk result (λ found. ok_map (option_map entries_view) found
-        ≡ entries_of (whole_file E.little stream.now)) }
+        ≡ entries_of (file_of (R.file file.now) (R.bytes file.now))) }
 {
-    match taking::dynamic(stream)? {
+    match taking::dynamic(file)? {
         Ok(Some(table)) => {
             let entries = entries_in(alloc, &table)?;
-            let strings = taking::strings_of(stream, entries.as_slice())?;
+            let strings = taking::strings_of(file, entries.as_slice())?;
             Ok(Ok(Some(DynamicEntries { entries, strings })))
         }
         Ok(None) => Ok(Ok(None)),

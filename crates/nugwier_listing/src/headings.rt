@@ -1,25 +1,24 @@
 //! The names of sections in headings, for people.
 ghost use Rattle.std.specs.Prelude.{◌≡◌, IfOk};
 ghost use Rattle.nugwier_listing.specs.Headings.{heading_members, known_names, name_shown};
-ghost use Rattle.nugwier_listing.specs.Whole.{whole_file};
+ghost use Rattle.nugwier_listing.specs.Whole.{file_of};
 ghost use Rattle.nugwier_report.specs.Noted.{members_said};
 
+use crate::listed::ListedFile;
 use crate::taking;
 use crate::taking::NotTaken;
 use elf::endian::EndianParse;
 use elf::section::SectionHeader;
 use elf::string_table::TerminatedStrings;
-use elf::{ElfStream, StreamSource};
 use nugwier_report::json::{Member, Value};
-use std::alloc::Global;
 
 /// Takes the names of the sections, if they can be read.
-pub fn known_names<'f, E: EndianParse, S: StreamSource>(
-    stream: &'f ElfStream<E, S, Global>,
+pub fn known_names<'f, E: EndianParse, R: ListedFile<E>>(
+    file: &'f R,
 ) -> Result<Option<TerminatedStrings<'f>>, NotTaken>
-    ensures { IfOk result (λ names. names ≡ known_names (whole_file E.little stream.now)) }
+    ensures { IfOk result (λ names. names ≡ known_names (file_of (R.file file.now) (R.bytes file.now))) }
 {
-    match taking::names(stream)? {
+    match taking::names(file)? {
         Ok(names) => Ok(names),
         Err(_) => Ok(None),
     }

@@ -1,7 +1,7 @@
 //! What is said of a file for a command: its tables are taken, and then what is said of them is written.
 ghost use Rattle.std.specs.Prelude.{◌≡◌, ℕ, IfOk, List, OnOk};
 ghost use Rattle.nugwier_listing.specs.Job.{IsSaidOf};
-ghost use Rattle.nugwier_listing.specs.Whole.{whole_file};
+ghost use Rattle.nugwier_listing.specs.Whole.{file_of};
 ghost use Rattle.nugwier_listing.specs.inner.Job.{IsTablesSaid};
 ghost use Rattle.nugwier_report.specs.Said.{Said, saying};
 ghost use Rattle.nugwier_words.specs.Words.{task_of};
@@ -11,11 +11,12 @@ use crate::check::{Checked, say_check, take_check};
 use crate::dynamic::{FoundEntries, say_needed, take_dynamic};
 use crate::identity::say_identity;
 use crate::list::{ListTables, say_list, take_list};
+use crate::listed::ListedFile;
 use crate::plan::{say_plan, take_plan};
 use crate::symbols::{LinkedTables, say_linked, take_exports, take_letters};
 use crate::taking::{self, FoundSymbols, NotTaken};
+use elf::ParseError;
 use elf::endian::EndianParse;
-use elf::{ElfStream, ParseError, StreamSource};
 use elf_tools::load_plan::{Mapping, PlanError};
 use nugwier_report::problem::Stop;
 use nugwier_report::report::Report;
@@ -40,25 +41,25 @@ pub enum JobTables<'f, 'w, E: EndianParse> {
 
 /// Takes what a job needs of a file of this path.
 #[tactic(auto, unfolding(crate::specs::Job::IsSaidOf))]
-pub fn take_job<'f, 'w, E: EndianParse, S: StreamSource>(
+pub fn take_job<'f, 'w, E: EndianParse, R: ListedFile<E>>(
     alloc: Global,
     job: &'w Job<'w>,
-    stream: &'f ElfStream<E, S, Global>,
+    file: &'f R,
 ) -> Result<JobTables<'f, 'w, E>, NotTaken>
     ensures { IfOk result (λ tables. (path : List ℕ) (said : List Said)
         → IsTablesSaid E.little path (task_of job.now).addresses tables said
-        → IsSaidOf E.little E.of_byte (task_of job.now) path stream.now.headers.ehdr
-        (whole_file E.little stream.now) said) }
+        → IsSaidOf E.little E.of_byte (task_of job.now) path (R.header file.now)
+        (file_of (R.file file.now) (R.bytes file.now)) said) }
 {
     match job.command {
-        Command::List => Ok(JobTables::Listed(take_list(alloc, job, stream)?)),
-        Command::Symbols => Ok(JobTables::Linked(take_letters(stream)?)),
-        Command::Exports => Ok(JobTables::Linked(take_exports(stream)?)),
-        Command::Needed => Ok(JobTables::Needed(take_dynamic(alloc, stream)?)),
-        Command::BuildId => Ok(JobTables::BuildId(taking::build_id(stream)?)),
-        Command::Plan => Ok(JobTables::Plan(take_plan(alloc, stream)?)),
-        Command::Check => Ok(JobTables::Check(take_check(alloc, stream)?)),
-        Command::Address => Ok(JobTables::Address(take_all_symbols(stream)?)),
+        Command::List => Ok(JobTables::Listed(take_list(alloc, job, file)?)),
+        Command::Symbols => Ok(JobTables::Linked(take_letters(file)?)),
+        Command::Exports => Ok(JobTables::Linked(take_exports(file)?)),
+        Command::Needed => Ok(JobTables::Needed(take_dynamic(alloc, file)?)),
+        Command::BuildId => Ok(JobTables::BuildId(taking::build_id(file)?)),
+        Command::Plan => Ok(JobTables::Plan(take_plan(alloc, file)?)),
+        Command::Check => Ok(JobTables::Check(take_check(alloc, file)?)),
+        Command::Address => Ok(JobTables::Address(take_all_symbols(file)?)),
         Command::Tree | Command::Bindings => Ok(JobTables::Nothing),
     }
 }

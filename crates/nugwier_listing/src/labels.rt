@@ -1,45 +1,45 @@
 //! The names of the sections, for what is told of them.
 ghost use Rattle.std.specs.Prelude.{◌≡◌, IfOk};
 ghost use Rattle.nugwier_listing.specs.Labels.{has_sections, names_told, tells_sections};
-ghost use Rattle.nugwier_listing.specs.Whole.{whole_file};
+ghost use Rattle.nugwier_listing.specs.Whole.{file_of};
 ghost use Rattle.nugwier_words.specs.Words.{task_of};
 
 use crate::headings::known_names;
+use crate::listed::ListedFile;
 use crate::taking::NotTaken;
 use elf::endian::EndianParse;
 use elf::string_table::TerminatedStrings;
-use elf::{ElfStream, StreamSource};
 use nugwier_report::names::Labels;
 use nugwier_words::words::{Command, Job, Parts};
-use std::alloc::Global;
 
-/// Takes the sections of a stream, with their names if problems of this job are told with them, and if they can be
+/// Takes the sections of a file, with their names if problems of this job are told with them, and if they can be
 /// read.
-pub fn take_labels<'f, E: EndianParse, S: StreamSource>(
+pub fn take_labels<'f, E: EndianParse, R: ListedFile<E>>(
     job: &Job<'_>,
-    stream: &'f ElfStream<E, S, Global>,
+    file: &'f R,
 ) -> Result<Labels<'f>, NotTaken>
-    ensures sections { IfOk result (λ labels. labels.sections.now ≡ (whole_file E.little stream.now).sections) }
+    ensures sections { IfOk result (λ labels. labels.sections.now ≡ (R.file file.now).sections) }
     ensures names { IfOk result (λ labels. labels.names
-        ≡ names_told (task_of job.now) (whole_file E.little stream.now)) }
+        ≡ names_told (task_of job.now) (file_of (R.file file.now) (R.bytes file.now))) }
 {
-    let names = names_told(job, stream)?;
+    let names = names_told(job, file)?;
     Ok(Labels {
-        sections: stream.section_headers().as_slice(),
+        sections: file.section_list(),
         names,
     })
 }
 
-fn names_told<'f, E: EndianParse, S: StreamSource>(
+fn names_told<'f, E: EndianParse, R: ListedFile<E>>(
     job: &Job<'_>,
-    stream: &'f ElfStream<E, S, Global>,
+    file: &'f R,
 ) -> Result<Option<TerminatedStrings<'f>>, NotTaken>
-    ensures { IfOk result (λ names. names ≡ names_told (task_of job.now) (whole_file E.little stream.now)) }
+    ensures { IfOk result (λ names. names
+        ≡ names_told (task_of job.now) (file_of (R.file file.now) (R.bytes file.now))) }
 {
     if !tells_sections(job) {
         return Ok(None);
     }
-    known_names(stream)
+    known_names(file)
 }
 
 // Whether something of a section can be wrong. Headers alone need no names, which may be far away in a large file.

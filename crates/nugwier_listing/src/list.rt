@@ -2,16 +2,17 @@
 ghost use Rattle.std.specs.Prelude.{◌≡◌, ◌++◌, IfOk, OnOk};
 ghost use Rattle.std.specs.List.{flat_map};
 ghost use Rattle.nugwier_listing.specs.Job.{is_listed, said_if_listed, said_of_list, said_of_part};
-ghost use Rattle.nugwier_listing.specs.Whole.{whole_file};
+ghost use Rattle.nugwier_listing.specs.Whole.{file_of};
 ghost use Rattle.nugwier_listing.specs.inner.Job.{list_said, part_said};
 ghost use Rattle.nugwier_report.specs.Said.{saying};
 ghost use Rattle.nugwier_words.specs.Words.{task_of};
 
 use crate::contents::{ContentPart, take_contents};
 use crate::dynamic::{FoundEntries, say_entries, take_dynamic};
+use crate::listed::ListedFile;
 use crate::notes::{NotePart, take_notes};
 use crate::parts::say_each;
-use crate::relocations::{RelocationPart, take_relocations};
+use crate::relocations::{FoundRelocations, say_relocations, take_relocations};
 use crate::sections::{SectionTables, say_sections, take_sections};
 use crate::segments::say_segments;
 use crate::symbols::{LinkedTables, say_linked, say_symbols, take_dynamic_symbols};
@@ -20,7 +21,6 @@ use crate::version_lists::{VersionPart, take_version_lists};
 use elf::endian::EndianParse;
 use elf::file::FileHeader;
 use elf::segment::ProgramHeader;
-use elf::{ElfStream, StreamSource};
 use nugwier_report::header::say_header;
 use nugwier_report::problem::Stop;
 use nugwier_report::report::Report;
@@ -64,7 +64,7 @@ enum PartTables<'f, E: EndianParse> {
     Symbols(FoundSymbols<'f, E>),
     DynamicSymbols(LinkedTables<'f, E>),
     Dynamic(FoundEntries<'f>),
-    Relocations(Vec<RelocationPart<'f, E>>),
+    Relocations(FoundRelocations<'f, E>),
     Notes(Vec<NotePart<'f, E>>),
     Versions(Vec<VersionPart<'f, E>>),
 }
@@ -78,53 +78,54 @@ pub struct ListTables<'f, 'w, E: EndianParse> {
 
 /// Takes what is asked for.
 #[tactic(auto, unfolding(crate::specs::inner::Job::list_said))]
-pub(crate) fn take_list<'f, 'w, E: EndianParse, S: StreamSource>(
+pub(crate) fn take_list<'f, 'w, E: EndianParse, R: ListedFile<E>>(
     alloc: Global,
     job: &'w Job<'w>,
-    stream: &'f ElfStream<E, S, Global>,
+    file: &'f R,
 ) -> Result<ListTables<'f, 'w, E>, NotTaken>
     ensures { IfOk result (λ tables. list_said E.little tables
-        ≡ said_of_list E.little (task_of job.now) stream.now.headers.ehdr (whole_file E.little stream.now)) }
+        ≡ said_of_list E.little (task_of job.now) (R.header file.now)
+        (file_of (R.file file.now) (R.bytes file.now))) }
 {
-    let parts = take_parts(alloc, &PARTS, &job.parts, stream)?;
-    let contents = take_contents(alloc, stream, job.contents.as_slice())?;
+    let parts = take_parts(alloc, &PARTS, &job.parts, file)?;
+    let contents = take_contents(alloc, file, job.contents.as_slice())?;
     Ok(ListTables { parts, contents })
 }
 
 // Takes those of these parts that are asked for.
-fn take_parts<'f, E: EndianParse, S: StreamSource>(
+fn take_parts<'f, E: EndianParse, R: ListedFile<E>>(
     alloc: Global,
     all: &[ListedPart],
     parts: &Parts,
-    stream: &'f ElfStream<E, S, Global>,
+    file: &'f R,
 ) -> Result<Vec<PartTables<'f, E>>, NotTaken>
     ensures { IfOk result (λ tables. flat_map (part_said E.little) tables.items
-        ≡ flat_map (said_if_listed E.little parts.now stream.now.headers.ehdr (whole_file E.little stream.now))
-        all.now) }
+        ≡ flat_map (said_if_listed E.little parts.now (R.header file.now)
+        (file_of (R.file file.now) (R.bytes file.now))) all.now) }
 {
     let mut tables = Vec::new(alloc);
     for part in all {
-        add_part(alloc, *part, parts, stream, &mut tables)?;
+        add_part(alloc, *part, parts, file, &mut tables)?;
     }
     Ok(tables)
 }
 
 // Takes a part, if it is asked for, and adds it.
-fn add_part<'f, E: EndianParse, S: StreamSource>(
+fn add_part<'f, E: EndianParse, R: ListedFile<E>>(
     alloc: Global,
     part: ListedPart,
     parts: &Parts,
-    stream: &'f ElfStream<E, S, Global>,
+    file: &'f R,
     tables: &mut Vec<PartTables<'f, E>>,
 ) -> Result<(), NotTaken>
     ensures { OnOk result (flat_map (part_said E.little) tables.new.items
         ≡ flat_map (part_said E.little) tables.old.items
-        ++ said_if_listed E.little parts.now stream.now.headers.ehdr (whole_file E.little stream.now) part) }
+        ++ said_if_listed E.little parts.now (R.header file.now) (file_of (R.file file.now) (R.bytes file.now)) part) }
 {
     if !is_listed(parts, part) {
         return Ok(());
     }
-    let taken = take_part(alloc, part, stream)?;
+    let taken = take_part(alloc, part, file)?;
     tables.push(taken)?;
     Ok(())
 }
@@ -146,24 +147,24 @@ fn is_listed(parts: &Parts, part: ListedPart) -> bool
 }
 
 #[tactic(auto, unfolding(crate::specs::inner::Job::part_said))]
-fn take_part<'f, E: EndianParse, S: StreamSource>(
+fn take_part<'f, E: EndianParse, R: ListedFile<E>>(
     alloc: Global,
     part: ListedPart,
-    stream: &'f ElfStream<E, S, Global>,
+    file: &'f R,
 ) -> Result<PartTables<'f, E>, NotTaken>
     ensures { IfOk result (λ tables. part_said E.little tables
-        ≡ said_of_part E.little stream.now.headers.ehdr (whole_file E.little stream.now) part) }
+        ≡ said_of_part E.little (R.header file.now) (file_of (R.file file.now) (R.bytes file.now)) part) }
 {
     match part {
-        ListedPart::Header => Ok(PartTables::Header(stream.ehdr)),
-        ListedPart::Sections => Ok(PartTables::Sections(take_sections(stream)?)),
-        ListedPart::Segments => Ok(PartTables::Segments(stream.segments().as_slice())),
-        ListedPart::Symbols => Ok(PartTables::Symbols(taking::symbols(stream)?)),
-        ListedPart::DynamicSymbols => Ok(PartTables::DynamicSymbols(take_dynamic_symbols(stream)?)),
-        ListedPart::Dynamic => Ok(PartTables::Dynamic(take_dynamic(alloc, stream)?)),
-        ListedPart::Relocations => Ok(PartTables::Relocations(take_relocations(alloc, stream)?)),
-        ListedPart::Notes => Ok(PartTables::Notes(take_notes(alloc, stream)?)),
-        ListedPart::Versions => Ok(PartTables::Versions(take_version_lists(alloc, stream)?)),
+        ListedPart::Header => Ok(PartTables::Header(file.file_header())),
+        ListedPart::Sections => Ok(PartTables::Sections(take_sections(file)?)),
+        ListedPart::Segments => Ok(PartTables::Segments(file.segment_list())),
+        ListedPart::Symbols => Ok(PartTables::Symbols(taking::symbols(file)?)),
+        ListedPart::DynamicSymbols => Ok(PartTables::DynamicSymbols(take_dynamic_symbols(file)?)),
+        ListedPart::Dynamic => Ok(PartTables::Dynamic(take_dynamic(alloc, file)?)),
+        ListedPart::Relocations => Ok(PartTables::Relocations(take_relocations(alloc, file)?)),
+        ListedPart::Notes => Ok(PartTables::Notes(take_notes(alloc, file)?)),
+        ListedPart::Versions => Ok(PartTables::Versions(take_version_lists(alloc, file)?)),
     }
 }
 
@@ -209,7 +210,7 @@ fn say_part<E: EndianParse, W: Write, V: Write>(
         PartTables::Symbols(symbols) => say_symbols(symbols, report),
         PartTables::DynamicSymbols(tables) => say_linked(alloc, tables, report),
         PartTables::Dynamic(entries) => say_entries(entries, report),
-        PartTables::Relocations(parts) => say_each(parts, report),
+        PartTables::Relocations(found) => say_relocations(found, report),
         PartTables::Notes(parts) => say_each(parts, report),
         PartTables::Versions(parts) => say_each(parts, report),
     }

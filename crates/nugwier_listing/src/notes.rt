@@ -6,13 +6,14 @@ ghost use Rattle.elf_records.specs.Number.{ok_map};
 ghost use Rattle.nugwier_listing.specs.Headings.{known_names};
 ghost use Rattle.nugwier_listing.specs.Notes.{said_of_notes, section_notes_in, segment_members, segment_notes_in};
 ghost use Rattle.nugwier_listing.specs.Read.{read_said};
-ghost use Rattle.nugwier_listing.specs.Whole.{whole_file};
+ghost use Rattle.nugwier_listing.specs.Whole.{file_of};
 ghost use Rattle.nugwier_listing.specs.inner.Notes.{part_said};
 ghost use Rattle.nugwier_report.specs.Noted.{members_said};
 ghost use Rattle.nugwier_report.specs.Notes.{notes_said};
 ghost use Rattle.nugwier_report.specs.Said.{numbered, saying};
 
 use crate::headings::{heading_members, known_names, name_shown};
+use crate::listed::ListedFile;
 use crate::parts::TakenPart;
 use crate::taking;
 use crate::taking::NotTaken;
@@ -22,7 +23,7 @@ use elf::note::NoteIterator;
 use elf::section::SectionHeader;
 use elf::segment::ProgramHeader;
 use elf::string_table::TerminatedStrings;
-use elf::{ElfStream, ParseError, StreamSource, abi};
+use elf::{ParseError, abi};
 use nugwier_report::json::{Member, Value};
 use nugwier_report::kind::Kind;
 use nugwier_report::notes;
@@ -56,86 +57,88 @@ impl<'f, E: EndianParse> TakenPart for NotePart<'f, E> {
 }
 
 /// Takes the notes of the sections or, if no sections are declared, of the segments.
-pub(crate) fn take_notes<'f, E: EndianParse, S: StreamSource>(
+pub(crate) fn take_notes<'f, E: EndianParse, R: ListedFile<E>>(
     alloc: Global,
-    stream: &'f ElfStream<E, S, Global>,
+    file: &'f R,
 ) -> Result<Vec<NotePart<'f, E>>, NotTaken>
-    ensures { IfOk result (λ parts. flat_map part_said parts.items ≡ said_of_notes (whole_file E.little stream.now)) }
+    ensures { IfOk result (λ parts. flat_map part_said parts.items
+        ≡ said_of_notes (file_of (R.file file.now) (R.bytes file.now))) }
 {
-    if stream.declares_sections() {
-        take_sections(alloc, stream)
+    if file.declares_sections() {
+        take_sections(alloc, file)
     } else {
-        take_segments(alloc, stream)
+        take_segments(alloc, file)
     }
 }
 
-fn take_sections<'f, E: EndianParse, S: StreamSource>(
+fn take_sections<'f, E: EndianParse, R: ListedFile<E>>(
     alloc: Global,
-    stream: &'f ElfStream<E, S, Global>,
+    file: &'f R,
 ) -> Result<Vec<NotePart<'f, E>>, NotTaken>
-    ensures { let whole = whole_file E.little stream.now in
+    ensures { let whole = file_of (R.file file.now) (R.bytes file.now) in
         IfOk result (λ parts. flat_map part_said parts.items ≡ numbered (section_notes_in whole) 0 whole.sections) }
 {
-    let names = known_names(stream)?;
+    let names = known_names(file)?;
     let mut parts = Vec::new(alloc);
     let mut number = 0;
-    for section in stream.section_headers().as_slice() {
-        add_section(stream, &names, number, section, &mut parts)?;
+    for section in file.section_list() {
+        add_section(file, &names, number, section, &mut parts)?;
         number += 1;
     }
     Ok(parts)
 }
 
 // Takes the notes of a section, if it has any, and adds them.
-fn add_section<'f, E: EndianParse, S: StreamSource>(
-    stream: &'f ElfStream<E, S, Global>,
+fn add_section<'f, E: EndianParse, R: ListedFile<E>>(
+    file: &'f R,
     names: &Option<TerminatedStrings<'f>>,
     number: u64,
     section: &SectionHeader,
     parts: &mut Vec<NotePart<'f, E>>,
 ) -> Result<(), NotTaken>
-    ensures { let whole = whole_file E.little stream.now in
+    ensures { let whole = file_of (R.file file.now) (R.bytes file.now) in
         names.now ≡ known_names whole → OnOk result (flat_map part_said parts.new.items
         ≡ flat_map part_said parts.old.items ++ section_notes_in whole number section.now) }
 {
     if section.sh_type != abi::SHT_NOTE {
         return Ok(());
     }
-    let notes = taking::section_notes(stream, section)?;
+    let notes = taking::section_notes(file, section)?;
     parts.push(NotePart::Section(number, name_shown(names, section), notes))?;
     Ok(())
 }
 
-fn take_segments<'f, E: EndianParse, S: StreamSource>(
+fn take_segments<'f, E: EndianParse, R: ListedFile<E>>(
     alloc: Global,
-    stream: &'f ElfStream<E, S, Global>,
+    file: &'f R,
 ) -> Result<Vec<NotePart<'f, E>>, NotTaken>
-    ensures { let whole = whole_file E.little stream.now in
+    ensures { let whole = file_of (R.file file.now) (R.bytes file.now) in
         IfOk result (λ parts. flat_map part_said parts.items ≡ numbered (segment_notes_in whole) 0 whole.segments) }
 {
     let mut parts = Vec::new(alloc);
     let mut number = 0;
-    for segment in stream.segments().as_slice() {
-        add_segment(stream, number, segment, &mut parts)?;
+    for segment in file.segment_list() {
+        add_segment(file, number, segment, &mut parts)?;
         number += 1;
     }
     Ok(parts)
 }
 
 // Takes the notes of a segment, if it has any, and adds them.
-fn add_segment<'f, E: EndianParse, S: StreamSource>(
-    stream: &'f ElfStream<E, S, Global>,
+fn add_segment<'f, E: EndianParse, R: ListedFile<E>>(
+    file: &'f R,
     number: u64,
     segment: &ProgramHeader,
     parts: &mut Vec<NotePart<'f, E>>,
 ) -> Result<(), NotTaken>
     ensures { OnOk result (flat_map part_said parts.new.items
-        ≡ flat_map part_said parts.old.items ++ segment_notes_in (whole_file E.little stream.now) number segment.now) }
+        ≡ flat_map part_said parts.old.items
+        ++ segment_notes_in (file_of (R.file file.now) (R.bytes file.now)) number segment.now) }
 {
     if segment.p_type != abi::PT_NOTE {
         return Ok(());
     }
-    let notes = taking::segment_notes(stream, segment)?;
+    let notes = taking::segment_notes(file, segment)?;
     parts.push(NotePart::Segment(number, notes))?;
     Ok(())
 }

@@ -2,12 +2,12 @@
 ghost use Rattle.std.specs.Prelude.{◌≡◌, IfOk, OnOk};
 ghost use Rattle.elf_records.specs.Number.{ok_map};
 ghost use Rattle.nugwier_listing.specs.Plan.{IsPlanSaid, mappings_said, plan_said};
-ghost use Rattle.nugwier_listing.specs.Whole.{whole_file};
+ghost use Rattle.nugwier_listing.specs.Whole.{file_of};
 ghost use Rattle.nugwier_report.specs.Said.{saying};
 
+use crate::listed::ListedFile;
 use crate::taking::NotTaken;
 use elf::endian::EndianParse;
-use elf::{ElfStream, StreamSource};
 use elf_tools::load_plan::{Mapping, PlanError, load_plan};
 use nugwier_report::kind::Kind;
 use nugwier_report::mappings::MappingRow;
@@ -18,14 +18,14 @@ use std::alloc::Global;
 use std::io::Write;
 
 /// Takes the mappings. They follow from the program headers, so nothing has to be loaded.
-pub(crate) fn take_plan<E: EndianParse, S: StreamSource>(
+pub(crate) fn take_plan<E: EndianParse, R: ListedFile<E>>(
     alloc: Global,
-    stream: &ElfStream<E, S, Global>,
+    file: &R,
 ) -> Result<Result<Vec<Mapping>, PlanError>, NotTaken>
-    ensures { IfOk result (λ planned. IsPlanSaid (whole_file E.little stream.now)
+    ensures { IfOk result (λ planned. IsPlanSaid (file_of (R.file file.now) (R.bytes file.now))
         (plan_said (ok_map (λ plan. plan.items) planned))) }
 {
-    match load_plan(alloc, stream) {
+    match load_plan(alloc, file) {
         Err(PlanError::Memory) => Err(NotTaken::Memory),
         planned => Ok(planned),
     }

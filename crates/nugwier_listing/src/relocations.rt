@@ -1,50 +1,106 @@
 //! The relocations of a file.
-ghost use Rattle.std.specs.Prelude.{◌≡◌, ◌++◌, IfOk, OnOk};
+ghost use Rattle.std.specs.Prelude.{[], ◌≡◌, ◌∷◌, ◌++◌, IfOk, OnOk};
 ghost use Rattle.std.specs.List.{flat_map};
 ghost use Rattle.std.specs.Option.{option_map};
+ghost use Rattle.elf.specs.ObjectFile.{err_map};
+ghost use Rattle.elf_dynamic.specs.dynamic_view.Entries.{entries_in};
 ghost use Rattle.elf_records.specs.Number.{ok_map};
+ghost use Rattle.elf_records.specs.Table.{table_view};
 ghost use Rattle.nugwier_listing.specs.Headings.{known_names, name_shown};
+ghost use Rattle.nugwier_listing.specs.Linked.{symbols_by};
 ghost use Rattle.nugwier_listing.specs.Read.{if_read};
-ghost use Rattle.nugwier_listing.specs.Relocations.{are_relocations, each_said, linked_symbols, records_of};
-ghost use Rattle.nugwier_listing.specs.Relocations.{records_said, relocations_in, said_of_relocations};
-ghost use Rattle.nugwier_listing.specs.Relocations.{section_said, symbols_if, symbols_unread};
-ghost use Rattle.nugwier_listing.specs.Whole.{whole_file};
-ghost use Rattle.nugwier_listing.specs.inner.Relocations.{part_said, records_view};
+ghost use Rattle.nugwier_listing.specs.Relocations.{are_relocations, each_said, in_table, place_said, records_of};
+ghost use Rattle.nugwier_listing.specs.Relocations.{relative_in, relocations_in, said_of_relocations, section_said};
+ghost use Rattle.nugwier_listing.specs.Relocations.{section_symbols, symbols_if, symbols_unread, table_members};
+ghost use Rattle.nugwier_listing.specs.Relocations.{records_said, table_records, table_said};
+ghost use Rattle.nugwier_listing.specs.Whole.{file_of};
+ghost use Rattle.nugwier_listing.specs.inner.Relocations.{part_said, place_heading, place_part, records_view};
+ghost use Rattle.nugwier_listing.specs.inner.Relocations.{relocations_said};
+ghost use Rattle.nugwier_report.specs.Noted.{members_said};
 ghost use Rattle.nugwier_report.specs.Relocations.{symbols_view};
-ghost use Rattle.nugwier_report.specs.Said.{saying};
+ghost use Rattle.nugwier_report.specs.Said.{numbered, said_if, saying};
+ghost use Rattle.nugwier_report.specs.declared.problem.Fault.TheVariants.{Linked as IsLinked, Read as IsRead};
 
 use crate::headings::{heading_members, known_names, name_shown};
-use crate::parts::TakenPart;
-use crate::taking;
+use crate::listed::ListedFile;
+use crate::parts::{TakenPart, say_each};
 use crate::taking::NotTaken;
+use crate::{linked, taking};
+use elf::dynamic::DynamicTable;
 use elf::endian::EndianParse;
 use elf::headers::Headers;
+use elf::reader::Reader;
 use elf::relocation::{RelIterator, RelaIterator};
 use elf::section::SectionHeader;
 use elf::string_table::TerminatedStrings;
-use elf::{ElfStream, ParseError, StreamSource, abi};
+use elf::{ParseError, abi};
+use elf_dynamic::dynamic_view::{DynamicError, PltRelocations};
+use elf_dynamic::relr::{RelrIterator, RelrTable, SHT_RELR};
+use nugwier_report::json::{Member, Value};
 use nugwier_report::kind::Kind;
-use nugwier_report::problem::{Fault, Item, Part, Stop};
-use nugwier_report::relocations::{RelRow, RelaRow, Symbols};
+use nugwier_report::problem::{Fault, Item, Part, RelocationTable, Stop};
+use nugwier_report::relocations::{RelRow, RelaRow, Symbols, say_relative};
 use nugwier_report::report::Report;
 use nugwier_report::rows::say_records;
 use std::alloc::Global;
 use std::io::Write;
 
-// Relocations of either type.
+// Relocations of one type.
 #[derive(Drop)]
 enum TakenRecords<'f, E: EndianParse> {
     Rels(RelIterator<'f, E>),
     Relas(RelaIterator<'f, E>),
+    /// Packed relative relocations, of which there are the addresses alone.
+    Relative(RelrIterator<'f, E>),
 }
 
-/// The relocations of a section, with its number and its name, and the symbols that they use, if there are any.
+// Where relocations are: in a section, by its number and its name, or in a table that a dynamic entry gives.
+#[derive(Clone, Copy)]
+enum RelocationPlace<'f> {
+    Section(u64, &'f [u8]),
+    Table(RelocationTable),
+}
+
+impl RelocationPlace<'_> {
+    fn part(self) -> Part
+        ensures { result ≡ place_part self.entry }
+    {
+        match self {
+            RelocationPlace::Section(number, _) => Part::Section(number),
+            RelocationPlace::Table(table) => Part::Relocations(table),
+        }
+    }
+
+    // Says the heading.
+    fn say<W: Write, V: Write>(self, report: &mut Report<'_, W, V>) -> Result<(), Stop>
+        ensures { OnOk result (report.new ≡ saying report.old (place_heading self.entry ∷ [])) }
+    {
+        match self {
+            RelocationPlace::Section(number, name) => {
+                report.state(Kind::RelocationsHeading, &heading_members(number, name))
+            }
+            RelocationPlace::Table(table) => {
+                report.state(Kind::RelocationTableHeading, &table_members(table))
+            }
+        }
+    }
+}
+
+fn table_members(table: RelocationTable) -> [Member<'static>; 1]
+    ensures { members_said result ≡ table_members table }
+{
+    [("table", Value::Text(Some(table.name().as_bytes())))]
+}
+
+// The symbols that relocations use, if there are any.
+type UsedSymbols<'f, E> = Result<Option<Symbols<'f, E>>, Fault<'static>>;
+
+/// Relocations, with their place, and the symbols that they use, if there are any.
 #[derive(Drop)]
 pub struct RelocationPart<'f, E: EndianParse> {
-    number: u64,
-    name: &'f [u8],
-    symbols: Result<Option<Symbols<'f, E>>, ParseError>,
-    records: Result<TakenRecords<'f, E>, ParseError>,
+    place: RelocationPlace<'f>,
+    symbols: UsedSymbols<'f, E>,
+    records: Result<TakenRecords<'f, E>, Fault<'static>>,
 }
 
 impl<'f, E: EndianParse> TakenPart for RelocationPart<'f, E> {
@@ -52,70 +108,243 @@ impl<'f, E: EndianParse> TakenPart for RelocationPart<'f, E> {
 
     fn say<W: Write, V: Write>(self, report: &mut Report<'_, W, V>) -> Result<(), Stop> {
         let RelocationPart {
-            number,
-            name,
+            place,
             symbols,
             records,
         } = self;
-        report.state(Kind::RelocationsHeading, &heading_members(number, name))?;
-        let symbols = known_symbols(number, symbols, report)?;
-        say_read(number, symbols, records, report)
+        place.say(report)?;
+        let part = place.part();
+        let symbols = known_symbols(part, symbols, report)?;
+        say_read(part, symbols, records, report)
     }
 }
 
-/// Takes the relocations of each section that has them.
-pub(crate) fn take_relocations<'f, E: EndianParse, S: StreamSource>(
+/// The relocations of a file, or why the dynamic entries that give them are not available.
+pub type FoundRelocations<'f, E> = Result<Vec<RelocationPart<'f, E>>, DynamicError>;
+
+/// Takes the relocations of each section that has them; if the file declares no sections those that dynamic entries give.
+pub(crate) fn take_relocations<'f, E: EndianParse, R: ListedFile<E>>(
     alloc: Global,
-    stream: &'f ElfStream<E, S, Global>,
+    file: &'f R,
+) -> Result<FoundRelocations<'f, E>, NotTaken>
+    ensures { IfOk result (λ found. relocations_said (ok_map (λ parts. flat_map part_said parts.items) found)
+        ≡ said_of_relocations (file_of (R.file file.now) (R.bytes file.now))) }
+{
+    if file.declares_sections() {
+        return Ok(Ok(take_sections(alloc, file)?));
+    }
+    match linked::entries(file)? {
+        Ok(Some(entries)) => Ok(Ok(take_tables(alloc, &TABLES, file, &entries)?)),
+        Ok(None) => Ok(Ok(Vec::new(alloc))),
+        Err(error) => Ok(Err(error)),
+    }
+}
+
+/// Says the relocations that were taken.
+pub(crate) fn say_relocations<E: EndianParse, W: Write, V: Write>(
+    found: FoundRelocations<'_, E>,
+    report: &mut Report<'_, W, V>,
+) -> Result<(), Stop>
+    ensures { OnOk result (report.new ≡ saying report.old
+        (relocations_said (ok_map (λ parts. flat_map part_said parts.items) found.entry))) }
+{
+    match found {
+        Ok(parts) => say_each(parts, report),
+        Err(error) => report.problem(Part::Dynamic.whole(), Fault::Linked(error)),
+    }
+}
+
+// ---- by dynamic entries
+
+// The tables that dynamic entries may give.
+static TABLES: [RelocationTable; 4] = [
+    RelocationTable::Rel,
+    RelocationTable::Rela,
+    RelocationTable::Relr,
+    RelocationTable::Plt,
+];
+
+fn take_tables<'f, E: EndianParse, R: ListedFile<E>>(
+    alloc: Global,
+    all: &[RelocationTable],
+    file: &'f R,
+    entries: &DynamicTable<'_, E>,
 ) -> Result<Vec<RelocationPart<'f, E>>, NotTaken>
     ensures { IfOk result (λ parts. flat_map part_said parts.items
-        ≡ said_of_relocations (whole_file E.little stream.now)) }
+        ≡ flat_map (table_said (file_of (R.file file.now) (R.bytes file.now)) (entries_in (table_view entries.now)))
+        all.now) }
 {
-    let names = known_names(stream)?;
+    let mut parts = Vec::new(alloc);
+    for table in all {
+        add_table(file, entries, *table, &mut parts)?;
+    }
+    Ok(parts)
+}
+
+// Takes the relocations of a table, if there is one, and adds them.
+fn add_table<'f, E: EndianParse, R: ListedFile<E>>(
+    file: &'f R,
+    entries: &DynamicTable<'_, E>,
+    table: RelocationTable,
+    parts: &mut Vec<RelocationPart<'f, E>>,
+) -> Result<(), NotTaken>
+    ensures { OnOk result (flat_map part_said parts.new.items ≡ flat_map part_said parts.old.items
+        ++ table_said (file_of (R.file file.now) (R.bytes file.now)) (entries_in (table_view entries.now)) table) }
+{
+    let Some(part) = take_table(file, entries, table)? else {
+        return Ok(());
+    };
+    parts.push(part)?;
+    Ok(())
+}
+
+fn take_table<'f, E: EndianParse, R: ListedFile<E>>(
+    file: &'f R,
+    entries: &DynamicTable<'_, E>,
+    table: RelocationTable,
+) -> Result<Option<RelocationPart<'f, E>>, NotTaken>
+    ensures { IfOk result (λ part. said_if part_said part
+        ≡ table_said (file_of (R.file file.now) (R.bytes file.now)) (entries_in (table_view entries.now)) table) }
+{
+    let symbols = linked_symbols(file, entries)?;
+    match table_records(file, entries, table)? {
+        Ok(Some(records)) => Ok(Some(part_of_table(table, symbols, Ok(records)))),
+        Ok(None) => Ok(None),
+        Err(error) => Ok(Some(part_of_table(table, symbols, Err(Fault::Linked(error))))),
+    }
+}
+
+fn part_of_table<'f, E: EndianParse>(
+    table: RelocationTable,
+    symbols: UsedSymbols<'f, E>,
+    records: Result<TakenRecords<'f, E>, Fault<'static>>,
+) -> RelocationPart<'f, E>
+    ensures { part_said result ≡ place_said (in_table table)
+        (ok_map (option_map symbols_view) symbols.entry) (ok_map records_view records.entry) }
+{
+    let place = RelocationPlace::Table(table);
+    RelocationPart {
+        place,
+        symbols,
+        records,
+    }
+}
+
+// The symbols that dynamic entries give.
+fn linked_symbols<'f, E: EndianParse, R: ListedFile<E>>(
+    file: &'f R,
+    entries: &DynamicTable<'_, E>,
+) -> Result<UsedSymbols<'f, E>, NotTaken>
+    ensures { IfOk result (λ found. ok_map (option_map symbols_view) found ≡ err_map IsLinked
+        (symbols_by (file_of (R.file file.now) (R.bytes file.now)) (entries_in (table_view entries.now)))) }
+{
+    match linked::symbols_by(file, entries)? {
+        Ok(Some((table, strings))) => {
+            let strings = TerminatedStrings::new(&strings);
+            Ok(Ok(Some(Symbols { table, strings })))
+        }
+        Ok(None) => Ok(Ok(None)),
+        Err(error) => Ok(Err(Fault::Linked(error))),
+    }
+}
+
+// The relocations of a table, if a dynamic entry gives it.
+fn table_records<'f, E: EndianParse, R: ListedFile<E>>(
+    file: &'f R,
+    entries: &DynamicTable<'_, E>,
+    table: RelocationTable,
+) -> Result<Result<Option<TakenRecords<'f, E>>, DynamicError>, NotTaken>
+    ensures { IfOk result (λ found. ok_map (option_map records_view) found ≡ table_records
+        (file_of (R.file file.now) (R.bytes file.now)) (entries_in (table_view entries.now)) table) }
+{
+    match table {
+        RelocationTable::Rel => match linked::rels(file, entries)? {
+            Ok(Some(rels)) => Ok(Ok(Some(TakenRecords::Rels(rels)))),
+            Ok(None) => Ok(Ok(None)),
+            Err(error) => Ok(Err(error)),
+        },
+        RelocationTable::Rela => match linked::relas(file, entries)? {
+            Ok(Some(relas)) => Ok(Ok(Some(TakenRecords::Relas(relas)))),
+            Ok(None) => Ok(Ok(None)),
+            Err(error) => Ok(Err(error)),
+        },
+        RelocationTable::Relr => match linked::relr_bytes(file, entries)? {
+            Ok(Some(bytes)) => {
+                let words = RelrTable::new(file.endianness(), file.class(), bytes);
+                Ok(Ok(Some(relative(&words))))
+            }
+            Ok(None) => Ok(Ok(None)),
+            Err(error) => Ok(Err(error)),
+        },
+        RelocationTable::Plt => match linked::plt_relocations(file, entries)? {
+            Ok(Some(PltRelocations::Rel(rels))) => Ok(Ok(Some(TakenRecords::Rels(rels)))),
+            Ok(Some(PltRelocations::Rela(relas))) => Ok(Ok(Some(TakenRecords::Relas(relas)))),
+            Ok(None) => Ok(Ok(None)),
+            Err(error) => Ok(Err(error)),
+        },
+    }
+}
+
+// The addresses of packed relative relocations.
+fn relative<'f, E: EndianParse>(words: &RelrTable<'f, E>) -> TakenRecords<'f, E>
+    ensures { records_view result ≡ relative_in (table_view words.now) }
+{
+    TakenRecords::Relative(RelrIterator::new(words))
+}
+
+// ---- by sections
+
+fn take_sections<'f, E: EndianParse, R: ListedFile<E>>(
+    alloc: Global,
+    file: &'f R,
+) -> Result<Vec<RelocationPart<'f, E>>, NotTaken>
+    ensures { let whole = file_of (R.file file.now) (R.bytes file.now) in
+        IfOk result (λ parts. flat_map part_said parts.items ≡ numbered (relocations_in whole) 0 whole.sections) }
+{
+    let names = known_names(file)?;
     let mut parts = Vec::new(alloc);
     let mut number = 0;
-    for section in stream.section_headers().as_slice() {
-        add_section(stream, &names, number, section, &mut parts)?;
+    for section in file.section_list() {
+        add_section(file, &names, number, section, &mut parts)?;
         number += 1;
     }
     Ok(parts)
 }
 
 // Takes the relocations of a section, if it has any, and adds them.
-fn add_section<'f, E: EndianParse, S: StreamSource>(
-    stream: &'f ElfStream<E, S, Global>,
+fn add_section<'f, E: EndianParse, R: ListedFile<E>>(
+    file: &'f R,
     names: &Option<TerminatedStrings<'f>>,
     number: u64,
     section: &SectionHeader,
     parts: &mut Vec<RelocationPart<'f, E>>,
 ) -> Result<(), NotTaken>
-    ensures { let whole = whole_file E.little stream.now in
+    ensures { let whole = file_of (R.file file.now) (R.bytes file.now) in
         names.now ≡ known_names whole → OnOk result (flat_map part_said parts.new.items
         ≡ flat_map part_said parts.old.items ++ relocations_in whole number section.now) }
 {
     if !are_relocations(section) {
         return Ok(());
     }
-    let part = take_part(stream, names, number, section)?;
+    let part = take_part(file, names, number, section)?;
     parts.push(part)?;
     Ok(())
 }
 
-fn take_part<'f, E: EndianParse, S: StreamSource>(
-    stream: &'f ElfStream<E, S, Global>,
+fn take_part<'f, E: EndianParse, R: ListedFile<E>>(
+    file: &'f R,
     names: &Option<TerminatedStrings<'f>>,
     number: u64,
     section: &SectionHeader,
 ) -> Result<RelocationPart<'f, E>, NotTaken>
-    ensures { let whole = whole_file E.little stream.now in
+    ensures { let whole = file_of (R.file file.now) (R.bytes file.now) in
         IfOk result (λ part. part_said part ≡ section_said number (name_shown names.now section.now)
-        (linked_symbols whole section.now.sh_link) (records_of whole section.now)) }
+        (section_symbols whole section.now.sh_link) (records_of whole section.now)) }
 {
-    let symbols = linked_symbols(stream, section.sh_link)?;
-    let records = take_records(stream, section)?;
+    let symbols = used_symbols(file, section.sh_link)?;
+    let records = take_records(file, section)?;
     Ok(RelocationPart {
-        number,
-        name: name_shown(names, section),
+        place: RelocationPlace::Section(number, name_shown(names, section)),
         symbols,
         records,
     })
@@ -125,38 +354,53 @@ fn take_part<'f, E: EndianParse, S: StreamSource>(
 fn are_relocations(section: &SectionHeader) -> bool
     ensures { result ≡ are_relocations section.now }
 {
-    section.sh_type == abi::SHT_REL || section.sh_type == abi::SHT_RELA
+    let sh_type = section.sh_type;
+    sh_type == abi::SHT_REL || sh_type == abi::SHT_RELA || sh_type == SHT_RELR
+}
+
+// The symbols that the relocations of a section use, by the number of the section that it links to.
+fn used_symbols<'f, E: EndianParse, R: ListedFile<E>>(
+    file: &'f R,
+    number: u32,
+) -> Result<UsedSymbols<'f, E>, NotTaken>
+    ensures { IfOk result (λ found. ok_map (option_map symbols_view) found
+        ≡ err_map IsRead (section_symbols (file_of (R.file file.now) (R.bytes file.now)) number)) }
+{
+    match section_symbols(file, number)? {
+        Ok(symbols) => Ok(Ok(symbols)),
+        Err(error) => Ok(Err(Fault::Read(error))),
+    }
 }
 
 // The symbols of the section of this number. Section 0 is none.
-fn linked_symbols<'f, E: EndianParse, S: StreamSource>(
-    stream: &'f ElfStream<E, S, Global>,
+fn section_symbols<'f, E: EndianParse, R: ListedFile<E>>(
+    file: &'f R,
     number: u32,
 ) -> Result<Result<Option<Symbols<'f, E>>, ParseError>, NotTaken>
     ensures { IfOk result (λ found. ok_map (option_map symbols_view) found
-        ≡ linked_symbols (whole_file E.little stream.now) number) }
+        ≡ section_symbols (file_of (R.file file.now) (R.bytes file.now)) number) }
 {
     if number == 0 {
         return Ok(Ok(None));
     }
-    match stream.section_at(number as usize) {
-        Ok(linked) => symbols_if(stream, &linked),
+    match file.section_at(number as usize) {
+        Ok(linked) => symbols_if(file, &linked),
         Err(error) => Ok(Err(error)),
     }
 }
 
 // The symbols of a section, if it is of a type that has some.
-fn symbols_if<'f, E: EndianParse, S: StreamSource>(
-    stream: &'f ElfStream<E, S, Global>,
+fn symbols_if<'f, E: EndianParse, R: ListedFile<E>>(
+    file: &'f R,
     section: &SectionHeader,
 ) -> Result<Result<Option<Symbols<'f, E>>, ParseError>, NotTaken>
     ensures { IfOk result (λ found. ok_map (option_map symbols_view) found
-        ≡ symbols_if (whole_file E.little stream.now) section.now) }
+        ≡ symbols_if (file_of (R.file file.now) (R.bytes file.now)) section.now) }
 {
     if section.sh_type != abi::SHT_DYNSYM && section.sh_type != abi::SHT_SYMTAB {
         return Ok(Ok(None));
     }
-    match taking::symbols_of(stream, section)? {
+    match taking::symbols_of(file, section)? {
         Ok((table, strings)) => {
             let strings = TerminatedStrings::new(&strings);
             Ok(Ok(Some(Symbols { table, strings })))
@@ -166,43 +410,44 @@ fn symbols_if<'f, E: EndianParse, S: StreamSource>(
 }
 
 // The relocations of a section, by its type.
-fn take_records<'f, E: EndianParse, S: StreamSource>(
-    stream: &'f ElfStream<E, S, Global>,
+fn take_records<'f, E: EndianParse, R: ListedFile<E>>(
+    file: &'f R,
     section: &SectionHeader,
-) -> Result<Result<TakenRecords<'f, E>, ParseError>, NotTaken>
+) -> Result<Result<TakenRecords<'f, E>, Fault<'static>>, NotTaken>
     ensures { IfOk result (λ found. ok_map records_view found
-        ≡ records_of (whole_file E.little stream.now) section.now) }
+        ≡ err_map IsRead (records_of (file_of (R.file file.now) (R.bytes file.now)) section.now)) }
 {
-    if section.sh_type == abi::SHT_REL {
-        return match taking::rels(stream, section)? {
+    match section.sh_type {
+        abi::SHT_REL => match taking::rels(file, section)? {
             Ok(rels) => Ok(Ok(TakenRecords::Rels(rels))),
-            Err(error) => Ok(Err(error)),
-        };
-    }
-    match taking::relas(stream, section)? {
-        Ok(relas) => Ok(Ok(TakenRecords::Relas(relas))),
-        Err(error) => Ok(Err(error)),
+            Err(error) => Ok(Err(Fault::Read(error))),
+        },
+        SHT_RELR => match taking::relr(file, section)? {
+            Ok(words) => Ok(Ok(relative(&words))),
+            Err(error) => Ok(Err(Fault::Read(error))),
+        },
+        _ => match taking::relas(file, section)? {
+            Ok(relas) => Ok(Ok(TakenRecords::Relas(relas))),
+            Err(error) => Ok(Err(Fault::Read(error))),
+        },
     }
 }
 
 // The symbols, or the problem that they cannot be read.
 fn known_symbols<'f, E: EndianParse, W: Write, V: Write>(
-    section: u64,
-    symbols: Result<Option<Symbols<'f, E>>, ParseError>,
+    part: Part,
+    symbols: UsedSymbols<'f, E>,
     report: &mut Report<'_, W, V>,
 ) -> Result<Option<Symbols<'f, E>>, Stop>
     ensures known { IfOk result (λ known. option_map symbols_view known
         ≡ if_read (ok_map (option_map symbols_view) symbols.entry)) }
     ensures wrong { OnOk result (report.new ≡ saying report.old
-        (symbols_unread section (ok_map (option_map symbols_view) symbols.entry))) }
+        (symbols_unread part (ok_map (option_map symbols_view) symbols.entry))) }
 {
     match symbols {
         Ok(symbols) => Ok(symbols),
-        Err(error) => {
-            report.problem(
-                Part::Section(section).item(Item::Symbols),
-                Fault::Read(error),
-            )?;
+        Err(fault) => {
+            report.problem(part.item(Item::Symbols), fault)?;
             Ok(None)
         }
     }
@@ -210,32 +455,33 @@ fn known_symbols<'f, E: EndianParse, W: Write, V: Write>(
 
 // Says the relocations, or that they cannot be read.
 fn say_read<E: EndianParse, W: Write, V: Write>(
-    section: u64,
+    part: Part,
     symbols: Option<Symbols<'_, E>>,
-    records: Result<TakenRecords<'_, E>, ParseError>,
+    records: Result<TakenRecords<'_, E>, Fault<'static>>,
     report: &mut Report<'_, W, V>,
 ) -> Result<(), Stop>
     ensures { OnOk result (report.new ≡ saying report.old
-        (records_said section (option_map symbols_view symbols.entry) (ok_map records_view records.entry))) }
+        (records_said part (option_map symbols_view symbols.entry) (ok_map records_view records.entry))) }
 {
     match records {
-        Ok(records) => say_each(section, symbols, records, report),
-        Err(error) => report.problem(Part::Section(section).whole(), Fault::Read(error)),
+        Ok(records) => say_all(part, symbols, records, report),
+        Err(fault) => report.problem(part.whole(), fault),
     }
 }
 
 // Says each relocation.
-fn say_each<E: EndianParse, W: Write, V: Write>(
-    section: u64,
+fn say_all<E: EndianParse, W: Write, V: Write>(
+    part: Part,
     symbols: Option<Symbols<'_, E>>,
     records: TakenRecords<'_, E>,
     report: &mut Report<'_, W, V>,
 ) -> Result<(), Stop>
     ensures { OnOk result (report.new ≡ saying report.old
-        (each_said section (option_map symbols_view symbols.entry) (records_view records.entry))) }
+        (each_said part (option_map symbols_view symbols.entry) (records_view records.entry))) }
 {
     match records {
-        TakenRecords::Rels(rels) => say_records(rels, &RelRow { section, symbols }, report),
-        TakenRecords::Relas(relas) => say_records(relas, &RelaRow { section, symbols }, report),
+        TakenRecords::Rels(rels) => say_records(rels, &RelRow { part, symbols }, report),
+        TakenRecords::Relas(relas) => say_records(relas, &RelaRow { part, symbols }, report),
+        TakenRecords::Relative(addresses) => say_relative(part, addresses, report),
     }
 }

@@ -2,23 +2,23 @@
 ghost use Rattle.std.specs.Prelude.{◌≡◌, IfOk, OnOk};
 ghost use Rattle.nugwier_listing.specs.Read.{if_read};
 ghost use Rattle.nugwier_listing.specs.Sections.{said_of_sections, sections_said};
-ghost use Rattle.nugwier_listing.specs.Whole.{whole_file};
+ghost use Rattle.nugwier_listing.specs.Whole.{file_of};
 ghost use Rattle.nugwier_listing.specs.inner.Sections.{taken_sections_said};
 ghost use Rattle.nugwier_report.specs.Said.{saying, unread, whole};
 ghost use Rattle.nugwier_report.specs.declared.problem.Part.TheVariants.{SectionNames as IsSectionNames};
 
+use crate::listed::ListedFile;
 use crate::taking::{self, NotTaken};
+use elf::ParseError;
 use elf::endian::EndianParse;
 use elf::headers::Headers;
 use elf::section::SectionHeader;
 use elf::string_table::TerminatedStrings;
-use elf::{ElfStream, ParseError, StreamSource};
 use nugwier_report::kind::Kind;
 use nugwier_report::problem::{Part, Stop};
 use nugwier_report::report::Report;
 use nugwier_report::rows::say_slice;
 use nugwier_report::sections::SectionRow;
-use std::alloc::Global;
 use std::io::Write;
 
 /// The sections, and their names or why these cannot be read.
@@ -29,16 +29,17 @@ pub struct SectionTables<'f> {
 }
 
 /// Takes the sections, if the file declares any.
-pub(crate) fn take_sections<'f, E: EndianParse, S: StreamSource>(
-    stream: &'f ElfStream<E, S, Global>,
+pub(crate) fn take_sections<'f, E: EndianParse, R: ListedFile<E>>(
+    file: &'f R,
 ) -> Result<Option<SectionTables<'f>>, NotTaken>
-    ensures { IfOk result (λ tables. taken_sections_said tables ≡ said_of_sections (whole_file E.little stream.now)) }
+    ensures { IfOk result (λ tables. taken_sections_said tables
+        ≡ said_of_sections (file_of (R.file file.now) (R.bytes file.now))) }
 {
-    if !stream.declares_sections() {
+    if !file.declares_sections() {
         return Ok(None);
     }
-    let names = taking::names(stream)?;
-    let sections = stream.section_headers().as_slice();
+    let names = taking::names(file)?;
+    let sections = file.section_list();
     Ok(Some(SectionTables { sections, names }))
 }
 

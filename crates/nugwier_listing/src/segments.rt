@@ -1,18 +1,14 @@
 //! The segments.
 ghost use Rattle.std.specs.Prelude.{◌≡◌, OnOk};
-ghost use Rattle.nugwier_listing.specs.Segments.{said_of_segments, segments_said};
-ghost use Rattle.nugwier_listing.specs.Whole.{whole_file};
+ghost use Rattle.nugwier_listing.specs.Segments.{segments_said};
 ghost use Rattle.nugwier_report.specs.Said.{saying};
 
-use elf::endian::EndianParse;
 use elf::segment::ProgramHeader;
-use elf::{ElfStream, StreamSource};
 use nugwier_report::kind::Kind;
 use nugwier_report::problem::Stop;
 use nugwier_report::report::Report;
 use nugwier_report::rows::say_slice;
 use nugwier_report::segments::SegmentRow;
-use std::alloc::Global;
 use std::io::Write;
 
 /// Says the segments of a file, if there are any.

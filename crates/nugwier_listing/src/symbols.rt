@@ -4,22 +4,22 @@ ghost use Rattle.std.specs.Option.{option_map};
 ghost use Rattle.elf.specs.Answers.{symbols_view};
 ghost use Rattle.elf_parts.specs.gnu_symver.Table.{versions_view};
 ghost use Rattle.elf_records.specs.Number.{ok_map};
-ghost use Rattle.nugwier_listing.specs.Read.{if_read};
+ghost use Rattle.nugwier_listing.specs.Read.{fault_said, if_read};
 ghost use Rattle.nugwier_listing.specs.Symbols.{all_said, heading_said, none_said, plain_said, rows_said};
 ghost use Rattle.nugwier_listing.specs.Symbols.{said_of_dynamic_symbols, said_of_exports, said_of_letters};
 ghost use Rattle.nugwier_listing.specs.Symbols.{said_of_linked};
-ghost use Rattle.nugwier_listing.specs.Whole.{whole_file};
+ghost use Rattle.nugwier_listing.specs.Whole.{file_of};
 ghost use Rattle.nugwier_listing.specs.inner.Symbols.{linked_said, one_linked_said};
-ghost use Rattle.nugwier_report.specs.Said.{saying, unread, whole};
+ghost use Rattle.nugwier_report.specs.Said.{saying, whole};
 ghost use Rattle.nugwier_report.specs.Symbols.{form_view};
 ghost use Rattle.nugwier_report.specs.declared.problem.Part.TheVariants.{DynamicSymbols, Versions as VersionPart};
 
-use crate::taking;
+use crate::linked::{FoundVersions, linked_symbols, linked_versions};
+use crate::listed::ListedFile;
 use crate::taking::{FoundSymbols, NotTaken, Symbols};
 use elf::endian::EndianParse;
 use elf::gnu_symver::{IndexedVersions, SymbolVersionTable, SymbolVersions};
 use elf::string_table::TerminatedStrings;
-use elf::{ElfStream, ParseError, StreamSource};
 use elf_linking::indexed;
 use nugwier_report::kind::Kind;
 use nugwier_report::problem::{Fault, Part, Stop};
@@ -41,7 +41,7 @@ pub(crate) fn say_symbols<E: EndianParse, W: Write, V: Write>(
     match symbols {
         Ok(Some(symbols)) => say_plain(symbols, report),
         Ok(None) => Ok(()),
-        Err(error) => report.problem(Part::Symbols.whole(), Fault::Read(error)),
+        Err(fault) => report.problem(Part::Symbols.whole(), fault),
     }
 }
 
@@ -81,61 +81,64 @@ fn say_rows<'f, E: EndianParse, T: SymbolVersions<E> + Drop, W: Write, V: Write>
 #[derive(Drop)]
 pub struct LinkedSymbols<'f, E: EndianParse> {
     symbols: Symbols<'f, E>,
-    versions: Result<Option<SymbolVersionTable<'f, E>>, ParseError>,
+    versions: FoundVersions<'f, E>,
 }
 
 /// Symbols for dynamic linking that were taken, if there are any, and what is said of them.
 #[derive(Drop)]
 pub struct LinkedTables<'f, E: EndianParse> {
     form: Form<'f>,
-    linked: Result<Option<LinkedSymbols<'f, E>>, ParseError>,
+    linked: Result<Option<LinkedSymbols<'f, E>>, Fault<'static>>,
 }
 
 /// Takes the symbols for dynamic linking, to say all their fields.
-pub(crate) fn take_dynamic_symbols<'f, E: EndianParse, S: StreamSource>(
-    stream: &'f ElfStream<E, S, Global>,
+pub(crate) fn take_dynamic_symbols<'f, E: EndianParse, R: ListedFile<E>>(
+    file: &'f R,
 ) -> Result<LinkedTables<'f, E>, NotTaken>
-    ensures { IfOk result (λ tables. linked_said tables ≡ said_of_dynamic_symbols (whole_file E.little stream.now)) }
+    ensures { IfOk result (λ tables. linked_said tables
+        ≡ said_of_dynamic_symbols (file_of (R.file file.now) (R.bytes file.now))) }
 {
-    take_linked(stream, Form::Fields)
+    take_linked(file, Form::Fields)
 }
 
 /// Takes the symbols for dynamic linking, to say their values and letters.
-pub(crate) fn take_letters<'f, E: EndianParse, S: StreamSource>(
-    stream: &'f ElfStream<E, S, Global>,
+pub(crate) fn take_letters<'f, E: EndianParse, R: ListedFile<E>>(
+    file: &'f R,
 ) -> Result<LinkedTables<'f, E>, NotTaken>
-    ensures { IfOk result (λ tables. linked_said tables ≡ said_of_letters (whole_file E.little stream.now)) }
+    ensures { IfOk result (λ tables. linked_said tables
+        ≡ said_of_letters (file_of (R.file file.now) (R.bytes file.now))) }
 {
     let form = Form::Letter {
-        class: stream.ehdr.class,
-        sections: stream.section_headers().as_slice(),
+        class: file.class(),
+        sections: file.section_list(),
     };
-    take_linked(stream, form)
+    take_linked(file, form)
 }
 
 /// Takes the symbols for dynamic linking, to say those that other files can call.
-pub(crate) fn take_exports<'f, E: EndianParse, S: StreamSource>(
-    stream: &'f ElfStream<E, S, Global>,
+pub(crate) fn take_exports<'f, E: EndianParse, R: ListedFile<E>>(
+    file: &'f R,
 ) -> Result<LinkedTables<'f, E>, NotTaken>
-    ensures { IfOk result (λ tables. linked_said tables ≡ said_of_exports (whole_file E.little stream.now)) }
+    ensures { IfOk result (λ tables. linked_said tables
+        ≡ said_of_exports (file_of (R.file file.now) (R.bytes file.now))) }
 {
-    take_linked(stream, Form::Export)
+    take_linked(file, Form::Export)
 }
 
-fn take_linked<'f, E: EndianParse, S: StreamSource>(
-    stream: &'f ElfStream<E, S, Global>,
+fn take_linked<'f, E: EndianParse, R: ListedFile<E>>(
+    file: &'f R,
     form: Form<'f>,
 ) -> Result<LinkedTables<'f, E>, NotTaken>
     ensures { IfOk result (λ tables. linked_said tables
-        ≡ said_of_linked (form_view form.entry) (whole_file E.little stream.now)) }
+        ≡ said_of_linked (form_view form.entry) (file_of (R.file file.now) (R.bytes file.now))) }
 {
-    let linked = match taking::dynamic_symbols(stream)? {
+    let linked = match linked_symbols(file)? {
         Ok(Some(symbols)) => {
-            let versions = taking::versions(stream)?;
+            let versions = linked_versions(file)?;
             Ok(Some(LinkedSymbols { symbols, versions }))
         }
         Ok(None) => Ok(None),
-        Err(error) => Err(error),
+        Err(fault) => Err(fault),
     };
     Ok(LinkedTables { form, linked })
 }
@@ -148,10 +151,11 @@ pub(crate) fn say_linked<E: EndianParse, W: Write, V: Write>(
 ) -> Result<(), Stop>
     ensures { OnOk result (report.new ≡ saying report.old (linked_said tables.entry)) }
 {
-    match tables.linked {
-        Ok(Some(linked)) => say_versioned(alloc, tables.form, linked, report),
-        Ok(None) => say_none(tables.form, report),
-        Err(error) => report.problem(Part::DynamicSymbols.whole(), Fault::Read(error)),
+    let LinkedTables { form, linked } = tables;
+    match linked {
+        Ok(Some(linked)) => say_versioned(alloc, form, linked, report),
+        Ok(None) => say_none(form, report),
+        Err(fault) => report.problem(Part::DynamicSymbols.whole(), fault),
     }
 }
 
@@ -182,18 +186,18 @@ fn say_versioned<'f, E: EndianParse, W: Write, V: Write>(
 
 // The versions, if they can be read.
 fn known_versions<'f, E: EndianParse, W: Write, V: Write>(
-    versions: Result<Option<SymbolVersionTable<'f, E>>, ParseError>,
+    versions: FoundVersions<'f, E>,
     report: &mut Report<'_, W, V>,
 ) -> Result<Option<SymbolVersionTable<'f, E>>, Stop>
     ensures versions { IfOk result (λ known. option_map versions_view known
         ≡ if_read (ok_map (option_map versions_view) versions.entry)) }
     ensures wrong { OnOk result (report.new ≡ saying report.old
-        (unread (whole VersionPart) (ok_map (option_map versions_view) versions.entry))) }
+        (fault_said (whole VersionPart) (ok_map (option_map versions_view) versions.entry))) }
 {
     match versions {
         Ok(versions) => Ok(versions),
-        Err(error) => {
-            report.problem(Part::Versions.whole(), Fault::Read(error))?;
+        Err(fault) => {
+            report.problem(Part::Versions.whole(), fault)?;
             Ok(None)
         }
     }

@@ -8,12 +8,13 @@ ghost use Rattle.nugwier_listing.specs.Read.{read_said};
 ghost use Rattle.nugwier_listing.specs.VersionLists.{has_versions, heading_of, is_defining, linked_content, records_in};
 ghost use Rattle.nugwier_listing.specs.VersionLists.{records_said, said_of_version_lists, section_said};
 ghost use Rattle.nugwier_listing.specs.VersionLists.{versions_in, versions_of};
-ghost use Rattle.nugwier_listing.specs.Whole.{whole_file};
+ghost use Rattle.nugwier_listing.specs.Whole.{file_of};
 ghost use Rattle.nugwier_listing.specs.inner.VersionLists.{part_said, records_view, versions_view};
 ghost use Rattle.nugwier_report.specs.Said.{saying};
 ghost use Rattle.nugwier_report.specs.declared.problem.Part.TheVariants.{Section};
 
 use crate::headings::{heading_members, known_names, name_shown};
+use crate::listed::ListedFile;
 use crate::parts::TakenPart;
 use crate::taking;
 use crate::taking::NotTaken;
@@ -23,7 +24,7 @@ use elf::gnu_symver::{VerDefIterator, VerNeedIterator};
 use elf::headers::Headers;
 use elf::section::SectionHeader;
 use elf::string_table::{StringTable, TerminatedStrings};
-use elf::{ElfStream, ParseError, StreamSource, abi};
+use elf::{ParseError, abi};
 use nugwier_report::kind::Kind;
 use nugwier_report::problem::{Fault, Part, Stop};
 use nugwier_report::report::Report;
@@ -70,53 +71,53 @@ impl<'f, E: EndianParse> TakenPart for VersionPart<'f, E> {
 }
 
 /// Takes the versions of each section that defines or needs some.
-pub(crate) fn take_version_lists<'f, E: EndianParse, S: StreamSource>(
+pub(crate) fn take_version_lists<'f, E: EndianParse, R: ListedFile<E>>(
     alloc: Global,
-    stream: &'f ElfStream<E, S, Global>,
+    file: &'f R,
 ) -> Result<Vec<VersionPart<'f, E>>, NotTaken>
     ensures { IfOk result (λ parts. flat_map part_said parts.items
-        ≡ said_of_version_lists (whole_file E.little stream.now)) }
+        ≡ said_of_version_lists (file_of (R.file file.now) (R.bytes file.now))) }
 {
-    let names = known_names(stream)?;
+    let names = known_names(file)?;
     let mut parts = Vec::new(alloc);
     let mut number = 0;
-    for section in stream.section_headers().as_slice() {
-        add_section(stream, &names, number, section, &mut parts)?;
+    for section in file.section_list() {
+        add_section(file, &names, number, section, &mut parts)?;
         number += 1;
     }
     Ok(parts)
 }
 
 // Takes the versions of a section, if it has any, and adds them.
-fn add_section<'f, E: EndianParse, S: StreamSource>(
-    stream: &'f ElfStream<E, S, Global>,
+fn add_section<'f, E: EndianParse, R: ListedFile<E>>(
+    file: &'f R,
     names: &Option<TerminatedStrings<'f>>,
     number: u64,
     section: &SectionHeader,
     parts: &mut Vec<VersionPart<'f, E>>,
 ) -> Result<(), NotTaken>
-    ensures { let whole = whole_file E.little stream.now in
+    ensures { let whole = file_of (R.file file.now) (R.bytes file.now) in
         names.now ≡ known_names whole → OnOk result (flat_map part_said parts.new.items
         ≡ flat_map part_said parts.old.items ++ versions_in whole number section.now) }
 {
     if !has_versions(section) {
         return Ok(());
     }
-    let part = take_part(stream, names, number, section)?;
+    let part = take_part(file, names, number, section)?;
     parts.push(part)?;
     Ok(())
 }
 
-fn take_part<'f, E: EndianParse, S: StreamSource>(
-    stream: &'f ElfStream<E, S, Global>,
+fn take_part<'f, E: EndianParse, R: ListedFile<E>>(
+    file: &'f R,
     names: &Option<TerminatedStrings<'f>>,
     number: u64,
     section: &SectionHeader,
 ) -> Result<VersionPart<'f, E>, NotTaken>
     ensures { IfOk result (λ part. part_said part ≡ section_said number (name_shown names.now section.now)
-        (is_defining section.now) (versions_of (whole_file E.little stream.now) section.now)) }
+        (is_defining section.now) (versions_of (file_of (R.file file.now) (R.bytes file.now)) section.now)) }
 {
-    let versions = take_versions(stream, section)?;
+    let versions = take_versions(file, section)?;
     Ok(VersionPart {
         number,
         name: name_shown(names, section),
@@ -139,36 +140,36 @@ fn is_defining(section: &SectionHeader) -> bool
 }
 
 // The versions of a section, and the strings of the section that it links to.
-fn take_versions<'f, E: EndianParse, S: StreamSource>(
-    stream: &'f ElfStream<E, S, Global>,
+fn take_versions<'f, E: EndianParse, R: ListedFile<E>>(
+    file: &'f R,
     section: &SectionHeader,
 ) -> Result<Result<TakenVersions<'f, E>, ParseError>, NotTaken>
     ensures { IfOk result (λ found. ok_map versions_view found
-        ≡ versions_of (whole_file E.little stream.now) section.now) }
+        ≡ versions_of (file_of (R.file file.now) (R.bytes file.now)) section.now) }
 {
-    let bytes = match taking::content(stream, section)? {
+    let bytes = match taking::content(file, section)? {
         Ok(bytes) => bytes,
         Err(error) => return Ok(Err(error)),
     };
-    let strings = match linked_content(stream, section)? {
+    let strings = match linked_content(file, section)? {
         Ok(strings) => strings,
         Err(error) => return Ok(Err(error)),
     };
-    let order = stream.ehdr.endianness;
-    let records = records_in(order, stream.ehdr.class, section, bytes);
+    let order = file.endianness();
+    let records = records_in(order, file.class(), section, bytes);
     let strings = TerminatedStrings::new(&StringTable::new(strings));
     Ok(Ok(TakenVersions { records, strings }))
 }
 
-fn linked_content<'f, E: EndianParse, S: StreamSource>(
-    stream: &'f ElfStream<E, S, Global>,
+fn linked_content<'f, E: EndianParse, R: ListedFile<E>>(
+    file: &'f R,
     section: &SectionHeader,
 ) -> Result<Result<&'f [u8], ParseError>, NotTaken>
     ensures { IfOk result (λ found. ok_map (λ bytes. bytes.now) found
-        ≡ linked_content (whole_file E.little stream.now) section.now) }
+        ≡ linked_content (file_of (R.file file.now) (R.bytes file.now)) section.now) }
 {
-    match stream.section_at(section.sh_link as usize) {
-        Ok(linked) => taking::content(stream, &linked),
+    match file.section_at(section.sh_link as usize) {
+        Ok(linked) => taking::content(file, &linked),
         Err(error) => Ok(Err(error)),
     }
 }

@@ -1,7 +1,7 @@
 -- The files of a scope side by side with their tables or objects, one file more at a time.
 use Rattle.std.proofs.Common.{◌≡◌, ℕ, ◌+◌, ◌<◌, ◌≤◌, Bool, true, false, List, [], ◌∷◌, ◌++◌, length, map, drop, take, ◌-◌, get_or, Bor, Option, Some, None, Result, Ok, ap, sym, subst, refl, ◌∙◌, arith, append_assoc, append-nil}
 use Rattle.std.proofs.lemmas.List.{drop_all, drop_more, length-map, map-append, take_all}
-use Rattle.std.proofs.lemmas.Option.{get_or_from_slice_get, slice_get-map, slice_get_within}
+use Rattle.std.proofs.lemmas.Option.{get_or_from_slice_get, slice_get-get_or, slice_get-map, slice_get_within}
 use Rattle.std.specs.List.{flat_map, zip}
 use Rattle.std.specs.Option.{option_copied, option_map}
 use Rattle.std.proofs.lemmas.Bool.Decides.{nat_tests}
@@ -17,19 +17,17 @@ use Rattle.elf_hash_check.specs.declared.hashcheck.gnu.CheckedGnuHash.{CheckedGn
 use Rattle.elf_hash_check.specs.declared.hashcheck.sysv.CheckedSysvHash.{CheckedSysvHash}
 use Rattle.elf_linking.specs.Binding.{VersionedObject}
 use Rattle.elf_linking.specs.declared.VersionedObject.{VersionedObject as Versioned}
-use Rattle.elf_records.specs.Endian.{any_is_little, any_of_byte}
 use Rattle.elf_records.specs.Table.{Table}
-use Rattle.elf_records.specs.declared.parse.ParseError.{ParseError}
-use Rattle.elf_reading.specs.Opening.{FileView, opened_file}
-use Rattle.elf.specs.Answers.{dynamic_symbol_table}
-use Rattle.elf_linking.specs.BindingObjects.{GivesVersioned}
+use Rattle.elf_reading.specs.Opening.{FileView}
+use Rattle.elf_linking.specs.DynamicFile.{GivesDynamic, dynamic_symbols}
 use Rattle.elf_linking.specs.declared.resolve.ObjectFault.{ObjectFault}
 use Rattle.elf_linking.specs.Tree.{Entry, entry_view}
 use Rattle.elf_linking.specs.declared.tree.Object.{Object as LoadedObject}
-use Rattle.nugwier_programs.specs.Bindings.{AreAllFilesSaid, AreFilesSaid, AreSaidFrom, AreSearched, AreSymbolsSaid, IsFileSaid, IsFileSearched, IsOpenedSearched, IsSearchedBy, SearchedFile, Searching, Searched, Unsearchable, WithoutSymbols, file_heading, file_uses, files_of, objects_of, opened_object, paths_of, search_problem, searched_by}
+use Rattle.nugwier_programs.specs.Bindings.{AreAllFilesSaid, AreFilesSaid, AreSaidFrom, AreSearched, AreSymbolsSaid, IsFileSaid, IsFileSearched, IsSearchedBy, OpenFile, SearchedFile, Searching, Searched, Unsearchable, WithoutSymbols, file_heading, file_uses, files_of, objects_of, open_at, open_files, open_problem, opened_object, paths_of, search_problem, searched_by}
 use Rattle.nugwier_report.specs.Said.{Said}
-use Rattle.nugwier_programs.specs.inner.Scope.{AreInScope, Opened, file_view, indexed_view, object_of, opened_of, paired_object, scope_paths, searched_file, versions_of}
+use Rattle.nugwier_programs.specs.inner.Scope.{AreInScope, Opened, file_view, indexed_view, object_of, open_view, opened_of, paired_object, scope_paths, searched_file, versions_of}
 use Rattle.nugwier_programs.specs.declared.bindings.objects.BoundFile.{BoundFile}
+use Rattle.nugwier_programs.specs.declared.bindings.objects.OpenFile.{OpenFile as GivenFile}
 use Rattle.nugwier_programs.proofs.Bound.{get_same, uses_moved}
 
 mapped : {A B : Type 0} (f : A → B) (o : Option A) (b : B) → option_map f o ≡ Some b → (a : A) × (o ≡ Some a) × (f a ≡ b)
@@ -67,30 +65,35 @@ first_and_others (x ∷ xs) first some is =
 -- ---- objects, each searched in its own way
 
 -- all objects are searched in these ways if those from place k on are searched in the others
-abbrev pub AreSearchedWith : List Entry → ℕ → List Searching → Type 0
+abbrev pub AreSearchedWith : List OpenFile → ℕ → List Searching → Type 0
 AreSearchedWith objects k so_far = (rest : List Searching) → AreSearched (drop k objects) rest → AreSearched objects (so_far ++ rest)
 
-pub search_more : (objects : List Entry) (k : ℕ) (e : Entry) (so_far : List Searching) (one : Searching) → slice_get objects k ≡ Some e → IsFileSearched e.file one →
+pub search_more : (objects : List OpenFile) (k : ℕ) (e : OpenFile) (so_far : List Searching) (one : Searching) → slice_get objects k ≡ Some e → IsFileSearched e one →
     AreSearchedWith objects k so_far → AreSearchedWith objects (k + 1) (so_far ++ one ∷ [])
 search_more objects k e so_far one at here before rest others =
     let less = slice_get_within objects k e at in
-    let next = drop_more objects k e less ∙ ap (λ (x : Entry). x ∷ drop (k + 1) objects) (get_or_from_slice_get objects k e e at) in
+    let next = drop_more objects k e less ∙ ap (λ (x : OpenFile). x ∷ drop (k + 1) objects) (get_or_from_slice_get objects k e e at) in
     subst (λ (l : List Searching). AreSearched objects l) (sym (append_assoc so_far (one ∷ []) rest))
-    (before (one ∷ rest) (subst (λ (l : List Entry). AreSearched l (one ∷ rest)) (sym next) (here, others)))
+    (before (one ∷ rest) (subst (λ (l : List OpenFile). AreSearched l (one ∷ rest)) (sym next) (here, others)))
 
-pub search_done : (objects : List Entry) (k : ℕ) (so_far : List Searching) → length objects ≤ k → AreSearchedWith objects k so_far → AreSearched objects so_far
+-- the same of the file at a place
+pub search_next : (files : List GivenFile) (k : ℕ) (d : GivenFile) (so_far : List Searching) (one : Searching) → k < length files → IsFileSearched (open_view (get_or files k d)) one →
+    AreSearchedWith (map open_view files) k so_far → AreSearchedWith (map open_view files) (k + 1) (so_far ++ one ∷ [])
+search_next files k d so_far one less here before =
+    search_more (map open_view files) k (open_view (get_or files k d)) so_far one (slice_get-map open_view files k ∙ ap (option_map open_view) (slice_get-get_or files k d less)) here before
+
+pub search_done : (objects : List OpenFile) (k : ℕ) (so_far : List Searching) → length objects ≤ k → AreSearchedWith objects k so_far → AreSearched objects so_far
 search_done objects k so_far past before =
     subst (λ (l : List Searching). AreSearched objects l) (append-nil so_far)
-    (before [] (subst (λ (l : List Entry). AreSearched l []) (sym (drop_all k objects past)) tt))
+    (before [] (subst (λ (l : List OpenFile). AreSearched l []) (sym (drop_all k objects past)) tt))
 
 -- ---- a file that was opened
 
-pub opened_searched : (path bytes : List ℕ) (v : FileView AnyEndian) (symbols : Table × List ℕ) (object : Result (Option VersionedObject) ObjectFault) →
-    opened_file any_is_little any_of_byte bytes ≡ Ok v → dynamic_symbol_table (opened_object v) ≡ Ok (Some symbols) → GivesVersioned (λ (o : VersionedObject). o) (opened_object v) object →
-    IsOpenedSearched path (opened_file any_is_little any_of_byte bytes) (searched_by path v symbols object)
-opened_searched path bytes v symbols object opened named gives =
-    subst (λ (r : Result (FileView AnyEndian) ParseError). IsOpenedSearched path r (searched_by path v symbols object)) (sym opened)
-    (subst (λ (r : Result (Option (Table × List ℕ)) ParseError). IsSearchedBy path v r (searched_by path v symbols object)) (sym named) (object, gives, refl))
+pub opened_searched : (path : List ℕ) (v : FileView AnyEndian) (symbols : Table × List ℕ) (object : Result (Option VersionedObject) ObjectFault) →
+    dynamic_symbols (opened_object v) ≡ Ok (Some symbols) → GivesDynamic (λ (o : VersionedObject). o) (opened_object v) object →
+    IsFileSearched (open_at path v) (searched_by path v symbols object)
+opened_searched path v symbols object named gives =
+    subst (λ (r : Result (Option (Table × List ℕ)) ObjectFault). IsSearchedBy path v r (searched_by path v symbols object)) (sym named) (object, gives, refl)
 
 -- ---- the files of a scope
 
@@ -220,8 +223,8 @@ module _ {order : EndianGhosts AnyEndian} {default : DefaultGhosts AnyEndian} {e
 
   -- else it is, and the files are those of the program and of the libraries
   pub then_said : (one : Searching) (found : List (WithTable order default equal)) (libraries : List Entry) (others : List Searching) (said : List Said) →
-      map searched_file found ≡ files_of one → 0 < length found → AreSearched libraries others →
-      AreAllFilesSaid (files_of one ++ flat_map files_of others) said → AreSaidFrom one libraries (flat_map search_problem others ++ said)
+      map searched_file found ≡ files_of one → 0 < length found → AreSearched (flat_map open_files libraries) others →
+      AreAllFilesSaid (files_of one ++ flat_map files_of others) said → AreSaidFrom one libraries (flat_map open_problem libraries ++ (flat_map search_problem others ++ said))
   then_said (Searched f) found libraries others said is some searched all = (others, searched, said, all, refl)
   then_said WithoutSymbols [] libraries others said is some searched all = absurd (omega (arith, some))
   then_said WithoutSymbols (p ∷ found) libraries others said is some searched all = absurd (cc)

@@ -140,6 +140,10 @@ same_cached None flags kind cache e is = ap (λ (c : Option Cache). cached_in c 
 same_cached (Some b) flags kind cache e is =
     ap (λ (f : List ℕ). λ (name : List ℕ). cached_path (cache_view b.now) f name) e ∙ ap (λ (c : Option Cache). cached_in c kind) is
 
+pub known_as : {A B : Type 0} (f : A → B) (o : Option A) (P : B → Type 0) → IfSome (option_map f o) P → IfSome o (λ x. P (f x))
+known_as f None P h = tt
+known_as f (Some x) P h = h
+
 pub both_known : {A : Type 0} (P Q R : A → Type 0) (o : Option A) → IfSome o P → IfSome o Q → ((x : A) → P x → Q x → R x) → IfSome o R
 both_known P Q R None p q f = tt
 both_known P Q R (Some x) p q f = f x p q

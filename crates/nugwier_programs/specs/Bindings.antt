@@ -1,9 +1,12 @@
 -- What is said of a program about the symbols of it and of its libraries: what they bind to, and what is missing or
 -- not known. Symbols are looked up in the objects in the order of loading, the program first (gABI, chapter "Dynamic
 -- Linking", sections "Shared Object Dependencies" and "Hash Table").
-use Rattle.std.specs.Prelude.{◌≡◌, ℕ, ◌+◌, ◌==◌, if◌then◌else◌, List, [], ◌∷◌, ◌++◌, codes, filter, map, replicate}
-use Rattle.std.specs.Prelude.{Option, Some, None, Result, Ok, Err}
+use Rattle.std.specs.Prelude.{◌≡◌, ℕ, ◌+◌, ◌==◌, Bool, if◌then◌else◌, List, [], ◌∷◌, ◌++◌, codes, filter}
+use Rattle.std.specs.Prelude.{map, replicate, Option, Some, None, Result, Ok, Err}
 use Rattle.std.specs.List.{enumerate_from, flat_map, zip}
+use Rattle.std.specs.Option.{option_to_list}
+use Rattle.std.specs.Result.{result_ok}
+use Rattle.elf_records.specs.Number.{ok_map}
 use Rattle.elf_records.specs.Endian.{any_is_little, any_of_byte}
 use Rattle.elf_records.specs.Symbol.{symbol_reads}
 use Rattle.elf_records.specs.Table.{Table, table_items, table_len}
@@ -12,14 +15,13 @@ use Rattle.elf_records.specs.declared.parse.ParseError.{ParseError}
 use Rattle.elf_records.specs.declared.symbol.Symbol.{Symbol}
 use Rattle.elf_parts.specs.gnu_symver.Table.{Versions}
 use Rattle.elf_reading.specs.Opening.{FileView, opened_file}
-use Rattle.elf.specs.Answers.{dynamic_symbol_table}
 use Rattle.elf.specs.ObjectFile.{ObjectFile, object_file}
 use Rattle.elf_linking.specs.Binding.{VersionedObject}
-use Rattle.elf_linking.specs.BindingObjects.{GivesVersioned}
+use Rattle.elf_linking.specs.DynamicFile.{GivesDynamic, dynamic_symbols, dynamic_uses, is_filter}
 use Rattle.elf_linking.specs.declared.resolve.ObjectFault.{ObjectFault}
 use Rattle.elf_linking.specs.declared.resolve.ObjectFault.TheVariants.{Read as IsRead}
 use Rattle.elf_linking.specs.SymbolBindings.{AreAllBound, is_bound}
-use Rattle.elf_linking.specs.SymbolUses.{no_uses, uses_at, uses_by}
+use Rattle.elf_linking.specs.SymbolUses.{no_uses, uses_at}
 use Rattle.elf_linking.specs.Tree.{Entry, Found}
 use Rattle.elf_linking.specs.declared.bindings.kinds.SymbolBinding.{SymbolBinding}
 use Rattle.elf_linking.specs.declared.bindings.uses.SymbolUses.{SymbolUses}
@@ -27,13 +29,48 @@ use Rattle.elf_linking.specs.declared.bindings.uses.UsesError.{UsesError}
 use Rattle.nugwier_report.specs.Said.{Said, states, text, whole, wrong}
 use Rattle.nugwier_report.specs.declared.kind.Kind.TheVariants.{FileHeading, NextFileHeading}
 use Rattle.nugwier_report.specs.declared.problem.Fault.{Fault}
-use Rattle.nugwier_report.specs.declared.problem.Fault.TheVariants.{NoHash, Object, Read, Relocations}
+use Rattle.nugwier_report.specs.declared.problem.Fault.TheVariants.{Filter, NoHash, Object, Read, Relocations}
 use Rattle.nugwier_report.specs.declared.problem.Part.TheVariants.{File}
 use Rattle.nugwier_programs.specs.Symbols.{symbols_said}
-use Rattle.nugwier_programs.specs.Tree.{AreObjects, Contents, object_problems}
-use denote.Ref.{Bor}
+use Rattle.nugwier_programs.specs.Tree.{AreObjects, Contents, Search, object_problems}
 
 -- ---- what is searched
+
+-- a file that was opened
+pub record OpenFile : Type 0 where
+  pub path : List ℕ
+  pub opened : FileView AnyEndian
+
+abbrev pub opened_object : FileView AnyEndian → ObjectFile
+opened_object v = object_file any_is_little v
+
+abbrev pub open_at : List ℕ → FileView AnyEndian → OpenFile
+open_at path v = record { path = path; opened = v }
+
+-- the file of an object, if it can be opened; a missing library has none
+abbrev pub open_of : Option Found → Option OpenFile
+open_of (Some found) =
+    result_ok (ok_map (open_at found.path) (opened_file any_is_little any_of_byte found.bytes))
+open_of None = None
+
+abbrev pub open_files : Entry → List OpenFile
+open_files e = option_to_list (open_of e.file)
+
+-- that it is a filter, whose libraries are not loaded
+abbrev pub filter_problem : List ℕ → Bool → List Said
+filter_problem path filters = if filters then wrong (whole File) (Filter path) ∷ [] else []
+
+-- the same, or that it cannot be opened
+abbrev pub opening_problem : List ℕ → Result (FileView AnyEndian) ParseError → List Said
+opening_problem path (Ok v) = filter_problem path (is_filter (opened_object v))
+opening_problem path (Err e) = wrong (whole File) (Object path (IsRead e)) ∷ []
+
+abbrev pub file_problem : Option Found → List Said
+file_problem (Some found) = opening_problem found.path (opened_file any_is_little any_of_byte found.bytes)
+file_problem None = []
+
+abbrev pub open_problem : Entry → List Said
+open_problem e = file_problem e.file
 
 -- a file that look-ups search: its path, its symbols for dynamic linking with their names, and its hash table with
 -- their versions
@@ -43,7 +80,7 @@ pub record SearchedFile : Type 0 where
   pub symbols : Table × List ℕ
   pub object : VersionedObject
 
--- how look-ups take an object: they search its file, there is nothing to search, or they cannot search it
+-- how look-ups take a file: they search it, there is nothing to search, or they cannot search it
 pub data Searching : Type 0 where
   Searched : SearchedFile → Searching
   WithoutSymbols : Searching
@@ -57,32 +94,24 @@ searched_by path v symbols (Ok (Some object)) =
 searched_by path v symbols (Ok None) = Unsearchable (NoHash path)
 searched_by path v symbols (Err fault) = Unsearchable (Object path fault)
 
-abbrev pub opened_object : FileView AnyEndian → ObjectFile
-opened_object v = object_file any_is_little v
-
-abbrev pub IsSearchedBy : List ℕ → FileView AnyEndian → Result (Option (Table × List ℕ)) ParseError → Searching → Type 0
+abbrev pub IsSearchedBy : List ℕ → FileView AnyEndian → Result (Option (Table × List ℕ)) ObjectFault → Searching →
+    Type 0
 IsSearchedBy path v (Ok (Some symbols)) searching =
     (object : Result (Option VersionedObject) ObjectFault)
-    × GivesVersioned (λ (o : VersionedObject). o) (opened_object v) object
+    × GivesDynamic (λ (o : VersionedObject). o) (opened_object v) object
     × (searching ≡ searched_by path v symbols object)
 IsSearchedBy path v (Ok None) searching = searching ≡ WithoutSymbols
-IsSearchedBy path v (Err e) searching = searching ≡ Unsearchable (Object path (IsRead e))
+IsSearchedBy path v (Err fault) searching = searching ≡ Unsearchable (Object path fault)
 
-abbrev pub IsOpenedSearched : List ℕ → Result (FileView AnyEndian) ParseError → Searching → Type 0
-IsOpenedSearched path (Ok v) searching = IsSearchedBy path v (dynamic_symbol_table (opened_object v)) searching
-IsOpenedSearched path (Err e) searching = searching ≡ Unsearchable (Object path (IsRead e))
+abbrev pub IsFileSearched : OpenFile → Searching → Type 0
+IsFileSearched file searching =
+    IsSearchedBy file.path file.opened (dynamic_symbols (opened_object file.opened)) searching
 
--- the file of an object; a missing library has no symbols
-abbrev pub IsFileSearched : Option Found → Searching → Type 0
-IsFileSearched (Some found) searching =
-    IsOpenedSearched found.path (opened_file any_is_little any_of_byte found.bytes) searching
-IsFileSearched None searching = searching ≡ WithoutSymbols
-
-abbrev pub AreSearched : List Entry → List Searching → Type 0
+abbrev pub AreSearched : List OpenFile → List Searching → Type 0
 AreSearched [] [] = Unit {0}
 AreSearched [] (searching ∷ others) = ⊥
-AreSearched (e ∷ objects) [] = ⊥
-AreSearched (e ∷ objects) (searching ∷ others) = IsFileSearched e.file searching × AreSearched objects others
+AreSearched (file ∷ files) [] = ⊥
+AreSearched (file ∷ files) (searching ∷ others) = IsFileSearched file searching × AreSearched files others
 
 abbrev pub files_of : Searching → List SearchedFile
 files_of (Searched file) = file ∷ []
@@ -98,7 +127,8 @@ search_problem (Unsearchable fault) = wrong (whole File) fault ∷ []
 
 -- how the relocations of the file use its symbols
 abbrev pub file_uses : FileView AnyEndian → Table → Result (List SymbolUses) UsesError
-file_uses v symbols = uses_by v.ehdr.e_machine (opened_object v) (replicate (table_len symbol_reads symbols) no_uses)
+file_uses v symbols =
+    dynamic_uses v.ehdr.e_machine (opened_object v) (replicate (table_len symbol_reads symbols) no_uses)
 
 abbrev pub uses_problem : List ℕ → Result (List SymbolUses) UsesError → List Said
 uses_problem path (Ok uses) = []
@@ -160,23 +190,30 @@ AreAllFilesSaid scope said = AreFilesSaid scope 0 scope said
 -- searched, nothing is said
 abbrev pub AreSaidFrom : Searching → List Entry → List Said → Type 0
 AreSaidFrom (Searched program) libraries said =
-    (others : List Searching) × AreSearched libraries others
+    (others : List Searching) × AreSearched (flat_map open_files libraries) others
     × (files : List Said) × AreAllFilesSaid (program ∷ flat_map files_of others) files
-    × (said ≡ flat_map search_problem others ++ files)
+    × (said ≡ flat_map open_problem libraries ++ (flat_map search_problem others ++ files))
 AreSaidFrom WithoutSymbols libraries said = said ≡ []
 AreSaidFrom (Unsearchable fault) libraries said = said ≡ []
 
--- a program and its libraries: which cannot be searched, and what is said of the others
+-- the same of a program that was opened
+abbrev pub IsProgramSaid : Option OpenFile → List Entry → List Said → Type 0
+IsProgramSaid (Some program) libraries said =
+    (first : Searching) × IsFileSearched program first
+    × (others : List Said) × AreSaidFrom first libraries others × (said ≡ search_problem first ++ others)
+IsProgramSaid None libraries said = said ≡ []
+
+-- a program and its libraries: which are filters, or cannot be opened or searched, and what is said of the others
 abbrev pub AreObjectsSaid : List Entry → List Said → Type 0
 AreObjectsSaid [] said = said ≡ []
 AreObjectsSaid (program ∷ libraries) said =
-    (first : Searching) × IsFileSearched program.file first
-    × (others : List Said) × AreSaidFrom first libraries others × (said ≡ search_problem first ++ others)
+    (others : List Said) × IsProgramSaid (open_of program.file) libraries others
+    × (said ≡ open_problem program ++ others)
 
 -- of a file: that it is no program, or which libraries are missing or have names that are not known, and what the
 -- symbols bind to
-abbrev pub IsBindingsSaid : Contents → List (Bor (List ℕ)) → Result Found ParseError → List Said → Type 0
-IsBindingsSaid contents searches (Ok program) said =
-    (objects : List Entry) × AreObjects contents searches program objects
+abbrev pub IsBindingsSaid : Contents → Search → Result Found ParseError → List Said → Type 0
+IsBindingsSaid contents search (Ok program) said =
+    (objects : List Entry) × AreObjects contents search program objects
     × (symbols : List Said) × AreObjectsSaid objects symbols × (said ≡ object_problems objects ++ symbols)
-IsBindingsSaid contents searches (Err e) said = said ≡ wrong (whole File) (Read e) ∷ []
+IsBindingsSaid contents search (Err e) said = said ≡ wrong (whole File) (Read e) ∷ []

@@ -12,7 +12,8 @@ use Rattle.elf_records.specs.declared.parse.ParseError.{ParseError}
 use Rattle.elf_linking.specs.Cache.{Cache, cache_of, cached_path, flags_of}
 use Rattle.elf_linking.specs.Search.{Others}
 use Rattle.elf_linking.specs.Needed.{Named}
-use Rattle.elf_linking.specs.Tree.{Entry, Found, IsLoadOrder, found_view, loader_at}
+use Rattle.elf_linking.specs.Tree.{Entry, Found, IsLoadOrder, found_view, loader_at, opened_names, opened_whole}
+use Rattle.elf_linking.specs.Tree.{without_bytes}
 use Rattle.elf_linking.specs.declared.needed.NamesError.{NamesError}
 use Rattle.elf_linking.specs.declared.tree.Kind.{Kind}
 use Rattle.elf_linking.specs.declared.tree.LoadedFile.{LoadedFile}
@@ -21,6 +22,7 @@ use Rattle.nugwier_report.specs.Said.{Said, whole, wrong}
 use Rattle.nugwier_report.specs.declared.problem.Fault.TheVariants.{Names, NotFound, Read}
 use Rattle.nugwier_report.specs.declared.problem.Part.TheVariants.{File}
 use Rattle.nugwier_programs.specs.Usual.{lib_of, platform_of, usual_folders}
+use Rattle.nugwier_programs.specs.declared.tree.Search.{Search as Given}
 use denote.Ref.{Bor}
 
 -- ---- the program and its libraries
@@ -29,6 +31,14 @@ use denote.Ref.{Bor}
 abbrev pub IsProgram : Result Found ParseError → Option LoadedFile → Type 0
 IsProgram file None = IsErr file
 IsProgram file (Some program) = file ≡ Ok (found_view program)
+
+-- where libraries are searched for: in these folders, and whether the linker's cache counts
+pub record Search : Type 0 where
+  pub folders : List (Bor (List ℕ))
+  pub has_cache : Bool
+
+abbrev pub search_view : Given → Search
+search_view search = record { folders = search.folders.now; has_cache = search.has_cache }
 
 -- the folders that are searched as the value of LD_LIBRARY_PATH: with colons between them
 abbrev pub library_path : List (Bor (List ℕ)) → List ℕ
@@ -44,13 +54,17 @@ abbrev pub cached_in : Option Cache → Kind → List ℕ → Option (List ℕ)
 cached_in None kind name = None
 cached_in (Some cache) kind name = cached_path cache (flags_of kind.machine kind.class) name
 
+-- the file of the cache, if it counts
+abbrev pub cache_file : Bool → (List ℕ → Option (List ℕ)) → Option (List ℕ)
+cache_file has_cache files = if has_cache then files (codes "/etc/ld.so.cache") else None
+
 -- these, the cache, and what belongs to the program's kind
-abbrev pub others_of : (List ℕ → Option (List ℕ)) → List (Bor (List ℕ)) → Kind → Others
-others_of files searches kind = record {
-  library_path = Some (library_path searches);
+abbrev pub others_of : (List ℕ → Option (List ℕ)) → Search → Kind → Others
+others_of files search kind = record {
+  library_path = Some (library_path search.folders);
   lib = lib_of kind;
   platform = platform_of kind;
-  cached = cached_in (cache_in kind.order (files (codes "/etc/ld.so.cache"))) kind;
+  cached = cached_in (cache_in kind.order (cache_file search.has_cache files)) kind;
   usual_folders = usual_folders kind;
 }
 
@@ -58,10 +72,18 @@ others_of files searches kind = record {
 abbrev pub Contents : Type 0
 Contents = Option (List ℕ → Option (List ℕ))
 
--- the program with the libraries that it loads, in order
-abbrev pub AreObjects : Contents → List (Bor (List ℕ)) → Found → List Entry → Type 0
-AreObjects contents searches program objects =
-    IfSome contents (λ files. IsLoadOrder files (others_of files searches program.kind) program objects)
+-- the program with the libraries that it loads, in order, by what is opened of files with these contents
+abbrev pub AreOpened :
+    ((List ℕ → Option (List ℕ)) → List ℕ → Option Found) → Contents → Search → Found → List Entry → Type 0
+AreOpened opened contents search program objects = IfSome contents (λ files.
+    IsLoadOrder (opened files) (others_of files search program.kind) program objects)
+
+-- with all bytes, or by their names alone
+abbrev pub AreObjects : Contents → Search → Found → List Entry → Type 0
+AreObjects contents search program objects = AreOpened opened_whole contents search program objects
+
+abbrev pub AreNamedObjects : Contents → Search → Found → List Entry → Type 0
+AreNamedObjects contents search program objects = AreOpened opened_names contents search program objects
 
 -- ---- the order in which they are listed
 
@@ -147,8 +169,12 @@ object_problems objects = flat_map (object_problem objects) objects
 abbrev pub said_of_tree : List Entry → List Said
 said_of_tree objects = flat_map (listed_said objects) (listed objects) ++ object_problems objects
 
+-- of a program by its names alone
+abbrev pub IsNamedSaid : Contents → Search → Found → List Said → Type 0
+IsNamedSaid contents search program said =
+    (objects : List Entry) × AreNamedObjects contents search program objects × (said ≡ said_of_tree objects)
+
 -- of a file: that it is no program, or the tree
-abbrev pub IsTreeSaid : Contents → List (Bor (List ℕ)) → Result Found ParseError → List Said → Type 0
-IsTreeSaid contents searches (Ok program) said =
-    (objects : List Entry) × AreObjects contents searches program objects × (said ≡ said_of_tree objects)
-IsTreeSaid contents searches (Err e) said = said ≡ wrong (whole File) (Read e) ∷ []
+abbrev pub IsTreeSaid : Contents → Search → Result Found ParseError → List Said → Type 0
+IsTreeSaid contents search (Ok program) said = IsNamedSaid contents search (without_bytes program) said
+IsTreeSaid contents search (Err e) said = said ≡ wrong (whole File) (Read e) ∷ []

@@ -1,18 +1,23 @@
 //! What the symbols of a program and of its libraries bind to.
-ghost use Rattle.std.specs.Prelude.{◌≡◌, ◌∷◌, List, OnOk, map};
+ghost use Rattle.std.specs.Prelude.{◌≡◌, ◌∷◌, ◌++◌, List, OnOk, Some, map};
+ghost use Rattle.std.specs.List.{flat_map};
 ghost use Rattle.elf_linking.specs.Tree.{entry_view, file_of};
-ghost use Rattle.nugwier_programs.specs.Bindings.{AreAllFilesSaid, AreObjectsSaid, IsBindingsSaid, SearchedFile};
-ghost use Rattle.nugwier_programs.specs.inner.Scope.{AreInScope, searched_file};
+ghost use Rattle.nugwier_programs.specs.Bindings.{AreAllFilesSaid, AreObjectsSaid, AreSearched, IsBindingsSaid};
+ghost use Rattle.nugwier_programs.specs.Bindings.{IsProgramSaid, SearchedFile, Searching, files_of, search_problem};
+ghost use Rattle.nugwier_programs.specs.inner.Scope.{AreInScope, open_view, searched_file};
+ghost use Rattle.nugwier_programs.specs.Tree.{search_view};
 ghost use Rattle.nugwier_report.specs.Said.{Said, saying};
 
 mod objects;
 mod rows;
 mod targets;
 
-use crate::bindings::objects::{WithTable, add_file, add_files, index_objects, split};
+use crate::bindings::objects::{
+    OpenFile, WithTable, add_file, add_files, index_objects, open_file, open_files, split,
+};
 use crate::bindings::rows::say_file;
 use crate::bindings::targets::Scope;
-use crate::tree::{objects, open_program, say_problems};
+use crate::tree::{Search, objects, open_program, say_problems};
 use elf_linking::tree::{Libraries, Object};
 use nugwier_report::problem::Stop;
 use nugwier_report::report::Report;
@@ -20,25 +25,24 @@ use std::alloc::Global;
 use std::io::Write;
 
 /// Says what the symbols of a program and of its libraries bind to, which libraries are missing or have names that are
-/// not known, and what is missing or not known of the symbols. `searches` are folders in which libraries are searched
-/// for, as if `LD_LIBRARY_PATH` named them. The path and the data are those of the program. The errors are that of the
-/// writer, and a failed allocation.
+/// not known, and what is missing or not known of the symbols. The path and the data are those of the program. The errors
+/// are that of the writer, and a failed allocation.
 pub fn say_bindings<L: Libraries, W: Write, V: Write>(
     alloc: Global,
-    searches: &[&str],
+    search: Search<'_>,
     libraries: &L,
     path: &str,
     data: Vec<u8>,
     report: &mut Report<'_, W, V>,
 ) -> Result<(), Stop>
     ensures { OnOk result ((said : List Said)
-        × IsBindingsSaid (L.contents libraries.now) searches.now (file_of path.now «data».items) said
+        × IsBindingsSaid (L.contents libraries.now) (search_view search.entry) (file_of path.now «data».items) said
         × (report.new ≡ saying report.old said)) }
 {
     let Some(program) = open_program(alloc, path, data, report)? else {
         return Ok(());
     };
-    let objects = objects(alloc, searches, libraries, program)?;
+    let objects = objects(alloc, search, libraries, program)?;
     say_problems(&objects, report)?;
     say_objects(alloc, &objects, report)?;
     Ok(())
@@ -76,11 +80,47 @@ fn say_program<W: Write, V: Write>(
         × AreObjectsSaid (entry_view program.now ∷ map entry_view libraries.now) said
         × (report.new ≡ saying report.old said)) }
 {
+    let Some(program) = open_file(program, report)? else {
+        return Ok(());
+    };
+    say_opened(alloc, &program, libraries, report)?;
+    Ok(())
+}
+
+// Says it of a program that was opened.
+fn say_opened<W: Write, V: Write>(
+    alloc: Global,
+    program: &OpenFile<'_>,
+    libraries: &[Object],
+    report: &mut Report<'_, W, V>,
+) -> Result<(), Stop>
+    ensures { OnOk result ((said : List Said)
+        × IsProgramSaid (Some (open_view program.now)) (map entry_view libraries.now) said
+        × (report.new ≡ saying report.old said)) }
+{
     let mut found = Vec::new(alloc);
     add_file(program, &mut found, report)?;
     if found.is_empty() {
         return Ok(());
     }
+    let opened = open_files(alloc, libraries, report)?;
+    say_with(alloc, found, opened.as_slice(), report)?;
+    Ok(())
+}
+
+// Says it of the files that were found, and of those of these that can be searched.
+fn say_with<'a, W: Write, V: Write>(
+    alloc: Global,
+    found: Vec<WithTable<'a>>,
+    libraries: &'a [OpenFile<'a>],
+    report: &mut Report<'_, W, V>,
+) -> Result<(), Stop>
+    ensures { OnOk result ((others : List Searching) × AreSearched (map open_view libraries.now) others
+        × (files : List Said)
+        × AreAllFilesSaid (map searched_file found.entry.items ++ flat_map files_of others) files
+        × (report.new ≡ saying report.old (flat_map search_problem others ++ files))) }
+{
+    let mut found = found;
     add_files(libraries, &mut found, report)?;
     say_found(alloc, found, report)?;
     Ok(())

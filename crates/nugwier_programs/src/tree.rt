@@ -1,11 +1,13 @@
 //! The libraries that a program loads.
-ghost use Rattle.std.specs.Prelude.{◌≡◌, ◌++◌, List, Some, IfOk, OnOk, map, slice_get};
+ghost use Rattle.std.specs.Prelude.{◌≡◌, ◌++◌, ℕ, List, Some, IfOk, IfSome, OnOk, map, slice_get};
 ghost use Rattle.std.specs.List.{flat_map};
 ghost use Rattle.std.specs.Option.{option_copied, option_map};
 ghost use Rattle.std.specs.Vec.{vec_items};
+ghost use Rattle.std.specs.declared.option.Option.{Option};
 ghost use Rattle.elf_linking.specs.Cache.{cache_view};
-ghost use Rattle.elf_linking.specs.Tree.{Entry, entry_view, file_of, found_view, loader_at};
-ghost use Rattle.nugwier_programs.specs.Tree.{AreObjects, IsProgram, IsTreeSaid, after_it, at_depth, cache_in, entry_said};
+ghost use Rattle.elf_linking.specs.Tree.{Entry, Found, entry_view, file_of, found_view, loader_at};
+ghost use Rattle.nugwier_programs.specs.Tree.{AreNamedObjects, AreObjects, AreOpened, IsNamedSaid, IsProgram, IsTreeSaid};
+ghost use Rattle.nugwier_programs.specs.Tree.{after_it, at_depth, cache_file, cache_in, entry_said, search_view};
 ghost use Rattle.nugwier_programs.specs.Tree.{first_needed};
 ghost use Rattle.nugwier_programs.specs.Tree.{is_needed_by, library_path, listed, listed_said, names_problem};
 ghost use Rattle.nugwier_programs.specs.Tree.{next_beside};
@@ -18,7 +20,10 @@ use crate::usual::{lib_of, platform_of, usual_folders};
 use elf::endian::AnyEndian;
 use elf_linking::cache::{LibraryFlags, LinkerCache};
 use elf_linking::search::Surroundings;
-use elf_linking::tree::{Libraries, LoadedFile, Object, OpenError, load_order};
+use elf_linking::tree::whole::WholeLibraries;
+use elf_linking::tree::{Libraries, LoadedFile, Object, OpenError, Opener, load_order};
+use nugwier_files::files::Files;
+use nugwier_files::named::NamedLibraries;
 use nugwier_report::objects::ListedObject;
 use nugwier_report::problem::{Fault, Item, Part, Place, Stop};
 use nugwier_report::quoted::{NamesFault, Quoted};
@@ -26,25 +31,48 @@ use nugwier_report::report::Report;
 use std::alloc::{AllocError, Global};
 use std::io::Write;
 
-/// Says which libraries a program loads, which of them are not found, and which have names that are not known.
-/// `searches` are folders in which they are searched for, as if `LD_LIBRARY_PATH` named them. The path and the data are
-/// those of the program. The errors are that of the writer, and a failed allocation.
-pub fn say_tree<L: Libraries, W: Write, V: Write>(
+/// Where libraries are searched for.
+#[derive(Debug, Clone, Copy)]
+pub struct Search<'a> {
+    /// Folders, as if `LD_LIBRARY_PATH` named them.
+    pub folders: &'a [&'a str],
+    /// Whether the linker's cache counts.
+    pub has_cache: bool,
+}
+
+/// Says which libraries a program loads, which of them are not found, and which have names that are not known. The path
+/// and the data are those of the program. The errors are that of the writer, and a failed allocation.
+pub fn say_tree<F: Files, W: Write, V: Write>(
     alloc: Global,
-    searches: &[&str],
-    libraries: &L,
+    search: Search<'_>,
+    files: &F,
     path: &str,
     data: Vec<u8>,
     report: &mut Report<'_, W, V>,
 ) -> Result<(), Stop>
     ensures { OnOk result ((said : List Said)
-        × IsTreeSaid (L.contents libraries.now) searches.now (file_of path.now «data».items) said
+        × IsTreeSaid (F.known files.now) (search_view search.entry) (file_of path.now «data».items) said
         × (report.new ≡ saying report.old said)) }
 {
     let Some(program) = open_program(alloc, path, data, report)? else {
         return Ok(());
     };
-    let objects = objects(alloc, searches, libraries, program)?;
+    say_named(alloc, search, files, program.without_bytes(alloc), report)
+}
+
+/// Says the same of a program that was opened by its names alone.
+pub fn say_named<F: Files, W: Write, V: Write>(
+    alloc: Global,
+    search: Search<'_>,
+    files: &F,
+    program: LoadedFile,
+    report: &mut Report<'_, W, V>,
+) -> Result<(), Stop>
+    ensures { OnOk result ((said : List Said)
+        × IsNamedSaid (F.known files.now) (search_view search.entry) (found_view program) said
+        × (report.new ≡ saying report.old said)) }
+{
+    let objects = named_objects(alloc, search, files, program)?;
     say_objects(alloc, &objects, report)?;
     say_problems(&objects, report)
 }
@@ -79,19 +107,66 @@ pub const FILE: Place = Place {
 // The path of the linker's cache of libraries.
 const CACHE: &[u8] = b"/etc/ld.so.cache";
 
-/// Returns the program with its libraries, in the order in which they are loaded.
+/// Returns the program with its libraries, in the order in which they are loaded, with all their bytes.
 pub(crate) fn objects<L: Libraries>(
     alloc: Global,
-    searches: &[&str],
+    search: Search<'_>,
     libraries: &L,
     program: LoadedFile,
 ) -> Result<Vec<Object>, AllocError>
-    ensures { IfOk result (λ objects. AreObjects (L.contents libraries.now) searches.now (found_view program)
+    ensures { IfOk result (λ objects. AreObjects (L.contents libraries.now) (search_view search.entry) (found_view program)
         (map entry_view objects.items)) }
 {
-    let library_path = library_path(alloc, searches)?;
+    let opener = WholeLibraries { libraries };
+    opened_objects(alloc, search, libraries, &opener, program)
+}
+
+// The same by their names alone.
+fn named_objects<F: Files>(
+    alloc: Global,
+    search: Search<'_>,
+    files: &F,
+    program: LoadedFile,
+) -> Result<Vec<Object>, AllocError>
+    ensures { IfOk result (λ objects. AreNamedObjects (F.known files.now) (search_view search.entry) (found_view program)
+        (map entry_view objects.items)) }
+{
+    files.has_libraries();
+    let opener = NamedLibraries { files };
+    opened_objects(alloc, search, files, &opener, program)
+}
+
+// The content of the linker's cache, if it counts and can be read.
+fn cache_file<L: Libraries>(
+    search: Search<'_>,
+    libraries: &L,
+) -> Result<Option<Vec<u8>>, AllocError>
+    ensures { IfOk result (λ file. IfSome (L.contents libraries.now)
+        (λ files. cache_file search.entry.has_cache files ≡ option_map vec_items file)) }
+{
+    if search.has_cache {
+        libraries.read_library(CACHE)
+    } else {
+        Ok(None)
+    }
+}
+
+// The program with the libraries that are opened so.
+fn opened_objects<L: Libraries, O: Opener>(
+    alloc: Global,
+    search: Search<'_>,
+    libraries: &L,
+    opener: &O,
+    program: LoadedFile,
+) -> Result<Vec<Object>, AllocError>
+    ensures { IfOk result (λ objects. (opened : (List ℕ → Option (List ℕ)) → List ℕ → Option Found)
+        → O.opened opener.now ≡ option_map opened (L.contents libraries.now)
+        → AreOpened opened (L.contents libraries.now) (search_view search.entry) (found_view program)
+        (map entry_view objects.items)) }
+{
+    let library_path = library_path(alloc, search.folders)?;
     let usual_folders = usual_folders(alloc, program.kind)?;
-    let file = libraries.read_library(CACHE)?;
+    let file = cache_file(search, libraries)?;
     let cache = cache_in(program.kind.order, &file);
     let surroundings = Surroundings {
         library_path: Some(library_path.as_slice()),
@@ -101,7 +176,7 @@ pub(crate) fn objects<L: Libraries>(
         flags: LibraryFlags::of(program.kind.machine, program.kind.class),
         usual_folders: usual_folders.as_slice(),
     };
-    load_order(alloc, libraries, &surroundings, program)
+    load_order(alloc, opener, &surroundings, program)
 }
 
 // The linker's cache in a file, if there is one that can be read.

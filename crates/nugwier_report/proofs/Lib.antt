@@ -1,5 +1,6 @@
 mod Walks
 pub mod Telling
+pub mod Writing
 pub mod Listing
 pub mod JsonStrings
 pub mod JsonReading

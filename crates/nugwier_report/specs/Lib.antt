@@ -11,8 +11,12 @@ pub mod Kinds
 pub mod Noted
 -- rows for people
 pub mod Text
--- the text of what is said
+-- the text of records
 pub mod Told
+-- the text of problems: of the errors of the libraries, of the sections that they name, and of each problem
+pub mod ErrorTexts
+pub mod Labels
+pub mod Problems
 -- what is said of each kind of item
 pub mod Header
 pub mod Sections

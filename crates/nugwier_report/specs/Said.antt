@@ -2,6 +2,7 @@
 use Rattle.std.specs.Prelude.{ℕ, ◌+◌, ℤ, Bool, true, false, ◌&&◌, List, [], ◌∷◌, ◌++◌, Option, Some, None, Result, Ok}
 use Rattle.std.specs.Prelude.{Err}
 use Rattle.elf_records.specs.declared.parse.ParseError.{ParseError}
+use Rattle.nugwier_report.specs.Labels.{Named}
 use Rattle.nugwier_report.specs.declared.kind.Kind.{Kind}
 use Rattle.nugwier_report.specs.declared.problem.Fault.{Fault}
 use Rattle.nugwier_report.specs.declared.problem.Fault.TheVariants.{Read}
@@ -62,11 +63,14 @@ abbrev pub all_right : List Said → Bool
 all_right [] = true
 all_right (s ∷ said) = is_right_one s && all_right said
 
--- what a report shows: how it is written, what the writer had, whether a write failed, and what was said
+-- what a report shows: how it is written, the sections with which problems are told, what the writers of records and of
+-- problems had, whether a write of a record failed, and what was said
 pub record Telling : Type 0 where
   pub path : List ℕ
   pub is_json : Bool
+  pub named : Named
   pub start : Option (List ℕ)
+  pub told_start : Option (List ℕ)
   pub is_lost : Bool
   pub said : List Said
 

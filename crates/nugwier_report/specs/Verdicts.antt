@@ -1,8 +1,10 @@
--- What is said of whether a file is sound. The texts of faults are free: they are for people.
-use Rattle.std.specs.Prelude.{◌≡◌, ℕ, true, false, List, [], ◌∷◌, ◌++◌, Some, codes}
+-- What is said of whether a file is sound.
+use Rattle.std.specs.Prelude.{◌≡◌, ℕ, true, false, List, [], ◌∷◌, Some, codes}
+use Rattle.std.specs.List.{flat_map}
 use Rattle.elf_check.specs.declared.faults.FileFault.{FileFault}
 use Rattle.elf_check.specs.declared.faults.FileFault.TheVariants.{Section}
 use Rattle.nugwier_report.specs.Parts.{part_member}
+use Rattle.nugwier_report.specs.Problems.{fault_text}
 use Rattle.nugwier_report.specs.Said.{Members, Said, flag, nothing, states, text, whole, wrong}
 use Rattle.nugwier_report.specs.declared.kind.Kind.TheVariants as kind
 use Rattle.nugwier_report.specs.declared.problem.Fault.{Fault}
@@ -34,28 +36,22 @@ abbrev pub fault_told : FileFault → Fault
 fault_told (Section index fault) = OfSection fault
 fault_told fault = OfFile fault
 
--- with this text
-abbrev pub fault_members : FileFault → List ℕ → Members
-fault_members fault t =
-    (codes "is_sound", flag false) ∷ part_member (fault_part fault) ∷ (codes "fault", text (Some t)) ∷ []
+abbrev pub fault_members : FileFault → Members
+fault_members fault =
+    (codes "is_sound", flag false) ∷ part_member (fault_part fault)
+    ∷ (codes "fault", text (fault_text (fault_told fault))) ∷ []
 
--- a record with the text, then the problem
-abbrev pub fault_said : FileFault → List ℕ → List Said
-fault_said fault t =
-    states kind.Verdict (fault_members fault t) ∷ wrong (whole (fault_part fault)) (fault_told fault) ∷ []
-
-abbrev pub IsFaultSaid : FileFault → List Said → Type 0
-IsFaultSaid fault said = (t : List ℕ) × (said ≡ fault_said fault t)
+-- a record with the text of the problem, then the problem
+abbrev pub fault_said : FileFault → List Said
+fault_said fault =
+    states kind.Verdict (fault_members fault) ∷ wrong (whole (fault_part fault)) (fault_told fault) ∷ []
 
 -- ---- a file
 
--- one fault after the other
-abbrev pub AreFaultsSaid : List FileFault → List Said → Type 0
-AreFaultsSaid [] said = said ≡ []
-AreFaultsSaid (fault ∷ faults) said =
-    (t : List ℕ) × (after : List Said) × AreFaultsSaid faults after × (said ≡ fault_said fault t ++ after)
+-- of the file of this path, with these faults: it is sound, or one fault after the other
+abbrev pub verdict_said : List ℕ → List FileFault → List Said
+verdict_said path [] = sound_said path
+verdict_said path (fault ∷ faults) = flat_map fault_said (fault ∷ faults)
 
--- of the file of this path, with these faults: it is sound, or its faults
 abbrev pub IsVerdictSaid : List ℕ → List FileFault → List Said → Type 0
-IsVerdictSaid path [] said = said ≡ sound_said path
-IsVerdictSaid path (fault ∷ faults) said = AreFaultsSaid (fault ∷ faults) said
+IsVerdictSaid path faults said = said ≡ verdict_said path faults

@@ -1,5 +1,6 @@
 //! Names of a file as text for a terminal.
-ghost use Rattle.std.specs.Prelude.{◌≡◌};
+ghost use Rattle.std.specs.Prelude.{◌≡◌, ◌<◌, Some, false};
+ghost use Rattle.std.specs.Fmt.{WritesOnOk, digit_glyph};
 ghost use Rattle.std.specs.List.{flat_map};
 ghost use Rattle.std.specs.Str.{chars};
 ghost use Rattle.elfshow_lines.specs.Adding.{Adds};
@@ -18,54 +19,78 @@ use std::str::from_utf8;
 pub struct Escaped<'a>(pub &'a [u8]);
 
 impl fmt::Display for Escaped<'_> {
+    ghost output = { λ escaped. Some (shown_bytes escaped.0.now) };
+
     fn fmt<W: fmt::Write>(&self, f: &mut fmt::Formatter<W>) -> fmt::Result {
         match from_utf8(self.0) {
-            Ok(text) => write_text(text, f),
+            Ok(text) => write_characters(text, f),
             Err(_) => write_bytes(self.0, f),
         }
     }
 }
 
-// Most names are plain, and are written at once.
-fn write_text<W: fmt::Write>(text: &str, f: &mut fmt::Formatter<W>) -> fmt::Result {
-    if are_plain(text.as_bytes()) {
-        return f.write_str(text);
-    }
+fn write_characters<W: fmt::Write>(text: &str, f: &mut fmt::Formatter<W>) -> fmt::Result
+    ensures { WritesOnOk W.write_str_gives f.old result (flat_map shown_character (chars text.now)) f.new }
+{
     for character in text.chars() {
         write_character(character, f)?;
     }
     Ok(())
 }
 
-fn write_character<W: fmt::Write>(character: char, f: &mut fmt::Formatter<W>) -> fmt::Result {
+fn write_character<W: fmt::Write>(character: char, f: &mut fmt::Formatter<W>) -> fmt::Result
+    ensures { WritesOnOk W.write_str_gives f.old result (shown_character character) f.new }
+{
     if is_shown(character) {
         return f.write_char(character);
     }
     let mut room = [0; 4];
-    for byte in character.encode_utf8(&mut room).bytes() {
-        write!(f, "\\x{byte:02x}")?;
+    write_escapes(character.encode_utf8(&mut room).as_bytes(), f)
+}
+
+fn write_escapes<W: fmt::Write>(bytes: &[u8], f: &mut fmt::Formatter<W>) -> fmt::Result
+    ensures { WritesOnOk W.write_str_gives f.old result (flat_map escaped_byte bytes.now) f.new }
+{
+    for byte in bytes {
+        write_escape(*byte, f)?;
     }
     Ok(())
 }
 
-fn write_bytes<W: fmt::Write>(bytes: &[u8], f: &mut fmt::Formatter<W>) -> fmt::Result {
+fn write_bytes<W: fmt::Write>(bytes: &[u8], f: &mut fmt::Formatter<W>) -> fmt::Result
+    ensures { WritesOnOk W.write_str_gives f.old result (flat_map shown_byte bytes.now) f.new }
+{
     for byte in bytes {
         write_byte(*byte, f)?;
     }
     Ok(())
 }
 
-fn write_byte<W: fmt::Write>(byte: u8, f: &mut fmt::Formatter<W>) -> fmt::Result {
+#[tactic(auto, using(std::proofs::lemmas::Str::encode_ascii))]
+fn write_byte<W: fmt::Write>(byte: u8, f: &mut fmt::Formatter<W>) -> fmt::Result
+    ensures { WritesOnOk W.write_str_gives f.old result (shown_byte byte) f.new }
+{
     if is_plain(byte) {
-        f.write_char(byte as char)
-    } else {
-        write!(f, "\\x{byte:02x}")
+        return f.write_char(byte as char);
     }
+    write_escape(byte, f)
 }
 
-// Whether no byte needs an escape.
-fn are_plain(bytes: &[u8]) -> bool {
-    bytes.iter().all(|byte| is_plain(*byte))
+// `\x` and two digits.
+#[tactic(auto, using(crate::proofs::Writing::digit_ascii))]
+fn write_escape<W: fmt::Write>(byte: u8, f: &mut fmt::Formatter<W>) -> fmt::Result
+    ensures { WritesOnOk W.write_str_gives f.old result (escaped_byte byte) f.new }
+{
+    f.write_str("\\x")?;
+    f.write_char(digit(byte / 16))?;
+    f.write_char(digit(byte % 16))
+}
+
+fn digit(n: u8) -> char
+    requires { n < 16 }
+    ensures { result ≡ digit_glyph false n }
+{
+    (if n < 10 { b'0' + n } else { b'a' + (n - 10) }) as char
 }
 
 // The characters of ASCII that are shown, except for the backslash.

@@ -63,6 +63,10 @@ pub enum Kind {
     Rel,
     /// A relocation with an addend.
     Rela,
+    /// A packed relative relocation (gABI, chapter "Relocation", `SHT_RELR`).
+    Relative,
+    /// The heading of relocations that a dynamic entry gives: its tag.
+    RelocationTableHeading,
     /// The heading of the notes of a section: its number and its name.
     SectionNotesHeading,
     /// The heading of the notes of a segment: its number.
@@ -164,6 +168,8 @@ impl Kind {
             Kind::RelocationsHeading => RELOCATIONS_HEADING,
             Kind::Rel => REL,
             Kind::Rela => RELA,
+            Kind::Relative => RELATIVE,
+            Kind::RelocationTableHeading => RELOCATION_TABLE_HEADING,
             Kind::SectionNotesHeading => SECTION_NOTES_HEADING,
             Kind::SegmentNotesHeading => SEGMENT_NOTES_HEADING,
             Kind::BuildIdNote => BUILD_ID_NOTE,
@@ -420,6 +426,18 @@ pub const RELA: Layout = (
         Column(4, Text),
         Column(6, Signed),
     ],
+);
+
+pub const RELATIVE: Layout = (
+    Some("relative_relocation"),
+    "       %\n",
+    &[Column(1, Digits16)],
+);
+
+pub const RELOCATION_TABLE_HEADING: Layout = (
+    None,
+    "Relocations of %:\n    nr offset             type symbol name, addend\n",
+    &[Column(0, Text)],
 );
 
 pub const SECTION_NOTES_HEADING: Layout = (None, "Notes of section % (%):\n", &HEADING_COLUMNS);

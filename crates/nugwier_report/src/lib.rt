@@ -8,6 +8,7 @@ pub mod bindings;
 pub mod build_id;
 pub mod contents;
 pub mod dynamic;
+mod error_texts;
 pub mod escape;
 pub mod header;
 pub mod json;

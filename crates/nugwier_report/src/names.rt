@@ -1,5 +1,6 @@
 //! The names of the sections of a file, for what is told of them.
 ghost use Rattle.std.specs.Prelude.{◌≡◌};
+ghost use Rattle.nugwier_report.specs.Labels.{first_of, label_name, label_of, label_seen, named_by, number_of};
 
 use crate::problem::Part;
 use elf_abi::abi;
@@ -16,43 +17,47 @@ pub struct Labels<'a> {
 impl<'a> Labels<'a> {
     /// Returns the number and the name of the section of a part of the file, if it is in one. A name that is not known
     /// is empty.
-    pub fn of(&self, part: Part) -> Option<(u64, &'a [u8])> {
-        let number = self.number(part)?;
+    pub fn of(&self, part: Part) -> Option<(u64, &'a [u8])>
+        ensures { label_seen result ≡ label_of (named_by self.now) part }
+    {
+        let number = number_of(self.sections, part)?;
         let section = self.sections.get(number)?;
-        Some((number as u64, name_of(&self.names, section)))
-    }
-
-    fn number(&self, part: Part) -> Option<usize> {
-        match part {
-            Part::Section(number) => usize::try_from(number).ok(),
-            _ => {
-                let sh_type = type_of(part)?;
-                self.sections
-                    .iter()
-                    .position(|section| section.sh_type == sh_type)
-            }
-        }
+        Some((number as u64, label_name(&self.names, section)))
     }
 }
 
+// The number of the section that a part is in, if it is in one.
+fn number_of(sections: &[SectionHeader], part: Part) -> Option<usize>
+    ensures { result ≡ number_of sections.now part }
+{
+    match part {
+        Part::Section(number) => Some(number as usize),
+        Part::Symbols => first_of(abi::SHT_SYMTAB, sections),
+        Part::DynamicSymbols => first_of(abi::SHT_DYNSYM, sections),
+        Part::Versions => first_of(abi::SHT_GNU_VERSYM, sections),
+        Part::Dynamic => first_of(abi::SHT_DYNAMIC, sections),
+        _ => None,
+    }
+}
+
+// The number of the first section of a type.
+fn first_of(sh_type: u32, sections: &[SectionHeader]) -> Option<usize>
+    ensures { result ≡ first_of sh_type sections.now }
+{
+    sections
+        .iter()
+        .position(|section| section.sh_type == sh_type)
+}
+
 // The name of a section, or no name if it cannot be read.
-fn name_of<'a>(names: &Option<TerminatedStrings<'a>>, section: &SectionHeader) -> &'a [u8] {
+fn label_name<'a>(names: &Option<TerminatedStrings<'a>>, section: &SectionHeader) -> &'a [u8]
+    ensures { result.now ≡ label_name names.now section.now }
+{
     let Some(names) = names else {
         return &[];
     };
     match names.get_raw(section.sh_name as usize) {
         Ok(name) => name,
         Err(_) => &[],
-    }
-}
-
-// The type of the section that has a part of a file.
-fn type_of(part: Part) -> Option<u32> {
-    match part {
-        Part::Symbols => Some(abi::SHT_SYMTAB),
-        Part::DynamicSymbols => Some(abi::SHT_DYNSYM),
-        Part::Versions => Some(abi::SHT_GNU_VERSYM),
-        Part::Dynamic => Some(abi::SHT_DYNAMIC),
-        _ => None,
     }
 }

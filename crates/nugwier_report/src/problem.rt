@@ -1,24 +1,30 @@
 //! What is wrong in a file, and where.
 ghost use Rattle.std.specs.Prelude.{◌≡◌};
+ghost use Rattle.nugwier_report.specs.Parts.{tag_name};
 ghost use Rattle.nugwier_report.specs.Said.{whole};
 ghost use Rattle.nugwier_report.specs.declared.problem.Stop.TheVariants.{Memory as IsMemory, Write as IsWrite};
 
+use crate::error_texts::{
+    FileText, LinkedText, ObjectText, PlanText, ReadText, SectionText, UsesText,
+};
 use crate::escape::Escaped;
 use crate::quoted::{NamesFault, Quoted, QuotedSymbol, UnknownBinding};
 use elf_check::faults::{FileFault, SectionFault};
+use elf_dynamic::dynamic_view::DynamicError;
 use elf_linking::bindings::uses::UsesError;
 use elf_linking::resolve::ObjectFault;
 use elf_parts::parse::ParseError;
 use elf_tools::load_plan::PlanError;
 use std::alloc::{AllocError, AllocFailed};
 use std::{fmt, io};
-use thiserror::Error;
 
 /// A part of a file. Sections and segments are counted from 0.
 #[derive(Clone, Copy)]
 pub enum Part {
     /// The file as a whole. It has no text of its own, since the file's name comes before it.
     File,
+    /// The section headers.
+    SectionHeaders,
     /// The names of the sections.
     SectionNames,
     Section(u64),
@@ -38,6 +44,35 @@ pub enum Part {
     Address(u64),
     /// What a loader maps.
     LoadPlan,
+    /// The relocations that dynamic entries give.
+    Relocations(RelocationTable),
+}
+
+/// A table of relocations, by the dynamic entry that gives its address.
+#[derive(Clone, Copy)]
+pub enum RelocationTable {
+    /// `DT_REL`.
+    Rel,
+    /// `DT_RELA`.
+    Rela,
+    /// `DT_RELR`.
+    Relr,
+    /// `DT_JMPREL`.
+    Plt,
+}
+
+impl RelocationTable {
+    /// Returns the name of the tag of the entry.
+    pub fn name(self) -> &'static str
+        ensures { result.now ≡ tag_name self }
+    {
+        match self {
+            RelocationTable::Rel => "DT_REL",
+            RelocationTable::Rela => "DT_RELA",
+            RelocationTable::Relr => "DT_RELR",
+            RelocationTable::Plt => "DT_JMPREL",
+        }
+    }
 }
 
 impl Part {
@@ -83,65 +118,95 @@ pub struct Place {
 }
 
 /// What is wrong at a place.
-#[derive(Debug, Drop, Error)]
+#[derive(Debug, Drop)]
 pub enum Fault<'a> {
     /// It cannot be read.
-    #[error("{0}")]
     Read(ParseError),
+    /// It is not available through the segments.
+    Linked(DynamicError),
     /// The error of the system.
-    #[error("{0}")]
     System(io::Error),
     /// The file has no such part.
-    #[error("the file has none")]
     Missing,
     /// No entry gives the address of the strings.
-    #[error("no entry DT_STRTAB gives their address")]
     NoAddress,
     /// No entry gives the size of the strings.
-    #[error("no entry DT_STRSZ gives their size")]
     NoSize,
     /// No loaded segment has the strings, which begin at this address, in the file.
-    #[error("no segment of type PT_LOAD has them at 0x{0:x}")]
     NotLoaded(u64),
     /// No symbol has the address.
-    #[error("no symbol starts there or before it")]
     NoSymbol,
     /// No section has this name or this number.
-    #[error("no section {0}")]
     NoSection(Quoted<'a>),
     /// Its segments cannot be mapped.
-    #[error("{0}")]
     Plan(PlanError),
     /// A section of a file that is not sound.
-    #[error("{0}")]
     Section(SectionFault),
     /// Another fault of a file that is not sound.
-    #[error("{0}")]
     File(FileFault),
     /// A library of this name, which the object at the second path needs, is not found.
-    #[error("{0}, which {1} needs, is not found")]
     NotFound(Quoted<'a>, Quoted<'a>),
     /// The names of the object at this path are not available.
-    #[error("names of {0}: {1}")]
     Names(Quoted<'a>, NamesFault<'a>),
     /// Symbols cannot be looked up in the object at this path.
-    #[error("symbols of {0}: {1}")]
     Object(Quoted<'a>, ObjectFault),
     /// The object at this path has symbols and no hash section, so these cannot be looked up.
-    #[error("symbols of {0}: no hash section")]
     NoHash(Quoted<'a>),
+    /// The object at this path has an entry `DT_FILTER` or `DT_AUXILIARY`, and the libraries that such entries name are
+    /// not searched.
+    Filter(Quoted<'a>),
     /// The relocations of the object at this path are not known.
-    #[error("relocations of {0}: {1}")]
     Relocations(Quoted<'a>, UsesError),
     /// A symbol of the object at this path binds to nothing.
-    #[error("symbol {1} of {0}: missing")]
     MissingSymbol(Quoted<'a>, QuotedSymbol<'a>),
     /// It is not known what a symbol of the object at this path binds to.
-    #[error("symbol {1} of {0}: {2}")]
     UnknownSymbol(Quoted<'a>, QuotedSymbol<'a>, UnknownBinding<'a>),
     /// The same, since the version of a symbol of the object at the second path cannot be read.
-    #[error("symbol {1} of {0}: {2}: version of symbol {3} cannot be read")]
     UnknownVersion(Quoted<'a>, QuotedSymbol<'a>, Quoted<'a>, usize),
+}
+
+impl fmt::Display for Fault<'_> {
+    ghost use Rattle.nugwier_report.specs.Problems.{fault_text};
+
+    ghost output = { fault_text };
+
+    fn fmt<W: fmt::Write>(&self, f: &mut fmt::Formatter<W>) -> fmt::Result {
+        match self {
+            Fault::Read(error) => write!(f, "{}", ReadText(error)),
+            Fault::Linked(error) => write!(f, "{}", LinkedText(error)),
+            Fault::System(error) => write!(f, "{error}"),
+            Fault::Missing => f.write_str("the file has none"),
+            Fault::NoAddress => f.write_str("no entry DT_STRTAB gives their address"),
+            Fault::NoSize => f.write_str("no entry DT_STRSZ gives their size"),
+            Fault::NotLoaded(address) => {
+                write!(f, "no segment of type PT_LOAD has them at 0x{address:x}")
+            }
+            Fault::NoSymbol => f.write_str("no symbol starts there or before it"),
+            Fault::NoSection(name) => write!(f, "no section {name}"),
+            Fault::Plan(error) => write!(f, "{}", PlanText(error)),
+            Fault::Section(fault) => write!(f, "{}", SectionText(*fault)),
+            Fault::File(fault) => write!(f, "{}", FileText(*fault)),
+            Fault::NotFound(name, path) => write!(f, "{name}, which {path} needs, is not found"),
+            Fault::Names(path, error) => write!(f, "names of {path}: {error}"),
+            Fault::Object(path, fault) => write!(f, "symbols of {path}: {}", ObjectText(fault)),
+            Fault::NoHash(path) => write!(f, "symbols of {path}: no hash section"),
+            Fault::Filter(path) => write!(
+                f,
+                "symbols of {path}: its filter libraries (DT_FILTER, DT_AUXILIARY) are not searched"
+            ),
+            Fault::Relocations(path, error) => {
+                write!(f, "relocations of {path}: {}", UsesText(error))
+            }
+            Fault::MissingSymbol(path, symbol) => write!(f, "symbol {symbol} of {path}: missing"),
+            Fault::UnknownSymbol(path, symbol, fault) => {
+                write!(f, "symbol {symbol} of {path}: {fault}")
+            }
+            Fault::UnknownVersion(path, symbol, other, version) => write!(
+                f,
+                "symbol {symbol} of {path}: {other}: version of symbol {version} cannot be read"
+            ),
+        }
+    }
 }
 
 /// Why a listing stops.
@@ -177,58 +242,82 @@ impl<T: Drop> From<AllocFailed<T>> for Stop {
     }
 }
 
-/// A problem as text, with the number and the name of its section, if it has one.
+/// A problem as text: its place, with the number and the name of its section, if it has one, and the text of its fault.
 #[derive(Clone, Copy)]
 pub struct Told<'a> {
     pub place: Place,
-    pub fault: &'a Fault<'a>,
     pub section: Option<(u64, &'a [u8])>,
+    pub fault: &'a str,
 }
 
 impl fmt::Display for Told<'_> {
+    ghost use Rattle.std.specs.Prelude.{Some};
+    ghost use Rattle.nugwier_report.specs.Labels.{label_seen};
+    ghost use Rattle.nugwier_report.specs.Problems.{problem_text};
+
+    ghost output = { λ told. Some (problem_text (label_seen told.section) told.place told.fault.now) };
+
     fn fmt<W: fmt::Write>(&self, f: &mut fmt::Formatter<W>) -> fmt::Result {
         let Place { part, item } = self.place;
         let fault = self.fault;
         match (self.section, part) {
             (Some((number, name)), _) => {
                 let name = Escaped(name);
-                write!(f, "section {number} ({name})")?;
+                write!(f, "section {number} ({name}){item}{fault}")
             }
-            (None, Part::File) => return write!(f, "{fault}"),
-            (None, part) => write_part(part, f)?,
+            (None, Part::File) => f.write_str(fault),
+            (None, part) => write!(f, "{part}{item}{fault}"),
         }
-        write_item(item, f)?;
-        write!(f, "{fault}")
     }
 }
 
-fn write_part<W: fmt::Write>(part: Part, f: &mut fmt::Formatter<W>) -> fmt::Result {
-    match part {
-        Part::File => f.write_str("file"),
-        Part::Address(address) => write!(f, "address {address:#x}"),
-        Part::BuildId => f.write_str("build id"),
-        Part::LoadPlan => f.write_str("load plan"),
-        Part::SectionNames => f.write_str("names of the sections"),
-        Part::Section(number) => write!(f, "section {number}"),
-        Part::Segment(number) => write!(f, "segment {number}"),
-        Part::Symbols => f.write_str("symbols"),
-        Part::DynamicSymbols => f.write_str("dynamic symbols"),
-        Part::Versions => f.write_str("versions"),
-        Part::Dynamic => f.write_str("dynamic entries"),
-        Part::DynamicStrings => f.write_str("strings of the dynamic entries"),
+impl fmt::Display for Part {
+    ghost use Rattle.std.specs.Prelude.{Some};
+    ghost use Rattle.nugwier_report.specs.Problems.{part_text};
+
+    ghost output = { λ part. Some (part_text part) };
+
+    fn fmt<W: fmt::Write>(&self, f: &mut fmt::Formatter<W>) -> fmt::Result {
+        match *self {
+            Part::File => f.write_str("file"),
+            Part::SectionHeaders => f.write_str("section headers"),
+            Part::SectionNames => f.write_str("names of the sections"),
+            Part::Section(number) => write!(f, "section {number}"),
+            Part::Segment(number) => write!(f, "segment {number}"),
+            Part::Symbols => f.write_str("symbols"),
+            Part::DynamicSymbols => f.write_str("dynamic symbols"),
+            Part::Versions => f.write_str("versions"),
+            Part::Dynamic => f.write_str("dynamic entries"),
+            Part::DynamicStrings => f.write_str("strings of the dynamic entries"),
+            Part::Relocations(table) => {
+                let name = table.name();
+                write!(f, "relocations of {name}")
+            }
+            Part::BuildId => f.write_str("build id"),
+            Part::Address(address) => write!(f, "address 0x{address:x}"),
+            Part::LoadPlan => f.write_str("load plan"),
+        }
     }
 }
 
-fn write_item<W: fmt::Write>(item: Item, f: &mut fmt::Formatter<W>) -> fmt::Result {
-    match item {
-        Item::Whole => f.write_str(": "),
-        Item::Name => f.write_str(": name: "),
-        Item::Symbols => f.write_str(": symbols: "),
-        Item::SymbolName(number) => write!(f, ": name of symbol {number}: "),
-        Item::SymbolVersion(number) => write!(f, ": version of symbol {number}: "),
-        Item::EntryName(number) => write!(f, ": string of entry {number}: "),
-        Item::RelocationSymbol(number) => write!(f, ": symbol of relocation {number}: "),
-        Item::VersionName(0) => f.write_str(": name of a needed file: "),
-        Item::VersionName(index) => write!(f, ": name of version {index}: "),
+// After the text of its part, and before that of the fault.
+impl fmt::Display for Item {
+    ghost use Rattle.std.specs.Prelude.{Some};
+    ghost use Rattle.nugwier_report.specs.Problems.{item_text};
+
+    ghost output = { λ item. Some (item_text item) };
+
+    fn fmt<W: fmt::Write>(&self, f: &mut fmt::Formatter<W>) -> fmt::Result {
+        match *self {
+            Item::Whole => f.write_str(": "),
+            Item::Name => f.write_str(": name: "),
+            Item::Symbols => f.write_str(": symbols: "),
+            Item::SymbolName(number) => write!(f, ": name of symbol {number}: "),
+            Item::SymbolVersion(number) => write!(f, ": version of symbol {number}: "),
+            Item::EntryName(number) => write!(f, ": string of entry {number}: "),
+            Item::RelocationSymbol(number) => write!(f, ": symbol of relocation {number}: "),
+            Item::VersionName(0) => f.write_str(": name of a needed file: "),
+            Item::VersionName(index) => write!(f, ": name of version {index}: "),
+        }
     }
 }

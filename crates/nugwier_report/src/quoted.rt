@@ -1,6 +1,7 @@
 //! What a problem tells of a file. Contracts see the values, not the references.
 ghost use Rattle.std.specs.Prelude.{◌≡◌};
 
+use crate::error_texts::ReadText;
 use crate::escape::Escaped;
 use elf_linking::bindings::kinds::SymbolFault;
 use elf_linking::needed::NamesError;
@@ -32,6 +33,10 @@ impl<'a> Quoted<'a> {
 }
 
 impl fmt::Display for Quoted<'_> {
+    ghost use Rattle.nugwier_report.specs.Problems.{quoted};
+
+    ghost output = { quoted };
+
     fn fmt<W: fmt::Write>(&self, f: &mut fmt::Formatter<W>) -> fmt::Result {
         let text = self.text;
         write!(f, "{text}")
@@ -61,9 +66,23 @@ impl<'a> NamesFault<'a> {
 }
 
 impl fmt::Display for NamesFault<'_> {
+    ghost use Rattle.nugwier_report.specs.Problems.{names_text};
+
+    ghost output = { names_text };
+
     fn fmt<W: fmt::Write>(&self, f: &mut fmt::Formatter<W>) -> fmt::Result {
-        let error = self.error;
-        write!(f, "{error}")
+        match self.error {
+            NamesError::Read(error) | NamesError::Name(error) => write!(f, "{}", ReadText(error)),
+            NamesError::Missing((start, end)) => {
+                write!(f, "Bytes in range [0x{start:X}, 0x{end:X}) are not loaded")
+            }
+            NamesError::NoAddress => f.write_str("no entry DT_STRTAB"),
+            NamesError::NoSize => f.write_str("no entry DT_STRSZ"),
+            NamesError::NotLoaded(address) => {
+                write!(f, "no segment holds the string table at 0x{address:x}")
+            }
+            NamesError::Memory => f.write_str("out of memory"),
+        }
     }
 }
 
@@ -90,9 +109,25 @@ impl<'a> UnknownBinding<'a> {
 }
 
 impl fmt::Display for UnknownBinding<'_> {
+    ghost use Rattle.nugwier_report.specs.Problems.{unknown_text};
+
+    ghost output = { unknown_text };
+
     fn fmt<W: fmt::Write>(&self, f: &mut fmt::Formatter<W>) -> fmt::Result {
-        let fault = self.fault;
-        write!(f, "{fault}")
+        match self.fault {
+            SymbolFault::Name(error) => write!(f, "{}", ReadText(error)),
+            SymbolFault::Version(version) => {
+                write!(f, "version of symbol {} cannot be read", version.symbol)
+            }
+            SymbolFault::Object(version) => {
+                let object = version.object;
+                let symbol = version.symbol;
+                write!(
+                    f,
+                    "object {object}: version of symbol {symbol} cannot be read"
+                )
+            }
+        }
     }
 }
 
@@ -104,14 +139,16 @@ pub struct QuotedSymbol<'a> {
 }
 
 impl fmt::Display for QuotedSymbol<'_> {
+    ghost use Rattle.nugwier_report.specs.Problems.{symbol_text};
+
+    ghost output = { symbol_text };
+
     fn fmt<W: fmt::Write>(&self, f: &mut fmt::Formatter<W>) -> fmt::Result {
-        match &self.name {
-            Some(name) => write!(f, "{name}")?,
-            None => f.write_str("<unreadable>")?,
-        }
-        match &self.version {
-            Some(version) => write!(f, "@{version}"),
-            None => Ok(()),
+        match (&self.name, &self.version) {
+            (Some(name), Some(version)) => write!(f, "{name}@{version}"),
+            (Some(name), None) => write!(f, "{name}"),
+            (None, Some(version)) => write!(f, "<unreadable>@{version}"),
+            (None, None) => f.write_str("<unreadable>"),
         }
     }
 }

@@ -3,7 +3,9 @@ ghost use Rattle.std.specs.Prelude.{◌≡◌, ◌∷◌, [], ◌++◌, false, t
 ghost use Rattle.std.specs.Io.KnownBytes.{Appends};
 ghost use Rattle.std.specs.Result.{result_ok};
 ghost use Rattle.nugwier_report.specs.Kinds.{layout_of};
+ghost use Rattle.nugwier_report.specs.Labels.{named_by};
 ghost use Rattle.nugwier_report.specs.Noted.{members_said, noted};
+ghost use Rattle.nugwier_report.specs.Problems.{AreProblemsTold, problem_line};
 ghost use Rattle.nugwier_report.specs.Said.{all_right, is_right_one, saying, states, unread, wrong};
 ghost use Rattle.nugwier_report.specs.Told.{IsTold, object_if, told_line};
 
@@ -15,6 +17,7 @@ use crate::names::Labels;
 use crate::problem::{Fault, Place, Stop, Told};
 use crate::text::write_row;
 use elf_parts::parse::ParseError;
+use std::alloc::Global;
 use std::io;
 use std::io::Write;
 use std::marker::Model;
@@ -22,6 +25,7 @@ use std::marker::Model;
 /// A report of the file of this path. Contracts see what was said.
 #[derive(Drop)]
 pub struct Report<'p, W: Write, V: Write> {
+    alloc: Global,
     path: &'p str,
     is_json: bool,
     labels: Labels<'p>,
@@ -29,11 +33,25 @@ pub struct Report<'p, W: Write, V: Write> {
     err: V,
     is_lost: bool,
     is_right: bool,
+    is_told: bool,
     log: Log<W>,
+    // The writer of problems as it was.
+    told: Log<V>,
+}
+
+/// What a report came to.
+#[derive(Debug, Clone, Copy)]
+pub struct Summary {
+    /// Nothing is wrong.
+    pub is_right: bool,
+    /// No write of a problem failed.
+    pub is_told: bool,
 }
 
 impl<'p, W: Write, V: Write> Model for Report<'p, W, V> {
-    ghost use Rattle.std.specs.Prelude.{◌≡◌, false};
+    ghost use Rattle.std.specs.Prelude.{◌≡◌, false, true};
+    ghost use Rattle.nugwier_report.specs.Labels.{named_by};
+    ghost use Rattle.nugwier_report.specs.Problems.{AreProblemsTold};
     ghost use Rattle.nugwier_report.specs.Said.{Telling, all_right};
     ghost use Rattle.nugwier_report.specs.Told.{IsTold};
 
@@ -42,7 +60,9 @@ impl<'p, W: Write, V: Write> Model for Report<'p, W, V> {
     ghost view = { λ r. record {
       path = r.path.now;
       is_json = r.is_json;
+      named = named_by r.labels;
       start = W.contents r.log.start;
+      told_start = V.contents r.told.start;
       is_lost =
           r.is_lost;
       said = r.log.said;
@@ -50,23 +70,36 @@ impl<'p, W: Write, V: Write> Model for Report<'p, W, V> {
 
     ghost invariant = { λ r. (r.is_lost
         ≡ false → IsTold r.is_json r.path.now (W.contents r.log.start) (W.contents r.out) r.log.said)
-        × (r.is_right ≡ all_right r.log.said) };
+        × (r.is_right ≡ all_right r.log.said)
+        × (r.is_told ≡ true → AreProblemsTold r.path.now (named_by r.labels) (V.contents r.told.start)
+        (V.contents r.err) r.log.said) };
 }
 
 impl<'p, W: Write, V: Write> Report<'p, W, V> {
     /// A report in which nothing was said yet. Problems are told with the names of their sections, by these labels.
-    pub fn new(path: &'p str, is_json: bool, labels: Labels<'p>, out: W, err: V) -> Report<'p, W, V>
+    pub fn new(
+        alloc: Global,
+        path: &'p str,
+        is_json: bool,
+        labels: Labels<'p>,
+        out: W,
+        err: V,
+    ) -> Report<'p, W, V>
         ensures { result ≡ record {
           path = path.now;
           is_json = is_json;
+          named = named_by labels.entry;
           start = W.contents out;
+          told_start = V.contents err;
           is_lost =
               false;
           said = [];
         } }
     {
         let log = Log::new(&out);
+        let told = Log::new(&err);
         Report {
+            alloc,
             path,
             is_json,
             labels,
@@ -74,17 +107,22 @@ impl<'p, W: Write, V: Write> Report<'p, W, V> {
             err,
             is_lost: false,
             is_right: true,
+            is_told: true,
             log,
+            told,
         }
     }
 
-    /// Returns whether nothing is wrong, and the writers. Unless a write failed, they got the text of what was said.
-    pub fn end(self) -> (bool, W, V)
-        ensures right { result.0 ≡ all_right self.entry.said }
+    /// Returns what the report came to, and the writers. Unless a write failed, they got the text of what was said.
+    pub fn end(self) -> (Summary, W, V)
+        ensures right { result.0.is_right ≡ all_right self.entry.said }
         ensures text { self.entry.is_lost
             ≡ false → IsTold self.entry.is_json self.entry.path self.entry.start (W.contents result.1) self.entry.said }
+        ensures problems { result.0.is_told ≡ true → AreProblemsTold self.entry.path self.entry.named
+            self.entry.told_start (V.contents result.2) self.entry.said }
     {
         let Report {
+            alloc: _,
             path: _,
             is_json: _,
             labels: _,
@@ -92,9 +130,11 @@ impl<'p, W: Write, V: Write> Report<'p, W, V> {
             err,
             is_lost: _,
             is_right,
+            is_told,
             log: _,
+            told: _,
         } = self;
-        (is_right, out, err)
+        (Summary { is_right, is_told }, out, err)
     }
 
     /// Says a record. The only error is that of the writer.
@@ -110,22 +150,25 @@ impl<'p, W: Write, V: Write> Report<'p, W, V> {
         Ok(())
     }
 
-    /// Says what is wrong at a place, after what was said before. The only error is that of the writer; an error of the
-    /// writer for problems is ignored.
+    /// Says what is wrong at a place, after what was said before. The only errors are that of the writer, and that there
+    /// is no memory for the text; an error of the writer for problems is ignored.
     pub fn problem(&mut self, place: Place, fault: Fault<'_>) -> Result<(), Stop>
         ensures { OnOk result (self.new ≡ saying self.old (wrong place fault.entry ∷ [])) }
     {
+        let text = format!(in self.alloc; "{fault}")?;
         self.log = self.log.then(&Note::Wrong(place, &fault));
         self.is_right = false;
         if let Err(error) = self.out.flush() {
             self.is_lost = true;
+            self.is_told = false;
             return Err(Stop::Write(error));
         }
-        let _ = tell(self.path, &self.labels, place, &fault, &mut self.err);
+        let told = tell(self.path, &self.labels, place, text.as_str(), &mut self.err);
+        self.is_told &= told.is_ok();
         Ok(())
     }
 
-    /// Returns what was read, or says that it cannot be read. The only error is that of the writer.
+    /// Returns what was read, or says that it cannot be read. The only errors are those of `problem`.
     pub fn readable<T: Drop>(
         &mut self,
         place: Place,
@@ -175,19 +218,22 @@ fn write_named<W: Write>(
     }
 }
 
-// Tells what is wrong, a line with the path of the file.
+// Tells what is wrong, a line with the path of the file and this text of the fault.
 fn tell<V: Write>(
     path: &str,
     labels: &Labels<'_>,
     place: Place,
-    fault: &Fault<'_>,
+    fault: &str,
     err: &mut V,
-) -> io::Result<()> {
+) -> io::Result<()>
+    ensures { OnOk result (Appends (V.contents err.old) (V.contents err.new)
+        (problem_line path.now (named_by labels.now) place fault.now)) }
+{
     let path = Escaped(path.as_bytes());
     let told = Told {
         place,
-        fault,
         section: labels.of(place.part),
+        fault,
     };
     writeln!(err, "nugwier: {path}: {told}")?;
     err.flush()

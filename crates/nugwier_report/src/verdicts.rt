@@ -1,9 +1,11 @@
 //! What is said of whether a file is sound.
-ghost use Rattle.std.specs.Prelude.{◌≡◌, ◌∷◌, [], List, OnOk};
+ghost use Rattle.std.specs.Prelude.{◌≡◌, List, OnOk, Some, IfOk, string_bytes};
+ghost use Rattle.std.specs.List.{flat_map};
 ghost use Rattle.nugwier_report.specs.Noted.{members_said};
+ghost use Rattle.nugwier_report.specs.Problems.{fault_text};
 ghost use Rattle.nugwier_report.specs.Said.{Said, saying};
-ghost use Rattle.nugwier_report.specs.Verdicts.{AreFaultsSaid, IsFaultSaid, IsVerdictSaid, fault_members, fault_part};
-ghost use Rattle.nugwier_report.specs.Verdicts.{fault_told, sound_file_members, sound_members, sound_said};
+ghost use Rattle.nugwier_report.specs.Verdicts.{IsVerdictSaid, fault_members, fault_part, fault_said, fault_told};
+ghost use Rattle.nugwier_report.specs.Verdicts.{sound_file_members, sound_members, sound_said};
 
 use crate::json::{Member, Value, part_member};
 use crate::kind::Kind;
@@ -57,8 +59,7 @@ fn say_faults<W: Write, V: Write>(
     faults: &[FileFault],
     report: &mut Report<'_, W, V>,
 ) -> Result<(), Stop>
-    ensures { OnOk result ((said : List Said) × AreFaultsSaid faults.now said
-        × (report.new ≡ saying report.old said)) }
+    ensures { OnOk result (report.new ≡ saying report.old (flat_map fault_said faults.now)) }
 {
     for fault in faults {
         say_fault(alloc, *fault, report)?;
@@ -72,7 +73,7 @@ fn say_fault<W: Write, V: Write>(
     fault: FileFault,
     report: &mut Report<'_, W, V>,
 ) -> Result<(), Stop>
-    ensures { OnOk result ((said : List Said) × IsFaultSaid fault said × (report.new ≡ saying report.old said)) }
+    ensures { OnOk result (report.new ≡ saying report.old (fault_said fault)) }
 {
     let text = text_of(alloc, fault)?;
     report.state(Kind::Verdict, &fault_members(fault, text.as_str()))?;
@@ -80,7 +81,7 @@ fn say_fault<W: Write, V: Write>(
 }
 
 fn fault_members<'a>(fault: FileFault, text: &'a str) -> [Member<'a>; 3]
-    ensures { members_said result ≡ fault_members fault text.now }
+    ensures { fault_text (fault_told fault) ≡ Some text.now → members_said result ≡ fault_members fault }
 {
     [
         ("is_sound", Value::Flag(false)),
@@ -109,10 +110,10 @@ fn told_of(fault: FileFault) -> Fault<'static>
     }
 }
 
-// What a fault says of its place.
-fn text_of(alloc: Global, fault: FileFault) -> Result<String, Stop> {
-    match fault {
-        FileFault::Section { fault, .. } => Ok(format!(in alloc; "{fault}")?),
-        fault => Ok(format!(in alloc; "{fault}")?),
-    }
+// What is told of a fault.
+fn text_of(alloc: Global, fault: FileFault) -> Result<String, Stop>
+    ensures { IfOk result (λ text. fault_text (fault_told fault) ≡ Some (string_bytes text)) }
+{
+    let told = told_of(fault);
+    Ok(format!(in alloc; "{told}")?)
 }

@@ -8,7 +8,7 @@ use Rattle.std.specs.Str.{bytes_eq}
 use Rattle.std.specs.Str.Parse.{digits_value}
 use Rattle.nugwier_words.specs.declared.asked.Asked.{Asked}
 use Rattle.nugwier_words.specs.declared.asked.Awaited.{Awaited}
-use Rattle.nugwier_words.specs.declared.asked.Awaited.TheVariants.{Folder, Nothing, Section}
+use Rattle.nugwier_words.specs.declared.asked.Awaited.TheVariants.{Folder, Nothing, Root, Section}
 use Rattle.nugwier_words.specs.declared.asked.Word.{Word}
 use Rattle.nugwier_words.specs.declared.asked.Word.TheVariants.{End, File, Help, Json, Options}
 use Rattle.nugwier_words.specs.declared.letters.Letters.{Letters}
@@ -41,6 +41,8 @@ pub record Task : Type 0 where
   pub addresses : List ℕ
   pub is_json : Bool
   pub searches : List (Bor (List ℕ))
+  pub has_cache : Bool
+  pub root : Option (Bor (List ℕ))
 
 pub data Answer : Type 0 where
   help : Option Command → Answer
@@ -56,6 +58,8 @@ task_of job = record {
   addresses = job.addresses.items;
   is_json = job.is_json;
   searches = job.searches.items;
+  has_cache = job.has_cache;
+  root = job.root;
 }
 
 abbrev pub answer_of : Request → Answer
@@ -142,6 +146,8 @@ pub record SoFar : Type 0 where
   pub files : List (Bor (List ℕ))
   pub is_json : Bool
   pub searches : List (Bor (List ℕ))
+  pub has_cache : Bool
+  pub root : Option (Bor (List ℕ))
   pub awaited : Awaited
   pub has_ended : Bool
 
@@ -152,6 +158,8 @@ so_far asked = record {
   files = asked.files.items;
   is_json = asked.is_json;
   searches = asked.searches.items;
+  has_cache = asked.has_cache;
+  root = asked.root;
   awaited = asked.awaited;
   has_ended = asked.has_ended;
 }
@@ -163,6 +171,8 @@ nothing = record {
   files = [];
   is_json = false;
   searches = [];
+  has_cache = true;
+  root = None;
   awaited = Nothing;
   has_ended = false;
 }
@@ -195,10 +205,12 @@ with_list asked word None = wrong (NotOption ListCommand word)
 with_list asked word (Some letters) =
     next (record asked { parts = letters.parts; awaited = awaited_form letters.form word })
 
--- the one option of `tree` and `bindings`
+-- the options of `tree` and `bindings`: a folder to search, or the one of the files, is the next word
 abbrev pub with_search : Command → SoFar → Bor (List ℕ) → Step
 with_search command asked word =
     if bytes_eq word.now (codes "--search") then next (record asked { awaited = Folder word })
+    else if bytes_eq word.now (codes "--root") then next (record asked { awaited = Root word })
+    else if bytes_eq word.now (codes "--no-cache") then next (record asked { has_cache = false })
     else wrong (NotOption command word)
 
 -- any other command has no options but --json and --help
@@ -223,11 +235,16 @@ with_section form asked word =
 abbrev pub with_folder : SoFar → Bor (List ℕ) → Step
 with_folder asked word = next (record asked { searches = asked.searches ++ word ∷ []; awaited = Nothing })
 
+-- the last one counts
+abbrev pub with_root : SoFar → Bor (List ℕ) → Step
+with_root asked word = next (record asked { root = Some word; awaited = Nothing })
+
 -- an option takes the next word, whatever it is
 abbrev pub step_for : Awaited → Command → SoFar → Bor (List ℕ) → Step
 step_for Nothing command asked word = with_word (kind_of word.now asked.has_ended) command asked word
 step_for (Section form option) command asked word = with_section form asked word
 step_for (Folder option) command asked word = with_folder asked word
+step_for (Root option) command asked word = with_root asked word
 
 abbrev pub step : Command → SoFar → Bor (List ℕ) → Step
 step command asked word = step_for asked.awaited command asked word
@@ -291,6 +308,8 @@ run_on command asked files addresses = Ok (run (record {
   addresses = addresses;
   is_json = asked.is_json;
   searches = asked.searches;
+  has_cache = asked.has_cache;
+  root = asked.root;
 }))
 
 -- `address` takes one file, and the others are addresses, one or more
@@ -315,6 +334,7 @@ abbrev pub finished_for : Awaited → Command → SoFar → Result Answer WordEr
 finished_for Nothing command asked = with_files command asked asked.files
 finished_for (Section form option) command asked = Err (NoSection option)
 finished_for (Folder option) command asked = Err (NoFolder command option)
+finished_for (Root option) command asked = Err (NoFolder command option)
 
 abbrev pub finished : Command → SoFar → Result Answer WordError
 finished command asked = finished_for asked.awaited command asked

@@ -1,8 +1,8 @@
 //! What the words after a command ask for, from left to right.
 ghost use Rattle.nugwier_words.specs.Words.{IsParsed, IsStep, answer_of, awaited_form, finished, has_part, kind_of};
 ghost use Rattle.nugwier_words.specs.Words.{listed_parts, nothing, run_on, so_far, step, with_addresses, with_files};
-ghost use Rattle.nugwier_words.specs.Words.{with_folder, with_options, with_search, with_section, with_word};
-ghost use Rattle.std.specs.Prelude.{◌≡◌, drop, take};
+ghost use Rattle.nugwier_words.specs.Words.{with_folder, with_options, with_root, with_search, with_section, with_word};
+ghost use Rattle.std.specs.Prelude.{◌≡◌, Ok, drop, take};
 
 use crate::address::parse_addresses;
 use crate::letters::add_letters;
@@ -25,6 +25,7 @@ pub(crate) enum Awaited<'a> {
     Nothing,
     Section(Form, &'a str),
     Folder(&'a str),
+    Root(&'a str),
 }
 
 /// What the words so far ask for.
@@ -35,6 +36,8 @@ pub(crate) struct Asked<'a> {
     files: Vec<&'a str>,
     is_json: bool,
     searches: Vec<&'a str>,
+    has_cache: bool,
+    root: Option<&'a str>,
     awaited: Awaited<'a>,
     has_ended: bool,
 }
@@ -50,6 +53,8 @@ impl<'a> Asked<'a> {
             files: Vec::new(alloc),
             is_json: false,
             searches: Vec::new(alloc),
+            has_cache: true,
+            root: None,
             awaited: Awaited::Nothing,
             has_ended: false,
         }
@@ -63,6 +68,7 @@ impl<'a> Asked<'a> {
             Awaited::Nothing => self.add_word(command, word),
             Awaited::Section(form, _) => self.add_section(form, word),
             Awaited::Folder(_) => self.add_folder(word),
+            Awaited::Root(_) => Ok(self.set_root(word)),
         }
     }
 
@@ -80,6 +86,14 @@ impl<'a> Asked<'a> {
         self.searches.push(folder)?;
         self.awaited = Awaited::Nothing;
         Ok(false)
+    }
+
+    fn set_root(&mut self, folder: &'a str) -> bool
+        ensures { IsStep (with_root (so_far self.old) folder.entry) (so_far self.new) (Ok result) }
+    {
+        self.root = Some(folder);
+        self.awaited = Awaited::Nothing;
+        false
     }
 
     // A word that no option takes.
@@ -121,10 +135,12 @@ impl<'a> Asked<'a> {
     fn add_search(&mut self, command: Command, word: &'a str) -> Result<bool, WordError<'a>>
         ensures { IsStep (with_search command (so_far self.old) word.entry) (so_far self.new) result }
     {
-        if word != "--search" {
-            return Err(WordError::Option(command, word));
+        match word {
+            "--search" => self.awaited = Awaited::Folder(word),
+            "--root" => self.awaited = Awaited::Root(word),
+            "--no-cache" => self.has_cache = false,
+            _ => return Err(WordError::Option(command, word)),
         }
-        self.awaited = Awaited::Folder(word);
         Ok(false)
     }
 
@@ -135,7 +151,9 @@ impl<'a> Asked<'a> {
         match self.awaited {
             Awaited::Nothing => self.with_files(alloc, command),
             Awaited::Section(_, word) => Err(WordError::NoSection(word)),
-            Awaited::Folder(word) => Err(WordError::NoFolder(command, word)),
+            Awaited::Folder(word) | Awaited::Root(word) => {
+                Err(WordError::NoFolder(command, word))
+            }
         }
     }
 
@@ -177,6 +195,8 @@ impl<'a> Asked<'a> {
             addresses,
             is_json: self.is_json,
             searches: self.searches,
+            has_cache: self.has_cache,
+            root: self.root,
         })
     }
 }

@@ -106,12 +106,14 @@ says so if the address lies past its end. An address is in hexadecimal, with or 
 list -s or, if the file has none, those for dynamic linking.";
 
 const TREE: &str = "\
-usage: nugwier tree [--json] [--search FOLDER].. FILE..
+usage: nugwier tree [--json] [--search FOLDER].. [--root FOLDER] [--no-cache] FILE..
 
 Prints the program, and below it each library that it loads: the name by which it is needed, and the path of the file
 that is found, or 'not found'. A library stands below the one that needs it first. Nothing is run.
 
   --search FOLDER   looks for libraries in this folder, as if LD_LIBRARY_PATH named it
+  --root FOLDER     takes all paths below this folder, that of FILE too, as in the image of another system
+  --no-cache        does not take what /etc/ld.so.cache lists
 
 Libraries are looked for as the dynamic linker does: in the folders of DT_RPATH of the object that needs them and of its
 loaders, those of --search, those of DT_RUNPATH of the object, then at the path that /etc/ld.so.cache has, and in the
@@ -119,10 +121,10 @@ usual folders of its machine, such as /lib/x86_64-linux-gnu, /lib64 and /usr/lib
 path. LD_LIBRARY_PATH and ld.so.conf are not read.";
 
 const BINDINGS: &str = "\
-usage: nugwier bindings [--json] [--search FOLDER].. FILE..
+usage: nugwier bindings [--json] [--search FOLDER].. [--root FOLDER] [--no-cache] FILE..
 
 Prints what the symbols of a program and of the libraries that it loads bind to, as the dynamic linker binds them.
-Nothing is run. The libraries are those of tree, with the same option. Under the path of each file there is a line for
+Nothing is run. The libraries are those of tree, with the same options. Under the path of each file there is a line for
 each symbol that another file has to define, and for each that is copied into the program:
 
   NAME@VERSION => PATH: NAME@@VERSION   the file that has the symbol, with the version there

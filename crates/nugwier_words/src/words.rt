@@ -126,6 +126,10 @@ pub struct Job<'a> {
     pub is_json: bool,
     /// The folders in which `tree` and `bindings` search for libraries, before the usual ones.
     pub searches: Vec<&'a str>,
+    /// Whether they take libraries that the linker's cache lists.
+    pub has_cache: bool,
+    /// The folder of the image of a system, below which they take all paths.
+    pub root: Option<&'a str>,
 }
 
 /// What a command line asks for.

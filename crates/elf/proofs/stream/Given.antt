@@ -17,24 +17,3 @@ given_size shown (Err e) size start bytes h = tt
 pub given_plain : {T Y : Type 0} (shown : T → Y) (r : Result T ParseError) (x : Result Y ParseError) → ok_map shown r ≡ x → IsPlain x → IfErr r (λ e. kind e ≡ Kind.Refusal)
 given_plain shown (Ok v) x h p = tt
 given_plain shown (Err e) x h p = (subst IsPlain (sym h) p).plain
-
-pub load_reason : (known : Option (List ℕ)) (len start size before now : ℕ) (can_fail : Bool) (r : Result (Unit {0}) ParseError) → IfSome known (λ bytes. len ≡ length bytes) → start + size < 2 ^ 64 → start + size ≤ len
-    → IfSome known (λ bytes. IsAnswer (λ _. take size (drop start bytes)) (bytes_at size bytes start) can_fail before now r) → IfSome known (λ bytes. HasReason before now can_fail ⊥ r)
-load_reason None len start size before now can_fail r whole low within h = tt
-load_reason (Some bytes) len start size before now can_fail (Ok x) whole low within h = h.0
-load_reason (Some bytes) len start size before now can_fail (Err e) whole low within h =
-    refused_so (kind e) (IsErr (bytes_at size bytes start)) ⊥ before before now can_fail (λ missing. refused_not (bytes_at size bytes start) missing (ap is_ok (read_within bytes start size low (omega arith)))) refl h
-
-outside : (bytes : List ℕ) (len start size : ℕ) → len ≡ length bytes → len < start + size → IsOk (bytes_at size bytes start) → ⊥
-outside bytes len start size whole past ok = let w = read_is_within bytes start size ok in omega (arith, w.0, w.1)
-
-outside_64 : (bytes : List ℕ) (start size : ℕ) → 2 ^ 64 ≤ start + size → IsOk (bytes_at size bytes start) → ⊥
-outside_64 bytes start size past ok = let w = read_is_within bytes start size ok in omega (arith, w.0, w.1)
-
-pub not_there : (P : Type 0) (known : Option (List ℕ)) (len start size : ℕ) → IfSome known (λ bytes. len ≡ length bytes) → len < start + size → IfSome known (λ bytes. IsOk (bytes_at size bytes start) → P)
-not_there P None len start size whole past = tt
-not_there P (Some bytes) len start size whole past = λ ok. absurd (outside bytes len start size whole past ok)
-
-pub not_there_64 : (P : Type 0) (known : Option (List ℕ)) (start size : ℕ) → 2 ^ 64 ≤ start + size → IfSome known (λ bytes. IsOk (bytes_at size bytes start) → P)
-not_there_64 P None start size past = tt
-not_there_64 P (Some bytes) start size past = λ ok. absurd (outside_64 bytes start size past ok)

@@ -23,6 +23,7 @@ use Rattle.elf.specs.declared.read_error.ReadError.TheVariants.{Parse, NotLoaded
 use Rattle.elf.specs.inner.Loads.{AreThere, Loads}
 use Rattle.elf.proofs.Partly.{AreSame}
 use Rattle.elf.proofs.stream.Needs.{content_needs, ok_inside, versions_need}
+use Rattle.elf.proofs.stream.Steps.{left_given}
 use Rattle.elf.proofs.stream.Parted.{loaded_same, streamed_loaded}
 
 -- ---- an answer whose ranges were loaded
@@ -38,29 +39,10 @@ answers None rs shown answer before now can_fail u r plain same is = tt
 answers (Some bytes) rs shown answer before now can_fail u (Ok x) plain same is = (same, is)
 answers (Some bytes) rs shown answer before now can_fail u (Err e) plain same is = rw plain (same, is)
 
-accepts : {E T Y : Type 0} (known : Option (List ℕ)) (old : StreamView E) (rs : List (ℕ × ℕ)) (shown : T → Y) (answer : List ℕ → Result Y ParseError) (r : Result T ParseError) → IfSome known (λ bytes. IsGiven shown (answer bytes) r) → IfSome known (λ bytes. IsOk (answer bytes) → AreCached old rs → IsOk r)
-accepts None old rs shown answer r is = tt
-accepts (Some bytes) old rs shown answer (Ok x) is = λ ok cached. refl
-accepts (Some bytes) old rs shown answer (Err e) is = λ ok cached. absurd (refused_not (answer bytes) is ok)
-
-needed : {E T : Type 0} (known : Option (List ℕ)) (new : StreamView E) (rs : List (ℕ × ℕ)) (r : Result T ParseError) → IfErr r (λ e. kind e ≡ Kind.Refusal) → IfSome known (λ bytes. IfErr r (λ e. IsFor (IsNeeded bytes new rs) (kind e)))
-needed None new rs r plain = tt
-needed (Some bytes) new rs (Ok x) plain = tt
-needed (Some bytes) new rs (Err e) plain = rw plain tt
-
-when_ok : {T : Type 0} (P : Type 0) (r : Result T ParseError) → P → OnOk r P
-when_ok P (Ok x) h = h
-when_ok P (Err e) h = tt
-
 pub leaves_given : {E T Y : Type 0} (old new : StreamView E) (rs : List (ℕ × ℕ)) (shown : T → Y) (answer : List ℕ → Result Y ParseError) (u : Unit {0}) (r : Result T ParseError) → Loads rs old new (Ok u) → IfErr r (λ e. kind e ≡ Kind.Refusal) → IfSome old.content (λ bytes. IsGiven shown (answer bytes) r) → Leaves rs shown answer old new r
 leaves_given old new rs shown answer u r h plain is = record {
-  keeps = h.keeps;
-  loaded = when_ok (AreCached new rs) r h.loaded.1;
-  only = h.only;
+  left = left_given old new rs u r plain h.left;
   answers = answers old.content rs shown answer old.failures new.failures old.can_fail u r plain h.reason is;
-  accepted = accepts old.content old rs shown answer r is;
-  untouched = λ cached. ((h.untouched cached).0, plain);
-  needed = needed old.content new rs r plain;
 }
 
 -- ---- what is read of what is loaded
@@ -88,13 +70,13 @@ pub leaves_read : {E T Y : Type 0} (little : E → Bool) (old new : StreamView E
 leaves_read {E} {T} {Y} little old new rs shown whole part u one r law loads is_part is plain made =
     rw made
     (leaves_given old new rs shown (λ bytes. whole (stream_file little old bytes)) u (err_map as_parse_error one) loads (plain_made one plain)
-    (subst (λ known. IfSome known (λ bytes. IsGiven shown (whole (stream_file little old bytes)) (err_map as_parse_error one))) loads.keeps.content (known_so new.content (λ bytes. AreLoadedOf little new bytes) _ is_part given)))
+    (subst (λ known. IfSome known (λ bytes. IsGiven shown (whole (stream_file little old bytes)) (err_map as_parse_error one))) loads.left.keeps.content (known_so new.content (λ bytes. AreLoadedOf little new bytes) _ is_part given)))
   where
     given : (bytes : List ℕ) → AreLoadedOf little new bytes → IsGiven shown (whole (stream_file little old bytes)) (err_map as_parse_error one)
     given bytes h =
         let ranges = loaded_ranges new in
-        let same : loaded (streamed_file little new) ranges ≡ loaded (stream_file little old bytes) ranges = streamed_loaded little new bytes h ∙ ap (λ headers. loaded (listed_file little headers bytes) ranges) loads.keeps.headers in
-        made_alike shown (whole (stream_file little old bytes)) one (is ∙ ap part same ∙ law bytes (loaded_same little new bytes rs h loads.loaded.1))
+        let same : loaded (streamed_file little new) ranges ≡ loaded (stream_file little old bytes) ranges = streamed_loaded little new bytes h ∙ ap (λ headers. loaded (listed_file little headers bytes) ranges) loads.left.keeps.headers in
+        made_alike shown (whole (stream_file little old bytes)) one (is ∙ ap part same ∙ law bytes (loaded_same little new bytes rs h loads.left.loaded))
 
 -- the sections with the versions are not all there: nothing is loaded, and the file gives an error too
 pub leaves_unplanned : {E T : Type 0} (little : E → Bool) (old : StreamView E) (shown : T → Option Versions) (e : ParseError) (r : Result T ParseError) → r ≡ Err e → kind e ≡ Kind.Refusal → version_plan (headers_alone little old) ≡ Err e → Loads [] old old (Ok tt)

@@ -11,7 +11,7 @@ use Rattle.elf_parts.specs.declared.gnu_symver.records.VerDef.{VerDef}
 use Rattle.elf_parts.specs.declared.gnu_symver.records.VerDefAux.{VerDefAux}
 use Rattle.elf_parts.specs.declared.gnu_symver.records.VerNeed.{VerNeed}
 use Rattle.elf_parts.specs.declared.gnu_symver.records.VerNeedAux.{VerNeedAux}
-use Rattle.elf_hash_check.specs.VersionEntry.{VersionEntry, version_entry}
+use Rattle.elf_parts.specs.gnu_symver.VersionEntry.{VersionEntry, version_entry}
 use Rattle.elf_check.specs.versions.Records.{IsTextAt}
 use Rattle.elf_parts.specs.declared.gnu_symver.records.VersionIndex.{VersionIndex}
 

@@ -6,7 +6,7 @@ use Rattle.std.specs.declared.default.Default.{Ghosts as DefaultGhosts}
 use Rattle.elf_records.specs.declared.endian.EndianParse.{Ghosts as EndianGhosts}
 use Rattle.elf_records.specs.declared.parse.ParseError.{ParseError}
 use Rattle.elf_parts.specs.gnu_symver.Table.{Definition, GivesTexts, Versions, names_left, versions_view}
-use Rattle.elf_hash_check.specs.VersionEntry.{ByDefinition, ByNeed}
+use Rattle.elf_parts.specs.gnu_symver.VersionEntry.{ByDefinition, ByNeed}
 use Rattle.elf_check.specs.versions.Indexes.{CheckedVersion, GlobalVersion, LocalVersion, NamedVersion}
 use Rattle.elf_check.specs.declared.whole.versions.WholeVersion.{WholeVersion}
 use Rattle.elf_check.specs.declared.whole.versions.WholeVersion.TheVariants.{Defined, Global, Local, Required}

@@ -7,7 +7,7 @@ ghost use Rattle.elf_records.specs.Table.{table_len};
 ghost use Rattle.elf_parts.specs.gnu_symver.Records.{version_index_reads};
 ghost use Rattle.elf_parts.specs.gnu_symver.Table.{GivesTexts, definition_view, index_of, versions_view};
 ghost use Rattle.elf_check.specs.versions.Records.{IsText};
-ghost use Rattle.elf_hash_check.specs.VersionEntry.{defined_with, required_with};
+ghost use Rattle.elf_parts.specs.gnu_symver.VersionEntry.{defined_with, required_with};
 ghost use Rattle.elf_check.specs.versions.Indexes.{SoundVersionTable, checked_version};
 ghost use Rattle.elf_check.specs.inner.VersionProps.{SoundVersionTable-prop};
 

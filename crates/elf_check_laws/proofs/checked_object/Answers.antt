@@ -11,6 +11,10 @@ use Rattle.elf_check.proofs.Linked.{object_sized}
 use Rattle.elf_check_laws.proofs.Objects.{gives_sound}
 use Rattle.elf_check_laws.proofs.checked_object.Goals as goal
 
+pub returns-clause-given : goal.returns-clause-given
+returns-clause-given g c =
+    subst (λ (file : ObjectFile). GivesVersioned (versioned_view {E = g.row.E.Denot} {order = g.E.EndianParse} {default = g.E.Default} {equal = g.E.PartialEq} (versions_view {E = g.row.E.Denot})) file c.versioned_object.result) (sym c.file-2.ensures.same) c.versioned_object.ensures
+
 pub returns-clause-sound : goal.returns-clause-sound
 returns-clause-sound g c = λ fit.
     let whole = whole_view g.E.EndianParse.little c.args.file.now in

@@ -6,7 +6,7 @@ ghost use Rattle.elf.specs.ObjectFile.{object_file};
 ghost use Rattle.elf_records.specs.Number.{ok_map};
 ghost use Rattle.elf_linking.specs.SymbolUses.{is_dynamic, rel_parts, rela_parts, section_uses, use_added, uses_after};
 ghost use Rattle.elf_linking.specs.SymbolUses.{uses_at, uses_by, with_use};
-ghost use Rattle.elf_linking.specs.declared.bindings.uses.UsesError.TheVariants.{Read as IsRead};
+ghost use Rattle.elf_linking.specs.declared.bindings.uses.UsesError.TheVariants.{Dynamic as IsDynamic, Read as IsRead};
 
 use crate::{ReferenceKind, reference_kind};
 use elf::endian::EndianParse;
@@ -14,6 +14,7 @@ use elf::headers::Headers;
 use elf::relocation::{RelIterator, RelaIterator};
 use elf::section::SectionHeader;
 use elf::{ElfBytes, ParseError, abi};
+use elf_dynamic::dynamic_view::DynamicError;
 use thiserror::Error;
 
 /// The kinds of references that relocations make to a symbol.
@@ -40,6 +41,17 @@ pub enum UsesError {
     /// The sections of relocations are together larger than the file.
     #[error("the sections of relocations are larger than the file")]
     TooLarge,
+    /// The file declares no section headers, and its relocations are not available through its segments.
+    #[error("{0}")]
+    Dynamic(DynamicError),
+}
+
+impl From<DynamicError> for UsesError {
+    ghost from_gives = { λ error fault. fault ≡ IsDynamic error };
+
+    fn from(error: DynamicError) -> UsesError {
+        UsesError::Dynamic(error)
+    }
 }
 
 impl From<ParseError> for UsesError {
@@ -91,7 +103,11 @@ fn add_use(uses: &mut [SymbolUses], symbol: usize, kind: ReferenceKind)
 }
 
 // Adds the uses of relocations without addends.
-fn add_rels<E: EndianParse>(machine: u16, rels: RelIterator<'_, E>, uses: &mut [SymbolUses])
+pub(crate) fn add_rels<E: EndianParse>(
+    machine: u16,
+    rels: RelIterator<'_, E>,
+    uses: &mut [SymbolUses],
+)
     ensures { uses.new ≡ uses_after machine uses.old (map rel_parts (rels_left rels.entry)) }
 {
     for rel in rels {
@@ -104,7 +120,11 @@ fn add_rels<E: EndianParse>(machine: u16, rels: RelIterator<'_, E>, uses: &mut [
 }
 
 // Adds the uses of relocations with addends.
-fn add_relas<E: EndianParse>(machine: u16, relas: RelaIterator<'_, E>, uses: &mut [SymbolUses])
+pub(crate) fn add_relas<E: EndianParse>(
+    machine: u16,
+    relas: RelaIterator<'_, E>,
+    uses: &mut [SymbolUses],
+)
     ensures { uses.new ≡ uses_after machine uses.old (map rela_parts (relas_left relas.entry)) }
 {
     for rela in relas {

@@ -3,7 +3,8 @@ ghost use Rattle.std.specs.Prelude.{◌≡◌};
 ghost use Rattle.std.specs.Option.{option_map};
 ghost use Rattle.elf_records.specs.Number.{ok_map};
 ghost use Rattle.elf_records.specs.Table.{table_view};
-ghost use Rattle.elf_reading.specs.Opening.{first_section, header_at_front, opened_file, opened_view, table_bytes};
+ghost use Rattle.elf_reading.specs.Opening.{first_section, header_at_front, opened_by_segments, opened_file};
+ghost use Rattle.elf_reading.specs.Opening.{opened_view, table_bytes};
 ghost use Rattle.elf_reading.specs.Tables.{declared_count, declared_table};
 
 use crate::tables::DeclaredTable;
@@ -119,4 +120,24 @@ pub fn open<'data, E: EndianParse>(data: &'data [u8]) -> Result<Opened<'data, E>
     let shdrs = find_table(&ehdr, data, DeclaredTable::of_sections(&ehdr))?;
     let phdrs = find_table(&ehdr, data, DeclaredTable::of_segments(&ehdr))?;
     Ok(Opened { ehdr, shdrs, phdrs })
+}
+
+/// Reads the header of a file and finds its program headers alone, as the dynamic linker does (gABI, chapter "Program
+/// Header"). So a file whose section headers cannot be read still has its header and its segments; it declares no
+/// section headers.
+///
+/// The errors of the header are those of `open`, and so are those of the program headers.
+#[tactic(auto, unfolding(crate::specs::Opening::segment_table))]
+pub fn open_by_segments<'data, E: EndianParse>(
+    data: &'data [u8],
+) -> Result<Opened<'data, E>, ParseError>
+    ensures { ok_map (opened_view «data».now) result ≡ opened_by_segments E.little E.of_byte «data».now }
+{
+    let ehdr = parse_ehdr(data)?;
+    let phdrs = find_table(&ehdr, data, DeclaredTable::of_segments(&ehdr))?;
+    Ok(Opened {
+        ehdr,
+        shdrs: None,
+        phdrs,
+    })
 }

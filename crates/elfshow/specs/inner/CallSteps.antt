@@ -15,9 +15,9 @@ use Rattle.elfshow.specs.declared.stream.Stop.{Stop}
 use Rattle.elfshow.specs.declared.stream.Stop.TheVariants as stop
 
 -- what these methods of a stream leave, called in order up to the first error, and their values dropped
-abbrev pub Loads : {E : Type 0} → (E → Bool) → List Method → StreamView E → StreamView E →
+abbrev pub LeavesAll : {E : Type 0} → (E → Bool) → List Method → StreamView E → StreamView E →
     Result (Unit {0}) ParseError → Type 0
-Loads little loads old new r =
+LeavesAll little loads old new r =
     Leaves (ranges_of (headers_alone little old) loads) (λ x. x)
     (λ bytes. all_answered (stream_file little old bytes) loads) old new r
 

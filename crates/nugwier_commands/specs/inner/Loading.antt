@@ -1,21 +1,34 @@
 -- What became of a source.
-use Rattle.std.specs.Prelude.{◌≡◌, ℕ, Bool, List, ◌++◌, Option, Result, Ok, Err, IfOk, IfSome}
+use Rattle.std.specs.Prelude.{◌≡◌, ℕ, Bool, List, [], ◌∷◌, ◌++◌, Option, Result, Ok, Err, IfOk, IfSome, Some}
+use Rattle.elf_records.specs.declared.parse.ParseError.{ParseError}
+use Rattle.elf_records.specs.Number.{ok_map}
 use Rattle.elf.specs.ElfStream.{StreamView}
 use Rattle.elf.specs.StreamFile.{stream_file}
+use Rattle.elf_linking.specs.Tree.{Found, file_of, without_bytes}
 use Rattle.nugwier_commands.specs.Run.{IsBytesSaid, IsPathSaid, IsSaidAt, IsWritten, Known, heading_said}
 use Rattle.nugwier_commands.specs.declared.ended.Ended.{Ended}
 use Rattle.nugwier_commands.specs.declared.loading.Listed.{Listed}
 use Rattle.nugwier_commands.specs.declared.loading.Listed.TheVariants.{Said as WasSaid, Unread}
 use Rattle.nugwier_commands.specs.declared.run.Outcome.{Outcome}
 use Rattle.nugwier_commands.specs.declared.run.Outcome.TheVariants.{Done, Stopped, Wrong}
+use Rattle.nugwier_report.specs.declared.problem.Fault.TheVariants.{Read}
+use Rattle.nugwier_report.specs.declared.problem.Part.TheVariants.{SectionHeaders}
 use Rattle.nugwier_report.specs.declared.problem.Stop.{Stop}
 use Rattle.nugwier_report.specs.declared.problem.Stop.TheVariants.{Memory as IsMemory}
 use Rattle.nugwier_words.specs.declared.words.WordError.{WordError}
 use Rattle.nugwier_words.specs.declared.words.WordError.TheVariants.{Memory}
 use Rattle.nugwier_listing.specs.Job.{IsSaidOf}
-use Rattle.nugwier_report.specs.Said.{Said}
+use Rattle.nugwier_report.specs.Said.{Said, said_if, whole, wrong}
 use Rattle.nugwier_report.specs.declared.kind.Kind.{Kind}
 use Rattle.nugwier_words.specs.Words.{Task}
+
+-- that section headers cannot be read, if this is why
+abbrev pub unread_said : Option ParseError → List Said
+unread_said unread = said_if (λ e. wrong (whole SectionHeaders) (Read e) ∷ []) unread
+
+-- that, and then what this says of the file
+abbrev pub IsSaidAfter : Option ParseError → (List Said → Type 0) → List Said → Type 0
+IsSaidAfter unread Says said = (rest : List Said) × Says rest × (said ≡ unread_said unread ++ rest)
 
 module _ {W V : Type 0} (contents : W → Option (List ℕ)) where
   -- what was said was written: something that this says of the file
@@ -51,6 +64,11 @@ module _ {W V : Type 0} (contents : W → Option (List ℕ)) where
   abbrev pub IsPathEnded : Known → Task → Option Kind → List ℕ → Option (List ℕ) → Ended W V → Type 0
   IsPathEnded known task heading path before ended =
       IsSaidAndWritten (IsPathSaid known task path) task heading path before ended
+
+-- the program that these bytes are, by its names alone
+abbrev pub IsNamed : List ℕ → Option (List ℕ) → Found → Type 0
+IsNamed path content program =
+    (bytes : List ℕ) × (content ≡ Some bytes) × (ok_map without_bytes (file_of path bytes) ≡ Ok program)
 
 -- a run goes on as its last step ended
 abbrev pub IsOutcomeOf : Result Bool Stop → Outcome → Type 0

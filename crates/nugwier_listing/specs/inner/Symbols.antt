@@ -4,7 +4,7 @@ use Rattle.std.specs.Option.{option_map}
 use Rattle.elf.specs.Answers.{symbols_view}
 use Rattle.elf_parts.specs.gnu_symver.Table.{versions_view}
 use Rattle.elf_records.specs.Number.{ok_map}
-use Rattle.nugwier_listing.specs.Read.{answer_said}
+use Rattle.nugwier_listing.specs.Read.{found_said}
 use Rattle.nugwier_listing.specs.Symbols.{none_said, versioned_said}
 use Rattle.nugwier_listing.specs.declared.symbols.LinkedSymbols.{LinkedSymbols}
 use Rattle.nugwier_listing.specs.declared.symbols.LinkedTables.{LinkedTables}
@@ -19,4 +19,4 @@ one_linked_said manner linked =
 abbrev pub linked_said : {E : Type 0} → LinkedTables E → List Said
 linked_said tables =
     let manner = form_view tables.form in
-    answer_said DynamicSymbols (none_said manner) (one_linked_said manner) tables.linked
+    found_said DynamicSymbols (none_said manner) (one_linked_said manner) tables.linked

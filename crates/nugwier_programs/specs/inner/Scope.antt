@@ -16,12 +16,16 @@ use Rattle.elf_hash_check.specs.declared.hashcheck.sysv.CheckedSysvHash.{Checked
 use Rattle.elf_linking.specs.Binding.{VersionedObject}
 use Rattle.elf_linking.specs.VersionedView.{versioned_view}
 use Rattle.elf_linking.specs.declared.VersionedObject.{VersionedObject as Versioned}
-use Rattle.nugwier_programs.specs.Bindings.{SearchedFile, Searching, Searched, Unsearchable, WithoutSymbols}
+use Rattle.nugwier_programs.specs.Bindings.{OpenFile, SearchedFile, Searching, Searched, Unsearchable, WithoutSymbols}
 use Rattle.nugwier_programs.specs.declared.bindings.objects.BoundFile.{BoundFile}
+use Rattle.nugwier_programs.specs.declared.bindings.objects.OpenFile.{OpenFile as GivenFile}
 use Rattle.nugwier_programs.specs.declared.bindings.objects.SearchFault.{SearchFault}
 use Rattle.nugwier_programs.specs.declared.bindings.objects.SearchFault.TheVariants as fault
 use Rattle.nugwier_report.specs.declared.problem.Fault.{Fault}
 use Rattle.nugwier_report.specs.declared.problem.Fault.TheVariants.{NoHash, Object}
+
+abbrev pub open_view : GivenFile → OpenFile
+open_view file = record { path = file.path.now; opened = view file.file }
 
 -- a file without its hash table
 pub record Opened : Type 0 where
@@ -33,7 +37,7 @@ pub record Opened : Type 0 where
 abbrev pub file_view : BoundFile → Opened
 file_view file = record {
   path = file.path.now;
-  opened = view file.file;
+  opened = view file.file.now;
   symbols = (table_view file.symbols, file.strings);
   versions = option_map versions_view file.versions;
 }
@@ -71,7 +75,7 @@ module _ {order : EndianGhosts AnyEndian} {default : DefaultGhosts AnyEndian} {e
       → SearchedFile
   searched_file pair = record {
     path = pair.0.path.now;
-    opened = view pair.0.file;
+    opened = view pair.0.file.now;
     symbols = (table_view pair.0.symbols, pair.0.strings);
     object = paired_object pair;
   }

@@ -1,40 +1,47 @@
 //! The files of a program as objects of look-ups.
 ghost use Rattle.std.specs.Prelude.{◌≡◌, ◌++◌, IfOk, List, OnOk, map};
 ghost use Rattle.std.specs.List.{flat_map, zip};
-ghost use Rattle.elf_records.specs.Endian.{any_is_little, any_of_byte};
-ghost use Rattle.elf_reading.specs.Opening.{opened_file};
-ghost use Rattle.elf_linking.specs.Tree.{entry_view, found_view};
-ghost use Rattle.nugwier_programs.specs.Bindings.{AreSearched, IsFileSearched, IsOpenedSearched};
-ghost use Rattle.nugwier_programs.specs.Bindings.{Searching};
-ghost use Rattle.nugwier_programs.specs.Bindings.{files_of, search_problem};
-ghost use Rattle.nugwier_programs.specs.inner.Scope.{indexed_view, paired_object, search_fault};
+ghost use Rattle.std.specs.Option.{option_map};
+ghost use Rattle.elf.specs.ElfBytes.{view};
+ghost use Rattle.elf_linking.specs.DynamicFile.{is_filter};
+ghost use Rattle.elf_linking.specs.Tree.{entry_view};
+ghost use Rattle.nugwier_programs.specs.Bindings.{AreSearched, IsFileSearched, Searching, files_of, filter_problem};
+ghost use Rattle.nugwier_programs.specs.Bindings.{open_files, open_of, open_problem, opened_object, search_problem};
+ghost use Rattle.nugwier_programs.specs.inner.Scope.{indexed_view, open_view, paired_object, search_fault};
 ghost use Rattle.nugwier_programs.specs.inner.Scope.{searched_file, searching_of};
 ghost use Rattle.nugwier_programs.specs.declared.bindings.objects.SearchFault.TheVariants.{Object as IsObject};
-ghost use Rattle.elf_linking.specs.declared.resolve.ObjectFault.TheVariants.{Read as IsRead};
 ghost use Rattle.nugwier_report.specs.Said.{saying};
 
 use crate::tree::FILE;
+use elf::ElfBytes;
 use elf::endian::AnyEndian;
 use elf::gnu_symver::SymbolVersionTable;
 use elf::string_table::TerminatedStrings;
 use elf::symbol::SymbolTable;
-use elf::{ElfBytes, ParseError};
 use elf_hash_check::hashcheck::AnyChecked;
+use elf_linking::VersionedObject;
 use elf_linking::bindings::{IndexedObject, with_index};
+use elf_linking::dynamic::{dynamic_object, dynamic_symbols, is_filter};
 use elf_linking::resolve::ObjectFault;
-use elf_linking::tree::{LoadedFile, Object};
-use elf_linking::{VersionedObject, versioned_object};
+use elf_linking::tree::Object;
 use nugwier_report::problem::{Fault, Stop};
 use nugwier_report::quoted::Quoted;
 use nugwier_report::report::Report;
 use std::alloc::{AllocError, Global};
 use std::io::Write;
 
+/// A file that was opened.
+#[derive(Drop)]
+pub(crate) struct OpenFile<'a> {
+    pub path: &'a [u8],
+    pub file: ElfBytes<'a, AnyEndian>,
+}
+
 /// A file whose symbols are bound.
 #[derive(Drop)]
 pub(crate) struct BoundFile<'a> {
     pub path: &'a [u8],
-    pub file: ElfBytes<'a, AnyEndian>,
+    pub file: &'a ElfBytes<'a, AnyEndian>,
     pub symbols: SymbolTable<'a, AnyEndian>,
     pub strings: TerminatedStrings<'a>,
     pub versions: Option<SymbolVersionTable<'a, AnyEndian>>,
@@ -51,30 +58,104 @@ enum SearchFault {
     NoHash,
 }
 
-impl From<ParseError> for SearchFault {
-    ghost from_gives = { λ error fault. fault ≡ IsObject (IsRead error) };
+impl From<ObjectFault> for SearchFault {
+    ghost from_gives = { λ error fault. fault ≡ IsObject error };
 
-    fn from(error: ParseError) -> SearchFault {
-        SearchFault::Object(ObjectFault::Read(error))
+    fn from(error: ObjectFault) -> SearchFault {
+        SearchFault::Object(error)
     }
 }
 
-// Opens a file. Returns `None` if it has no symbols for dynamic linking.
-fn open(loaded: &LoadedFile) -> Result<Option<WithTable<'_>>, SearchFault>
-    ensures { let path = loaded.now.path.items in
-        IsOpenedSearched path (opened_file any_is_little any_of_byte loaded.now.bytes.items)
-        (searching_of path result) }
+// Says if a file is a filter, whose libraries are not loaded.
+#[tactic(auto, using(crate::proofs::Walk::saying_nothing))]
+fn say_filter<W: Write, V: Write>(
+    path: &[u8],
+    file: &ElfBytes<'_, AnyEndian>,
+    report: &mut Report<'_, W, V>,
+) -> Result<(), Stop>
+    ensures { OnOk result (report.new ≡ saying report.old
+        (filter_problem path.now (is_filter (opened_object (view file.now))))) }
 {
-    let file: ElfBytes<'_, AnyEndian> = ElfBytes::minimal_parse(&loaded.bytes)?;
-    let Some((symbols, strings)) = file.dynamic_symbol_table()? else {
+    if is_filter(file) {
+        let path = Quoted::new(path);
+        report.problem(FILE, Fault::Filter(path))?;
+    }
+    Ok(())
+}
+
+/// Opens the file of an object, or says that it cannot be read, and if it is a filter. A missing library has none.
+#[tactic(auto, using(crate::proofs::Walk::saying_nothing))]
+pub(crate) fn open_file<'a, W: Write, V: Write>(
+    object: &'a Object,
+    report: &mut Report<'_, W, V>,
+) -> Result<Option<OpenFile<'a>>, Stop>
+    ensures file { IfOk result (λ file. option_map open_view file ≡ open_of (entry_view object.now).file) }
+    ensures said { OnOk result (report.new ≡ saying report.old (open_problem (entry_view object.now))) }
+{
+    let Some(loaded) = &object.file else {
         return Ok(None);
     };
-    let VersionedObject { table, versions } = match versioned_object(&file) {
+    match ElfBytes::minimal_parse(&loaded.bytes) {
+        Ok(file) => {
+            let path = loaded.path.as_slice();
+            say_filter(path, &file, report)?;
+            Ok(Some(OpenFile { path, file }))
+        }
+        Err(error) => {
+            let path = Quoted::new(&loaded.path);
+            report.problem(FILE, Fault::Object(path, ObjectFault::Read(error)))?;
+            Ok(None)
+        }
+    }
+}
+
+// Adds the file of an object, if it can be opened.
+fn add_open<'a, W: Write, V: Write>(
+    object: &'a Object,
+    files: &mut Vec<OpenFile<'a>>,
+    report: &mut Report<'_, W, V>,
+) -> Result<(), Stop>
+    ensures files { OnOk result (map open_view files.new.items
+        ≡ map open_view files.old.items ++ open_files (entry_view object.now)) }
+    ensures said { OnOk result (report.new ≡ saying report.old (open_problem (entry_view object.now))) }
+{
+    if let Some(file) = open_file(object, report)? {
+        files.push(file)?;
+    }
+    Ok(())
+}
+
+/// Opens the files of these objects, and says which cannot be read.
+pub(crate) fn open_files<'a, W: Write, V: Write>(
+    alloc: Global,
+    objects: &'a [Object],
+    report: &mut Report<'_, W, V>,
+) -> Result<Vec<OpenFile<'a>>, Stop>
+    ensures files { IfOk result (λ files.
+        map open_view files.items ≡ flat_map open_files (map entry_view objects.now)) }
+    ensures said { OnOk result (report.new
+        ≡ saying report.old (flat_map open_problem (map entry_view objects.now))) }
+{
+    let mut files = Vec::new(alloc);
+    for object in objects {
+        add_open(object, &mut files, report)?;
+    }
+    Ok(files)
+}
+
+// Finds what look-ups search of a file. Returns `None` if it has no symbols for dynamic linking.
+fn search<'a>(file: &'a OpenFile<'a>) -> Result<Option<WithTable<'a>>, SearchFault>
+    ensures { IsFileSearched (open_view file.now) (searching_of file.now.path.now result) }
+{
+    let OpenFile { path, file } = file;
+    let Some((symbols, strings)) = dynamic_symbols(file)? else {
+        return Ok(None);
+    };
+    let VersionedObject { table, versions } = match dynamic_object(file) {
         Ok(Some(object)) => object,
         Ok(None) => return Err(SearchFault::NoHash),
         Err(fault) => return Err(SearchFault::Object(fault)),
     };
-    let path = loaded.path.as_slice();
     let bound = BoundFile {
         path,
         file,
@@ -85,29 +166,25 @@ fn open(loaded: &LoadedFile) -> Result<Option<WithTable<'_>>, SearchFault>
     Ok(Some((bound, table)))
 }
 
-/// Adds the file of an object, or says that it cannot be searched. One without symbols for dynamic linking need not be,
-/// and a missing library has none.
+/// Adds a file, or says that it cannot be searched. One without symbols for dynamic linking need not be.
 #[tactic(auto, using(crate::proofs::Walk::saying_nothing))]
 pub(crate) fn add_file<'a, W: Write, V: Write>(
-    object: &'a Object,
+    file: &'a OpenFile<'a>,
     found: &mut Vec<WithTable<'a>>,
     report: &mut Report<'_, W, V>,
 ) -> Result<(), Stop>
-    ensures { OnOk result ((searching : Searching) × IsFileSearched (entry_view object.now).file searching
+    ensures { OnOk result ((searching : Searching) × IsFileSearched (open_view file.now) searching
         × (report.new ≡ saying report.old (search_problem searching))
         × (map searched_file found.new.items ≡ map searched_file found.old.items ++ files_of searching)) }
 {
-    let Some(loaded) = &object.file else {
-        return Ok(());
-    };
-    match open(loaded) {
+    match search(file) {
         Ok(Some(one)) => {
             found.push(one)?;
             Ok(())
         }
         Ok(None) => Ok(()),
         Err(fault) => {
-            report.problem(FILE, problem_of(&loaded.path, fault))?;
+            report.problem(FILE, problem_of(file.path, fault))?;
             Ok(())
         }
     }
@@ -124,18 +201,18 @@ fn problem_of(path: &[u8], fault: SearchFault) -> Fault<'_>
     }
 }
 
-/// Adds the files of these objects, and says which cannot be searched.
+/// Adds these files, and says which cannot be searched.
 pub(crate) fn add_files<'a, W: Write, V: Write>(
-    objects: &'a [Object],
+    files: &'a [OpenFile<'a>],
     found: &mut Vec<WithTable<'a>>,
     report: &mut Report<'_, W, V>,
 ) -> Result<(), Stop>
-    ensures { OnOk result ((all : List Searching) × AreSearched (map entry_view objects.now) all
+    ensures { OnOk result ((all : List Searching) × AreSearched (map open_view files.now) all
         × (report.new ≡ saying report.old (flat_map search_problem all))
         × (map searched_file found.new.items ≡ map searched_file found.old.items ++ flat_map files_of all)) }
 {
-    for object in objects {
-        add_file(object, found, report)?;
+    for file in files {
+        add_file(file, found, report)?;
     }
     Ok(())
 }

@@ -8,7 +8,8 @@ ghost use Rattle.elf_records.specs.Endian.{any_is_little};
 ghost use Rattle.elf_records.specs.Table.{table_view};
 ghost use Rattle.elf_linking.specs.SymbolBindings.{AreAllBound};
 ghost use Rattle.elf_linking.specs.declared.bindings.kinds.SymbolBinding.{SymbolBinding as IsBinding};
-ghost use Rattle.elf_linking.specs.SymbolUses.{no_uses, uses_by};
+ghost use Rattle.elf_linking.specs.DynamicFile.{dynamic_uses};
+ghost use Rattle.elf_linking.specs.SymbolUses.{no_uses};
 ghost use Rattle.nugwier_programs.specs.Bindings.{AreSymbolsSaid, AreUses, file_heading, file_uses, looked_up};
 ghost use Rattle.nugwier_programs.specs.Bindings.{uses_problem};
 ghost use Rattle.nugwier_programs.specs.Symbols.{fault_problem, one_problems};
@@ -26,7 +27,8 @@ use crate::tree::FILE;
 use elf::symbol::Symbol;
 use elf_linking::bindings::Bound;
 use elf_linking::bindings::kinds::{SymbolBinding, SymbolFault, bind_symbols, bound_symbols};
-use elf_linking::bindings::uses::{NO_USES, SymbolUses, add_uses};
+use elf_linking::bindings::uses::{NO_USES, SymbolUses};
+use elf_linking::dynamic::add_dynamic_uses;
 use nugwier_report::bindings::{BoundSymbol, Place, say_binding};
 use nugwier_report::json::Value;
 use nugwier_report::kind::Kind;
@@ -96,9 +98,9 @@ fn uses_of<W: Write, V: Write>(
     report: &mut Report<'_, W, V>,
 ) -> Result<Vec<SymbolUses>, Stop>
     ensures uses { IfOk result (λ uses.
-        AreUses (file_uses (view file.now.file) (table_view file.now.symbols)) uses.items) }
+        AreUses (file_uses (view file.now.file.now) (table_view file.now.symbols)) uses.items) }
     ensures said { OnOk result (report.new ≡ saying report.old
-        (uses_problem file.now.path.now (file_uses (view file.now.file) (table_view file.now.symbols)))) }
+        (uses_problem file.now.path.now (file_uses (view file.now.file.now) (table_view file.now.symbols)))) }
 {
     let mut uses = no_uses(alloc, file.symbols.len())?;
     read_uses(file, &mut uses, report)?;
@@ -111,14 +113,14 @@ fn read_uses<W: Write, V: Write>(
     uses: &mut [SymbolUses],
     report: &mut Report<'_, W, V>,
 ) -> Result<(), Stop>
-    ensures uses { let opened = view file.now.file in
-        let read = uses_by opened.ehdr.e_machine (object_file any_is_little opened) uses.old in
+    ensures uses { let opened = view file.now.file.now in
+        let read = dynamic_uses opened.ehdr.e_machine (object_file any_is_little opened) uses.old in
         OnOk result (AreUses read uses.new) }
-    ensures said { let opened = view file.now.file in
-        let read = uses_by opened.ehdr.e_machine (object_file any_is_little opened) uses.old in
+    ensures said { let opened = view file.now.file.now in
+        let read = dynamic_uses opened.ehdr.e_machine (object_file any_is_little opened) uses.old in
         OnOk result (report.new ≡ saying report.old (uses_problem file.now.path.now read)) }
 {
-    match add_uses(&file.file, uses) {
+    match add_dynamic_uses(file.file, uses) {
         Ok(()) => Ok(()),
         Err(error) => {
             let path = Quoted::new(file.path);

@@ -3,7 +3,7 @@ use Rattle.std.specs.Prelude.{is_some}
 use Rattle.std.specs.Option.{option_map, option_to_list}
 use Rattle.std.proofs.lemmas.Result.{IfOk-weaker}
 use Rattle.elf_linking.specs.Search.{joined_path, paths_of, places_view}
-use Rattle.elf_linking.specs.Tree.{first_fitting, found_view}
+use Rattle.elf_linking.specs.Tree.{Found, first_fitting, found_view}
 use Rattle.elf_linking.proofs.Loading.{first_after, first_before, is_some_of}
 use Rattle.elf_linking.proofs.tree.first_at.Goals as goal
 
@@ -14,9 +14,9 @@ returns-then-is_some g c =
     let later = option_to_list (places.cached name) ++ map (joined_path name) places.usual in
     let some : is_some (option_map found_view c.in_ok-found.found) ≡ true =
     is_some_of found_view c.in_ok-found.found ∙ sym c.is_some.ensures ∙ c.if-is_some.true in
-    λ files is.
-    first_before files c.args.kind (map (joined_path name) places.folders) later (option_map found_view c.in_ok-found.found) some
-    (c.in_ok-found.ensures files is ∙ ap (λ l. first_fitting files c.args.kind (map (joined_path name) (map vec_items l))) c.deref.ensures.value)
+    λ opened is.
+    first_before opened c.args.kind (map (joined_path name) places.folders) later (option_map found_view c.in_ok-found.found) some
+    (c.in_ok-found.ensures opened is ∙ ap (λ l. first_fitting opened c.args.kind (map (joined_path name) (map vec_items l))) c.deref.ensures.value)
 
 pub returns : goal.returns
 returns g c =
@@ -26,9 +26,9 @@ returns g c =
     let none : is_some (option_map found_view c.in_ok-found.found) ≡ false =
     is_some_of found_view c.in_ok-found.found ∙ sym c.is_some.ensures ∙ c.if-is_some.false in
     IfOk-weaker c.cached_or_usual.result
-    (λ found. (files : List ℕ → Option (List ℕ)) → g.L.Libraries.contents c.args.libraries.now ≡ Some files → option_map found_view found ≡ first_fitting files c.args.kind later)
-    (λ found. (files : List ℕ → Option (List ℕ)) → g.L.Libraries.contents c.args.libraries.now ≡ Some files → option_map found_view found ≡ first_fitting files c.args.kind (paths_of name places))
-    (λ found h files is. h files is
-    ∙ first_after files c.args.kind (map (joined_path name) places.folders) later (option_map found_view c.in_ok-found.found) none
-    (c.in_ok-found.ensures files is ∙ ap (λ l. first_fitting files c.args.kind (map (joined_path name) (map vec_items l))) c.deref.ensures.value))
+    (λ found. (opened : List ℕ → Option Found) → g.O.Opener.opened c.args.opener.now ≡ Some opened → option_map found_view found ≡ first_fitting opened c.args.kind later)
+    (λ found. (opened : List ℕ → Option Found) → g.O.Opener.opened c.args.opener.now ≡ Some opened → option_map found_view found ≡ first_fitting opened c.args.kind (paths_of name places))
+    (λ found h opened is. h opened is
+    ∙ first_after opened c.args.kind (map (joined_path name) places.folders) later (option_map found_view c.in_ok-found.found) none
+    (c.in_ok-found.ensures opened is ∙ ap (λ l. first_fitting opened c.args.kind (map (joined_path name) (map vec_items l))) c.deref.ensures.value))
     c.cached_or_usual.ensures

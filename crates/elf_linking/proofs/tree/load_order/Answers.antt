@@ -20,10 +20,10 @@ loop-place-preserved g c =
     let next : suc place ≡ place + 1 = omega arith in
     record {
       names = subst (λ l. AreNamesOf c.needed_objects.new.names l) (sym both) c.in_ok-added.ensures.names;
-      objects = λ files is.
-          both ∙ c.in_ok-added.ensures.objects files is
-          ∙ ap (λ l. with_needed files kind others l place) (ap (map entry_view) same ∙ c.loop-place.invariant.objects files is)
-          ∙ ap (λ n. loaded_after files kind others first n) next;
+      objects = λ opened is.
+          both ∙ c.in_ok-added.ensures.objects opened is
+          ∙ ap (λ l. with_needed opened kind others l place) (ap (map entry_view) same ∙ c.loop-place.invariant.objects opened is)
+          ∙ ap (λ n. loaded_after opened kind others first n) next;
     }
 
 pub returns : goal.returns
@@ -35,4 +35,4 @@ returns g c =
     let past = c.loop-place-test.false in
     let same : length objects ≡ length all.items = length-map all.items entry_view in
     let ends : length objects ≤ c.loop-place.place = omega (arith, ok, count, past, same) in
-    when_known (g.L.Libraries.contents c.args.libraries.now) _ (λ files is. (c.loop-place.place, ends, c.loop-place.invariant.objects files is))
+    when_known (g.O.Opener.opened c.args.opener.now) _ (λ opened is. (c.loop-place.place, ends, c.loop-place.invariant.objects opened is))

@@ -1,7 +1,7 @@
 use Rattle.std.proofs.Common.{◌≡◌, ◌++◌, ℕ, List, Option, Some, drop, map, vec_items}
 use Rattle.elf_linking.specs.Needed.{name_bytes, names_view}
 use Rattle.elf_linking.specs.Search.{expansion, places_view, tokens_view}
-use Rattle.elf_linking.specs.Tree.{entry_view, need_all}
+use Rattle.elf_linking.specs.Tree.{Found, entry_view, need_all}
 use Rattle.elf_linking.specs.inner.LoadedNames.{AreNamesOf}
 use Rattle.elf_linking.proofs.tree.need_all.Given as goal
 
@@ -12,7 +12,7 @@ invariant-loop-name g l =
     let so_far = first ++ map entry_view l.added.items in
     record {
       names : AreNamesOf l.names so_far;
-      objects : (files : List ℕ → Option (List ℕ)) → g.L.Libraries.contents l.needing.libraries.now ≡ Some files
-          → need_all files l.needing.kind (places_view l.needing.places.now) l.needing.place so_far (map (expansion (tokens_view l.substitutions)) (map (name_bytes l.needed.strings.items) (drop l.name-index l.needed.needed.items)))
-          ≡ need_all files l.needing.kind (places_view l.needing.places.now) l.needing.place first (map (expansion (tokens_view l.substitutions)) (names_view l.needed).needed);
+      objects : (opened : List ℕ → Option Found) → g.O.Opener.opened l.needing.opener.now ≡ Some opened
+          → need_all opened l.needing.kind (places_view l.needing.places.now) l.needing.place so_far (map (expansion (tokens_view l.substitutions)) (map (name_bytes l.needed.strings.items) (drop l.name-index l.needed.needed.items)))
+          ≡ need_all opened l.needing.kind (places_view l.needing.places.now) l.needing.place first (map (expansion (tokens_view l.substitutions)) (names_view l.needed).needed);
     }

@@ -39,7 +39,7 @@ returns-in_err-load_range-in-NotLoaded-clause-only g c =
     let range : ℕ × ℕ = (c.in-NotLoaded.start, c.in-NotLoaded.end) in
     let error : c.in-Err.error ≡ NotLoaded range = c.in-NotLoaded.is in
     let missed = sym c.in-Err.ensures.value ∙ ap Err error in
-    has_loaded little MissesId old new (loads_more little MissesId old middle new range c.rounds.invariant c.is_part_of_file.ensures missed c.saturating_sub.ensures c.load_range.ensures.keeps c.load_range.ensures.only)
+    has_loaded little MissesId old new (loads_more little MissesId old middle new range c.rounds.invariant c.is_part_of_file.ensures missed c.saturating_sub.ensures c.load_range.ensures.left)
 
 pub rounds-preserved : goal.rounds-preserved
 rounds-preserved g c =
@@ -50,4 +50,4 @@ rounds-preserved g c =
     let range : ℕ × ℕ = (c.in-NotLoaded.start, c.in-NotLoaded.end) in
     let error : c.in-Err.error ≡ NotLoaded range = c.in-NotLoaded.is in
     let missed = sym c.in-Err.ensures.value ∙ ap Err error in
-    loads_more little MissesId old middle new range c.rounds.invariant c.is_part_of_file.ensures missed c.saturating_sub.ensures c.load_range.ensures.keeps c.load_range.ensures.only
+    loads_more little MissesId old middle new range c.rounds.invariant c.is_part_of_file.ensures missed c.saturating_sub.ensures c.load_range.ensures.left

@@ -1,10 +1,11 @@
 use Rattle.std.proofs.Common.{◌≡◌, ℕ, List, Option, Some, None, Result, Ok, Err, IfOk, IfSome, Bool, subst}
 use Rattle.std.proofs.lemmas.Result.{IfOk-weaker}
 use Rattle.elf.specs.ElfStream.{Keeps, StreamView}
+use Rattle.elf.specs.Loaded.{streamed_file}
 use Rattle.elf.specs.ObjectFile.{ObjectFile}
 use Rattle.elf.specs.StreamFile.{listed_file, stream_file}
 use Rattle.nugwier_listing.specs.Job.{IsSaidOf}
-use Rattle.nugwier_listing.specs.Whole.{whole_file}
+use Rattle.nugwier_listing.specs.Whole.{file_of, stream_range}
 use Rattle.nugwier_report.specs.Said.{Said}
 use Rattle.nugwier_words.specs.Words.{Task, task_of}
 use Rattle.nugwier_commands.proofs.loading.list_stream.Goals as goal
@@ -26,5 +27,5 @@ returns-in-Ok g c =
     let keeps = c.rounds.invariant.0 in
     let task = task_of c.args.target.job.now in
     let path = c.args.target.path.now in
-    let same = subst (λ (content : Option (List ℕ)). IfSome content (λ bytes. whole_file little now ≡ stream_file little now bytes)) keeps.content c.whole_is_content.ensures in
-    IfOk-weaker c.say_taken.result.said _ _ (λ is_right h. (h.0, of_content little g.E.EndianParse.of_byte task path h.0 (whole_file little now) old now keeps old.content same (c.in-Ok.ensures path h.0 h.1), h.2)) c.say_taken.ensures
+    let same = subst (λ (content : Option (List ℕ)). IfSome content (λ bytes. file_of (streamed_file little now) (stream_range now) ≡ stream_file little now bytes)) keeps.content c.whole_is_content.ensures in
+    IfOk-weaker c.say_taken.result.said _ _ (λ is_right h. (h.0, of_content little g.E.EndianParse.of_byte task path h.0 (file_of (streamed_file little now) (stream_range now)) old now keeps old.content same (c.in-Ok.ensures path h.0 h.1), h.2)) c.say_taken.ensures

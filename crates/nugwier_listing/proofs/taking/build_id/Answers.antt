@@ -1,11 +1,10 @@
 use Rattle.std.specs.Prelude.{true}
-use Rattle.elf.specs.Loaded.{loaded_ranges}
-use Rattle.nugwier_listing.specs.Whole.{whole_file}
+use Rattle.nugwier_listing.specs.Whole.{file_of}
 use Rattle.nugwier_listing.proofs.Taken.{taken_whole}
 use Rattle.nugwier_listing.proofs.taking.build_id.Goals as goal
 
 pub returns : goal.returns
 returns g c =
-    let s = c.args.stream.now in
-    let whole = whole_file g.E.EndianParse.little s in
-    taken_whole _ _ _ _ _ c.build_id.ensures.value c.taken.ensures (c.part_build_id_as_whole.ensures.part whole (loaded_ranges s) (λ _. true) c.is_part.ensures.part)
+    let file = c.args.file.now in
+    let whole = file_of (g.R.Headers.file file) (g.R.ListedFile.bytes file) in
+    taken_whole _ _ _ _ _ c.build_id.ensures.value c.taken.ensures (c.part_build_id_as_whole.ensures.part whole (g.R.Reader.ranges file) (λ _. true) c.is_part.ensures.part)

@@ -1,7 +1,7 @@
 use Rattle.std.proofs.Common.{◌≡◌, rules}
 use Rattle.std.specs.Option.{option_map}
 use Rattle.elf_parts.specs.gnu_symver.Table.{definition_view}
-use Rattle.elf_hash_check.specs.VersionEntry.{defined_with}
+use Rattle.elf_parts.specs.gnu_symver.VersionEntry.{defined_with}
 use Rattle.elf_check.specs.versions.Views.{whole_versions}
 use Rattle.elf_check.proofs.Looked.{defined_texts}
 use Rattle.elf_check.proofs.whole.versions.WholeVersions.defined.Goals as goal

@@ -1,0 +1,81 @@
+-- Files that are opened whole, or by their names alone.
+use Rattle.std.proofs.Common.{◌≡◌, inl, inr, ℕ, Bool, List, [], Result, Ok, Err, Option, Some, None, IfSome, Vec, refl, sym, ap, ◌∙◌}
+use Rattle.std.specs.Option.{option_map}
+use Rattle.elf_records.specs.Endian.{any_is_little, any_of_byte}
+use Rattle.elf_records.specs.Number.{ok_map}
+use Rattle.elf_records.specs.declared.endian.AnyEndian.{AnyEndian}
+use Rattle.elf_records.specs.declared.parse.ParseError.{ParseError}
+use Rattle.elf_reading.specs.Opening.{FileView, StreamHeaders, headers_of, opened_file}
+use Rattle.elf.specs.Data.{section_data}
+use Rattle.elf.specs.ElfStream.{IsOpening, StreamView}
+use Rattle.elf.specs.ObjectFile.{object_file}
+use Rattle.elf.specs.StreamFile.{listed_file, stream_file}
+use Rattle.elf.proofs.Same.{opened_is}
+use Rattle.elf_linking.specs.Needed.{GivesNames, IsNamesAnswer, Named, names, names_view}
+use Rattle.elf_linking.specs.Tree.{Found, file_of, found_in, found_view, kind_of, opened_as, opened_whole, without_bytes}
+use Rattle.elf_linking.specs.declared.needed.Names.{Names}
+use Rattle.elf_linking.specs.declared.needed.NamesError.{NamesError}
+use Rattle.elf_linking.specs.declared.tree.Kind.{Kind}
+use Rattle.elf_linking.specs.declared.tree.LoadedFile.{LoadedFile}
+use Rattle.elf_linking.proofs.Loading.{if_known, when_known}
+
+pub some_weaker : {A : Type 0} (o : Option A) (P Q : A → Type 0) → ((x : A) → P x → Q x) → IfSome o P → IfSome o Q
+some_weaker None P Q f h = tt
+some_weaker (Some x) P Q f h = f x h
+
+-- ---- what is opened whole
+
+pub whole_found : (o : Option (List ℕ → Option (List ℕ))) (path : List ℕ) (content : Option (List ℕ))
+    → IfSome o (λ files. files path ≡ content) → IfSome (option_map opened_whole o) (λ found_at. found_at path ≡ opened_as path content)
+whole_found None path content h = tt
+whole_found (Some files) path content h = ap (opened_as path) h
+
+-- ---- what is opened by its names
+
+names_alike : (v : FileView AnyEndian) → names (object_file any_is_little v) ≡ names (listed_file any_is_little (headers_of v) v.bytes)
+unfolding section_data
+names_alike v = refl
+
+names_given : {T Y : Type 0} (shown : T → Y) (answer : Result Y NamesError) (can_fail : Bool) (before now : ℕ) (x : T)
+    → IsNamesAnswer shown answer can_fail before now (Ok x) → answer ≡ Ok (shown x)
+names_given shown answer can_fail before now x (inl h) = h.1
+names_given shown answer can_fail before now x (inr h) = absurd (cc h.1)
+
+found_made : List ℕ → List ℕ → Kind → Result (Option Named) NamesError → Found
+found_made path bytes kind named = record { path = path; bytes = bytes; kind = kind; names = named }
+
+pub found_by_names : (path : List ℕ) (s new : StreamView AnyEndian) (n : Option Names) (file : LoadedFile)
+    → GivesNames (option_map names_view) (λ bytes. names (stream_file any_is_little s bytes)) s new (Ok n)
+    → file.path.items ≡ path → file.bytes.items ≡ [] → file.kind ≡ kind_of s.headers.ehdr → file.names ≡ Ok n
+    → IfSome s.content (λ bytes. (v : FileView AnyEndian) → opened_file any_is_little any_of_byte bytes ≡ Ok v → s.headers ≡ headers_of v
+    → without_bytes (found_in path bytes v) ≡ found_view file)
+unfolding found_made
+found_by_names path s new n file gives same_path empty kind_is names_are =
+    when_known s.content _ (λ bytes is v opened same.
+    let read = names_given (option_map names_view) (names (stream_file any_is_little s bytes)) s.can_fail s.failures new.failures n (if_known s.content bytes _ gives.answers is) in
+    let whole : v.bytes ≡ bytes = (opened_is any_is_little any_of_byte bytes v opened).same in
+    let named : names (object_file any_is_little v) ≡ ok_map (option_map names_view) file.names =
+    names_alike v ∙ ap (λ b. names (listed_file any_is_little (headers_of v) b)) whole
+    ∙ ap (λ h. names (listed_file any_is_little h bytes)) (sym same) ∙ read ∙ ap (ok_map (option_map names_view)) (sym names_are) in
+    let kind : kind_of v.ehdr ≡ file.kind = ap (λ (h : StreamHeaders AnyEndian). kind_of h.ehdr) (sym same) ∙ sym kind_is in
+    ap (found_made path [] (kind_of v.ehdr)) named
+    ∙ ap (λ k. found_made path [] k (ok_map (option_map names_view) file.names)) kind
+    ∙ ap (λ b. found_made path b file.kind (ok_map (option_map names_view) file.names)) (sym empty)
+    ∙ ap (λ p. found_made p file.bytes.items file.kind (ok_map (option_map names_view) file.names)) (sym same_path))
+
+headers_from : (o : Result (FileView AnyEndian) ParseError) (h : StreamHeaders AnyEndian) → ok_map headers_of o ≡ Ok h
+    → (v : FileView AnyEndian) × (o ≡ Ok v) × (h ≡ headers_of v)
+headers_from (Ok v) h is = (v, refl, cc is)
+headers_from (Err e) h is = absurd (cc is)
+
+pub opened_by_names : (known : Option (List ℕ)) (path : List ℕ) (s : StreamView AnyEndian) (can_fail : Bool) (before : ℕ) (found : Found)
+    → s.content ≡ known
+    → IfSome known (λ bytes. IsOpening (ok_map headers_of (opened_file any_is_little any_of_byte bytes)) can_fail before (Ok s))
+    → IfSome s.content (λ bytes. (v : FileView AnyEndian) → opened_file any_is_little any_of_byte bytes ≡ Ok v → s.headers ≡ headers_of v
+    → without_bytes (found_in path bytes v) ≡ found)
+    → IfSome known (λ bytes. ok_map without_bytes (file_of path bytes) ≡ Ok found)
+opened_by_names known path s can_fail before found same opening names_of =
+    when_known known _ (λ bytes is.
+    let opened = headers_from (opened_file any_is_little any_of_byte bytes) s.headers (if_known known bytes _ opening is).1 in
+    let by_names = if_known s.content bytes _ names_of (same ∙ is) in
+    ap (λ o. ok_map without_bytes (ok_map (found_in path bytes) o)) opened.1 ∙ ap Ok (by_names opened.0 opened.1 opened.2))

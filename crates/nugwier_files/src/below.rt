@@ -1,0 +1,100 @@
+//! Files below a folder, as those of the image of a system.
+ghost use Rattle.std.specs.Prelude.{◌≡◌, Some, IfOk, string_bytes};
+ghost use Rattle.std.specs.Option.{option_map};
+ghost use Rattle.nugwier_files.specs.Below.{below};
+
+use crate::files::Files;
+use crate::opening::Opening;
+use elf_linking::tree::Libraries;
+use std::alloc::{AllocError, Global};
+use std::io;
+
+/// Files whose paths are taken below a folder, if there is one.
+#[derive(Clone, Copy)]
+pub struct FilesBelow<'a, F> {
+    pub alloc: Global,
+    pub root: Option<&'a str>,
+    pub files: &'a F,
+}
+
+// The path of the file that has this path below a folder.
+fn below(alloc: Global, root: &str, path: &[u8]) -> Result<Vec<u8>, AllocError>
+    ensures { IfOk result (λ full. full.items ≡ below (Some root.entry) path.now) }
+{
+    let mut full = Vec::from_slice(alloc, root.as_bytes())?;
+    if !path.starts_with(b"/") {
+        full.push(b'/')?;
+    }
+    full.extend_from_slice(path)?;
+    Ok(full)
+}
+
+// The same as text.
+fn text_below(alloc: Global, root: &str, path: &str) -> Result<String, AllocError>
+    ensures { IfOk result (λ full. string_bytes full ≡ below (Some root.entry) path.now) }
+{
+    let mut full = String::from_str(alloc, root)?;
+    if !path.as_bytes().starts_with(b"/") {
+        full.push('/')?;
+    }
+    full.push_str(path)?;
+    Ok(full)
+}
+
+impl<'a, F: Files> Files for FilesBelow<'a, F> {
+    ghost use Rattle.nugwier_files.specs.Below.{known_below};
+
+    type Source = F::Source;
+
+    ghost known = { λ s. known_below s.root (F.known s.files.now) };
+
+    fn open(&self, path: &str) -> Option<F::Source> {
+        match self.root {
+            Some(root) => {
+                let full = text_below(self.alloc, root, path).ok()?;
+                self.files.open(full.as_str())
+            }
+            None => self.files.open(path),
+        }
+    }
+
+    fn open_library(&self, path: &[u8]) -> Opening<F::Source> {
+        match self.root {
+            Some(root) => match below(self.alloc, root, path) {
+                Ok(full) => self.files.open_library(&full),
+                Err(_) => Opening::Whole,
+            },
+            None => self.files.open_library(path),
+        }
+    }
+
+    fn read(&self, path: &str) -> io::Result<Vec<u8>> {
+        match self.root {
+            Some(root) => {
+                let full = text_below(self.alloc, root, path)?;
+                self.files.read(full.as_str())
+            }
+            None => self.files.read(path),
+        }
+    }
+
+    fn has_libraries(&self) {
+        self.files.has_libraries();
+    }
+}
+
+impl<F: Files> Libraries for FilesBelow<'_, F> {
+    ghost use Rattle.nugwier_files.specs.Below.{known_below};
+
+    ghost contents = { λ s. known_below s.root (F.contents s.files.now) };
+
+    fn read_library(&self, path: &[u8]) -> Result<Option<Vec<u8>>, AllocError> {
+        match self.root {
+            Some(root) => {
+                let full = below(self.alloc, root, path)?;
+                self.files.read_library(&full)
+            }
+            None => self.files.read_library(path),
+        }
+    }
+}
