@@ -56,7 +56,7 @@ class Made:
 
 
 def names_of(count):
-    """The strings of `count` symbols behind the first, and the offset of each."""
+    """The strings of `count` symbols after the first, and the offset of each."""
     strings = bytearray(b"\0")
     offsets = [0]
     for k in range(1, count):
@@ -121,7 +121,7 @@ def sysv_hash(name):
 
 
 def gnu_hash_behind(value, name):
-    """The hash of a name that goes on behind one with this hash."""
+    """The hash of a name that goes on after one with this hash."""
     for byte in name:
         value = (33 * value + byte) & 0xFFFFFFFF
     return value
@@ -239,7 +239,7 @@ def many_versions(symbols, needs, definitions):
 
 def sharing_needs(count, step=0):
     """Dynamic symbols with a version index that no need has, and `count` needs that share as many auxiliary entries: all
-    begin at the first entry or, with a step, each this number of entries behind the one before."""
+    begin at the first entry or, with a step, each this number of entries after the one before."""
     made = Made()
     add_symbols(made, 40, SHT_DYNSYM)
     strings = made.add(b".verstr", SHT_STRTAB, b"\0VERSION_1.0\0libneeded.so\0")

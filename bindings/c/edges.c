@@ -1,4 +1,4 @@
-/* Calls each function with no bytes, with empty tables, and with a file of which one byte after the other is damaged.
+/* Calls each function with no bytes, with empty tables, and with a file in which one byte after the other is damaged.
  * Built with -fsanitize=address,undefined it shows that what C gives and gets is used as nugwier.h says.
  *
  * usage: edges FILE
