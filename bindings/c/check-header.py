@@ -3,8 +3,9 @@
 
 Reads the `#[repr(C)]` structs and the exports of crates/elf_c/src/*.rt, and writes to standard output a C file that
 compiles (as C and as C++) exactly if each struct of the header has the fields, the sizes and the offsets of the Rattle
-struct, and each function the parameters and the result of the export. It also fails if the header declares a function
-or a struct that the sources do not have, or leaves one out, also in the namespace of C++.
+struct, each function the parameters and the result of the export, and each constant of a fault its number. It also
+fails if the header declares a function, a struct or a constant of a fault that the sources do not have, or leaves one
+out, also in the namespace of C++.
 
 usage: check-header.py CRATE-SRC-FOLDER HEADER > checks.c
 """
@@ -82,6 +83,13 @@ def exports_in(source):
     return found
 
 
+def constants_in(source):
+    """The kinds and the parts of faults: NO_NAMES is NUGWIER_FAULT_NO_NAMES, PART_FILE is NUGWIER_PART_FILE."""
+    found = re.findall(r"^pub const (\w+): u32 = (\d+);", source, re.M)
+    is_part = re.compile(r"PART_(?!OF_)").match
+    return {("NUGWIER_" if is_part(name) else "NUGWIER_FAULT_") + name: int(value) for name, value in found}
+
+
 def c_fields(fields):
     """The C fields of a Rattle struct: a slice is a pointer and a length."""
     for name, kind in fields:
@@ -144,6 +152,11 @@ def main():
     if declared != set(exports):
         fail(f"functions only in the header: {sorted(declared - set(exports))}, "
              f"only in the sources: {sorted(set(exports) - declared)}")
+    constants = constants_in(source)
+    enumerators = set(re.findall(r"\bNUGWIER_(?:FAULT|PART)_\w+(?= =)", header))
+    if enumerators != set(constants):
+        fail(f"constants only in the header: {sorted(enumerators - set(constants))}, "
+             f"only in the sources: {sorted(set(constants) - enumerators)}")
     for name, fields in structs.items():
         body = re.search(r"^struct %s \{(.*?)^\};" % c_name(name), header, re.M | re.S).group(1)
         count = len([line for line in body.split(";") if line.strip()])
@@ -154,6 +167,7 @@ def main():
     out = ['#include "nugwier.h"', "", "#ifdef __cplusplus", "#include <type_traits>",
            "#define CHECK(fact) static_assert(fact, #fact)", "#else",
            "#define CHECK(fact) _Static_assert(fact, #fact)", "#endif", ""]
+    out += [f"CHECK({name} == {value});" for name, value in constants.items()]
     for name in structs:
         size, align, offsets = layout(name, structs)
         tag = "struct " + c_name(name)
@@ -174,7 +188,8 @@ def main():
     opening, closing = "#ifdef __cplusplus\nextern \"C\" {\n#endif", "#ifdef __cplusplus\n}\n#endif"
     print(f"{text.split('CHECK(sizeof', 1)[0]}{opening}\nCHECK(sizeof{text.split('CHECK(sizeof', 1)[1]}\n{closing}")
     print("\n".join(["#ifdef __cplusplus", *aliases, "#endif"]))
-    print(f"check-header.py: {len(structs)} structs, {len(exports)} functions", file=sys.stderr)
+    print(f"check-header.py: {len(structs)} structs, {len(exports)} functions, "
+          f"{len(constants)} constants", file=sys.stderr)
 
 
 main()

@@ -144,6 +144,46 @@ static void read_common(const struct nugwier_file *file)
     if (common.dynamics.found) nugwier_dynamics(&common.dynamics.entries, 0, entries, 4);
 }
 
+/* Of a file that is called sound these calls return no error. */
+static void read_checked(const struct nugwier_file *file)
+{
+    struct nugwier_fault fault = {0};
+    struct nugwier_section_names names = {0};
+    struct nugwier_bytes name = {0};
+    uint8_t text[256];
+    bool sound = nugwier_check(file, &fault);
+    size_t length = nugwier_fault_text(&fault, text, sizeof text);
+    expect(sound == (fault.kind == NUGWIER_NO_FAULT) && sound == (length == 0), "a fault of a sound file, or none");
+    expect(length < sizeof text, "a long text of a fault");
+    if (!sound) return;
+    struct nugwier_section named = {0};
+    struct nugwier_versions versions = {0};
+    bool found = false;
+    expect(!nugwier_section_names(file, &names).code, "the names of a sound file");
+    expect(!nugwier_section_by_name(file, (const uint8_t *)".text", 5, &found, &named).code, "a name of a sound file");
+    expect(!nugwier_version_table(file, &versions).code, "the versions of a sound file");
+    size_t count = file->has_sections ? nugwier_section_count(&file->sections) : 0;
+    for (size_t i = 0; i < count; i++) {
+        struct nugwier_section section = {0};
+        struct nugwier_data data = {0};
+        expect(!nugwier_section(file, i, &section).code, "a section of a sound file");
+        expect(!nugwier_section_data(file, &section, &data).code, "the bytes of a section of a sound file");
+        expect(!names.found || !nugwier_string(names.strings, names.strings_len, section.name, &name).code,
+               "the name of a section of a sound file");
+    }
+    for (int dynamic = 0; dynamic < 2; dynamic++) {
+        struct nugwier_symbol_table table = {0};
+        expect(!nugwier_symbol_table(file, dynamic, &table).code, "the symbols of a sound file");
+        size_t symbols = nugwier_symbol_count(&table.symbols);
+        for (size_t i = 0; i < symbols; i++) {
+            struct nugwier_symbol symbol = {0};
+            expect(!nugwier_symbol(&table.symbols, i, &symbol).code, "a symbol of a sound file");
+            expect(!nugwier_string(table.strings, table.strings_len, symbol.name, &name).code,
+                   "the name of a symbol of a sound file");
+        }
+    }
+}
+
 static void read_all(const uint8_t *bytes, size_t length)
 {
     struct nugwier_file file = {0};
@@ -199,6 +239,57 @@ static void read_all(const uint8_t *bytes, size_t length)
     }
     read_versions(&file);
     read_common(&file);
+    read_checked(&file);
+}
+
+/* The texts are those that `FileFault` of the crate elf_check declares. */
+static void fault_texts(void)
+{
+    static const struct {
+        struct nugwier_fault fault;
+        const char *text;
+    } all[] = {
+        {{NUGWIER_NO_FAULT, NUGWIER_PART_FILE, 0, 0, 0}, ""},
+        {{NUGWIER_FAULT_NO_NAMES, NUGWIER_PART_FILE, 0, 0, 0}, "no names of sections"},
+        {{NUGWIER_FAULT_REPEATED_TYPE, NUGWIER_PART_FILE, 0, 0x6fffffff, 0},
+         "more than one section of type 0x6fffffff"},
+        {{NUGWIER_FAULT_SECTION_NO_BYTES, NUGWIER_PART_SECTION, 5, 0, 0}, "section 5: no bytes at its range"},
+        {{NUGWIER_FAULT_SECTION_NO_NOTE, NUGWIER_PART_SECTION, 5, 0x2c, 0}, "section 5: no note at 0x2c"},
+        {{NUGWIER_FAULT_SYMBOL_NO_NAME, NUGWIER_PART_SECTION, 5, 10, 0xabc}, "section 5: symbol 10: no name at 0xabc"},
+        {{NUGWIER_FAULT_SYMBOL_NO_SECTION, NUGWIER_PART_SECTION, 5, 10, 99}, "section 5: symbol 10: no section 99"},
+        {{NUGWIER_FAULT_RELOCATION_NO_SYMBOL, NUGWIER_PART_SECTION, UINT64_MAX, 1, 2},
+         "section 18446744073709551615: relocation 1: no symbol 2"},
+        {{NUGWIER_FAULT_HASH_PAST_CHAINS, NUGWIER_PART_SECTION, 7, 8, 9},
+         "section 7: the table is not sound: PastChains { bucket: 8, index: 9 }"},
+        {{NUGWIER_FAULT_DYNAMIC_NO_STRING, NUGWIER_PART_SECTION, 7, 8, 0},
+         "section 7: dynamic entry 8: no string at its offset"},
+        {{NUGWIER_FAULT_NEEDS_SHORT, NUGWIER_PART_VERSIONS, 0, 3, 0}, "versions: needs: only 3 of them"},
+        {{NUGWIER_FAULT_UNKNOWN_VERSION_INDEX, NUGWIER_PART_VERSIONS, 0, 12, 0},
+         "versions: symbol 12: no version with its index"},
+        {{NUGWIER_FAULT_SECOND_TLS, NUGWIER_PART_SEGMENT, 4, 2, 0},
+         "segment 4 (PT_TLS): segment 2 has this type too"},
+        {{NUGWIER_FAULT_OVERLAPPING_LOAD, NUGWIER_PART_SEGMENT, 4, 2, 0},
+         "segment 4 (PT_LOAD): begins before the end of segment 2 (PT_LOAD)"},
+        {{NUGWIER_FAULT_SEGMENT_NO_NOTE, NUGWIER_PART_SEGMENT, 4, 4, 0x1c},
+         "segment 4 (PT_NOTE): has no note at offset 0x1c"},
+        {{NUGWIER_FAULT_SEGMENT_NO_BYTES, NUGWIER_PART_SEGMENT, 4, 0xfedcba98, 0},
+         "segment 4 (0xfedcba98): does not lie in the file"},
+        /* numbers that a caller made up */
+        {{NUGWIER_FAULT_SEGMENT_NO_BYTES, NUGWIER_PART_SEGMENT, 4, 0x100000001, 0},
+         "segment 4 (0x100000001): does not lie in the file"},
+        {{107, NUGWIER_PART_SECTION, 5, 0, 0}, ""},
+        {{UINT32_MAX, UINT32_MAX, 5, 0, 0}, ""},
+    };
+    for (size_t i = 0; i < sizeof all / sizeof *all; i++) {
+        uint8_t text[100];
+        size_t length = strlen(all[i].text);
+        memset(text, '~', sizeof text);
+        expect(nugwier_fault_text(&all[i].fault, text, sizeof text) == length, "the length of a text of a fault");
+        expect(!memcmp(text, all[i].text, length) && text[length] == '~', "the text of a fault");
+        memset(text, '~', sizeof text);
+        expect(nugwier_fault_text(&all[i].fault, text, length / 2) == length, "the length of a text without room");
+        expect(!memcmp(text, all[i].text, length / 2) && text[length / 2] == '~', "the front of a text of a fault");
+    }
 }
 
 /* The texts are those that the Rust crate `elf` 0.8.0 prints of these errors. */
@@ -252,6 +343,7 @@ static void nothing(void)
     struct nugwier_note note = {0};
     struct nugwier_found one = {0};
     struct nugwier_name name = {0};
+    struct nugwier_fault fault = {1, 1, 1, 1, 1};
     size_t offset = 0;
     bool found = true;
     expect(nugwier_open(NULL, 0, &file).code == NUGWIER_SLICE_READ_ERROR, "a file of no bytes");
@@ -301,6 +393,9 @@ static void nothing(void)
     expect(nugwier_section_names(&file, &names).code == 0 && !names.found, "names of a file without any");
     expect(nugwier_version_table(&file, &versions).code == 0 && !versions.found, "versions of a file without any");
     expect(nugwier_section_by_name(&file, NULL, 0, &found, &section).code == 0 && !found, "a section of no name");
+    expect(nugwier_check(&file, &fault) && fault.kind == NUGWIER_NO_FAULT && fault.part == 0 && fault.index == 0 &&
+               fault.first == 0 && fault.second == 0,
+           "a fault of a file with no headers");
     nugwier_e_machine_name(62, &name);
     expect(name.found && name.bytes_len == 9 && !memcmp(name.bytes, "EM_X86_64", 9), "the name of a machine");
     nugwier_e_machine_name(0xfffe, &name);
@@ -313,6 +408,7 @@ int main(int argc, char **argv)
 {
     nothing();
     texts();
+    fault_texts();
     if (argc < 2) return 0;
     FILE *file = fopen(argv[1], "rb");
     if (!file || fseek(file, 0, SEEK_END)) return perror(argv[1]), 1;

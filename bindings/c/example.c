@@ -9,6 +9,7 @@
  *        example FILE name NAME              the first dynamic symbol with the name
  *        example FILE hash NAME              the same in the GNU or the SysV hash section
  *        example FILE check                  whether the hash sections are sound
+ *        example FILE fault                  whether the file is sound, or its first fault
  */
 #include <fcntl.h>
 #include <inttypes.h>
@@ -242,6 +243,16 @@ static int check(const struct nugwier_file *file, const struct nugwier_symbol_ta
     return 0;
 }
 
+static int list_fault(const struct nugwier_file *file)
+{
+    struct nugwier_fault fault = {0};
+    char text[256];
+    if (nugwier_check(file, &fault)) return puts("sound"), 0;
+    size_t length = nugwier_fault_text(&fault, (uint8_t *)text, sizeof text);
+    printf("%.*s\n", (int)length, text);
+    return 1;
+}
+
 static int answer(const struct nugwier_file *file, const char *what, const char *name)
 {
     struct nugwier_symbol_table table = {0};
@@ -249,6 +260,7 @@ static int answer(const struct nugwier_file *file, const char *what, const char 
     if (!strcmp(what, "relocs")) return list_relocations(file);
     if (!strcmp(what, "notes")) return list_notes(file);
     if (!strcmp(what, "dynamic")) return list_dynamic(file);
+    if (!strcmp(what, "fault")) return list_fault(file);
     struct nugwier_status status = nugwier_symbol_table(file, strcmp(what, "symbols") != 0, &table);
     if (status.code) return fail("symbol table", status);
     if (!table.found) return 0;

@@ -458,6 +458,117 @@ struct nugwier_status nugwier_definition(const struct nugwier_versions *versions
 struct nugwier_status nugwier_version_name(struct nugwier_version_names *names, bool *found,
                                            struct nugwier_bytes *name);
 
+/* ---- the check of a file */
+
+/* The kinds of faults. The numbers do not change from one version to the next. */
+enum {
+    NUGWIER_NO_FAULT = 0,
+    /* of the file */
+    NUGWIER_FAULT_NO_NAMES = 1,                       /* the names of the sections cannot be read */
+    NUGWIER_FAULT_REPEATED_TYPE = 2,                  /* first: the type, of which there is to be one section at most */
+    /* of a section */
+    NUGWIER_FAULT_SECTION_NO_NAME = 101,              /* its name cannot be read */
+    NUGWIER_FAULT_SECTION_NO_BYTES = 102,             /* its range, or its compression header, is not in the file */
+    NUGWIER_FAULT_SECTION_COMPRESSED = 103,           /* it has a type whose content is read as it lies in the file */
+    NUGWIER_FAULT_SECTION_NO_LAST_NUL = 104,          /* it holds strings, and its last byte is not 0 */
+    NUGWIER_FAULT_SECTION_NO_NOTE = 105,              /* first: the offset in the section where no note is */
+    /* of a section of symbols */
+    NUGWIER_FAULT_SYMBOLS_BAD_LINK = 201,             /* no linked section, or not the entry size of a symbol */
+    NUGWIER_FAULT_SYMBOLS_LINKED_TO_NO_STRINGS = 202, /* the linked section holds no strings */
+    NUGWIER_FAULT_PART_OF_SYMBOL = 203,               /* not a whole number of symbols */
+    NUGWIER_FAULT_NO_SYMBOLS = 204,                   /* the symbols or their strings do not lie in the file */
+    NUGWIER_FAULT_SYMBOL_NO_NAME = 205,               /* first: the symbol, second: the offset of its name */
+    NUGWIER_FAULT_SYMBOL_NO_SECTION = 206,            /* first: the symbol, second: its missing section */
+    /* of a section of relocations */
+    NUGWIER_FAULT_RELOCATIONS_ENTRY_SIZE = 301,       /* not the entry size of a relocation */
+    NUGWIER_FAULT_RELOCATIONS_NO_LINK = 302,          /* the linked section holds no symbols */
+    NUGWIER_FAULT_PART_OF_RELOCATION = 303,           /* not a whole number of relocations */
+    NUGWIER_FAULT_RELOCATION_NO_SYMBOL = 304,         /* first: the relocation, second: its missing symbol */
+    /* of a hash section */
+    NUGWIER_FAULT_HASH_NOT_LINKED = 401,              /* the linked section holds no symbols */
+    NUGWIER_FAULT_HASH_NO_TABLE = 402,                /* no hash table, or no symbols for it */
+    NUGWIER_FAULT_HASH_ENDLESS = 403,                 /* SysV, first: the bucket whose chain has no end */
+    NUGWIER_FAULT_HASH_PAST_CHAINS = 404,             /* SysV, first: the bucket, second: an index past the chains */
+    NUGWIER_FAULT_HASH_UNREADABLE = 405,              /* first: the symbol that cannot be read, or its name */
+    NUGWIER_FAULT_HASH_WRONG_BUCKET = 406,            /* SysV, first: the bucket, second: a symbol of another */
+    NUGWIER_FAULT_HASH_SHIFT_TOO_LARGE = 407,         /* GNU: 32 or more */
+    NUGWIER_FAULT_HASH_WRONG_HASH = 408,              /* GNU, first: the symbol whose chain word is not its hash */
+    NUGWIER_FAULT_HASH_NO_BLOOM_BIT = 409,            /* GNU, first: the symbol that the bloom filter leaves out */
+    NUGWIER_FAULT_HASH_NOT_IN_RUN = 410,              /* GNU, first: the symbol that is not in the run of its bucket */
+    /* of a section of dynamic entries */
+    NUGWIER_FAULT_DYNAMIC_ENTRY_SIZE = 501,           /* not the entry size of a dynamic entry */
+    NUGWIER_FAULT_DYNAMIC_NOT_LINKED = 502,           /* no linked section, or it holds no strings */
+    NUGWIER_FAULT_DYNAMIC_NO_STRINGS = 503,           /* the strings do not lie in the file */
+    NUGWIER_FAULT_PART_OF_DYNAMIC_ENTRY = 504,        /* not a whole number of dynamic entries */
+    NUGWIER_FAULT_DYNAMIC_NO_NULL = 505,              /* no entry has the tag DT_NULL */
+    NUGWIER_FAULT_DYNAMIC_NO_STRING = 506,            /* first: the entry whose string cannot be read */
+    /* of the versions of symbols */
+    NUGWIER_FAULT_NEEDS_UNREADABLE = 601,             /* no needs, or no strings for them */
+    NUGWIER_FAULT_NEEDS_TOO_LONG = 602,               /* more versions than the section has bytes for */
+    NUGWIER_FAULT_NEEDS_SHORT = 603,                  /* first: how many there are, fewer than declared */
+    NUGWIER_FAULT_NEEDS_NOT_LAST = 604,               /* more than declared */
+    NUGWIER_FAULT_NEED_UNREADABLE = 605,              /* first: the need of which a name or a version cannot be read */
+    NUGWIER_FAULT_DEFINITIONS_UNREADABLE = 606,       /* no definitions, or no strings for them */
+    NUGWIER_FAULT_DEFINITIONS_TOO_LONG = 607,         /* more names than the section has bytes for */
+    NUGWIER_FAULT_DEFINITIONS_SHORT = 608,            /* first: how many there are, fewer than declared */
+    NUGWIER_FAULT_DEFINITIONS_NOT_LAST = 609,         /* more than declared */
+    NUGWIER_FAULT_DEFINITION_UNREADABLE = 610,        /* first: the definition of which a name cannot be read */
+    NUGWIER_FAULT_PART_OF_VERSION_INDEX = 611,        /* not a whole number of version indexes */
+    NUGWIER_FAULT_VERSION_INDEXES_UNREADABLE = 612,   /* the version indexes cannot be read */
+    NUGWIER_FAULT_NO_DYNAMIC_SYMBOLS = 613,           /* no symbols for dynamic linking */
+    NUGWIER_FAULT_COUNT_OF_VERSION_INDEXES = 614,     /* not as many version indexes as symbols */
+    NUGWIER_FAULT_UNKNOWN_VERSION_INDEX = 615,        /* first: the symbol whose index is that of no version */
+    /* of two segments; first: the index of the earlier one */
+    NUGWIER_FAULT_SECOND_INTERP = 701,
+    NUGWIER_FAULT_SECOND_DYNAMIC = 702,
+    NUGWIER_FAULT_SECOND_PHDR = 703,
+    NUGWIER_FAULT_SECOND_TLS = 704,
+    NUGWIER_FAULT_PHDR_AFTER_LOAD = 705,              /* PT_PHDR after PT_LOAD */
+    NUGWIER_FAULT_OVERLAPPING_LOAD = 706,             /* PT_LOAD that begins before the earlier one ends */
+    /* of a segment; first: its type */
+    NUGWIER_FAULT_SEGMENT_NO_BYTES = 801,             /* its bytes do not lie in the file */
+    NUGWIER_FAULT_SEGMENT_FILE_SIZE = 802,            /* more bytes in the file than in memory */
+    NUGWIER_FAULT_SEGMENT_PAST_ADDRESSES = 803,       /* ends past the last address of the file's class */
+    NUGWIER_FAULT_SEGMENT_NO_LAST_NUL = 804,          /* PT_INTERP whose last byte is not 0 */
+    NUGWIER_FAULT_SEGMENT_NO_NOTE = 805,              /* second: the offset in the segment where no note is */
+    NUGWIER_FAULT_SEGMENT_PART_OF_ENTRY = 806,        /* not a whole number of dynamic entries */
+    NUGWIER_FAULT_SEGMENT_NO_NULL = 807,              /* no dynamic entry has the tag DT_NULL */
+    NUGWIER_FAULT_SEGMENT_OTHER_SECTION = 808         /* the section SHT_DYNAMIC has other bytes */
+};
+
+/* Which part of a file is at fault. */
+enum {
+    NUGWIER_PART_FILE = 0,
+    NUGWIER_PART_SECTION = 1,
+    NUGWIER_PART_VERSIONS = 2,
+    NUGWIER_PART_SEGMENT = 3
+};
+
+/* A fault of a file: its kind and its part; `index` is that of the section or of the segment, counted from 0. Numbers
+ * that the kind does not name are 0. */
+struct nugwier_fault {
+    uint32_t kind;
+    uint32_t part;
+    uint64_t index;
+    uint64_t first;
+    uint64_t second;
+};
+
+/* Whether a file is sound: whether what its headers declare can be read. If it is not, `fault` is the first fault in
+ * this order: names of sections; types that one section may have; sections in order, of each its name, its bytes and
+ * its content; versions of symbols; segments. If it is, the kind is NUGWIER_NO_FAULT.
+ *
+ * Of a sound file these return NUGWIER_OK: nugwier_section_names; nugwier_section_by_name; nugwier_section below the
+ * number of sections; of each section nugwier_section_data, and nugwier_string at its name if there are names;
+ * nugwier_version_table; nugwier_symbol_table; nugwier_symbol below the number of symbols, and nugwier_string at its
+ * name. */
+bool nugwier_check(const struct nugwier_file *file, struct nugwier_fault *fault);
+
+/* The text of a fault, as "section 5: no bytes at its range", without a 0 byte at its end. It is written over the front
+ * of `text`, as far as there is room; the call returns the length of the whole text, which is below 256.
+ * NUGWIER_NO_FAULT has no text. */
+size_t nugwier_fault_text(const struct nugwier_fault *fault, uint8_t *text, size_t text_len);
+
 /* ---- the names of values */
 
 /* If `found` is false, the value has no name, and `bytes_len` is 0. */
@@ -526,6 +637,7 @@ using version = struct ::nugwier_version;
 using requirement = struct ::nugwier_requirement;
 using version_names = struct ::nugwier_version_names;
 using definition = struct ::nugwier_definition;
+using fault = struct ::nugwier_fault;
 using name = struct ::nugwier_name;
 }
 #endif

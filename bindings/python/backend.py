@@ -19,7 +19,7 @@ HERE = Path(__file__).resolve().parent
 # The library uses no C library, so it is for each one of Linux; pip wants its oldest name.
 TAGS = ["py3-none-manylinux1_x86_64", "py3-none-manylinux_2_5_x86_64"]
 LICENSES = ["LICENSE-APACHE", "LICENSE-MIT"]
-MODULE = ["nugwier/__init__.py", "nugwier/py.typed"]
+MODULE = ["nugwier/__init__.py", "nugwier/faults.py", "nugwier/py.typed"]
 LIBRARY = "nugwier/libnugwier.so.0"
 CLASSIFIERS = [
     "Operating System :: POSIX :: Linux", "Programming Language :: Python :: 3", "Topic :: Software Development",

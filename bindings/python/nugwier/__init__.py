@@ -20,7 +20,9 @@ from ctypes import POINTER, byref, c_bool, c_int64, c_size_t, c_uint8, c_uint16,
 from pathlib import Path
 from typing import Any, NamedTuple
 
-__all__ = ["ElfError", "ElfFile", "Section", "Segment", "Symbol", "open"]
+from .faults import FaultKind, Part
+
+__all__ = ["ElfError", "ElfFile", "Fault", "FaultKind", "Part", "Section", "Segment", "Symbol", "open"]
 
 _ERRORS = {
     1: "BadMagic", 2: "UnsupportedElfClass", 3: "UnsupportedElfEndianness", 4: "UnsupportedVersion", 5: "BadOffset",
@@ -40,10 +42,15 @@ class ElfError(Exception):
         self.kind = _ERRORS.get(status.code, str(status.code))
         self.first = status.first
         self.second = status.second
-        room = 256
-        text = ctypes.create_string_buffer(room)
-        length = _library.nugwier_error_text(byref(status), text, room)
-        super().__init__(text.raw[:length].decode())
+        super().__init__(_text("error_text", status))
+
+
+def _text(name: str, of: Any) -> str:
+    """The text that a call writes of an error or of a fault: all of them are shorter than this room."""
+    room = 256
+    text = ctypes.create_string_buffer(room)
+    length = getattr(_library, "nugwier_" + name)(byref(of), text, room)
+    return text.raw[:length].decode()
 
 
 def _struct(name: str, *fields: Any) -> Any:
@@ -82,6 +89,8 @@ _Gnu = _struct("Gnu", ("little", c_bool), ("is_64", c_bool), ("nbucket", c_uint3
                ("nbloom", c_uint32), ("nshift", c_uint32), *_bytes("bloom"), *_bytes("buckets"), *_bytes("chains"))
 _Sysv = _struct("Sysv", ("little", c_bool), ("is_64", c_bool), *_bytes("buckets"), *_bytes("chains"))
 _Verdict = _struct("Verdict", ("sound", c_bool), ("indexed", c_size_t))
+_Fault = _struct("Fault", ("kind", c_uint32), ("part", c_uint32), ("index", c_uint64), ("first", c_uint64),
+                 ("second", c_uint64))
 
 
 class Section(NamedTuple):
@@ -126,6 +135,23 @@ class Symbol(NamedTuple):
     size: int
 
 
+class Fault(NamedTuple):
+    """A fault of a file. `section` or `segment` is the index of the one at fault, if one is; `first` and `second` are
+    the numbers of the kind, as nugwier.h says; `text` says what is wrong.
+
+        Fault(kind=FaultKind.SECTION_NO_BYTES, part=Part.SECTION, section=5, segment=None, first=0, second=0,
+              text="section 5: no bytes at its range")
+    """
+
+    kind: FaultKind
+    part: Part
+    section: int | None
+    segment: int | None
+    first: int
+    second: int
+    text: str
+
+
 def _place() -> str:
     here = Path(__file__).resolve().parent
     built = [here / "libnugwier.so.0", here.parent.parent / "c" / "libnugwier.so"]
@@ -158,8 +184,12 @@ def _load() -> Any:
         function.restype = _Status
     library.nugwier_symbols.argtypes = (POINTER(_Table), c_size_t, POINTER(_Symbol), c_size_t)
     library.nugwier_symbols.restype = c_size_t
-    library.nugwier_error_text.argtypes = (POINTER(_Status), *raw)
-    library.nugwier_error_text.restype = c_size_t
+    library.nugwier_check.argtypes = (POINTER(_File), POINTER(_Fault))
+    library.nugwier_check.restype = c_bool
+    for name, of in (("error_text", _Status), ("fault_text", _Fault)):
+        function = getattr(library, "nugwier_" + name)
+        function.argtypes = (POINTER(of), *raw)
+        function.restype = c_size_t
     for name in ("section_count", "segment_count", "symbol_count"):
         function = getattr(library, "nugwier_" + name)
         function.argtypes = (POINTER(_Table),)
@@ -353,7 +383,21 @@ class ElfFile:
               len(wanted), byref(found))
         return self._symbol(found.index, found.symbol, table) if found.found else None
 
-    def check(self) -> tuple[bool, int] | None:
+    def check(self) -> Fault | None:
+        """The first fault of the file, or None if it is sound: if what its headers declare can be read.
+
+            with nugwier.open("/bin/sh") as file:
+                fault = file.check()
+            print(fault.text if fault else "sound")
+        """
+        raw = _Fault()
+        if _library.nugwier_check(self._opened(), byref(raw)):
+            return None
+        part = Part(raw.part)
+        return Fault(FaultKind(raw.kind), part, raw.index if part is Part.SECTION else None,
+                     raw.index if part is Part.SEGMENT else None, raw.first, raw.second, _text("fault_text", raw))
+
+    def hash_check(self) -> tuple[bool, int] | None:
         """Whether the hash section is sound for the dynamic symbols, and how many it indexes; None if there is none."""
         table, section = self._symbols(True), self._hash_section()
         if table is None or section is None:

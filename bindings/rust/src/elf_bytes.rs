@@ -62,7 +62,7 @@ impl<'data, E: EndianParse> ElfBytes<'data, E> {
     }
 
     /// The file with the current header.
-    fn handle(&self) -> ffi::File<'data> {
+    pub(crate) fn handle(&self) -> ffi::File<'data> {
         ffi::File {
             header: self.ehdr.raw(),
             ..self.file

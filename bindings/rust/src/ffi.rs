@@ -59,6 +59,16 @@ pub struct Status {
 
 #[repr(C)]
 #[derive(Clone, Copy, Debug, Default)]
+pub struct Fault {
+    pub kind: u32,
+    pub part: u32,
+    pub index: u64,
+    pub first: u64,
+    pub second: u64,
+}
+
+#[repr(C)]
+#[derive(Clone, Copy, Debug, Default)]
 pub struct Table<'a> {
     pub little: bool,
     pub is_64: bool,
@@ -401,6 +411,8 @@ extern "C" {
     fn nugwier_d_tag_name(d_tag: i64, name: &mut Name<'static>);
     fn nugwier_error_name(code: u32, name: &mut Name<'static>);
     fn nugwier_error_text(status: &Status, text: *mut u8, text_len: usize) -> usize;
+    fn nugwier_check(file: &File<'_>, fault: &mut Fault) -> bool;
+    fn nugwier_fault_text(fault: &Fault, text: *mut u8, text_len: usize) -> usize;
     fn nugwier_note(notes: &Notes<'_>, offset: &mut usize, note: &mut Note<'_>) -> Status;
     fn nugwier_symbol(table: &Table<'_>, index: usize, symbol: &mut Symbol) -> Status;
     fn nugwier_rel(table: &Table<'_>, index: usize, rel: &mut Rel) -> Status;
@@ -642,6 +654,17 @@ pub fn error_name(code: u32, name: &mut Name<'static>) {
 pub fn error_text(status: &Status, text: &mut [u8]) -> usize {
     // SAFETY: the export writes bytes within this slice, which overlaps nothing.
     unsafe { nugwier_error_text(status, text.as_mut_ptr(), text.len()) }
+}
+
+pub fn check(file: &File<'_>, fault: &mut Fault) -> bool {
+    // SAFETY: the export accepts all values of these types, and writes values of these types.
+    unsafe { nugwier_check(file, fault) }
+}
+
+/// Writes the text of a fault over the front of `text`, as far as there is room. Returns the length of the whole text.
+pub fn fault_text(fault: &Fault, text: &mut [u8]) -> usize {
+    // SAFETY: the export writes bytes within this slice, which overlaps nothing.
+    unsafe { nugwier_fault_text(fault, text.as_mut_ptr(), text.len()) }
 }
 
 pub fn note<'a>(notes: &Notes<'a>, offset: &mut usize, note: &mut Note<'a>) -> Status {

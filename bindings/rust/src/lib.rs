@@ -8,6 +8,7 @@
 // The constants of the proved crate itself.
 #[path = "../../../crates/elf_abi/src/abi.rt"]
 pub mod abi;
+pub mod check;
 pub mod compression;
 pub mod dynamic;
 mod elf_bytes;
@@ -15,6 +16,9 @@ pub mod endian;
 // All exports stand there, used or not.
 #[allow(dead_code, unsafe_code)]
 mod ffi;
+// The kinds of faults of the proved crate itself.
+#[path = "../../../crates/elf_c/src/faults/kinds.rt"]
+pub mod fault_kinds;
 pub mod file;
 pub mod gnu_symver;
 pub mod hash;

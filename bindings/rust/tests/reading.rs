@@ -1,6 +1,8 @@
 //! Reads the file of the running test itself.
 use nugwier::abi;
+use nugwier::check::{check_file, Fault, Part};
 use nugwier::endian::{AnyEndian, BigEndian, LittleEndian, NativeEndian};
+use nugwier::fault_kinds;
 use nugwier::note::Note;
 use nugwier::{ElfBytes, ParseError};
 
@@ -220,4 +222,54 @@ fn values_have_names() {
     );
     assert_eq!(nugwier::hash::gnu_hash(b"printf"), 0x156b2bb8);
     assert_eq!(nugwier::hash::sysv_hash(b"printf"), 0x077905a6);
+}
+
+/// The fault of a file after eight bytes were changed.
+fn fault_after(offset: usize, value: u64) -> Result<(), Fault> {
+    let mut bytes = own_file();
+    bytes[offset..offset + 8].copy_from_slice(&value.to_le_bytes());
+    check_file(&ElfBytes::<AnyEndian>::minimal_parse(&bytes).unwrap())
+}
+
+#[test]
+fn a_file_is_checked() {
+    let bytes = own_file();
+    let file = ElfBytes::<AnyEndian>::minimal_parse(&bytes).unwrap();
+    assert_eq!(check_file(&file), Ok(()));
+
+    // sh_offset is at byte 24 of a section header, p_offset at byte 8 of a program header
+    let sections = file.section_headers().unwrap();
+    let index = sections
+        .iter()
+        .position(|section| section.sh_type == abi::SHT_PROGBITS)
+        .unwrap();
+    let fault = fault_after(file.ehdr.e_shoff as usize + 64 * index + 24, 1 << 60).unwrap_err();
+    assert_eq!(
+        (fault.kind, fault.part),
+        (fault_kinds::SECTION_NO_BYTES, Part::Section(index))
+    );
+    assert_eq!(
+        fault.to_string(),
+        format!("section {index}: no bytes at its range")
+    );
+
+    let segments = file.segments().unwrap();
+    let index = segments
+        .iter()
+        .position(|segment| segment.p_type == abi::PT_INTERP)
+        .unwrap();
+    let fault = fault_after(file.ehdr.e_phoff as usize + 56 * index + 8, 1 << 60).unwrap_err();
+    assert_eq!(
+        fault,
+        Fault {
+            kind: fault_kinds::SEGMENT_NO_BYTES,
+            part: Part::Segment(index),
+            first: u64::from(abi::PT_INTERP),
+            second: 0
+        }
+    );
+    assert_eq!(
+        fault.to_string(),
+        format!("segment {index} (PT_INTERP): does not lie in the file")
+    );
 }

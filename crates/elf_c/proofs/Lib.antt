@@ -7,3 +7,5 @@ pub mod Files
 pub mod NoteFilling
 pub mod HashTables
 pub mod Writing
+pub mod TypeNames
+pub mod Checked

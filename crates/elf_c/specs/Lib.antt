@@ -32,5 +32,11 @@ pub mod Symbols
 pub mod Common
 -- the names of sections
 pub mod SectionNames
+-- the faults of a file
+pub mod Faults
+-- the texts of faults
+pub mod FaultTexts
+-- files that are checked
+pub mod Check
 -- what only implementations cite
 pub mod inner

@@ -2,11 +2,15 @@
 //! two calls.
 #![tactic(auto)]
 
+pub mod check;
 pub mod common;
 pub mod data;
+pub mod fault_texts;
+pub mod faults;
 pub mod file;
 pub mod find;
 pub mod hash_tables;
+pub mod laws;
 pub mod named;
 pub mod names;
 pub mod notes;

@@ -6,11 +6,11 @@ ghost use Rattle.elf_c.specs.inner.Writing.{IsWritten};
 
 use crate::status::NugwierStatus;
 
-// Text is written straight into the place of the caller, byte by byte, and counted past its end: a buffer would be moved
-// by the C library's memory functions, which this library does without.
+// Text is written straight into the place of the caller, byte by byte, and counted past its end: a buffer would have to
+// be moved.
 
 // Writes a byte at an index, if the place has that index.
-fn write_byte(place: &mut [u8], index: usize, byte: u8)
+pub(crate) fn write_byte(place: &mut [u8], index: usize, byte: u8)
     ensures { IsWritten index (byte ∷ []) place.old place.new (index + 1) }
 {
     if index < place.len() {
@@ -19,7 +19,7 @@ fn write_byte(place: &mut [u8], index: usize, byte: u8)
 }
 
 // Writes bytes from an index on, and returns the index after them.
-fn write(place: &mut [u8], index: usize, bytes: &[u8]) -> usize
+pub(crate) fn write(place: &mut [u8], index: usize, bytes: &[u8]) -> usize
     requires { index + length bytes.now < 2 ^ 64 }
     ensures { IsWritten index bytes.now place.old place.new result }
 {
@@ -31,30 +31,32 @@ fn write(place: &mut [u8], index: usize, bytes: &[u8]) -> usize
     end
 }
 
-// The digit of a number below 16.
-fn digit(number: u64) -> u8
+// The digit of a number below 16, in upper case or in lower case.
+fn digit(number: u64, upper: bool) -> u8
     requires { number < 16 }
-    ensures { result ≡ digit_glyph true number }
+    ensures { result ≡ digit_glyph upper number }
 {
     if number < 10 {
         b'0' + number as u8
-    } else {
+    } else if upper {
         b'A' + (number as u8 - 10)
+    } else {
+        b'a' + (number as u8 - 10)
     }
 }
 
 // Writes the digits of a number at the end of `room`, and returns where they start.
-fn write_digits(number: u64, base: u64, room: &mut [u8; 64]) -> usize
+fn write_digits(number: u64, base: u64, upper: bool, room: &mut [u8; 64]) -> usize
     requires least { 2 ≤ base }
     requires most { base ≤ 16 }
     ensures within { result ≤ 64 }
-    ensures value { drop result room.new ≡ digits base true number }
+    ensures value { drop result room.new ≡ digits base upper number }
 {
     let mut start = 64;
     let mut rest = number;
     while start > 0 {
         start -= 1;
-        room[start] = digit(rest % base);
+        room[start] = digit(rest % base, upper);
         rest /= base;
         if rest == 0 {
             break;
@@ -64,15 +66,21 @@ fn write_digits(number: u64, base: u64, room: &mut [u8; 64]) -> usize
 }
 
 // Writes the digits of a number from an index on, and returns the index after them.
-fn write_number(place: &mut [u8], index: usize, number: u64, base: u64) -> usize
+pub(crate) fn write_number(
+    place: &mut [u8],
+    index: usize,
+    number: u64,
+    base: u64,
+    upper: bool,
+) -> usize
     requires least { 2 ≤ base }
     requires most { base ≤ 16 }
     requires room { index + 64 < 2 ^ 64 }
-    ensures text { IsWritten index (digits base true number) place.old place.new result }
+    ensures text { IsWritten index (digits base upper number) place.old place.new result }
     ensures most { result ≤ index + 64 }
 {
     let mut room = [0; 64];
-    let start = write_digits(number, base, &mut room);
+    let start = write_digits(number, base, upper, &mut room);
     write(place, index, &room[start..])
 }
 
@@ -84,7 +92,7 @@ fn with_number(place: &mut [u8], text: &str, number: u64, base: u64) -> usize
     ensures { IsWritten 0 (text.now ++ digits base true number) place.old place.new result }
 {
     let end = write(place, 0, text.as_bytes());
-    write_number(place, end, number, base)
+    write_number(place, end, number, base, true)
 }
 
 // Writes two texts, each with a number after it.
@@ -105,9 +113,9 @@ fn with_numbers(
     ensures most { result ≤ 384 }
 {
     let mut end = write(place, 0, text.as_bytes());
-    end = write_number(place, end, number, base);
+    end = write_number(place, end, number, base, true);
     end = write(place, end, more.as_bytes());
-    write_number(place, end, another, base)
+    write_number(place, end, another, base, true)
 }
 
 // Writes the four lower bytes of a number from an index on, the lowest first.
@@ -116,13 +124,13 @@ fn write_bytes(place: &mut [u8], index: usize, number: u64) -> usize
     ensures text { IsWritten index (bytes_text number) place.old place.new result }
     ensures most { result ≤ 512 }
 {
-    let mut end = write_number(place, index, number % 0x100, 16);
+    let mut end = write_number(place, index, number % 0x100, 16, true);
     end = write(place, end, b", ");
-    end = write_number(place, end, number / 0x100 % 0x100, 16);
+    end = write_number(place, end, number / 0x100 % 0x100, 16, true);
     end = write(place, end, b", ");
-    end = write_number(place, end, number / 0x1_0000 % 0x100, 16);
+    end = write_number(place, end, number / 0x1_0000 % 0x100, 16, true);
     end = write(place, end, b", ");
-    write_number(place, end, number / 0x100_0000 % 0x100, 16)
+    write_number(place, end, number / 0x100_0000 % 0x100, 16, true)
 }
 
 // Writes the text of an error of the first four bytes. The first one is the lowest byte of the number.

@@ -1,0 +1,93 @@
+//! The check of a whole file.
+use crate::elf_bytes::ElfBytes;
+use crate::endian::EndianParse;
+use crate::ffi;
+use std::fmt;
+
+/// The part of a file that is at fault, with the index of the section or of the segment, counted from 0.
+#[derive(Clone, Copy, Debug, PartialEq, Eq)]
+pub enum Part {
+    File,
+    Section(usize),
+    Versions,
+    Segment(usize),
+}
+
+/// A fault of a file. Its text says what is wrong, as `section 5: no bytes at its range`.
+#[derive(Clone, Copy, Debug, PartialEq, Eq)]
+pub struct Fault {
+    /// One of `fault_kinds`, which say what the two numbers are.
+    pub kind: u32,
+    pub part: Part,
+    pub first: u64,
+    pub second: u64,
+}
+
+impl Fault {
+    fn of(raw: &ffi::Fault) -> Self {
+        let index = raw.index as usize;
+        Fault {
+            kind: raw.kind,
+            part: match raw.part {
+                0 => Part::File,
+                1 => Part::Section(index),
+                2 => Part::Versions,
+                3 => Part::Segment(index),
+                // the check returns no others
+                part => unreachable!("part {part}"),
+            },
+            first: raw.first,
+            second: raw.second,
+        }
+    }
+
+    fn raw(&self) -> ffi::Fault {
+        let (part, index) = match self.part {
+            Part::File => (0, 0),
+            Part::Section(index) => (1, index),
+            Part::Versions => (2, 0),
+            Part::Segment(index) => (3, index),
+        };
+        ffi::Fault {
+            kind: self.kind,
+            part,
+            index: index as u64,
+            first: self.first,
+            second: self.second,
+        }
+    }
+}
+
+impl fmt::Display for Fault {
+    fn fmt(&self, f: &mut fmt::Formatter<'_>) -> fmt::Result {
+        let mut text = [0; 256];
+        let length = ffi::fault_text(&self.raw(), &mut text).min(text.len());
+        f.write_str(&String::from_utf8_lossy(&text[..length]))
+    }
+}
+
+impl std::error::Error for Fault {}
+
+/// Checks whether a file is sound: whether what its headers declare can be read. The error is its first fault, in this
+/// order: names of sections; types that one section may have; sections; versions of symbols; segments.
+///
+/// Of a sound file the names, the bytes and the symbols of all sections are read without an error.
+///
+/// ```no_run
+/// use nugwier::{check::check_file, endian::AnyEndian, ElfBytes};
+///
+/// let bytes = std::fs::read("/bin/sh").unwrap();
+/// let file = ElfBytes::<AnyEndian>::minimal_parse(&bytes).unwrap();
+/// match check_file(&file) {
+///     Ok(()) => println!("sound"),
+///     Err(fault) => println!("{fault}"),
+/// }
+/// ```
+pub fn check_file<E: EndianParse>(file: &ElfBytes<'_, E>) -> Result<(), Fault> {
+    let mut fault = ffi::Fault::default();
+    if ffi::check(&file.handle(), &mut fault) {
+        Ok(())
+    } else {
+        Err(Fault::of(&fault))
+    }
+}

@@ -1,0 +1,20 @@
+use Rattle.elf.specs.Answers.{first_named, section_header_by_name}
+use Rattle.elf.specs.Data.{section_data}
+use Rattle.elf.specs.Names.{name_table}
+use Rattle.elf_records.specs.StringTable.{string_at}
+use Rattle.elf_c.specs.File.{file_of_c}
+use Rattle.elf_c.proofs.Checked.{listed, mapped, name_read, succeeds}
+use Rattle.elf_c.proofs.laws.sections_are_read.Goals as goal
+
+pub returns : goal.returns
+returns c =
+    let whole = file_of_c c.args.file.now in
+    λ sound. record {
+      names = succeeds (name_table whole) sound.names;
+      by_name = λ name.
+          succeeds (section_header_by_name whole name) (mapped (first_named whole.sections name) (name_table whole) sound.names);
+      headers = λ i less. succeeds (whole.section_at i) (listed (whole.section_at i) whole.sections i (c.sections_are_listed.ensures i) less);
+      content = λ i s is. succeeds (section_data whole s) (sound.sections i s is).bytes;
+      name = λ i s strings is named.
+          succeeds (string_at strings s.sh_name) (name_read (name_table whole) s strings named (sound.sections i s is).name);
+    }
