@@ -1,5 +1,5 @@
 -- The hash table of a section whose symbols and bytes were read.
-use Rattle.std.proofs.Common.{◌≡◌, ℕ, List, Option, Some, None, Result, Ok, Err, ap, ◌∙◌, sym, subst}
+use Rattle.std.proofs.Common.{◌≡◌, ℕ, List, Some, Result, Ok, Err, ap, ◌∙◌, sym, subst}
 use Rattle.std.specs.Prelude.{IsTrue}
 use Rattle.std.specs.Result.{IsOkAnd, result_ok}
 use Rattle.elf_records.specs.Record.{◌>>=◌}

@@ -1,10 +1,10 @@
 -- Where notes end.
-use Rattle.std.proofs.Common.{◌≡◌, ℕ, ◌<◌, ◌≤◌, Bool, List, length, Result, Ok, Err, refl, ap, sym, ◌∙◌, arith}
+use Rattle.std.proofs.Common.{◌≡◌, ℕ, ◌<◌, ◌≤◌, Bool, List, length, Result, Ok, Err, refl, ap, sym, subst, ◌∙◌, arith}
 use Rattle.std.specs.Result.{IsErr}
 use Rattle.elf_records.specs.declared.parse.ParseError.{ParseError}
 use Rattle.elf_parts.specs.Note.{NoteContent, note_at, note_links}
 use Rattle.elf_parts.proofs.NoteLists.{note_first, note_lies, note_refused}
-use Rattle.elf_check.specs.Notes.{IsNoNote, notes_end}
+use Rattle.elf_check.specs.Notes.{IsNoNote, note_align, notes_end}
 
 -- after a note
 pub end_after : (little : Bool) (align : ℕ) (bytes : List ℕ) (o : ℕ) (p : NoteContent × ℕ) → note_at little align bytes o ≡ Ok p → notes_end o (note_links little align bytes o) ≡ notes_end p.1 (note_links little align bytes p.1)
@@ -25,9 +25,9 @@ is_err : {A E : Type 0} (r : Result A E) (e : E) → r ≡ Err e → IsErr r
 is_err (Err d) e h = refl
 is_err (Ok x) e h = cc
 
-pub refused_here : (little : Bool) (align : ℕ) (bytes : List ℕ) (o : ℕ) (e : ParseError) → o < length bytes → note_at little align bytes o ≡ Err e → notes_end o (note_links little align bytes o) ≡ notes_end 0 (note_links little align bytes 0) → IsNoNote little align bytes o
-refused_here little align bytes o e before h same = record {
-  here = sym same ∙ end_here little align bytes o e h;
+pub refused_here : (little : Bool) (align step : ℕ) (bytes : List ℕ) (o : ℕ) (e : ParseError) → step ≡ note_align align → o < length bytes → note_at little step bytes o ≡ Err e → notes_end o (note_links little step bytes o) ≡ notes_end 0 (note_links little step bytes 0) → IsNoNote little align bytes o
+refused_here little align step bytes o e is before h same = record {
+  here = subst (λ (n : ℕ). notes_end 0 (note_links little n bytes 0) ≡ o) is (sym same ∙ end_here little step bytes o e h);
   before = before;
-  refused = is_err (note_at little align bytes o) e h;
+  refused = subst (λ (n : ℕ). IsErr (note_at little n bytes o)) is (is_err (note_at little step bytes o) e h);
 }

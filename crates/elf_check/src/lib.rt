@@ -7,7 +7,7 @@ mod dynamic;
 pub mod faults;
 mod hashes;
 mod listed;
-mod notes;
+pub mod notes;
 mod relocations;
 mod sections;
 pub mod segments;

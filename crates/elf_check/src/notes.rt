@@ -8,7 +8,7 @@ ghost use Rattle.elf_check.specs.Notes.{IsNoNote, SoundNotes};
 
 mod bytes;
 
-pub(crate) use bytes::first_no_note;
+pub use bytes::{first_no_note, note_align};
 use elf::ElfBytes;
 use elf::endian::EndianParse;
 use elf::section::SectionHeader;

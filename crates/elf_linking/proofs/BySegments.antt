@@ -1,5 +1,5 @@
 -- What is read through the segments of a whole file.
-use Rattle.std.proofs.Common.{◌≡◌, inl, inr, ℕ, false, List, Option, Result, Ok, Err, ap, refl, sym, true≢false}
+use Rattle.std.proofs.Common.{◌≡◌, inl, inr, ℕ, false, List, Result, Ok, Err, ap, refl, sym, true≢false}
 use Rattle.std.specs.Prelude.{IsErrAnd, IsOkAnd}
 use Rattle.elf_hash_check.specs.Object.{IsSound, Object}
 use Rattle.elf_linking.specs.declared.resolve.ObjectFault.{ObjectFault}

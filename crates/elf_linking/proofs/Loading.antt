@@ -1,5 +1,5 @@
 -- The names of objects, the search for a name, and the loaders of an object, one step at a time.
-use Rattle.std.proofs.Common.{◌≡◌, ℕ, zero, suc, ◌-◌, ◌<◌, ◌==◌, Bool, true, false, ◌||◌, cond, List, [], ◌∷◌, ◌++◌, Option, Some, None, Result, Ok, Err, IfSome, OnOk, Ordering, Less, Equal, Greater, is_eq, nat_cmp, Vec, refl, sym, ap, ◌∙◌, subst, append_assoc, append-nil, arith}
+use Rattle.std.proofs.Common.{◌≡◌, ℕ, zero, suc, ◌-◌, ◌<◌, ◌==◌, Bool, true, false, ◌||◌, cond, List, [], ◌∷◌, ◌++◌, Option, Some, None, IfSome, Ordering, Less, Equal, Greater, is_eq, nat_cmp, Vec, refl, sym, ap, ◌∙◌, subst, append-nil, arith}
 use Rattle.std.specs.Prelude.{is_some}
 use Rattle.std.specs.Option.{option_map}
 use Rattle.std.specs.BTreeSet.{insert_key}
@@ -13,12 +13,9 @@ use Rattle.std.proofs.lemmas.List.Concat.{flat_map-append}
 use Rattle.std.proofs.lemmas.List.Folds.{list_any-append}
 use Rattle.std.proofs.lemmas.Map.Text.{is_eq-slice_cmp}
 use Rattle.std.proofs.lemmas.Slice.Eq.{bytes_eq-Decides}
-use Rattle.elf_linking.specs.Tree.{Entry, Found, add, first_fitting, fitting, is_loaded, is_loaded_file, loader_at}
-use Rattle.elf_linking.specs.Tree.{loader_places, names_of, need, or_next}
-use Rattle.elf_linking.specs.Search.{Places, candidates_of}
-use Rattle.elf_linking.specs.inner.LoadedNames.{AreNamesOf}
+use Rattle.elf_linking.specs.Tree.{Entry, Found, first_fitting, fitting, is_loaded, loader_at}
+use Rattle.elf_linking.specs.Tree.{loader_places, names_of, or_next}
 use Rattle.elf_linking.specs.declared.tree.Kind.{Kind}
-use Rattle.elf_linking.specs.declared.tree.names.LoadedNames.{LoadedNames}
 
 -- ---- what is known
 
@@ -135,25 +132,6 @@ module _ (opened : List ℕ → Option Found) (kind : Kind) where
       → first_fitting opened kind (path ∷ paths) ≡ first_fitting opened kind paths
   first_later path paths is = ap (λ o. or_next o (first_fitting opened kind paths)) is
 
-  -- ---- what is needed by a name
-
-  module _ (places : Places) (place : ℕ) (objects : List Entry) (name : List ℕ) where
-    pub needs_nothing : is_loaded name objects ≡ true → need opened kind places place objects name ≡ objects
-    needs_nothing is = ap (λ b. cond b objects (add name place (first_fitting opened kind (candidates_of name places)) objects)) is
-
-    pub needs_found : (found : Option Found) → is_loaded name objects ≡ false → found ≡ first_fitting opened kind (candidates_of name places)
-        → need opened kind places place objects name ≡ add name place found objects
-    needs_found found is same =
-        ap (λ b. cond b objects (add name place (first_fitting opened kind (candidates_of name places)) objects)) is
-        ∙ ap (λ f. add name place f objects) (sym same)
-
-pub adds_nothing : (name : List ℕ) (place : ℕ) (found : Option Found) (objects : List Entry) → is_loaded_file found objects ≡ true → add name place found objects ≡ objects
-adds_nothing name place found objects is = ap (λ b. cond b objects (objects ++ record { name = name; loader = place; file = found } ∷ [])) is
-
-pub adds_one : (name : List ℕ) (place : ℕ) (found : Option Found) (objects : List Entry) → is_loaded_file found objects ≡ false
-    → add name place found objects ≡ objects ++ record { name = name; loader = place; file = found } ∷ []
-adds_one name place found objects is = ap (λ b. cond b objects (objects ++ record { name = name; loader = place; file = found } ∷ [])) is
-
 -- ---- the loaders
 
 pub no_loaders : (n : ℕ) (objects : List Entry) (at : ℕ) → at ≡ 0 → loader_places n objects at ≡ []
@@ -169,12 +147,3 @@ next_loader (suc n) objects at some is =
     let same : suc n - 1 ≡ n = omega arith in
     ap (λ b. cond b [] (loader_at objects at ∷ loader_places n objects (loader_at objects at))) is
     ∙ ap (λ k. loader_at objects at ∷ loader_places k objects (loader_at objects at)) (sym same)
-
--- ---- the set of names with one object more
-
-pub names_after : {T E : Type 0} (r : Result T E) (old new : LoadedNames) (objects before after : List Entry) (e : Entry)
-    → OnOk r (after ≡ before ++ e ∷ []) → OnOk r ((all : List Entry) → AreNamesOf old all → AreNamesOf new (all ++ e ∷ []))
-    → AreNamesOf old (objects ++ before) → OnOk r (AreNamesOf new (objects ++ after))
-names_after (Ok x) old new objects before after e same more names =
-    subst (λ l. AreNamesOf new l) (append_assoc objects before (e ∷ []) ∙ ap (λ l. objects ++ l) (sym same)) (more (objects ++ before) names)
-names_after (Err x) old new objects before after e same more names = tt

@@ -11,9 +11,8 @@ use Rattle.elf_parts.specs.declared.gnu_symver.records.VersionIndex.{VersionInde
 use Rattle.elf_parts.specs.declared.gnu_symver.table.SymbolRequirement.{SymbolRequirement}
 use Rattle.elf_parts.specs.gnu_symver.VersionEntry.{ByNeed, VersionEntry, required_with, version_entry}
 use Rattle.elf_parts.proofs.VersionEntries.{definition_by_index, entry_defined, entry_needed, requirement_by_index}
-use Rattle.elf_linking.specs.Binding.{NamedVersion, defined_as, first_name, index_by, named_version, needed_by}
+use Rattle.elf_linking.specs.Binding.{defined_as, first_name, named_version, needed_by}
 use Rattle.elf_linking.specs.Binding.{unreadable, version_by, version_of}
-use Rattle.elf_linking.specs.declared.Unreadable.{Unreadable}
 use denote.Ref.{Bor}
 
 no_text : (name : List ℕ) (b : Bool) → is_utf8 name ≡ b → (IsUtf8 name → ⊥) → (if b then Some name else None) ≡ None

@@ -1,7 +1,7 @@
 -- What is looked up and bound of a file: its symbols for dynamic linking, the object that it is, and the uses that its
 -- relocations make of the symbols. A file that declares section headers is read by these; one that declares none is read
 -- through its segments, as the dynamic linker reads each file.
-use Rattle.std.specs.Prelude.{ℕ, ℤ, pos, Bool, false, ◌||◌, is_some, if◌then◌else◌, List, Option, Some, None, Result, Ok, Err, MatchBool}
+use Rattle.std.specs.Prelude.{ℕ, if◌then◌else◌, List, Option, Some, None, Result, Ok, Err, MatchBool}
 use Rattle.elf_records.specs.Number.{ok_map}
 use Rattle.elf_records.specs.Record.{◌>>=◌}
 use Rattle.elf_records.specs.Table.{Table}
@@ -11,7 +11,6 @@ use Rattle.elf.specs.Answers.{dynamic_symbol_table}
 use Rattle.elf.specs.Headers.{if_found}
 use Rattle.elf.specs.ObjectFile.{ObjectFile}
 use Rattle.elf_dynamic.specs.declared.dynamic_view.error.DynamicError.{DynamicError}
-use Rattle.elf_dynamic.specs.dynamic_view.Entries.{value_of}
 use Rattle.elf_hash_check.specs.Object.{Object, object_in}
 use Rattle.elf_hash_check.specs.declared.hashcheck.any.HashKind.{HashKind}
 use Rattle.elf_linking.specs.Binding.{VersionedObject}
@@ -81,22 +80,3 @@ abbrev pub dynamic_uses : ℕ → ObjectFile → List SymbolUses → Result (Lis
 dynamic_uses machine file uses =
     if file.declares_sections then uses_by machine file uses
     else or_unknown (entries_of file >>= uses_if machine file uses)
-
--- ---- filters: the dynamic linker loads the libraries that these entries name before the file (Solaris; GNU C library)
-
-abbrev pub dt_auxiliary : ℤ
-dt_auxiliary = pos 0x7ffffffd
-
-abbrev pub dt_filter : ℤ
-dt_filter = pos 0x7fffffff
-
-abbrev pub is_filter_by : List Dyn → Bool
-is_filter_by entries = is_some (value_of dt_filter entries) || is_some (value_of dt_auxiliary entries)
-
-abbrev pub is_filter_if : Result (Option (List Dyn)) DynamicError → Bool
-is_filter_if (Ok (Some entries)) = is_filter_by entries
-is_filter_if (Ok None) = false
-is_filter_if (Err e) = false
-
-abbrev pub is_filter : ObjectFile → Bool
-is_filter file = is_filter_if (entries_of file)

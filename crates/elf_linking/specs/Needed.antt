@@ -1,7 +1,7 @@
--- The names by which the dynamic linker finds a file and the libraries that it needs (gABI, chapter "Dynamic Section"),
--- of a whole file or of a part, and what is answered of them over a stream.
-use Rattle.std.specs.Prelude.{◌≡◌, ◌⊎◌, ℕ, ◌+◌, ◌-◌, ◌^◌, ◌==◌, ◌&&◌, nat_le, nat_lt, not, Bool, IsTrue, ℤ, List, [], ◌∷◌, map}
-use Rattle.std.specs.Prelude.{filter, unwrap_or}
+-- The names by which the dynamic linker finds a file and the libraries that it loads with it (gABI, chapter "Dynamic
+-- Section"; GNU C library), of a whole file or of a part, and what is answered of them over a stream.
+use Rattle.std.specs.Prelude.{◌≡◌, ◌⊎◌, ℕ, ◌+◌, ◌-◌, ◌^◌, ◌==◌, ◌&&◌, ◌||◌, nat_le, nat_lt, not, Bool, false, if◌then◌else◌}
+use Rattle.std.specs.Prelude.{bit_and, filter, IsTrue, ℤ, pos, List, [], ◌∷◌, map, unwrap_or}
 use Rattle.std.specs.Prelude.{Option, Some, None, Result, Ok, Err, IfSome, ok_or}
 use Rattle.std.specs.List.{find, take_while}
 use Rattle.std.specs.Option.{option_map}
@@ -21,12 +21,15 @@ use Rattle.elf_reading.specs.Refusals.{IsRefused, Kind, kind}
 use Rattle.elf.specs.Headers.{if_found}
 use Rattle.elf.specs.ObjectFile.{ErrorOf, Extent, FileOf, Partial, Whole, err_map}
 use Rattle.elf.specs.declared.read_error.ReadError.TheVariants.{Parse, NotLoaded as NotRead}
+use Rattle.elf_linking.specs.declared.needed.Library.{Library}
 use Rattle.elf_linking.specs.declared.needed.Name.{Name}
 use Rattle.elf_linking.specs.declared.needed.Names.{Names}
 use Rattle.elf_linking.specs.declared.needed.NamesError.{NamesError}
 use Rattle.elf_linking.specs.declared.needed.NamesError.TheVariants.{Memory, Missing, NoAddress, NoSize, NotLoaded}
 use Rattle.elf_linking.specs.declared.needed.NamesError.TheVariants.{Read}
 use Rattle.elf_linking.specs.declared.needed.NamesError.TheVariants.{Name as Unnamed}
+use Rattle.elf_linking.specs.declared.needed.Role.{Role}
+use Rattle.elf_linking.specs.declared.needed.Role.TheVariants.{Auxiliary, Filter, Needed}
 
 -- why something cannot be read
 abbrev pub read_error : (x : Extent) → ErrorOf x → NamesError
@@ -82,32 +85,74 @@ name_of strings entry = err_map Unnamed (string_at strings (d_un_view entry))
 abbrev pub first_name : List ℕ → ℤ → List Dyn → Result (Option (List ℕ)) NamesError
 first_name strings tag entries = if_found (name_of strings) (first_entry tag entries)
 
--- the names of entries, in order, or the error of the first that cannot be read
-abbrev pub names_of_all : List ℕ → List Dyn → Result (List (List ℕ)) NamesError
-names_of_all strings [] = Ok []
-names_of_all strings (entry ∷ entries) =
-    name_of strings entry >>= λ name. names_of_all strings entries >>= λ names. Ok (name ∷ names)
+-- ---- the libraries that are loaded with the file: those that it needs, and its filtees, in which symbols are looked up
+-- before the file itself (Solaris; GNU C library). An auxiliary filtee may be missing.
 
--- the names of all entries with a tag
-abbrev pub all_names : List ℕ → ℤ → List Dyn → Result (List (List ℕ)) NamesError
-all_names strings tag entries = names_of_all strings (filter (has_tag tag) entries)
+abbrev pub dt_auxiliary : ℤ
+dt_auxiliary = pos 0x7ffffffd
 
--- the soname, the needed libraries, and the search paths
+abbrev pub dt_filter : ℤ
+dt_filter = pos 0x7fffffff
+
+abbrev pub is_library : Dyn → Bool
+is_library entry = has_tag dt_needed entry || has_tag dt_auxiliary entry || has_tag dt_filter entry
+
+abbrev pub role_of : Dyn → Role
+role_of entry =
+    if has_tag dt_auxiliary entry then Auxiliary else if has_tag dt_filter entry then Filter else Needed
+
+-- a library by its name
+pub record Wanted : Type 0 where
+  pub role : Role
+  pub name : List ℕ
+
+abbrev pub library_of : List ℕ → Dyn → Result Wanted NamesError
+library_of strings entry = ok_map (λ name. record { role = role_of entry; name = name }) (name_of strings entry)
+
+-- the libraries of entries, in order, or the error of the first whose name cannot be read
+abbrev pub libraries_of_all : List ℕ → List Dyn → Result (List Wanted) NamesError
+libraries_of_all strings [] = Ok []
+libraries_of_all strings (entry ∷ entries) =
+    library_of strings entry >>= λ library. libraries_of_all strings entries >>= λ libraries. Ok (library ∷ libraries)
+
+abbrev pub libraries_of : List ℕ → List Dyn → Result (List Wanted) NamesError
+libraries_of strings entries = libraries_of_all strings (filter is_library entries)
+
+-- ---- the flag DF_1_NODEFLIB of DT_FLAGS_1: the libraries of the file are not searched for in the usual folders
+
+abbrev pub dt_flags_1 : ℤ
+dt_flags_1 = pos 0x6ffffffb
+
+abbrev pub df_1_nodeflib : ℕ
+df_1_nodeflib = 0x800
+
+abbrev pub has_nodeflib : Option Dyn → Bool
+has_nodeflib None = false
+has_nodeflib (Some entry) = not (bit_and (d_un_view entry) df_1_nodeflib == 0)
+
+-- ---- all of these
+
+-- the soname, the libraries, the search paths, and the flag
 pub record Named : Type 0 where
   pub soname : Option (List ℕ)
-  pub needed : List (List ℕ)
+  pub libraries : List Wanted
   pub runpath : Option (List ℕ)
   pub rpath : Option (List ℕ)
+  pub nodeflib : Bool
 
 abbrev pub names_in : List ℕ → List Dyn → Result Named NamesError
 names_in strings entries =
-    first_name strings dt_soname entries >>= λ soname. all_names strings dt_needed entries >>= λ needed.
+    first_name strings dt_soname entries >>= λ soname. libraries_of strings entries >>= λ libraries.
     first_name strings dt_runpath entries >>= λ runpath. first_name strings dt_rpath entries >>= λ rpath.
-    Ok (record { soname = soname; needed = needed; runpath = runpath; rpath = rpath })
+    let nodeflib = has_nodeflib (first_entry dt_flags_1 entries) in
+    Ok (record { soname = soname; libraries = libraries; runpath = runpath; rpath = rpath; nodeflib = nodeflib })
 
 -- the bytes of a name in the string table; none where no string is at its offset
 abbrev pub name_bytes : List ℕ → Name → List ℕ
 name_bytes strings name = unwrap_or (result_ok (string_at strings name.start)) []
+
+abbrev pub library_view : List ℕ → Library → Wanted
+library_view strings library = record { role = library.role; name = name_bytes strings library.name }
 
 -- the view of the result
 abbrev pub names_view : Names → Named
@@ -115,9 +160,10 @@ names_view n =
     let bytes = name_bytes n.strings.items in
     record {
       soname = option_map bytes n.soname;
-      needed = map bytes n.needed.items;
+      libraries = map (library_view n.strings.items) n.libraries.items;
       runpath = option_map bytes n.runpath;
       rpath = option_map bytes n.rpath;
+      nodeflib = n.nodeflib;
     }
 
 -- the answer, or an allocation failed; nothing is read

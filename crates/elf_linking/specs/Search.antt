@@ -1,7 +1,7 @@
 -- Where the dynamic linker looks for a library that an object needs (the manual page ld.so(8); gABI, chapter "Dynamic
 -- Linking", sections "Shared Object Dependencies" and "Substitution Sequences").
 use Rattle.std.specs.Prelude.{ℕ, ◌-◌, ◌==◌, ◌&&◌, ◌||◌, zero, suc, nat_le, not, Bool, false, if◌then◌else◌, is_some}
-use Rattle.std.specs.Prelude.{List, [], ◌∷◌, ◌++◌, codes, length, map, slice_get, Option, Some, None, unwrap_or}
+use Rattle.std.specs.Prelude.{List, [], ◌∷◌, ◌++◌, codes, filter, length, map, slice_get, Option, Some, None, unwrap_or}
 use Rattle.std.specs.List.{flat_map, list_any, slice_split, starts_with}
 use Rattle.std.specs.Option.{option_map, option_to_list}
 use Rattle.std.specs.Vec.{vec_items}
@@ -84,19 +84,21 @@ folders_if separators tokens (Some path) = folders_in separators tokens path
 
 -- ---- the folders of a search, in order
 
--- an object: the folder that it is in, and its search paths
+-- an object: the folder that it is in, its search paths, and whether it has the flag DF_1_NODEFLIB
 pub record Object : Type 0 where
   pub folder : List ℕ
   pub runpath : Option (List ℕ)
   pub rpath : Option (List ℕ)
+  pub nodeflib : Bool
 
--- the LD_LIBRARY_PATH, what stands for $LIB and $PLATFORM, the path that the linker's cache has for a name, and the usual
--- folders
+-- the LD_LIBRARY_PATH, what stands for $LIB and $PLATFORM, the path that the linker's cache has for a name, the folders that
+-- count in place of a cache, and the usual folders
 pub record Others : Type 0 where
   pub library_path : Option (List ℕ)
   pub lib : List ℕ
   pub platform : List ℕ
   pub cached : List ℕ → Option (List ℕ)
+  pub listed_folders : List (List ℕ)
   pub usual_folders : List (List ℕ)
 
 abbrev pub tokens_in : Others → List ℕ → Tokens
@@ -126,29 +128,57 @@ folders object loaders others =
 
 -- ---- the paths
 
--- where a library is searched for: in the folders of search paths, at the path that the cache has for its name, and in the
--- usual folders
-pub record Places : Type 0 where
-  pub folders : List (List ℕ)
-  pub cached : List ℕ → Option (List ℕ)
-  pub usual : List (List ℕ)
-
-abbrev pub places : Object → List Object → Others → Places
-places object loaders others = record {
-  folders = folders object loaders others;
-  cached = others.cached;
-  usual = others.usual_folders;
-}
-
 -- a name in a folder; an empty folder is the current one
 abbrev pub joined_path : List ℕ → List ℕ → List ℕ
 joined_path name folder = (if length folder == 0 then codes "." else folder) ++ codes "/" ++ name
+
+-- the usual folders do not count for an object with the flag DF_1_NODEFLIB, and neither does what the cache has in them
+abbrev pub excluded_folders : Object → Others → List (List ℕ)
+excluded_folders object others = if object.nodeflib then others.usual_folders else []
+
+abbrev pub has_slash_at : List ℕ → ℕ → Bool
+has_slash_at path place = unwrap_or (option_map (λ b. b == 47) (slice_get path place)) false
+
+abbrev pub is_below : List ℕ → List ℕ → Bool
+is_below path folder = starts_with ◌==◌ path folder && has_slash_at path (length folder)
+
+abbrev pub is_outside : List (List ℕ) → List ℕ → Bool
+is_outside excluded path = not (list_any (is_below path) excluded)
+
+abbrev pub is_folder_outside : List (List ℕ) → List ℕ → Bool
+is_folder_outside excluded folder = is_outside excluded (joined_path [] folder)
+
+abbrev pub if_outside : List (List ℕ) → Option (List ℕ) → Option (List ℕ)
+if_outside excluded None = None
+if_outside excluded (Some path) = if is_outside excluded path then Some path else None
+
+-- where a library is searched for: in the folders of search paths, at the path that the cache has for its name, in the
+-- folders that count in place of a cache, and in the usual ones
+pub record Places : Type 0 where
+  pub folders : List (List ℕ)
+  pub cached : List ℕ → Option (List ℕ)
+  pub excluded : List (List ℕ)
+  pub usual : List (List ℕ)
+
+abbrev pub places : Object → List Object → Others → Places
+places object loaders others =
+    let excluded = excluded_folders object others in
+    record {
+      folders = folders object loaders others;
+      cached = others.cached;
+      excluded = excluded;
+      usual = filter (is_folder_outside excluded) (others.listed_folders ++ others.usual_folders);
+    }
+
+-- the path that the cache has for a name, if it counts
+abbrev pub cached_at : Places → List ℕ → Option (List ℕ)
+cached_at places name = if_outside places.excluded (places.cached name)
 
 -- the paths of a name without a slash
 abbrev pub paths_of : List ℕ → Places → List (List ℕ)
 paths_of name places =
     map (joined_path name) places.folders
-    ++ (option_to_list (places.cached name) ++ map (joined_path name) places.usual)
+    ++ (option_to_list (cached_at places name) ++ map (joined_path name) places.usual)
 
 -- a name with a slash is a path; another one is searched for in each place
 abbrev pub candidates_of : List ℕ → Places → List (List ℕ)
@@ -164,7 +194,12 @@ abbrev pub path_view : Option (Bor (List ℕ)) → Option (List ℕ)
 path_view path = option_map (λ (bytes : Bor (List ℕ)). bytes.now) path
 
 abbrev pub object_view : SearchPaths → Object
-object_view s = record { folder = s.folder.now; runpath = path_view s.runpath; rpath = path_view s.rpath }
+object_view s = record {
+  folder = s.folder.now;
+  runpath = path_view s.runpath;
+  rpath = path_view s.rpath;
+  nodeflib = s.nodeflib;
+}
 
 abbrev pub tokens_view : Substitutions → Tokens
 tokens_view t = record { origin = t.origin.now; lib = t.lib.now; platform = t.platform.now }
@@ -174,18 +209,23 @@ abbrev pub cached_by : Option (Bor LinkerCache) → LibraryFlags → List ℕ �
 cached_by None flags name = None
 cached_by (Some cache) flags name = cached_path (cache_view cache.now) (flags_view flags) name
 
+abbrev pub folders_view : List (Bor (List ℕ)) → List (List ℕ)
+folders_view folders = map (λ (folder : Bor (List ℕ)). folder.now) folders
+
 abbrev pub others_view : Surroundings → Others
 others_view s = record {
   library_path = path_view s.library_path;
   lib = s.lib.now;
   platform = s.platform.now;
   cached = cached_by s.cache s.flags;
-  usual_folders = map (λ (folder : Bor (List ℕ)). folder.now) s.usual_folders.now;
+  listed_folders = folders_view s.listed_folders.now;
+  usual_folders = folders_view s.usual_folders.now;
 }
 
 abbrev pub places_view : SearchPlaces → Places
 places_view p = record {
   folders = map vec_items p.folders.items;
   cached = cached_by p.cache p.flags;
+  excluded = folders_view p.excluded.now;
   usual = map vec_items p.usual.items;
 }

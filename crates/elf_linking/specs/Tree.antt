@@ -1,9 +1,11 @@
 -- The libraries that a program loads, and the files that the dynamic linker takes for them (the manual page ld.so(8); gABI,
--- chapter "Dynamic Linking", section "Shared Object Dependencies"). Libraries are searched for breadth first: those that
--- the program needs in the order of its entries DT_NEEDED, then those that the first of these needs, and so on. A library
--- is loaded once.
-use Rattle.std.specs.Prelude.{◌≡◌, ◌≤◌, ℕ, ◌+◌, ◌==◌, ◌&&◌, zero, suc, Bool, true, false, if◌then◌else◌}
-use Rattle.std.specs.Prelude.{List, [], ◌∷◌, ◌++◌, codes, length, map, take, slice_get}
+-- chapter "Dynamic Linking", section "Shared Object Dependencies"; GNU C library, elf/dl-deps.c). Libraries are searched for
+-- breadth first: those that the program needs in the order of its entries DT_NEEDED, then those that the first of these
+-- needs, and so on. A library is loaded once. Symbols are looked up in the same order, but in the filtees of an object
+-- before the object itself.
+use Rattle.std.specs.Prelude.{◌≡◌, ◌≤◌, ℕ, ◌+◌, ◌==◌, ◌&&◌, zero, suc, not, Bool, true, false, if◌then◌else◌}
+use Rattle.std.specs.Prelude.{List, [], ◌∷◌, ◌++◌, codes, drop, insert, length, map, position, remove, slice_set, take}
+use Rattle.std.specs.Prelude.{slice_get}
 use Rattle.std.specs.Prelude.{Option, Some, None, unwrap_or, Result, Ok, Err}
 use Rattle.std.specs.List.{flat_map, list_any}
 use Rattle.std.specs.Option.{option_map, option_to_list}
@@ -19,16 +21,21 @@ use Rattle.elf_records.specs.declared.file.FileHeader.{FileHeader}
 use Rattle.elf_records.specs.declared.parse.ParseError.{ParseError}
 use Rattle.elf_reading.specs.Opening.{FileView, opened_file}
 use Rattle.elf.specs.ObjectFile.{object_file}
-use Rattle.elf_linking.specs.Needed.{Named, names, names_view}
-use Rattle.elf_linking.specs.Search.{Object as Searching, Others, Places, candidates_of, expansion, places, tokens_in}
+use Rattle.elf_linking.specs.Needed.{Named, Wanted, names, names_view}
+use Rattle.elf_linking.specs.Search.{Object as Searching, Others, Places, Tokens, candidates_of, expansion, places}
+use Rattle.elf_linking.specs.Search.{tokens_in}
 use Rattle.elf_linking.specs.declared.needed.NamesError.{NamesError}
+use Rattle.elf_linking.specs.declared.needed.Role.{Role}
+use Rattle.elf_linking.specs.declared.needed.Role.TheVariants.{Auxiliary, Filter, Needed}
 use Rattle.elf_linking.specs.declared.tree.Kind.{Kind}
 use Rattle.elf_linking.specs.declared.tree.LoadedFile.{LoadedFile}
 use Rattle.elf_linking.specs.declared.tree.Object.{Object}
 use Rattle.elf_linking.specs.declared.tree.OpenError.{OpenError}
+use Rattle.elf_linking.specs.declared.tree.Slot.{Slot}
 use Rattle.elf_linking.specs.declared.tree.memory.MemFile.{MemFile}
 use Rattle.elf_linking.specs.declared.tree.memory.MemLibraries.{MemLibraries}
 use Rattle.elf_linking.specs.declared.tree.OpenError.TheVariants.{Memory, Open}
+use denote.Ref.{Bor}
 
 -- ---- files
 
@@ -125,7 +132,7 @@ pub record Entry : Type 0 where
   pub file : Option Found
 
 abbrev pub no_names : Named
-no_names = record { soname = None; needed = []; runpath = None; rpath = None }
+no_names = record { soname = None; libraries = []; runpath = None; rpath = None; nodeflib = false }
 
 -- those that are known
 abbrev pub known : Result (Option Named) NamesError → Named
@@ -149,19 +156,21 @@ file_at objects place = unwrap_or (option_map (λ (e : Entry). e.file) (slice_ge
 
 -- the search paths of a file
 abbrev pub searching : Option Found → Searching
-searching None = record { folder = []; runpath = None; rpath = None }
+searching None = record { folder = []; runpath = None; rpath = None; nodeflib = false }
 searching (Some found) =
     let names = known found.names in
-    record { folder = folder_of found.path; runpath = names.runpath; rpath = names.rpath }
+    record { folder = folder_of found.path; runpath = names.runpath; rpath = names.rpath; nodeflib = names.nodeflib }
 
 abbrev pub searching_at : List Entry → ℕ → Searching
 searching_at objects place = searching (file_at objects place)
 
--- the libraries that a file needs, in order
-abbrev pub needed_by : Others → Option Found → List (List ℕ)
-needed_by others None = []
-needed_by others (Some found) =
-    map (expansion (tokens_in others (folder_of found.path))) (known found.names).needed
+-- the libraries that a file names, in order
+abbrev pub expanded : Tokens → Wanted → Wanted
+expanded tokens library = record { role = library.role; name = expansion tokens library.name }
+
+abbrev pub named_by : Others → Option Found → List Wanted
+named_by others None = []
+named_by others (Some found) = map (expanded (tokens_in others (folder_of found.path))) (known found.names).libraries
 
 -- the loaders of an object: the one that needed it first, the one that needed that one first, and so on up to the
 -- program, which is at place 0. Each is before the next, so there are at most as many as the place says.
@@ -182,49 +191,122 @@ places_at others objects place = places (searching_at objects place) (loaders_at
 
 -- ---- loading
 
+-- the objects in the order in which they are loaded, and the slots of these in the order in which symbols are looked up:
+-- each the place of an object, and whether its libraries were loaded. Those before the slot `at` were.
+pub record Loading : Type 0 where
+  pub objects : List Entry
+  pub scope : List Slot
+  pub at : ℕ
+
+abbrev pub waiting : ℕ → Slot
+waiting place = record { place = place; is_done = false }
+
 -- the file is an object already
 abbrev pub is_loaded_file : Option Found → List Entry → Bool
 is_loaded_file None objects = false
 is_loaded_file (Some found) objects = is_loaded found.path objects
 
--- the objects with one more, which the object at a place needs by a name: with its file, or missing. A file that is an
--- object already is no new one.
-abbrev pub add : List ℕ → ℕ → Option Found → List Entry → List Entry
-add name place found objects =
-    if is_loaded_file found objects then objects
-    else objects ++ record { name = name; loader = place; file = found } ∷ []
+-- with one object more, which the object at a place names first: with its file, or missing. A file that is an object
+-- already is no new one.
+abbrev pub add : List ℕ → ℕ → Option Found → Loading → Loading
+add name place found s =
+    if is_loaded_file found s.objects then s
+    else record s {
+      objects = s.objects ++ record { name = name; loader = place; file = found } ∷ [];
+      scope = s.scope ++ waiting (length s.objects) ∷ [];
+    }
+
+-- the place of the first object that has the name, counted from k
+abbrev pub place_of : ℕ → List ℕ → List Entry → Option ℕ
+place_of k name [] = None
+place_of k name (e ∷ objects) =
+    if list_any (bytes_eq name) (names_of e) then Some k else place_of (k + 1) name objects
+
+-- a filtee comes directly before the object that names it, which has the slot `at`, if its own libraries were not loaded
+-- yet and it comes later
+abbrev pub waits : ℕ → Slot → Bool
+waits place slot = slot.place == place && not slot.is_done
+
+abbrev pub moved : ℕ → Option ℕ → Loading → Loading
+moved place None s = s
+moved place (Some distance) s =
+    record s { scope = insert (remove s.scope (s.at + 1 + distance)) s.at (waiting place); at = s.at + 1 }
+
+abbrev pub put_before : Option ℕ → Loading → Loading
+put_before None s = s
+put_before (Some place) s = moved place (position (waits place) (drop (s.at + 1) s.scope)) s
+
+-- the object with this name, if it is a filtee
+abbrev pub if_filtee : Role → List ℕ → Loading → Loading
+if_filtee Needed name s = s
+if_filtee Auxiliary name s = put_before (place_of 0 name s.objects) s
+if_filtee Filter name s = put_before (place_of 0 name s.objects) s
+
+-- an auxiliary filtee may be missing
+abbrev pub if_missing : Role → List ℕ → ℕ → Loading → Loading
+if_missing Needed name place s = add name place None s
+if_missing Auxiliary name place s = s
+if_missing Filter name place s = add name place None s
+
+abbrev pub with_file : Role → List ℕ → ℕ → Option Found → Loading → Loading
+with_file role name place (Some found) s = if_filtee role found.path (add name place (Some found) s)
+with_file role name place None s = if_missing role name place s
+
+-- the libraries of the object at a place, which has the slot `at`, were loaded
+abbrev pub done : ℕ → Loading → Loading
+done place s = record s { scope = slice_set s.scope s.at (record { place = place; is_done = true }) }
+
+-- the program alone
+abbrev pub started : Entry → Loading
+started program = record { objects = program ∷ []; scope = waiting 0 ∷ []; at = 0 }
 
 module _ (opened : List ℕ → Option Found) (kind : Kind) where
   -- a library that is loaded is not searched for; any other one is searched for in these places
-  abbrev pub need : Places → ℕ → List Entry → List ℕ → List Entry
-  need places place objects name =
-      if is_loaded name objects then objects
-      else add name place (first_fitting opened kind (candidates_of name places)) objects
+  abbrev pub load : Places → ℕ → Loading → Wanted → Loading
+  load places place s library =
+      if is_loaded library.name s.objects then if_filtee library.role library.name s
+      else with_file library.role library.name place
+      (first_fitting opened kind (candidates_of library.name places)) s
 
-  -- each of the names, in order
-  abbrev pub need_all : Places → ℕ → List Entry → List (List ℕ) → List Entry
-  need_all places place objects [] = objects
-  need_all places place objects (name ∷ names) = need_all places place (need places place objects name) names
+  -- each of the libraries, in order
+  abbrev pub load_all : Places → ℕ → Loading → List Wanted → Loading
+  load_all places place s [] = s
+  load_all places place s (library ∷ libraries) = load_all places place (load places place s library) libraries
 
-  -- with the libraries that the object at a place needs
-  abbrev pub with_needed : Others → List Entry → ℕ → List Entry
-  with_needed others objects place =
-      need_all (places_at others objects place) place objects (needed_by others (file_at objects place))
+  -- those that the object at a place names, which has the slot `at`. The filtees that come before it now are next.
+  abbrev pub with_libraries : Others → Loading → ℕ → Loading
+  with_libraries others s place =
+      record (load_all (places_at others s.objects place) place (done place s)
+      (named_by others (file_at s.objects place))) { at = s.at }
 
-  -- with those that the first n objects need, one object after the other
-  abbrev pub loaded_after : Others → Entry → ℕ → List Entry
-  loaded_after others program zero = program ∷ []
-  loaded_after others program (suc n) = with_needed others (loaded_after others program n) n
+  -- the object in a slot, if its libraries were not loaded, or else the next slot
+  abbrev pub at_slot : Others → Loading → Option Slot → Loading
+  at_slot others s None = s
+  at_slot others s (Some slot) = if slot.is_done then record s { at = s.at + 1 } else with_libraries others s slot.place
+
+  abbrev pub step : Others → Loading → Loading
+  step others s = at_slot others s (slice_get s.scope s.at)
+
+  abbrev pub loaded_after : Others → Entry → ℕ → Loading
+  loaded_after others program zero = started program
+  loaded_after others program (suc n) = step others (loaded_after others program n)
 
 -- the program as an object
 abbrev pub program_entry : Found → Entry
 program_entry program = record { name = program.path; loader = 0; file = Some program }
 
--- all that are loaded, in order: the libraries of each were searched for
-abbrev pub IsLoadOrder : (List ℕ → Option Found) → Others → Found → List Entry → Type 0
-IsLoadOrder opened others program objects =
-    (n : ℕ) × (length objects ≤ n)
-    × (objects ≡ loaded_after opened program.kind others (program_entry program) n)
+abbrev pub places_in : List Slot → List ℕ
+places_in slots = map (λ (slot : Slot). slot.place) slots
+
+-- all that are loaded, in order, and their places in the order of look-ups: the libraries of each were loaded
+abbrev pub IsLoadOrder : (List ℕ → Option Found) → Others → Found → List Entry → List ℕ → Type 0
+IsLoadOrder opened others program objects scope =
+    (n : ℕ) × (let s = loaded_after opened program.kind others (program_entry program) n in
+    (length s.scope ≤ s.at) × (objects ≡ s.objects) × (scope ≡ places_in s.scope))
+
+-- the objects in the order of look-ups
+abbrev pub in_order : List Entry → List ℕ → List Entry
+in_order objects scope = flat_map (λ place. option_to_list (slice_get objects place)) scope
 
 -- ---- the view of the structs
 
@@ -238,6 +320,9 @@ found_view f = record {
 
 abbrev pub entry_view : Object → Entry
 entry_view o = record { name = o.name.items; loader = o.loader; file = option_map found_view o.file }
+
+abbrev pub entry_of : Bor Object → Entry
+entry_of object = entry_view object.now
 
 -- the file, or why the bytes are none, or an allocation failed
 abbrev pub IsOpened : List ℕ → List ℕ → Result LoadedFile OpenError → Type 0

@@ -1,3 +1,5 @@
 -- the names of objects, as a set
 pub mod LoadedNames
 pub mod BySegments
+-- what is loaded so far
+pub mod Loading

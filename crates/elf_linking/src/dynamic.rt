@@ -8,8 +8,7 @@ ghost use Rattle.elf.specs.ElfBytes.{view};
 ghost use Rattle.elf.specs.ObjectFile.{object_file};
 ghost use Rattle.elf_dynamic.specs.dynamic_view.Entries.{entries_in};
 ghost use Rattle.elf_linking.specs.BySegments.{entries_of};
-ghost use Rattle.elf_linking.specs.DynamicFile.{GivesDynamic, dynamic_symbols, dynamic_uses, is_filter};
-ghost use Rattle.elf_linking.specs.DynamicFile.{is_filter_by};
+ghost use Rattle.elf_linking.specs.DynamicFile.{GivesDynamic, dynamic_symbols, dynamic_uses};
 ghost use Rattle.elf_linking.specs.VersionedView.{versioned_view};
 ghost use Rattle.elf_parts.specs.gnu_symver.Table.{versions_view};
 ghost use Rattle.elf_records.specs.Number.{ok_map};
@@ -25,13 +24,7 @@ use elf::endian::EndianParse;
 use elf::headers::Headers;
 use elf::string_table::StringTable;
 use elf::symbol::SymbolTable;
-use elf_dynamic::dynamic_view::{DynamicError, dynamic_table, value};
-
-/// Tag of the dynamic entry with the name of a library in which symbols are looked up before the file that has the entry.
-/// The library may be missing.
-pub const DT_AUXILIARY: i64 = 0x7ffffffd;
-/// The same of a library that may not be missing.
-pub const DT_FILTER: i64 = 0x7fffffff;
+use elf_dynamic::dynamic_view::{DynamicError, dynamic_table};
 
 // The dynamic entries of a file, by its segments.
 #[tactic(auto, using(crate::proofs::BySegments::whole))]
@@ -116,23 +109,5 @@ pub fn add_dynamic_uses<E: EndianParse>(
             Ok(())
         }
         None => Ok(()),
-    }
-}
-
-// Whether the entries name libraries that are searched before the file.
-fn is_filter_by<E: EndianParse>(entries: &DynamicTable<'_, E>) -> bool
-    ensures { result ≡ is_filter_by (entries_in (table_view entries.now)) }
-{
-    value(entries, DT_FILTER).is_some() || value(entries, DT_AUXILIARY).is_some()
-}
-
-/// Returns whether a file is a filter: it has an entry `DT_FILTER` or `DT_AUXILIARY`. The dynamic linker loads the
-/// libraries that these name before the file, so symbols may bind to these.
-pub fn is_filter<E: EndianParse>(file: &ElfBytes<'_, E>) -> bool
-    ensures { result ≡ is_filter (object_file E.little (view file.now)) }
-{
-    match entries(file) {
-        Ok(Some(entries)) => is_filter_by(&entries),
-        _ => false,
     }
 }

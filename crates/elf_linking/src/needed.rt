@@ -1,4 +1,4 @@
-//! The names by which the dynamic linker finds a file and the libraries that it needs.
+//! The names by which the dynamic linker finds a file and the libraries that it loads with it.
 ghost use Rattle.std.specs.Prelude.{◌≡◌, ◌≢◌, Err, IfOk, IfSome, IsTrue, None, Ok, map};
 ghost use Rattle.std.specs.List.{find};
 ghost use Rattle.std.specs.Option.{option_map};
@@ -11,9 +11,10 @@ ghost use Rattle.elf.specs.Parts.{loaded};
 ghost use Rattle.elf.specs.StreamFile.{stream_file};
 ghost use Rattle.elf_linking.specs.Missing.{LoadsMissing};
 ghost use Rattle.elf_linking.specs.Needed.{GivesNames, IsAnswered, IsGiven, MissesNames};
-ghost use Rattle.elf_linking.specs.Needed.{all_names, entries_in, first_entry, first_name, holds, missing_of};
+ghost use Rattle.elf_linking.specs.Needed.{entries_in, first_entry, first_name, has_nodeflib, holds, is_library};
+ghost use Rattle.elf_linking.specs.Needed.{libraries_of, library_of, library_view, missing_of};
 ghost use Rattle.elf_linking.specs.Needed.{name_bytes, name_of, names, names_by, names_in, names_view, offset_in};
-ghost use Rattle.elf_linking.specs.Needed.{read_error};
+ghost use Rattle.elf_linking.specs.Needed.{read_error, role_of};
 ghost use Rattle.elf_linking.specs.Needed.{string_part, string_range, strings_by};
 ghost use Rattle.elf_linking.specs.Readings.{ReadsFile};
 ghost use Rattle.elf_linking.specs.declared.needed.NamesError.TheVariants.{Memory as IsMemory};
@@ -33,6 +34,30 @@ pub struct Name {
     start: usize,
 }
 
+/// Tag of the dynamic entry with the name of a library in which symbols are looked up before the file that has the entry.
+/// The library may be missing.
+pub const DT_AUXILIARY: i64 = 0x7ffffffd;
+/// The same of a library that may not be missing.
+pub const DT_FILTER: i64 = 0x7fffffff;
+
+/// How a file names a library that is loaded with it.
+#[derive(Debug, Clone, Copy, PartialEq, Eq)]
+pub enum Role {
+    /// It needs the library (`DT_NEEDED`).
+    Needed,
+    /// Symbols are looked up in the library before the file, if the library is there (`DT_AUXILIARY`).
+    Auxiliary,
+    /// Symbols are looked up in the library before the file (`DT_FILTER`).
+    Filter,
+}
+
+/// A library that is loaded with a file.
+#[derive(Debug, Clone, Copy)]
+pub struct Library {
+    pub role: Role,
+    pub name: Name,
+}
+
 /// The names that the dynamic entries of a file give, in one copy of its string table. Many entries may name one long
 /// string, so a name is neither copied nor read to its end before its bytes are requested.
 #[derive(Debug, Drop)]
@@ -40,11 +65,13 @@ pub struct Names {
     strings: Vec<u8>,
     /// The file's own name, by its first entry `DT_SONAME`.
     pub soname: Option<Name>,
-    /// The libraries that it needs, by its entries `DT_NEEDED`, in order.
-    pub needed: Vec<Name>,
+    /// The libraries that are loaded with it, by its entries `DT_NEEDED`, `DT_AUXILIARY` and `DT_FILTER`, in order.
+    pub libraries: Vec<Library>,
     /// The search paths of libraries, by its first entry `DT_RUNPATH` and by its first entry `DT_RPATH`.
     pub runpath: Option<Name>,
     pub rpath: Option<Name>,
+    /// Whether the usual folders do not count, by the flag `DF_1_NODEFLIB` of its first entry `DT_FLAGS_1`.
+    pub nodeflib: bool,
 }
 
 impl Names {
@@ -57,6 +84,20 @@ impl Names {
             Ok(bytes) => bytes,
             Err(_) => &[],
         }
+    }
+
+    /// Returns a copy. The only error is a failed allocation.
+    pub fn copied(&self, alloc: Global) -> Result<Names, AllocError>
+        ensures { IfOk result (λ copy. names_view copy ≡ names_view self.now) }
+    {
+        Ok(Names {
+            strings: Vec::from_slice(alloc, &self.strings)?,
+            soname: self.soname,
+            libraries: Vec::from_slice(alloc, &self.libraries)?,
+            runpath: self.runpath,
+            rpath: self.rpath,
+            nodeflib: self.nodeflib,
+        })
     }
 }
 
@@ -256,23 +297,61 @@ fn first_name(
     }
 }
 
-// The strings that the entries with a tag name, in order.
-fn all_names(
+// Whether the entry names a library.
+fn is_library(entry: &Dyn) -> bool
+    ensures { result ≡ is_library entry.now }
+{
+    has_tag(entry, abi::DT_NEEDED) || has_tag(entry, DT_AUXILIARY) || has_tag(entry, DT_FILTER)
+}
+
+// How an entry names a library.
+fn role_of(entry: &Dyn) -> Role
+    ensures { result ≡ role_of entry.now }
+{
+    match entry.d_tag {
+        DT_AUXILIARY => Role::Auxiliary,
+        DT_FILTER => Role::Filter,
+        _ => Role::Needed,
+    }
+}
+
+// The library that an entry names.
+fn library_of(strings: &TerminatedStrings<'_>, entry: &Dyn) -> Result<Library, NamesError>
+    ensures { ok_map (library_view strings.now) result ≡ library_of strings.now entry.now }
+{
+    let name = name_of(strings, entry)?;
+    Ok(Library {
+        role: role_of(entry),
+        name,
+    })
+}
+
+// The libraries that the entries name, in order.
+fn libraries_of(
     alloc: Global,
     strings: &TerminatedStrings<'_>,
     entries: &[Dyn],
-    tag: i64,
-) -> Result<Vec<Name>, NamesError>
-    ensures { IsGiven (λ names. map (name_bytes strings.now) names.items)
-        (all_names strings.now tag entries.now) result }
+) -> Result<Vec<Library>, NamesError>
+    ensures { IsGiven (λ libraries. map (library_view strings.now) libraries.items)
+        (libraries_of strings.now entries.now) result }
 {
-    let mut names = Vec::new(alloc);
+    let mut libraries = Vec::new(alloc);
     for entry in entries {
-        if has_tag(entry, tag) {
-            names.push(name_of(strings, entry)?)?;
+        if is_library(entry) {
+            libraries.push(library_of(strings, entry)?)?;
         }
     }
-    Ok(names)
+    Ok(libraries)
+}
+
+// Whether the flag is set in an entry `DT_FLAGS_1` that there may not be.
+fn has_nodeflib(flags: Option<&Dyn>) -> bool
+    ensures { result ≡ has_nodeflib (option_map (λ entry. entry.now) flags.entry) }
+{
+    match flags {
+        Some(entry) => entry.d_val() & abi::DF_1_NODEFLIB as u64 != 0,
+        None => false,
+    }
 }
 
 // The names that the entries give in a string table, with a copy of it.
@@ -281,15 +360,16 @@ fn names_in(alloc: Global, table: &[u8], entries: &[Dyn]) -> Result<Names, Names
 {
     let strings = TerminatedStrings::new(&StringTable::new(table));
     let soname = first_name(&strings, entries, abi::DT_SONAME)?;
-    let needed = all_names(alloc, &strings, entries, abi::DT_NEEDED)?;
+    let libraries = libraries_of(alloc, &strings, entries)?;
     let runpath = first_name(&strings, entries, abi::DT_RUNPATH)?;
     let rpath = first_name(&strings, entries, abi::DT_RPATH)?;
     Ok(Names {
         strings: Vec::from_slice(alloc, table)?,
         soname,
-        needed,
+        libraries,
         runpath,
         rpath,
+        nodeflib: has_nodeflib(first_entry(entries, abi::DT_FLAGS_1)),
     })
 }
 
@@ -327,13 +407,13 @@ fn names_by<E: EndianParse, R: Reader<E>>(
     }
 }
 
-/// Returns the soname of a file, the libraries that it needs and its search paths, or `None` if it has no dynamic
-/// entries. The string table is found by its address, as the dynamic linker finds it, so no section header is needed.
+/// Returns the soname of a file, the libraries that are loaded with it, its search paths and the flag `DF_1_NODEFLIB`, or
+/// `None` if it has no dynamic entries. The string table is found by its address, as the dynamic linker finds it, so no section header is needed.
 /// Of a stream it reads what is loaded; `read_dynamic_names` loads the rest.
 ///
 /// Errors, in order: `Read` if the dynamic entries cannot be read; `NoAddress` and `NoSize` if no entry gives the
 /// address or the size of the string table; `NotLoaded` if no segment of type `PT_LOAD` holds it; `Read` if its bytes
-/// cannot be read; `Name` if the string of an entry cannot be read: of the soname, then of the needed libraries in
+/// cannot be read; `Name` if the string of an entry cannot be read: of the soname, then of the libraries in
 /// order, of `DT_RUNPATH` and of `DT_RPATH`. In place of `Read`, `Missing` if the bytes lie in the file and are not
 /// loaded. `Memory` if an allocation failed, which is possible only if the file has dynamic entries.
 pub fn dynamic_names<E: EndianParse, R: Reader<E>>(
@@ -372,8 +452,8 @@ fn missing_of(found: &Result<Option<Names>, NamesError>) -> Option<(u64, u64)>
 ///
 /// ```rust
 /// if let Some(names) = read_dynamic_names(rt.alloc(), &mut stream)? {
-///     for name in &names.needed {
-///         println!(rt; "{}", from_utf8(names.bytes(name))?)?;
+///     for library in &names.libraries {
+///         println!(rt; "{}", from_utf8(names.bytes(&library.name))?)?;
 ///     }
 /// }
 /// ```

@@ -1,16 +1,17 @@
 //! Where the dynamic linker looks for a library that an object needs, as the manual page ld.so(8) describes it.
 //!
 //! In order: the folders of `DT_RPATH`, of `LD_LIBRARY_PATH`, of `DT_RUNPATH`, the path that the linker's cache
-//! (`/etc/ld.so.cache`) has for the name, and the usual folders. Preloaded libraries are not read, and subfolders for kinds
-//! of processors (`glibc-hwcaps`) are not searched. For an object with the flag `DF_1_NODEFLIB` pass no usual folders, and no
-//! cache that lists files in them.
-ghost use Rattle.std.specs.Prelude.{◌≡◌, ◌++◌, ◌<◌, IfOk, OnOk, drop, length, map};
+//! (`/etc/ld.so.cache`) has for the name, and the usual folders. For an object with the flag `DF_1_NODEFLIB` the usual
+//! folders and what the cache has in them do not count. Preloaded libraries are not read, and subfolders for kinds of
+//! processors (`glibc-hwcaps`) are not searched.
+ghost use Rattle.std.specs.Prelude.{◌≡◌, ◌∷◌, ◌++◌, ◌<◌, [], IfOk, OnOk, drop, filter, length, map};
 ghost use Rattle.std.specs.Option.{option_map, option_to_list};
 ghost use Rattle.std.specs.List.{slice_split};
 ghost use Rattle.std.specs.Vec.{vec_items};
-ghost use Rattle.elf_linking.specs.Search.{all_rpath_folders, cached_by, candidates, expansion, expansion_after};
-ghost use Rattle.elf_linking.specs.Search.{folders};
-ghost use Rattle.elf_linking.specs.Search.{folders_if, folders_in, is_name_byte, joined_path, object_view, others_view};
+ghost use Rattle.elf_linking.specs.Search.{all_rpath_folders, cached_at, candidates, excluded_folders, expansion};
+ghost use Rattle.elf_linking.specs.Search.{expansion_after, folders, folders_view};
+ghost use Rattle.elf_linking.specs.Search.{folders_if, folders_in, if_outside, is_below, is_folder_outside, is_name_byte};
+ghost use Rattle.elf_linking.specs.Search.{is_outside, joined_path, object_view, others_view};
 ghost use Rattle.elf_linking.specs.Search.{path_view, paths_of, places, places_view, program_folder, rpath_folders};
 ghost use Rattle.elf_linking.specs.Search.{separates, sequence, sequence_length, tokens_in, tokens_view};
 
@@ -27,6 +28,8 @@ pub struct SearchPaths<'a> {
     pub runpath: Option<&'a [u8]>,
     /// The string of `DT_RPATH`, if it has one.
     pub rpath: Option<&'a [u8]>,
+    /// Whether it has the flag `DF_1_NODEFLIB`.
+    pub nodeflib: bool,
 }
 
 /// What a search needs that belongs to no object.
@@ -41,6 +44,8 @@ pub struct Surroundings<'a> {
     /// The linker's cache, if it is to count, and the flags of the libraries that the program can load.
     pub cache: Option<&'a LinkerCache<'a>>,
     pub flags: LibraryFlags,
+    /// The folders that count in place of a cache, in order, such as those of `/etc/ld.so.conf`.
+    pub listed_folders: &'a [&'a [u8]],
     /// The usual folders, in order, such as `/lib` and `/usr/lib`.
     pub usual_folders: &'a [&'a [u8]],
 }
@@ -70,12 +75,14 @@ impl<'a> Surroundings<'a> {
 }
 
 /// Where a library is searched for: in the folders of search paths, then at the path that the cache has for its name, and
-/// then in the usual folders.
+/// then in the folders that count in place of a cache and in the usual ones. No path of the cache below an excluded folder
+/// counts.
 #[derive(Debug, Drop)]
 pub struct SearchPlaces<'a> {
     pub folders: Vec<Vec<u8>>,
     pub cache: Option<&'a LinkerCache<'a>>,
     pub flags: LibraryFlags,
+    pub excluded: &'a [&'a [u8]],
     pub usual: Vec<Vec<u8>>,
 }
 
@@ -346,15 +353,102 @@ fn folders(
     Ok(all)
 }
 
-// The usual folders, copied.
-fn usual_folders(alloc: Global, surroundings: &Surroundings<'_>) -> Result<Vec<Vec<u8>>, AllocError>
-    ensures { IfOk result (λ usual. map vec_items usual.items ≡ (others_view surroundings.now).usual_folders) }
+// Whether a path is that of a file below a folder.
+fn is_below(path: &[u8], folder: &[u8]) -> bool
+    ensures { result ≡ is_below path.now folder.now }
+{
+    if !path.starts_with(folder) {
+        return false;
+    }
+    match path.get(folder.len()) {
+        Some(byte) => *byte == b'/',
+        None => false,
+    }
+}
+
+// Whether a path is below none of these folders.
+fn is_outside(excluded: &[&[u8]], path: &[u8]) -> bool
+    ensures { result ≡ is_outside (folders_view excluded.now) path.now }
+{
+    for folder in excluded {
+        if is_below(path, folder) {
+            return false;
+        }
+    }
+    true
+}
+
+// The path, if there is one and it is below none of these folders.
+fn if_outside<'a>(excluded: &[&[u8]], path: Option<&'a [u8]>) -> Option<&'a [u8]>
+    ensures { path_view result ≡ if_outside (folders_view excluded.now) (path_view path.entry) }
+{
+    match path {
+        Some(path) => if is_outside(excluded, path) {
+            Some(path)
+        } else {
+            None
+        },
+        None => None,
+    }
+}
+
+// Adds a folder to others, if it is none of the excluded ones, nor below one.
+fn add_outside(
+    alloc: Global,
+    excluded: &[&[u8]],
+    folder: &[u8],
+    outside: &mut Vec<Vec<u8>>,
+) -> Result<(), AllocError>
+    ensures { OnOk result (map vec_items outside.new.items ≡ map vec_items outside.old.items
+        ++ filter (is_folder_outside (folders_view excluded.now)) (folder.now ∷ [])) }
+{
+    let path = joined_path(alloc, folder, b"")?;
+    if is_outside(excluded, &path) {
+        outside.push(folder.to_vec(alloc)?)?;
+    }
+    Ok(())
+}
+
+// The same of all these folders.
+fn add_all_outside(
+    alloc: Global,
+    excluded: &[&[u8]],
+    folders: &[&[u8]],
+    outside: &mut Vec<Vec<u8>>,
+) -> Result<(), AllocError>
+    ensures { OnOk result (map vec_items outside.new.items ≡ map vec_items outside.old.items
+        ++ filter (is_folder_outside (folders_view excluded.now)) (folders_view folders.now)) }
+{
+    for folder in folders {
+        add_outside(alloc, excluded, folder, outside)?;
+    }
+    Ok(())
+}
+
+// The folders that count in place of a cache and the usual ones, without the excluded ones.
+fn usual_folders(
+    alloc: Global,
+    surroundings: &Surroundings<'_>,
+    excluded: &[&[u8]],
+) -> Result<Vec<Vec<u8>>, AllocError>
+    ensures { IfOk result (λ usual. let others = others_view surroundings.now in map vec_items usual.items
+        ≡ filter (is_folder_outside (folders_view excluded.now)) (others.listed_folders ++ others.usual_folders)) }
 {
     let mut usual = Vec::new(alloc);
-    for folder in surroundings.usual_folders {
-        usual.push(folder.to_vec(alloc)?)?;
-    }
+    add_all_outside(alloc, excluded, surroundings.listed_folders, &mut usual)?;
+    add_all_outside(alloc, excluded, surroundings.usual_folders, &mut usual)?;
     Ok(usual)
+}
+
+// The usual folders, if they do not count for an object.
+fn excluded_folders<'a>(object: &SearchPaths<'_>, surroundings: &Surroundings<'a>) -> &'a [&'a [u8]]
+    ensures { folders_view result.now ≡ excluded_folders (object_view object.now) (others_view surroundings.now) }
+{
+    if object.nodeflib {
+        surroundings.usual_folders
+    } else {
+        &[]
+    }
 }
 
 /// Returns where the dynamic linker looks for the libraries of an object, in order. `loaders` are the object that loaded
@@ -369,22 +463,24 @@ pub fn places<'a>(
         ≡ places (object_view object.now) (map object_view loaders.now) (others_view surroundings.now)) }
 {
     let folders = folders(alloc, object, loaders, surroundings)?;
-    let usual = usual_folders(alloc, surroundings)?;
+    let excluded = excluded_folders(object, surroundings);
+    let usual = usual_folders(alloc, surroundings, excluded)?;
     Ok(SearchPlaces {
         folders,
         cache: surroundings.cache,
         flags: surroundings.flags,
+        excluded,
         usual,
     })
 }
 
 impl<'a> SearchPlaces<'a> {
-    /// Returns the path that the cache has for a name, if there is a cache.
+    /// Returns the path that the cache has for a name, if there is a cache and the path counts.
     pub fn cached(&self, name: &[u8]) -> Option<&'a [u8]>
-        ensures { path_view result ≡ (places_view self.now).cached name.now }
+        ensures { path_view result ≡ cached_at (places_view self.now) name.now }
     {
         match self.cache {
-            Some(cache) => cache.lookup(&self.flags, name),
+            Some(cache) => if_outside(self.excluded, cache.lookup(&self.flags, name)),
             None => None,
         }
     }

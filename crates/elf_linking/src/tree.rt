@@ -2,12 +2,14 @@
 //! run.
 //!
 //! `load_order` returns the objects in the order in which the dynamic linker loads them: the program, then the libraries
-//! that it needs, then those that the first of these needs, and so on. Each library is searched for at the paths of
-//! `search::candidates`. The first file there is loaded that is an ELF file of
+//! that it needs, then those that the first of these needs, and so on. Symbols are looked up in the same order, but in the
+//! libraries that an object names by `DT_FILTER` or `DT_AUXILIARY`, its filtees, before the object itself.
+//!
+//! Each library is searched for at the paths of `search::candidates`. The first file there is loaded that is an ELF file of
 //! the program's class, byte order and machine; others are passed over, even those at which the dynamic linker stops. A
 //! file is known by its path, so another path to it is another file.
 ghost use Rattle.std.specs.Prelude.{◌≡◌, ◌<◌, ◌++◌, ◌∷◌, [], ℕ, List, Some, None, if◌then◌else◌, ◌==◌, length, map};
-ghost use Rattle.std.specs.Prelude.{IfOk, IfSome, Ok, OnOk, unwrap_or};
+ghost use Rattle.std.specs.Prelude.{IfOk, IfSome, Ok, OnOk, position, slice_get, unwrap_or};
 ghost use Rattle.std.specs.Option.{option_map};
 ghost use Rattle.std.specs.Vec.{vec_items};
 ghost use Rattle.std.specs.declared.option.Option.{Option};
@@ -18,23 +20,27 @@ ghost use Rattle.elf_records.specs.Endian.{any_is_little, any_of_byte};
 ghost use Rattle.elf_records.specs.declared.endian.AnyEndian.{AnyEndian};
 ghost use Rattle.elf_records.specs.Number.{ok_map};
 ghost use Rattle.elf_linking.specs.Needed.{name_bytes, names, names_view};
-ghost use Rattle.elf_linking.specs.Search.{candidates_of, expansion, joined_path, object_view, others_view, path_view};
-ghost use Rattle.elf_linking.specs.Search.{paths_of, places_view, tokens_view};
+ghost use Rattle.elf_linking.specs.Search.{cached_at, candidates_of, joined_path, object_view, others_view, path_view};
+ghost use Rattle.elf_linking.specs.Search.{Others, paths_of, places_view, tokens_in, tokens_view};
 ghost use Rattle.std.specs.Option.{option_to_list};
-ghost use Rattle.elf_linking.specs.Tree.{Entry, IsLoadOrder, IsOpened, entry_view, file_at, file_of, first_fitting};
+ghost use Rattle.elf_linking.specs.Tree.{Entry, IsLoadOrder, IsOpened, entry_of, entry_view, file_at, file_of, first_fitting};
 ghost use Rattle.elf_linking.specs.Tree.{Found, fitting, folder_of, found_in, found_view, is_loaded_file, kind_of};
-ghost use Rattle.elf_linking.specs.Tree.{known, last_slash, loader_at, loaders_at, need, need_all, no_names, places_at};
-ghost use Rattle.elf_linking.specs.Tree.{without_bytes};
-ghost use Rattle.elf_linking.specs.Tree.{program_entry};
-ghost use Rattle.elf_linking.specs.Tree.{same_class, same_kind, same_order, searching, searching_at, with_needed};
+ghost use Rattle.elf_linking.specs.Tree.{add, done, expanded, if_filtee, in_order, load, load_all, named_by, step, started};
+ghost use Rattle.elf_linking.specs.Tree.{known, last_slash, loader_at, loaders_at, no_names, place_of, places_at, places_in};
+ghost use Rattle.elf_linking.specs.Tree.{names_of as names_of_entry, put_before, with_file, with_libraries, without_bytes};
+ghost use Rattle.elf_linking.specs.Tree.{program_entry, waits};
+ghost use Rattle.elf_linking.specs.Tree.{same_class, same_kind, same_order, searching, searching_at};
 ghost use Rattle.elf_linking.specs.inner.LoadedNames.{AreNamesOf};
+ghost use Rattle.elf_linking.specs.inner.Loading.{loading_view, named_in};
+ghost use Rattle.std.specs.List.{list_any};
+ghost use Rattle.std.specs.Str.{bytes_eq};
 ghost use Rattle.elf_linking.specs.declared.tree.OpenError.TheVariants.{Memory as IsMemory};
 
 pub mod memory;
 mod names;
 pub mod whole;
 
-use crate::needed::{Name, Names, NamesError, dynamic_names, read_dynamic_names};
+use crate::needed::{Name, Names, NamesError, Role, dynamic_names, read_dynamic_names};
 use crate::search::{
     SearchPaths, SearchPlaces, Substitutions, Surroundings, expansion, joined_path, places,
 };
@@ -101,6 +107,32 @@ pub struct Object {
     pub loader: usize,
     /// The file that was found for the name, or `None` if the library is missing.
     pub file: Option<LoadedFile>,
+}
+
+/// A program with the libraries that it loads.
+#[derive(Debug, Drop)]
+pub struct LoadOrder {
+    /// In the order in which they are loaded, with those that are missing.
+    pub objects: Vec<Object>,
+    /// Their places in the order in which symbols are looked up in them.
+    pub scope: Vec<usize>,
+}
+
+// An object in the order of look-ups: its place among the objects, and whether its libraries were loaded.
+#[derive(Debug, Clone, Copy)]
+struct Slot {
+    place: usize,
+    is_done: bool,
+}
+
+// What is loaded so far: the objects with their names, and the slots in the order of look-ups. The libraries of the objects
+// before the slot `at` were loaded.
+#[derive(Drop)]
+struct Loading {
+    names: LoadedNames,
+    objects: Vec<Object>,
+    scope: Vec<Slot>,
+    at: usize,
 }
 
 /// Why a file is not opened.
@@ -313,11 +345,13 @@ impl LoadedFile {
                 folder,
                 runpath: bytes_if(names, &names.runpath),
                 rpath: bytes_if(names, &names.rpath),
+                nodeflib: names.nodeflib,
             },
             None => SearchPaths {
                 folder,
                 runpath: None,
                 rpath: None,
+                nodeflib: false,
             },
         }
     }
@@ -365,6 +399,7 @@ fn searching_at(objects: &[Object], place: usize) -> SearchPaths<'_>
             folder: &[],
             runpath: None,
             rpath: None,
+            nodeflib: false,
         },
     }
 }
@@ -461,7 +496,7 @@ fn cached_or_usual<O: Opener>(
 ) -> Result<Option<LoadedFile>, AllocError>
     ensures { IfOk result (λ found. (opened : List ℕ → Option Found) → O.opened opener.now ≡ Some opened
         → option_map found_view found ≡ first_fitting opened kind
-        (option_to_list ((places_view places.now).cached name.now)
+        (option_to_list (cached_at (places_view places.now) name.now)
         ++ map (joined_path name.now) (places_view places.now).usual)) }
 {
     if let Some(path) = places.cached(name) {
@@ -521,159 +556,402 @@ fn is_loaded_file(names: &LoadedNames, file: &Option<LoadedFile>) -> bool
     }
 }
 
-// Adds an object.
-fn add(
-    alloc: Global,
-    object: Object,
-    names: &mut LoadedNames,
-    objects: &mut Vec<Object>,
-) -> Result<(), AllocError>
-    ensures objects { OnOk result (map entry_view objects.new.items
-        ≡ map entry_view objects.old.items ++ entry_view object ∷ []) }
-    ensures names { OnOk result ((all : List Entry) → AreNamesOf names.old all
-        → AreNamesOf names.new (all ++ entry_view object ∷ [])) }
+// Whether the object has the name.
+fn has_name(object: &Object, name: &[u8]) -> bool
+    ensures { result ≡ list_any (bytes_eq name.now) (names_of_entry (entry_view object.now)) }
 {
-    names.add_object(alloc, &object)?;
-    objects.push(object)?;
-    Ok(())
-}
-
-// What the search for the libraries of an object needs: where to search, the objects before, and the place of the object.
-#[derive(Clone, Copy)]
-struct Needing<'a, O> {
-    opener: &'a O,
-    kind: Kind,
-    places: &'a SearchPlaces<'a>,
-    objects: &'a [Object],
-    place: usize,
-}
-
-// Adds what the object needs by a name to the new objects, if it is none of the objects.
-fn need<O: Opener>(
-    alloc: Global,
-    needing: &Needing<'_, O>,
-    name: Vec<u8>,
-    names: &mut LoadedNames,
-    added: &mut Vec<Object>,
-) -> Result<(), AllocError>
-    requires { AreNamesOf names.old (map entry_view needing.now.objects.now ++ map entry_view added.old.items) }
-    ensures names { OnOk result
-        (AreNamesOf names.new (map entry_view needing.now.objects.now ++ map entry_view added.new.items)) }
-    ensures objects { OnOk result ((opened : List ℕ → Option Found) → O.opened needing.now.opener.now ≡ Some opened
-        → map entry_view needing.now.objects.now ++ map entry_view added.new.items
-        ≡ need opened needing.now.kind (places_view needing.now.places.now) needing.now.place
-        (map entry_view needing.now.objects.now ++ map entry_view added.old.items) name.items) }
-{
-    if names.has(&name) {
-        return Ok(());
-    }
-    let file = find(alloc, needing.opener, needing.kind, needing.places, &name)?;
-    if is_loaded_file(names, &file) {
-        return Ok(());
-    }
-    let object = Object {
-        name,
-        loader: needing.place,
-        file,
+    let Some(file) = &object.file else {
+        return false;
     };
-    add(alloc, object, names, added)
-}
-
-// The new objects that the names of an object add.
-fn need_all<O: Opener>(
-    alloc: Global,
-    needing: &Needing<'_, O>,
-    substitutions: &Substitutions<'_>,
-    needed: &Names,
-    names: &mut LoadedNames,
-) -> Result<Vec<Object>, AllocError>
-    requires { AreNamesOf names.old (map entry_view needing.now.objects.now) }
-    ensures names { IfOk result (λ added.
-        AreNamesOf names.new (map entry_view needing.now.objects.now ++ map entry_view added.items)) }
-    ensures objects { IfOk result (λ added. (opened : List ℕ → Option Found)
-        → O.opened needing.now.opener.now ≡ Some opened
-        → map entry_view needing.now.objects.now ++ map entry_view added.items
-        ≡ need_all opened needing.now.kind (places_view needing.now.places.now) needing.now.place
-        (map entry_view needing.now.objects.now) (map (expansion (tokens_view substitutions.now)) (names_view needed.now).needed)) }
-{
-    let mut added = Vec::new(alloc);
-    for name in &needed.needed {
-        let path = expansion(alloc, substitutions, needed.bytes(name))?;
-        need(alloc, needing, path, names, &mut added)?;
+    if name == object.name.as_slice() || name == file.path.as_slice() {
+        return true;
     }
-    Ok(added)
+    match file.soname() {
+        Some(soname) => name == soname,
+        None => false,
+    }
 }
 
-// The new objects that the object at a place adds.
-fn needed_objects<O: Opener>(
+// The place of the first object that has the name.
+fn place_of(objects: &[Object], name: &[u8]) -> Option<usize>
+    ensures { result ≡ place_of 0 name.now (map entry_view objects.now) }
+{
+    for (place, object) in objects.iter().enumerate() {
+        if has_name(object, name) {
+            return Some(place);
+        }
+    }
+    None
+}
+
+// Whether the slot is that of an object whose libraries were not loaded.
+fn waits(slot: &Slot, place: usize) -> bool
+    ensures { result ≡ waits place slot.now }
+{
+    slot.place == place && !slot.is_done
+}
+
+// How many slots are before the one of an object whose libraries were not loaded.
+fn distance(slots: &[Slot], place: usize) -> Option<usize>
+    ensures { result ≡ position (waits place) slots.now }
+{
+    slots.iter().position(|slot| waits(slot, place))
+}
+
+// The names that the object at a place gives, with the folder that it is in; copies, so that objects can be added.
+fn names_at(
     alloc: Global,
-    opener: &O,
-    surroundings: &Surroundings<'_>,
-    kind: Kind,
     objects: &[Object],
     place: usize,
-    names: &mut LoadedNames,
-) -> Result<Vec<Object>, AllocError>
-    requires { AreNamesOf names.old (map entry_view objects.now) }
-    ensures names { IfOk result (λ added.
-        AreNamesOf names.new (map entry_view objects.now ++ map entry_view added.items)) }
-    ensures objects { IfOk result (λ added. (opened : List ℕ → Option Found) → O.opened opener.now ≡ Some opened
-        → map entry_view objects.now ++ map entry_view added.items
-        ≡ with_needed opened kind (others_view surroundings.now) (map entry_view objects.now) place) }
+) -> Result<Option<(Vec<u8>, Names)>, AllocError>
+    ensures { IfOk result (λ named. (others : Others)
+        → named_in others named ≡ named_by others (file_at (map entry_view objects.now) place)) }
 {
     let Some(file) = file_at(objects, place) else {
-        return Ok(Vec::new(alloc));
+        return Ok(None);
     };
-    let Some(needed) = file.known_names() else {
-        return Ok(Vec::new(alloc));
+    let Some(names) = file.known_names() else {
+        return Ok(None);
     };
-    let places = places_at(alloc, surroundings, objects, place)?;
-    let needing = Needing {
-        opener,
-        kind,
-        places: &places,
-        objects,
-        place,
-    };
-    let substitutions = surroundings.substitutions(folder_of(&file.path));
-    need_all(alloc, &needing, &substitutions, needed, names)
+    let folder = Vec::from_slice(alloc, folder_of(&file.path))?;
+    Ok(Some((folder, names.copied(alloc)?)))
+}
+
+// What the search for the libraries of an object needs: where to search, and the place of the object.
+#[derive(Clone, Copy)]
+struct Naming<'a, 'b, O> {
+    opener: &'a O,
+    kind: Kind,
+    places: &'b SearchPlaces<'b>,
+    place: usize,
+}
+
+impl Loading {
+    fn new(alloc: Global, program: LoadedFile) -> Result<Loading, AllocError>
+        ensures names { IfOk result (λ s. AreNamesOf s.names (map entry_view s.objects.items)) }
+        ensures view { IfOk result (λ s. loading_view s ≡ started (program_entry (found_view program))) }
+    {
+        let first = Object::program(alloc, program)?;
+        let mut names = LoadedNames::new(alloc);
+        let mut objects = Vec::new(alloc);
+        let mut scope = Vec::new(alloc);
+        names.add_object(alloc, &first)?;
+        objects.push(first)?;
+        scope.push(Slot {
+            place: 0,
+            is_done: false,
+        })?;
+        Ok(Loading {
+            names,
+            objects,
+            scope,
+            at: 0,
+        })
+    }
+
+    // The libraries of the object at a place, which has the slot `at`, were loaded.
+    fn set_done(&mut self, place: usize)
+        ensures names { self.new.names ≡ self.old.names }
+        ensures objects { self.new.objects ≡ self.old.objects }
+        ensures view { loading_view self.new ≡ done place (loading_view self.old) }
+    {
+        if self.at < self.scope.len() {
+            self.scope[self.at] = Slot {
+                place,
+                is_done: true,
+            };
+        }
+    }
+
+    // Adds an object, if its file is none already.
+    fn add(
+        &mut self,
+        alloc: Global,
+        name: Vec<u8>,
+        loader: usize,
+        file: Option<LoadedFile>,
+    ) -> Result<(), AllocError>
+        requires { AreNamesOf self.old.names (map entry_view self.old.objects.items) }
+        ensures names { OnOk result (AreNamesOf self.new.names (map entry_view self.new.objects.items)) }
+        ensures view { OnOk result (loading_view self.new
+            ≡ add name.items loader (option_map found_view file) (loading_view self.old)) }
+    {
+        if is_loaded_file(&self.names, &file) {
+            return Ok(());
+        }
+        let place = self.objects.len();
+        let object = Object { name, loader, file };
+        self.names.add_object(alloc, &object)?;
+        self.objects.push(object)?;
+        self.scope.push(Slot {
+            place,
+            is_done: false,
+        })?;
+        Ok(())
+    }
+
+    // Puts the object at a place before the slot `at`, if it comes later and its libraries were not loaded.
+    fn put_before(&mut self, place: Option<usize>) -> Result<(), AllocError>
+        ensures names { self.new.names ≡ self.old.names }
+        ensures objects { self.new.objects ≡ self.old.objects }
+        ensures view { OnOk result (loading_view self.new ≡ put_before place (loading_view self.old)) }
+    {
+        let Some(place) = place else {
+            return Ok(());
+        };
+        let next = self.at.saturating_add(1);
+        let Some(later) = self.scope.get(next..) else {
+            return Ok(());
+        };
+        let Some(distance) = distance(later, place) else {
+            return Ok(());
+        };
+        self.scope.remove(next + distance);
+        self.scope.insert(
+            self.at,
+            Slot {
+                place,
+                is_done: false,
+            },
+        )?;
+        self.at += 1;
+        Ok(())
+    }
+
+    // The same of the object with this name, if it is a filtee.
+    fn if_filtee(&mut self, role: Role, name: &[u8]) -> Result<(), AllocError>
+        ensures names { self.new.names ≡ self.old.names }
+        ensures objects { self.new.objects ≡ self.old.objects }
+        ensures view { OnOk result (loading_view self.new ≡ if_filtee role name.now (loading_view self.old)) }
+    {
+        match role {
+            Role::Needed => Ok(()),
+            Role::Auxiliary | Role::Filter => {
+                let place = place_of(&self.objects, name);
+                self.put_before(place)
+            }
+        }
+    }
+
+    // Adds the library that an object names, with its file, or missing.
+    fn with_file(
+        &mut self,
+        alloc: Global,
+        role: Role,
+        name: Vec<u8>,
+        loader: usize,
+        file: Option<LoadedFile>,
+    ) -> Result<(), AllocError>
+        requires { AreNamesOf self.old.names (map entry_view self.old.objects.items) }
+        ensures names { OnOk result (AreNamesOf self.new.names (map entry_view self.new.objects.items)) }
+        ensures view { OnOk result (loading_view self.new
+            ≡ with_file role name.items loader (option_map found_view file) (loading_view self.old)) }
+    {
+        match file {
+            Some(file) => {
+                let path = Vec::from_slice(alloc, &file.path)?;
+                self.add(alloc, name, loader, Some(file))?;
+                self.if_filtee(role, &path)
+            }
+            None => match role {
+                Role::Needed | Role::Filter => self.add(alloc, name, loader, None),
+                Role::Auxiliary => Ok(()),
+            },
+        }
+    }
+
+    // Loads a library that an object names.
+    fn load<O: Opener>(
+        &mut self,
+        alloc: Global,
+        naming: &Naming<'_, '_, O>,
+        role: Role,
+        name: Vec<u8>,
+    ) -> Result<(), AllocError>
+        requires { AreNamesOf self.old.names (map entry_view self.old.objects.items) }
+        ensures names { OnOk result (AreNamesOf self.new.names (map entry_view self.new.objects.items)) }
+        ensures view { OnOk result ((opened : List ℕ → Option Found) → O.opened naming.now.opener.now ≡ Some opened
+            → loading_view self.new ≡ load opened naming.now.kind (places_view naming.now.places.now) naming.now.place
+            (loading_view self.old) (record { role = role; name = name.items })) }
+    {
+        if self.names.has(&name) {
+            return self.if_filtee(role, &name);
+        }
+        let file = find(alloc, naming.opener, naming.kind, naming.places, &name)?;
+        self.with_file(alloc, role, name, naming.place, file)
+    }
+
+    // Loads all libraries of these names.
+    fn load_all<O: Opener>(
+        &mut self,
+        alloc: Global,
+        naming: &Naming<'_, '_, O>,
+        substitutions: &Substitutions<'_>,
+        names: &Names,
+    ) -> Result<(), AllocError>
+        requires { AreNamesOf self.old.names (map entry_view self.old.objects.items) }
+        ensures names { OnOk result (AreNamesOf self.new.names (map entry_view self.new.objects.items)) }
+        ensures view { OnOk result ((opened : List ℕ → Option Found) → O.opened naming.now.opener.now ≡ Some opened
+            → loading_view self.new ≡ load_all opened naming.now.kind (places_view naming.now.places.now)
+            naming.now.place (loading_view self.old)
+            (map (expanded (tokens_view substitutions.now)) (names_view names.now).libraries)) }
+    {
+        for library in &names.libraries {
+            let name = expansion(alloc, substitutions, names.bytes(&library.name))?;
+            self.load(alloc, naming, library.role, name)?;
+        }
+        Ok(())
+    }
+
+    // The same of an object in a folder.
+    fn load_from<O: Opener>(
+        &mut self,
+        alloc: Global,
+        naming: &Naming<'_, '_, O>,
+        surroundings: &Surroundings<'_>,
+        folder: &[u8],
+        names: &Names,
+    ) -> Result<(), AllocError>
+        requires { AreNamesOf self.old.names (map entry_view self.old.objects.items) }
+        ensures names { OnOk result (AreNamesOf self.new.names (map entry_view self.new.objects.items)) }
+        ensures view { OnOk result ((opened : List ℕ → Option Found) → O.opened naming.now.opener.now ≡ Some opened
+            → loading_view self.new ≡ load_all opened naming.now.kind (places_view naming.now.places.now)
+            naming.now.place (loading_view self.old)
+            (map (expanded (tokens_in (others_view surroundings.now) folder.now)) (names_view names.now).libraries)) }
+    {
+        let substitutions = surroundings.substitutions(folder);
+        self.load_all(alloc, naming, &substitutions, names)
+    }
+
+    // Loads the libraries that the object at a place names, which has the slot `at`.
+    fn with_libraries<O: Opener>(
+        &mut self,
+        alloc: Global,
+        opener: &O,
+        surroundings: &Surroundings<'_>,
+        kind: Kind,
+        place: usize,
+    ) -> Result<(), AllocError>
+        requires { AreNamesOf self.old.names (map entry_view self.old.objects.items) }
+        ensures names { OnOk result (AreNamesOf self.new.names (map entry_view self.new.objects.items)) }
+        ensures view { OnOk result ((opened : List ℕ → Option Found) → O.opened opener.now ≡ Some opened
+            → loading_view self.new
+            ≡ with_libraries opened kind (others_view surroundings.now) (loading_view self.old) place) }
+    {
+        let at = self.at;
+        let places = places_at(alloc, surroundings, &self.objects, place)?;
+        let named = names_at(alloc, &self.objects, place)?;
+        self.set_done(place);
+        if let Some((folder, names)) = named {
+            let naming = Naming {
+                opener,
+                kind,
+                places: &places,
+                place,
+            };
+            self.load_from(alloc, &naming, surroundings, &folder, &names)?;
+        }
+        self.at = at;
+        Ok(())
+    }
+
+    // Loads the libraries of the object in the slot `at`, or goes on to the next slot.
+    fn step<O: Opener>(
+        &mut self,
+        alloc: Global,
+        opener: &O,
+        surroundings: &Surroundings<'_>,
+        kind: Kind,
+    ) -> Result<(), AllocError>
+        requires { AreNamesOf self.old.names (map entry_view self.old.objects.items) }
+        ensures names { OnOk result (AreNamesOf self.new.names (map entry_view self.new.objects.items)) }
+        ensures view { OnOk result ((opened : List ℕ → Option Found) → O.opened opener.now ≡ Some opened
+            → loading_view self.new ≡ step opened kind (others_view surroundings.now) (loading_view self.old)) }
+    {
+        if self.at >= self.scope.len() {
+            return Ok(());
+        }
+        let slot = self.scope[self.at];
+        if slot.is_done {
+            self.at += 1;
+            return Ok(());
+        }
+        self.with_libraries(alloc, opener, surroundings, kind, slot.place)
+    }
+
+    // The places in the order of look-ups.
+    fn places(&self, alloc: Global) -> Result<Vec<usize>, AllocError>
+        ensures { IfOk result (λ places. places.items ≡ places_in self.now.scope.items) }
+    {
+        let mut places = Vec::new(alloc);
+        for slot in &self.scope {
+            places.push(slot.place)?;
+        }
+        Ok(places)
+    }
 }
 
 /// Returns a program and the libraries that it loads, in the order in which they are loaded, with those that are missing
-/// at the place where they were needed. `surroundings` has what belongs to no object. The only error is a
-/// failed allocation.
+/// at the place where they were needed, and the order in which symbols are looked up in them. `surroundings` has what
+/// belongs to no object. The only error is a failed allocation.
 ///
 /// A missing library is listed once for each object that needs it, as often as the object names it, since each has search
-/// paths of its own. No file is loaded twice under one path. So there are at most as many objects as the files that can be
-/// read have paths, and as the entries `DT_NEEDED` in these. For an entry at most one file is read in each folder, and one
-/// that the cache lists, and none if the library is loaded already.
+/// paths of its own; a missing filtee is, if it is one of `DT_FILTER`. No file is loaded twice under one path. So there are
+/// at most as many objects as the files that can be read have paths, and as the entries `DT_NEEDED`, `DT_FILTER` and
+/// `DT_AUXILIARY` in these. For an entry at most one file is read in each folder, and one that the cache lists, and none if
+/// the library is loaded already.
 pub fn load_order<O: Opener>(
     alloc: Global,
     opener: &O,
     surroundings: &Surroundings<'_>,
     program: LoadedFile,
-) -> Result<Vec<Object>, AllocError>
-    ensures { IfOk result (λ objects. IfSome (O.opened opener.now) (λ opened.
-        IsLoadOrder opened (others_view surroundings.now) (found_view program) (map entry_view objects.items))) }
+) -> Result<LoadOrder, AllocError>
+    ensures { IfOk result (λ order. IfSome (O.opened opener.now) (λ opened.
+        IsLoadOrder opened (others_view surroundings.now) (found_view program) (map entry_view order.objects.items)
+        order.scope.items)) }
 {
     let kind = program.kind;
-    let mut names = LoadedNames::new(alloc);
+    let mut loading = Loading::new(alloc, program)?;
+    // Each step is for a slot, and there are never that many.
+    'steps: for step in 0..u64::MAX {
+        if loading.at >= loading.scope.len() {
+            let scope = loading.places(alloc)?;
+            return Ok(LoadOrder {
+                objects: loading.objects,
+                scope,
+            });
+        }
+        loading.step(alloc, opener, surroundings, kind)?;
+    }
+    Err(AllocError)
+}
+
+// The object at a place, if there is one.
+fn object_at(objects: &[Object], place: usize) -> Option<&Object>
+    ensures { option_map entry_of result ≡ slice_get (map entry_view objects.now) place }
+{
+    objects.get(place)
+}
+
+// Adds an object that there may not be.
+fn add_if<'a>(object: Option<&'a Object>, objects: &mut Vec<&'a Object>) -> Result<(), AllocError>
+    ensures { OnOk result (map entry_of objects.new.items
+        ≡ map entry_of objects.old.items ++ option_to_list (option_map entry_of object.entry)) }
+{
+    if let Some(object) = object {
+        objects.push(object)?;
+    }
+    Ok(())
+}
+
+/// Returns the objects in the order in which symbols are looked up in them. The only error is a failed allocation.
+pub fn in_order<'a>(alloc: Global, order: &'a LoadOrder) -> Result<Vec<&'a Object>, AllocError>
+    ensures { IfOk result (λ objects. map entry_of objects.items
+        ≡ in_order (map entry_view order.now.objects.items) order.now.scope.items) }
+{
     let mut objects = Vec::new(alloc);
-    let first = Object::program(alloc, program)?;
-    add(alloc, first, &mut names, &mut objects)?;
-    let mut place = 0;
-    while place < objects.len() {
-        let mut added = needed_objects(
-            alloc,
-            opener,
-            surroundings,
-            kind,
-            &objects,
-            place,
-            &mut names,
-        )?;
-        objects.append(&mut added)?;
-        place += 1;
+    for place in &order.scope {
+        add_if(object_at(&order.objects, *place), &mut objects)?;
     }
     Ok(objects)
 }

@@ -133,9 +133,9 @@ fn many_needed_libraries_are_named(rt: HostRuntime) -> Result<(), Fail> {
     let mut stream = ElfStream::<LittleEndian, _, _>::open_stream(rt.alloc(), source)?;
     let names = read_dynamic_names(rt.alloc(), &mut stream)?.ok_or("no entries")?;
     let named = names
-        .needed
+        .libraries
         .iter()
-        .filter(|name| names.bytes(name) == b"lib".as_slice());
+        .filter(|library| names.bytes(&library.name) == b"lib".as_slice());
     assert!(rt; named.count() == LIBRARIES);
     Ok(())
 }

@@ -1,2 +1,3 @@
 pub mod AllFiles
 mod Trees
+mod Begun

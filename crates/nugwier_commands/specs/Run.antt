@@ -15,6 +15,7 @@ use Rattle.nugwier_listing.specs.Job.{IsSaidOf}
 use Rattle.nugwier_programs.specs.Bindings.{IsBindingsSaid}
 use Rattle.nugwier_files.specs.Below.{known_below}
 use Rattle.nugwier_programs.specs.Tree.{IsTreeSaid, Search}
+use Rattle.nugwier_report.specs.Formats.{front, is_elf, not_elf}
 use Rattle.nugwier_report.specs.Said.{Said, all_right, said_if, states, text, whole, wrong}
 use Rattle.nugwier_commands.specs.declared.run.Outcome.{Outcome}
 use Rattle.nugwier_commands.specs.declared.run.Outcome.TheVariants.{Done, Stopped, Wrong}
@@ -98,6 +99,14 @@ IsContentSaid known Tree task path bytes said = IsProgramSaid known Tree task pa
 IsContentSaid known Bindings task path bytes said = IsProgramSaid known Bindings task path bytes said
 IsContentSaid known other task path bytes said = IsBytesSaid task path bytes said
 
+-- of a file that begins as an ELF file does this is said; of any other one, that it is no ELF file
+abbrev pub IsBegunSaid : Bool → (List ℕ → List Said → Type 0) → List ℕ → List Said → Type 0
+IsBegunSaid true IsSaid bytes said = IsSaid bytes said
+IsBegunSaid false IsSaid bytes said = said ≡ wrong (whole File) (not_elf (front bytes)) ∷ []
+
+abbrev pub IsElfSaid : (List ℕ → List Said → Type 0) → List ℕ → List Said → Type 0
+IsElfSaid IsSaid bytes said = IsBegunSaid (is_elf (front bytes)) IsSaid bytes said
+
 -- by the content of the file, if there is one; else the error of the system
 abbrev pub IsFoundSaid : (List ℕ → List Said → Type 0) → Option (List ℕ) → List Said → Type 0
 IsFoundSaid IsSaid (Some bytes) said = IsSaid bytes said
@@ -107,8 +116,7 @@ abbrev pub IsSaidAt : Known → (List ℕ → List Said → Type 0) → List ℕ
 IsSaidAt known IsSaid path said = IfSome known (λ files. IsFoundSaid IsSaid (files path) said)
 
 abbrev pub IsPathSaid : Known → Task → List ℕ → List Said → Type 0
-IsPathSaid known task path said =
-    IsSaidAt known (λ bytes said. IsContentSaid known task.command task path bytes said) path said
+IsPathSaid known task path said = IsSaidAt known (IsElfSaid (IsContentSaid known task.command task path)) path said
 
 -- file i and those after it, each with its path above it
 abbrev pub AreFilesSaid : Known → Task → ℕ → List (Bor (List ℕ)) → List (List Said) → Type 0

@@ -4,19 +4,23 @@ ghost use Rattle.elf_linking.specs.Tree.{found_view};
 ghost use Rattle.std.specs.Io.KnownBytes.{Appends};
 ghost use Rattle.elf_reading.specs.Opening.{opened_by_segments};
 ghost use Rattle.elf_records.specs.Endian.{any_is_little, any_of_byte};
-ghost use Rattle.nugwier_commands.specs.Run.{IsAnswered, IsBytesSaid, IsProgramSaid, IsRun, IsUnopenedSaid};
+ghost use Rattle.nugwier_commands.specs.Run.{IsAnswered, IsBytesSaid, IsContentSaid, IsElfSaid, IsProgramSaid, IsRun};
+ghost use Rattle.nugwier_commands.specs.Run.{IsUnopenedSaid};
 ghost use Rattle.nugwier_commands.specs.Run.{has_headings, heading_of, status_of, IsTaskAnswered};
 ghost use Rattle.nugwier_commands.specs.inner.Loading.{IsFileEnded, IsOutcomeOf, IsPathEnded, IsSaidAndWritten};
-ghost use Rattle.nugwier_commands.specs.inner.Loading.{IsNamed, IsWordsTold};
+ghost use Rattle.nugwier_commands.specs.inner.Loading.{IsFrontOf, IsNamed, IsWordsTold};
+ghost use Rattle.nugwier_report.specs.Formats.{front};
 ghost use Rattle.nugwier_words.specs.Words.{answer_of, parsed, run as run_answer, task_of};
 
 use crate::ended::{Ended, Target};
 use crate::loading::{Listed, list_bytes, list_source, stopped};
 use elf::endian::AnyEndian;
-use elf::{ElfBytes, ParseError};
+use elf::{ElfBytes, ParseError, StreamSource};
 use elf_linking::tree::LoadedFile;
+use elf_reading::reads::fetch;
 use nugwier_files::below::FilesBelow;
 use nugwier_files::files::Files;
+use nugwier_report::formats::{FRONT, is_elf, not_elf};
 use nugwier_report::kind::Kind;
 use nugwier_report::problem::{Fault, Stop};
 use nugwier_words::help::{VERSION, help};
@@ -236,7 +240,7 @@ fn has_headings(job: &Job<'_>) -> bool
     }
 }
 
-// Says what is asked for of the file at a path.
+// Says what is asked for of the file at a path. Its first bytes are read first, and no more if it is no ELF file.
 fn run_path<F: Files, W: Write, V: Write>(
     alloc: Global,
     target: Target<'_>,
@@ -246,6 +250,125 @@ fn run_path<F: Files, W: Write, V: Write>(
 ) -> Ended<W, V>
     ensures { IsPathEnded W.contents (F.known files.now) (task_of target.entry.job.now) target.entry.heading
         target.entry.path.now (W.contents out) result }
+{
+    match front_of(alloc, target.path, files) {
+        Some(front) => run_front(alloc, target, files, front.as_slice(), out, err),
+        None => run_read(alloc, target, files, out, err),
+    }
+}
+
+// The bytes at the start of the file at a path that tell its format, if it can be read by parts.
+fn front_of<F: Files>(alloc: Global, path: &str, files: &F) -> Option<Vec<u8>>
+    ensures { IfSome result (λ start. IfSome (F.known files.now) (λ files. IsFrontOf (files path.now) start.items)) }
+{
+    let mut source = files.open(path)?;
+    start_of(alloc, &mut source)
+}
+
+fn start_of<S: StreamSource>(alloc: Global, source: &mut S) -> Option<Vec<u8>>
+    ensures { IfSome result (λ start. IfSome (S.content source.old) (λ bytes. start.items ≡ front bytes)) }
+{
+    let len = source.seek_end().ok()?;
+    fetch(alloc, source, 0, len.min(FRONT as u64)).ok()
+}
+
+// Says what is asked for of the file at a path that begins with these bytes.
+fn run_front<F: Files, W: Write, V: Write>(
+    alloc: Global,
+    target: Target<'_>,
+    files: &F,
+    front: &[u8],
+    out: W,
+    err: V,
+) -> Ended<W, V>
+    ensures { IfSome (F.known files.now) (λ files. IsFrontOf (files target.entry.path.now) front.now)
+        → IsPathEnded W.contents (F.known files.now) (task_of target.entry.job.now) target.entry.heading
+        target.entry.path.now (W.contents out) result }
+{
+    if is_elf(front) {
+        run_command(alloc, target, files, out, err)
+    } else {
+        target.say_problem(alloc, not_elf(front), out, err)
+    }
+}
+
+// The same of a file that can only be read whole, as standard input.
+fn run_read<F: Files, W: Write, V: Write>(
+    alloc: Global,
+    target: Target<'_>,
+    files: &F,
+    out: W,
+    err: V,
+) -> Ended<W, V>
+    ensures { IsPathEnded W.contents (F.known files.now) (task_of target.entry.job.now) target.entry.heading
+        target.entry.path.now (W.contents out) result }
+{
+    match files.read(target.path) {
+        Ok(data) => run_data(alloc, target, files, data, out, err),
+        Err(error) => match error.kind() {
+            io::ErrorKind::OutOfMemory => stopped(out, err),
+            _ => target.say_problem(alloc, Fault::System(error), out, err),
+        },
+    }
+}
+
+fn run_data<F: Files, W: Write, V: Write>(
+    alloc: Global,
+    target: Target<'_>,
+    files: &F,
+    data: Vec<u8>,
+    out: W,
+    err: V,
+) -> Ended<W, V>
+    ensures { let task = task_of target.entry.job.now in IsSaidAndWritten W.contents
+        (IsElfSaid (IsContentSaid (F.known files.now) task.command task target.entry.path.now) «data».items)
+        task target.entry.heading target.entry.path.now (W.contents out) result }
+{
+    let front = front_in(data.as_slice());
+    if is_elf(front) {
+        run_content(alloc, target, files, data, out, err)
+    } else {
+        target.say_problem(alloc, not_elf(front), out, err)
+    }
+}
+
+// The first bytes of a file.
+fn front_in(bytes: &[u8]) -> &[u8]
+    ensures { result.now ≡ front bytes.now }
+{
+    &bytes[..bytes.len().min(FRONT)]
+}
+
+fn run_content<F: Files, W: Write, V: Write>(
+    alloc: Global,
+    target: Target<'_>,
+    files: &F,
+    data: Vec<u8>,
+    out: W,
+    err: V,
+) -> Ended<W, V>
+    ensures { let task = task_of target.entry.job.now in IsSaidAndWritten W.contents
+        (IsContentSaid (F.known files.now) task.command task target.entry.path.now «data».items)
+        task target.entry.heading target.entry.path.now (W.contents out) result }
+{
+    match target.job.command {
+        Command::Tree => target.say_program(alloc, files, data, out, err),
+        Command::Bindings => target.say_program(alloc, files, data, out, err),
+        _ => run_bytes(alloc, target, data.as_slice(), out, err),
+    }
+}
+
+// Says what is asked for of an ELF file at a path.
+fn run_command<F: Files, W: Write, V: Write>(
+    alloc: Global,
+    target: Target<'_>,
+    files: &F,
+    out: W,
+    err: V,
+) -> Ended<W, V>
+    ensures { let task = task_of target.entry.job.now in IsFileEnded W.contents (F.known files.now)
+        (IsContentSaid (F.known files.now) task.command task target.entry.path.now)
+        task target.entry.heading target.entry.path.now (W.contents out) result }
 {
     match target.job.command {
         Command::Tree => run_tree(alloc, target, files, out, err),

@@ -3,14 +3,17 @@ ghost use Rattle.std.specs.Prelude.{None};
 
 use crate::files::Files;
 use crate::opening::Opening;
-use elf::FileSource;
+use elf::{FileSource, abi};
 use elf_linking::tree::Libraries;
-use std::alloc::AllocError;
+use std::alloc::{AllocError, Global};
 use std::fs::File;
 use std::io::Read;
 use std::os::unix::fs::FileTypeExt;
 use std::str::from_utf8;
 use std::{fs, io};
+
+// How many bytes of a pipe are read first: those by which the format of a file is told.
+const FRONT: u64 = 16;
 
 /// The files of the operating system.
 #[derive(Drop)]
@@ -57,7 +60,7 @@ impl Files for SystemFiles<'_> {
     // Standard input is read through its own handle, since the system may not allow opening it again.
     fn read(&self, path: &str) -> io::Result<Vec<u8>> {
         match path {
-            "-" | "/dev/stdin" => read_standard_input(self.rt),
+            "-" | "/dev/stdin" => read_pipe(self.rt.alloc(), self.rt.stdin()),
             _ => read_file(self.rt, path),
         }
     }
@@ -98,25 +101,28 @@ fn read_regular(rt: &HostRuntime, path: &str) -> io::Result<Option<Vec<u8>>> {
     }
 }
 
-fn read_standard_input(rt: &HostRuntime) -> io::Result<Vec<u8>> {
-    let mut data = Vec::new(rt.alloc());
-    rt.stdin().read_to_end(&mut data)?;
+// Reads a pipe up to where its writer closes it. Of one that does not begin as an ELF file only the first bytes are
+// read, since nothing else is asked of it, and it may have no end.
+fn read_pipe<R: Read + Drop>(alloc: Global, mut pipe: R) -> io::Result<Vec<u8>> {
+    let mut data = Vec::new(alloc);
+    pipe.by_ref().take(FRONT).read_to_end(&mut data)?;
+    if data.starts_with(&abi::ELFMAGIC) {
+        pipe.read_to_end(&mut data)?;
+    }
     Ok(data)
 }
 
-// Reads a file. A device is refused, since it may have no end. A pipe ends where its writer closes it.
+// Reads a file. A device is refused, since it may have no end.
 fn read_file(rt: &HostRuntime, path: &str) -> io::Result<Vec<u8>> {
     let kind = fs::metadata(rt, path)?.file_type();
     if kind.is_char_device() || kind.is_block_device() {
         return Err(io::Error::new(io::ErrorKind::InvalidInput, "is a device"));
     }
-    let mut file = File::open(rt, path)?;
+    let file = File::open(rt, path)?;
     if kind.is_file() {
         return read_to_length(rt, file);
     }
-    let mut data = Vec::new(rt.alloc());
-    file.read_to_end(&mut data)?;
-    Ok(data)
+    read_pipe(rt.alloc(), file)
 }
 
 // Reads a regular file up to the length that the system reports: some files of the system have more, without end.

@@ -4,3 +4,5 @@ pub mod CheckedContent
 pub mod Viewed
 -- the number that a word is
 pub mod Numbers
+mod NoteEnds
+mod PartViews

@@ -19,14 +19,14 @@ use Rattle.nugwier_report.specs.declared.problem.Fault.{Fault}
 use Rattle.nugwier_report.specs.declared.problem.Fault.TheVariants.{NoAddress, NoSize, NotLoaded, Read}
 use Rattle.nugwier_report.specs.declared.problem.Part.TheVariants.{Dynamic, DynamicStrings}
 
--- the entries up to DT_NULL, and the strings that they name
+-- the machine, the entries up to DT_NULL, and the strings that they name
 abbrev pub Entries : Type 0
-Entries = List Dyn × Result (List ℕ) NamesError
+Entries = ℕ × List Dyn × Result (List ℕ) NamesError
 
--- those of a file, if it has any; the strings are found by their address
-abbrev pub entries_of : ObjectFile → Result (Option Entries) ParseError
-entries_of file =
-    ok_map (option_map (λ table. (entries_in table, strings_by file (entries_in table)))) (dynamic file)
+-- those of a file for this machine, if it has any; the strings are found by their address
+abbrev pub entries_of : ℕ → ObjectFile → Result (Option Entries) ParseError
+entries_of machine file =
+    ok_map (option_map (λ table. (machine, entries_in table, strings_by file (entries_in table)))) (dynamic file)
 
 -- ---- the strings
 
@@ -49,18 +49,18 @@ strings_missed (Err e) = wrong (whole DynamicStrings) (names_fault e) ∷ []
 
 -- of each entry, under a heading
 abbrev pub each_said : Entries → List Said
-each_said (entries, strings) =
+each_said (machine, entries, strings) =
     strings_missed strings
     ++ states EntriesHeading [] ∷ []
-    ++ numbered (entry_said (result_ok strings)) 0 entries
+    ++ numbered (entry_said machine (result_ok strings)) 0 entries
 
 -- of the entries that name a library or a search path, if there are strings
-abbrev pub needed_if : List Dyn → Option (List ℕ) → List Said
-needed_if entries None = []
-needed_if entries (Some strings) = numbered (needed_said strings) 0 entries
+abbrev pub needed_if : ℕ → List Dyn → Option (List ℕ) → List Said
+needed_if machine entries None = []
+needed_if machine entries (Some strings) = numbered (needed_said machine strings) 0 entries
 
 abbrev pub names_said : Entries → List Said
-names_said (entries, strings) = strings_missed strings ++ needed_if entries (result_ok strings)
+names_said (machine, entries, strings) = strings_missed strings ++ needed_if machine entries (result_ok strings)
 
 abbrev pub all_said : Result (Option Entries) ParseError → List Said
 all_said entries = answer_said Dynamic [] each_said entries
@@ -69,12 +69,12 @@ all_said entries = answer_said Dynamic [] each_said entries
 abbrev pub all_names_said : Result (Option Entries) ParseError → List Said
 all_names_said entries = answer_said Dynamic (missing Dynamic) names_said entries
 
--- ---- of a file
+-- ---- of a file for a machine
 
 -- its dynamic entries, if it has any
-abbrev pub said_of_entries : ObjectFile → List Said
-said_of_entries file = all_said (entries_of file)
+abbrev pub said_of_entries : ℕ → ObjectFile → List Said
+said_of_entries machine file = all_said (entries_of machine file)
 
 -- the libraries that it needs and their search paths
-abbrev pub said_of_needed : ObjectFile → List Said
-said_of_needed file = all_names_said (entries_of file)
+abbrev pub said_of_needed : ℕ → ObjectFile → List Said
+said_of_needed machine file = all_names_said (entries_of machine file)

@@ -11,7 +11,7 @@ use Rattle.nugwier_report.specs.Header.{header_said}
 use Rattle.nugwier_listing.specs.Identity.{said_of_identity}
 use Rattle.nugwier_listing.specs.Notes.{said_of_notes}
 use Rattle.nugwier_listing.specs.Plan.{IsPlanSaid}
-use Rattle.nugwier_listing.specs.Relocations.{said_of_relocations}
+use Rattle.nugwier_listing.specs.Relocations.{machine_of, said_of_relocations}
 use Rattle.nugwier_listing.specs.Sections.{said_of_sections}
 use Rattle.nugwier_listing.specs.Segments.{said_of_segments}
 use Rattle.nugwier_listing.specs.Symbols.{said_of_dynamic_symbols, said_of_exports, said_of_letters, said_of_symbols}
@@ -40,12 +40,12 @@ is_listed parts part.Versions = parts.versions
 module _ {E : Type 0} (little : E → Bool) where
   abbrev pub said_of_part : FileHeader E → ObjectFile → ListedPart → List Said
   said_of_part header file part.Header = header_said little header
-  said_of_part header file part.Sections = said_of_sections file
-  said_of_part header file part.Segments = said_of_segments file
+  said_of_part header file part.Sections = said_of_sections header.e_machine file
+  said_of_part header file part.Segments = said_of_segments header.e_machine file
   said_of_part header file part.Symbols = said_of_symbols file
   said_of_part header file part.DynamicSymbols = said_of_dynamic_symbols file
-  said_of_part header file part.Dynamic = said_of_entries file
-  said_of_part header file part.Relocations = said_of_relocations file
+  said_of_part header file part.Dynamic = said_of_entries header.e_machine file
+  said_of_part header file part.Relocations = said_of_relocations (machine_of little header) file
   said_of_part header file part.Notes = said_of_notes file
   said_of_part header file part.Versions = said_of_version_lists file
 
@@ -65,7 +65,7 @@ module _ {E : Type 0} (little : E → Bool) where
     IsSaidBy ListCommand task path header file said = said ≡ said_of_list task header file
     IsSaidBy Symbols task path header file said = said ≡ said_of_letters file
     IsSaidBy Exports task path header file said = said ≡ said_of_exports file
-    IsSaidBy Needed task path header file said = said ≡ said_of_needed file
+    IsSaidBy Needed task path header file said = said ≡ said_of_needed header.e_machine file
     IsSaidBy BuildId task path header file said = said ≡ said_of_identity file
     IsSaidBy Plan task path header file said = IsPlanSaid file said
     IsSaidBy Check task path header file said = IsCheckSaid little of_byte path file said

@@ -11,11 +11,12 @@ use Rattle.nugwier_report.specs.declared.kind.Kind.TheVariants as kind
 use Rattle.nugwier_report.specs.declared.problem.Part.TheVariants.{SectionNames}
 
 -- that their names cannot be read, a heading, and each
-abbrev pub sections_said : List SectionHeader → Result (Option (List ℕ)) ParseError → List Said
-sections_said sections names =
+abbrev pub sections_said : ℕ → List SectionHeader → Result (Option (List ℕ)) ParseError → List Said
+sections_said machine sections names =
     unread (whole SectionNames) names
-    ++ states kind.SectionsHeading [] ∷ numbered (section_said (if_read names)) 0 sections
+    ++ states kind.SectionsHeading [] ∷ numbered (section_said machine (if_read names)) 0 sections
 
--- nothing of a file that declares none
-abbrev pub said_of_sections : ObjectFile → List Said
-said_of_sections file = if file.declares_sections then sections_said file.sections (name_table file) else []
+-- of a file for this machine; nothing of one that declares none
+abbrev pub said_of_sections : ℕ → ObjectFile → List Said
+said_of_sections machine file =
+    if file.declares_sections then sections_said machine file.sections (name_table file) else []

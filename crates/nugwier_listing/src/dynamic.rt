@@ -27,6 +27,7 @@ use std::io::Write;
 /// Dynamic entries, and the strings that they name.
 #[derive(Debug, Drop)]
 pub struct DynamicEntries<'f> {
+    machine: u16,
     entries: Vec<Dyn>,
     strings: Result<&'f [u8], NamesError>,
 }
@@ -40,13 +41,17 @@ pub(crate) fn take_dynamic<'f, E: EndianParse, R: ListedFile<E>>(
     file: &'f R,
 ) -> Result<FoundEntries<'f>, NotTaken>
     ensures { IfOk result (λ found. ok_map (option_map entries_view) found
-        ≡ entries_of (file_of (R.file file.now) (R.bytes file.now))) }
+        ≡ entries_of (R.header file.now).e_machine (file_of (R.file file.now) (R.bytes file.now))) }
 {
     match taking::dynamic(file)? {
         Ok(Some(table)) => {
             let entries = entries_in(alloc, &table)?;
             let strings = taking::strings_of(file, entries.as_slice())?;
-            Ok(Ok(Some(DynamicEntries { entries, strings })))
+            Ok(Ok(Some(DynamicEntries {
+                machine: file.file_header().e_machine,
+                entries,
+                strings,
+            })))
         }
         Ok(None) => Ok(Ok(None)),
         Err(error) => Ok(Err(error)),
@@ -88,10 +93,14 @@ fn say_each<W: Write, V: Write>(
 ) -> Result<(), Stop>
     ensures { OnOk result (report.new ≡ saying report.old (each_said (entries_view part.entry))) }
 {
-    let DynamicEntries { entries, strings } = part;
+    let DynamicEntries {
+        machine,
+        entries,
+        strings,
+    } = part;
     let strings = found_strings(strings, report)?;
     report.state(Kind::EntriesHeading, &[])?;
-    say_slice(entries.as_slice(), &EntryRow { strings }, report)
+    say_slice(entries.as_slice(), &EntryRow { machine, strings }, report)
 }
 
 // Says the entries that name a library or a search path, if the strings can be found.
@@ -101,9 +110,13 @@ fn say_names<W: Write, V: Write>(
 ) -> Result<(), Stop>
     ensures { OnOk result (report.new ≡ saying report.old (names_said (entries_view part.entry))) }
 {
-    let DynamicEntries { entries, strings } = part;
+    let DynamicEntries {
+        machine,
+        entries,
+        strings,
+    } = part;
     match found_strings(strings, report)? {
-        Some(strings) => say_slice(entries.as_slice(), &NeededRow { strings }, report),
+        Some(strings) => say_slice(entries.as_slice(), &NeededRow { machine, strings }, report),
         None => Ok(()),
     }
 }

@@ -12,7 +12,7 @@ use crate::dynamic::{FoundEntries, say_entries, take_dynamic};
 use crate::listed::ListedFile;
 use crate::notes::{NotePart, take_notes};
 use crate::parts::say_each;
-use crate::relocations::{FoundRelocations, say_relocations, take_relocations};
+use crate::relocations::{RelocationTables, say_relocations, take_relocations};
 use crate::sections::{SectionTables, say_sections, take_sections};
 use crate::segments::say_segments;
 use crate::symbols::{LinkedTables, say_linked, say_symbols, take_dynamic_symbols};
@@ -60,11 +60,11 @@ static PARTS: [ListedPart; 9] = [
 enum PartTables<'f, E: EndianParse> {
     Header(FileHeader<E>),
     Sections(Option<SectionTables<'f>>),
-    Segments(&'f [ProgramHeader]),
+    Segments(u16, &'f [ProgramHeader]),
     Symbols(FoundSymbols<'f, E>),
     DynamicSymbols(LinkedTables<'f, E>),
     Dynamic(FoundEntries<'f>),
-    Relocations(FoundRelocations<'f, E>),
+    Relocations(RelocationTables<'f, E>),
     Notes(Vec<NotePart<'f, E>>),
     Versions(Vec<VersionPart<'f, E>>),
 }
@@ -158,7 +158,10 @@ fn take_part<'f, E: EndianParse, R: ListedFile<E>>(
     match part {
         ListedPart::Header => Ok(PartTables::Header(file.file_header())),
         ListedPart::Sections => Ok(PartTables::Sections(take_sections(file)?)),
-        ListedPart::Segments => Ok(PartTables::Segments(file.segment_list())),
+        ListedPart::Segments => {
+            let machine = file.file_header().e_machine;
+            Ok(PartTables::Segments(machine, file.segment_list()))
+        }
         ListedPart::Symbols => Ok(PartTables::Symbols(taking::symbols(file)?)),
         ListedPart::DynamicSymbols => Ok(PartTables::DynamicSymbols(take_dynamic_symbols(file)?)),
         ListedPart::Dynamic => Ok(PartTables::Dynamic(take_dynamic(alloc, file)?)),
@@ -206,11 +209,11 @@ fn say_part<E: EndianParse, W: Write, V: Write>(
     match part {
         PartTables::Header(header) => say_header(&header, report),
         PartTables::Sections(tables) => say_sections(tables, report),
-        PartTables::Segments(segments) => say_segments(segments, report),
+        PartTables::Segments(machine, segments) => say_segments(machine, segments, report),
         PartTables::Symbols(symbols) => say_symbols(symbols, report),
         PartTables::DynamicSymbols(tables) => say_linked(alloc, tables, report),
         PartTables::Dynamic(entries) => say_entries(entries, report),
-        PartTables::Relocations(found) => say_relocations(found, report),
+        PartTables::Relocations(found) => say_relocations(alloc, found, report),
         PartTables::Notes(parts) => say_each(parts, report),
         PartTables::Versions(parts) => say_each(parts, report),
     }

@@ -1,49 +1,57 @@
 //! The relocations of a file.
-ghost use Rattle.std.specs.Prelude.{[], ◌≡◌, ◌∷◌, ◌++◌, IfOk, OnOk};
+ghost use Rattle.std.specs.Prelude.{[], ◌≡◌, ◌∷◌, ◌++◌, IfOk, OnOk, map};
 ghost use Rattle.std.specs.List.{flat_map};
-ghost use Rattle.std.specs.Option.{option_map};
+ghost use Rattle.std.specs.Option.{option_to_list, option_map};
 ghost use Rattle.elf.specs.ObjectFile.{err_map};
 ghost use Rattle.elf_dynamic.specs.dynamic_view.Entries.{entries_in};
 ghost use Rattle.elf_records.specs.Number.{ok_map};
 ghost use Rattle.elf_records.specs.Table.{table_view};
-ghost use Rattle.nugwier_listing.specs.Headings.{known_names, name_shown};
-ghost use Rattle.nugwier_listing.specs.Linked.{symbols_by};
+ghost use Rattle.nugwier_listing.specs.Headings.{known_names};
 ghost use Rattle.nugwier_listing.specs.Read.{if_read};
-ghost use Rattle.nugwier_listing.specs.Relocations.{are_relocations, each_said, in_table, place_said, records_of};
-ghost use Rattle.nugwier_listing.specs.Relocations.{relative_in, relocations_in, said_of_relocations, section_said};
+ghost use Rattle.nugwier_listing.specs.Relocations.{are_relocations, each_said, in_table, linked_table, machine_of};
+ghost use Rattle.nugwier_listing.specs.Relocations.{placed_said, records_of, records_said, relative_in, relocations_in};
+ghost use Rattle.nugwier_listing.specs.Relocations.{relocations_of, said_of_relocations, section_relocations};
 ghost use Rattle.nugwier_listing.specs.Relocations.{section_symbols, symbols_if, symbols_unread, table_members};
-ghost use Rattle.nugwier_listing.specs.Relocations.{records_said, table_records, table_said};
+ghost use Rattle.nugwier_listing.specs.Relocations.{table_records, table_relocations, used_by};
 ghost use Rattle.nugwier_listing.specs.Whole.{file_of};
-ghost use Rattle.nugwier_listing.specs.inner.Relocations.{part_said, place_heading, place_part, records_view};
-ghost use Rattle.nugwier_listing.specs.inner.Relocations.{relocations_said};
+ghost use Rattle.nugwier_listing.specs.inner.Relocations.{around_view, part_view, part_views, place_heading, place_part};
+ghost use Rattle.nugwier_listing.specs.inner.Relocations.{records_view, symbols_view, tables_said};
+ghost use Rattle.nugwier_report.specs.Labels.{named_by};
 ghost use Rattle.nugwier_report.specs.Noted.{members_said};
-ghost use Rattle.nugwier_report.specs.Relocations.{symbols_view};
-ghost use Rattle.nugwier_report.specs.Said.{numbered, said_if, saying};
-ghost use Rattle.nugwier_report.specs.declared.problem.Fault.TheVariants.{Linked as IsLinked, Read as IsRead};
+ghost use Rattle.nugwier_report.specs.Relocations.{used_view};
+ghost use Rattle.nugwier_report.specs.Said.{numbered, saying};
+ghost use Rattle.nugwier_report.specs.declared.problem.Fault.TheVariants.{Read as IsRead};
 
 use crate::headings::{heading_members, known_names, name_shown};
+use crate::linked::FoundVersions;
 use crate::listed::ListedFile;
-use crate::parts::{TakenPart, say_each};
+use crate::symbols::known_versions;
 use crate::taking::NotTaken;
 use crate::{linked, taking};
 use elf::dynamic::DynamicTable;
 use elf::endian::EndianParse;
+use elf::file::FileHeader;
+use elf::gnu_symver::SymbolVersions;
 use elf::headers::Headers;
 use elf::reader::Reader;
 use elf::relocation::{RelIterator, RelaIterator};
 use elf::section::SectionHeader;
 use elf::string_table::TerminatedStrings;
+use elf::symbol::SymbolTable;
 use elf::{ParseError, abi};
 use elf_dynamic::dynamic_view::{DynamicError, PltRelocations};
 use elf_dynamic::relr::{RelrIterator, RelrTable, SHT_RELR};
+use elf_linking::indexed;
 use nugwier_report::json::{Member, Value};
 use nugwier_report::kind::Kind;
+use nugwier_report::names::Labels;
 use nugwier_report::problem::{Fault, Item, Part, RelocationTable, Stop};
-use nugwier_report::relocations::{RelRow, RelaRow, Symbols, say_relative};
+use nugwier_report::relocations::{Machine, RelocationRow, Symbols, say_relative};
 use nugwier_report::report::Report;
 use nugwier_report::rows::say_records;
 use std::alloc::Global;
 use std::io::Write;
+use std::marker::PhantomData;
 
 // Relocations of one type.
 #[derive(Drop)]
@@ -92,43 +100,87 @@ fn table_members(table: RelocationTable) -> [Member<'static>; 1]
     [("table", Value::Text(Some(table.name().as_bytes())))]
 }
 
+// A table of symbols, with their strings, and whether they are those for dynamic linking, which may have versions.
+#[derive(Drop)]
+struct TakenSymbols<'f, E: EndianParse> {
+    table: SymbolTable<'f, E>,
+    strings: TerminatedStrings<'f>,
+    is_dynamic: bool,
+}
+
 // The symbols that relocations use, if there are any.
-type UsedSymbols<'f, E> = Result<Option<Symbols<'f, E>>, Fault<'static>>;
+type UsedSymbols<'f, E> = Result<Option<TakenSymbols<'f, E>>, Fault<'f>>;
 
 /// Relocations, with their place, and the symbols that they use, if there are any.
 #[derive(Drop)]
 pub struct RelocationPart<'f, E: EndianParse> {
     place: RelocationPlace<'f>,
     symbols: UsedSymbols<'f, E>,
-    records: Result<TakenRecords<'f, E>, Fault<'static>>,
-}
-
-impl<'f, E: EndianParse> TakenPart for RelocationPart<'f, E> {
-    ghost said = { part_said };
-
-    fn say<W: Write, V: Write>(self, report: &mut Report<'_, W, V>) -> Result<(), Stop> {
-        let RelocationPart {
-            place,
-            symbols,
-            records,
-        } = self;
-        place.say(report)?;
-        let part = place.part();
-        let symbols = known_symbols(part, symbols, report)?;
-        say_read(part, symbols, records, report)
-    }
+    records: Result<TakenRecords<'f, E>, Fault<'f>>,
 }
 
 /// The relocations of a file, or why the dynamic entries that give them are not available.
-pub type FoundRelocations<'f, E> = Result<Vec<RelocationPart<'f, E>>, DynamicError>;
+type FoundRelocations<'f, E> = Result<Vec<RelocationPart<'f, E>>, DynamicError>;
 
-/// Takes the relocations of each section that has them; if the file declares no sections those that dynamic entries give.
+/// The relocations of a file, and what they are told by: the machine, the versions of the symbols for dynamic linking,
+/// and the sections with their names.
+#[derive(Drop)]
+pub struct RelocationTables<'f, E: EndianParse> {
+    machine: Machine,
+    versions: FoundVersions<'f, E>,
+    labels: Labels<'f>,
+    found: FoundRelocations<'f, E>,
+}
+
+/// Takes the relocations of a file, and what they are told by.
 pub(crate) fn take_relocations<'f, E: EndianParse, R: ListedFile<E>>(
     alloc: Global,
     file: &'f R,
+) -> Result<RelocationTables<'f, E>, NotTaken>
+    ensures { IfOk result (λ tables. tables_said tables ≡ said_of_relocations
+        (machine_of E.little (R.header file.now)) (file_of (R.file file.now) (R.bytes file.now))) }
+{
+    let versions = linked::linked_versions(file)?;
+    let labels = labels_of(file)?;
+    let found = take_found(alloc, file)?;
+    Ok(RelocationTables {
+        machine: machine_of(&file.file_header()),
+        versions,
+        labels,
+        found,
+    })
+}
+
+fn machine_of<E: EndianParse>(header: &FileHeader<E>) -> Machine
+    ensures { result ≡ machine_of E.little header.now }
+{
+    Machine {
+        e_machine: header.e_machine,
+        class: header.class,
+        is_little: header.endianness.is_little(),
+    }
+}
+
+// The sections, and their names if they can be read.
+fn labels_of<'f, E: EndianParse, R: ListedFile<E>>(file: &'f R) -> Result<Labels<'f>, NotTaken>
+    ensures { let whole = file_of (R.file file.now) (R.bytes file.now) in IfOk result (λ labels. named_by labels
+        ≡ record { sections = whole.sections; names = known_names whole }) }
+{
+    let names = known_names(file)?;
+    Ok(Labels {
+        sections: file.section_list(),
+        names,
+    })
+}
+
+// Takes the relocations of each section that has them; if the file declares no sections those that dynamic entries give.
+#[tactic(auto, using(crate::proofs::PartViews::views_listed))]
+fn take_found<'f, E: EndianParse, R: ListedFile<E>>(
+    alloc: Global,
+    file: &'f R,
 ) -> Result<FoundRelocations<'f, E>, NotTaken>
-    ensures { IfOk result (λ found. relocations_said (ok_map (λ parts. flat_map part_said parts.items) found)
-        ≡ said_of_relocations (file_of (R.file file.now) (R.bytes file.now))) }
+    ensures { IfOk result (λ found. ok_map (λ parts. map part_view parts.items) found
+        ≡ relocations_of (file_of (R.file file.now) (R.bytes file.now))) }
 {
     if file.declares_sections() {
         return Ok(Ok(take_sections(alloc, file)?));
@@ -142,16 +194,94 @@ pub(crate) fn take_relocations<'f, E: EndianParse, R: ListedFile<E>>(
 
 /// Says the relocations that were taken.
 pub(crate) fn say_relocations<E: EndianParse, W: Write, V: Write>(
-    found: FoundRelocations<'_, E>,
+    alloc: Global,
+    tables: RelocationTables<'_, E>,
+    report: &mut Report<'_, W, V>,
+) -> Result<(), Stop>
+    ensures { OnOk result (report.new ≡ saying report.old (tables_said tables.entry)) }
+{
+    let RelocationTables {
+        machine,
+        versions,
+        labels,
+        found,
+    } = tables;
+    let versions = known_versions(versions, report)?;
+    let versions = indexed(alloc, versions.as_ref())?;
+    let around = Surroundings {
+        machine,
+        versions: versions.as_ref(),
+        labels: &labels,
+    };
+    match found {
+        Ok(parts) => say_parts(&around, parts, report),
+        Err(error) => report.problem(Part::Dynamic.whole(), Fault::Linked(error)),
+    }
+}
+
+// What relocations are told by.
+#[derive(Drop)]
+struct Surroundings<'a, V> {
+    machine: Machine,
+    versions: Option<&'a V>,
+    labels: &'a Labels<'a>,
+}
+
+// Says each part.
+fn say_parts<E: EndianParse, T: SymbolVersions<E>, W: Write, V: Write>(
+    around: &Surroundings<'_, T>,
+    parts: Vec<RelocationPart<'_, E>>,
     report: &mut Report<'_, W, V>,
 ) -> Result<(), Stop>
     ensures { OnOk result (report.new ≡ saying report.old
-        (relocations_said (ok_map (λ parts. flat_map part_said parts.items) found.entry))) }
+        (flat_map (placed_said (around_view T.versions around.now)) (map part_view parts.entry.items))) }
 {
-    match found {
-        Ok(parts) => say_each(parts, report),
-        Err(error) => report.problem(Part::Dynamic.whole(), Fault::Linked(error)),
+    for part in parts {
+        say_part(around, part, report)?;
     }
+    Ok(())
+}
+
+fn say_part<E: EndianParse, T: SymbolVersions<E>, W: Write, V: Write>(
+    around: &Surroundings<'_, T>,
+    part: RelocationPart<'_, E>,
+    report: &mut Report<'_, W, V>,
+) -> Result<(), Stop>
+    ensures { OnOk result (report.new ≡ saying report.old
+        (placed_said (around_view T.versions around.now) (part_view part.entry))) }
+{
+    let RelocationPart {
+        place,
+        symbols,
+        records,
+    } = part;
+    place.say(report)?;
+    let part = place.part();
+    let symbols = known_symbols(part, symbols, report)?;
+    let symbols = used_by(around, symbols);
+    say_read(part, around.machine, symbols, records, report)
+}
+
+// The symbols with the versions and the sections by which they are told.
+fn used_by<'a, E: EndianParse, T: SymbolVersions<E>>(
+    around: &Surroundings<'a, T>,
+    symbols: Option<TakenSymbols<'a, E>>,
+) -> Option<Symbols<'a, E, T>>
+    ensures { option_map (used_view T.versions) result
+        ≡ option_map (used_by (around_view T.versions around.now)) (option_map symbols_view symbols.entry) }
+{
+    let symbols = symbols?;
+    let versions = if symbols.is_dynamic {
+        around.versions
+    } else {
+        None
+    };
+    Some(Symbols {
+        table: symbols.table,
+        strings: symbols.strings,
+        versions,
+        labels: around.labels,
+    })
 }
 
 // ---- by dynamic entries
@@ -170,8 +300,8 @@ fn take_tables<'f, E: EndianParse, R: ListedFile<E>>(
     file: &'f R,
     entries: &DynamicTable<'_, E>,
 ) -> Result<Vec<RelocationPart<'f, E>>, NotTaken>
-    ensures { IfOk result (λ parts. flat_map part_said parts.items
-        ≡ flat_map (table_said (file_of (R.file file.now) (R.bytes file.now)) (entries_in (table_view entries.now)))
+    ensures { IfOk result (λ parts. map part_view parts.items
+        ≡ flat_map (table_relocations (file_of (R.file file.now) (R.bytes file.now)) (entries_in (table_view entries.now)))
         all.now) }
 {
     let mut parts = Vec::new(alloc);
@@ -188,8 +318,8 @@ fn add_table<'f, E: EndianParse, R: ListedFile<E>>(
     table: RelocationTable,
     parts: &mut Vec<RelocationPart<'f, E>>,
 ) -> Result<(), NotTaken>
-    ensures { OnOk result (flat_map part_said parts.new.items ≡ flat_map part_said parts.old.items
-        ++ table_said (file_of (R.file file.now) (R.bytes file.now)) (entries_in (table_view entries.now)) table) }
+    ensures { OnOk result (map part_view parts.new.items ≡ map part_view parts.old.items
+        ++ table_relocations (file_of (R.file file.now) (R.bytes file.now)) (entries_in (table_view entries.now)) table) }
 {
     let Some(part) = take_table(file, entries, table)? else {
         return Ok(());
@@ -203,8 +333,8 @@ fn take_table<'f, E: EndianParse, R: ListedFile<E>>(
     entries: &DynamicTable<'_, E>,
     table: RelocationTable,
 ) -> Result<Option<RelocationPart<'f, E>>, NotTaken>
-    ensures { IfOk result (λ part. said_if part_said part
-        ≡ table_said (file_of (R.file file.now) (R.bytes file.now)) (entries_in (table_view entries.now)) table) }
+    ensures { IfOk result (λ part. option_to_list (option_map part_view part)
+        ≡ table_relocations (file_of (R.file file.now) (R.bytes file.now)) (entries_in (table_view entries.now)) table) }
 {
     let symbols = linked_symbols(file, entries)?;
     match table_records(file, entries, table)? {
@@ -217,10 +347,13 @@ fn take_table<'f, E: EndianParse, R: ListedFile<E>>(
 fn part_of_table<'f, E: EndianParse>(
     table: RelocationTable,
     symbols: UsedSymbols<'f, E>,
-    records: Result<TakenRecords<'f, E>, Fault<'static>>,
+    records: Result<TakenRecords<'f, E>, Fault<'f>>,
 ) -> RelocationPart<'f, E>
-    ensures { part_said result ≡ place_said (in_table table)
-        (ok_map (option_map symbols_view) symbols.entry) (ok_map records_view records.entry) }
+    ensures { part_view result ≡ record {
+      place = in_table table;
+      symbols = ok_map (option_map symbols_view) symbols.entry;
+      records = ok_map records_view records.entry;
+    } }
 {
     let place = RelocationPlace::Table(table);
     RelocationPart {
@@ -235,13 +368,18 @@ fn linked_symbols<'f, E: EndianParse, R: ListedFile<E>>(
     file: &'f R,
     entries: &DynamicTable<'_, E>,
 ) -> Result<UsedSymbols<'f, E>, NotTaken>
-    ensures { IfOk result (λ found. ok_map (option_map symbols_view) found ≡ err_map IsLinked
-        (symbols_by (file_of (R.file file.now) (R.bytes file.now)) (entries_in (table_view entries.now)))) }
+    ensures { IfOk result (λ found. ok_map (option_map symbols_view) found
+        ≡ linked_table (file_of (R.file file.now) (R.bytes file.now)) (entries_in (table_view entries.now))) }
 {
     match linked::symbols_by(file, entries)? {
         Ok(Some((table, strings))) => {
             let strings = TerminatedStrings::new(&strings);
-            Ok(Ok(Some(Symbols { table, strings })))
+            let is_dynamic = true;
+            Ok(Ok(Some(TakenSymbols {
+                table,
+                strings,
+                is_dynamic,
+            })))
         }
         Ok(None) => Ok(Ok(None)),
         Err(error) => Ok(Err(Fault::Linked(error))),
@@ -299,7 +437,7 @@ fn take_sections<'f, E: EndianParse, R: ListedFile<E>>(
     file: &'f R,
 ) -> Result<Vec<RelocationPart<'f, E>>, NotTaken>
     ensures { let whole = file_of (R.file file.now) (R.bytes file.now) in
-        IfOk result (λ parts. flat_map part_said parts.items ≡ numbered (relocations_in whole) 0 whole.sections) }
+        IfOk result (λ parts. flat_map part_views parts.items ≡ numbered (relocations_in whole) 0 whole.sections) }
 {
     let names = known_names(file)?;
     let mut parts = Vec::new(alloc);
@@ -312,6 +450,7 @@ fn take_sections<'f, E: EndianParse, R: ListedFile<E>>(
 }
 
 // Takes the relocations of a section, if it has any, and adds them.
+#[tactic(auto, unfolding(crate::specs::Relocations::relocations_in))]
 fn add_section<'f, E: EndianParse, R: ListedFile<E>>(
     file: &'f R,
     names: &Option<TerminatedStrings<'f>>,
@@ -320,8 +459,8 @@ fn add_section<'f, E: EndianParse, R: ListedFile<E>>(
     parts: &mut Vec<RelocationPart<'f, E>>,
 ) -> Result<(), NotTaken>
     ensures { let whole = file_of (R.file file.now) (R.bytes file.now) in
-        names.now ≡ known_names whole → OnOk result (flat_map part_said parts.new.items
-        ≡ flat_map part_said parts.old.items ++ relocations_in whole number section.now) }
+        names.now ≡ known_names whole → OnOk result (flat_map part_views parts.new.items
+        ≡ flat_map part_views parts.old.items ++ relocations_in whole number section.now) }
 {
     if !are_relocations(section) {
         return Ok(());
@@ -338,8 +477,8 @@ fn take_part<'f, E: EndianParse, R: ListedFile<E>>(
     section: &SectionHeader,
 ) -> Result<RelocationPart<'f, E>, NotTaken>
     ensures { let whole = file_of (R.file file.now) (R.bytes file.now) in
-        IfOk result (λ part. part_said part ≡ section_said number (name_shown names.now section.now)
-        (section_symbols whole section.now.sh_link) (records_of whole section.now)) }
+        names.now ≡ known_names whole
+        → IfOk result (λ part. part_view part ≡ section_relocations whole number section.now) }
 {
     let symbols = used_symbols(file, section.sh_link)?;
     let records = take_records(file, section)?;
@@ -376,7 +515,7 @@ fn used_symbols<'f, E: EndianParse, R: ListedFile<E>>(
 fn section_symbols<'f, E: EndianParse, R: ListedFile<E>>(
     file: &'f R,
     number: u32,
-) -> Result<Result<Option<Symbols<'f, E>>, ParseError>, NotTaken>
+) -> Result<Result<Option<TakenSymbols<'f, E>>, ParseError>, NotTaken>
     ensures { IfOk result (λ found. ok_map (option_map symbols_view) found
         ≡ section_symbols (file_of (R.file file.now) (R.bytes file.now)) number) }
 {
@@ -393,7 +532,7 @@ fn section_symbols<'f, E: EndianParse, R: ListedFile<E>>(
 fn symbols_if<'f, E: EndianParse, R: ListedFile<E>>(
     file: &'f R,
     section: &SectionHeader,
-) -> Result<Result<Option<Symbols<'f, E>>, ParseError>, NotTaken>
+) -> Result<Result<Option<TakenSymbols<'f, E>>, ParseError>, NotTaken>
     ensures { IfOk result (λ found. ok_map (option_map symbols_view) found
         ≡ symbols_if (file_of (R.file file.now) (R.bytes file.now)) section.now) }
 {
@@ -403,7 +542,12 @@ fn symbols_if<'f, E: EndianParse, R: ListedFile<E>>(
     match taking::symbols_of(file, section)? {
         Ok((table, strings)) => {
             let strings = TerminatedStrings::new(&strings);
-            Ok(Ok(Some(Symbols { table, strings })))
+            let is_dynamic = section.sh_type == abi::SHT_DYNSYM;
+            Ok(Ok(Some(TakenSymbols {
+                table,
+                strings,
+                is_dynamic,
+            })))
         }
         Err(error) => Ok(Err(error)),
     }
@@ -413,7 +557,7 @@ fn symbols_if<'f, E: EndianParse, R: ListedFile<E>>(
 fn take_records<'f, E: EndianParse, R: ListedFile<E>>(
     file: &'f R,
     section: &SectionHeader,
-) -> Result<Result<TakenRecords<'f, E>, Fault<'static>>, NotTaken>
+) -> Result<Result<TakenRecords<'f, E>, Fault<'f>>, NotTaken>
     ensures { IfOk result (λ found. ok_map records_view found
         ≡ err_map IsRead (records_of (file_of (R.file file.now) (R.bytes file.now)) section.now)) }
 {
@@ -438,7 +582,7 @@ fn known_symbols<'f, E: EndianParse, W: Write, V: Write>(
     part: Part,
     symbols: UsedSymbols<'f, E>,
     report: &mut Report<'_, W, V>,
-) -> Result<Option<Symbols<'f, E>>, Stop>
+) -> Result<Option<TakenSymbols<'f, E>>, Stop>
     ensures known { IfOk result (λ known. option_map symbols_view known
         ≡ if_read (ok_map (option_map symbols_view) symbols.entry)) }
     ensures wrong { OnOk result (report.new ≡ saying report.old
@@ -454,34 +598,54 @@ fn known_symbols<'f, E: EndianParse, W: Write, V: Write>(
 }
 
 // Says the relocations, or that they cannot be read.
-fn say_read<E: EndianParse, W: Write, V: Write>(
+fn say_read<'a, E: EndianParse, T: SymbolVersions<E>, W: Write, V: Write>(
     part: Part,
-    symbols: Option<Symbols<'_, E>>,
-    records: Result<TakenRecords<'_, E>, Fault<'static>>,
+    machine: Machine,
+    symbols: Option<Symbols<'a, E, T>>,
+    records: Result<TakenRecords<'a, E>, Fault<'a>>,
     report: &mut Report<'_, W, V>,
 ) -> Result<(), Stop>
-    ensures { OnOk result (report.new ≡ saying report.old
-        (records_said part (option_map symbols_view symbols.entry) (ok_map records_view records.entry))) }
+    ensures { OnOk result (report.new ≡ saying report.old (records_said machine part
+        (option_map (used_view T.versions) symbols.entry) (ok_map records_view records.entry))) }
 {
     match records {
-        Ok(records) => say_all(part, symbols, records, report),
+        Ok(records) => say_all(part, machine, symbols, records, report),
         Err(fault) => report.problem(part.whole(), fault),
     }
 }
 
 // Says each relocation.
-fn say_all<E: EndianParse, W: Write, V: Write>(
+fn say_all<'a, E: EndianParse, T: SymbolVersions<E>, W: Write, V: Write>(
     part: Part,
-    symbols: Option<Symbols<'_, E>>,
-    records: TakenRecords<'_, E>,
+    machine: Machine,
+    symbols: Option<Symbols<'a, E, T>>,
+    records: TakenRecords<'a, E>,
     report: &mut Report<'_, W, V>,
 ) -> Result<(), Stop>
-    ensures { OnOk result (report.new ≡ saying report.old
-        (each_said part (option_map symbols_view symbols.entry) (records_view records.entry))) }
+    ensures { OnOk result (report.new ≡ saying report.old (each_said machine part
+        (option_map (used_view T.versions) symbols.entry) (records_view records.entry))) }
 {
     match records {
-        TakenRecords::Rels(rels) => say_records(rels, &RelRow { part, symbols }, report),
-        TakenRecords::Relas(relas) => say_records(relas, &RelaRow { part, symbols }, report),
+        TakenRecords::Rels(rels) => {
+            let kind = PhantomData;
+            let row = RelocationRow {
+                part,
+                machine,
+                symbols,
+                kind,
+            };
+            say_records(rels, &row, report)
+        }
+        TakenRecords::Relas(relas) => {
+            let kind = PhantomData;
+            let row = RelocationRow {
+                part,
+                machine,
+                symbols,
+                kind,
+            };
+            say_records(relas, &row, report)
+        }
         TakenRecords::Relative(addresses) => say_relative(part, addresses, report),
     }
 }

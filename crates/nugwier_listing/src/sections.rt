@@ -24,6 +24,7 @@ use std::io::Write;
 /// The sections, and their names or why these cannot be read.
 #[derive(Drop)]
 pub struct SectionTables<'f> {
+    machine: u16,
     sections: &'f [SectionHeader],
     names: Result<Option<TerminatedStrings<'f>>, ParseError>,
 }
@@ -33,14 +34,18 @@ pub(crate) fn take_sections<'f, E: EndianParse, R: ListedFile<E>>(
     file: &'f R,
 ) -> Result<Option<SectionTables<'f>>, NotTaken>
     ensures { IfOk result (λ tables. taken_sections_said tables
-        ≡ said_of_sections (file_of (R.file file.now) (R.bytes file.now))) }
+        ≡ said_of_sections (R.header file.now).e_machine (file_of (R.file file.now) (R.bytes file.now))) }
 {
     if !file.declares_sections() {
         return Ok(None);
     }
     let names = taking::names(file)?;
     let sections = file.section_list();
-    Ok(Some(SectionTables { sections, names }))
+    Ok(Some(SectionTables {
+        machine: file.file_header().e_machine,
+        sections,
+        names,
+    }))
 }
 
 /// Says the sections that were taken.
@@ -61,12 +66,16 @@ fn say_listed<W: Write, V: Write>(
     report: &mut Report<'_, W, V>,
 ) -> Result<(), Stop>
     ensures { OnOk result (report.new
-        ≡ saying report.old (sections_said tables.entry.sections.now tables.entry.names)) }
+        ≡ saying report.old (sections_said tables.entry.machine tables.entry.sections.now tables.entry.names)) }
 {
-    let SectionTables { sections, names } = tables;
+    let SectionTables {
+        machine,
+        sections,
+        names,
+    } = tables;
     let names = say_names(names, report)?;
     report.state(Kind::SectionsHeading, &[])?;
-    say_slice(sections, &SectionRow { names }, report)
+    say_slice(sections, &SectionRow { machine, names }, report)
 }
 
 // The names, or that they cannot be read.

@@ -11,16 +11,17 @@ use nugwier_report::rows::say_slice;
 use nugwier_report::segments::SegmentRow;
 use std::io::Write;
 
-/// Says the segments of a file, if there are any.
+/// Says the segments of a file for this machine (`e_machine`), if there are any.
 pub(crate) fn say_segments<W: Write, V: Write>(
+    machine: u16,
     segments: &[ProgramHeader],
     report: &mut Report<'_, W, V>,
 ) -> Result<(), Stop>
-    ensures { OnOk result (report.new ≡ saying report.old (segments_said segments.now)) }
+    ensures { OnOk result (report.new ≡ saying report.old (segments_said machine segments.now)) }
 {
     if segments.is_empty() {
         return Ok(());
     }
     report.state(Kind::SegmentsHeading, &[])?;
-    say_slice(segments, &SegmentRow, report)
+    say_slice(segments, &SegmentRow { machine }, report)
 }

@@ -185,7 +185,7 @@ fn say_versioned<'f, E: EndianParse, W: Write, V: Write>(
 }
 
 // The versions, if they can be read.
-fn known_versions<'f, E: EndianParse, W: Write, V: Write>(
+pub(crate) fn known_versions<'f, E: EndianParse, W: Write, V: Write>(
     versions: FoundVersions<'f, E>,
     report: &mut Report<'_, W, V>,
 ) -> Result<Option<SymbolVersionTable<'f, E>>, Stop>

@@ -2,8 +2,8 @@
 //! bytes that are not loaded cannot be taken.
 ghost use Rattle.std.specs.Prelude.{◌≡◌, true, IfOk, IfSome, None};
 ghost use Rattle.std.specs.Option.{option_map};
-ghost use Rattle.elf.specs.Answers.{dynamic, dynamic_symbol_table, relas_left, rels_left, section_data_as_notes};
-ghost use Rattle.elf.specs.Answers.{section_data_as_relas, section_data_as_rels, segment_data_as_notes};
+ghost use Rattle.elf.specs.Answers.{dynamic, dynamic_symbol_table, relas_left, rels_left, section_data_as_relas};
+ghost use Rattle.elf.specs.Answers.{section_data_as_rels, segment_data};
 ghost use Rattle.elf.specs.Answers.{symbol_table, symbol_version_table, symbols_of, symbols_view};
 ghost use Rattle.elf.specs.Data.{content, section_data};
 ghost use Rattle.elf.specs.Loaded.{streamed_file};
@@ -14,7 +14,6 @@ ghost use Rattle.elf.specs.Readers.{Method, answer};
 ghost use Rattle.elf.specs.StreamFile.{stream_file};
 ghost use Rattle.elf.specs.declared.read_error.ReadError.TheVariants.{Parse as IsParse};
 ghost use Rattle.elf_dynamic.specs.Relr.{section_data_as_relr};
-ghost use Rattle.elf_parts.specs.Note.{notes_left};
 ghost use Rattle.elf_parts.specs.gnu_symver.Table.{versions_view};
 ghost use Rattle.elf_reading.specs.Leading.{data_view};
 ghost use Rattle.elf_records.specs.Number.{ok_map};
@@ -31,7 +30,6 @@ use elf::compression::CompressionHeader;
 use elf::dynamic::{Dyn, DynamicTable};
 use elf::endian::EndianParse;
 use elf::gnu_symver::SymbolVersionTable;
-use elf::note::NoteIterator;
 use elf::reader::Reader;
 use elf::readers::part_answers_as_whole;
 use elf::relocation::{RelIterator, RelaIterator};
@@ -239,28 +237,16 @@ pub(crate) fn relr<'f, E: EndianParse, R: ListedFile<E>>(
     taken(section_data_as_relr(file, shdr))
 }
 
-/// Takes the notes of a section of type `SHT_NOTE`.
-pub(crate) fn section_notes<'f, E: EndianParse, R: ListedFile<E>>(
-    file: &'f R,
-    shdr: &SectionHeader,
-) -> Result<Result<NoteIterator<'f, E>, ParseError>, NotTaken>
-    ensures { IfOk result (λ found. ok_map notes_left found
-        ≡ section_data_as_notes (file_of (R.file file.now) (R.bytes file.now)) shdr.now) }
-{
-    is_part(file);
-    taken(reader::section_data_as_notes(file, shdr))
-}
-
-/// Takes the notes of a segment of type `PT_NOTE`.
-pub(crate) fn segment_notes<'f, E: EndianParse, R: ListedFile<E>>(
+/// Takes the bytes of a segment in the file.
+pub(crate) fn segment_data<'f, E: EndianParse, R: ListedFile<E>>(
     file: &'f R,
     phdr: &ProgramHeader,
-) -> Result<Result<NoteIterator<'f, E>, ParseError>, NotTaken>
-    ensures { IfOk result (λ found. ok_map notes_left found
-        ≡ segment_data_as_notes (file_of (R.file file.now) (R.bytes file.now)) phdr.now) }
+) -> Result<Result<&'f [u8], ParseError>, NotTaken>
+    ensures { IfOk result (λ found. ok_map (λ bytes. bytes.now) found
+        ≡ segment_data (file_of (R.file file.now) (R.bytes file.now)) phdr.now) }
 {
     is_part(file);
-    taken(reader::segment_data_as_notes(file, phdr))
+    taken(reader::segment_data(file, phdr))
 }
 
 /// Takes the dynamic entries.

@@ -21,7 +21,7 @@ use Rattle.elf_records.specs.Table.{Table}
 use Rattle.elf_reading.specs.Opening.{FileView}
 use Rattle.elf_linking.specs.DynamicFile.{GivesDynamic, dynamic_symbols}
 use Rattle.elf_linking.specs.declared.resolve.ObjectFault.{ObjectFault}
-use Rattle.elf_linking.specs.Tree.{Entry, entry_view}
+use Rattle.elf_linking.specs.Tree.{Entry, entry_of}
 use Rattle.elf_linking.specs.declared.tree.Object.{Object as LoadedObject}
 use Rattle.nugwier_programs.specs.Bindings.{AreAllFilesSaid, AreFilesSaid, AreSaidFrom, AreSearched, AreSymbolsSaid, IsFileSaid, IsFileSearched, IsSearchedBy, OpenFile, SearchedFile, Searching, Searched, Unsearchable, WithoutSymbols, file_heading, file_uses, files_of, objects_of, open_at, open_files, open_problem, opened_object, paths_of, search_problem, searched_by}
 use Rattle.nugwier_report.specs.Said.{Said}
@@ -55,12 +55,12 @@ pub not_empty_is : {A : Type 0} (xs : List A) (n : ℕ) (is_empty : Bool) → n 
 not_empty_is xs n is_empty long same here = grind (arith, nat_tests)
 
 -- the first object and the others
-pub first_and_others : (objects : List LoadedObject) (first : LoadedObject) → 1 ≤ length objects → first ≡ get_or objects 0 first →
-    entry_view first ∷ map entry_view (take (length objects - 1) (drop 1 objects)) ≡ map entry_view objects
+pub first_and_others : (objects : List (Bor LoadedObject)) (first : Bor LoadedObject) → 1 ≤ length objects → first ≡ get_or objects 0 first →
+    entry_of first ∷ map entry_of (take (length objects - 1) (drop 1 objects)) ≡ map entry_of objects
 first_and_others [] first some is = absurd (omega (arith, some))
 first_and_others (x ∷ xs) first some is =
     let count : length xs ≤ length (x ∷ xs) - 1 = omega arith in
-    ap (λ (l : List LoadedObject). entry_view first ∷ map entry_view l) (take_all (length (x ∷ xs) - 1) xs count) ∙ ap (λ (o : LoadedObject). entry_view o ∷ map entry_view xs) is
+    ap (λ (l : List (Bor LoadedObject)). entry_of first ∷ map entry_of l) (take_all (length (x ∷ xs) - 1) xs count) ∙ ap (λ (o : Bor LoadedObject). entry_of o ∷ map entry_of xs) is
 
 -- ---- objects, each searched in its own way
 

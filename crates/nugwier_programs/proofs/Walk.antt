@@ -125,7 +125,14 @@ firsts_known objects (suc (suc k)) firsts past empty known = absurd (omega (arit
 
 abbrev pub made_others : List ℕ → List ℕ → List ℕ → (List ℕ → Option (List ℕ)) → List (List ℕ) → Others
 made_others path lib platform cached usual =
-    record { library_path = Some path; lib = lib; platform = platform; cached = cached; usual_folders = usual }
+    record {
+      library_path = Some path;
+      lib = lib;
+      platform = platform;
+      cached = cached;
+      listed_folders = [];
+      usual_folders = usual;
+    }
 
 pub same_others : (a b l m p q : List ℕ) (c d : List ℕ → Option (List ℕ)) (u v : List (List ℕ)) → a ≡ b → l ≡ m → p ≡ q → c ≡ d → u ≡ v → made_others a l p c u ≡ made_others b m q d v
 same_others a b l m p q c d u v same lib platform cached usual =

@@ -1,7 +1,7 @@
 -- What is said of a program about the symbols of it and of its libraries: what they bind to, and what is missing or
--- not known. Symbols are looked up in the objects in the order of loading, the program first (gABI, chapter "Dynamic
--- Linking", sections "Shared Object Dependencies" and "Hash Table").
-use Rattle.std.specs.Prelude.{◌≡◌, ℕ, ◌+◌, ◌==◌, Bool, if◌then◌else◌, List, [], ◌∷◌, ◌++◌, codes, filter}
+-- not known. Symbols are looked up in the objects in the order of loading, but in the filtees of an object before the
+-- object itself (gABI, chapter "Dynamic Linking", sections "Shared Object Dependencies" and "Hash Table"; GNU C library).
+use Rattle.std.specs.Prelude.{◌≡◌, ℕ, ◌+◌, ◌==◌, if◌then◌else◌, List, [], ◌∷◌, ◌++◌, codes, filter}
 use Rattle.std.specs.Prelude.{map, replicate, Option, Some, None, Result, Ok, Err}
 use Rattle.std.specs.List.{enumerate_from, flat_map, zip}
 use Rattle.std.specs.Option.{option_to_list}
@@ -17,22 +17,22 @@ use Rattle.elf_parts.specs.gnu_symver.Table.{Versions}
 use Rattle.elf_reading.specs.Opening.{FileView, opened_file}
 use Rattle.elf.specs.ObjectFile.{ObjectFile, object_file}
 use Rattle.elf_linking.specs.Binding.{VersionedObject}
-use Rattle.elf_linking.specs.DynamicFile.{GivesDynamic, dynamic_symbols, dynamic_uses, is_filter}
+use Rattle.elf_linking.specs.DynamicFile.{GivesDynamic, dynamic_symbols, dynamic_uses}
 use Rattle.elf_linking.specs.declared.resolve.ObjectFault.{ObjectFault}
 use Rattle.elf_linking.specs.declared.resolve.ObjectFault.TheVariants.{Read as IsRead}
 use Rattle.elf_linking.specs.SymbolBindings.{AreAllBound, is_bound}
 use Rattle.elf_linking.specs.SymbolUses.{no_uses, uses_at}
-use Rattle.elf_linking.specs.Tree.{Entry, Found}
+use Rattle.elf_linking.specs.Tree.{Entry, Found, in_order}
 use Rattle.elf_linking.specs.declared.bindings.kinds.SymbolBinding.{SymbolBinding}
 use Rattle.elf_linking.specs.declared.bindings.uses.SymbolUses.{SymbolUses}
 use Rattle.elf_linking.specs.declared.bindings.uses.UsesError.{UsesError}
 use Rattle.nugwier_report.specs.Said.{Said, states, text, whole, wrong}
 use Rattle.nugwier_report.specs.declared.kind.Kind.TheVariants.{FileHeading, NextFileHeading}
 use Rattle.nugwier_report.specs.declared.problem.Fault.{Fault}
-use Rattle.nugwier_report.specs.declared.problem.Fault.TheVariants.{Filter, NoHash, Object, Read, Relocations}
+use Rattle.nugwier_report.specs.declared.problem.Fault.TheVariants.{NoHash, Object, Read, Relocations}
 use Rattle.nugwier_report.specs.declared.problem.Part.TheVariants.{File}
 use Rattle.nugwier_programs.specs.Symbols.{symbols_said}
-use Rattle.nugwier_programs.specs.Tree.{AreObjects, Contents, Search, object_problems}
+use Rattle.nugwier_programs.specs.Tree.{AreObjects, Contents, Order, Search, object_problems}
 
 -- ---- what is searched
 
@@ -56,13 +56,9 @@ open_of None = None
 abbrev pub open_files : Entry → List OpenFile
 open_files e = option_to_list (open_of e.file)
 
--- that it is a filter, whose libraries are not loaded
-abbrev pub filter_problem : List ℕ → Bool → List Said
-filter_problem path filters = if filters then wrong (whole File) (Filter path) ∷ [] else []
-
--- the same, or that it cannot be opened
+-- that it cannot be opened
 abbrev pub opening_problem : List ℕ → Result (FileView AnyEndian) ParseError → List Said
-opening_problem path (Ok v) = filter_problem path (is_filter (opened_object v))
+opening_problem path (Ok v) = []
 opening_problem path (Err e) = wrong (whole File) (Object path (IsRead e)) ∷ []
 
 abbrev pub file_problem : Option Found → List Said
@@ -203,7 +199,7 @@ IsProgramSaid (Some program) libraries said =
     × (others : List Said) × AreSaidFrom first libraries others × (said ≡ search_problem first ++ others)
 IsProgramSaid None libraries said = said ≡ []
 
--- a program and its libraries: which are filters, or cannot be opened or searched, and what is said of the others
+-- a program and its libraries, in the order of look-ups: which cannot be opened or searched, and what is said of the others
 abbrev pub AreObjectsSaid : List Entry → List Said → Type 0
 AreObjectsSaid [] said = said ≡ []
 AreObjectsSaid (program ∷ libraries) said =
@@ -214,6 +210,7 @@ AreObjectsSaid (program ∷ libraries) said =
 -- symbols bind to
 abbrev pub IsBindingsSaid : Contents → Search → Result Found ParseError → List Said → Type 0
 IsBindingsSaid contents search (Ok program) said =
-    (objects : List Entry) × AreObjects contents search program objects
-    × (symbols : List Said) × AreObjectsSaid objects symbols × (said ≡ object_problems objects ++ symbols)
+    (order : Order) × AreObjects contents search program order
+    × (symbols : List Said) × AreObjectsSaid (in_order order.0 order.1) symbols
+    × (said ≡ object_problems order.0 ++ symbols)
 IsBindingsSaid contents search (Err e) said = said ≡ wrong (whole File) (Read e) ∷ []

@@ -1,7 +1,7 @@
 -- What is said of a program and the libraries that it loads: each below the one that needed it first, and then those
 -- that are missing and those whose names are not known.
 use Rattle.std.specs.Prelude.{◌≡◌, ℕ, ◌+◌, zero, suc, ◌==◌, nat_lt, Bool, false, if◌then◌else◌, List, [], ◌∷◌, ◌++◌}
-use Rattle.std.specs.Prelude.{codes, drop}
+use Rattle.std.specs.Prelude.{codes, drop, map}
 use Rattle.std.specs.Prelude.{length, Option, Some, None, Result, Ok, Err, IfSome, IsErr, slice_get, unwrap_or}
 use Rattle.std.specs.List.{flat_map, join_by}
 use Rattle.std.specs.Option.{option_map}
@@ -12,10 +12,12 @@ use Rattle.elf_records.specs.declared.parse.ParseError.{ParseError}
 use Rattle.elf_linking.specs.Cache.{Cache, cache_of, cached_path, flags_of}
 use Rattle.elf_linking.specs.Search.{Others}
 use Rattle.elf_linking.specs.Needed.{Named}
-use Rattle.elf_linking.specs.Tree.{Entry, Found, IsLoadOrder, found_view, loader_at, opened_names, opened_whole}
+use Rattle.elf_linking.specs.Tree.{Entry, Found, IsLoadOrder, entry_view, found_view, loader_at, opened_names}
+use Rattle.elf_linking.specs.Tree.{opened_whole}
 use Rattle.elf_linking.specs.Tree.{without_bytes}
 use Rattle.elf_linking.specs.declared.needed.NamesError.{NamesError}
 use Rattle.elf_linking.specs.declared.tree.Kind.{Kind}
+use Rattle.elf_linking.specs.declared.tree.LoadOrder.{LoadOrder}
 use Rattle.elf_linking.specs.declared.tree.LoadedFile.{LoadedFile}
 use Rattle.nugwier_report.specs.Objects.{object_said}
 use Rattle.nugwier_report.specs.Said.{Said, whole, wrong}
@@ -65,6 +67,7 @@ others_of files search kind = record {
   lib = lib_of kind;
   platform = platform_of kind;
   cached = cached_in (cache_in kind.order (cache_file search.has_cache files)) kind;
+  listed_folders = [];
   usual_folders = usual_folders kind;
 }
 
@@ -72,18 +75,24 @@ others_of files search kind = record {
 abbrev pub Contents : Type 0
 Contents = Option (List ℕ → Option (List ℕ))
 
+-- objects in the order in which they are loaded, and their places in the order of look-ups
+abbrev pub Order : Type 0
+Order = List Entry × List ℕ
+
+abbrev pub order_view : LoadOrder → Order
+order_view order = (map entry_view order.objects.items, order.scope.items)
+
 -- the program with the libraries that it loads, in order, by what is opened of files with these contents
-abbrev pub AreOpened :
-    ((List ℕ → Option (List ℕ)) → List ℕ → Option Found) → Contents → Search → Found → List Entry → Type 0
-AreOpened opened contents search program objects = IfSome contents (λ files.
-    IsLoadOrder (opened files) (others_of files search program.kind) program objects)
+abbrev pub AreOpened : ((List ℕ → Option (List ℕ)) → List ℕ → Option Found) → Contents → Search → Found → Order → Type 0
+AreOpened opened contents search program order = IfSome contents (λ files.
+    IsLoadOrder (opened files) (others_of files search program.kind) program order.0 order.1)
 
 -- with all bytes, or by their names alone
-abbrev pub AreObjects : Contents → Search → Found → List Entry → Type 0
-AreObjects contents search program objects = AreOpened opened_whole contents search program objects
+abbrev pub AreObjects : Contents → Search → Found → Order → Type 0
+AreObjects contents search program order = AreOpened opened_whole contents search program order
 
-abbrev pub AreNamedObjects : Contents → Search → Found → List Entry → Type 0
-AreNamedObjects contents search program objects = AreOpened opened_names contents search program objects
+abbrev pub AreNamedObjects : Contents → Search → Found → Order → Type 0
+AreNamedObjects contents search program order = AreOpened opened_names contents search program order
 
 -- ---- the order in which they are listed
 
@@ -172,7 +181,7 @@ said_of_tree objects = flat_map (listed_said objects) (listed objects) ++ object
 -- of a program by its names alone
 abbrev pub IsNamedSaid : Contents → Search → Found → List Said → Type 0
 IsNamedSaid contents search program said =
-    (objects : List Entry) × AreNamedObjects contents search program objects × (said ≡ said_of_tree objects)
+    (order : Order) × AreNamedObjects contents search program order × (said ≡ said_of_tree order.0)
 
 -- of a file: that it is no program, or the tree
 abbrev pub IsTreeSaid : Contents → Search → Result Found ParseError → List Said → Type 0

@@ -1,7 +1,7 @@
 //! What the symbols of a program and of its libraries bind to.
 ghost use Rattle.std.specs.Prelude.{◌≡◌, ◌∷◌, ◌++◌, List, OnOk, Some, map};
 ghost use Rattle.std.specs.List.{flat_map};
-ghost use Rattle.elf_linking.specs.Tree.{entry_view, file_of};
+ghost use Rattle.elf_linking.specs.Tree.{entry_of, entry_view, file_of};
 ghost use Rattle.nugwier_programs.specs.Bindings.{AreAllFilesSaid, AreObjectsSaid, AreSearched, IsBindingsSaid};
 ghost use Rattle.nugwier_programs.specs.Bindings.{IsProgramSaid, SearchedFile, Searching, files_of, search_problem};
 ghost use Rattle.nugwier_programs.specs.inner.Scope.{AreInScope, open_view, searched_file};
@@ -18,7 +18,7 @@ use crate::bindings::objects::{
 use crate::bindings::rows::say_file;
 use crate::bindings::targets::Scope;
 use crate::tree::{Search, objects, open_program, say_problems};
-use elf_linking::tree::{Libraries, Object};
+use elf_linking::tree::{Libraries, Object, in_order};
 use nugwier_report::problem::Stop;
 use nugwier_report::report::Report;
 use std::alloc::Global;
@@ -42,24 +42,25 @@ pub fn say_bindings<L: Libraries, W: Write, V: Write>(
     let Some(program) = open_program(alloc, path, data, report)? else {
         return Ok(());
     };
-    let objects = objects(alloc, search, libraries, program)?;
-    say_problems(&objects, report)?;
+    let order = objects(alloc, search, libraries, program)?;
+    say_problems(&order.objects, report)?;
+    let objects = in_order(alloc, &order)?;
     say_objects(alloc, &objects, report)?;
     Ok(())
 }
 
-// Says what the symbols of each object bind to. They are in the order in which the dynamic linker searches them, the
-// program first.
+// Says what the symbols of each object bind to. They are in the order in which the dynamic linker searches them: the
+// program is first, unless it has filtees.
 //
 // A library that cannot be searched counts as one that defines nothing. If the program is such an object, nothing else
 // is said.
 #[tactic(auto, using(crate::proofs::Walk::saying_nothing))]
 fn say_objects<W: Write, V: Write>(
     alloc: Global,
-    objects: &[Object],
+    objects: &[&Object],
     report: &mut Report<'_, W, V>,
 ) -> Result<(), Stop>
-    ensures { OnOk result ((said : List Said) × AreObjectsSaid (map entry_view objects.now) said
+    ensures { OnOk result ((said : List Said) × AreObjectsSaid (map entry_of objects.now) said
         × (report.new ≡ saying report.old said)) }
 {
     let [program, libraries @ ..] = objects else {
@@ -73,11 +74,11 @@ fn say_objects<W: Write, V: Write>(
 fn say_program<W: Write, V: Write>(
     alloc: Global,
     program: &Object,
-    libraries: &[Object],
+    libraries: &[&Object],
     report: &mut Report<'_, W, V>,
 ) -> Result<(), Stop>
     ensures { OnOk result ((said : List Said)
-        × AreObjectsSaid (entry_view program.now ∷ map entry_view libraries.now) said
+        × AreObjectsSaid (entry_view program.now ∷ map entry_of libraries.now) said
         × (report.new ≡ saying report.old said)) }
 {
     let Some(program) = open_file(program, report)? else {
@@ -91,11 +92,11 @@ fn say_program<W: Write, V: Write>(
 fn say_opened<W: Write, V: Write>(
     alloc: Global,
     program: &OpenFile<'_>,
-    libraries: &[Object],
+    libraries: &[&Object],
     report: &mut Report<'_, W, V>,
 ) -> Result<(), Stop>
     ensures { OnOk result ((said : List Said)
-        × IsProgramSaid (Some (open_view program.now)) (map entry_view libraries.now) said
+        × IsProgramSaid (Some (open_view program.now)) (map entry_of libraries.now) said
         × (report.new ≡ saying report.old said)) }
 {
     let mut found = Vec::new(alloc);

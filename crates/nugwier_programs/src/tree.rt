@@ -10,7 +10,7 @@ ghost use Rattle.nugwier_programs.specs.Tree.{AreNamedObjects, AreObjects, AreOp
 ghost use Rattle.nugwier_programs.specs.Tree.{after_it, at_depth, cache_file, cache_in, entry_said, search_view};
 ghost use Rattle.nugwier_programs.specs.Tree.{first_needed};
 ghost use Rattle.nugwier_programs.specs.Tree.{is_needed_by, library_path, listed, listed_said, names_problem};
-ghost use Rattle.nugwier_programs.specs.Tree.{next_beside};
+ghost use Rattle.nugwier_programs.specs.Tree.{next_beside, order_view};
 ghost use Rattle.nugwier_programs.specs.Tree.{object_problem, object_problems, path_at, path_of, path_or_name};
 ghost use Rattle.nugwier_programs.specs.inner.Walk.{AreFirsts, listed_view, stack_view, with_first};
 ghost use Rattle.nugwier_report.specs.Said.{Said, saying, unread, whole};
@@ -21,7 +21,7 @@ use elf::endian::AnyEndian;
 use elf_linking::cache::{LibraryFlags, LinkerCache};
 use elf_linking::search::Surroundings;
 use elf_linking::tree::whole::WholeLibraries;
-use elf_linking::tree::{Libraries, LoadedFile, Object, OpenError, Opener, load_order};
+use elf_linking::tree::{Libraries, LoadOrder, LoadedFile, Object, OpenError, Opener, load_order};
 use nugwier_files::files::Files;
 use nugwier_files::named::NamedLibraries;
 use nugwier_report::objects::ListedObject;
@@ -72,9 +72,9 @@ pub fn say_named<F: Files, W: Write, V: Write>(
         × IsNamedSaid (F.known files.now) (search_view search.entry) (found_view program) said
         × (report.new ≡ saying report.old said)) }
 {
-    let objects = named_objects(alloc, search, files, program)?;
-    say_objects(alloc, &objects, report)?;
-    say_problems(&objects, report)
+    let order = named_objects(alloc, search, files, program)?;
+    say_objects(alloc, &order.objects, report)?;
+    say_problems(&order.objects, report)
 }
 
 /// Opens a program. Returns `None` if that is not possible, and says why.
@@ -107,15 +107,15 @@ pub const FILE: Place = Place {
 // The path of the linker's cache of libraries.
 const CACHE: &[u8] = b"/etc/ld.so.cache";
 
-/// Returns the program with its libraries, in the order in which they are loaded, with all their bytes.
+/// Returns the program with its libraries, with all their bytes.
 pub(crate) fn objects<L: Libraries>(
     alloc: Global,
     search: Search<'_>,
     libraries: &L,
     program: LoadedFile,
-) -> Result<Vec<Object>, AllocError>
-    ensures { IfOk result (λ objects. AreObjects (L.contents libraries.now) (search_view search.entry) (found_view program)
-        (map entry_view objects.items)) }
+) -> Result<LoadOrder, AllocError>
+    ensures { IfOk result (λ order. AreObjects (L.contents libraries.now) (search_view search.entry) (found_view program)
+        (order_view order)) }
 {
     let opener = WholeLibraries { libraries };
     opened_objects(alloc, search, libraries, &opener, program)
@@ -127,9 +127,9 @@ fn named_objects<F: Files>(
     search: Search<'_>,
     files: &F,
     program: LoadedFile,
-) -> Result<Vec<Object>, AllocError>
-    ensures { IfOk result (λ objects. AreNamedObjects (F.known files.now) (search_view search.entry) (found_view program)
-        (map entry_view objects.items)) }
+) -> Result<LoadOrder, AllocError>
+    ensures { IfOk result (λ order. AreNamedObjects (F.known files.now) (search_view search.entry) (found_view program)
+        (order_view order)) }
 {
     files.has_libraries();
     let opener = NamedLibraries { files };
@@ -158,11 +158,11 @@ fn opened_objects<L: Libraries, O: Opener>(
     libraries: &L,
     opener: &O,
     program: LoadedFile,
-) -> Result<Vec<Object>, AllocError>
-    ensures { IfOk result (λ objects. (opened : (List ℕ → Option (List ℕ)) → List ℕ → Option Found)
+) -> Result<LoadOrder, AllocError>
+    ensures { IfOk result (λ order. (opened : (List ℕ → Option (List ℕ)) → List ℕ → Option Found)
         → O.opened opener.now ≡ option_map opened (L.contents libraries.now)
         → AreOpened opened (L.contents libraries.now) (search_view search.entry) (found_view program)
-        (map entry_view objects.items)) }
+        (order_view order)) }
 {
     let library_path = library_path(alloc, search.folders)?;
     let usual_folders = usual_folders(alloc, program.kind)?;
@@ -174,6 +174,7 @@ fn opened_objects<L: Libraries, O: Opener>(
         platform: platform_of(program.kind),
         cache: cache.as_ref(),
         flags: LibraryFlags::of(program.kind.machine, program.kind.class),
+        listed_folders: &[],
         usual_folders: usual_folders.as_slice(),
     };
     load_order(alloc, opener, &surroundings, program)

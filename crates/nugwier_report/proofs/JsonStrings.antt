@@ -4,15 +4,15 @@ use Rattle.std.proofs.lemmas.Bool.{ne_eqb}
 use Rattle.std.proofs.lemmas.Bool.Decides.{nat_tests}
 use Rattle.std.proofs.lemmas.List.{append-nil}
 use Rattle.std.proofs.lemmas.Str.{IsUtf8-from_is_utf8, chars-nil, chars_past_char, encode_ascii, encodes-append, is_utf8-from_IsUtf8}
-use Rattle.std.specs.Prelude.{codes}
 use Rattle.std.specs.Char.{encode_utf8}
+use Rattle.std.specs.Char.Escape.{encode_utf16}
 use Rattle.std.specs.Fmt.{digit_glyph}
 use Rattle.std.specs.List.{flat_map}
 use Rattle.std.specs.Str.{IsUtf8, chars, encode_utf8_all, is_utf8}
 use Rattle.elfshow_lines.specs.Adding.{Adds}
 use Rattle.elfshow_lines.specs.Pieces.{hex_of, hex_pair}
 use Rattle.elfshow_lines.proofs.Adding.{Leads, adds_more}
-use Rattle.nugwier_report.specs.Json.{bytes_value, escape, spelled, stands_for_itself, string_value, text_value}
+use Rattle.nugwier_report.specs.Json.{bytes_value, escape, spelled, stands_for_itself, string_value, text_value, unit_escape}
 
 -- the text of the characters of a string
 abbrev pub inner_text : List ℕ → List ℕ
@@ -70,21 +70,25 @@ pair_ascii b rest l others =
 abbrev pub digits_of : ℕ → List ℕ
 digits_of c = hex_of (c / 256 % 256 ∷ c % 256 ∷ [])
 
-long_ascii : (c : ℕ) → encode_utf8_all (codes "\\u" ++ digits_of c) ≡ codes "\\u" ++ digits_of c
-long_ascii c =
-    ascii_one 0x5c (0x75 ∷ digits_of c) (omega arith) (ascii_one 0x75 (digits_of c) (omega arith)
-    (pair_ascii (c / 256 % 256) (hex_pair (c % 256) ++ []) (omega arith) (pair_ascii (c % 256) [] (omega arith) refl)))
+unit_ascii : (u : ℕ) (rest : List ℕ) → encode_utf8_all rest ≡ rest → encode_utf8_all (unit_escape u ++ rest) ≡ unit_escape u ++ rest
+unit_ascii u rest others =
+    ascii_one 0x5c (0x75 ∷ digits_of u ++ rest) (omega arith) (ascii_one 0x75 (digits_of u ++ rest) (omega arith)
+    (pair_ascii (u / 256 % 256) (hex_pair (u % 256) ++ rest) (omega arith) (pair_ascii (u % 256) rest (omega arith) others)))
+
+units_ascii : (us : List ℕ) → encode_utf8_all (flat_map unit_escape us) ≡ flat_map unit_escape us
+units_ascii [] = refl
+units_ascii (u ∷ us) = unit_ascii u (flat_map unit_escape us) (units_ascii us)
 
 escape_by : (b : Bool) (c : ℕ) → (c == 0x22 || c == 0x5c) ≡ b → encode_utf8_all (escape c) ≡ escape c
 unfolding escape
 escape_by true c is = rw is (short_ascii c is)
-escape_by false c is = rw is (long_ascii c)
+escape_by false c is = rw is (units_ascii (encode_utf16 c))
 
 -- an escape has characters of ASCII alone
 pub escape_ascii : (c : ℕ) → encode_utf8_all (escape c) ≡ escape c
 escape_ascii c = escape_by (c == 0x22 || c == 0x5c) c refl
 
-pub escape_other : (c : ℕ) → (c ≡ 0x22 → ⊥) → (c ≡ 0x5c → ⊥) → codes "\\u" ++ digits_of c ≡ escape c
+pub escape_other : (c : ℕ) → (c ≡ 0x22 → ⊥) → (c ≡ 0x5c → ⊥) → flat_map unit_escape (encode_utf16 c) ≡ escape c
 unfolding escape
 escape_other c quote backslash = rw (ne_eqb c 0x22 quote, ne_eqb c 0x5c backslash) refl
 

@@ -1,27 +1,35 @@
 -- What is said of dynamic entries (gABI, chapter "Dynamic Section").
 use Rattle.std.specs.Prelude.{ℕ, is_some, if◌then◌else◌, List, [], ◌∷◌, ◌++◌, Option, Some, None, Result, codes}
-use Rattle.std.specs.Ordering.{int_eq}
 use Rattle.std.specs.Result.{result_ok}
-use Rattle.elf_abi.specs.DynamicNames.{d_tag_names}
-use Rattle.elf_abi.specs.Names.{name_of}
 use Rattle.elf_abi.specs.Values.{dt_needed, dt_rpath, dt_runpath, dt_soname}
+use Rattle.elf_names.specs.Flags.{dynamic_flags, dynamic_flags_1}
+use Rattle.elf_names.specs.Tags.{dt_flags, dt_flags_1, tag_name}
 use Rattle.elf_records.specs.Dynamic.{d_un_view, has_tag}
 use Rattle.elf_records.specs.StringTable.{string_at}
 use Rattle.elf_records.specs.declared.dynamic.Dyn.{Dyn}
 use Rattle.elf_records.specs.declared.parse.ParseError.{ParseError}
-use Rattle.nugwier_report.specs.Said.{Members, Said, number, said_if, signed, states, text, unread, word}
+use Rattle.nugwier_report.specs.Said.{Content, Members, Said, flags, nothing, number, said_if, signed, states}
+use Rattle.nugwier_report.specs.Said.{text, unread, word}
 use Rattle.nugwier_report.specs.declared.kind.Kind.{Kind}
 use Rattle.nugwier_report.specs.declared.kind.Kind.TheVariants as kind
 use Rattle.nugwier_report.specs.declared.problem.Item.TheVariants.{EntryName}
 use Rattle.nugwier_report.specs.declared.problem.Part.TheVariants.{Dynamic}
 
--- entry i, with the string that it names
-abbrev pub entry_members : ℕ → Dyn → Option (List ℕ) → Members
-entry_members i entry name =
+-- the flags of DT_FLAGS and DT_FLAGS_1
+abbrev pub flags_in : Dyn → Content
+flags_in entry =
+    if has_tag dt_flags entry then flags dynamic_flags (d_un_view entry)
+    else if has_tag dt_flags_1 entry then flags dynamic_flags_1 (d_un_view entry)
+    else nothing
+
+-- entry i of a file for this machine, with the string that it names
+abbrev pub entry_members : ℕ → ℕ → Dyn → Option (List ℕ) → Members
+entry_members machine i entry name =
     (codes "index", number i)
     ∷ (codes "d_tag", signed entry.d_tag)
-    ∷ (codes "d_tag_name", word (name_of int_eq d_tag_names entry.d_tag))
+    ∷ (codes "d_tag_name", word (tag_name machine entry.d_tag))
     ∷ (codes "d_un", number (d_un_view entry))
+    ∷ (codes "d_un_names", flags_in entry)
     ∷ (codes "name", text name)
     ∷ []
 
@@ -39,20 +47,28 @@ abbrev pub entry_string : List ℕ → Dyn → Result (List ℕ) ParseError
 entry_string strings entry = string_at strings (d_un_view entry)
 
 -- that its string cannot be read, then the entry with it
-abbrev pub named_said : Kind → List ℕ → ℕ → Dyn → List Said
-named_said kind strings i entry =
+abbrev pub named_said : Kind → ℕ → List ℕ → ℕ → Dyn → List Said
+named_said kind machine strings i entry =
     unread (record { part = Dynamic; item = EntryName i }) (entry_string strings entry)
-    ++ states kind (entry_members i entry (result_ok (entry_string strings entry))) ∷ []
+    ++ states kind (entry_members machine i entry (result_ok (entry_string strings entry))) ∷ []
 
-abbrev pub nameless_said : ℕ → Dyn → List Said
-nameless_said i entry = states kind.Entry (entry_members i entry None) ∷ []
+-- how an entry that names no string is shown
+abbrev pub nameless_kind : Dyn → Kind
+nameless_kind entry =
+    if has_tag dt_flags entry then kind.FlagsEntry
+    else if has_tag dt_flags_1 entry then kind.Flags1Entry
+    else kind.Entry
+
+abbrev pub nameless_said : ℕ → ℕ → Dyn → List Said
+nameless_said machine i entry = states (nameless_kind entry) (entry_members machine i entry None) ∷ []
 
 -- an entry, with its string if it names one and if there are strings
-abbrev pub entry_said : Option (List ℕ) → ℕ → Dyn → List Said
-entry_said None i entry = nameless_said i entry
-entry_said (Some strings) i entry =
-    if is_some (needed_kind entry) then named_said kind.NamedEntry strings i entry else nameless_said i entry
+abbrev pub entry_said : ℕ → Option (List ℕ) → ℕ → Dyn → List Said
+entry_said machine None i entry = nameless_said machine i entry
+entry_said machine (Some strings) i entry =
+    if is_some (needed_kind entry) then named_said kind.NamedEntry machine strings i entry
+    else nameless_said machine i entry
 
 -- such an entry; nothing is said of others
-abbrev pub needed_said : List ℕ → ℕ → Dyn → List Said
-needed_said strings i entry = said_if (λ kind. named_said kind strings i entry) (needed_kind entry)
+abbrev pub needed_said : ℕ → List ℕ → ℕ → Dyn → List Said
+needed_said machine strings i entry = said_if (λ kind. named_said kind machine strings i entry) (needed_kind entry)

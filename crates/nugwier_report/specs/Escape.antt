@@ -1,19 +1,22 @@
 -- Names of a file as text for a terminal: which characters are shown as they are, and how the others are.
-use Rattle.std.specs.Prelude.{ℕ, ◌==◌, ◌||◌, ◌&&◌, not, Bool, nat_lt, if◌then◌else◌, List, [], ◌∷◌, codes}
+use Rattle.std.specs.Prelude.{ℕ, ◌==◌, ◌&&◌, not, Bool, if◌then◌else◌, List, [], ◌∷◌, codes}
+use Rattle.std.specs.Char.{is_ascii}
 use Rattle.std.specs.Int.{is_in_range}
-use Rattle.std.specs.List.{flat_map}
+use Rattle.std.specs.List.{flat_map, list_any}
 use Rattle.std.specs.Str.{chars, encode_utf8_all, is_utf8}
 use Rattle.elfshow_lines.specs.Pieces.{◌⧺◌, hex_of}
+use Rattle.nugwier_report.specs.declared.escape.TheConstants.{HIDDEN}
 
--- a terminal obeys it (Unicode, control characters), does not show it, or turns the direction of writing; or it begins
--- an escape (the backslash, 5c)
+-- the characters of ASCII that are shown, except for the backslash, which begins an escape
+abbrev pub is_plain : ℕ → Bool
+is_plain b = is_in_range 0x20 0x7e b && not (b == 0x5c)
+
+-- beyond ASCII: a terminal obeys it, does not show it, or turns the direction of writing
 abbrev pub is_hidden : ℕ → Bool
-is_hidden c =
-    nat_lt c 0x20 || c == 0x5c || is_in_range 0x7f 0x9f c || c == 0xad || c == 0x61c || c == 0xfeff
-    || is_in_range 0x200b 0x200f c || is_in_range 0x2028 0x202e c || is_in_range 0x2060 0x206f c
+is_hidden c = list_any (λ range. is_in_range range.0 range.1 c) HIDDEN.now
 
 abbrev pub is_shown : ℕ → Bool
-is_shown c = not (is_hidden c)
+is_shown c = if is_ascii c then is_plain c else not (is_hidden c)
 
 -- `\x` and two digits
 abbrev pub escaped_byte : ℕ → List ℕ
@@ -23,10 +26,6 @@ escaped_byte b = codes "\\x" ⧺ hex_of (b ∷ [])
 unfoldable pub shown_character : ℕ → List ℕ
 shown_character c =
     if is_shown c then encode_utf8_all (c ∷ []) else flat_map escaped_byte (encode_utf8_all (c ∷ []))
-
--- the characters of ASCII that are shown, except for the backslash
-abbrev pub is_plain : ℕ → Bool
-is_plain b = is_in_range 0x20 0x7e b && not (b == 0x5c)
 
 abbrev pub shown_byte : ℕ → List ℕ
 shown_byte b = if is_plain b then b ∷ [] else escaped_byte b

@@ -4,10 +4,11 @@ use Rattle.elf_abi.specs.HeaderNames.{e_osabi_names, e_type_names}
 use Rattle.elf_abi.specs.MachineNames.{e_machine_names}
 use Rattle.elf_abi.specs.Names.{name_of}
 use Rattle.elf_abi.specs.Values.{elfclass32, elfclass64, elfdata2lsb, elfdata2msb}
+use Rattle.elf_names.specs.Flags.{file_flags}
 use Rattle.elf_records.specs.declared.file.Class.{Class}
 use Rattle.elf_records.specs.declared.file.Class.TheVariants.{ELF32, ELF64}
 use Rattle.elf_records.specs.declared.file.FileHeader.{FileHeader}
-use Rattle.nugwier_report.specs.Said.{Members, Said, number, states, word}
+use Rattle.nugwier_report.specs.Said.{Members, Said, flags, number, states, word}
 use Rattle.nugwier_report.specs.declared.kind.Kind.TheVariants as kind
 
 -- ---- names
@@ -48,6 +49,7 @@ header_members little h =
     ∷ (codes "e_phoff", number h.e_phoff)
     ∷ (codes "e_shoff", number h.e_shoff)
     ∷ (codes "e_flags", number h.e_flags)
+    ∷ (codes "e_flags_names", flags (file_flags h.e_machine) h.e_flags)
     ∷ (codes "e_ehsize", number h.e_ehsize)
     ∷ (codes "e_phentsize", number h.e_phentsize)
     ∷ (codes "e_phnum", number h.e_phnum)

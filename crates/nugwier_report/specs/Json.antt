@@ -1,12 +1,14 @@
 -- Records as objects of JSON, one a line (RFC 8259).
 use Rattle.std.specs.Prelude.{ℕ, ◌/◌, ◌%◌, ◌==◌, ◌&&◌, ◌||◌, not, Bool, true, false, if◌then◌else◌}
 use Rattle.std.specs.Prelude.{List, ◌∷◌, [], Some, codes}
+use Rattle.std.specs.Char.Escape.{encode_utf16}
 use Rattle.std.specs.Fmt.{decimal, signed_decimal}
 use Rattle.std.specs.List.{flat_map}
 use Rattle.std.specs.Str.{chars, encode_utf8_all, is_utf8}
+use Rattle.elf_names.specs.Flags.{Flag, is_set}
 use Rattle.elfshow_lines.specs.Pieces.{◌⧺◌, hex_of}
 use Rattle.nugwier_report.specs.Escape.{is_shown}
-use Rattle.nugwier_report.specs.Said.{Content, Members, bytes, character, flag, number, signed, text, word}
+use Rattle.nugwier_report.specs.Said.{Content, Members, bytes, character, flag, flags, number, signed, text, word}
 
 -- ---- strings (section 7)
 
@@ -14,11 +16,13 @@ use Rattle.nugwier_report.specs.Said.{Content, Members, bytes, character, flag, 
 unfoldable pub stands_for_itself : ℕ → Bool
 stands_for_itself c = is_shown c && not (c == 0x22)
 
--- of the quotation mark and the backslash a backslash before it, else `\u` and four digits
+-- `\u` and four digits
+abbrev pub unit_escape : ℕ → List ℕ
+unit_escape u = codes "\\u" ⧺ hex_of (u / 256 % 256 ∷ u % 256 ∷ [])
+
+-- of the quotation mark and the backslash a backslash before it, else each of its units in UTF-16
 unfoldable pub escape : ℕ → List ℕ
-escape c =
-    if c == 0x22 || c == 0x5c then 0x5c ∷ c ∷ []
-    else codes "\\u" ⧺ hex_of (c / 256 % 256 ∷ c % 256 ∷ [])
+escape c = if c == 0x22 || c == 0x5c then 0x5c ∷ c ∷ [] else flat_map unit_escape (encode_utf16 c)
 
 unfoldable pub spelled : ℕ → List ℕ
 spelled c = if stands_for_itself c then c ∷ [] else escape c
@@ -41,6 +45,18 @@ character_value c = codes "\":\"" ⧺ encode_utf8_all (spelled c) ⧺ codes "\""
 abbrev pub bytes_value : List ℕ → List ℕ
 bytes_value b = codes "_hex\":\"" ⧺ hex_of b ⧺ codes "\""
 
+-- the name of a flag that is set: the first one, or one after others
+abbrev pub flag_name : Bool → ℕ → Flag → List ℕ
+flag_name is_first n f = if is_set n f then (if is_first then [] else codes ",") ⧺ json_string f.2 else []
+
+abbrev pub flag_names : Bool → ℕ → List Flag → List ℕ
+flag_names is_first n [] = []
+flag_names is_first n (f ∷ fs) = flag_name is_first n f ⧺ flag_names (is_first && not (is_set n f)) n fs
+
+-- an array of the names of the flags that are set (section 5)
+abbrev pub flags_value : List Flag → ℕ → List ℕ
+flags_value table n = codes "\":[" ⧺ flag_names true n table ⧺ codes "]"
+
 -- a text in UTF-8 as a string, any other as its bytes
 abbrev pub text_value : List ℕ → List ℕ
 text_value t = if is_utf8 t then string_value t else bytes_value t
@@ -54,6 +70,7 @@ after_key (word (Some w)) = string_value w
 after_key (character (Some c)) = character_value c
 after_key (text (Some t)) = text_value t
 after_key (bytes b) = bytes_value b
+after_key (flags table n) = flags_value table n
 after_key _ = codes "\":null"
 
 -- a member after others: its key, which needs no escapes, and its value

@@ -45,6 +45,11 @@ abbrev pub label_at : Named → Option ℕ → Option (ℕ × List ℕ)
 label_at named None = None
 label_at named (Some k) = option_map (λ s. (k, label_name named.names s)) (slice_get named.sections k)
 
+-- the name of a section; empty if there is none
+abbrev pub section_name : Option (ℕ × List ℕ) → List ℕ
+section_name (Some label) = label.1
+section_name None = []
+
 -- of the section that a part is in
 abbrev pub label_of : Named → Part → Option (ℕ × List ℕ)
 label_of named part = label_at named (number_of named.sections part)

@@ -5,6 +5,8 @@ pub mod Json
 pub mod JsonReading
 -- what is said of a file
 pub mod Said
+-- files that are no ELF files
+pub mod Formats
 -- the kinds of records
 pub mod Kinds
 -- what the code says, as what is said

@@ -2,8 +2,9 @@
 use Rattle.std.specs.Prelude.{ℕ, List, map}
 use Rattle.std.specs.Borrow.{Bor}
 use Rattle.std.specs.Option.{option_copied}
-use Rattle.nugwier_report.specs.Said.{Content, Members, Said, bytes, character, flag, nothing, number, signed, states}
-use Rattle.nugwier_report.specs.Said.{text, word, wrong}
+use Rattle.elf_names.specs.Flags.{flags_of}
+use Rattle.nugwier_report.specs.Said.{Content, Members, Said, bytes, character, flag, flags, nothing, number, signed}
+use Rattle.nugwier_report.specs.Said.{states, text, word, wrong}
 use Rattle.nugwier_report.specs.declared.log.Note.{Note}
 use Rattle.nugwier_report.specs.declared.log.Note.TheVariants as note
 use Rattle.nugwier_report.specs.declared.json.Value.{Value}
@@ -18,6 +19,7 @@ content_of (value.Word w) = word (option_copied w)
 content_of (value.Character c) = character c
 content_of (value.Text t) = text (option_copied t)
 content_of (value.Bytes b) = bytes b.now
+content_of (value.Flags table n) = flags (flags_of table.now) n
 
 abbrev pub member_said : Bor (List ℕ) × Value → List ℕ × Content
 member_said m = (m.0.now, content_of m.1)

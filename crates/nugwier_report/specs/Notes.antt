@@ -5,10 +5,11 @@ use Rattle.std.specs.Cmp.Lexicographic.{pointwise}
 use Rattle.elf_abi.specs.Names.{name_of}
 use Rattle.elf_abi.specs.NoteNames.{note_abi_tag_os_names}
 use Rattle.elf_abi.specs.Values.{nt_gnu_abi_tag, nt_gnu_build_id}
+use Rattle.elf_names.specs.Notes.{note_type_name}
 use Rattle.elf_parts.specs.Note.{AbiTag, BuildId, NoteContent, Other}
 use Rattle.elf_parts.specs.declared.note.NoteGnuAbiTag.{NoteGnuAbiTag}
 use Rattle.nugwier_report.specs.Parts.{part_member}
-use Rattle.nugwier_report.specs.Said.{Members, Said, bytes, nothing, number, numbered, states, text, word}
+use Rattle.nugwier_report.specs.Said.{Members, Said, bytes, number, numbered, states, text, word}
 use Rattle.nugwier_report.specs.declared.kind.Kind.TheVariants as kind
 use Rattle.nugwier_report.specs.declared.problem.Part.{Part}
 
@@ -49,7 +50,7 @@ other_members part i n_type name descriptor =
     part_member part
     ∷ (codes "index", number i)
     ∷ (codes "n_type", number n_type)
-    ∷ (codes "n_type_name", nothing)
+    ∷ (codes "n_type_name", word (note_type_name (without_nul name) n_type))
     ∷ (codes "name", text (Some (without_nul name)))
     ∷ (codes "desc", bytes descriptor)
     ∷ []

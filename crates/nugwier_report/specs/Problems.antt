@@ -95,6 +95,8 @@ symbol_text q = symbol_parts q.name q.version
 -- what is told of a fault. The error of the system has its own text, which is not stated: None
 abbrev pub fault_text : Fault → Option (List ℕ)
 fault_text (fault.Read e) = read_text e
+fault_text fault.NotElf = words (codes "not an ELF file")
+fault_text (fault.OtherFormat name) = words (codes "not an ELF file (") ++? quoted name ++? words (codes ")")
 fault_text (fault.Linked e) = linked_text e
 fault_text (fault.System e) = None
 fault_text fault.Missing = words (codes "the file has none")
@@ -112,9 +114,6 @@ fault_text (fault.NotFound name path) =
 fault_text (fault.Names path e) = words (codes "names of ") ++? quoted path ++? words (codes ": ") ++? names_text e
 fault_text (fault.Object path f) = words (codes "symbols of ") ++? quoted path ++? words (codes ": ") ++? object_text f
 fault_text (fault.NoHash path) = words (codes "symbols of ") ++? quoted path ++? words (codes ": no hash section")
-fault_text (fault.Filter path) =
-    words (codes "symbols of ") ++? quoted path
-    ++? words (codes ": its filter libraries (DT_FILTER, DT_AUXILIARY) are not searched")
 fault_text (fault.Relocations path e) =
     words (codes "relocations of ") ++? quoted path ++? words (codes ": ") ++? uses_text e
 fault_text (fault.MissingSymbol path q) =

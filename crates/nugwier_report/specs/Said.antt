@@ -1,6 +1,7 @@
 -- What nugwier says of a file: records with their members, and problems with their places.
 use Rattle.std.specs.Prelude.{ℕ, ◌+◌, ℤ, Bool, true, false, ◌&&◌, List, [], ◌∷◌, ◌++◌, Option, Some, None, Result, Ok}
 use Rattle.std.specs.Prelude.{Err}
+use Rattle.elf_names.specs.Flags.{Flag}
 use Rattle.elf_records.specs.declared.parse.ParseError.{ParseError}
 use Rattle.nugwier_report.specs.Labels.{Named}
 use Rattle.nugwier_report.specs.declared.kind.Kind.{Kind}
@@ -20,6 +21,7 @@ pub data Content : Type 0 where
   character : Option ℕ → Content
   text : Option (List ℕ) → Content
   bytes : List ℕ → Content
+  flags : List Flag → ℕ → Content
 
 -- the members of a record, each with its key
 abbrev pub Members : Type 0
@@ -43,7 +45,7 @@ unread place (Err e) = wrong place (Read e) ∷ []
 -- ---- lists
 
 -- of items that are numbered from k
-abbrev pub numbered : {X : Type 0} → (ℕ → X → List Said) → ℕ → List X → List Said
+abbrev pub numbered : {X Y : Type 0} → (ℕ → X → List Y) → ℕ → List X → List Y
 numbered said k [] = []
 numbered said k (x ∷ xs) = said k x ++ numbered said (k + 1) xs
 

@@ -1,24 +1,25 @@
 -- What is said of sections (gABI, chapter "Sections").
-use Rattle.std.specs.Prelude.{ℕ, List, [], ◌∷◌, ◌++◌, Option, Some, None, codes, nat_eq}
+use Rattle.std.specs.Prelude.{ℕ, List, [], ◌∷◌, ◌++◌, Option, Some, None, codes}
 use Rattle.std.specs.Result.{result_ok}
-use Rattle.elf_abi.specs.Names.{name_of}
-use Rattle.elf_abi.specs.SectionNames.{sh_type_names}
+use Rattle.elf_names.specs.Flags.{section_flags}
+use Rattle.elf_names.specs.Sections.{section_type_name}
 use Rattle.elf_records.specs.StringTable.{string_at}
 use Rattle.elf_records.specs.declared.section.SectionHeader.{SectionHeader}
-use Rattle.nugwier_report.specs.Said.{Members, Said, number, states, text, unread, word}
+use Rattle.nugwier_report.specs.Said.{Members, Said, flags, number, states, text, unread, word}
 use Rattle.nugwier_report.specs.declared.kind.Kind.TheVariants as kind
 use Rattle.nugwier_report.specs.declared.problem.Item.TheVariants.{Name}
 use Rattle.nugwier_report.specs.declared.problem.Part.TheVariants.{Section}
 
--- section i, with this name
-abbrev pub section_members : ℕ → SectionHeader → Option (List ℕ) → Members
-section_members i s name =
+-- section i of a file for this machine, with this name
+abbrev pub section_members : ℕ → ℕ → SectionHeader → Option (List ℕ) → Members
+section_members machine i s name =
     (codes "index", number i)
     ∷ (codes "sh_name", number s.sh_name)
     ∷ (codes "name", text name)
     ∷ (codes "sh_type", number s.sh_type)
-    ∷ (codes "sh_type_name", word (name_of nat_eq sh_type_names s.sh_type))
+    ∷ (codes "sh_type_name", word (section_type_name machine s.sh_type))
     ∷ (codes "sh_flags", number s.sh_flags)
+    ∷ (codes "sh_flags_names", flags section_flags s.sh_flags)
     ∷ (codes "sh_addr", number s.sh_addr)
     ∷ (codes "sh_offset", number s.sh_offset)
     ∷ (codes "sh_size", number s.sh_size)
@@ -38,5 +39,6 @@ name_unread None i s = []
 name_unread (Some names) i s = unread (record { part = Section i; item = Name }) (string_at names s.sh_name)
 
 -- that its name cannot be read, then the section
-abbrev pub section_said : Option (List ℕ) → ℕ → SectionHeader → List Said
-section_said names i s = name_unread names i s ++ states kind.Section (section_members i s (name_read names s)) ∷ []
+abbrev pub section_said : ℕ → Option (List ℕ) → ℕ → SectionHeader → List Said
+section_said machine names i s =
+    name_unread names i s ++ states kind.Section (section_members machine i s (name_read names s)) ∷ []

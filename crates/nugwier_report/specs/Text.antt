@@ -7,9 +7,11 @@ use Rattle.std.specs.Int.{div_ceil, to_be_bytes, w32, w64}
 use Rattle.std.specs.List.{after_first, before_first, flat_map, slice_get}
 use Rattle.std.specs.Str.{encode_utf8_all}
 use Rattle.elf_abi.specs.Values.{elfdata2lsb}
+use Rattle.elf_names.specs.Flags.{Flag, is_set}
 use Rattle.elfshow_lines.specs.Pieces.{◌⧺◌, hex, hex_of, newline}
 use Rattle.nugwier_report.specs.Escape.{shown_bytes}
-use Rattle.nugwier_report.specs.Said.{Content, Members, bytes, character, flag, nothing, number, signed, text, word}
+use Rattle.nugwier_report.specs.Said.{Content, Members, bytes, character, flag, flags, nothing, number, signed, text}
+use Rattle.nugwier_report.specs.Said.{word}
 use Rattle.nugwier_report.specs.declared.text.Column.{Column}
 use Rattle.nugwier_report.specs.declared.text.Shown.{Shown}
 use Rattle.nugwier_report.specs.declared.text.Shown.TheVariants as shows
@@ -62,13 +64,21 @@ abbrev pub shown_number : Shown → Content → List ℕ
 shown_number form (number n) = number_text form n
 shown_number form _ = codes "-"
 
-abbrev pub with_sign : ℤ → List ℕ
-with_sign (pos n) = codes "+" ⧺ decimal n
-with_sign (negsuc n) = codes "-" ⧺ decimal (suc n)
+-- in hexadecimal, with this before it if it is not negative
+abbrev pub signed_hex : List ℕ → ℤ → List ℕ
+signed_hex plus (pos n) = plus ⧺ hex n
+signed_hex plus (negsuc n) = codes "-" ⧺ hex (suc n)
 
-abbrev pub shown_signed : Content → List ℕ
-shown_signed (signed n) = with_sign n
-shown_signed _ = codes "-"
+-- an addend after a symbol: nothing if it is 0
+abbrev pub after_symbol : ℤ → List ℕ
+after_symbol (pos zero) = []
+after_symbol n = signed_hex (codes "+") n
+
+-- symbol 0 is none
+abbrev pub shown_addend : Content → Content → List ℕ
+shown_addend (signed n) (number zero) = signed_hex [] n
+shown_addend (signed n) symbol = after_symbol n
+shown_addend addend symbol = []
 
 -- ---- names
 
@@ -99,11 +109,27 @@ abbrev pub shown_index : ℕ → Content → Content → List ℕ
 shown_index width (word (Some name)) n = right_of width (drop 4 name)
 shown_index width _ n = shown_number (shows.Decimal width) n
 
+-- a flag that is set, without the first bytes of its name
+abbrev pub shown_flag : ℕ → ℕ → Flag → List ℕ
+shown_flag count n f = if is_set n f then codes " " ⧺ shown_bytes (drop count f.2) else []
+
+abbrev pub shown_flags : ℕ → Content → List ℕ
+shown_flags count (flags table n) = flat_map (shown_flag count n) table
+shown_flags count _ = []
+
 -- ---- texts of the file
 
+-- that a value is, if it could be read
+abbrev pub text_in : Content → Option (List ℕ)
+text_in (text t) = t
+text_in _ = None
+
+abbrev pub text_or_mark : Option (List ℕ) → List ℕ
+text_or_mark (Some t) = shown_bytes t
+text_or_mark None = codes "<unreadable>"
+
 abbrev pub shown_text : Content → List ℕ
-shown_text (text (Some t)) = shown_bytes t
-shown_text _ = codes "<unreadable>"
+shown_text c = text_or_mark (text_in c)
 
 abbrev pub at_signs : Content → List ℕ
 at_signs (flag true) = codes "@@"
@@ -167,12 +193,13 @@ abbrev pub content_at : Members → ℕ → Content
 content_at members place = content_of_one (slice_get members place)
 
 abbrev pub shown : Shown → Content → Members → List ℕ
-shown shows.Signed c members = shown_signed c
+shown (shows.Addend symbol) c members = shown_addend c (content_at members symbol)
 shown (shows.Name width n) c members = shown_name width c (content_at members n)
 shown (shows.Rest count) c members = shown_rest count c
 shown (shows.Index width n) c members = shown_index width c (content_at members n)
 shown shows.Text c members = shown_text c
 shown (shows.Version place) c members = shown_version c (content_at members place)
+shown (shows.Flags count) c members = shown_flags count c
 shown shows.Character c members = shown_character c
 shown shows.Pairs c members = hex_of (bytes_in c)
 shown shows.Dump c members = dump (bytes_in c)

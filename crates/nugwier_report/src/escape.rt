@@ -4,7 +4,7 @@ ghost use Rattle.std.specs.Fmt.{WritesOnOk, digit_glyph};
 ghost use Rattle.std.specs.List.{flat_map};
 ghost use Rattle.std.specs.Str.{chars};
 ghost use Rattle.elfshow_lines.specs.Adding.{Adds};
-ghost use Rattle.nugwier_report.specs.Escape.{escaped_byte, is_plain, is_shown, shown_byte, shown_bytes};
+ghost use Rattle.nugwier_report.specs.Escape.{escaped_byte, is_hidden, is_plain, is_shown, shown_byte, shown_bytes};
 ghost use Rattle.nugwier_report.specs.Escape.{shown_character};
 
 use elfshow_lines::line_buffer::LineBuffer;
@@ -100,17 +100,56 @@ fn is_plain(byte: u8) -> bool
     (b' '..=b'~').contains(&byte) && byte != b'\\'
 }
 
+/// The characters beyond ASCII that are not shown as they are, first and last of each range: those that control a
+/// terminal or the format of a text, or end a line (the general categories Cc, Cf, Zl and Zp), and those that
+/// are not displayed (Default_Ignorable_Code_Point). These are all of Unicode 18.0.
+pub const HIDDEN: &[(char, char)] = &[
+    ('\u{80}', '\u{9f}'),
+    ('\u{ad}', '\u{ad}'),
+    ('\u{34f}', '\u{34f}'),
+    ('\u{600}', '\u{605}'),
+    ('\u{61c}', '\u{61c}'),
+    ('\u{6dd}', '\u{6dd}'),
+    ('\u{70f}', '\u{70f}'),
+    ('\u{890}', '\u{891}'),
+    ('\u{8e2}', '\u{8e2}'),
+    ('\u{115f}', '\u{1160}'),
+    ('\u{17b4}', '\u{17b5}'),
+    ('\u{180b}', '\u{180f}'),
+    ('\u{200b}', '\u{200f}'),
+    ('\u{2028}', '\u{202e}'),
+    ('\u{2060}', '\u{206f}'),
+    ('\u{3164}', '\u{3164}'),
+    ('\u{fe00}', '\u{fe0f}'),
+    ('\u{feff}', '\u{feff}'),
+    ('\u{ffa0}', '\u{ffa0}'),
+    ('\u{fff0}', '\u{fffb}'),
+    ('\u{110bd}', '\u{110bd}'),
+    ('\u{110cd}', '\u{110cd}'),
+    ('\u{13430}', '\u{1343f}'),
+    ('\u{1bca0}', '\u{1bca3}'),
+    ('\u{1d173}', '\u{1d17a}'),
+    ('\u{e0000}', '\u{e0fff}'),
+];
+
 /// Whether a character is shown as it is: none that controls a terminal, or that is invisible or turns the direction of
 /// writing, so that a name could look like another one.
 pub(crate) fn is_shown(character: char) -> bool
     ensures { result ≡ is_shown character }
 {
-    match character {
-        '\0'..='\u{1f}' | '\\' | '\u{7f}'..='\u{9f}' => false,
-        '\u{ad}' | '\u{61c}' | '\u{feff}' => false,
-        '\u{200b}'..='\u{200f}' | '\u{2028}'..='\u{202e}' | '\u{2060}'..='\u{206f}' => false,
-        _ => true,
+    if character.is_ascii() {
+        is_plain(character as u8)
+    } else {
+        !is_hidden(character)
     }
+}
+
+fn is_hidden(character: char) -> bool
+    ensures { result ≡ is_hidden character }
+{
+    HIDDEN
+        .iter()
+        .any(|range| range.0 <= character && character <= range.1)
 }
 
 /// Adds bytes as text for people, in the manner of `Escaped`.

@@ -10,6 +10,7 @@ use crate::kind::Kind;
 use crate::problem::Stop;
 use crate::report::Report;
 use elf_abi::{abi, to_str};
+use elf_names::flags::file_flags;
 use elf_parts::endian::EndianParse;
 use elf_parts::file::{Class, FileHeader};
 use std::io::Write;
@@ -25,7 +26,7 @@ pub fn say_header<E: EndianParse, W: Write, V: Write>(
 }
 
 #[tactic(auto, unfolding(crate::specs::Header::header_members))]
-fn header_members<E: EndianParse>(header: &FileHeader<E>) -> [Member<'static>; 22]
+fn header_members<E: EndianParse>(header: &FileHeader<E>) -> [Member<'static>; 23]
     ensures { members_said result ≡ header_members E.little header.now }
 {
     let (class, class_name) = class_parts(header.class);
@@ -56,6 +57,10 @@ fn header_members<E: EndianParse>(header: &FileHeader<E>) -> [Member<'static>; 2
         ("e_phoff", Value::Number(header.e_phoff)),
         ("e_shoff", Value::Number(header.e_shoff)),
         ("e_flags", Value::Number(header.e_flags as u64)),
+        (
+            "e_flags_names",
+            Value::Flags(file_flags(header.e_machine), header.e_flags as u64),
+        ),
         ("e_ehsize", Value::Number(header.e_ehsize as u64)),
         ("e_phentsize", Value::Number(header.e_phentsize as u64)),
         ("e_phnum", Value::Number(header.e_phnum as u64)),

@@ -1,17 +1,21 @@
 //! Records as objects of JSON, one a line (RFC 8259).
-ghost use Rattle.std.specs.Prelude.{◌≡◌, Some, OnOk};
+ghost use Rattle.std.specs.Prelude.{◌≡◌, true, Some, OnOk};
 ghost use Rattle.std.specs.Io.KnownBytes.{Appends};
 ghost use Rattle.std.specs.List.{flat_map};
 ghost use Rattle.std.specs.Str.{chars, encode_utf8_all};
+ghost use Rattle.elf_names.specs.Flags.{flag_of, flags_of};
 ghost use Rattle.elfshow_lines.specs.Adding.{Adds};
-ghost use Rattle.nugwier_report.specs.Json.{after_key, bytes_value, character_value, escape, front, json_string};
+ghost use Rattle.nugwier_report.specs.Json.{after_key, bytes_value, character_value, escape, flag_name, flag_names};
+ghost use Rattle.nugwier_report.specs.Json.{flags_value, front, json_string};
 ghost use Rattle.nugwier_report.specs.Json.{member_text, object, spelled, stands_for_itself, string_value, text_value};
+ghost use Rattle.nugwier_report.specs.Json.{unit_escape};
 ghost use Rattle.nugwier_report.specs.JsonReading.{read_string};
 ghost use Rattle.nugwier_report.specs.Noted.{content_of, member_said, members_said};
 ghost use Rattle.nugwier_report.specs.Parts.{part_member};
 
 use crate::escape::is_shown;
 use crate::problem::Part;
+use elf_names::flags::{Flag, Flags, is_set};
 use elfshow_lines::line_buffer::LineBuffer;
 use std::io;
 use std::io::Write;
@@ -34,6 +38,8 @@ pub enum Value<'a> {
     Text(Option<&'a [u8]>),
     /// Bytes, as two digits each. The key has `_hex` at its end.
     Bytes(&'a [u8]),
+    /// The names of the flags that are set in a number.
+    Flags(Flags, u64),
 }
 
 /// A member of an object: its key, which needs no escapes, and what it says.
@@ -109,6 +115,7 @@ fn add_value<W: Write>(value: Value<'_>, lines: &mut LineBuffer, out: &mut W)
         Value::Character(Some(character)) => add_character_value(character, lines, out),
         Value::Text(Some(bytes)) => add_text_value(bytes, lines, out),
         Value::Bytes(bytes) => add_bytes_value(bytes, lines, out),
+        Value::Flags(flags, number) => add_flags_value(flags, number, lines, out),
         _ => lines.text("\":null", out),
     }
 }
@@ -143,6 +150,39 @@ fn add_bytes_value<W: Write>(bytes: &[u8], lines: &mut LineBuffer, out: &mut W)
 {
     lines.bytes("_hex\":\"", bytes, out);
     lines.text("\"", out);
+}
+
+fn add_flags_value<W: Write>(flags: Flags, number: u64, lines: &mut LineBuffer, out: &mut W)
+    ensures { Adds (W.contents out.old) lines.old (W.contents out.new) lines.new
+        (flags_value (flags_of flags.now) number) }
+{
+    lines.text("\":[", out);
+    add_flags(flags, number, lines, out);
+    lines.text("]", out);
+}
+
+fn add_flags<W: Write>(flags: Flags, number: u64, lines: &mut LineBuffer, out: &mut W)
+    ensures { Adds (W.contents out.old) lines.old (W.contents out.new) lines.new
+        (flag_names true number (flags_of flags.now)) }
+{
+    let mut is_first = true;
+    for flag in flags {
+        add_flag(is_first, flag, number, lines, out);
+        is_first = is_first && !is_set(flag, number);
+    }
+}
+
+// Adds the name of a flag, if it is set: the first one, or one after others.
+fn add_flag<W: Write>(is_first: bool, flag: &Flag, number: u64, lines: &mut LineBuffer, out: &mut W)
+    ensures { Adds (W.contents out.old) lines.old (W.contents out.new) lines.new
+        (flag_name is_first number (flag_of flag.now)) }
+{
+    if is_set(flag, number) {
+        lines.text(if is_first { "" } else { "," }, out);
+        add_string(flag.2, lines, out);
+    } else {
+        lines.text("", out);
+    }
 }
 
 #[tactic(auto, unfolding(crate::specs::Json::json_string))]
@@ -190,12 +230,23 @@ fn add_escape<W: Write>(character: char, lines: &mut LineBuffer, out: &mut W)
     match character {
         '"' => lines.text("\\\"", out),
         '\\' => lines.text("\\\\", out),
-        _ => {
-            let code = character as u32;
-            let bytes = [(code / 256 % 256) as u8, (code % 256) as u8];
-            lines.bytes("\\u", &bytes, out);
-        }
+        _ => add_units(character.encode_utf16(&mut [0; 2]), lines, out),
     }
+}
+
+fn add_units<W: Write>(units: &[u16], lines: &mut LineBuffer, out: &mut W)
+    ensures { Adds (W.contents out.old) lines.old (W.contents out.new) lines.new (flat_map unit_escape units.now) }
+{
+    for unit in units {
+        add_unit(*unit, lines, out);
+    }
+}
+
+fn add_unit<W: Write>(unit: u16, lines: &mut LineBuffer, out: &mut W)
+    ensures { Adds (W.contents out.old) lines.old (W.contents out.new) lines.new (unit_escape unit) }
+{
+    let bytes = [(unit / 256) as u8, (unit % 256) as u8];
+    lines.bytes("\\u", &bytes, out);
 }
 
 /// The text that a string was written of is what is read of it.

@@ -6,8 +6,8 @@ ghost use Rattle.nugwier_report.specs.Kinds.{layout_of};
 
 use crate::text::Column;
 use crate::text::Shown::{
-    Character, Decimal, Depth, Digits8, Digits16, Dump, Hexadecimal, Index, Name, Order, Pairs,
-    Rest, SectionFlags, SegmentFlags, Signed, Text, Version,
+    Addend, Character, Decimal, Depth, Digits8, Digits16, Dump, Flags, Hexadecimal, Index, Name,
+    Order, Pairs, Rest, SectionFlags, SegmentFlags, Text, Version,
 };
 
 /// A kind of record.
@@ -49,6 +49,10 @@ pub enum Kind {
     Entry,
     /// A dynamic entry that names a string.
     NamedEntry,
+    /// The dynamic entry `DT_FLAGS`.
+    FlagsEntry,
+    /// The dynamic entry `DT_FLAGS_1`.
+    Flags1Entry,
     /// A needed library.
     Needed,
     /// The name of the file itself.
@@ -59,10 +63,10 @@ pub enum Kind {
     Runpath,
     /// The heading of the relocations of a section: its number and its name.
     RelocationsHeading,
-    /// A relocation without an addend (gABI, chapter "Relocation").
-    Rel,
-    /// A relocation with an addend.
-    Rela,
+    /// A relocation (gABI, chapter "Relocation").
+    Relocation,
+    /// A relocation of a 64-bit file of MIPS, which has three types.
+    MipsRelocation,
     /// A packed relative relocation (gABI, chapter "Relocation", `SHT_RELR`).
     Relative,
     /// The heading of relocations that a dynamic entry gives: its tag.
@@ -161,13 +165,15 @@ impl Kind {
             Kind::EntriesHeading => ENTRIES_HEADING,
             Kind::Entry => ENTRY,
             Kind::NamedEntry => NAMED_ENTRY,
+            Kind::FlagsEntry => FLAGS_ENTRY,
+            Kind::Flags1Entry => FLAGS_1_ENTRY,
             Kind::Needed => NEEDED,
             Kind::Soname => SONAME,
             Kind::Rpath => RPATH,
             Kind::Runpath => RUNPATH,
             Kind::RelocationsHeading => RELOCATIONS_HEADING,
-            Kind::Rel => REL,
-            Kind::Rela => RELA,
+            Kind::Relocation => RELOCATION,
+            Kind::MipsRelocation => MIPS_RELOCATION,
             Kind::Relative => RELATIVE,
             Kind::RelocationTableHeading => RELOCATION_TABLE_HEADING,
             Kind::SectionNotesHeading => SECTION_NOTES_HEADING,
@@ -220,7 +226,7 @@ File header:
   machine              %
   version              %
   entry point          %
-  flags                %
+  flags                %%
   header size          % bytes
   program headers      % of % bytes, at offset %
   section headers      % of % bytes, at offset %
@@ -237,14 +243,15 @@ File header:
         Column(11, Decimal(0)),
         Column(12, Hexadecimal),
         Column(15, Hexadecimal),
-        Column(16, Decimal(0)),
-        Column(18, Decimal(0)),
+        Column(16, Flags(0)),
         Column(17, Decimal(0)),
-        Column(13, Decimal(0)),
-        Column(20, Decimal(0)),
         Column(19, Decimal(0)),
-        Column(14, Decimal(0)),
+        Column(18, Decimal(0)),
+        Column(13, Decimal(0)),
         Column(21, Decimal(0)),
+        Column(20, Decimal(0)),
+        Column(14, Decimal(0)),
+        Column(22, Decimal(0)),
     ],
 );
 
@@ -260,13 +267,13 @@ pub const SECTION: Layout = (
     &[
         Column(0, Decimal(5)),
         Column(4, Name(18, 3)),
-        Column(6, Digits16),
-        Column(7, Digits8),
+        Column(7, Digits16),
         Column(8, Digits8),
-        Column(12, Decimal(7)),
-        Column(9, Decimal(4)),
+        Column(9, Digits8),
+        Column(13, Decimal(7)),
         Column(10, Decimal(4)),
-        Column(11, Decimal(5)),
+        Column(11, Decimal(4)),
+        Column(12, Decimal(5)),
         Column(2, Text),
         Column(5, SectionFlags),
     ],
@@ -284,13 +291,13 @@ pub const SEGMENT: Layout = (
     &[
         Column(0, Decimal(5)),
         Column(2, Name(18, 1)),
-        Column(4, Digits8),
-        Column(5, Digits16),
+        Column(5, Digits8),
         Column(6, Digits16),
-        Column(7, Digits8),
+        Column(7, Digits16),
         Column(8, Digits8),
+        Column(9, Digits8),
         Column(3, SegmentFlags),
-        Column(9, Hexadecimal),
+        Column(10, Hexadecimal),
     ],
 );
 
@@ -383,48 +390,75 @@ pub const NAMED_ENTRY: Layout = (
         Column(0, Decimal(5)),
         Column(2, Name(20, 1)),
         Column(3, Hexadecimal),
-        Column(4, Text),
+        Column(5, Text),
     ],
 );
 
-pub const NEEDED: Layout = (Some("dynamic"), "needed  %\n", &[Column(4, Text)]);
+// The names of flags without `DF_`.
+pub const FLAGS_ENTRY: Layout = (
+    Some("dynamic"),
+    "% % %%\n",
+    &[
+        Column(0, Decimal(5)),
+        Column(2, Name(20, 1)),
+        Column(3, Hexadecimal),
+        Column(4, Flags(3)),
+    ],
+);
 
-pub const SONAME: Layout = (Some("dynamic"), "soname  %\n", &[Column(4, Text)]);
+// The names of flags without `DF_1_`.
+pub const FLAGS_1_ENTRY: Layout = (
+    Some("dynamic"),
+    "% % %%\n",
+    &[
+        Column(0, Decimal(5)),
+        Column(2, Name(20, 1)),
+        Column(3, Hexadecimal),
+        Column(4, Flags(5)),
+    ],
+);
 
-pub const RPATH: Layout = (Some("dynamic"), "rpath   %\n", &[Column(4, Text)]);
+pub const NEEDED: Layout = (Some("dynamic"), "needed  %\n", &[Column(5, Text)]);
 
-pub const RUNPATH: Layout = (Some("dynamic"), "runpath %\n", &[Column(4, Text)]);
+pub const SONAME: Layout = (Some("dynamic"), "soname  %\n", &[Column(5, Text)]);
+
+pub const RPATH: Layout = (Some("dynamic"), "rpath   %\n", &[Column(5, Text)]);
+
+pub const RUNPATH: Layout = (Some("dynamic"), "runpath %\n", &[Column(5, Text)]);
 
 const HEADING_COLUMNS: [Column; 2] = [Column(0, Decimal(0)), Column(1, Text)];
 
 pub const RELOCATIONS_HEADING: Layout = (
     None,
-    "Relocations of section % (%):\n    nr offset             type symbol name, addend\n",
+    "Relocations of section % (%):\n    nr offset           type                   symbol, addend\n",
     &HEADING_COLUMNS,
 );
 
-pub const REL: Layout = (
+pub const RELOCATION: Layout = (
     Some("relocation"),
-    "% % % % %\n",
+    "% % % %%%\n",
     &[
         Column(1, Decimal(6)),
         Column(2, Digits16),
-        Column(5, Decimal(6)),
-        Column(3, Decimal(6)),
+        Column(8, Name(22, 7)),
         Column(4, Text),
+        Column(5, Version(6)),
+        Column(9, Addend(3)),
     ],
 );
 
-pub const RELA: Layout = (
+pub const MIPS_RELOCATION: Layout = (
     Some("relocation"),
-    "% % % % % %\n",
+    "% % %/%/% %%%\n",
     &[
         Column(1, Decimal(6)),
         Column(2, Digits16),
-        Column(5, Decimal(6)),
-        Column(3, Decimal(6)),
+        Column(8, Name(0, 7)),
+        Column(13, Name(0, 12)),
+        Column(15, Name(0, 14)),
         Column(4, Text),
-        Column(6, Signed),
+        Column(5, Version(6)),
+        Column(9, Addend(3)),
     ],
 );
 
@@ -436,7 +470,7 @@ pub const RELATIVE: Layout = (
 
 pub const RELOCATION_TABLE_HEADING: Layout = (
     None,
-    "Relocations of %:\n    nr offset             type symbol name, addend\n",
+    "Relocations of %:\n    nr offset           type                   symbol, addend\n",
     &[Column(0, Text)],
 );
 
@@ -459,8 +493,8 @@ pub const ABI_TAG_NOTE: Layout = (
 
 pub const NOTE: Layout = (
     Some("note"),
-    "  % type %  %\n",
-    &[Column(4, Text), Column(2, Hexadecimal), Column(5, Pairs)],
+    "  % %  %\n",
+    &[Column(4, Text), Column(3, Name(0, 2)), Column(5, Pairs)],
 );
 
 pub const DEFINED_HEADING: Layout = (

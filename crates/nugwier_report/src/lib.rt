@@ -10,6 +10,7 @@ pub mod contents;
 pub mod dynamic;
 mod error_texts;
 pub mod escape;
+pub mod formats;
 pub mod header;
 pub mod json;
 pub mod kind;

@@ -1,6 +1,7 @@
 //! The names of the sections of a file, for what is told of them.
-ghost use Rattle.std.specs.Prelude.{◌≡◌};
-ghost use Rattle.nugwier_report.specs.Labels.{first_of, label_name, label_of, label_seen, named_by, number_of};
+ghost use Rattle.std.specs.Prelude.{◌≡◌, Some};
+ghost use Rattle.nugwier_report.specs.Labels.{first_of, label_at, label_name, label_of, label_seen, named_by};
+ghost use Rattle.nugwier_report.specs.Labels.{number_of, section_name};
 
 use crate::problem::Part;
 use elf_abi::abi;
@@ -23,6 +24,16 @@ impl<'a> Labels<'a> {
         let number = number_of(self.sections, part)?;
         let section = self.sections.get(number)?;
         Some((number as u64, label_name(&self.names, section)))
+    }
+
+    /// Returns the name of a section, or no name if it is not known or there is no such section.
+    pub fn name_at(&self, number: usize) -> &'a [u8]
+        ensures { result.now ≡ section_name (label_at (named_by self.now) (Some number)) }
+    {
+        match self.sections.get(number) {
+            Some(section) => label_name(&self.names, section),
+            None => &[],
+        }
     }
 }
 

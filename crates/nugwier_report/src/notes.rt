@@ -12,6 +12,7 @@ use crate::problem::{Part, Stop};
 use crate::report::Report;
 use crate::rows::{Row, say_items};
 use elf_abi::{abi, to_str};
+use elf_names::notes::note_type_name;
 use elf_parts::endian::EndianParse;
 use elf_parts::laws::notes::few_notes_are_left;
 use elf_parts::note::{Note, NoteAny, NoteGnuAbiTag, NoteIterator};
@@ -110,12 +111,16 @@ fn build_id_members<'a>(part: Part, number: u64, id: &'a [u8]) -> [Member<'a>; 6
 fn other_members<'a>(part: Part, number: u64, note: &NoteAny<'a>) -> [Member<'a>; 6]
     ensures { members_said result ≡ other_members part number note.now.n_type note.now.name.now note.now.desc.now }
 {
+    let owner = without_nul(note.name);
     [
         part_member(part),
         ("index", Value::Number(number)),
         ("n_type", Value::Number(note.n_type)),
-        ("n_type_name", Value::Null),
-        ("name", Value::Text(Some(without_nul(note.name)))),
+        (
+            "n_type_name",
+            Value::Word(note_type_name(owner, note.n_type)),
+        ),
+        ("name", Value::Text(Some(owner))),
         ("desc", Value::Bytes(note.desc)),
     ]
 }

@@ -122,6 +122,10 @@ pub struct Place {
 pub enum Fault<'a> {
     /// It cannot be read.
     Read(ParseError),
+    /// It is no ELF file.
+    NotElf,
+    /// It is no ELF file, but one of this format.
+    OtherFormat(Quoted<'a>),
     /// It is not available through the segments.
     Linked(DynamicError),
     /// The error of the system.
@@ -152,9 +156,6 @@ pub enum Fault<'a> {
     Object(Quoted<'a>, ObjectFault),
     /// The object at this path has symbols and no hash section, so these cannot be looked up.
     NoHash(Quoted<'a>),
-    /// The object at this path has an entry `DT_FILTER` or `DT_AUXILIARY`, and the libraries that such entries name are
-    /// not searched.
-    Filter(Quoted<'a>),
     /// The relocations of the object at this path are not known.
     Relocations(Quoted<'a>, UsesError),
     /// A symbol of the object at this path binds to nothing.
@@ -173,6 +174,8 @@ impl fmt::Display for Fault<'_> {
     fn fmt<W: fmt::Write>(&self, f: &mut fmt::Formatter<W>) -> fmt::Result {
         match self {
             Fault::Read(error) => write!(f, "{}", ReadText(error)),
+            Fault::NotElf => f.write_str("not an ELF file"),
+            Fault::OtherFormat(name) => write!(f, "not an ELF file ({name})"),
             Fault::Linked(error) => write!(f, "{}", LinkedText(error)),
             Fault::System(error) => write!(f, "{error}"),
             Fault::Missing => f.write_str("the file has none"),
@@ -190,10 +193,6 @@ impl fmt::Display for Fault<'_> {
             Fault::Names(path, error) => write!(f, "names of {path}: {error}"),
             Fault::Object(path, fault) => write!(f, "symbols of {path}: {}", ObjectText(fault)),
             Fault::NoHash(path) => write!(f, "symbols of {path}: no hash section"),
-            Fault::Filter(path) => write!(
-                f,
-                "symbols of {path}: its filter libraries (DT_FILTER, DT_AUXILIARY) are not searched"
-            ),
             Fault::Relocations(path, error) => {
                 write!(f, "relocations of {path}: {}", UsesText(error))
             }

@@ -10,21 +10,23 @@ use crate::kind::Kind;
 use crate::problem::{Item, Part, Stop};
 use crate::report::Report;
 use crate::rows::Row;
-use elf_abi::to_str;
+use elf_names::flags::section_flags;
+use elf_names::sections::section_type_name;
 use elf_parts::section::SectionHeader;
 use elf_parts::string_table::TerminatedStrings;
 use std::io::Write;
 
-/// A section, with its name in these strings, if there are any.
+/// A section of a file for this machine (`e_machine`), with its name in these strings, if there are any.
 #[derive(Drop)]
 pub struct SectionRow<'a> {
+    pub machine: u16,
     pub names: Option<TerminatedStrings<'a>>,
 }
 
 impl Row for SectionRow<'_> {
     type Item = SectionHeader;
 
-    ghost said = { λ row number section. section_said row.names number section };
+    ghost said = { λ row number section. section_said row.machine row.names number section };
 
     fn say<W: Write, V: Write>(
         &self,
@@ -33,7 +35,10 @@ impl Row for SectionRow<'_> {
         report: &mut Report<'_, W, V>,
     ) -> Result<(), Stop> {
         let name = section_name(&self.names, number, section, report)?;
-        report.state(Kind::Section, &section_members(number, section, name))
+        report.state(
+            Kind::Section,
+            &section_members(self.machine, number, section, name),
+        )
     }
 }
 
@@ -55,11 +60,12 @@ fn section_name<'a, W: Write, V: Write>(
 }
 
 fn section_members<'a>(
+    machine: u16,
     number: u64,
     section: &SectionHeader,
     name: Option<&'a [u8]>,
-) -> [Member<'a>; 13]
-    ensures { members_said result ≡ section_members number section.now (option_copied name.entry) }
+) -> [Member<'a>; 14]
+    ensures { members_said result ≡ section_members machine number section.now (option_copied name.entry) }
 {
     [
         ("index", Value::Number(number)),
@@ -68,9 +74,13 @@ fn section_members<'a>(
         ("sh_type", Value::Number(section.sh_type as u64)),
         (
             "sh_type_name",
-            Value::Word(to_str::sh_type_to_str(section.sh_type)),
+            Value::Word(section_type_name(machine, section.sh_type)),
         ),
         ("sh_flags", Value::Number(section.sh_flags)),
+        (
+            "sh_flags_names",
+            Value::Flags(section_flags(), section.sh_flags),
+        ),
         ("sh_addr", Value::Number(section.sh_addr)),
         ("sh_offset", Value::Number(section.sh_offset)),
         ("sh_size", Value::Number(section.sh_size)),

@@ -8,18 +8,21 @@ use crate::kind::Kind;
 use crate::problem::Stop;
 use crate::report::Report;
 use crate::rows::Row;
-use elf_abi::to_str;
+use elf_names::flags::segment_flags;
+use elf_names::segments::segment_type_name;
 use elf_parts::segment::ProgramHeader;
 use std::io::Write;
 
-/// A segment.
+/// A segment of a file for this machine (`e_machine`).
 #[derive(Clone, Copy)]
-pub struct SegmentRow;
+pub struct SegmentRow {
+    pub machine: u16,
+}
 
 impl Row for SegmentRow {
     type Item = ProgramHeader;
 
-    ghost said = { λ row number segment. segment_said number segment };
+    ghost said = { λ row number segment. segment_said row.machine number segment };
 
     fn say<W: Write, V: Write>(
         &self,
@@ -27,22 +30,29 @@ impl Row for SegmentRow {
         segment: &ProgramHeader,
         report: &mut Report<'_, W, V>,
     ) -> Result<(), Stop> {
-        report.state(Kind::Segment, &segment_members(number, segment))
+        report.state(
+            Kind::Segment,
+            &segment_members(self.machine, number, segment),
+        )
     }
 }
 
 #[tactic(auto, unfolding(crate::specs::Segments::segment_members))]
-fn segment_members(number: u64, segment: &ProgramHeader) -> [Member<'static>; 10]
-    ensures { members_said result ≡ segment_members number segment.now }
+fn segment_members(machine: u16, number: u64, segment: &ProgramHeader) -> [Member<'static>; 11]
+    ensures { members_said result ≡ segment_members machine number segment.now }
 {
     [
         ("index", Value::Number(number)),
         ("p_type", Value::Number(segment.p_type as u64)),
         (
             "p_type_name",
-            Value::Word(to_str::p_type_to_str(segment.p_type)),
+            Value::Word(segment_type_name(machine, segment.p_type)),
         ),
         ("p_flags", Value::Number(segment.p_flags as u64)),
+        (
+            "p_flags_names",
+            Value::Flags(segment_flags(), segment.p_flags as u64),
+        ),
         ("p_offset", Value::Number(segment.p_offset)),
         ("p_vaddr", Value::Number(segment.p_vaddr)),
         ("p_paddr", Value::Number(segment.p_paddr)),

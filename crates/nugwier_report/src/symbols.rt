@@ -218,7 +218,9 @@ fn symbol_members<'a>(
 }
 
 // The name of a version and whether it is the default one, if there is a version.
-fn version_parts<'a>(version: Option<ShownVersion<'a>>) -> (Option<&'a [u8]>, Value<'static>)
+pub(crate) fn version_parts<'a>(
+    version: Option<ShownVersion<'a>>,
+) -> (Option<&'a [u8]>, Value<'static>)
     ensures name { option_copied result.0 ≡ version_name (option_map version_view version.entry) }
     ensures is_default { content_of result.1 ≡ version_default (option_map version_view version.entry) }
 {

@@ -3,19 +3,22 @@ ghost use Rattle.std.specs.Prelude.{◌≡◌, ◌+◌, ◌-◌, ◌*◌, ◌/�
 ghost use Rattle.std.specs.Fmt.{decimal};
 ghost use Rattle.std.specs.Io.KnownBytes.{Appends};
 ghost use Rattle.std.specs.List.{after_first, before_first, flat_map};
+ghost use Rattle.std.specs.Option.{option_copied};
+ghost use Rattle.elf_names.specs.Flags.{flag_of, flags_of};
 ghost use Rattle.elfshow_lines.specs.Adding.{Adds};
 ghost use Rattle.nugwier_report.specs.Noted.{content_of, members_said};
 ghost use Rattle.nugwier_report.specs.Text.{all_digits, ascii, ascii_text, at_signs, bytes_in, cell, content_at, dump};
 ghost use Rattle.nugwier_report.specs.Text.{dump_characters, dump_columns, dump_group, dump_line, dump_offset, is_mark};
 ghost use Rattle.nugwier_report.specs.Text.{letters_of, nameless_signed, number_text, other_flags};
-ghost use Rattle.nugwier_report.specs.Text.{row_text, section_letter, segment_flags, segment_letter, shown};
-ghost use Rattle.nugwier_report.specs.Text.{shown_character, shown_decimal, shown_index, shown_name, shown_nameless};
-ghost use Rattle.nugwier_report.specs.Text.{shown_number, shown_order, shown_rest, shown_signed, shown_text};
-ghost use Rattle.nugwier_report.specs.Text.{shown_version, wide, with_sign};
+ghost use Rattle.nugwier_report.specs.Text.{row_text, section_letter, segment_flags, segment_letter, shown, shown_addend};
+ghost use Rattle.nugwier_report.specs.Text.{shown_character, shown_decimal, shown_flag, shown_flags, shown_index, shown_name, shown_nameless};
+ghost use Rattle.nugwier_report.specs.Text.{shown_number, shown_order, shown_rest, shown_text, signed_hex};
+ghost use Rattle.nugwier_report.specs.Text.{shown_version, text_in, wide};
 
 use crate::escape::add_shown;
 use crate::json::{Member, Value};
 use elf_abi::abi;
+use elf_names::flags::{Flag, Flags, is_set};
 use elfshow_lines::line_buffer::LineBuffer;
 use std::io;
 use std::io::Write;
@@ -39,8 +42,10 @@ pub enum Shown {
     SegmentFlags,
     /// Two spaces for each level of a depth.
     Depth,
-    /// A number with its sign.
-    Signed,
+    /// The addend of a relocation, in hexadecimal: with its sign after a symbol, whose number is at this place, and
+    /// nothing if it is 0; without a symbol, which has number 0, as it is. A relocation without an addend has nothing
+    /// there.
+    Addend(usize),
     /// A name, aligned to the left in a column of this width. A value without a name is shown as the number at this
     /// place.
     Name(usize, usize),
@@ -54,6 +59,8 @@ pub enum Shown {
     /// A version after its symbol: `@NAME`, or `@@NAME` if the flag at this place says that it is the default one. A
     /// symbol without a version has nothing there.
     Version(usize),
+    /// The names of the flags that are set, each after a space and without this number of bytes at its start.
+    Flags(usize),
     /// A character.
     Character,
     /// Bytes, as two digits each.
@@ -141,7 +148,7 @@ fn add_value<W: Write>(
         (shown form (content_of value.entry) (members_said members.now)) }
 {
     match form {
-        Shown::Signed => add_signed(value, lines, out),
+        Shown::Addend(symbol) => add_addend(value, value_at(members, symbol), lines, out),
         Shown::Name(width, number) => {
             add_name(width, value, value_at(members, number), lines, out);
         }
@@ -151,6 +158,7 @@ fn add_value<W: Write>(
         }
         Shown::Text => add_text(value, lines, out),
         Shown::Version(flag) => add_version(value, value_at(members, flag), lines, out),
+        Shown::Flags(count) => add_flag_names(count, value, lines, out),
         Shown::Character => add_character(value, lines, out),
         Shown::Pairs => lines.bytes("", bytes_in(value), out),
         Shown::Dump => add_dump(bytes_in(value), lines, out),
@@ -231,21 +239,24 @@ fn add_order<W: Write>(n: u64, lines: &mut LineBuffer, out: &mut W)
     }
 }
 
-fn add_signed<W: Write>(value: Value<'_>, lines: &mut LineBuffer, out: &mut W)
+fn add_addend<W: Write>(addend: Value<'_>, symbol: Value<'_>, lines: &mut LineBuffer, out: &mut W)
     ensures { Adds (W.contents out.old) lines.old (W.contents out.new) lines.new
-        (shown_signed (content_of value.entry)) }
+        (shown_addend (content_of addend.entry) (content_of symbol.entry)) }
 {
-    match value {
-        Value::Signed(n) => add_with_sign(n, lines, out),
-        _ => lines.text("-", out),
+    match (addend, symbol) {
+        (Value::Signed(addend), Value::Number(0)) => add_signed_hex("", addend, lines, out),
+        (Value::Signed(0), _) => lines.text("", out),
+        (Value::Signed(addend), _) => add_signed_hex("+", addend, lines, out),
+        _ => lines.text("", out),
     }
 }
 
-fn add_with_sign<W: Write>(n: i64, lines: &mut LineBuffer, out: &mut W)
-    ensures { Adds (W.contents out.old) lines.old (W.contents out.new) lines.new (with_sign n) }
+// A number in hexadecimal, with this before it if it is not negative.
+fn add_signed_hex<W: Write>(plus: &str, n: i64, lines: &mut LineBuffer, out: &mut W)
+    ensures { Adds (W.contents out.old) lines.old (W.contents out.new) lines.new (signed_hex plus.now n) }
 {
-    let sign = if n < 0 { "-" } else { "+" };
-    lines.decimal(sign, n.unsigned_abs(), out);
+    let sign = if n < 0 { "-" } else { plus };
+    lines.hex(sign, n.unsigned_abs(), out);
 }
 
 // ---- names
@@ -311,6 +322,50 @@ fn rest_of(count: usize, bytes: &[u8]) -> &[u8]
     }
 }
 
+fn add_flag_names<W: Write>(count: usize, value: Value<'_>, lines: &mut LineBuffer, out: &mut W)
+    ensures { Adds (W.contents out.old) lines.old (W.contents out.new) lines.new
+        (shown_flags count (content_of value.entry)) }
+{
+    match value {
+        Value::Flags(flags, number) => add_set_flags(count, flags, number, lines, out),
+        _ => lines.text("", out),
+    }
+}
+
+fn add_set_flags<W: Write>(
+    count: usize,
+    flags: Flags,
+    number: u64,
+    lines: &mut LineBuffer,
+    out: &mut W,
+)
+    ensures { Adds (W.contents out.old) lines.old (W.contents out.new) lines.new
+        (flat_map (shown_flag count number) (flags_of flags.now)) }
+{
+    for flag in flags {
+        add_flag_name(count, flag, number, lines, out);
+    }
+}
+
+// Adds the name of a flag, if it is set.
+fn add_flag_name<W: Write>(
+    count: usize,
+    flag: &Flag,
+    number: u64,
+    lines: &mut LineBuffer,
+    out: &mut W,
+)
+    ensures { Adds (W.contents out.old) lines.old (W.contents out.new) lines.new
+        (shown_flag count number (flag_of flag.now)) }
+{
+    if is_set(flag, number) {
+        lines.text(" ", out);
+        add_shown(rest_of(count, flag.2.as_bytes()), lines, out);
+    } else {
+        lines.text("", out);
+    }
+}
+
 fn add_index<W: Write>(
     width: usize,
     name: Value<'_>,
@@ -337,9 +392,19 @@ fn add_text<W: Write>(value: Value<'_>, lines: &mut LineBuffer, out: &mut W)
     ensures { Adds (W.contents out.old) lines.old (W.contents out.new) lines.new
         (shown_text (content_of value.entry)) }
 {
+    match text_in(value) {
+        Some(text) => add_shown(text, lines, out),
+        None => lines.text("<unreadable>", out),
+    }
+}
+
+// The text of the file that a value is, if it could be read.
+fn text_in<'a>(value: Value<'a>) -> Option<&'a [u8]>
+    ensures { option_copied result ≡ text_in (content_of value.entry) }
+{
     match value {
-        Value::Text(Some(text)) => add_shown(text, lines, out),
-        _ => lines.text("<unreadable>", out),
+        Value::Text(text) => text,
+        _ => None,
     }
 }
 
@@ -402,13 +467,13 @@ fn add_dump<W: Write>(bytes: &[u8], lines: &mut LineBuffer, out: &mut W)
     }
 }
 
-// The first bytes, or all if there are not as many.
-fn first_of(count: usize, bytes: &[u8]) -> &[u8]
-    ensures { result.now ≡ take count bytes.now }
+// The first items, or all if there are not as many.
+pub(crate) fn first_of<T>(count: usize, items: &[T]) -> &[T]
+    ensures { result.now ≡ take count items.now }
 {
-    match bytes.get(..count) {
+    match items.get(..count) {
         Some(first) => first,
-        None => bytes,
+        None => items,
     }
 }
 

@@ -1,7 +1,7 @@
 //! The results of `needed`, as lines.
 use elf::endian::AnyEndian;
 use elf::{ElfStream, FileSource, MemSource, ParseError, StreamSource};
-use elf_linking::needed::{Name, Names, NamesError, read_dynamic_names};
+use elf_linking::needed::{Name, Names, NamesError, Role, read_dynamic_names};
 use std::alloc::Global;
 use std::fs::File;
 use std::io;
@@ -52,18 +52,26 @@ fn print_names<W: Write>(out: &mut W, found: Result<Option<Names>, NamesError>) 
 
 fn is_empty(names: &Names) -> bool {
     names.soname.is_none()
-        && names.needed.is_empty()
+        && names.libraries.is_empty()
         && names.runpath.is_none()
         && names.rpath.is_none()
 }
 
 fn print_all<W: Write>(out: &mut W, names: &Names) -> io::Result<()> {
     print_one(out, "soname ", names, names.soname.as_ref())?;
-    for library in &names.needed {
-        print_one(out, "needed ", names, Some(library))?;
+    for library in &names.libraries {
+        print_one(out, role_word(library.role), names, Some(&library.name))?;
     }
     print_one(out, "runpath ", names, names.runpath.as_ref())?;
     print_one(out, "rpath ", names, names.rpath.as_ref())
+}
+
+fn role_word(role: Role) -> &'static str {
+    match role {
+        Role::Needed => "needed ",
+        Role::Auxiliary => "auxiliary ",
+        Role::Filter => "filter ",
+    }
 }
 
 fn print_one<W: Write>(

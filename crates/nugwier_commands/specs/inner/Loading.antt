@@ -18,6 +18,7 @@ use Rattle.nugwier_report.specs.declared.problem.Stop.TheVariants.{Memory as IsM
 use Rattle.nugwier_words.specs.declared.words.WordError.{WordError}
 use Rattle.nugwier_words.specs.declared.words.WordError.TheVariants.{Memory}
 use Rattle.nugwier_listing.specs.Job.{IsSaidOf}
+use Rattle.nugwier_report.specs.Formats.{front}
 use Rattle.nugwier_report.specs.Said.{Said, said_if, whole, wrong}
 use Rattle.nugwier_report.specs.declared.kind.Kind.{Kind}
 use Rattle.nugwier_words.specs.Words.{Task}
@@ -64,6 +65,10 @@ module _ {W V : Type 0} (contents : W → Option (List ℕ)) where
   abbrev pub IsPathEnded : Known → Task → Option Kind → List ℕ → Option (List ℕ) → Ended W V → Type 0
   IsPathEnded known task heading path before ended =
       IsSaidAndWritten (IsPathSaid known task path) task heading path before ended
+
+-- the bytes at the start of the file with this content
+abbrev pub IsFrontOf : Option (List ℕ) → List ℕ → Type 0
+IsFrontOf content start = (bytes : List ℕ) × (content ≡ Some bytes) × (start ≡ front bytes)
 
 -- the program that these bytes are, by its names alone
 abbrev pub IsNamed : List ℕ → Option (List ℕ) → Found → Type 0

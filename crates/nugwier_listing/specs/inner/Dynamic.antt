@@ -8,7 +8,7 @@ use Rattle.nugwier_listing.specs.Dynamic.{Entries, all_names_said, all_said}
 use Rattle.nugwier_listing.specs.declared.dynamic.DynamicEntries.{DynamicEntries}
 
 abbrev pub entries_view : DynamicEntries → Entries
-entries_view part = (part.entries.items, ok_map (λ bytes. bytes.now) part.strings)
+entries_view part = (part.machine, part.entries.items, ok_map (λ bytes. bytes.now) part.strings)
 
 abbrev pub entries_said : Result (Option DynamicEntries) ParseError → List Said
 entries_said found = all_said (ok_map (option_map entries_view) found)

@@ -19,7 +19,7 @@ use Rattle.nugwier_listing.specs.declared.list.PartTables.TheVariants as part
 use Rattle.nugwier_listing.specs.inner.Contents.{part_said as content_said}
 use Rattle.nugwier_listing.specs.inner.Dynamic.{entries_said, needed_said}
 use Rattle.nugwier_listing.specs.inner.Notes.{part_said as notes_said}
-use Rattle.nugwier_listing.specs.inner.Relocations.{part_said as relocation_said, relocations_said}
+use Rattle.nugwier_listing.specs.inner.Relocations.{tables_said}
 use Rattle.nugwier_listing.specs.inner.Sections.{taken_sections_said}
 use Rattle.nugwier_listing.specs.inner.Symbols.{linked_said}
 use Rattle.nugwier_listing.specs.inner.VersionLists.{part_said as versions_said}
@@ -30,12 +30,12 @@ module _ {E : Type 0} (little : E → Bool) where
   unfoldable pub part_said : PartTables E → List Said
   part_said (part.Header h) = header_said little h
   part_said (part.Sections t) = taken_sections_said t
-  part_said (part.Segments segments) = segments_said segments.now
+  part_said (part.Segments machine segments) = segments_said machine segments.now
   part_said (part.Symbols t) = all_said (ok_map (option_map symbols_view) t)
   part_said (part.DynamicSymbols t) = linked_said t
   part_said (part.Dynamic t) = entries_said t
-  part_said (part.Relocations t) = relocations_said (ok_map (λ parts. flat_map relocation_said parts.items) t)
-  part_said (part.Notes t) = flat_map notes_said t.items
+  part_said (part.Relocations t) = tables_said t
+  part_said (part.Notes t) = flat_map (notes_said little) t.items
   part_said (part.Versions t) = flat_map versions_said t.items
 
   unfoldable pub list_said : ListTables E → List Said

@@ -1,13 +1,18 @@
 -- The notes that were taken.
-use Rattle.std.specs.Prelude.{List}
-use Rattle.elf_parts.specs.Note.{notes_left}
+use Rattle.std.specs.Prelude.{Bool, List}
 use Rattle.elf_records.specs.Number.{ok_map}
 use Rattle.nugwier_report.specs.Said.{Said}
-use Rattle.nugwier_listing.specs.Notes.{section_notes_said, segment_notes_said}
+use Rattle.nugwier_listing.specs.Notes.{NoteList, note_list, section_notes_said, segment_notes_said}
+use Rattle.nugwier_listing.specs.declared.notes.NoteBytes.{NoteBytes}
 use Rattle.nugwier_listing.specs.declared.notes.NotePart.{NotePart}
 use Rattle.nugwier_listing.specs.declared.notes.NotePart.TheVariants as part
 
--- of a section or a segment that was taken
-abbrev pub part_said : {E : Type 0} → NotePart E → List Said
-part_said (part.Section k name notes) = section_notes_said k name.now (ok_map notes_left notes)
-part_said (part.Segment k notes) = segment_notes_said k (ok_map notes_left notes)
+module _ {E : Type 0} (little : E → Bool) where
+  -- the notes of bytes that were taken
+  abbrev pub notes_view : NoteBytes E → NoteList
+  notes_view notes = note_list (little notes.order) notes.align notes.bytes.now
+
+  -- of a section or a segment that was taken
+  abbrev pub part_said : NotePart E → List Said
+  part_said (part.Section k name notes) = section_notes_said k name.now (ok_map notes_view notes)
+  part_said (part.Segment k notes) = segment_notes_said k (ok_map notes_view notes)

@@ -5,5 +5,5 @@ use Rattle.nugwier_listing.specs.declared.sections.SectionTables.{SectionTables}
 use Rattle.nugwier_report.specs.Said.{Said}
 
 abbrev pub taken_sections_said : Option SectionTables → List Said
-taken_sections_said (Some tables) = sections_said tables.sections.now tables.names
+taken_sections_said (Some tables) = sections_said tables.machine tables.sections.now tables.names
 taken_sections_said None = []

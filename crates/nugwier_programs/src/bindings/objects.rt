@@ -3,9 +3,8 @@ ghost use Rattle.std.specs.Prelude.{◌≡◌, ◌++◌, IfOk, List, OnOk, map};
 ghost use Rattle.std.specs.List.{flat_map, zip};
 ghost use Rattle.std.specs.Option.{option_map};
 ghost use Rattle.elf.specs.ElfBytes.{view};
-ghost use Rattle.elf_linking.specs.DynamicFile.{is_filter};
-ghost use Rattle.elf_linking.specs.Tree.{entry_view};
-ghost use Rattle.nugwier_programs.specs.Bindings.{AreSearched, IsFileSearched, Searching, files_of, filter_problem};
+ghost use Rattle.elf_linking.specs.Tree.{entry_of, entry_view};
+ghost use Rattle.nugwier_programs.specs.Bindings.{AreSearched, IsFileSearched, Searching, files_of};
 ghost use Rattle.nugwier_programs.specs.Bindings.{open_files, open_of, open_problem, opened_object, search_problem};
 ghost use Rattle.nugwier_programs.specs.inner.Scope.{indexed_view, open_view, paired_object, search_fault};
 ghost use Rattle.nugwier_programs.specs.inner.Scope.{searched_file, searching_of};
@@ -21,7 +20,7 @@ use elf::symbol::SymbolTable;
 use elf_hash_check::hashcheck::AnyChecked;
 use elf_linking::VersionedObject;
 use elf_linking::bindings::{IndexedObject, with_index};
-use elf_linking::dynamic::{dynamic_object, dynamic_symbols, is_filter};
+use elf_linking::dynamic::{dynamic_object, dynamic_symbols};
 use elf_linking::resolve::ObjectFault;
 use elf_linking::tree::Object;
 use nugwier_report::problem::{Fault, Stop};
@@ -66,24 +65,7 @@ impl From<ObjectFault> for SearchFault {
     }
 }
 
-// Says if a file is a filter, whose libraries are not loaded.
-#[tactic(auto, using(crate::proofs::Walk::saying_nothing))]
-fn say_filter<W: Write, V: Write>(
-    path: &[u8],
-    file: &ElfBytes<'_, AnyEndian>,
-    report: &mut Report<'_, W, V>,
-) -> Result<(), Stop>
-    ensures { OnOk result (report.new ≡ saying report.old
-        (filter_problem path.now (is_filter (opened_object (view file.now))))) }
-{
-    if is_filter(file) {
-        let path = Quoted::new(path);
-        report.problem(FILE, Fault::Filter(path))?;
-    }
-    Ok(())
-}
-
-/// Opens the file of an object, or says that it cannot be read, and if it is a filter. A missing library has none.
+/// Opens the file of an object, or says that it cannot be read. A missing library has none.
 #[tactic(auto, using(crate::proofs::Walk::saying_nothing))]
 pub(crate) fn open_file<'a, W: Write, V: Write>(
     object: &'a Object,
@@ -98,7 +80,6 @@ pub(crate) fn open_file<'a, W: Write, V: Write>(
     match ElfBytes::minimal_parse(&loaded.bytes) {
         Ok(file) => {
             let path = loaded.path.as_slice();
-            say_filter(path, &file, report)?;
             Ok(Some(OpenFile { path, file }))
         }
         Err(error) => {
@@ -128,13 +109,13 @@ fn add_open<'a, W: Write, V: Write>(
 /// Opens the files of these objects, and says which cannot be read.
 pub(crate) fn open_files<'a, W: Write, V: Write>(
     alloc: Global,
-    objects: &'a [Object],
+    objects: &[&'a Object],
     report: &mut Report<'_, W, V>,
 ) -> Result<Vec<OpenFile<'a>>, Stop>
     ensures files { IfOk result (λ files.
-        map open_view files.items ≡ flat_map open_files (map entry_view objects.now)) }
+        map open_view files.items ≡ flat_map open_files (map entry_of objects.now)) }
     ensures said { OnOk result (report.new
-        ≡ saying report.old (flat_map open_problem (map entry_view objects.now))) }
+        ≡ saying report.old (flat_map open_problem (map entry_of objects.now))) }
 {
     let mut files = Vec::new(alloc);
     for object in objects {

@@ -1,12 +1,11 @@
 use Rattle.std.proofs.lemmas.Result.{err_from_is_err_and}
-use Rattle.std.proofs.Common.{◌≡◌, ◌∙◌, Option, sym}
+use Rattle.std.proofs.Common.{◌∙◌, sym}
 use Rattle.std.specs.Option.{option_map}
-use Rattle.elf.specs.Answers.{relas_left, rels_left}
 use Rattle.elf.specs.ElfBytes.{view}
 use Rattle.elf.specs.ObjectFile.{object_file}
 use Rattle.elf_dynamic.specs.dynamic_view.Entries.{entries_in}
-use Rattle.elf_dynamic.specs.dynamic_view.Relocations.{Relas, Rels, plt_left}
-use Rattle.elf_linking.specs.BySegments.{RelocationLists, list_of}
+use Rattle.elf_dynamic.specs.dynamic_view.Relocations.{Relas, Rels}
+use Rattle.elf_linking.specs.BySegments.{list_of}
 use Rattle.elf_records.specs.Table.{table_view}
 use Rattle.elf_linking.proofs.BySegments.{three_failed, three_made, whole_plt, whole_relas, whole_rels}
 use Rattle.elf_linking.proofs.by_segments.relocations.Goals as goal

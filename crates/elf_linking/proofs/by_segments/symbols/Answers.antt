@@ -1,4 +1,4 @@
-use Rattle.std.proofs.Common.{◌≡◌, ◌∙◌, ap, sym}
+use Rattle.std.proofs.Common.{◌∙◌, ap, sym}
 use Rattle.elf.specs.ElfBytes.{view}
 use Rattle.elf.specs.ObjectFile.{object_file}
 use Rattle.elf_dynamic.specs.dynamic_view.Entries.{entries_in}

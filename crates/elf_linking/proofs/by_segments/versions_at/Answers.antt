@@ -1,6 +1,5 @@
 use Rattle.std.proofs.lemmas.Result.{err_from_is_err_and}
-use Rattle.std.proofs.Common.{◌≡◌, ◌∙◌, List, Option, ℕ, sym}
-use Rattle.std.specs.Option.{option_map}
+use Rattle.std.proofs.Common.{◌∙◌, List, Option, ℕ, sym}
 use Rattle.elf.specs.ElfBytes.{view}
 use Rattle.elf.specs.ObjectFile.{object_file, table_of}
 use Rattle.elf_dynamic.specs.dynamic_view.Entries.{entries_in}

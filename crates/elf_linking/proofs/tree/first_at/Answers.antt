@@ -2,7 +2,7 @@ use Rattle.std.proofs.Common.{◌≡◌, ◌++◌, ℕ, List, Option, Some, true
 use Rattle.std.specs.Prelude.{is_some}
 use Rattle.std.specs.Option.{option_map, option_to_list}
 use Rattle.std.proofs.lemmas.Result.{IfOk-weaker}
-use Rattle.elf_linking.specs.Search.{joined_path, paths_of, places_view}
+use Rattle.elf_linking.specs.Search.{cached_at, joined_path, paths_of, places_view}
 use Rattle.elf_linking.specs.Tree.{Found, first_fitting, found_view}
 use Rattle.elf_linking.proofs.Loading.{first_after, first_before, is_some_of}
 use Rattle.elf_linking.proofs.tree.first_at.Goals as goal
@@ -11,7 +11,7 @@ pub returns-then-is_some : goal.returns-then-is_some
 returns-then-is_some g c =
     let name = c.args.name.now in
     let places = places_view c.args.places.now in
-    let later = option_to_list (places.cached name) ++ map (joined_path name) places.usual in
+    let later = option_to_list (cached_at places name) ++ map (joined_path name) places.usual in
     let some : is_some (option_map found_view c.in_ok-found.found) ≡ true =
     is_some_of found_view c.in_ok-found.found ∙ sym c.is_some.ensures ∙ c.if-is_some.true in
     λ opened is.
@@ -22,7 +22,7 @@ pub returns : goal.returns
 returns g c =
     let name = c.args.name.now in
     let places = places_view c.args.places.now in
-    let later = option_to_list (places.cached name) ++ map (joined_path name) places.usual in
+    let later = option_to_list (cached_at places name) ++ map (joined_path name) places.usual in
     let none : is_some (option_map found_view c.in_ok-found.found) ≡ false =
     is_some_of found_view c.in_ok-found.found ∙ sym c.is_some.ensures ∙ c.if-is_some.false in
     IfOk-weaker c.cached_or_usual.result

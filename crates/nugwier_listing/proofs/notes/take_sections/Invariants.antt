@@ -11,5 +11,5 @@ abbrev pub invariant-loop-section : goal.invariant-loop-section
 invariant-loop-section g l =
     let whole = file_of (g.R.Headers.file l.file) (g.R.ListedFile.bytes l.file) in
     (l.number ≡ l.section-index)
-    × (flat_map part_said l.parts.items ++ numbered (section_notes_in whole) l.section-index (drop l.section-index l.section-items)
+    × (flat_map (part_said g.E.EndianParse.little) l.parts.items ++ numbered (section_notes_in whole) l.section-index (drop l.section-index l.section-items)
     ≡ numbered (section_notes_in whole) 0 whole.sections)

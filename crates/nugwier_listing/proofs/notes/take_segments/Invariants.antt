@@ -11,5 +11,5 @@ abbrev pub invariant-loop-segment : goal.invariant-loop-segment
 invariant-loop-segment g l =
     let whole = file_of (g.R.Headers.file l.file) (g.R.ListedFile.bytes l.file) in
     (l.number ≡ l.segment-index)
-    × (flat_map part_said l.parts.items ++ numbered (segment_notes_in whole) l.segment-index (drop l.segment-index l.segment-items)
+    × (flat_map (part_said g.E.EndianParse.little) l.parts.items ++ numbered (segment_notes_in whole) l.segment-index (drop l.segment-index l.segment-items)
     ≡ numbered (segment_notes_in whole) 0 whole.segments)

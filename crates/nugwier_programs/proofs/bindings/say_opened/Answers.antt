@@ -1,6 +1,6 @@
 use Rattle.std.proofs.Common.{◌++◌, ◌∙◌, [], ap, append-nil, map, refl, subst, sym}
 use Rattle.std.specs.List.{flat_map}
-use Rattle.elf_linking.specs.Tree.{entry_view}
+use Rattle.elf_linking.specs.Tree.{entry_of}
 use Rattle.nugwier_programs.specs.Bindings.{AreAllFilesSaid, AreSearched, files_of, open_problem, search_problem}
 use Rattle.nugwier_programs.specs.inner.Scope.{open_view, searched_file}
 use Rattle.nugwier_programs.proofs.Scopes.{empty_is, not_empty_is, not_searched, then_said}
@@ -13,7 +13,7 @@ returns-then-is_empty g c =
     let found = c.add_file.new.found in
     let none = empty_is found.items found.len c.is_empty.result found.ok.0 c.is_empty.ensures c.if-is_empty.true in
     let problem = search_problem one.0 in
-    (problem, (one.0, one.1, [], not_searched one.0 found.items (map entry_view c.args.libraries.now) (one.3 ∙ ap (λ l. map searched_file l ++ files_of one.0) c.new-found.ensures.items) none, sym (append-nil problem)), one.2)
+    (problem, (one.0, one.1, [], not_searched one.0 found.items (map entry_of c.args.libraries.now) (one.3 ∙ ap (λ l. map searched_file l ++ files_of one.0) c.new-found.ensures.items) none, sym (append-nil problem)), one.2)
 
 pub returns : goal.returns
 returns g c =
@@ -21,7 +21,7 @@ returns g c =
     let opened = c.in_ok-opened.ensures in
     let others = c.in_ok-say_with.ensures in
     let found = c.add_file.new.found in
-    let libraries = map entry_view c.args.libraries.now in
+    let libraries = map entry_of c.args.libraries.now in
     let first = one.3 ∙ ap (λ l. map searched_file l ++ files_of one.0) c.new-found.ensures.items in
     let some = not_empty_is found.items found.len c.is_empty.result found.ok.0 c.is_empty.ensures c.if-is_empty.false in
     let problem = search_problem one.0 in

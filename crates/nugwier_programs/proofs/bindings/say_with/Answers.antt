@@ -1,4 +1,4 @@
-use Rattle.std.proofs.Common.{◌++◌, map, subst}
+use Rattle.std.proofs.Common.{subst}
 use Rattle.std.specs.List.{flat_map}
 use Rattle.nugwier_programs.specs.Bindings.{AreAllFilesSaid, search_problem}
 use Rattle.nugwier_programs.proofs.Walk.{said_two}

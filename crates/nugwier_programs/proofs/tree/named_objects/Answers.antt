@@ -1,8 +1,8 @@
-use Rattle.std.proofs.Common.{ap, map, sym, subst}
+use Rattle.std.proofs.Common.{ap, sym, subst}
 use Rattle.std.proofs.lemmas.Result.{IfOk-weaker}
 use Rattle.std.specs.Option.{option_map}
-use Rattle.elf_linking.specs.Tree.{entry_view, found_view, opened_names}
-use Rattle.nugwier_programs.specs.Tree.{AreNamedObjects, AreOpened, Contents, search_view}
+use Rattle.elf_linking.specs.Tree.{found_view, opened_names}
+use Rattle.nugwier_programs.specs.Tree.{AreNamedObjects, AreOpened, Contents, order_view, search_view}
 use Rattle.nugwier_programs.proofs.tree.named_objects.Goals as goal
 
 pub returns : goal.returns
@@ -10,7 +10,7 @@ returns g c =
     let search = search_view c.args.search in
     let program = found_view c.args.program in
     IfOk-weaker c.opened_objects.result _
-    (λ objects. AreNamedObjects (g.F.Files.known c.args.files.now) search program (map entry_view objects.items))
-    (λ objects h. subst (λ (contents : Contents). AreOpened opened_names contents search program (map entry_view objects.items)) (sym c.has_libraries.ensures)
+    (λ order. AreNamedObjects (g.F.Files.known c.args.files.now) search program (order_view order))
+    (λ order h. subst (λ (contents : Contents). AreOpened opened_names contents search program (order_view order)) (sym c.has_libraries.ensures)
     (h opened_names (ap (option_map opened_names) c.has_libraries.ensures)))
     c.opened_objects.ensures

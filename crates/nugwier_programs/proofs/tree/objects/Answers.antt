@@ -1,8 +1,8 @@
-use Rattle.std.proofs.Common.{ℕ, List, Option, map, refl, ◌≡◌}
+use Rattle.std.proofs.Common.{ℕ, List, Option, refl, ◌≡◌}
 use Rattle.std.proofs.lemmas.Result.{IfOk-weaker}
 use Rattle.std.specs.Option.{option_map}
-use Rattle.elf_linking.specs.Tree.{Found, entry_view, found_view, opened_whole}
-use Rattle.nugwier_programs.specs.Tree.{AreObjects, AreOpened, search_view}
+use Rattle.elf_linking.specs.Tree.{Found, found_view, opened_whole}
+use Rattle.nugwier_programs.specs.Tree.{AreObjects, AreOpened, order_view, search_view}
 use Rattle.nugwier_programs.proofs.tree.objects.Goals as goal
 
 pub returns : goal.returns
@@ -11,8 +11,8 @@ returns g c =
     let search = search_view c.args.search in
     let program = found_view c.args.program in
     IfOk-weaker c.opened_objects.result
-    (λ objects. (opened : (List ℕ → Option (List ℕ)) → List ℕ → Option Found) → option_map opened_whole contents ≡ option_map opened contents
-    → AreOpened opened contents search program (map entry_view objects.items))
-    (λ objects. AreObjects contents search program (map entry_view objects.items))
-    (λ objects h. h opened_whole refl)
+    (λ order. (opened : (List ℕ → Option (List ℕ)) → List ℕ → Option Found) → option_map opened_whole contents ≡ option_map opened contents
+    → AreOpened opened contents search program (order_view order))
+    (λ order. AreObjects contents search program (order_view order))
+    (λ order h. h opened_whole refl)
     c.opened_objects.ensures

@@ -5,7 +5,7 @@ use Rattle.elf_check.proofs.notes.bytes.first_no_note.Given as goal
 
 -- the notes end where those end that begin here
 abbrev pub invariant-loop-offset : goal.invariant-loop-offset
-invariant-loop-offset l = notes_end l.offset (note_links l.little l.align l.bytes l.offset) ≡ notes_end 0 (note_links l.little l.align l.bytes 0)
+invariant-loop-offset l = notes_end l.offset (note_links l.little l.step l.bytes l.offset) ≡ notes_end 0 (note_links l.little l.step l.bytes 0)
 
 abbrev pub decreases-loop-offset : goal.decreases-loop-offset
 decreases-loop-offset l = length l.bytes - l.offset

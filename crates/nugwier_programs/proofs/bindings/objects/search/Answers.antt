@@ -1,4 +1,4 @@
-use Rattle.std.proofs.Common.{◌≡◌, ℕ, List, Ok, Err, Some, None, sym, subst, ◌∙◌}
+use Rattle.std.proofs.Common.{◌≡◌, ℕ, List, Ok, Err, Some, None, sym, subst}
 use Rattle.elf.specs.ElfBytes.{view}
 use Rattle.elf_linking.specs.DynamicFile.{dynamic_symbols}
 use Rattle.elf_linking.specs.VersionedView.{versioned_view}

@@ -1,0 +1,7 @@
+pub mod Flags
+pub mod Notes
+pub mod Relocations
+pub mod Sections
+pub mod Segments
+pub mod Table
+pub mod Tags

@@ -1,0 +1,200 @@
+//! The names of flags: single bits, and fields of some bits.
+ghost use Rattle.std.specs.Prelude.{◌≡◌};
+ghost use Rattle.elf_names.specs.Flags.{dynamic_flags, dynamic_flags_1, file_flags, flag_of, flags_of, is_set};
+ghost use Rattle.elf_names.specs.Flags.{section_flags, segment_flags};
+
+use elf_abi::abi;
+
+/// A flag of a number: the bits that it has to do with, their value if it is set, and its name.
+pub type Flag = (u64, u64, &'static str);
+
+/// The flags of a number.
+pub type Flags = &'static [Flag];
+
+/// Returns whether a flag is set in a number.
+pub fn is_set(flag: &Flag, number: u64) -> bool
+    ensures { result ≡ is_set number (flag_of flag.now) }
+{
+    number & flag.0 == flag.1
+}
+
+/// Returns the flags of `DT_FLAGS` (gABI, chapter "Dynamic Section").
+#[tactic(auto, unfolding(crate::specs::Flags::dynamic_flags))]
+pub fn dynamic_flags() -> Flags
+    ensures { flags_of result.now ≡ dynamic_flags }
+{
+    DYNAMIC
+}
+
+/// Returns the flags of `DT_FLAGS_1` (Sun and GNU).
+#[tactic(auto, unfolding(crate::specs::Flags::dynamic_flags_1))]
+pub fn dynamic_flags_1() -> Flags
+    ensures { flags_of result.now ≡ dynamic_flags_1 }
+{
+    DYNAMIC_1
+}
+
+/// Returns the flags of `sh_flags` (gABI, chapter "Sections", and GNU extensions).
+#[tactic(auto, unfolding(crate::specs::Flags::section_flags))]
+pub fn section_flags() -> Flags
+    ensures { flags_of result.now ≡ section_flags }
+{
+    SECTION
+}
+
+/// Returns the flags of `p_flags` (gABI, chapter "Program Header").
+#[tactic(auto, unfolding(crate::specs::Flags::segment_flags))]
+pub fn segment_flags() -> Flags
+    ensures { flags_of result.now ≡ segment_flags }
+{
+    SEGMENT
+}
+
+/// `DT_FLAGS` (gABI, chapter "Dynamic Section").
+pub const DYNAMIC: Flags = &[
+    (0x1, 0x1, "DF_ORIGIN"),
+    (0x2, 0x2, "DF_SYMBOLIC"),
+    (0x4, 0x4, "DF_TEXTREL"),
+    (0x8, 0x8, "DF_BIND_NOW"),
+    (0x10, 0x10, "DF_STATIC_TLS"),
+];
+
+/// `DT_FLAGS_1` (Sun and GNU).
+pub const DYNAMIC_1: Flags = &[
+    (0x1, 0x1, "DF_1_NOW"),
+    (0x2, 0x2, "DF_1_GLOBAL"),
+    (0x4, 0x4, "DF_1_GROUP"),
+    (0x8, 0x8, "DF_1_NODELETE"),
+    (0x10, 0x10, "DF_1_LOADFLTR"),
+    (0x20, 0x20, "DF_1_INITFIRST"),
+    (0x40, 0x40, "DF_1_NOOPEN"),
+    (0x80, 0x80, "DF_1_ORIGIN"),
+    (0x100, 0x100, "DF_1_DIRECT"),
+    (0x200, 0x200, "DF_1_TRANS"),
+    (0x400, 0x400, "DF_1_INTERPOSE"),
+    (0x800, 0x800, "DF_1_NODEFLIB"),
+    (0x1000, 0x1000, "DF_1_NODUMP"),
+    (0x2000, 0x2000, "DF_1_CONFALT"),
+    (0x4000, 0x4000, "DF_1_ENDFILTEE"),
+    (0x8000, 0x8000, "DF_1_DISPRELDNE"),
+    (0x10000, 0x10000, "DF_1_DISPRELPND"),
+    (0x20000, 0x20000, "DF_1_NODIRECT"),
+    (0x40000, 0x40000, "DF_1_IGNMULDEF"),
+    (0x80000, 0x80000, "DF_1_NOKSYMS"),
+    (0x100000, 0x100000, "DF_1_NOHDR"),
+    (0x200000, 0x200000, "DF_1_EDITED"),
+    (0x400000, 0x400000, "DF_1_NORELOC"),
+    (0x800000, 0x800000, "DF_1_SYMINTPOSE"),
+    (0x1000000, 0x1000000, "DF_1_GLOBAUDIT"),
+    (0x2000000, 0x2000000, "DF_1_SINGLETON"),
+    (0x4000000, 0x4000000, "DF_1_STUB"),
+    (0x8000000, 0x8000000, "DF_1_PIE"),
+    (0x10000000, 0x10000000, "DF_1_KMOD"),
+    (0x20000000, 0x20000000, "DF_1_WEAKFILTER"),
+    (0x40000000, 0x40000000, "DF_1_NOCOMMON"),
+];
+
+/// `sh_flags` (gABI, chapter "Sections", and GNU extensions).
+pub const SECTION: Flags = &[
+    (0x1, 0x1, "SHF_WRITE"),
+    (0x2, 0x2, "SHF_ALLOC"),
+    (0x4, 0x4, "SHF_EXECINSTR"),
+    (0x10, 0x10, "SHF_MERGE"),
+    (0x20, 0x20, "SHF_STRINGS"),
+    (0x40, 0x40, "SHF_INFO_LINK"),
+    (0x80, 0x80, "SHF_LINK_ORDER"),
+    (0x100, 0x100, "SHF_OS_NONCONFORMING"),
+    (0x200, 0x200, "SHF_GROUP"),
+    (0x400, 0x400, "SHF_TLS"),
+    (0x800, 0x800, "SHF_COMPRESSED"),
+    (0x200000, 0x200000, "SHF_GNU_RETAIN"),
+    (0x80000000, 0x80000000, "SHF_EXCLUDE"),
+];
+
+/// `p_flags` (gABI, chapter "Program Header").
+pub const SEGMENT: Flags = &[(0x1, 0x1, "PF_X"), (0x2, 0x2, "PF_W"), (0x4, 0x4, "PF_R")];
+
+/// Returns the flags of `e_flags` that this machine (`e_machine`) gives.
+#[tactic(auto, unfolding(crate::specs::Flags::file_flags))]
+pub fn file_flags(e_machine: u16) -> Flags
+    ensures { flags_of result.now ≡ file_flags e_machine }
+{
+    match e_machine {
+        abi::EM_ARM => ARM,
+        abi::EM_MIPS => MIPS,
+        abi::EM_PPC => PPC,
+        abi::EM_RISCV => RISCV,
+        abi::EM_LOONGARCH => LOONGARCH,
+        _ => &[],
+    }
+}
+
+/// Of ARM: ELF for the Arm Architecture, section "ELF Header".
+pub const ARM: Flags = &[
+    (0xff000000, 0x1000000, "EF_ARM_EABI_VER1"),
+    (0xff000000, 0x2000000, "EF_ARM_EABI_VER2"),
+    (0xff000000, 0x3000000, "EF_ARM_EABI_VER3"),
+    (0xff000000, 0x4000000, "EF_ARM_EABI_VER4"),
+    (0xff000000, 0x5000000, "EF_ARM_EABI_VER5"),
+    (0x800000, 0x800000, "EF_ARM_BE8"),
+    (0x200, 0x200, "EF_ARM_ABI_FLOAT_SOFT"),
+    (0x400, 0x400, "EF_ARM_ABI_FLOAT_HARD"),
+];
+
+/// Of MIPS: the processor, what it can do, and the ABI.
+pub const MIPS: Flags = &[
+    (0x1, 0x1, "EF_MIPS_NOREORDER"),
+    (0x2, 0x2, "EF_MIPS_PIC"),
+    (0x4, 0x4, "EF_MIPS_CPIC"),
+    (0x8, 0x8, "EF_MIPS_XGOT"),
+    (0x10, 0x10, "EF_MIPS_64BIT_WHIRL"),
+    (0x20, 0x20, "EF_MIPS_ABI2"),
+    (0x40, 0x40, "EF_MIPS_ABI_ON32"),
+    (0x100, 0x100, "EF_MIPS_32BITMODE"),
+    (0x200, 0x200, "EF_MIPS_FP64"),
+    (0x400, 0x400, "EF_MIPS_NAN2008"),
+    (0xf000, 0x1000, "EF_MIPS_ABI_O32"),
+    (0xf000, 0x2000, "EF_MIPS_ABI_O64"),
+    (0xf000, 0x3000, "EF_MIPS_ABI_EABI32"),
+    (0xf000, 0x4000, "EF_MIPS_ABI_EABI64"),
+    (0xf000000, 0x2000000, "EF_MIPS_ARCH_ASE_MICROMIPS"),
+    (0xf000000, 0x4000000, "EF_MIPS_ARCH_ASE_M16"),
+    (0xf000000, 0x8000000, "EF_MIPS_ARCH_ASE_MDMX"),
+    (0xf0000000, 0x0, "EF_MIPS_ARCH_1"),
+    (0xf0000000, 0x10000000, "EF_MIPS_ARCH_2"),
+    (0xf0000000, 0x20000000, "EF_MIPS_ARCH_3"),
+    (0xf0000000, 0x30000000, "EF_MIPS_ARCH_4"),
+    (0xf0000000, 0x40000000, "EF_MIPS_ARCH_5"),
+    (0xf0000000, 0x50000000, "EF_MIPS_ARCH_32"),
+    (0xf0000000, 0x60000000, "EF_MIPS_ARCH_64"),
+    (0xf0000000, 0x70000000, "EF_MIPS_ARCH_32R2"),
+    (0xf0000000, 0x80000000, "EF_MIPS_ARCH_64R2"),
+    (0xf0000000, 0x90000000, "EF_MIPS_ARCH_32R6"),
+    (0xf0000000, 0xa0000000, "EF_MIPS_ARCH_64R6"),
+];
+
+/// Of 32-bit PowerPC.
+pub const PPC: Flags = &[
+    (0x80000000, 0x80000000, "EF_PPC_EMB"),
+    (0x10000, 0x10000, "EF_PPC_RELOCATABLE"),
+    (0x8000, 0x8000, "EF_PPC_RELOCATABLE_LIB"),
+];
+
+/// Of RISC-V: RISC-V ELF psABI, section "File Header".
+pub const RISCV: Flags = &[
+    (0x1, 0x1, "EF_RISCV_RVC"),
+    (0x6, 0x0, "EF_RISCV_FLOAT_ABI_SOFT"),
+    (0x6, 0x2, "EF_RISCV_FLOAT_ABI_SINGLE"),
+    (0x6, 0x4, "EF_RISCV_FLOAT_ABI_DOUBLE"),
+    (0x6, 0x6, "EF_RISCV_FLOAT_ABI_QUAD"),
+    (0x8, 0x8, "EF_RISCV_RVE"),
+    (0x10, 0x10, "EF_RISCV_TSO"),
+];
+
+/// Of LoongArch: ELF for the LoongArch Architecture, section "e_flags".
+pub const LOONGARCH: Flags = &[
+    (0x7, 0x1, "EF_LOONGARCH_ABI_SOFT_FLOAT"),
+    (0x7, 0x2, "EF_LOONGARCH_ABI_SINGLE_FLOAT"),
+    (0x7, 0x3, "EF_LOONGARCH_ABI_DOUBLE_FLOAT"),
+    (0xc0, 0x40, "EF_LOONGARCH_OBJABI_V1"),
+];

@@ -1,0 +1,10 @@
+//! Names that a machine, a system or a linker gives to numbers, beyond those of `elf_abi::to_str`.
+#![tactic(auto)]
+
+pub mod flags;
+pub mod notes;
+pub mod relocations;
+pub mod sections;
+pub mod segments;
+pub mod table;
+pub mod tags;
