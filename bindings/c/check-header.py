@@ -90,11 +90,18 @@ def constants_in(source):
     return {("NUGWIER_" if is_part(name) else "NUGWIER_FAULT_") + name: int(value) for name, value in found}
 
 
+def slice_in(kind):
+    """What a field holds that is a slice."""
+    found = re.fullmatch(r"&'?\w*\s*\[(.+)\]", kind)
+    return found and found.group(1)
+
+
 def c_fields(fields):
     """The C fields of a Rattle struct: a slice is a pointer and a length."""
     for name, kind in fields:
-        if re.fullmatch(r"&'?\w*\s*\[u8\]", kind):
-            yield name, "const uint8_t *"
+        slice_of = slice_in(kind)
+        if slice_of:
+            yield name, f"const {NUMBERS.get(slice_of) or 'struct ' + c_name(base(slice_of))} *"
             yield name + "_len", "size_t"
         elif kind in NUMBERS:
             yield name, NUMBERS[kind]
@@ -119,7 +126,7 @@ def layout(name, structs):
     """The size, the alignment and the offsets of a struct where a pointer and a size have eight bytes."""
     offset, greatest, offsets = 0, 1, []
     for field, kind in structs[name]:
-        if re.fullmatch(r"&'?\w*\s*\[u8\]", kind):
+        if slice_in(kind):
             parts = [(field, 8, 8), (field + "_len", 8, 8)]
         elif kind in SIZES:
             parts = [(field, SIZES[kind], SIZES[kind])]

@@ -151,7 +151,8 @@ static void read_checked(const struct nugwier_file *file)
     struct nugwier_section_names names = {0};
     struct nugwier_bytes name = {0};
     uint8_t text[256];
-    bool sound = nugwier_check(file, &fault);
+    bool sound = false;
+    expect(!nugwier_check(file, &sound, &fault).code, "a check of a file in memory");
     size_t length = nugwier_fault_text(&fault, text, sizeof text);
     expect(sound == (fault.kind == NUGWIER_NO_FAULT) && sound == (length == 0), "a fault of a sound file, or none");
     expect(length < sizeof text, "a long text of a fault");
@@ -183,6 +184,8 @@ static void read_checked(const struct nugwier_file *file)
         }
     }
 }
+
+static void read_by_parts(const uint8_t *bytes, size_t length);
 
 static void read_all(const uint8_t *bytes, size_t length)
 {
@@ -240,6 +243,325 @@ static void read_all(const uint8_t *bytes, size_t length)
     read_versions(&file);
     read_common(&file);
     read_checked(&file);
+    read_by_parts(bytes, length);
+}
+
+/* ---- a file by parts */
+
+/* A file of which a range is loaded when a call names it: each range a copy of its own, so that the sanitizer sees a read
+ * beside it. */
+struct parts {
+    const uint8_t *bytes;
+    size_t length;
+    struct nugwier_range ranges[100];
+    size_t count;
+    struct nugwier_file file;
+};
+
+static void add_range(struct parts *parts, uint64_t start, size_t length)
+{
+    expect(parts->count < 100, "a call names range after range");
+    uint8_t *copy = malloc(length ? length : 1);
+    if (!copy) exit(1);
+    if (length) memcpy(copy, parts->bytes + start, length);
+    /* at the front or at the end: the order does not matter */
+    size_t place = parts->count % 2 ? 0 : parts->count;
+    memmove(parts->ranges + place + 1, parts->ranges + place, (parts->count - place) * sizeof *parts->ranges);
+    parts->ranges[place] = (struct nugwier_range){start, copy, length};
+    parts->count++;
+    parts->file.ranges = parts->ranges;
+    parts->file.ranges_len = parts->count;
+}
+
+static bool lies_within(const struct nugwier_range *range, uint64_t start, uint64_t end)
+{
+    return range->start <= start && end - range->start <= range->bytes_len;
+}
+
+/* Loads what a status names, and before it all but the last byte of that, after which the same is named again. */
+static bool load(struct parts *parts, struct nugwier_status status, struct nugwier_status *before)
+{
+    if (status.code != NUGWIER_NOT_LOADED) return false;
+    expect(status.first < status.second && status.second <= parts->length, "a missing range that is not in the file");
+    for (size_t i = 0; i < parts->count; i++)
+        expect(!lies_within(&parts->ranges[i], status.first, status.second), "a missing range that is loaded");
+    bool again = status.first == before->first && status.second == before->second;
+    add_range(parts, status.first, (size_t)(status.second - status.first) - !again);
+    *before = status;
+    return true;
+}
+
+/* The status of a call once all that it names is loaded. */
+#define BY_PARTS(call)                                      \
+    do {                                                    \
+        struct nugwier_status before = {0, 0, 0};           \
+        while (load(&parts, status = (call), &before)) {}   \
+    } while (0)
+
+static bool same_status(struct nugwier_status one, struct nugwier_status other)
+{
+    return one.code == other.code && one.first == other.first && one.second == other.second;
+}
+
+static bool same_bytes(const uint8_t *one, size_t length, const uint8_t *other, size_t other_length)
+{
+    return length == other_length && (!length || !memcmp(one, other, length));
+}
+
+static bool same_table(const struct nugwier_table *one, const struct nugwier_table *other)
+{
+    return one->little == other->little && one->is_64 == other->is_64 &&
+           same_bytes(one->bytes, one->bytes_len, other->bytes, other->bytes_len);
+}
+
+static bool same_symbols(const struct nugwier_symbol_table *one, const struct nugwier_symbol_table *other)
+{
+    return one->found == other->found && same_table(&one->symbols, &other->symbols) &&
+           same_bytes(one->strings, one->strings_len, other->strings, other->strings_len);
+}
+
+static bool same_entries(const struct nugwier_entries *one, const struct nugwier_entries *other)
+{
+    return one->found == other->found && one->count == other->count && same_table(&one->entries, &other->entries) &&
+           same_bytes(one->strings, one->strings_len, other->strings, other->strings_len);
+}
+
+static bool same_hashes(const struct nugwier_common *one, const struct nugwier_common *other)
+{
+    return one->has_gnu == other->has_gnu && one->has_sysv == other->has_sysv &&
+           one->gnu.nbucket == other->gnu.nbucket && one->gnu.first == other->gnu.first &&
+           one->gnu.nbloom == other->gnu.nbloom && one->gnu.nshift == other->gnu.nshift &&
+           same_bytes(one->gnu.bloom, one->gnu.bloom_len, other->gnu.bloom, other->gnu.bloom_len) &&
+           same_bytes(one->gnu.buckets, one->gnu.buckets_len, other->gnu.buckets, other->gnu.buckets_len) &&
+           same_bytes(one->gnu.chains, one->gnu.chains_len, other->gnu.chains, other->gnu.chains_len) &&
+           same_bytes(one->sysv.buckets, one->sysv.buckets_len, other->sysv.buckets, other->sysv.buckets_len) &&
+           same_bytes(one->sysv.chains, one->sysv.chains_len, other->sysv.chains, other->sysv.chains_len);
+}
+
+static void forget(struct parts *parts, size_t left)
+{
+    while (parts->count > left) free((void *)parts->ranges[--parts->count].bytes);
+    parts->file.ranges_len = left;
+}
+
+/* A file with the headers of `whole` and no range loaded: each call starts from nothing. */
+#define FRESH(of)                                                                                    \
+    struct parts parts = {.bytes = (of)->bytes, .length = (of)->bytes_len, .file = *(of)};           \
+    parts.file.bytes = NULL;                                                                         \
+    parts.file.bytes_len = 0;                                                                        \
+    struct nugwier_status status
+
+static void section_by_parts(const struct nugwier_file *whole, const struct nugwier_section *section)
+{
+    FRESH(whole);
+    struct nugwier_data data = {0}, data_of_parts = {0};
+    BY_PARTS(nugwier_section_data(&parts.file, section, &data_of_parts));
+    expect(same_status(status, nugwier_section_data(whole, section, &data)) &&
+               same_bytes(data.bytes, data.bytes_len, data_of_parts.bytes, data_of_parts.bytes_len) &&
+               data.compression.size == data_of_parts.compression.size,
+           "other bytes of a section by parts");
+    forget(&parts, 0);
+    struct nugwier_bytes strings = {0}, strings_of_parts = {0};
+    BY_PARTS(nugwier_section_strings(&parts.file, section, &strings_of_parts));
+    expect(same_status(status, nugwier_section_strings(whole, section, &strings)) &&
+               same_bytes(strings.bytes, strings.bytes_len, strings_of_parts.bytes, strings_of_parts.bytes_len),
+           "other strings by parts");
+    forget(&parts, 0);
+    struct nugwier_table table = {0}, table_of_parts = {0};
+    BY_PARTS(nugwier_section_rels(&parts.file, section, &table_of_parts));
+    expect(same_status(status, nugwier_section_rels(whole, section, &table)) && same_table(&table, &table_of_parts),
+           "other relocations by parts");
+    forget(&parts, 0);
+    BY_PARTS(nugwier_section_relas(&parts.file, section, &table_of_parts));
+    expect(same_status(status, nugwier_section_relas(whole, section, &table)) && same_table(&table, &table_of_parts),
+           "other relocations with addends by parts");
+    forget(&parts, 0);
+    struct nugwier_notes notes = {0}, notes_of_parts = {0};
+    BY_PARTS(nugwier_section_notes(&parts.file, section, &notes_of_parts));
+    expect(same_status(status, nugwier_section_notes(whole, section, &notes)) && notes.align == notes_of_parts.align &&
+               same_bytes(notes.bytes, notes.bytes_len, notes_of_parts.bytes, notes_of_parts.bytes_len),
+           "other notes by parts");
+    forget(&parts, 0);
+}
+
+static void segment_by_parts(const struct nugwier_file *whole, const struct nugwier_segment *segment)
+{
+    FRESH(whole);
+    struct nugwier_bytes bytes = {0}, bytes_of_parts = {0};
+    BY_PARTS(nugwier_segment_data(&parts.file, segment, &bytes_of_parts));
+    expect(same_status(status, nugwier_segment_data(whole, segment, &bytes)) &&
+               same_bytes(bytes.bytes, bytes.bytes_len, bytes_of_parts.bytes, bytes_of_parts.bytes_len),
+           "other bytes of a segment by parts");
+    forget(&parts, 0);
+    struct nugwier_notes notes = {0}, notes_of_parts = {0};
+    BY_PARTS(nugwier_segment_notes(&parts.file, segment, &notes_of_parts));
+    expect(same_status(status, nugwier_segment_notes(whole, segment, &notes)) && notes.align == notes_of_parts.align &&
+               same_bytes(notes.bytes, notes.bytes_len, notes_of_parts.bytes, notes_of_parts.bytes_len),
+           "other notes of a segment by parts");
+    forget(&parts, 0);
+}
+
+static void tables_by_parts(const struct nugwier_file *whole)
+{
+    FRESH(whole);
+    for (int dynamic = 0; dynamic < 2; dynamic++) {
+        struct nugwier_symbol_table symbols = {0}, symbols_of_parts = {0};
+        BY_PARTS(nugwier_symbol_table(&parts.file, dynamic, &symbols_of_parts));
+        expect(same_status(status, nugwier_symbol_table(whole, dynamic, &symbols)) &&
+                   same_symbols(&symbols, &symbols_of_parts),
+               "other symbols by parts");
+        forget(&parts, 0);
+    }
+    struct nugwier_dynamic_table entries = {0}, entries_of_parts = {0};
+    BY_PARTS(nugwier_dynamic_table(&parts.file, &entries_of_parts));
+    expect(same_status(status, nugwier_dynamic_table(whole, &entries)) && entries.found == entries_of_parts.found &&
+               same_table(&entries.entries, &entries_of_parts.entries),
+           "other dynamic entries by parts");
+    forget(&parts, 0);
+    struct nugwier_versions versions = {0}, versions_of_parts = {0};
+    BY_PARTS(nugwier_version_table(&parts.file, &versions_of_parts));
+    expect(same_status(status, nugwier_version_table(whole, &versions)) && versions.found == versions_of_parts.found &&
+               same_table(&versions.indexes, &versions_of_parts.indexes) &&
+               same_entries(&versions.needs, &versions_of_parts.needs) &&
+               same_entries(&versions.definitions, &versions_of_parts.definitions),
+           "other versions by parts");
+    forget(&parts, 0);
+    struct nugwier_common common = {0}, common_of_parts = {0};
+    BY_PARTS(nugwier_common(&parts.file, &common_of_parts));
+    expect(same_status(status, nugwier_common(whole, &common)) && same_hashes(&common, &common_of_parts) &&
+               same_symbols(&common.symbols, &common_of_parts.symbols) &&
+               same_symbols(&common.dynamic_symbols, &common_of_parts.dynamic_symbols) &&
+               common.dynamics.found == common_of_parts.dynamics.found &&
+               same_table(&common.dynamics.entries, &common_of_parts.dynamics.entries),
+           "other common data by parts");
+    forget(&parts, 0);
+}
+
+static void names_by_parts(const struct nugwier_file *whole)
+{
+    FRESH(whole);
+    struct nugwier_section_names names = {0}, names_of_parts = {0};
+    BY_PARTS(nugwier_section_names(&parts.file, &names_of_parts));
+    expect(same_status(status, nugwier_section_names(whole, &names)) && names.found == names_of_parts.found &&
+               same_bytes(names.strings, names.strings_len, names_of_parts.strings, names_of_parts.strings_len),
+           "other names by parts");
+    forget(&parts, 0);
+    struct nugwier_section section = {0}, section_of_parts = {0};
+    bool found = false, found_by_parts = false;
+    const uint8_t *name = (const uint8_t *)".text";
+    BY_PARTS(nugwier_section_by_name(&parts.file, name, 5, &found_by_parts, &section_of_parts));
+    expect(same_status(status, nugwier_section_by_name(whole, name, 5, &found, &section)) && found == found_by_parts &&
+               section.offset == section_of_parts.offset,
+           "another section of a name by parts");
+    forget(&parts, 0);
+    struct nugwier_fault fault = {0}, fault_of_parts = {0};
+    bool sound = false, sound_by_parts = false;
+    BY_PARTS(nugwier_check(&parts.file, &sound_by_parts, &fault_of_parts));
+    expect(same_status(status, nugwier_check(whole, &sound, &fault)) && sound == sound_by_parts &&
+               fault.kind == fault_of_parts.kind && fault.index == fault_of_parts.index,
+           "another fault by parts");
+    forget(&parts, 0);
+}
+
+static void read_by_parts(const uint8_t *bytes, size_t length)
+{
+    struct nugwier_file whole = {0};
+    struct nugwier_status opened = nugwier_open(bytes, length, &whole), status;
+    struct parts parts = {.bytes = bytes, .length = length};
+    struct nugwier_file file = {0};
+    BY_PARTS(nugwier_open_ranges(length, parts.ranges, parts.count, &file));
+    expect(same_status(status, opened), "another status of opening by parts");
+    expect(file.has_sections == whole.has_sections && file.has_segments == whole.has_segments &&
+               same_table(&file.sections, &whole.sections) && same_table(&file.segments, &whole.segments),
+           "other headers of a file by parts");
+    if (!opened.code) {
+        expect(file.size == length && !file.bytes_len && file.ranges == parts.ranges, "the ranges of an opened file");
+        struct nugwier_section section = {0}, same_section = {0};
+        struct nugwier_segment segment = {0}, same_segment = {0};
+        for (size_t i = 0; i < 64 && !nugwier_section(&whole, i, &section).code; i++) {
+            expect(!nugwier_section(&file, i, &same_section).code && section.offset == same_section.offset &&
+                       section.size == same_section.size,
+                   "another section by parts");
+            section_by_parts(&whole, &section);
+        }
+        for (size_t i = 0; i < 32 && !nugwier_segment(&whole, i, &segment).code; i++) {
+            expect(!nugwier_segment(&file, i, &same_segment).code && segment.offset == same_segment.offset,
+                   "another segment by parts");
+            segment_by_parts(&whole, &segment);
+        }
+        tables_by_parts(&whole);
+        names_by_parts(&whole);
+    }
+    forget(&parts, 0);
+}
+
+/* Sizes and ranges that no file has. */
+static void no_file(const uint8_t *bytes, size_t length)
+{
+    struct nugwier_file file = {0};
+    size_t front = length < 64 ? length : 64;
+    struct nugwier_range ranges[] = {
+        {UINT64_MAX, bytes, length}, {UINT64_MAX - 1, bytes, length}, {0, NULL, 0}, {length, NULL, 0},
+        {0, bytes, front},           {1, bytes, length},              {8, bytes, 1}};
+    const uint64_t sizes[] = {0, 1, 15, 16, 17, 63, 64, length, length + 1, UINT64_MAX - 1, UINT64_MAX};
+    for (size_t i = 0; i < sizeof sizes / sizeof *sizes; i++)
+        for (size_t count = 0; count <= sizeof ranges / sizeof *ranges; count++) {
+            struct nugwier_status status = nugwier_open_ranges(sizes[i], ranges, count, &file);
+            expect(status.code != NUGWIER_NOT_LOADED || (status.first < status.second && status.second <= sizes[i]),
+                   "a missing range past the size");
+            if (status.code) continue;
+            struct nugwier_section_names names = {0};
+            struct nugwier_common common = {0};
+            nugwier_section_names(&file, &names);
+            nugwier_common(&file, &common);
+        }
+    /* a file of which nothing is loaded */
+    file = (struct nugwier_file){0};
+    struct nugwier_status status = nugwier_open_ranges(UINT64_MAX, NULL, 0, &file);
+    expect(status.code == NUGWIER_NOT_LOADED && status.first == 0 && status.second == 16, "a file without a byte");
+    expect(!file.size && !file.has_sections, "an error changed a file");
+    file.size = 100;
+    bool sound = true;
+    struct nugwier_fault fault = {.kind = 7};
+    status = nugwier_check(&file, &sound, &fault);
+    expect(status.code == NUGWIER_NOT_LOADED && status.first == 0 && status.second == 100, "a check of no bytes");
+    expect(sound && fault.kind == 7, "a check that was not made wrote something");
+    struct nugwier_segment segment = {.offset = 40, .filesz = 0};
+    struct nugwier_bytes part = {bytes, length};
+    expect(!nugwier_segment_data(&file, &segment, &part).code && !part.bytes_len, "an empty range is not loaded");
+    segment.offset = 101;
+    status = nugwier_segment_data(&file, &segment, &part);
+    expect(status.code == NUGWIER_SLICE_READ_ERROR && status.first == 101 && status.second == 101,
+           "an empty range past the file");
+    segment = (struct nugwier_segment){.offset = 40, .filesz = 61};
+    status = nugwier_segment_data(&file, &segment, &part);
+    expect(status.code == NUGWIER_SLICE_READ_ERROR && status.first == 40 && status.second == 101, "a range past the file");
+    segment.offset = UINT64_MAX;
+    expect(nugwier_segment_data(&file, &segment, &part).code == NUGWIER_INTEGER_OVERFLOW, "a range past all files");
+    /* a range in the middle */
+    struct nugwier_range middle = {10, bytes, length < 64 ? length : 64};
+    file.ranges = &middle;
+    file.ranges_len = 1;
+    segment = (struct nugwier_segment){.offset = 12, .filesz = 3};
+    expect(!nugwier_segment_data(&file, &segment, &part).code && part.bytes == bytes + 2 && part.bytes_len == 3,
+           "a part of a range");
+    segment.offset = 9;
+    status = nugwier_segment_data(&file, &segment, &part);
+    expect(status.code == NUGWIER_NOT_LOADED && status.first == 9 && status.second == 12, "a byte before a range");
+}
+
+/* A file of 64-bit class whose first section header, which has to have the count, lies in it in part or not at all. */
+static void cut_first_section(uint8_t *bytes, size_t length)
+{
+    uint8_t header[64];
+    memcpy(header, bytes, sizeof header);
+    memset(bytes + 60, 0, 2);
+    for (int i = -70; i < 10; i++) {
+        uint64_t place = i < 5 ? (uint64_t)(length + i) : UINT64_MAX - (uint64_t)(9 - i) * 8;
+        for (int j = 0; j < 8; j++) bytes[40 + j] = (uint8_t)(place >> 8 * (bytes[5] == 1 ? j : 7 - j));
+        read_by_parts(bytes, length);
+    }
+    memcpy(bytes, header, sizeof header);
 }
 
 /* The texts are those that `FileFault` of the crate elf_check declares. */
@@ -314,6 +636,8 @@ static void texts(void)
         {{10, 15, 0}, "Could not interpret section with unexpected alignment of 15"},
         {{11, 0x2c, 0x3d}, "Could not read bytes in range [0x2C, 0x3D)"},
         {{12, 0, 0}, "Integer overflow detected"},
+        /* one that the crate does not have */
+        {{NUGWIER_NOT_LOADED, 0x1f, 0xabc}, "Bytes in range [0x1F, 0xABC) are not loaded"},
     };
     for (size_t i = 0; i < sizeof all / sizeof *all; i++) {
         uint8_t text[100];
@@ -393,8 +717,8 @@ static void nothing(void)
     expect(nugwier_section_names(&file, &names).code == 0 && !names.found, "names of a file without any");
     expect(nugwier_version_table(&file, &versions).code == 0 && !versions.found, "versions of a file without any");
     expect(nugwier_section_by_name(&file, NULL, 0, &found, &section).code == 0 && !found, "a section of no name");
-    expect(nugwier_check(&file, &fault) && fault.kind == NUGWIER_NO_FAULT && fault.part == 0 && fault.index == 0 &&
-               fault.first == 0 && fault.second == 0,
+    expect(!nugwier_check(&file, &found, &fault).code && found && fault.kind == NUGWIER_NO_FAULT && fault.part == 0 &&
+               fault.index == 0 && fault.first == 0 && fault.second == 0,
            "a fault of a file with no headers");
     nugwier_e_machine_name(62, &name);
     expect(name.found && name.bytes_len == 9 && !memcmp(name.bytes, "EM_X86_64", 9), "the name of a machine");
@@ -418,6 +742,8 @@ int main(int argc, char **argv)
     if (!bytes || fread(bytes, 1, length, file) != length) return perror(argv[1]), 1;
     fclose(file);
     read_all(bytes, length);
+    if (length >= 100) no_file(bytes, length);
+    if (length >= 100 && bytes[4] == 2) cut_first_section(bytes, length);
     /* the file cut off */
     for (size_t cut = 0; cut < 100 && cut < length; cut++) {
         size_t left = cut < 80 ? cut : length / 100 * cut;

@@ -247,7 +247,10 @@ static int list_fault(const struct nugwier_file *file)
 {
     struct nugwier_fault fault = {0};
     char text[256];
-    if (nugwier_check(file, &fault)) return puts("sound"), 0;
+    bool sound = false;
+    struct nugwier_status status = nugwier_check(file, &sound, &fault);
+    if (status.code) return fail("check", status);
+    if (sound) return puts("sound"), 0;
     size_t length = nugwier_fault_text(&fault, (uint8_t *)text, sizeof text);
     printf("%.*s\n", (int)length, text);
     return 1;

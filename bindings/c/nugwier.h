@@ -43,7 +43,8 @@ enum {
     NUGWIER_UNEXPECTED_ALIGNMENT = 10,     /* never returned */
     NUGWIER_SLICE_READ_ERROR = 11,         /* first: start, second: end of the range that does not lie in the bytes */
     NUGWIER_INTEGER_OVERFLOW = 12,
-    NUGWIER_UTF8_ERROR = 13                /* never returned */
+    NUGWIER_UTF8_ERROR = 13,               /* never returned */
+    NUGWIER_NOT_LOADED = 18                /* first: start, second: end of a range of the file that is not loaded */
 };
 
 struct nugwier_status {
@@ -186,13 +187,26 @@ struct nugwier_header {
     uint16_t shstrndx;
 };
 
-/* A file that was opened. It belongs to the caller, and holds nothing that has to be freed. The tables are those of the
- * section headers and of the program headers, if `has_sections` and `has_segments` say that there are any; if not, the
- * length is 0, and the byte order and the class are those of the header. */
-struct nugwier_file {
-    struct nugwier_header header;
+/* A range of a file with its bytes. The first of them is at `start` in the file. */
+struct nugwier_range {
+    uint64_t start;
     const uint8_t *bytes;
     size_t bytes_len;
+};
+
+/* A file that was opened. It belongs to the caller, and holds nothing that has to be freed. The tables are those of the
+ * section headers and of the program headers, if `has_sections` and `has_segments` say that there are any; if not, the
+ * length is 0, and the byte order and the class are those of the header.
+ *
+ * `size` is the size of the file. What is loaded of it are the `bytes` at its start and the `ranges`. nugwier_open sets
+ * `bytes` to the whole file, and gives no ranges; nugwier_open_ranges sets `ranges`, and gives no bytes. */
+struct nugwier_file {
+    struct nugwier_header header;
+    uint64_t size;
+    const uint8_t *bytes;
+    size_t bytes_len;
+    const struct nugwier_range *ranges;
+    size_t ranges_len;
     bool has_sections;
     bool has_segments;
     struct nugwier_table sections;
@@ -202,7 +216,27 @@ struct nugwier_file {
 /* Opens a file whose bytes are given. An error leaves `file` as it is. */
 struct nugwier_status nugwier_open(const uint8_t *bytes, size_t bytes_len, struct nugwier_file *file);
 
-/* Header `index`, counted from 0. An error leaves the header as it is. */
+/* Opens a file of `size` bytes by parts: these ranges of it are loaded. There may be none; they may be in any order and
+ * may overlap. The result is that of nugwier_open over the whole file, or NUGWIER_NOT_LOADED.
+ *
+ * So is that of every call that takes a `nugwier_file`: it is the result over the whole file, or NUGWIER_NOT_LOADED, and
+ * then nothing is written. `first` and `second` are the start and the end of a range that is missing: it lies in the
+ * file, is not empty, and lies within none of the ranges. The caller reads the bytes from `first` to `second`, adds
+ * them to its ranges, and makes the same call again, with all of its ranges: a call may need several, and then names
+ * one after another. The caller may read more than is named, but a range that a call names has to lie within one range:
+ * two that are side by side are not put together.
+ *
+ * After the file is opened, set `file.ranges` and `file.ranges_len` to the ranges that are loaded, before each call if
+ * they change: the array may move. The bytes that were loaded when the file was opened have to stay where they are, as
+ * the tables of `file` lie in them; so have those in which something lies that a call returned.
+ *
+ * If the ranges hold other bytes than the file, or `size` is not its size, the calls are still total, but what they
+ * return is not said. */
+struct nugwier_status nugwier_open_ranges(uint64_t size, const struct nugwier_range *ranges, size_t ranges_len,
+                                          struct nugwier_file *file);
+
+/* Header `index`, counted from 0. An error leaves the header as it is. The tables were loaded when the file was opened,
+ * so these calls name no range. */
 struct nugwier_status nugwier_section(const struct nugwier_file *file, size_t index, struct nugwier_section *section);
 struct nugwier_status nugwier_segment(const struct nugwier_file *file, size_t index, struct nugwier_segment *segment);
 
@@ -554,15 +588,18 @@ struct nugwier_fault {
     uint64_t second;
 };
 
-/* Whether a file is sound: whether what its headers declare can be read. If it is not, `fault` is the first fault in
- * this order: names of sections; types that one section may have; sections in order, of each its name, its bytes and
- * its content; versions of symbols; segments. If it is, the kind is NUGWIER_NO_FAULT.
+/* Whether a file is sound: whether what its headers declare can be read. `sound` says so. If it is not, `fault` is the
+ * first fault in this order: names of sections; types that one section may have; sections in order, of each its name,
+ * its bytes and its content; versions of symbols; segments. If it is, the kind is NUGWIER_NO_FAULT.
  *
- * Of a sound file these return NUGWIER_OK: nugwier_section_names; nugwier_section_by_name; nugwier_section below the
- * number of sections; of each section nugwier_section_data, and nugwier_string at its name if there are names;
- * nugwier_version_table; nugwier_symbol_table; nugwier_symbol below the number of symbols, and nugwier_string at its
- * name. */
-bool nugwier_check(const struct nugwier_file *file, struct nugwier_fault *fault);
+ * The check needs the whole file in one range. Without it the status is NUGWIER_NOT_LOADED, with 0 and the size of the
+ * file, and nothing is written. Over a file that nugwier_open has opened the status is always NUGWIER_OK.
+ *
+ * Of a sound file that is loaded these return NUGWIER_OK: nugwier_section_names; nugwier_section_by_name;
+ * nugwier_section below the number of sections; of each section nugwier_section_data, and nugwier_string at its name if
+ * there are names; nugwier_version_table; nugwier_symbol_table; nugwier_symbol below the number of symbols, and
+ * nugwier_string at its name. */
+struct nugwier_status nugwier_check(const struct nugwier_file *file, bool *sound, struct nugwier_fault *fault);
 
 /* The text of a fault, as "section 5: no bytes at its range", without a 0 byte at its end. It is written over the front
  * of `text`, as far as there is room; the call returns the length of the whole text, which is below 256.
@@ -617,6 +654,7 @@ using rel = struct ::nugwier_rel;
 using rela = struct ::nugwier_rela;
 using dynamic = struct ::nugwier_dynamic;
 using header = struct ::nugwier_header;
+using range = struct ::nugwier_range;
 using file = struct ::nugwier_file;
 using compression = struct ::nugwier_compression;
 using data = struct ::nugwier_data;

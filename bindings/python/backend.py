@@ -19,7 +19,9 @@ HERE = Path(__file__).resolve().parent
 # The library uses no C library, so it is for each one of Linux; pip wants its oldest name.
 TAGS = ["py3-none-manylinux1_x86_64", "py3-none-manylinux_2_5_x86_64"]
 LICENSES = ["LICENSE-APACHE", "LICENSE-MIT"]
-MODULE = ["nugwier/__init__.py", "nugwier/faults.py", "nugwier/py.typed"]
+MODULE = [f"nugwier/{name}" for name in (
+    "__init__.py", "_library.py", "constants.py", "faults.py", "file.py", "notes.py", "py.typed", "records.py",
+    "sequences.py", "source.py", "values.py", "versions.py")]
 LIBRARY = "nugwier/libnugwier.so.0"
 CLASSIFIERS = [
     "Operating System :: POSIX :: Linux", "Programming Language :: Python :: 3", "Topic :: Software Development",

@@ -11,7 +11,7 @@ fn carried(here: &Path) -> PathBuf {
     let features = env::var("CARGO_CFG_TARGET_FEATURE").unwrap_or_default();
     let has = |wanted: &&str| features.split(',').any(|feature| feature == *wanted);
     let newer = here.join("lib/x86-64-v2");
-    if V2.iter().all(|wanted| has(&wanted)) && newer.exists() {
+    if V2.iter().all(has) && newer.exists() {
         return newer;
     }
     here.join("lib/x86-64")

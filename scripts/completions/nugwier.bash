@@ -4,7 +4,7 @@ _nugwier() {
     COMPREPLY=()
     if [ "$COMP_CWORD" -eq 1 ]; then
         mapfile -t COMPREPLY < <(compgen -W \
-            "list symbols needed exports build-id plan check address tree bindings --help --version" -- "$word")
+            "list symbols needed exports build-id plan check harden address tree bindings --help --version" -- "$word")
         return
     fi
     if [ "${COMP_WORDS[1]}" = list ]; then
@@ -23,6 +23,15 @@ _nugwier() {
             return
         elif [ "${word#-}" != "$word" ]; then
             mapfile -t COMPREPLY < <(compgen -W "--search --root --no-cache --json --help" -- "$word")
+            return
+        fi
+    elif [ "${COMP_WORDS[1]}" = harden ]; then
+        if [ "$before" = --require ]; then
+            mapfile -t COMPREPLY < <(compgen -W \
+                "pie relro bindnow nx canary fortify runpath ibt shstk bti pac stripped" -- "$word")
+            return
+        elif [ "${word#-}" != "$word" ]; then
+            mapfile -t COMPREPLY < <(compgen -W "--require --json --help" -- "$word")
             return
         fi
     elif [ "${word#-}" != "$word" ]; then

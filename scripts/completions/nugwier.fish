@@ -1,5 +1,5 @@
 # Completion of nugwier for fish: commands, options and files.
-set -l commands list symbols needed exports build-id plan check address tree bindings
+set -l commands list symbols needed exports build-id plan check harden address tree bindings
 complete -c nugwier -n "not __fish_seen_subcommand_from $commands" -f
 complete -c nugwier -n "not __fish_seen_subcommand_from $commands" -a list -d "headers, tables and contents"
 complete -c nugwier -n "not __fish_seen_subcommand_from $commands" -a symbols -d "symbols for dynamic linking"
@@ -8,6 +8,7 @@ complete -c nugwier -n "not __fish_seen_subcommand_from $commands" -a exports -d
 complete -c nugwier -n "not __fish_seen_subcommand_from $commands" -a build-id -d "build id"
 complete -c nugwier -n "not __fish_seen_subcommand_from $commands" -a plan -d "what a loader maps"
 complete -c nugwier -n "not __fish_seen_subcommand_from $commands" -a check -d "whether a file is sound"
+complete -c nugwier -n "not __fish_seen_subcommand_from $commands" -a harden -d "how a file is hardened"
 complete -c nugwier -n "not __fish_seen_subcommand_from $commands" -a address -d "symbols at addresses"
 complete -c nugwier -n "not __fish_seen_subcommand_from $commands" -a tree -d "libraries that a program loads"
 complete -c nugwier -n "not __fish_seen_subcommand_from $commands" -a bindings -d "what symbols bind to"
@@ -27,6 +28,7 @@ complete -c nugwier -n "__fish_seen_subcommand_from list" -s V -d versions
 complete -c nugwier -n "__fish_seen_subcommand_from list" -s a -d all
 complete -c nugwier -n "__fish_seen_subcommand_from list" -s x -x -d "bytes of a section"
 complete -c nugwier -n "__fish_seen_subcommand_from list" -s p -x -d "strings of a section"
+complete -c nugwier -n "__fish_seen_subcommand_from harden" -l require -x -a "pie relro bindnow nx canary fortify runpath ibt shstk bti pac stripped" -d "what a file must have"
 complete -c nugwier -n "__fish_seen_subcommand_from tree bindings" -l search -x -a "(__fish_complete_directories)" -d "folder of libraries"
 complete -c nugwier -n "__fish_seen_subcommand_from tree bindings" -l root -x -a "(__fish_complete_directories)" -d "folder of an image"
 complete -c nugwier -n "__fish_seen_subcommand_from tree bindings" -l no-cache -d "without ld.so.cache"

@@ -1,6 +1,7 @@
 //! The loops with what our library has for C and the crate `elf` does not: symbols with their names, many in a call.
 use crate::{lacking, repeated, Fallible, Input, Loops};
 use nugwier::endian::AnyEndian;
+use nugwier::named::named_symbols;
 use nugwier::ElfBytes;
 
 pub struct InBulk<'data> {
@@ -17,7 +18,7 @@ impl<'data> InBulk<'data> {
         let Some((symbols, strings)) = self.file.dynamic_symbol_table()? else {
             return lacking("dynamic symbols");
         };
-        for (symbol, name) in symbols.named(&strings) {
+        for (symbol, name) in named_symbols(&symbols, &strings) {
             sum = sum
                 .wrapping_add(symbol.st_value)
                 .wrapping_add(name.len() as u64);

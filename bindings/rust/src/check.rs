@@ -2,14 +2,18 @@
 use crate::elf_bytes::ElfBytes;
 use crate::endian::EndianParse;
 use crate::ffi;
-use std::fmt;
+use core::fmt;
 
 /// The part of a file that is at fault, with the index of the section or of the segment, counted from 0.
 #[derive(Clone, Copy, Debug, PartialEq, Eq)]
 pub enum Part {
+    /// The file as a whole.
     File,
+    /// A section.
     Section(usize),
+    /// The versions of symbols.
     Versions,
+    /// A segment.
     Segment(usize),
 }
 
@@ -18,8 +22,11 @@ pub enum Part {
 pub struct Fault {
     /// One of `fault_kinds`, which say what the two numbers are.
     pub kind: u32,
+    /// What is at fault.
     pub part: Part,
+    /// The first number of the fault.
     pub first: u64,
+    /// The second number.
     pub second: u64,
 }
 
@@ -62,11 +69,17 @@ impl fmt::Display for Fault {
     fn fmt(&self, f: &mut fmt::Formatter<'_>) -> fmt::Result {
         let mut text = [0; 256];
         let length = ffi::fault_text(&self.raw(), &mut text).min(text.len());
-        f.write_str(&String::from_utf8_lossy(&text[..length]))
+        f.write_str(core::str::from_utf8(&text[..length]).map_err(|_| fmt::Error)?)
     }
 }
 
+#[cfg(feature = "std")]
 impl std::error::Error for Fault {}
+
+// Of Rust 1.81: a build without `std` needs it.
+#[cfg(not(feature = "std"))]
+#[allow(clippy::incompatible_msrv)]
+impl core::error::Error for Fault {}
 
 /// Checks whether a file is sound: whether what its headers declare can be read. The error is its first fault, in this
 /// order: names of sections; types that one section may have; sections; versions of symbols; segments.
@@ -84,8 +97,10 @@ impl std::error::Error for Fault {}
 /// }
 /// ```
 pub fn check_file<E: EndianParse>(file: &ElfBytes<'_, E>) -> Result<(), Fault> {
-    let mut fault = ffi::Fault::default();
-    if ffi::check(&file.handle(), &mut fault) {
+    let (mut sound, mut fault) = (false, ffi::Fault::default());
+    // all of the file is loaded, so there is no other status
+    ffi::check(&file.handle(), &mut sound, &mut fault);
+    if sound {
         Ok(())
     } else {
         Err(Fault::of(&fault))

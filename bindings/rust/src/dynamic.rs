@@ -1,14 +1,35 @@
 //! Dynamic entries.
 use crate::ffi;
-use crate::file::Class;
-use crate::parse::{sealed, ParseAt, ParsingTable};
+use crate::parse::ParsingTable;
+use crate::records::{read_by_the_library, Record};
 
 /// A table of dynamic entries.
 pub type DynamicTable<'data, E> = ParsingTable<'data, E, Dyn>;
 
-/// A dynamic entry: its tag, and a value or an address.
+/// A dynamic entry as it lies in a 32-bit file.
+#[derive(Debug)]
+#[repr(C)]
+#[allow(missing_docs)]
+pub struct Elf32_Dyn {
+    pub d_tag: i32,
+    /// The value or the address.
+    pub d_un: u32,
+}
+
+/// A dynamic entry as it lies in a 64-bit file.
+#[derive(Debug)]
+#[repr(C)]
+#[allow(missing_docs)]
+pub struct Elf64_Dyn {
+    pub d_tag: i64,
+    /// The value or the address.
+    pub d_un: u64,
+}
+
+/// A dynamic entry, of either class: its tag, and a value or an address.
 #[derive(Clone, Debug, PartialEq, Eq)]
 pub struct Dyn {
+    /// What the entry says.
     pub d_tag: i64,
     d_un: u64,
 }
@@ -25,7 +46,7 @@ impl Dyn {
     }
 }
 
-impl sealed::Record for Dyn {
+impl Record for Dyn {
     type Raw = ffi::Dynamic;
 
     #[inline]
@@ -45,11 +66,4 @@ impl sealed::Record for Dyn {
     }
 }
 
-impl ParseAt for Dyn {
-    fn size_for(class: Class) -> usize {
-        match class {
-            Class::ELF32 => 8,
-            Class::ELF64 => 16,
-        }
-    }
-}
+read_by_the_library!(Dyn, Dynamics, 8, 16);

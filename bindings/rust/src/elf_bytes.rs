@@ -4,12 +4,12 @@ use crate::compression::CompressionHeader;
 use crate::dynamic::DynamicTable;
 use crate::endian::EndianParse;
 use crate::ffi;
-use crate::file::FileHeader;
+use crate::file::{parse_ident, FileHeader};
 use crate::gnu_symver::SymbolVersionTable;
 use crate::hash::{GnuHashTable, SysVHashTable};
 use crate::note::NoteIterator;
-use crate::parse::sealed::Record;
 use crate::parse::{checked, ParseError, ParsingTable};
+use crate::records::Record;
 use crate::relocation::{RelIterator, RelaIterator};
 use crate::section::{SectionHeader, SectionHeaderTable};
 use crate::segment::{ProgramHeader, SegmentTable};
@@ -19,42 +19,41 @@ use crate::symbol::SymbolTable;
 /// An ELF file in a slice of bytes, with its header and its two tables of headers.
 #[derive(Debug)]
 pub struct ElfBytes<'data, E: EndianParse> {
+    /// The header, which the methods use as it is.
     pub ehdr: FileHeader<E>,
-    file: ffi::File<'data>,
+    file: ffi::File<'data, 'data>,
 }
 
 /// The sections that are looked up most often. A field is `None` if the file does not have it.
 #[derive(Debug, Default)]
 pub struct CommonElfData<'data, E: EndianParse> {
+    /// The symbols of a section of type `SHT_SYMTAB`.
     pub symtab: Option<SymbolTable<'data, E>>,
+    /// Their strings.
     pub symtab_strs: Option<StringTable<'data>>,
+    /// The symbols of a section of type `SHT_DYNSYM`.
     pub dynsyms: Option<SymbolTable<'data, E>>,
+    /// Their strings.
     pub dynsyms_strs: Option<StringTable<'data>>,
+    /// The dynamic entries.
     pub dynamic: Option<DynamicTable<'data, E>>,
+    /// The table of a section of type `SHT_HASH`.
     pub sysv_hash: Option<SysVHashTable<'data, E>>,
+    /// The table of a section of type `SHT_GNU_HASH`.
     pub gnu_hash: Option<GnuHashTable<'data, E>>,
 }
 
-type SymbolsWithStrings<'data, E> = (SymbolTable<'data, E>, StringTable<'data>);
+pub(crate) type SymbolsWithStrings<'data, E> = (SymbolTable<'data, E>, StringTable<'data>);
 
 impl<'data, E: EndianParse> ElfBytes<'data, E> {
     /// Opens a file: reads its header, and finds its two tables of headers.
     pub fn minimal_parse(data: &'data [u8]) -> Result<Self, ParseError> {
+        // an order that this type does not have is an error before those of what follows the identification
+        let ident = data.get(..abi::EI_NIDENT);
+        let ident = ident.ok_or(ParseError::SliceReadError((0, abi::EI_NIDENT)))?;
+        let (endianness, ..) = parse_ident::<E>(ident)?;
         let mut file = ffi::File::default();
-        let opened = checked(ffi::open(ffi::Bytes::new(data), &mut file));
-        let identified = !matches!(
-            opened,
-            Err(ParseError::BadMagic(_)
-                | ParseError::UnsupportedElfClass(_)
-                | ParseError::UnsupportedElfEndianness(_)
-                | ParseError::UnsupportedVersion(_))
-        );
-        let endianness = match data.get(abi::EI_DATA) {
-            // an order that this type does not have is an error before those of what follows it
-            Some(order) if identified && data.len() >= abi::EI_NIDENT => E::from_ei_data(*order)?,
-            _ => E::default(),
-        };
-        opened?;
+        checked(ffi::open(ffi::Bytes::new(data), &mut file))?;
         Ok(ElfBytes {
             ehdr: FileHeader::of(&file.header, endianness),
             file,
@@ -62,7 +61,7 @@ impl<'data, E: EndianParse> ElfBytes<'data, E> {
     }
 
     /// The file with the current header.
-    pub(crate) fn handle(&self) -> ffi::File<'data> {
+    pub(crate) fn handle(&self) -> ffi::File<'data, 'data> {
         ffi::File {
             header: self.ehdr.raw(),
             ..self.file
@@ -73,14 +72,14 @@ impl<'data, E: EndianParse> ElfBytes<'data, E> {
     pub fn segments(&self) -> Option<SegmentTable<'data, E>> {
         self.file
             .has_segments
-            .then(|| ParsingTable::of(self.file.segments))
+            .then(|| ParsingTable::of(self.ehdr.endianness, &self.file.segments))
     }
 
     /// The section headers, if the file declares any.
     pub fn section_headers(&self) -> Option<SectionHeaderTable<'data, E>> {
         self.file
             .has_sections
-            .then(|| ParsingTable::of(self.file.sections))
+            .then(|| ParsingTable::of(self.ehdr.endianness, &self.file.sections))
     }
 
     /// The section headers, and the table of their names.
@@ -143,7 +142,7 @@ impl<'data, E: EndianParse> ElfBytes<'data, E> {
     ) -> Result<RelIterator<'data, E>, ParseError> {
         let mut table = ffi::Table::default();
         checked(ffi::section_rels(&self.handle(), &shdr.raw(), &mut table))?;
-        Ok(RelIterator::of(table))
+        Ok(ParsingTable::of(self.ehdr.endianness, &table).iter())
     }
 
     /// The relocations of a section of type `SHT_RELA`.
@@ -153,7 +152,7 @@ impl<'data, E: EndianParse> ElfBytes<'data, E> {
     ) -> Result<RelaIterator<'data, E>, ParseError> {
         let mut table = ffi::Table::default();
         checked(ffi::section_relas(&self.handle(), &shdr.raw(), &mut table))?;
-        Ok(RelaIterator::of(table))
+        Ok(ParsingTable::of(self.ehdr.endianness, &table).iter())
     }
 
     /// The notes of a section of type `SHT_NOTE`.
@@ -187,13 +186,15 @@ impl<'data, E: EndianParse> ElfBytes<'data, E> {
     pub fn dynamic(&self) -> Result<Option<DynamicTable<'data, E>>, ParseError> {
         let mut table = ffi::DynamicTable::default();
         checked(ffi::dynamic_table(&self.handle(), &mut table))?;
-        Ok(table.found.then(|| ParsingTable::of(table.entries)))
+        Ok(table
+            .found
+            .then(|| ParsingTable::of(self.ehdr.endianness, &table.entries)))
     }
 
     fn symbols(&self, dynamic: bool) -> Result<Option<SymbolsWithStrings<'data, E>>, ParseError> {
         let mut table = ffi::SymbolTable::default();
         checked(ffi::symbol_table(&self.handle(), dynamic, &mut table))?;
-        Ok(with_strings(&table))
+        Ok(with_strings(self.ehdr.endianness, &table))
     }
 
     /// The symbols of the first section of type `SHT_SYMTAB`, and their strings.
@@ -210,22 +211,26 @@ impl<'data, E: EndianParse> ElfBytes<'data, E> {
     pub fn symbol_version_table(&self) -> Result<Option<SymbolVersionTable<'data, E>>, ParseError> {
         let mut versions = ffi::Versions::default();
         checked(ffi::version_table(&self.handle(), &mut versions))?;
-        Ok(versions.found.then(|| SymbolVersionTable::of(versions)))
+        Ok(versions
+            .found
+            .then(|| SymbolVersionTable::of(self.ehdr.endianness, versions)))
     }
 
     /// The symbols, the dynamic entries and the hash sections, found in one pass over the sections.
     pub fn find_common_data(&self) -> Result<CommonElfData<'data, E>, ParseError> {
         let mut found = ffi::Common::default();
         checked(ffi::common(&self.handle(), &mut found))?;
-        let all = with_strings(&found.symbols);
-        let dynamic_ones = with_strings(&found.dynamic_symbols);
+        let all = with_strings(self.ehdr.endianness, &found.symbols);
+        let dynamic_ones = with_strings(self.ehdr.endianness, &found.dynamic_symbols);
         let dynamic = found.dynamics;
         Ok(CommonElfData {
             symtab: all.map(|(symbols, _)| symbols),
             symtab_strs: all.map(|(_, strings)| strings),
             dynsyms: dynamic_ones.map(|(symbols, _)| symbols),
             dynsyms_strs: dynamic_ones.map(|(_, strings)| strings),
-            dynamic: dynamic.found.then(|| ParsingTable::of(dynamic.entries)),
+            dynamic: dynamic
+                .found
+                .then(|| ParsingTable::of(self.ehdr.endianness, &dynamic.entries)),
             sysv_hash: found.has_sysv.then(|| SysVHashTable::of(found.sysv)),
             gnu_hash: found.has_gnu.then(|| GnuHashTable::of(found.gnu)),
         })
@@ -233,12 +238,13 @@ impl<'data, E: EndianParse> ElfBytes<'data, E> {
 }
 
 /// A table of symbols and their strings, if it was found.
-fn with_strings<'data, E: EndianParse>(
+pub(crate) fn with_strings<'data, E: EndianParse>(
+    endian: E,
     table: &ffi::SymbolTable<'data>,
 ) -> Option<SymbolsWithStrings<'data, E>> {
     table.found.then(|| {
         (
-            ParsingTable::of(table.symbols),
+            ParsingTable::of(endian, &table.symbols),
             StringTable::new(table.strings.get()),
         )
     })

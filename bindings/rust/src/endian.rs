@@ -39,8 +39,10 @@ pub trait EndianParse: Clone + Copy + Default + PartialEq + Eq {
     /// The order that the order byte of a file names, if this type has it.
     fn from_ei_data(ei_data: u8) -> Result<Self, ParseError>;
 
+    /// Whether the lowest byte of a number comes first.
     fn is_little(self) -> bool;
 
+    /// Whether the highest byte of a number comes first.
     fn is_big(self) -> bool {
         !self.is_little()
     }
@@ -49,8 +51,10 @@ pub trait EndianParse: Clone + Copy + Default + PartialEq + Eq {
 /// Either order, as the file states it.
 #[derive(Clone, Copy, Debug, Default, PartialEq, Eq)]
 pub enum AnyEndian {
+    /// The lowest byte comes first.
     #[default]
     Little,
+    /// The highest byte comes first.
     Big,
 }
 
@@ -67,6 +71,7 @@ pub struct BigEndian;
 pub type NativeEndian = LittleEndian;
 
 #[cfg(target_endian = "little")]
+#[doc(hidden)]
 #[allow(non_upper_case_globals)]
 pub const NativeEndian: LittleEndian = LittleEndian;
 
@@ -75,6 +80,7 @@ pub const NativeEndian: LittleEndian = LittleEndian;
 pub type NativeEndian = BigEndian;
 
 #[cfg(target_endian = "big")]
+#[doc(hidden)]
 #[allow(non_upper_case_globals)]
 pub const NativeEndian: BigEndian = BigEndian;
 

@@ -4,7 +4,9 @@
 //! by types: a `Bytes<'a>` is made of a slice of this lifetime or written by the library, which writes only parts of
 //! the bytes that it was given, or constants; its fields are private. A `bool` is a Rust `bool`. `&` and `&mut` overlap
 //! nothing.
-use std::marker::PhantomData;
+use crate::endian::EndianParse;
+use crate::file::Class;
+use core::marker::PhantomData;
 
 /// Bytes that live as long as `'a`.
 #[repr(C)]
@@ -34,7 +36,7 @@ impl<'a> Bytes<'a> {
             return &[];
         }
         // SAFETY: `new` made it of such a slice, or the library wrote it: a part of bytes that live as long as `'a`.
-        unsafe { std::slice::from_raw_parts(self.at, self.len) }
+        unsafe { core::slice::from_raw_parts(self.at, self.len) }
     }
 }
 
@@ -44,17 +46,25 @@ impl Default for Bytes<'_> {
     }
 }
 
-impl std::fmt::Debug for Bytes<'_> {
-    fn fmt(&self, f: &mut std::fmt::Formatter<'_>) -> std::fmt::Result {
+impl core::fmt::Debug for Bytes<'_> {
+    fn fmt(&self, f: &mut core::fmt::Formatter<'_>) -> core::fmt::Result {
         self.get().fmt(f)
     }
 }
 
 #[repr(C)]
+#[derive(Debug)]
 pub struct Status {
     pub code: u32,
     pub first: u64,
     pub second: u64,
+}
+
+impl Status {
+    /// The start and the end of the range that is not loaded, if the status says so.
+    pub fn missing(&self) -> Option<(u64, u64)> {
+        (self.code == 18).then_some((self.first, self.second))
+    }
 }
 
 #[repr(C)]
@@ -73,6 +83,16 @@ pub struct Table<'a> {
     pub little: bool,
     pub is_64: bool,
     pub bytes: Bytes<'a>,
+}
+
+impl<'a> Table<'a> {
+    pub fn new<E: EndianParse>(endian: E, class: Class, bytes: &'a [u8]) -> Self {
+        Table {
+            little: endian.is_little(),
+            is_64: class == Class::ELF64,
+            bytes: Bytes::new(bytes),
+        }
+    }
 }
 
 #[repr(C)]
@@ -97,11 +117,51 @@ pub struct Header {
     pub shstrndx: u16,
 }
 
+/// A range of a file with its bytes. The first of them is at `start` in the file.
 #[repr(C)]
 #[derive(Clone, Copy, Debug, Default)]
-pub struct File<'a> {
-    pub header: Header,
+pub struct Range<'a> {
+    pub start: u64,
     pub bytes: Bytes<'a>,
+}
+
+/// Ranges in an array that lives as long as `'r`, with bytes that live as long as `'a`.
+#[repr(C)]
+#[derive(Clone, Copy, Debug)]
+pub struct Ranges<'r, 'a> {
+    at: *const Range<'a>,
+    len: usize,
+    of: PhantomData<&'r [Range<'a>]>,
+}
+
+// SAFETY: it is a shared slice of such ranges, which may be sent.
+unsafe impl Send for Ranges<'_, '_> {}
+// SAFETY: it is a shared slice of such ranges, which may be shared.
+unsafe impl Sync for Ranges<'_, '_> {}
+
+impl<'r, 'a> Ranges<'r, 'a> {
+    pub fn new(ranges: &'r [Range<'a>]) -> Self {
+        Ranges {
+            at: ranges.as_ptr(),
+            len: ranges.len(),
+            of: PhantomData,
+        }
+    }
+}
+
+impl Default for Ranges<'_, '_> {
+    fn default() -> Self {
+        Ranges::new(&[])
+    }
+}
+
+#[repr(C)]
+#[derive(Clone, Copy, Debug, Default)]
+pub struct File<'r, 'a> {
+    pub header: Header,
+    pub size: u64,
+    pub bytes: Bytes<'a>,
+    pub ranges: Ranges<'r, 'a>,
     pub has_sections: bool,
     pub has_segments: bool,
     pub sections: Table<'a>,
@@ -351,20 +411,43 @@ pub struct Name<'a> {
 // A pair of a pointer and a length stands for a slice; the lifetimes that tie what is written to what was given are
 // stated by the functions below.
 extern "C" {
-    fn nugwier_section_data(file: &File<'_>, section: &Section, part: &mut Data<'_>) -> Status;
-    fn nugwier_segment_data(file: &File<'_>, segment: &Segment, part: &mut Bytes<'_>) -> Status;
+    fn nugwier_section_data(file: &File<'_, '_>, section: &Section, part: &mut Data<'_>) -> Status;
+    fn nugwier_segment_data(file: &File<'_, '_>, segment: &Segment, part: &mut Bytes<'_>)
+        -> Status;
     fn nugwier_section_strings(
-        file: &File<'_>,
+        file: &File<'_, '_>,
         section: &Section,
         strings: &mut Bytes<'_>,
     ) -> Status;
-    fn nugwier_section_rels(file: &File<'_>, section: &Section, table: &mut Table<'_>) -> Status;
-    fn nugwier_section_relas(file: &File<'_>, section: &Section, table: &mut Table<'_>) -> Status;
-    fn nugwier_section_notes(file: &File<'_>, section: &Section, notes: &mut Notes<'_>) -> Status;
-    fn nugwier_segment_notes(file: &File<'_>, segment: &Segment, notes: &mut Notes<'_>) -> Status;
-    fn nugwier_open(bytes: *const u8, bytes_len: usize, file: &mut File<'_>) -> Status;
-    fn nugwier_section(file: &File<'_>, index: usize, section: &mut Section) -> Status;
-    fn nugwier_segment(file: &File<'_>, index: usize, segment: &mut Segment) -> Status;
+    fn nugwier_section_rels(
+        file: &File<'_, '_>,
+        section: &Section,
+        table: &mut Table<'_>,
+    ) -> Status;
+    fn nugwier_section_relas(
+        file: &File<'_, '_>,
+        section: &Section,
+        table: &mut Table<'_>,
+    ) -> Status;
+    fn nugwier_section_notes(
+        file: &File<'_, '_>,
+        section: &Section,
+        notes: &mut Notes<'_>,
+    ) -> Status;
+    fn nugwier_segment_notes(
+        file: &File<'_, '_>,
+        segment: &Segment,
+        notes: &mut Notes<'_>,
+    ) -> Status;
+    fn nugwier_open(bytes: *const u8, bytes_len: usize, file: &mut File<'_, '_>) -> Status;
+    fn nugwier_open_ranges(
+        size: u64,
+        ranges: *const Range<'_>,
+        ranges_len: usize,
+        file: &mut File<'_, '_>,
+    ) -> Status;
+    fn nugwier_section(file: &File<'_, '_>, index: usize, section: &mut Section) -> Status;
+    fn nugwier_segment(file: &File<'_, '_>, index: usize, segment: &mut Segment) -> Status;
     fn nugwier_gnu_open(
         little: bool,
         is_64: bool,
@@ -397,7 +480,7 @@ extern "C" {
         name_len: usize,
         found: &mut Found,
     ) -> Status;
-    fn nugwier_common(file: &File<'_>, common: &mut Common<'_>) -> Status;
+    fn nugwier_common(file: &File<'_, '_>, common: &mut Common<'_>) -> Status;
     fn nugwier_e_osabi_name(e_osabi: u8, name: &mut Name<'static>);
     fn nugwier_e_type_name(e_type: u16, name: &mut Name<'static>);
     fn nugwier_e_machine_name(e_machine: u16, name: &mut Name<'static>);
@@ -411,7 +494,7 @@ extern "C" {
     fn nugwier_d_tag_name(d_tag: i64, name: &mut Name<'static>);
     fn nugwier_error_name(code: u32, name: &mut Name<'static>);
     fn nugwier_error_text(status: &Status, text: *mut u8, text_len: usize) -> usize;
-    fn nugwier_check(file: &File<'_>, fault: &mut Fault) -> bool;
+    fn nugwier_check(file: &File<'_, '_>, sound: &mut bool, fault: &mut Fault) -> Status;
     fn nugwier_fault_text(fault: &Fault, text: *mut u8, text_len: usize) -> usize;
     fn nugwier_note(notes: &Notes<'_>, offset: &mut usize, note: &mut Note<'_>) -> Status;
     fn nugwier_symbol(table: &Table<'_>, index: usize, symbol: &mut Symbol) -> Status;
@@ -465,20 +548,20 @@ extern "C" {
         string: &mut Bytes<'_>,
     ) -> Status;
     fn nugwier_symbol_table(
-        file: &File<'_>,
+        file: &File<'_, '_>,
         dynamic: bool,
         symbols: &mut SymbolTable<'_>,
     ) -> Status;
-    fn nugwier_dynamic_table(file: &File<'_>, dynamics: &mut DynamicTable<'_>) -> Status;
-    fn nugwier_section_names(file: &File<'_>, names: &mut SectionNames<'_>) -> Status;
+    fn nugwier_dynamic_table(file: &File<'_, '_>, dynamics: &mut DynamicTable<'_>) -> Status;
+    fn nugwier_section_names(file: &File<'_, '_>, names: &mut SectionNames<'_>) -> Status;
     fn nugwier_section_by_name(
-        file: &File<'_>,
+        file: &File<'_, '_>,
         name: *const u8,
         name_len: usize,
         found: &mut bool,
         section: &mut Section,
     ) -> Status;
-    fn nugwier_version_table(file: &File<'_>, versions: &mut Versions<'_>) -> Status;
+    fn nugwier_version_table(file: &File<'_, '_>, versions: &mut Versions<'_>) -> Status;
     fn nugwier_version_index(
         versions: &Versions<'_>,
         symbol: usize,
@@ -501,52 +584,62 @@ extern "C" {
     ) -> Status;
 }
 
-pub fn section_data<'a>(file: &File<'a>, section: &Section, part: &mut Data<'a>) -> Status {
+pub fn section_data<'a>(file: &File<'_, 'a>, section: &Section, part: &mut Data<'a>) -> Status {
     // SAFETY: the export accepts all values of these types, and writes values of these types.
     unsafe { nugwier_section_data(file, section, part) }
 }
 
-pub fn segment_data<'a>(file: &File<'a>, segment: &Segment, part: &mut Bytes<'a>) -> Status {
+pub fn segment_data<'a>(file: &File<'_, 'a>, segment: &Segment, part: &mut Bytes<'a>) -> Status {
     // SAFETY: the export accepts all values of these types, and writes values of these types.
     unsafe { nugwier_segment_data(file, segment, part) }
 }
 
-pub fn section_strings<'a>(file: &File<'a>, section: &Section, strings: &mut Bytes<'a>) -> Status {
+pub fn section_strings<'a>(
+    file: &File<'_, 'a>,
+    section: &Section,
+    strings: &mut Bytes<'a>,
+) -> Status {
     // SAFETY: the export accepts all values of these types, and writes values of these types.
     unsafe { nugwier_section_strings(file, section, strings) }
 }
 
-pub fn section_rels<'a>(file: &File<'a>, section: &Section, table: &mut Table<'a>) -> Status {
+pub fn section_rels<'a>(file: &File<'_, 'a>, section: &Section, table: &mut Table<'a>) -> Status {
     // SAFETY: the export accepts all values of these types, and writes values of these types.
     unsafe { nugwier_section_rels(file, section, table) }
 }
 
-pub fn section_relas<'a>(file: &File<'a>, section: &Section, table: &mut Table<'a>) -> Status {
+pub fn section_relas<'a>(file: &File<'_, 'a>, section: &Section, table: &mut Table<'a>) -> Status {
     // SAFETY: the export accepts all values of these types, and writes values of these types.
     unsafe { nugwier_section_relas(file, section, table) }
 }
 
-pub fn section_notes<'a>(file: &File<'a>, section: &Section, notes: &mut Notes<'a>) -> Status {
+pub fn section_notes<'a>(file: &File<'_, 'a>, section: &Section, notes: &mut Notes<'a>) -> Status {
     // SAFETY: the export accepts all values of these types, and writes values of these types.
     unsafe { nugwier_section_notes(file, section, notes) }
 }
 
-pub fn segment_notes<'a>(file: &File<'a>, segment: &Segment, notes: &mut Notes<'a>) -> Status {
+pub fn segment_notes<'a>(file: &File<'_, 'a>, segment: &Segment, notes: &mut Notes<'a>) -> Status {
     // SAFETY: the export accepts all values of these types, and writes values of these types.
     unsafe { nugwier_segment_notes(file, segment, notes) }
 }
 
-pub fn open<'a>(bytes: Bytes<'a>, file: &mut File<'a>) -> Status {
+pub fn open<'a>(bytes: Bytes<'a>, file: &mut File<'_, 'a>) -> Status {
     // SAFETY: the export accepts all values of these types, and writes values of these types.
     unsafe { nugwier_open(bytes.at, bytes.len, file) }
 }
 
-pub fn section(file: &File<'_>, index: usize, section: &mut Section) -> Status {
+/// Opens a file by the ranges that are loaded.
+pub fn open_ranges<'r, 'a>(size: u64, ranges: &'r [Range<'a>], file: &mut File<'r, 'a>) -> Status {
+    // SAFETY: the export accepts all values of these types, and writes values of these types.
+    unsafe { nugwier_open_ranges(size, ranges.as_ptr(), ranges.len(), file) }
+}
+
+pub fn section(file: &File<'_, '_>, index: usize, section: &mut Section) -> Status {
     // SAFETY: the export accepts all values of these types, and writes values of these types.
     unsafe { nugwier_section(file, index, section) }
 }
 
-pub fn segment(file: &File<'_>, index: usize, segment: &mut Segment) -> Status {
+pub fn segment(file: &File<'_, '_>, index: usize, segment: &mut Segment) -> Status {
     // SAFETY: the export accepts all values of these types, and writes values of these types.
     unsafe { nugwier_segment(file, index, segment) }
 }
@@ -585,7 +678,7 @@ pub fn sysv_look_up(
     unsafe { nugwier_sysv_look_up(sysv, symbols, at, len, name.at, name.len, found) }
 }
 
-pub fn common<'a>(file: &File<'a>, common: &mut Common<'a>) -> Status {
+pub fn common<'a>(file: &File<'_, 'a>, common: &mut Common<'a>) -> Status {
     // SAFETY: the export accepts all values of these types, and writes values of these types.
     unsafe { nugwier_common(file, common) }
 }
@@ -656,9 +749,9 @@ pub fn error_text(status: &Status, text: &mut [u8]) -> usize {
     unsafe { nugwier_error_text(status, text.as_mut_ptr(), text.len()) }
 }
 
-pub fn check(file: &File<'_>, fault: &mut Fault) -> bool {
+pub fn check(file: &File<'_, '_>, sound: &mut bool, fault: &mut Fault) -> Status {
     // SAFETY: the export accepts all values of these types, and writes values of these types.
-    unsafe { nugwier_check(file, fault) }
+    unsafe { nugwier_check(file, sound, fault) }
 }
 
 /// Writes the text of a fault over the front of `text`, as far as there is room. Returns the length of the whole text.
@@ -768,23 +861,27 @@ pub fn string<'a>(strings: Bytes<'a>, offset: usize, string: &mut Bytes<'a>) -> 
     unsafe { nugwier_string(strings.at, strings.len, offset, string) }
 }
 
-pub fn symbol_table<'a>(file: &File<'a>, dynamic: bool, symbols: &mut SymbolTable<'a>) -> Status {
+pub fn symbol_table<'a>(
+    file: &File<'_, 'a>,
+    dynamic: bool,
+    symbols: &mut SymbolTable<'a>,
+) -> Status {
     // SAFETY: the export accepts all values of these types, and writes values of these types.
     unsafe { nugwier_symbol_table(file, dynamic, symbols) }
 }
 
-pub fn dynamic_table<'a>(file: &File<'a>, dynamics: &mut DynamicTable<'a>) -> Status {
+pub fn dynamic_table<'a>(file: &File<'_, 'a>, dynamics: &mut DynamicTable<'a>) -> Status {
     // SAFETY: the export accepts all values of these types, and writes values of these types.
     unsafe { nugwier_dynamic_table(file, dynamics) }
 }
 
-pub fn section_names<'a>(file: &File<'a>, names: &mut SectionNames<'a>) -> Status {
+pub fn section_names<'a>(file: &File<'_, 'a>, names: &mut SectionNames<'a>) -> Status {
     // SAFETY: the export accepts all values of these types, and writes values of these types.
     unsafe { nugwier_section_names(file, names) }
 }
 
 pub fn section_by_name(
-    file: &File<'_>,
+    file: &File<'_, '_>,
     name: Bytes<'_>,
     found: &mut bool,
     section: &mut Section,
@@ -793,7 +890,7 @@ pub fn section_by_name(
     unsafe { nugwier_section_by_name(file, name.at, name.len, found, section) }
 }
 
-pub fn version_table<'a>(file: &File<'a>, versions: &mut Versions<'a>) -> Status {
+pub fn version_table<'a>(file: &File<'_, 'a>, versions: &mut Versions<'a>) -> Status {
     // SAFETY: the export accepts all values of these types, and writes values of these types.
     unsafe { nugwier_version_table(file, versions) }
 }

@@ -2,11 +2,43 @@
 use crate::endian::EndianParse;
 use crate::ffi;
 use crate::file::Class;
-use crate::parse::sealed::Record;
-use crate::parse::{checked, ParseError};
+use crate::parse::{checked, ParseAt, ParseError};
+use crate::records::Record;
 use crate::string_table::StringTable;
 use crate::symbol::{Symbol, SymbolTable};
-use std::marker::PhantomData;
+use core::marker::PhantomData;
+
+/// A number of 32 bits.
+impl ParseAt for u32 {
+    fn parse_at<E: EndianParse>(
+        endian: E,
+        _class: Class,
+        offset: &mut usize,
+        data: &[u8],
+    ) -> Result<Self, ParseError> {
+        endian.parse_u32_at(offset, data)
+    }
+
+    fn size_for(_class: Class) -> usize {
+        4
+    }
+}
+
+/// A number of 64 bits.
+impl ParseAt for u64 {
+    fn parse_at<E: EndianParse>(
+        endian: E,
+        _class: Class,
+        offset: &mut usize,
+        data: &[u8],
+    ) -> Result<Self, ParseError> {
+        endian.parse_u64_at(offset, data)
+    }
+
+    fn size_for(_class: Class) -> usize {
+        8
+    }
+}
 
 /// The hash of a name in a SysV hash section.
 pub fn sysv_hash(name: &[u8]) -> u32 {
@@ -30,6 +62,33 @@ fn found_in(found: &ffi::Found) -> Option<(usize, Symbol)> {
         .then(|| (found.index, Symbol::of(&found.symbol)))
 }
 
+/// The header of a SysV hash section.
+#[derive(Clone, Debug, PartialEq, Eq)]
+pub struct SysVHashHeader {
+    /// The number of buckets.
+    pub nbucket: u32,
+    /// The number of symbols.
+    pub nchain: u32,
+}
+
+impl ParseAt for SysVHashHeader {
+    fn parse_at<E: EndianParse>(
+        endian: E,
+        _class: Class,
+        offset: &mut usize,
+        data: &[u8],
+    ) -> Result<Self, ParseError> {
+        Ok(SysVHashHeader {
+            nbucket: endian.parse_u32_at(offset, data)?,
+            nchain: endian.parse_u32_at(offset, data)?,
+        })
+    }
+
+    fn size_for(_class: Class) -> usize {
+        8
+    }
+}
+
 /// The table of a SysV hash section.
 #[derive(Debug)]
 pub struct SysVHashTable<'data, E: EndianParse> {
@@ -38,6 +97,7 @@ pub struct SysVHashTable<'data, E: EndianParse> {
 }
 
 impl<'data, E: EndianParse> SysVHashTable<'data, E> {
+    /// The table that a section's bytes hold.
     pub fn new(endian: E, class: Class, data: &'data [u8]) -> Result<Self, ParseError> {
         let mut table = ffi::Sysv::default();
         checked(ffi::sysv_open(
@@ -66,7 +126,7 @@ impl<'data, E: EndianParse> SysVHashTable<'data, E> {
         let mut found = ffi::Found::default();
         checked(ffi::sysv_look_up(
             &self.table,
-            symtab.raw(),
+            &symtab.raw(),
             strtab.bytes(),
             ffi::Bytes::new(name),
             &mut found,
@@ -78,21 +138,47 @@ impl<'data, E: EndianParse> SysVHashTable<'data, E> {
 /// The header of a GNU hash section.
 #[derive(Clone, Debug, PartialEq, Eq)]
 pub struct GnuHashHeader {
+    /// The number of buckets.
     pub nbucket: u32,
+    /// The index of the first symbol that can be found.
     pub table_start_idx: u32,
+    /// The number of words of the Bloom filter.
     pub nbloom: u32,
+    /// By how much a hash is shifted for its second bit in the filter.
     pub nshift: u32,
+}
+
+impl ParseAt for GnuHashHeader {
+    fn parse_at<E: EndianParse>(
+        endian: E,
+        _class: Class,
+        offset: &mut usize,
+        data: &[u8],
+    ) -> Result<Self, ParseError> {
+        Ok(GnuHashHeader {
+            nbucket: endian.parse_u32_at(offset, data)?,
+            table_start_idx: endian.parse_u32_at(offset, data)?,
+            nbloom: endian.parse_u32_at(offset, data)?,
+            nshift: endian.parse_u32_at(offset, data)?,
+        })
+    }
+
+    fn size_for(_class: Class) -> usize {
+        16
+    }
 }
 
 /// The table of a GNU hash section.
 #[derive(Debug)]
 pub struct GnuHashTable<'data, E: EndianParse> {
+    /// The numbers that look-ups use.
     pub hdr: GnuHashHeader,
     table: ffi::Gnu<'data>,
     order: PhantomData<E>,
 }
 
 impl<'data, E: EndianParse> GnuHashTable<'data, E> {
+    /// The table that a section's bytes hold.
     pub fn new(endian: E, class: Class, data: &'data [u8]) -> Result<Self, ParseError> {
         let mut table = ffi::Gnu::default();
         checked(ffi::gnu_open(
@@ -138,7 +224,7 @@ impl<'data, E: EndianParse> GnuHashTable<'data, E> {
         let mut found = ffi::Found::default();
         checked(ffi::gnu_look_up(
             &self.handle(),
-            symtab.raw(),
+            &symtab.raw(),
             strtab.bytes(),
             ffi::Bytes::new(name),
             &mut found,

@@ -2,27 +2,45 @@
 use crate::endian::EndianParse;
 use crate::ffi;
 use crate::file::Class;
-use std::fmt;
-use std::marker::PhantomData;
+use crate::records::{Calls, Chunk};
+use core::fmt;
+use core::marker::PhantomData;
 
 /// An error. A pair of numbers is (found, expected), or (start, end) of a range of bytes.
 #[derive(Debug)]
 pub enum ParseError {
+    /// The first four bytes are not those of an ELF file.
     BadMagic([u8; 4]),
+    /// The class byte is that of neither class.
     UnsupportedElfClass(u8),
+    /// The order byte is that of no byte order which the type of the order has.
     UnsupportedElfEndianness(u8),
+    /// Another version of the file, or of a version section.
     UnsupportedVersion((u64, u64)),
+    /// No record has this index, or no byte this offset.
     BadOffset(u64),
+    /// The string at this offset does not end.
     StringTableMissingNul(u64),
+    /// The declared size of an entry is not that of the record.
     BadEntsize((u64, u64)),
+    /// The section has another type.
     UnexpectedSectionType((u32, u32)),
+    /// The segment has another type.
     UnexpectedSegmentType((u32, u32)),
+    /// No call of this crate returns it.
     UnexpectedAlignment(usize),
+    /// The bytes do not have this range.
     SliceReadError((usize, usize)),
+    /// A sum or a product does not fit.
     IntegerOverflow,
-    Utf8Error(std::str::Utf8Error),
-    TryFromSliceError(std::array::TryFromSliceError),
-    TryFromIntError(std::num::TryFromIntError),
+    /// A name is not UTF-8.
+    Utf8Error(core::str::Utf8Error),
+    /// No call of this crate returns it.
+    TryFromSliceError(core::array::TryFromSliceError),
+    /// A number of the file does not fit a `usize`.
+    TryFromIntError(core::num::TryFromIntError),
+    /// The source of an `ElfStream` failed.
+    #[cfg(feature = "std")]
     IOError(std::io::Error),
 }
 
@@ -48,6 +66,7 @@ impl fmt::Display for ParseError {
             ParseError::Utf8Error(error) => return error.fmt(f),
             ParseError::TryFromSliceError(error) => return error.fmt(f),
             ParseError::TryFromIntError(error) => return error.fmt(f),
+            #[cfg(feature = "std")]
             ParseError::IOError(error) => return error.fmt(f),
         };
         let status = ffi::Status {
@@ -57,10 +76,11 @@ impl fmt::Display for ParseError {
         };
         let mut text = [0; 128];
         let length = ffi::error_text(&status, &mut text).min(text.len());
-        f.write_str(&String::from_utf8_lossy(&text[..length]))
+        f.write_str(core::str::from_utf8(&text[..length]).map_err(|_| fmt::Error)?)
     }
 }
 
+#[cfg(feature = "std")]
 impl std::error::Error for ParseError {
     fn source(&self) -> Option<&(dyn std::error::Error + 'static)> {
         match self {
@@ -73,24 +93,39 @@ impl std::error::Error for ParseError {
     }
 }
 
-impl From<std::str::Utf8Error> for ParseError {
-    fn from(error: std::str::Utf8Error) -> Self {
+// Of Rust 1.81: a build without `std` needs it.
+#[cfg(not(feature = "std"))]
+#[allow(clippy::incompatible_msrv)]
+impl core::error::Error for ParseError {
+    fn source(&self) -> Option<&(dyn core::error::Error + 'static)> {
+        match self {
+            ParseError::Utf8Error(error) => Some(error),
+            ParseError::TryFromSliceError(error) => Some(error),
+            ParseError::TryFromIntError(error) => Some(error),
+            _ => None,
+        }
+    }
+}
+
+impl From<core::str::Utf8Error> for ParseError {
+    fn from(error: core::str::Utf8Error) -> Self {
         ParseError::Utf8Error(error)
     }
 }
 
-impl From<std::array::TryFromSliceError> for ParseError {
-    fn from(error: std::array::TryFromSliceError) -> Self {
+impl From<core::array::TryFromSliceError> for ParseError {
+    fn from(error: core::array::TryFromSliceError) -> Self {
         ParseError::TryFromSliceError(error)
     }
 }
 
-impl From<std::num::TryFromIntError> for ParseError {
-    fn from(error: std::num::TryFromIntError) -> Self {
+impl From<core::num::TryFromIntError> for ParseError {
+    fn from(error: core::num::TryFromIntError) -> Self {
         ParseError::TryFromIntError(error)
     }
 }
 
+#[cfg(feature = "std")]
 impl From<std::io::Error> for ParseError {
     fn from(error: std::io::Error) -> Self {
         ParseError::IOError(error)
@@ -130,10 +165,16 @@ fn refused(status: ffi::Status) -> ParseError {
     }
 }
 
-/// A record that a table holds.
-///
-/// It is sealed: the record types of this crate are the only ones.
-pub trait ParseAt: Sized + sealed::Record {
+/// A record that a table holds: one of this crate, or of the caller.
+pub trait ParseAt: Sized {
+    /// Reads the record at an offset, which is moved past it.
+    fn parse_at<E: EndianParse>(
+        endian: E,
+        class: Class,
+        offset: &mut usize,
+        data: &[u8],
+    ) -> Result<Self, ParseError>;
+
     /// The size of a record in bytes.
     fn size_for(class: Class) -> usize;
 
@@ -146,32 +187,31 @@ pub trait ParseAt: Sized + sealed::Record {
             Err(ParseError::BadEntsize((entsize as u64, expected as u64)))
         }
     }
-}
 
-pub(crate) mod sealed {
-    use crate::ffi;
-    use std::fmt::Debug;
-
-    pub trait Record: Sized {
-        /// The struct of C.
-        type Raw: Copy + Debug + Default;
-
-        /// The record that the struct of C shows.
-        fn of(raw: &Self::Raw) -> Self;
-
-        /// Reads the record of an index of a table.
-        fn get(table: &ffi::Table<'_>, index: usize, place: &mut Self::Raw) -> ffi::Status;
-
-        /// Fills places with the records of a table, the first of them number `first`, and returns how many these are.
-        fn fill(table: &ffi::Table<'_>, first: usize, places: &mut [Self::Raw]) -> usize;
+    // The calls of the library for records of this type, if it has them.
+    #[doc(hidden)]
+    #[inline]
+    fn library_calls() -> Option<Calls<Self>> {
+        None
     }
 }
 
 /// A table of records of one type. A record is read when it is requested.
-#[derive(Debug)]
 pub struct ParsingTable<'data, E: EndianParse, P: ParseAt> {
-    table: ffi::Table<'data>,
-    kind: PhantomData<(E, P)>,
+    endian: E,
+    class: Class,
+    data: &'data [u8],
+    kind: PhantomData<&'data P>,
+}
+
+impl<E: EndianParse + fmt::Debug, P: ParseAt> fmt::Debug for ParsingTable<'_, E, P> {
+    fn fmt(&self, f: &mut fmt::Formatter<'_>) -> fmt::Result {
+        f.debug_struct("ParsingTable")
+            .field("endian", &self.endian)
+            .field("class", &self.class)
+            .field("data", &self.data)
+            .finish()
+    }
 }
 
 impl<E: EndianParse, P: ParseAt> Clone for ParsingTable<'_, E, P> {
@@ -183,59 +223,55 @@ impl<E: EndianParse, P: ParseAt> Clone for ParsingTable<'_, E, P> {
 impl<E: EndianParse, P: ParseAt> Copy for ParsingTable<'_, E, P> {}
 
 impl<'data, E: EndianParse, P: ParseAt> ParsingTable<'data, E, P> {
+    /// The table of records that these bytes hold.
     pub fn new(endian: E, class: Class, data: &'data [u8]) -> Self {
-        ParsingTable::of(ffi::Table {
-            little: endian.is_little(),
-            is_64: class == Class::ELF64,
-            bytes: ffi::Bytes::new(data),
-        })
-    }
-
-    pub(crate) fn of(table: ffi::Table<'data>) -> Self {
         ParsingTable {
-            table,
+            endian,
+            class,
+            data,
             kind: PhantomData,
         }
     }
 
-    pub(crate) fn raw(&self) -> &ffi::Table<'data> {
-        &self.table
+    /// The table that the library found in a file of this order.
+    pub(crate) fn of(endian: E, table: &ffi::Table<'data>) -> Self {
+        ParsingTable::new(endian, Class::of(table.is_64), table.bytes.get())
     }
 
-    fn class(&self) -> Class {
-        if self.table.is_64 {
-            Class::ELF64
-        } else {
-            Class::ELF32
-        }
+    pub(crate) fn raw(&self) -> ffi::Table<'data> {
+        ffi::Table::new(self.endian, self.class, self.data)
     }
 
     /// The records in order, up to the first that cannot be read.
     pub fn iter(&self) -> ParsingIterator<'data, E, P> {
-        ParsingIterator {
-            table: self.table,
-            next: 0,
-            chunk: [P::Raw::default(); CHUNK],
-            taken: 0,
-            fetched: 0,
-            kind: PhantomData,
-        }
+        ParsingIterator::new(self.endian, self.class, self.data)
     }
 
     /// How many records fit.
     pub fn len(&self) -> usize {
-        self.table.bytes.get().len() / P::size_for(self.class())
+        self.data.len() / P::size_for(self.class)
     }
 
+    /// Whether no record fits.
     pub fn is_empty(&self) -> bool {
         self.len() == 0
     }
 
     /// The record of an index, counted from 0.
     pub fn get(&self, index: usize) -> Result<P, ParseError> {
-        let mut found = P::Raw::default();
-        checked(P::get(&self.table, index, &mut found))?;
-        Ok(P::of(&found))
+        if let Some(calls) = P::library_calls() {
+            return (calls.get)(&self.raw(), index);
+        }
+        if self.data.is_empty() {
+            return Err(ParseError::BadOffset(index as u64));
+        }
+        let mut offset = index
+            .checked_mul(P::size_for(self.class))
+            .ok_or(ParseError::IntegerOverflow)?;
+        if offset > self.data.len() {
+            return Err(ParseError::BadOffset(index as u64));
+        }
+        P::parse_at(self.endian, self.class, &mut offset, self.data)
     }
 }
 
@@ -248,37 +284,63 @@ impl<'data, E: EndianParse, P: ParseAt> IntoIterator for ParsingTable<'data, E, 
     }
 }
 
-/// How many records an iterator fetches at once.
-const CHUNK: usize = 32;
-
-/// The records of a table in order, up to the first that cannot be read. They are fetched some at a time.
+/// The records of a table in order, up to the first that cannot be read. Those that the library reads are fetched some
+/// at a time.
 pub struct ParsingIterator<'data, E: EndianParse, P: ParseAt> {
-    table: ffi::Table<'data>,
-    /// The number of the first record that is not fetched yet.
-    next: usize,
-    chunk: [P::Raw; CHUNK],
+    table: ParsingTable<'data, E, P>,
+    /// Where the first record begins that is not fetched yet.
+    offset: usize,
+    chunk: Chunk,
     /// How many records of the chunk were taken, and how many were fetched.
     taken: usize,
     fetched: usize,
-    kind: PhantomData<(E, P)>,
+    ended: bool,
 }
 
-impl<E: EndianParse, P: ParseAt> fmt::Debug for ParsingIterator<'_, E, P> {
+impl<E: EndianParse + fmt::Debug, P: ParseAt> fmt::Debug for ParsingIterator<'_, E, P> {
     fn fmt(&self, f: &mut fmt::Formatter<'_>) -> fmt::Result {
         f.debug_struct("ParsingIterator")
             .field("table", &self.table)
-            .field("index", &(self.next - (self.fetched - self.taken)))
+            .field("fetched", &self.offset)
+            .field("left", &(self.fetched - self.taken))
             .finish()
     }
 }
 
 impl<'data, E: EndianParse, P: ParseAt> ParsingIterator<'data, E, P> {
+    /// The records that these bytes hold.
     pub fn new(endian: E, class: Class, data: &'data [u8]) -> Self {
-        ParsingTable::new(endian, class, data).iter()
+        ParsingIterator {
+            table: ParsingTable::new(endian, class, data),
+            offset: 0,
+            chunk: Chunk::Empty,
+            taken: 0,
+            fetched: 0,
+            ended: data.is_empty(),
+        }
     }
 
-    pub(crate) fn of(table: ffi::Table<'data>) -> Self {
-        ParsingTable::of(table).iter()
+    /// Fetches the next records, and returns whether there are any.
+    fn fetch(&mut self, calls: &Calls<P>) -> bool {
+        if !self.ended {
+            let size = P::size_for(self.table.class);
+            self.taken = 0;
+            self.fetched = (calls.fill)(&self.table.raw(), self.offset / size, &mut self.chunk);
+            self.offset += self.fetched * size;
+            self.ended = self.fetched == 0;
+        }
+        !self.ended
+    }
+
+    /// The next record of a type that the library does not read.
+    fn parse_next(&mut self) -> Option<P> {
+        if self.ended {
+            return None;
+        }
+        let table = &self.table;
+        let record = P::parse_at(table.endian, table.class, &mut self.offset, table.data);
+        self.ended = record.is_err();
+        record.ok()
     }
 }
 
@@ -287,16 +349,15 @@ impl<E: EndianParse, P: ParseAt> Iterator for ParsingIterator<'_, E, P> {
 
     #[inline]
     fn next(&mut self) -> Option<P> {
-        if self.taken == self.fetched {
-            self.taken = 0;
-            self.fetched = P::fill(&self.table, self.next, &mut self.chunk);
-            self.next += self.fetched;
-            if self.fetched == 0 {
-                return None;
-            }
+        let calls = match P::library_calls() {
+            Some(calls) => calls,
+            None => return self.parse_next(),
+        };
+        if self.taken == self.fetched && !self.fetch(&calls) {
+            return None;
         }
-        let raw = self.chunk.get(self.taken)?;
+        let record = (calls.of_chunk)(&self.chunk, self.taken)?;
         self.taken += 1;
-        Some(P::of(raw))
+        Some(record)
     }
 }

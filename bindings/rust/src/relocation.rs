@@ -1,7 +1,7 @@
 //! Relocations.
 use crate::ffi;
-use crate::file::Class;
-use crate::parse::{sealed, ParseAt, ParsingIterator};
+use crate::parse::ParsingIterator;
+use crate::records::{read_by_the_library, Record};
 
 /// An iterator over relocations.
 pub type RelIterator<'data, E> = ParsingIterator<'data, E, Rel>;
@@ -9,24 +9,69 @@ pub type RelIterator<'data, E> = ParsingIterator<'data, E, Rel>;
 /// An iterator over relocations with addends.
 pub type RelaIterator<'data, E> = ParsingIterator<'data, E, Rela>;
 
-/// A relocation.
-#[derive(Clone, Debug, PartialEq, Eq)]
-pub struct Rel {
-    pub r_offset: u64,
-    pub r_sym: u32,
-    pub r_type: u32,
+/// A relocation as it lies in a 32-bit file.
+#[derive(Debug)]
+#[repr(C)]
+#[allow(missing_docs)]
+pub struct Elf32_Rel {
+    pub r_offset: u32,
+    pub r_info: u32,
 }
 
-/// A relocation with an addend.
-#[derive(Clone, Debug, PartialEq, Eq)]
-pub struct Rela {
+/// A relocation as it lies in a 64-bit file.
+#[derive(Debug)]
+#[repr(C)]
+#[allow(missing_docs)]
+pub struct Elf64_Rel {
     pub r_offset: u64,
-    pub r_sym: u32,
-    pub r_type: u32,
+    pub r_info: u64,
+}
+
+/// A relocation with an addend as it lies in a 32-bit file.
+#[derive(Debug)]
+#[repr(C)]
+#[allow(missing_docs)]
+pub struct Elf32_Rela {
+    pub r_offset: u32,
+    pub r_info: u32,
+    pub r_addend: i32,
+}
+
+/// A relocation with an addend as it lies in a 64-bit file.
+#[derive(Debug)]
+#[repr(C)]
+#[allow(missing_docs)]
+pub struct Elf64_Rela {
+    pub r_offset: u64,
+    pub r_info: u64,
     pub r_addend: i64,
 }
 
-impl sealed::Record for Rel {
+/// A relocation, of either class.
+#[derive(Clone, Debug, PartialEq, Eq)]
+pub struct Rel {
+    /// What is relocated: an offset in a section, or an address.
+    pub r_offset: u64,
+    /// The index of the symbol.
+    pub r_sym: u32,
+    /// The type, which the machine defines.
+    pub r_type: u32,
+}
+
+/// A relocation with an addend, of either class.
+#[derive(Clone, Debug, PartialEq, Eq)]
+pub struct Rela {
+    /// What is relocated: an offset in a section, or an address.
+    pub r_offset: u64,
+    /// The index of the symbol.
+    pub r_sym: u32,
+    /// The type, which the machine defines.
+    pub r_type: u32,
+    /// The constant that is added.
+    pub r_addend: i64,
+}
+
+impl Record for Rel {
     type Raw = ffi::Rel;
 
     #[inline]
@@ -47,16 +92,9 @@ impl sealed::Record for Rel {
     }
 }
 
-impl ParseAt for Rel {
-    fn size_for(class: Class) -> usize {
-        match class {
-            Class::ELF32 => 8,
-            Class::ELF64 => 16,
-        }
-    }
-}
+read_by_the_library!(Rel, Rels, 8, 16);
 
-impl sealed::Record for Rela {
+impl Record for Rela {
     type Raw = ffi::Rela;
 
     #[inline]
@@ -78,11 +116,4 @@ impl sealed::Record for Rela {
     }
 }
 
-impl ParseAt for Rela {
-    fn size_for(class: Class) -> usize {
-        match class {
-            Class::ELF32 => 12,
-            Class::ELF64 => 24,
-        }
-    }
-}
+read_by_the_library!(Rela, Relas, 12, 24);

@@ -1,14 +1,33 @@
 //! Section headers.
 use crate::ffi;
-use crate::file::Class;
-use crate::parse::{sealed, ParseAt, ParsingTable};
+use crate::parse::ParsingTable;
+use crate::records::{read_by_the_library, Record};
 
 /// A table of section headers.
 pub type SectionHeaderTable<'data, E> = ParsingTable<'data, E, SectionHeader>;
 
-/// A section header.
-#[derive(Clone, Copy, Debug, PartialEq, Eq)]
-pub struct SectionHeader {
+/// A section header as it lies in a 32-bit file.
+#[derive(Debug)]
+#[repr(C)]
+#[allow(missing_docs)]
+pub struct Elf32_Shdr {
+    pub sh_name: u32,
+    pub sh_type: u32,
+    pub sh_flags: u32,
+    pub sh_addr: u32,
+    pub sh_offset: u32,
+    pub sh_size: u32,
+    pub sh_link: u32,
+    pub sh_info: u32,
+    pub sh_addralign: u32,
+    pub sh_entsize: u32,
+}
+
+/// A section header as it lies in a 64-bit file.
+#[derive(Debug)]
+#[repr(C)]
+#[allow(missing_docs)]
+pub struct Elf64_Shdr {
     pub sh_name: u32,
     pub sh_type: u32,
     pub sh_flags: u64,
@@ -18,6 +37,31 @@ pub struct SectionHeader {
     pub sh_link: u32,
     pub sh_info: u32,
     pub sh_addralign: u64,
+    pub sh_entsize: u64,
+}
+
+/// A section header, of either class.
+#[derive(Clone, Copy, Debug, PartialEq, Eq)]
+pub struct SectionHeader {
+    /// Where its name begins in the table of the names of sections.
+    pub sh_name: u32,
+    /// What it holds.
+    pub sh_type: u32,
+    /// Its flags.
+    pub sh_flags: u64,
+    /// Its address, 0 if it is not in memory.
+    pub sh_addr: u64,
+    /// Where its bytes begin in the file.
+    pub sh_offset: u64,
+    /// The number of its bytes.
+    pub sh_size: u64,
+    /// The index of a section that it goes with.
+    pub sh_link: u32,
+    /// A number whose meaning follows from the type.
+    pub sh_info: u32,
+    /// The alignment of its address.
+    pub sh_addralign: u64,
+    /// The size of an entry, 0 if it holds no table.
     pub sh_entsize: u64,
 }
 
@@ -38,7 +82,7 @@ impl SectionHeader {
     }
 }
 
-impl sealed::Record for SectionHeader {
+impl Record for SectionHeader {
     type Raw = ffi::Section;
 
     #[inline]
@@ -72,11 +116,4 @@ impl sealed::Record for SectionHeader {
     }
 }
 
-impl ParseAt for SectionHeader {
-    fn size_for(class: Class) -> usize {
-        match class {
-            Class::ELF32 => 40,
-            Class::ELF64 => 64,
-        }
-    }
-}
+read_by_the_library!(SectionHeader, Sections, 40, 64);

@@ -1,21 +1,59 @@
 //! Program headers.
 use crate::ffi;
-use crate::file::Class;
-use crate::parse::{sealed, ParseAt, ParsingTable};
+use crate::parse::ParsingTable;
+use crate::records::{read_by_the_library, Record};
 
 /// A table of program headers.
 pub type SegmentTable<'data, E> = ParsingTable<'data, E, ProgramHeader>;
 
-/// A program header.
-#[derive(Clone, Copy, Debug, PartialEq, Eq)]
-pub struct ProgramHeader {
+/// A program header as it lies in a 32-bit file.
+#[derive(Debug)]
+#[repr(C)]
+#[allow(missing_docs)]
+pub struct Elf32_Phdr {
     pub p_type: u32,
+    pub p_offset: u32,
+    pub p_vaddr: u32,
+    pub p_paddr: u32,
+    pub p_filesz: u32,
+    pub p_memsz: u32,
+    pub p_flags: u32,
+    pub p_align: u32,
+}
+
+/// A program header as it lies in a 64-bit file.
+#[derive(Debug)]
+#[repr(C)]
+#[allow(missing_docs)]
+pub struct Elf64_Phdr {
+    pub p_type: u32,
+    pub p_flags: u32,
     pub p_offset: u64,
     pub p_vaddr: u64,
     pub p_paddr: u64,
     pub p_filesz: u64,
     pub p_memsz: u64,
+    pub p_align: u64,
+}
+
+/// A program header, of either class.
+#[derive(Clone, Copy, Debug, PartialEq, Eq)]
+pub struct ProgramHeader {
+    /// What the segment is for.
+    pub p_type: u32,
+    /// Where its bytes begin in the file.
+    pub p_offset: u64,
+    /// Its virtual address.
+    pub p_vaddr: u64,
+    /// Its physical address.
+    pub p_paddr: u64,
+    /// The number of its bytes in the file.
+    pub p_filesz: u64,
+    /// The number of its bytes in memory.
+    pub p_memsz: u64,
+    /// Whether it can be read, written and executed.
     pub p_flags: u32,
+    /// Its alignment in memory and in the file.
     pub p_align: u64,
 }
 
@@ -34,7 +72,7 @@ impl ProgramHeader {
     }
 }
 
-impl sealed::Record for ProgramHeader {
+impl Record for ProgramHeader {
     type Raw = ffi::Segment;
 
     #[inline]
@@ -66,11 +104,4 @@ impl sealed::Record for ProgramHeader {
     }
 }
 
-impl ParseAt for ProgramHeader {
-    fn size_for(class: Class) -> usize {
-        match class {
-            Class::ELF32 => 32,
-            Class::ELF64 => 56,
-        }
-    }
-}
+read_by_the_library!(ProgramHeader, Segments, 32, 56);

@@ -9,6 +9,7 @@ pub struct StringTable<'data> {
 }
 
 impl<'data> StringTable<'data> {
+    /// The table that these bytes hold.
     pub fn new(data: &'data [u8]) -> Self {
         StringTable { data }
     }
@@ -26,6 +27,6 @@ impl<'data> StringTable<'data> {
 
     /// The string at an offset as text.
     pub fn get(&self, offset: usize) -> Result<&'data str, ParseError> {
-        Ok(std::str::from_utf8(self.get_raw(offset)?)?)
+        Ok(core::str::from_utf8(self.get_raw(offset)?)?)
     }
 }

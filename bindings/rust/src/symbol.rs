@@ -1,22 +1,51 @@
 //! Symbols.
-use crate::endian::EndianParse;
 use crate::ffi;
-use crate::file::Class;
-use crate::parse::sealed::Record;
-use crate::parse::{sealed, ParseAt, ParsingTable};
-use crate::string_table::StringTable;
+use crate::parse::ParsingTable;
+use crate::records::{read_by_the_library, Record};
 
 /// A table of symbols.
 pub type SymbolTable<'data, E> = ParsingTable<'data, E, Symbol>;
 
-/// A symbol.
-#[derive(Clone, Debug, PartialEq, Eq)]
-pub struct Symbol {
+/// A symbol as it lies in a 32-bit file.
+#[derive(Debug)]
+#[repr(C)]
+#[allow(missing_docs)]
+pub struct Elf32_Sym {
     pub st_name: u32,
-    pub st_shndx: u16,
+    pub st_value: u32,
+    pub st_size: u32,
     pub st_info: u8,
     pub st_other: u8,
+    pub st_shndx: u16,
+}
+
+/// A symbol as it lies in a 64-bit file.
+#[derive(Debug)]
+#[repr(C)]
+#[allow(missing_docs)]
+pub struct Elf64_Sym {
+    pub st_name: u32,
+    pub st_info: u8,
+    pub st_other: u8,
+    pub st_shndx: u16,
     pub st_value: u64,
+    pub st_size: u64,
+}
+
+/// A symbol, of either class.
+#[derive(Clone, Debug, PartialEq, Eq)]
+pub struct Symbol {
+    /// Where its name begins in the linked table of strings.
+    pub st_name: u32,
+    /// The section in which it is defined, or a special index.
+    pub st_shndx: u16,
+    /// Its type and its binding.
+    pub st_info: u8,
+    /// Its visibility.
+    pub st_other: u8,
+    /// Its value, as an address.
+    pub st_value: u64,
+    /// Its size, 0 if it has none or an unknown one.
     pub st_size: u64,
 }
 
@@ -42,7 +71,7 @@ impl Symbol {
     }
 }
 
-impl sealed::Record for Symbol {
+impl Record for Symbol {
     type Raw = ffi::Symbol;
 
     #[inline]
@@ -66,62 +95,4 @@ impl sealed::Record for Symbol {
     }
 }
 
-impl ParseAt for Symbol {
-    fn size_for(class: Class) -> usize {
-        match class {
-            Class::ELF32 => 16,
-            Class::ELF64 => 24,
-        }
-    }
-}
-
-impl<'data, E: EndianParse> ParsingTable<'data, E, Symbol> {
-    /// The symbols with the bytes of their names, up to the first that cannot be read or has no name. The crate `elf`
-    /// has no such method: its callers read each name by `StringTable::get_raw`.
-    pub fn named(&self, strings: &StringTable<'data>) -> NamedSymbols<'data> {
-        NamedSymbols {
-            table: *self.raw(),
-            strings: strings.bytes(),
-            next: 0,
-            chunk: [ffi::NamedSymbol::default(); CHUNK],
-            taken: 0,
-            fetched: 0,
-        }
-    }
-}
-
-/// How many symbols are fetched at once.
-const CHUNK: usize = 32;
-
-/// Symbols with the bytes of their names. They are fetched some at a time.
-#[derive(Debug)]
-pub struct NamedSymbols<'data> {
-    table: ffi::Table<'data>,
-    strings: ffi::Bytes<'data>,
-    /// The number of the first symbol that is not fetched yet.
-    next: usize,
-    chunk: [ffi::NamedSymbol<'data>; CHUNK],
-    /// How many symbols of the chunk were taken, and how many were fetched.
-    taken: usize,
-    fetched: usize,
-}
-
-impl<'data> Iterator for NamedSymbols<'data> {
-    type Item = (Symbol, &'data [u8]);
-
-    #[inline]
-    fn next(&mut self) -> Option<(Symbol, &'data [u8])> {
-        if self.taken == self.fetched {
-            self.taken = 0;
-            self.fetched =
-                ffi::named_symbols(&self.table, self.strings, self.next, &mut self.chunk);
-            self.next += self.fetched;
-            if self.fetched == 0 {
-                return None;
-            }
-        }
-        let raw = self.chunk.get(self.taken)?;
-        self.taken += 1;
-        Some((Symbol::of(&raw.symbol), raw.name.get()))
-    }
-}
+read_by_the_library!(Symbol, Symbols, 16, 24);

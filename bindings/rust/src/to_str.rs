@@ -1,22 +1,39 @@
 //! The names of values, as the constants of `abi` spell them.
 use crate::ffi;
+#[cfg(feature = "alloc")]
+use alloc::format;
+#[cfg(feature = "alloc")]
+use alloc::string::{String, ToString};
+
+// The names of the proved crate itself: the library has no calls for names in words.
+#[allow(dead_code)]
+#[path = "../../../crates/elf_abi/src/to_str/rows.rt"]
+mod rows;
 
 // The name that a call wrote, if there is one. All names are ASCII.
 fn text(name: ffi::Name<'static>) -> Option<&'static str> {
     if name.found {
-        std::str::from_utf8(name.bytes.get()).ok()
+        core::str::from_utf8(name.bytes.get()).ok()
     } else {
         None
     }
 }
 
+// The name of a value in a table in the order of values.
+fn name_of(table: &[(u16, &'static str)], value: u16) -> Option<&'static str> {
+    let index = table.binary_search_by_key(&value, |row| row.0).ok()?;
+    table.get(index).map(|row| row.1)
+}
+
+/// The name of an operating system's ABI, if it has one.
 pub fn e_osabi_to_str(e_osabi: u8) -> Option<&'static str> {
     let mut name = ffi::Name::default();
     ffi::e_osabi_name(e_osabi, &mut name);
     text(name)
 }
 
-/// The name, or the number in parentheses after the field's name.
+/// The name of an operating system's ABI, or the number in parentheses after the field's name.
+#[cfg(feature = "alloc")]
 pub fn e_osabi_to_string(e_osabi: u8) -> String {
     match e_osabi_to_str(e_osabi) {
         Some(name) => name.to_string(),
@@ -24,13 +41,20 @@ pub fn e_osabi_to_string(e_osabi: u8) -> String {
     }
 }
 
+/// The name of a kind of file, if it has one.
 pub fn e_type_to_str(e_type: u16) -> Option<&'static str> {
     let mut name = ffi::Name::default();
     ffi::e_type_name(e_type, &mut name);
     text(name)
 }
 
-/// The name, or the number in parentheses after the field's name.
+/// What kind of file it is, in words, if it has a name.
+pub fn e_type_to_human_str(e_type: u16) -> Option<&'static str> {
+    name_of(&rows::E_TYPE_HUMAN, e_type)
+}
+
+/// The name of a kind of file, or the number in parentheses after the field's name.
+#[cfg(feature = "alloc")]
 pub fn e_type_to_string(e_type: u16) -> String {
     match e_type_to_str(e_type) {
         Some(name) => name.to_string(),
@@ -38,13 +62,20 @@ pub fn e_type_to_string(e_type: u16) -> String {
     }
 }
 
+/// The name of a machine, if it has one.
 pub fn e_machine_to_str(e_machine: u16) -> Option<&'static str> {
     let mut name = ffi::Name::default();
     ffi::e_machine_name(e_machine, &mut name);
     text(name)
 }
 
-/// The name, or the number in parentheses after the field's name.
+/// The machine, in words, if it has a name.
+pub fn e_machine_to_human_str(e_machine: u16) -> Option<&'static str> {
+    name_of(&rows::E_MACHINE_HUMAN, e_machine)
+}
+
+/// The name of a machine, or the number in parentheses after the field's name.
+#[cfg(feature = "alloc")]
 pub fn e_machine_to_string(e_machine: u16) -> String {
     match e_machine_to_str(e_machine) {
         Some(name) => name.to_string(),
@@ -52,13 +83,15 @@ pub fn e_machine_to_string(e_machine: u16) -> String {
     }
 }
 
+/// The name of a type of section, if it has one.
 pub fn sh_type_to_str(sh_type: u32) -> Option<&'static str> {
     let mut name = ffi::Name::default();
     ffi::sh_type_name(sh_type, &mut name);
     text(name)
 }
 
-/// The name, or the number in parentheses after the field's name.
+/// The name of a type of section, or the number in parentheses after the field's name.
+#[cfg(feature = "alloc")]
 pub fn sh_type_to_string(sh_type: u32) -> String {
     match sh_type_to_str(sh_type) {
         Some(name) => name.to_string(),
@@ -66,13 +99,28 @@ pub fn sh_type_to_string(sh_type: u32) -> String {
     }
 }
 
+/// The flags of a segment, as `R E`, or the number in parentheses after the field's name if there are others.
+#[cfg(feature = "alloc")]
+pub fn p_flags_to_string(p_flags: u32) -> String {
+    use crate::abi::{PF_R as READ, PF_W as WRITE, PF_X as EXECUTE};
+    if p_flags & !(READ | WRITE | EXECUTE) != 0 {
+        return format!("p_flags({p_flags:#x})");
+    }
+    [(READ, 'R'), (WRITE, 'W'), (EXECUTE, 'E')]
+        .iter()
+        .map(|(flag, letter)| if p_flags & flag != 0 { *letter } else { ' ' })
+        .collect()
+}
+
+/// The name of a type of segment, if it has one.
 pub fn p_type_to_str(p_type: u32) -> Option<&'static str> {
     let mut name = ffi::Name::default();
     ffi::p_type_name(p_type, &mut name);
     text(name)
 }
 
-/// The name, or the number in parentheses after the field's name.
+/// The name of a type of segment, or the number in parentheses after the field's name.
+#[cfg(feature = "alloc")]
 pub fn p_type_to_string(p_type: u32) -> String {
     match p_type_to_str(p_type) {
         Some(name) => name.to_string(),
@@ -80,13 +128,15 @@ pub fn p_type_to_string(p_type: u32) -> String {
     }
 }
 
+/// The name of a type of symbol, if it has one.
 pub fn st_symtype_to_str(st_symtype: u8) -> Option<&'static str> {
     let mut name = ffi::Name::default();
     ffi::st_symtype_name(st_symtype, &mut name);
     text(name)
 }
 
-/// The name, or the number in parentheses after the field's name.
+/// The name of a type of symbol, or the number in parentheses after the field's name.
+#[cfg(feature = "alloc")]
 pub fn st_symtype_to_string(st_symtype: u8) -> String {
     match st_symtype_to_str(st_symtype) {
         Some(name) => name.to_string(),
@@ -94,13 +144,15 @@ pub fn st_symtype_to_string(st_symtype: u8) -> String {
     }
 }
 
+/// The name of a binding of a symbol, if it has one.
 pub fn st_bind_to_str(st_bind: u8) -> Option<&'static str> {
     let mut name = ffi::Name::default();
     ffi::st_bind_name(st_bind, &mut name);
     text(name)
 }
 
-/// The name, or the number in parentheses after the field's name.
+/// The name of a binding of a symbol, or the number in parentheses after the field's name.
+#[cfg(feature = "alloc")]
 pub fn st_bind_to_string(st_bind: u8) -> String {
     match st_bind_to_str(st_bind) {
         Some(name) => name.to_string(),
@@ -108,13 +160,15 @@ pub fn st_bind_to_string(st_bind: u8) -> String {
     }
 }
 
+/// The name of a visibility of a symbol, if it has one.
 pub fn st_vis_to_str(st_vis: u8) -> Option<&'static str> {
     let mut name = ffi::Name::default();
     ffi::st_vis_name(st_vis, &mut name);
     text(name)
 }
 
-/// The name, or the number in parentheses after the field's name.
+/// The name of a visibility of a symbol, or the number in parentheses after the field's name.
+#[cfg(feature = "alloc")]
 pub fn st_vis_to_string(st_vis: u8) -> String {
     match st_vis_to_str(st_vis) {
         Some(name) => name.to_string(),
@@ -122,18 +176,21 @@ pub fn st_vis_to_string(st_vis: u8) -> String {
     }
 }
 
+/// The name of a way of compression, if it has one.
 pub fn ch_type_to_str(ch_type: u32) -> Option<&'static str> {
     let mut name = ffi::Name::default();
     ffi::ch_type_name(ch_type, &mut name);
     text(name)
 }
 
+/// The name of the operating system of an ABI tag, if it has one.
 pub fn note_abi_tag_os_to_str(os: u32) -> Option<&'static str> {
     let mut name = ffi::Name::default();
     ffi::note_abi_tag_os_name(os, &mut name);
     text(name)
 }
 
+/// The name of the tag of a dynamic entry, if it has one.
 pub fn d_tag_to_str(d_tag: i64) -> Option<&'static str> {
     let mut name = ffi::Name::default();
     ffi::d_tag_name(d_tag, &mut name);

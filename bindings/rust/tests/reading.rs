@@ -1,8 +1,10 @@
 //! Reads the file of the running test itself.
+#![cfg(all(feature = "std", feature = "to_str"))]
 use nugwier::abi;
 use nugwier::check::{check_file, Fault, Part};
 use nugwier::endian::{AnyEndian, BigEndian, LittleEndian, NativeEndian};
 use nugwier::fault_kinds;
+use nugwier::named::named_symbols;
 use nugwier::note::Note;
 use nugwier::{ElfBytes, ParseError};
 
@@ -81,7 +83,7 @@ fn named_symbols_are_those_of_the_walk() {
         .into_iter()
         .filter_map(Result::unwrap)
     {
-        let mut named = symbols.named(&strings);
+        let mut named = named_symbols(&symbols, &strings);
         for symbol in symbols.iter() {
             let name = strings.get_raw(symbol.st_name as usize).unwrap();
             assert_eq!(named.next().unwrap(), (symbol, name));

@@ -9,3 +9,9 @@ pub mod HashTables
 pub mod Writing
 pub mod TypeNames
 pub mod Checked
+pub mod CommonPass
+pub mod Chosen
+pub mod Held
+pub mod Moved
+pub mod Opened
+pub mod Follows

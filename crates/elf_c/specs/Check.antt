@@ -1,5 +1,5 @@
 -- What a check of a file returns and writes, and what calls about a sound file return.
-use Rattle.std.specs.Prelude.{◌≡◌, ℕ, ◌<◌, Bool, true, false, List, length, Some, Result, Ok}
+use Rattle.std.specs.Prelude.{◌≡◌, ℕ, ◌<◌, Bool, true, false, List, length, Some, Result, Ok, Err}
 use Rattle.elf_records.specs.StringTable.{string_at}
 use Rattle.elf_records.specs.Symbol.{symbol_reads}
 use Rattle.elf_records.specs.Table.{Table, table_get, table_len}
@@ -10,19 +10,27 @@ use Rattle.elf.specs.Answers.{first_symbols, section_header_by_name, symbol_vers
 use Rattle.elf.specs.Data.{section_data}
 use Rattle.elf.specs.Names.{name_table}
 use Rattle.elf.specs.ObjectFile.{ObjectFile}
+use Rattle.elf.specs.declared.read_error.ReadError.{ReadError}
 use Rattle.elf_check.specs.Faults.{IsTrueOfFile}
 use Rattle.elf_check.specs.Sound.{SoundFile}
 use Rattle.elf_check.specs.declared.faults.FileFault.{FileFault}
 use Rattle.elf_c.specs.Faults.{fault_shown, no_fault}
+use Rattle.elf_c.specs.File.{file_over}
 use Rattle.elf_c.specs.Status.{done, status_of}
 use Rattle.elf_c.specs.Symbols.{symbols_type}
 use Rattle.elf_c.specs.declared.faults.NugwierFault.{NugwierFault}
+use Rattle.elf_c.specs.declared.file.NugwierFile.{NugwierFile}
 
 -- the file is sound, and there is no fault; or it is not, and this is its first fault
 abbrev pub IsChecked : ObjectFile → Bool → NugwierFault → Type 0
 IsChecked file true fault = SoundFile file × (fault ≡ no_fault)
 IsChecked file false fault =
     (¬ SoundFile file) × ((own : FileFault) × IsTrueOfFile file own × (fault ≡ fault_shown own))
+
+-- what a call wrote, before which the old ones were there: what was found in all bytes of the file, if they are loaded
+abbrev pub IsCheckWritten : NugwierFile → Result (List ℕ) ReadError → Bool → Bool → NugwierFault → NugwierFault → Type 0
+IsCheckWritten file (Ok bytes) was sound old fault = IsChecked (file_over file bytes) sound fault
+IsCheckWritten file (Err e) was sound old fault = (sound ≡ was) × (fault ≡ old)
 
 -- ---- calls that return no error
 

@@ -1,5 +1,5 @@
 -- Files that C holds open.
-use Rattle.std.specs.Prelude.{◌≡◌, ℕ, Bool, true, false, List, Option, Some, None, Result, Err}
+use Rattle.std.specs.Prelude.{◌≡◌, ℕ, Bool, true, false, List, [], length, Option, Some, None, Result, Err}
 use Rattle.elf_records.specs.Endian.{any_is_little, any_of_byte}
 use Rattle.elf_records.specs.Segment.{program_header_reads}
 use Rattle.elf_records.specs.Table.{Table, table_get}
@@ -78,7 +78,19 @@ MissingAreEmpty f =
     (f.has_sections ≡ false → HasNoBytes f.header.little f.header.is_64 f.sections)
     × (f.has_segments ≡ false → HasNoBytes f.header.little f.header.is_64 f.segments)
 
--- the object file that it is to the answers about it
+-- all of the file lies in its bytes, and no ranges are given
+abbrev pub IsWhole : NugwierFile → Type 0
+IsWhole f = (f.size ≡ length f.bytes.now) × (f.ranges.now ≡ [])
+
+-- its headers over these bytes
+abbrev pub view_over : NugwierFile → List ℕ → FileView AnyEndian
+view_over f bytes = record (file_view f) { bytes = bytes }
+
+-- the object file that these are to the answers about it
+abbrev pub file_over : NugwierFile → List ℕ → ObjectFile
+file_over f bytes = object_file any_is_little (view_over f bytes)
+
+-- the file that lies in its bytes
 abbrev pub file_of_c : NugwierFile → ObjectFile
 file_of_c f = object_file any_is_little (file_view f)
 

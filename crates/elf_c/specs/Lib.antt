@@ -24,6 +24,12 @@ pub mod Names
 pub mod Texts
 -- files that C holds open
 pub mod File
+-- files as far as they are loaded
+pub mod Loaded
+-- that what is loaded answers as the whole file
+pub mod Follows
+-- files that are opened as far as they are loaded
+pub mod Opening
 -- the bytes of sections and segments
 pub mod Data
 -- symbols and dynamic entries

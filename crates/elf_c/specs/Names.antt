@@ -30,4 +30,5 @@ error_name code =
     else if code == 15 then Some (codes "TryFromIntError")
     else if code == 16 then Some (codes "IOError")
     else if code == 17 then Some (codes "OutOfMemory")
+    else if code == 18 then Some (codes "NotLoaded")
     else None

@@ -23,6 +23,10 @@ abbrev pub range_text : ℕ → ℕ → List ℕ
 range_text start end =
     codes "Could not read bytes in range [0x" ++ hexadecimal start ++ codes ", 0x" ++ hexadecimal end ++ codes ")"
 
+abbrev pub missing_text : ℕ → ℕ → List ℕ
+missing_text start end =
+    codes "Bytes in range [0x" ++ hexadecimal start ++ codes ", 0x" ++ hexadecimal end ++ codes ") are not loaded"
+
 -- found and expected
 abbrev pub type_text : ℕ → ℕ → List ℕ
 type_text found expected =
@@ -47,6 +51,7 @@ error_text s =
     else if s.code == 11 then range_text s.first s.second
     else if s.code == 12 then codes "Integer overflow detected"
     else if s.code == 17 then codes "Out of memory"
+    else if s.code == 18 then missing_text s.first s.second
     else []
 
 -- bytes written over the front of a place, as far as it has room

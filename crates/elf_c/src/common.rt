@@ -1,25 +1,25 @@
 //! What is looked up most often, found in one pass over the sections.
-ghost use Rattle.std.specs.Prelude.{◌≡◌, IfOk, [], false};
-ghost use Rattle.elf.specs.Answers.{symbols_of};
-ghost use Rattle.elf.specs.Common.{common_of_sections, common_part, find_common_data, gnu_hash_table_of};
-ghost use Rattle.elf.specs.Common.{last_of_each, sysv_hash_table_of};
+ghost use Rattle.std.specs.Prelude.{◌≡◌, IfOk, [], false, true};
+ghost use Rattle.elf.specs.Answers.{section_dynamic, symbols_of};
+ghost use Rattle.elf.specs.Common.{last_of_each};
 ghost use Rattle.elf.specs.inner.Passes.{with_part};
 ghost use Rattle.elf_records.specs.Number.{ok_map};
-ghost use Rattle.elf_c.specs.Common.{AreNoSymbols, IsNoGnu, MissingAreEmpty, common_of_c};
-ghost use Rattle.elf_c.specs.File.{file_of_c};
+ghost use Rattle.elf_c.specs.Common.{AreNoSymbols, IsNoGnu, MissingAreEmpty, common_loaded, common_of_c, gnu_loaded};
+ghost use Rattle.elf_c.specs.Common.{part_loaded, sections_loaded, sysv_loaded};
 ghost use Rattle.elf_c.specs.HashTables.{gnu_of_c, sysv_of_c};
-ghost use Rattle.elf_c.specs.Status.{IsWritten, status_of};
-ghost use Rattle.elf_c.specs.Symbols.{pair_view};
-ghost use Rattle.elf_c.specs.Tables.{HasNoBytes};
+ghost use Rattle.elf_c.specs.Loaded.{loaded_of_c};
+ghost use Rattle.elf_c.specs.Status.{IsWritten, read_status};
+ghost use Rattle.elf_c.specs.Symbols.{symbols_pair};
+ghost use Rattle.elf_c.specs.Tables.{HasNoBytes, table_of_c};
 
-use crate::data::table_in;
-use crate::file::{NugwierFile, file_in};
+use crate::file::NugwierFile;
 use crate::hash_tables::{NugwierGnu, NugwierSysv, gnu_opened, sysv_opened};
-use crate::status::{NugwierStatus, done, refused};
-use crate::symbols::{NugwierDynamicTable, NugwierSymbolTable, section_dynamic, segment_dynamic};
-use crate::table::{NugwierTable, records_in};
+use crate::status::{NugwierStatus, done, unread};
+use crate::symbols::{NugwierDynamicTable, NugwierSymbolTable};
+use crate::table::{NugwierTable, records_in, table_shown};
 use elf::headers::Headers;
-use elf::{ParseError, abi};
+use elf::{ReadError, abi, reader};
+use elf_parts::endian::AnyEndian;
 use elf_parts::section::SectionHeader;
 
 /// The symbols, the dynamic entries and the hash sections of a file, each if the file has it. A hash section is opened.
@@ -101,76 +101,79 @@ fn nothing() -> NugwierCommon<'static>
 
 // The symbols of a section, with their strings.
 fn symbols_of<'data>(
-    file: &NugwierFile<'data>,
+    file: &'data NugwierFile<'data>,
     shdr: &SectionHeader,
-) -> Result<(NugwierTable<'data>, &'data [u8]), ParseError>
-    ensures { ok_map pair_view result ≡ symbols_of (file_of_c file.now) shdr.now }
+) -> Result<NugwierSymbolTable<'data>, ReadError>
+    ensures value { ok_map symbols_pair result ≡ symbols_of (loaded_of_c file.now) shdr.now }
+    ensures found { IfOk result (λ s. s.found ≡ true) }
 {
-    let object = file_in(file);
-    let (symbols, linked) = object.with_linked(shdr)?;
-    let records = object.section_range(&symbols)?;
-    let strings = object.section_range(&linked)?;
-    Ok((table_in(file, records), strings))
+    let (symbols, strings) = reader::symbols_of::<AnyEndian, _>(file, shdr)?;
+    Ok(NugwierSymbolTable {
+        found: true,
+        symbols: table_shown(&symbols),
+        strings: strings.bytes(),
+    })
+}
+
+// The dynamic entries of a section.
+fn section_dynamic<'data>(
+    file: &'data NugwierFile<'data>,
+    shdr: &SectionHeader,
+) -> Result<NugwierDynamicTable<'data>, ReadError>
+    ensures value { ok_map (λ d. table_of_c d.entries) result ≡ section_dynamic (loaded_of_c file.now) shdr.now }
+    ensures found { IfOk result (λ d. d.found ≡ true) }
+{
+    let entries = reader::section_dynamic::<AnyEndian, _>(file, shdr)?;
+    Ok(NugwierDynamicTable {
+        found: true,
+        entries: table_shown(&entries),
+    })
 }
 
 // The SysV hash section that a section is.
 #[tactic(auto, using(crate::proofs::Files::is_little_in))]
 fn sysv_of<'data>(
-    file: &NugwierFile<'data>,
+    file: &'data NugwierFile<'data>,
     shdr: &SectionHeader,
-) -> Result<NugwierSysv<'data>, ParseError>
-    ensures { ok_map sysv_of_c result ≡ sysv_hash_table_of (file_of_c file.now) shdr.now }
+) -> Result<NugwierSysv<'data>, ReadError>
+    ensures { ok_map sysv_of_c result ≡ sysv_loaded (loaded_of_c file.now) shdr.now }
 {
-    let bytes = file_in(file).section_range(shdr)?;
-    sysv_opened(file.header.little, file.header.is_64, bytes)
+    let bytes = reader::section_part::<AnyEndian, _>(file, shdr)?;
+    Ok(sysv_opened(file.header.little, file.header.is_64, bytes)?)
 }
 
 // The GNU hash section that a section is.
 #[tactic(auto, using(crate::proofs::Files::is_little_in))]
 fn gnu_of<'data>(
-    file: &NugwierFile<'data>,
+    file: &'data NugwierFile<'data>,
     shdr: &SectionHeader,
-) -> Result<NugwierGnu<'data>, ParseError>
-    ensures { ok_map gnu_of_c result ≡ gnu_hash_table_of (file_of_c file.now) shdr.now }
+) -> Result<NugwierGnu<'data>, ReadError>
+    ensures { ok_map gnu_of_c result ≡ gnu_loaded (loaded_of_c file.now) shdr.now }
 {
-    let bytes = file_in(file).section_range(shdr)?;
-    gnu_opened(file.header.little, file.header.is_64, bytes)
+    let bytes = reader::section_part::<AnyEndian, _>(file, shdr)?;
+    Ok(gnu_opened(file.header.little, file.header.is_64, bytes)?)
 }
 
 // Writes what a section holds over what was found before.
 fn add_section<'data>(
-    file: &NugwierFile<'data>,
+    file: &'data NugwierFile<'data>,
     shdr: &SectionHeader,
     found: &mut NugwierCommon<'data>,
-) -> Result<(), ParseError>
+) -> Result<(), ReadError>
     requires { MissingAreEmpty found.old }
     ensures found { ok_map (λ _. common_of_c found.new) result
-        ≡ ok_map (with_part (common_of_c found.old)) (common_part (file_of_c file.now) shdr.now) }
+        ≡ ok_map (with_part (common_of_c found.old)) (part_loaded (loaded_of_c file.now) shdr.now) }
     ensures missing { MissingAreEmpty found.new }
 {
     match shdr.sh_type {
         abi::SHT_SYMTAB => {
-            let (symbols, strings) = symbols_of(file, shdr)?;
-            found.symbols = NugwierSymbolTable {
-                found: true,
-                symbols,
-                strings,
-            };
+            found.symbols = symbols_of(file, shdr)?;
         }
         abi::SHT_DYNSYM => {
-            let (symbols, strings) = symbols_of(file, shdr)?;
-            found.dynamic_symbols = NugwierSymbolTable {
-                found: true,
-                symbols,
-                strings,
-            };
+            found.dynamic_symbols = symbols_of(file, shdr)?;
         }
         abi::SHT_DYNAMIC => {
-            let entries = section_dynamic(file, shdr)?;
-            found.dynamics = NugwierDynamicTable {
-                found: true,
-                entries,
-            };
+            found.dynamics = section_dynamic(file, shdr)?;
         }
         abi::SHT_HASH => {
             found.sysv = sysv_of(file, shdr)?;
@@ -186,9 +189,11 @@ fn add_section<'data>(
 }
 
 // What the sections hold.
-#[tactic(auto, using(elf::proofs::CommonPass::common_in_all, elf::proofs::CommonPass::common_of_none))]
-fn common_of_sections<'data>(file: &NugwierFile<'data>) -> Result<NugwierCommon<'data>, ParseError>
-    ensures found { ok_map common_of_c result ≡ common_of_sections (file_of_c file.now) }
+#[tactic(auto, using(crate::proofs::CommonPass::loaded_in_all, crate::proofs::CommonPass::loaded_of_none))]
+fn common_of_sections<'data>(
+    file: &'data NugwierFile<'data>,
+) -> Result<NugwierCommon<'data>, ReadError>
+    ensures found { ok_map common_of_c result ≡ sections_loaded (loaded_of_c file.now) }
     ensures missing { IfOk result (λ found. MissingAreEmpty found) }
 {
     let mut found = nothing();
@@ -202,18 +207,18 @@ fn common_of_sections<'data>(file: &NugwierFile<'data>) -> Result<NugwierCommon<
 }
 
 // The same, with the dynamic entries of a segment if no section has any.
-fn common_in<'data>(file: &NugwierFile<'data>) -> Result<NugwierCommon<'data>, ParseError>
-    ensures found { ok_map common_of_c result ≡ find_common_data (file_of_c file.now) }
+fn common_in<'data>(file: &'data NugwierFile<'data>) -> Result<NugwierCommon<'data>, ReadError>
+    ensures found { ok_map common_of_c result ≡ common_loaded (loaded_of_c file.now) }
     ensures missing { IfOk result (λ found. MissingAreEmpty found) }
 {
     let mut found = common_of_sections(file)?;
     if !found.dynamics.found
-        && let Some(phdr) = file_in(file).first_segment_of(abi::PT_DYNAMIC)
+        && let Some(phdr) = file.first_segment_of(abi::PT_DYNAMIC)
     {
-        let entries = segment_dynamic(file, &phdr)?;
+        let entries = reader::segment_dynamic::<AnyEndian, _>(file, &phdr)?;
         found.dynamics = NugwierDynamicTable {
             found: true,
-            entries,
+            entries: table_shown(&entries),
         };
     }
     Ok(found)
@@ -224,18 +229,18 @@ fn common_in<'data>(file: &NugwierFile<'data>) -> Result<NugwierCommon<'data>, P
 /// `PT_DYNAMIC`. An error leaves `common` as it is; the errors are those of `ElfBytes::find_common_data`.
 #[unsafe(no_mangle)]
 pub extern "C" fn nugwier_common<'data>(
-    file: &NugwierFile<'data>,
+    file: &'data NugwierFile<'data>,
     common: &mut NugwierCommon<'data>,
 ) -> NugwierStatus
-    ensures status { result ≡ status_of (find_common_data (file_of_c file.now)) }
-    ensures common { IsWritten common_of_c common.new common.old (find_common_data (file_of_c file.now)) }
-    ensures missing { IfOk (find_common_data (file_of_c file.now)) (λ _. MissingAreEmpty common.new) }
+    ensures status { result ≡ read_status (common_loaded (loaded_of_c file.now)) }
+    ensures common { IsWritten common_of_c common.new common.old (common_loaded (loaded_of_c file.now)) }
+    ensures missing { IfOk (common_loaded (loaded_of_c file.now)) (λ _. MissingAreEmpty common.new) }
 {
     match common_in(file) {
         Ok(found) => {
             *common = found;
             done()
         }
-        Err(error) => refused(&error),
+        Err(error) => unread(&error),
     }
 }

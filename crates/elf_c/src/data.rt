@@ -4,23 +4,24 @@ ghost use Rattle.elf_abi.specs.Values.{sht_note, sht_rel, sht_rela};
 ghost use Rattle.elf_records.specs.Number.{ok_map};
 ghost use Rattle.elf_reading.specs.Leading.{data_view};
 ghost use Rattle.elf.specs.Answers.{section_data_as_strtab, segment_data};
-ghost use Rattle.elf.specs.Data.{content_of_type, section_data};
+ghost use Rattle.elf.specs.Data.{section_data};
 ghost use Rattle.elf.specs.ObjectFile.{table_of};
 ghost use Rattle.elf_c.specs.Data.{compression_shown, data_shown, data_view_of_c, notes_view};
 ghost use Rattle.elf_c.specs.Data.{section_notes, section_records, segment_notes};
-ghost use Rattle.elf_c.specs.File.{file_of_c};
+ghost use Rattle.elf_c.specs.Loaded.{headers_of_c, loaded_of_c};
 ghost use Rattle.elf_c.specs.Records.{section_in, segment_in};
-ghost use Rattle.elf_c.specs.Status.{IsWritten, status_of};
+ghost use Rattle.elf_c.specs.Status.{IsWritten, read_status};
 ghost use Rattle.elf_c.specs.Tables.{bytes_view, table_of_c};
 
-use crate::file::{NugwierFile, file_in};
+use crate::file::NugwierFile;
 use crate::notes::NugwierNotes;
 use crate::records::{NugwierSection, NugwierSegment, section_in, segment_in};
-use crate::status::{NugwierStatus, done, refused};
+use crate::status::{NugwierStatus, done, unread};
 use crate::strings::NugwierBytes;
 use crate::table::NugwierTable;
-use elf::{ParseError, abi};
+use elf::{ParseError, ReadError, abi, reader};
 use elf_parts::compression::CompressionHeader;
+use elf_parts::endian::AnyEndian;
 
 /// What the compression header of a section says. If it has none, all numbers are 0.
 #[repr(C)]
@@ -64,15 +65,15 @@ fn compression_shown(header: &Option<CompressionHeader>) -> NugwierCompression
 /// type `SHT_NOBITS` has no bytes. An error leaves `part` as it is; the errors are those of `ElfBytes::section_data`.
 #[unsafe(no_mangle)]
 pub extern "C" fn nugwier_section_data<'data>(
-    file: &NugwierFile<'data>,
+    file: &'data NugwierFile<'data>,
     section: &NugwierSection,
     part: &mut NugwierData<'data>,
 ) -> NugwierStatus
-    ensures status { result ≡ status_of (section_data (file_of_c file.now) (section_in section.now)) }
+    ensures status { result ≡ read_status (section_data (loaded_of_c file.now) (section_in section.now)) }
     ensures part { IsWritten data_view_of_c part.new part.old
-        (ok_map data_shown (section_data (file_of_c file.now) (section_in section.now))) }
+        (ok_map data_shown (section_data (loaded_of_c file.now) (section_in section.now))) }
 {
-    match file_in(file).section_data(&section_in(section)) {
+    match reader::section_data::<AnyEndian, _>(file, &section_in(section)) {
         Ok((bytes, header)) => {
             *part = NugwierData {
                 bytes,
@@ -80,7 +81,7 @@ pub extern "C" fn nugwier_section_data<'data>(
             };
             done()
         }
-        Err(error) => refused(&error),
+        Err(error) => unread(&error),
     }
 }
 
@@ -88,43 +89,27 @@ pub extern "C" fn nugwier_section_data<'data>(
 /// `ElfBytes::segment_data`.
 #[unsafe(no_mangle)]
 pub extern "C" fn nugwier_segment_data<'data>(
-    file: &NugwierFile<'data>,
+    file: &'data NugwierFile<'data>,
     segment: &NugwierSegment,
     part: &mut NugwierBytes<'data>,
 ) -> NugwierStatus
-    ensures status { result ≡ status_of (segment_data (file_of_c file.now) (segment_in segment.now)) }
+    ensures status { result ≡ read_status (segment_data (loaded_of_c file.now) (segment_in segment.now)) }
     ensures part { IsWritten bytes_view part.new part.old
-        (segment_data (file_of_c file.now) (segment_in segment.now)) }
+        (segment_data (loaded_of_c file.now) (segment_in segment.now)) }
 {
-    match file_in(file).segment_data(&segment_in(segment)) {
+    match reader::segment_data::<AnyEndian, _>(file, &segment_in(segment)) {
         Ok(bytes) => {
             *part = NugwierBytes { bytes };
             done()
         }
-        Err(error) => refused(&error),
+        Err(error) => unread(&error),
     }
-}
-
-// The bytes of a section that must have a given type.
-fn content_of_type<'data>(
-    file: &NugwierFile<'data>,
-    section: &NugwierSection,
-    kind: u32,
-) -> Result<&'data [u8], ParseError>
-    ensures { ok_map (λ bytes. bytes.now) result
-        ≡ content_of_type kind (file_of_c file.now) (section_in section.now) }
-{
-    if section.kind != kind {
-        return Err(ParseError::UnexpectedSectionType((section.kind, kind)));
-    }
-    let (bytes, _) = file_in(file).section_data(&section_in(section))?;
-    Ok(bytes)
 }
 
 // The records that lie in these bytes of a file.
 #[tactic(auto, using(crate::proofs::Files::is_little_in))]
 pub(crate) fn table_in<'data>(file: &NugwierFile<'_>, bytes: &'data [u8]) -> NugwierTable<'data>
-    ensures { table_of_c result ≡ table_of (file_of_c file.now) bytes.now }
+    ensures { table_of_c result ≡ table_of (headers_of_c file.now) bytes.now }
 {
     NugwierTable {
         little: file.header.little,
@@ -137,40 +122,42 @@ pub(crate) fn table_in<'data>(file: &NugwierFile<'_>, bytes: &'data [u8]) -> Nug
 /// `ElfBytes::section_data_as_strtab`.
 #[unsafe(no_mangle)]
 pub extern "C" fn nugwier_section_strings<'data>(
-    file: &NugwierFile<'data>,
+    file: &'data NugwierFile<'data>,
     section: &NugwierSection,
     strings: &mut NugwierBytes<'data>,
 ) -> NugwierStatus
-    ensures status { result ≡ status_of (section_data_as_strtab (file_of_c file.now) (section_in section.now)) }
+    ensures status { result ≡ read_status (section_data_as_strtab (loaded_of_c file.now) (section_in section.now)) }
     ensures strings { IsWritten bytes_view strings.new strings.old
-        (section_data_as_strtab (file_of_c file.now) (section_in section.now)) }
+        (section_data_as_strtab (loaded_of_c file.now) (section_in section.now)) }
 {
-    match content_of_type(file, section, abi::SHT_STRTAB) {
-        Ok(bytes) => {
-            *strings = NugwierBytes { bytes };
+    match reader::section_data_as_strtab::<AnyEndian, _>(file, &section_in(section)) {
+        Ok(found) => {
+            *strings = NugwierBytes {
+                bytes: found.bytes(),
+            };
             done()
         }
-        Err(error) => refused(&error),
+        Err(error) => unread(&error),
     }
 }
 
 // The records of a section that must have a given type.
 fn section_records<'data>(
-    file: &NugwierFile<'data>,
+    file: &'data NugwierFile<'data>,
     section: &NugwierSection,
     kind: u32,
     table: &mut NugwierTable<'data>,
 ) -> NugwierStatus
-    ensures status { result ≡ status_of (section_records kind (file_of_c file.now) (section_in section.now)) }
+    ensures status { result ≡ read_status (section_records kind (loaded_of_c file.now) (section_in section.now)) }
     ensures table { IsWritten table_of_c table.new table.old
-        (section_records kind (file_of_c file.now) (section_in section.now)) }
+        (section_records kind (loaded_of_c file.now) (section_in section.now)) }
 {
-    match content_of_type(file, section, kind) {
+    match reader::content_of_type::<AnyEndian, _>(file, &section_in(section), kind) {
         Ok(bytes) => {
             *table = table_in(file, bytes);
             done()
         }
-        Err(error) => refused(&error),
+        Err(error) => unread(&error),
     }
 }
 
@@ -178,13 +165,13 @@ fn section_records<'data>(
 /// `ElfBytes::section_data_as_rels`.
 #[unsafe(no_mangle)]
 pub extern "C" fn nugwier_section_rels<'data>(
-    file: &NugwierFile<'data>,
+    file: &'data NugwierFile<'data>,
     section: &NugwierSection,
     table: &mut NugwierTable<'data>,
 ) -> NugwierStatus
-    ensures status { result ≡ status_of (section_records sht_rel (file_of_c file.now) (section_in section.now)) }
+    ensures status { result ≡ read_status (section_records sht_rel (loaded_of_c file.now) (section_in section.now)) }
     ensures table { IsWritten table_of_c table.new table.old
-        (section_records sht_rel (file_of_c file.now) (section_in section.now)) }
+        (section_records sht_rel (loaded_of_c file.now) (section_in section.now)) }
 {
     section_records(file, section, abi::SHT_REL, table)
 }
@@ -193,13 +180,13 @@ pub extern "C" fn nugwier_section_rels<'data>(
 /// `ElfBytes::section_data_as_relas`.
 #[unsafe(no_mangle)]
 pub extern "C" fn nugwier_section_relas<'data>(
-    file: &NugwierFile<'data>,
+    file: &'data NugwierFile<'data>,
     section: &NugwierSection,
     table: &mut NugwierTable<'data>,
 ) -> NugwierStatus
-    ensures status { result ≡ status_of (section_records sht_rela (file_of_c file.now) (section_in section.now)) }
+    ensures status { result ≡ read_status (section_records sht_rela (loaded_of_c file.now) (section_in section.now)) }
     ensures table { IsWritten table_of_c table.new table.old
-        (section_records sht_rela (file_of_c file.now) (section_in section.now)) }
+        (section_records sht_rela (loaded_of_c file.now) (section_in section.now)) }
 {
     section_records(file, section, abi::SHT_RELA, table)
 }
@@ -207,7 +194,7 @@ pub extern "C" fn nugwier_section_relas<'data>(
 // The notes that lie in these bytes of a file, with this alignment.
 #[tactic(auto, using(crate::proofs::Files::is_little_in))]
 fn notes_in<'data>(file: &NugwierFile<'_>, align: u64, bytes: &'data [u8]) -> NugwierNotes<'data>
-    ensures { notes_view result ≡ ((file_of_c file.now).little, align, bytes.now) }
+    ensures { notes_view result ≡ ((headers_of_c file.now).little, align, bytes.now) }
 {
     NugwierNotes {
         little: file.header.little,
@@ -220,34 +207,37 @@ fn notes_in<'data>(file: &NugwierFile<'_>, align: u64, bytes: &'data [u8]) -> Nu
 /// `ElfBytes::section_data_as_notes`.
 #[unsafe(no_mangle)]
 pub extern "C" fn nugwier_section_notes<'data>(
-    file: &NugwierFile<'data>,
+    file: &'data NugwierFile<'data>,
     section: &NugwierSection,
     notes: &mut NugwierNotes<'data>,
 ) -> NugwierStatus
-    ensures status { result ≡ status_of (section_notes (file_of_c file.now) (section_in section.now)) }
+    ensures status { result ≡ read_status (section_notes (loaded_of_c file.now) (section_in section.now)) }
     ensures notes { IsWritten notes_view notes.new notes.old
-        (section_notes (file_of_c file.now) (section_in section.now)) }
+        (section_notes (loaded_of_c file.now) (section_in section.now)) }
 {
-    match content_of_type(file, section, abi::SHT_NOTE) {
+    match reader::content_of_type::<AnyEndian, _>(file, &section_in(section), abi::SHT_NOTE) {
         Ok(bytes) => {
             *notes = notes_in(file, section.addralign, bytes);
             done()
         }
-        Err(error) => refused(&error),
+        Err(error) => unread(&error),
     }
 }
 
 // The bytes of a segment that must be of notes.
 fn note_segment<'data>(
-    file: &NugwierFile<'data>,
+    file: &'data NugwierFile<'data>,
     segment: &NugwierSegment,
-) -> Result<NugwierNotes<'data>, ParseError>
-    ensures { ok_map notes_view result ≡ segment_notes (file_of_c file.now) (segment_in segment.now) }
+) -> Result<NugwierNotes<'data>, ReadError>
+    ensures { ok_map notes_view result ≡ segment_notes (loaded_of_c file.now) (segment_in segment.now) }
 {
     if segment.kind != abi::PT_NOTE {
-        return Err(ParseError::UnexpectedSegmentType((segment.kind, abi::PT_NOTE)));
+        return Err(ReadError::Parse(ParseError::UnexpectedSegmentType((
+            segment.kind,
+            abi::PT_NOTE,
+        ))));
     }
-    let bytes = file_in(file).segment_data(&segment_in(segment))?;
+    let bytes = reader::segment_data::<AnyEndian, _>(file, &segment_in(segment))?;
     Ok(notes_in(file, segment.align, bytes))
 }
 
@@ -255,19 +245,19 @@ fn note_segment<'data>(
 /// `ElfBytes::segment_data_as_notes`.
 #[unsafe(no_mangle)]
 pub extern "C" fn nugwier_segment_notes<'data>(
-    file: &NugwierFile<'data>,
+    file: &'data NugwierFile<'data>,
     segment: &NugwierSegment,
     notes: &mut NugwierNotes<'data>,
 ) -> NugwierStatus
-    ensures status { result ≡ status_of (segment_notes (file_of_c file.now) (segment_in segment.now)) }
+    ensures status { result ≡ read_status (segment_notes (loaded_of_c file.now) (segment_in segment.now)) }
     ensures notes { IsWritten notes_view notes.new notes.old
-        (segment_notes (file_of_c file.now) (segment_in segment.now)) }
+        (segment_notes (loaded_of_c file.now) (segment_in segment.now)) }
 {
     match note_segment(file, segment) {
         Ok(found) => {
             *notes = found;
             done()
         }
-        Err(error) => refused(&error),
+        Err(error) => unread(&error),
     }
 }

@@ -3,12 +3,13 @@ ghost use Rattle.std.specs.Prelude.{◌≡◌, IfOk};
 ghost use Rattle.std.specs.Option.{option_map};
 ghost use Rattle.elf.specs.ElfBytes.{view};
 ghost use Rattle.elf_records.specs.Table.{table_view};
-ghost use Rattle.elf_c.specs.File.{MissingAreEmpty, file_of_c, file_view, header_in, header_shown};
+ghost use Rattle.elf_c.specs.File.{IsWhole, MissingAreEmpty, file_of_c, file_view, header_in, header_shown};
 ghost use Rattle.elf_c.specs.inner.OwnTables.{HasOwnTables, bytes_if};
-ghost use Rattle.elf_c.specs.File.{opened_in, segment_at, table_if};
+ghost use Rattle.elf_c.specs.File.{opened_in, segment_at, table_if, view_over};
 ghost use Rattle.elf_c.specs.Records.{section_shown, segment_shown};
 ghost use Rattle.elf_c.specs.Status.{IsWritten, status_of, written};
 
+use crate::loaded::NugwierRange;
 use crate::records::{NugwierSection, NugwierSegment};
 use crate::status::{NugwierStatus, done, refused};
 use crate::table::{ForC, NugwierTable, class_in, is_64, order_in, records_in};
@@ -45,11 +46,16 @@ pub struct NugwierHeader {
 /// A file that was opened. It belongs to the caller, and holds nothing that has to be freed. A table that the file does
 /// not declare has no bytes, and the byte order and the class of the header. The header may be changed: the calls use
 /// its current class, byte order and `shstrndx`.
+///
+/// What is loaded of the file are the `bytes` at its start, and the `ranges`. They may be changed too: a call reads what
+/// is loaded when it is made.
 #[repr(C)]
 #[derive(Drop)]
 pub struct NugwierFile<'data> {
     pub header: NugwierHeader,
+    pub size: u64,
     pub bytes: &'data [u8],
+    pub ranges: &'data [NugwierRange<'data>],
     pub has_sections: bool,
     pub has_segments: bool,
     pub sections: NugwierTable<'data>,
@@ -118,9 +124,10 @@ fn bytes_of<'data, R: ParseAt>(table: &Option<ParsingTable<'data, AnyEndian, R>>
 
 // A file that was opened, as C sees it.
 #[tactic(auto, using(crate::proofs::Files::shown_is))]
-fn file_shown<'data>(file: &ElfBytes<'data, AnyEndian>) -> NugwierFile<'data>
+pub(crate) fn file_shown<'data>(file: &ElfBytes<'data, AnyEndian>) -> NugwierFile<'data>
     requires { HasOwnTables (view file.now) }
     ensures view { file_view result ≡ view file.now }
+    ensures whole { IsWhole result }
     ensures missing { MissingAreEmpty result }
 {
     let little = file.ehdr.endianness.is_little();
@@ -129,7 +136,9 @@ fn file_shown<'data>(file: &ElfBytes<'data, AnyEndian>) -> NugwierFile<'data>
     let segments = file.segments();
     NugwierFile {
         header: header_shown(&file.ehdr),
+        size: file.data().len() as u64,
         bytes: file.data(),
+        ranges: &[],
         has_sections: sections.is_some(),
         has_segments: segments.is_some(),
         sections: NugwierTable {
@@ -159,22 +168,33 @@ fn table_if<'data, R: ParseAt>(
     }
 }
 
-// The file that C gives.
+// The file that these bytes hold, with the headers that C gives.
 #[inline(always)]
-pub(crate) fn file_in<'data>(file: &NugwierFile<'data>) -> ElfBytes<'data, AnyEndian>
-    ensures { view result ≡ file_view file.now }
+pub(crate) fn file_over<'data>(
+    file: &NugwierFile<'data>,
+    bytes: &'data [u8],
+) -> ElfBytes<'data, AnyEndian>
+    ensures { view result ≡ view_over file.now bytes.now }
 {
     ElfBytes::from_parts(
         header_in(&file.header),
-        file.bytes,
+        bytes,
         table_if(file.has_sections, &file.sections),
         table_if(file.has_segments, &file.segments),
     )
 }
 
-/// Opens a file: reads its header, and finds its two tables of headers. The view of `file` is then the opened file, so
-/// what a call returns about `file` is the result about that file. An error leaves `file` as it is. The errors are
-/// those of `ElfBytes::minimal_parse`.
+// The file that lies in the bytes that C gives.
+#[inline(always)]
+pub(crate) fn file_in<'data>(file: &NugwierFile<'data>) -> ElfBytes<'data, AnyEndian>
+    ensures { view result ≡ file_view file.now }
+{
+    file_over(file, file.bytes)
+}
+
+/// Opens a file, given all of its bytes: reads its header, and finds its two tables of headers. The view of `file` is
+/// then the opened file, and all of it is loaded, so what a call returns about `file` is the result about that file
+/// (`laws::whole_file_is_loaded`). An error leaves `file` as it is. The errors are those of `ElfBytes::minimal_parse`.
 #[unsafe(no_mangle)]
 pub extern "C" fn nugwier_open<'data>(
     bytes: &'data [u8],
@@ -182,6 +202,7 @@ pub extern "C" fn nugwier_open<'data>(
 ) -> NugwierStatus
     ensures status { result ≡ status_of (opened_in bytes.now) }
     ensures file { IsWritten file_view file.new file.old (opened_in bytes.now) }
+    ensures whole { IfOk (opened_in bytes.now) (λ _. IsWhole file.new) }
     ensures missing { IfOk (opened_in bytes.now) (λ _. MissingAreEmpty file.new) }
 {
     match ElfBytes::<AnyEndian>::minimal_parse(bytes) {

@@ -1,5 +1,5 @@
-//! The reader `ElfBytes` for C, and for every language that calls C. Nothing is allocated, and nothing is kept between
-//! two calls.
+//! The reader `ElfBytes` for C, and for every language that calls C, over a file in memory or over what is loaded of it.
+//! Nothing is allocated, and nothing is kept between two calls.
 #![tactic(auto)]
 
 pub mod check;
@@ -11,9 +11,12 @@ pub mod file;
 pub mod find;
 pub mod hash_tables;
 pub mod laws;
+pub mod loaded;
 pub mod named;
 pub mod names;
 pub mod notes;
+pub mod opening;
+mod reading;
 pub mod records;
 pub mod section_names;
 pub mod status;

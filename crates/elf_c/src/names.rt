@@ -148,6 +148,7 @@ fn error_name(code: u32) -> Option<&'static str>
         15 => Some("TryFromIntError"),
         16 => Some("IOError"),
         17 => Some("OutOfMemory"),
+        18 => Some("NotLoaded"),
         _ => None,
     }
 }

@@ -56,6 +56,20 @@ pub(crate) fn records_in<'data, R: ParseAt>(
     ParsingTable::new(order_in(table.little), class_in(table.is_64), table.bytes)
 }
 
+// A table as C sees it.
+#[tactic(auto, using(crate::proofs::Files::class_in_is_64))]
+pub(crate) fn table_shown<'data, R: ParseAt>(
+    table: &ParsingTable<'data, AnyEndian, R>,
+) -> NugwierTable<'data>
+    ensures { table_of_c result ≡ table_view table.now }
+{
+    NugwierTable {
+        little: table.is_little(),
+        is_64: is_64(table.class()),
+        bytes: table.bytes(),
+    }
+}
+
 /// A record that C sees as a struct.
 pub(crate) trait ForC: ParseAt + Drop {
     type Seen: Copy;

@@ -1,7 +1,7 @@
 //! The texts of errors.
 ghost use Rattle.std.specs.Prelude.{◌≡◌, ◌+◌, ◌<◌, ◌≤◌, ◌^◌, ◌++◌, ◌∷◌, [], drop, length, true};
 ghost use Rattle.std.specs.Fmt.{digit_glyph, digits};
-ghost use Rattle.elf_c.specs.Texts.{bytes_text, error_text, magic_text, over, range_text};
+ghost use Rattle.elf_c.specs.Texts.{bytes_text, error_text, magic_text, missing_text, over, range_text};
 ghost use Rattle.elf_c.specs.inner.Writing.{IsWritten};
 
 use crate::status::NugwierStatus;
@@ -142,6 +142,14 @@ fn write_magic(place: &mut [u8], number: u64) -> usize
     write(place, end, b"]")
 }
 
+// Writes the text of a range that is not loaded.
+fn write_missing(place: &mut [u8], start: u64, end: u64) -> usize
+    ensures { IsWritten 0 (missing_text start end) place.old place.new result }
+{
+    let index = with_numbers(place, "Bytes in range [0x", start, ", 0x", end, 16);
+    write(place, index, b") are not loaded")
+}
+
 // Writes the text of an error of a range of bytes.
 fn write_range(place: &mut [u8], start: u64, end: u64) -> usize
     ensures { IsWritten 0 (range_text start end) place.old place.new result }
@@ -206,12 +214,13 @@ fn write_error(place: &mut [u8], status: &NugwierStatus) -> usize
         11 => write_range(place, first, second),
         12 => write(place, 0, b"Integer overflow detected"),
         17 => write(place, 0, b"Out of memory"),
+        18 => write_missing(place, first, second),
         _ => write(place, 0, b""),
     }
 }
 
 /// Writes the text of the error that a status stands for over the front of `text`, as far as there is room, and returns
-/// the length of the whole text. `ParseError` prints the same by `{}`. The status of success has no text; neither have
+/// the length of the whole text. `ReadError` prints the same by `{}`. The status of success has no text; neither have
 /// the codes 13 to 16, which no call returns.
 #[unsafe(no_mangle)]
 pub extern "C" fn nugwier_error_text(status: &NugwierStatus, text: &mut [u8]) -> usize

@@ -4,51 +4,34 @@ ghost use Rattle.std.specs.Option.{option_map};
 ghost use Rattle.elf_records.specs.Number.{ok_map};
 ghost use Rattle.elf.specs.Answers.{symbol_version_table};
 ghost use Rattle.elf.specs.Headers.{if_found};
-ghost use Rattle.elf.specs.Versions.{version_definitions, version_indexes, version_needs, versions_of};
-ghost use Rattle.elf_c.specs.File.{file_of_c};
-ghost use Rattle.elf_c.specs.Status.{IsWrittenIf, status_of};
-ghost use Rattle.elf_c.specs.Tables.{table_of_c};
+ghost use Rattle.elf.specs.Versions.{version_definitions, version_needs, versions_of};
+ghost use Rattle.elf_c.specs.Loaded.{loaded_of_c};
+ghost use Rattle.elf_c.specs.Status.{IsWrittenIf, read_status};
 ghost use Rattle.elf_c.specs.Versions.{HasNoEntries, MissingAreEmpty, definitions_of_c, needs_of_c, no_versions_in};
 ghost use Rattle.elf_c.specs.Versions.{versions_of_c, versions_view_of_c};
 
 use crate::data::table_in;
-use crate::file::{NugwierFile, file_in};
-use crate::status::{NugwierStatus, done, refused};
-use crate::table::NugwierTable;
+use crate::file::NugwierFile;
+use crate::status::{NugwierStatus, done, unread};
+use crate::table::table_shown;
 use crate::versions::{NugwierEntries, NugwierVersions};
-use elf::ParseError;
 use elf::headers::{Headers, VersionSections};
-use elf_parts::gnu_symver::VersionIndex;
-use elf_parts::parse::ParseAt;
+use elf::{ReadError, reader};
+use elf_parts::endian::AnyEndian;
 use elf_parts::section::SectionHeader;
-
-// The version indexes of a section.
-fn indexes_in<'data>(
-    file: &NugwierFile<'data>,
-    shdr: &SectionHeader,
-) -> Result<NugwierTable<'data>, ParseError>
-    ensures { ok_map table_of_c result ≡ version_indexes (file_of_c file.now) shdr.now }
-{
-    let object = file_in(file);
-    VersionIndex::validate_entsize(object.class(), shdr.sh_entsize as usize)?;
-    let bytes = object.section_range(shdr)?;
-    Ok(table_in(file, bytes))
-}
 
 // The needs or the definitions of a section.
 fn entries_in<'data>(
-    file: &NugwierFile<'data>,
+    file: &'data NugwierFile<'data>,
     shdr: &SectionHeader,
-) -> Result<NugwierEntries<'data>, ParseError>
-    ensures needs { ok_map needs_of_c result ≡ ok_map Some (version_needs (file_of_c file.now) shdr.now) }
+) -> Result<NugwierEntries<'data>, ReadError>
+    ensures needs { ok_map needs_of_c result ≡ ok_map Some (version_needs (loaded_of_c file.now) shdr.now) }
     ensures definitions { ok_map definitions_of_c result
-        ≡ ok_map Some (version_definitions (file_of_c file.now) shdr.now) }
+        ≡ ok_map Some (version_definitions (loaded_of_c file.now) shdr.now) }
     ensures found { IfOk result (λ e. e.found ≡ true) }
 {
-    let object = file_in(file);
-    let bytes = object.section_range(shdr)?;
-    let linked = object.section_at(shdr.sh_link as usize)?;
-    let strings = object.section_range(&linked)?;
+    let bytes = reader::section_part::<AnyEndian, _>(file, shdr)?;
+    let strings = reader::linked_strings::<AnyEndian, _>(file, shdr)?;
     Ok(NugwierEntries {
         found: true,
         count: shdr.sh_info as u64,
@@ -73,12 +56,12 @@ fn no_entries<'data>(file: &NugwierFile<'data>) -> NugwierEntries<'data>
 
 // The needs or the definitions, if there is a section of them.
 fn entries_if<'data>(
-    file: &NugwierFile<'data>,
+    file: &'data NugwierFile<'data>,
     shdr: Option<SectionHeader>,
-) -> Result<NugwierEntries<'data>, ParseError>
-    ensures needs { ok_map needs_of_c result ≡ if_found (version_needs (file_of_c file.now)) shdr }
+) -> Result<NugwierEntries<'data>, ReadError>
+    ensures needs { ok_map needs_of_c result ≡ if_found (version_needs (loaded_of_c file.now)) shdr }
     ensures definitions { ok_map definitions_of_c result
-        ≡ if_found (version_definitions (file_of_c file.now)) shdr }
+        ≡ if_found (version_definitions (loaded_of_c file.now)) shdr }
     ensures missing { IfOk result (λ e. e.found ≡ false → HasNoEntries file.now e) }
 {
     match shdr {
@@ -89,19 +72,19 @@ fn entries_if<'data>(
 
 // The versions by the indexes of a section.
 fn versions_of<'data>(
-    file: &NugwierFile<'data>,
+    file: &'data NugwierFile<'data>,
     chosen: VersionSections,
     shdr: &SectionHeader,
-) -> Result<NugwierVersions<'data>, ParseError>
-    ensures found { ok_map versions_of_c result ≡ versions_of (file_of_c file.now) chosen shdr.now }
+) -> Result<NugwierVersions<'data>, ReadError>
+    ensures found { ok_map versions_of_c result ≡ versions_of (loaded_of_c file.now) chosen shdr.now }
     ensures missing { IfOk result (λ v. MissingAreEmpty file.now v) }
 {
-    let indexes = indexes_in(file, shdr)?;
+    let indexes = reader::version_indexes::<AnyEndian, _>(file, shdr)?;
     let needs = entries_if(file, chosen.needs)?;
     let definitions = entries_if(file, chosen.definitions)?;
     Ok(NugwierVersions {
         found: true,
-        indexes,
+        indexes: table_shown(&indexes),
         needs,
         definitions,
     })
@@ -109,14 +92,17 @@ fn versions_of<'data>(
 
 // The versions of the symbols of a file.
 fn versions_in<'data>(
-    file: &NugwierFile<'data>,
-) -> Result<Option<NugwierVersions<'data>>, ParseError>
-    ensures found { ok_map (option_map versions_of_c) result ≡ symbol_version_table (file_of_c file.now) }
+    file: &'data NugwierFile<'data>,
+) -> Result<Option<NugwierVersions<'data>>, ReadError>
+    ensures found { ok_map (option_map versions_of_c) result ≡ symbol_version_table (loaded_of_c file.now) }
     ensures missing { IfOk result (λ found. IfSome found (λ v. MissingAreEmpty file.now v)) }
 {
-    let chosen = file_in(file).version_sections();
+    let chosen = file.version_sections();
     match chosen.indexes {
-        Some(shdr) => versions_of(file, chosen, &shdr).map(Some),
+        Some(shdr) => {
+            let found = versions_of(file, chosen, &shdr)?;
+            Ok(Some(found))
+        }
         None => Ok(None),
     }
 }
@@ -125,13 +111,13 @@ fn versions_in<'data>(
 /// error leaves `versions` as it is; the errors are those of `ElfBytes::symbol_version_table`.
 #[unsafe(no_mangle)]
 pub extern "C" fn nugwier_version_table<'data>(
-    file: &NugwierFile<'data>,
+    file: &'data NugwierFile<'data>,
     versions: &mut NugwierVersions<'data>,
 ) -> NugwierStatus
-    ensures status { result ≡ status_of (symbol_version_table (file_of_c file.now)) }
+    ensures status { result ≡ read_status (symbol_version_table (loaded_of_c file.now)) }
     ensures versions { IsWrittenIf versions_view_of_c no_versions_in versions.new versions.old
-        (symbol_version_table (file_of_c file.now)) }
-    ensures missing { IfOk (symbol_version_table (file_of_c file.now))
+        (symbol_version_table (loaded_of_c file.now)) }
+    ensures missing { IfOk (symbol_version_table (loaded_of_c file.now))
         (λ found. IfSome found (λ _. MissingAreEmpty file.now versions.new)) }
 {
     match versions_in(file) {
@@ -144,6 +130,6 @@ pub extern "C" fn nugwier_version_table<'data>(
             versions.found = false;
             done()
         }
-        Err(error) => refused(&error),
+        Err(error) => unread(&error),
     }
 }

@@ -1,31 +1,31 @@
--- What is said of files, one file more at a time.
-use Rattle.std.proofs.Common.{◌≡◌, ◌<◌, ℕ, ◌+◌, Bool, true, false, ◌&&◌, List, [], ◌∷◌, ◌++◌, length, drop, get_or, Option, Some, None, Result, Ok, IfOk, refl, sym, ap, ◌∙◌, subst, append_assoc, append-nil}
+-- What is said of several files, or of the members of an archive, in order.
+use Rattle.std.proofs.Common.{◌≡◌, ◌&&◌, ◌+◌, ◌<◌, ℕ, Bool, true, false, List, [], ◌∷◌, ◌++◌, Option, Some, None, Ok, drop}
+use Rattle.std.proofs.Common.{get_or, length, refl, sym, ap, ◌∙◌, subst, append_assoc, append-nil}
 use Rattle.std.proofs.Math.Bool.{and-true, and_assoc}
+use Rattle.std.proofs.lemmas.Grind.{flat_map-append}
 use Rattle.std.proofs.lemmas.List.{drop_more}
+use Rattle.std.proofs.lemmas.List.Folds.{list_all-append}
 use Rattle.std.proofs.lemmas.Result.{IfOk-at_ok}
 use Rattle.std.specs.Borrow.{Bor}
 use Rattle.std.specs.Io.KnownBytes.{Appends}
 use Rattle.std.specs.List.{flat_map, list_all}
-use Rattle.nugwier_commands.specs.Run.{AreFilesSaid, IsPathSaid, Known, files_text, heading_of, heading_said}
+use Rattle.elf_archive.specs.Archive.{Item}
+use Rattle.nugwier_commands.specs.Run.{AreFilesSaid, AreItemsSaid, AreWritten, IsItemSaid, IsProblemsOf, IsWritten}
+use Rattle.nugwier_commands.specs.Run.{Known, Listing, Written, heading_of, listing_text, next_heading}
 use Rattle.nugwier_commands.specs.declared.ended.Ended.{Ended}
-use Rattle.nugwier_commands.specs.inner.Loading.{IsPathEnded}
+use Rattle.nugwier_commands.specs.inner.Loading.{IsItemEnded, IsPathEnded, written_by}
+use Rattle.nugwier_report.specs.Problems.{IsProblemsText}
 use Rattle.nugwier_report.specs.declared.kind.Kind.{Kind}
-use Rattle.nugwier_report.specs.Said.{Said, all_right}
-use Rattle.nugwier_report.specs.Told.{told_line}
+use Rattle.nugwier_report.specs.declared.report.Summary.{Summary}
+use Rattle.nugwier_report.specs.Said.{all_right}
 use Rattle.nugwier_words.specs.Words.{Task}
 
-module _ (known : Known) (task : Task) (before : Option (List ℕ)) (paths : List (Bor (List ℕ))) where
-  -- all that is said of the files was written
-  abbrev pub AreWritten : Option (List ℕ) → Bool → Type 0
-  AreWritten after is_right =
-      (all : List (List Said)) × AreFilesSaid known task 0 paths all
-      × Appends before after (files_text task.is_json paths all) × (is_right ≡ list_all all_right all)
+-- whether nothing is wrong, and whether no write of a problem failed
+abbrev pub summary_of : Bool → Bool → Summary
+summary_of is_right is_told = record { is_right = is_right; is_told = is_told }
 
-  -- after file i: whatever is said of the files that are left, and written, is what is said of all
-  abbrev pub AreSoFar : ℕ → Option (List ℕ) → Bool → Type 0
-  AreSoFar i now is_right =
-      (rest : List (List Said)) (after : Option (List ℕ)) → AreFilesSaid known task i (drop i paths) rest
-      → Appends now after (files_text task.is_json (drop i paths) rest) → AreWritten after (is_right && list_all all_right rest)
+abbrev are_right : List Listing → Bool
+are_right all = list_all (λ (listing : Listing). all_right listing.said) all
 
 append_both : (a b c : Option (List ℕ)) (x y : List ℕ) → Appends a b x → Appends b c y → Appends a c (x ++ y)
 append_both None b c x y h k = tt
@@ -37,36 +37,132 @@ append_none : (a : Option (List ℕ)) → Appends a a []
 append_none None = tt
 append_none (Some a) = sym (append-nil a)
 
-module _ (known : Known) (task : Task) (before : Option (List ℕ)) (paths : List (Bor (List ℕ))) where
-  pub first_of_all : AreSoFar known task before paths 0 before true
-  first_of_all rest after are written = (rest, are, written, refl)
+both_true : (a b : Bool) → (a && b) ≡ true → (a ≡ true) × (b ≡ true)
+both_true true b h = (refl, h)
+both_true false b h = absurd (cc h)
 
-  pub one_more : (i : ℕ) (path : Bor (List ℕ)) (now next : Option (List ℕ)) (is_right own_right : Bool) (own : List Said)
-      → drop i paths ≡ path ∷ drop (i + 1) paths → IsPathSaid known task path.now own
-      → Appends now next (flat_map (told_line task.is_json path.now) (heading_said (heading_of task i) path.now ++ own))
-      → own_right ≡ all_right (heading_said (heading_of task i) path.now ++ own)
-      → AreSoFar known task before paths i now is_right → AreSoFar known task before paths (i + 1) next (is_right && own_right)
-  one_more i path now next is_right own_right own here is written right so rest after are more =
-      let said = heading_said (heading_of task i) path.now ++ own in
-      let whole = so (said ∷ rest) after (rw here ((own, is, refl), are))
-      (rw here (append_both now next after _ _ written more)) in
-      subst (λ (b : Bool). AreWritten known task before paths after b)
-      (ap (λ (b : Bool). is_right && (b && list_all all_right rest)) (sym right) ∙ sym (and_assoc is_right own_right (list_all all_right rest))) whole
+-- the problems of some listings, and then those of others
+problems_both : (own rest : List Listing) (x y : List ℕ) → IsProblemsOf own x → IsProblemsOf rest y → IsProblemsOf (own ++ rest) (x ++ y)
+problems_both [] rest x y is more = subst (λ (t : List ℕ). IsProblemsOf rest (t ++ y)) (sym is) more
+problems_both (listing ∷ own) rest x y is more = (
+  is.0,
+  is.1 ++ y,
+  is.2,
+  problems_both own rest is.1 y is.3 more,
+  ap (λ (t : List ℕ). t ++ y) is.4 ∙ append_assoc is.0 is.1 y,
+)
 
-  pub none_left : (i : ℕ) (now : Option (List ℕ)) (is_right : Bool) → drop i paths ≡ [] → AreSoFar known task before paths i now is_right
-      → AreWritten known task before paths now is_right
-  none_left i now is_right none so =
-      subst (λ (b : Bool). AreWritten known task before paths now b) (and-true is_right)
-      (so [] now (rw none tt) (rw none (append_none now)))
+-- one listing
+pub written_one : (is_json : Bool) (now next : Written) (summary : Summary) (own : Listing)
+    → IsWritten is_json own.path own.named now next summary own.said → AreWritten is_json now next summary (own ∷ [])
+written_one is_json now next summary own written =
+    let problems : summary.is_told ≡ true → (problems : List ℕ) × IsProblemsOf (own ∷ []) problems × Appends now.err next.err problems
+    = λ kept. let told = written.2 kept in (told.0, (told.0, [], told.1, refl, sym (append-nil told.0)), told.2)
+    in (
+      subst (λ (t : List ℕ). Appends now.out next.out t) (sym (append-nil (listing_text is_json own))) written.0,
+      written.1 ∙ sym (and-true (all_right own.said)),
+      problems,
+    )
+
+written_both : (is_json : Bool) (own rest : List Listing) (now next after : Written) (summary : Summary) (right told : Bool)
+    → AreWritten is_json now next summary own → AreWritten is_json next after (summary_of right told) rest
+    → AreWritten is_json now after (summary_of (summary.is_right && right) (summary.is_told && told)) (own ++ rest)
+written_both is_json own rest now next after summary right told is more =
+    let text = listing_text is_json in
+    let problems : (summary.is_told && told) ≡ true → (problems : List ℕ) × IsProblemsOf (own ++ rest) problems × Appends now.err after.err problems
+    = λ kept. let both = both_true summary.is_told told kept in let first = is.2 both.0 in let then = more.2 both.1 in (
+      first.0 ++ then.0,
+      problems_both own rest first.0 then.0 first.1 then.1,
+      append_both now.err next.err after.err first.0 then.0 first.2 then.2,
+    )
+    in (
+      subst (λ (t : List ℕ). Appends now.out after.out t) (sym (flat_map-append text own rest)) (append_both now.out next.out after.out (flat_map text own) (flat_map text rest) is.0 more.0),
+      ap (λ (b : Bool). b && right) is.1 ∙ ap (λ (b : Bool). are_right own && b) more.1 ∙ sym (list_all-append (λ (listing : Listing). all_right listing.said) own rest),
+      problems,
+    )
+
+written_none : (is_json : Bool) (now : Written) → AreWritten is_json now now (summary_of true true) []
+written_none is_json now = (append_none now.out, refl, λ kept. ([], refl, append_none now.err))
+
+-- ---- some of it was said
+
+module _ (is_json : Bool) (before : Written) (All : List Listing → Type 0) where
+  -- all was said and written
+  abbrev pub IsDone : Written → Bool → Bool → Type 0
+  IsDone after is_right is_told = (all : List Listing) × All all × AreWritten is_json before after (summary_of is_right is_told) all
+
+  -- whatever of the rest is said, and written, is with what was said so far all
+  abbrev pub IsSoFar : (List Listing → Type 0) → Written → Bool → Bool → Type 0
+  IsSoFar Rest now is_right is_told =
+      (rest : List Listing) (after : Written) (right told : Bool) → Rest rest
+      → AreWritten is_json now after (summary_of right told) rest → IsDone after (is_right && right) (is_told && told)
+
+  pub first_of_all : IsSoFar All before true true
+  first_of_all rest after right told are written = (rest, are, written)
+
+  pub some_more : (Rest Next : List Listing → Type 0) (now next : Written) (is_right is_told : Bool) (summary : Summary) (own : List Listing)
+      → ((rest : List Listing) → Next rest → Rest (own ++ rest)) → AreWritten is_json now next summary own
+      → IsSoFar Rest now is_right is_told → IsSoFar Next next (is_right && summary.is_right) (is_told && summary.is_told)
+  some_more Rest Next now next is_right is_told summary own is written so rest after right told are more =
+      let whole = so (own ++ rest) after (summary.is_right && right) (summary.is_told && told) (is rest are)
+      (written_both is_json own rest now next after summary right told written more) in
+      subst (λ (b : Bool). IsDone after ((is_right && summary.is_right) && right) b) (sym (and_assoc is_told summary.is_told told))
+      (subst (λ (b : Bool). IsDone after b (is_told && (summary.is_told && told))) (sym (and_assoc is_right summary.is_right right)) whole)
+
+  pub none_left : (Rest : List Listing → Type 0) (now : Written) (is_right is_told : Bool) → Rest [] → IsSoFar Rest now is_right is_told → IsDone now is_right is_told
+  none_left Rest now is_right is_told none so =
+      subst (λ (b : Bool). IsDone now is_right b) (and-true is_told)
+      (subst (λ (b : Bool). IsDone now b (is_told && true)) (and-true is_right) (so [] now true true none (written_none is_json now)))
+
+-- ---- files
+
+module _ (known : Known) (task : Task) (before : Written) (paths : List (Bor (List ℕ))) where
+  abbrev pub AreFilesSoFar : ℕ → Written → Bool → Bool → Type 0
+  AreFilesSoFar i now is_right is_told =
+      IsSoFar task.is_json before (AreFilesSaid known task 0 paths) (AreFilesSaid known task i (drop i paths)) now is_right is_told
 
 -- the file at place i was said, and what is said of it was written
-pub one_ended : {W V : Type 0} (contents : W → Option (List ℕ)) (known : Known) (task : Task) (before : Option (List ℕ)) (paths : List (Bor (List ℕ)))
-    (i : ℕ) (d : Bor (List ℕ)) (heading : Option Kind) (now : Option (List ℕ)) (ended : Ended W V) (is_right own_right : Bool)
-    → i < length paths → heading ≡ heading_of task i → ended.said ≡ Ok own_right
-    → IsPathEnded contents known task heading (get_or paths i d).now now ended
-    → AreSoFar known task before paths i now is_right → AreSoFar known task before paths (i + 1) (contents ended.out) (is_right && own_right)
-one_ended contents known task before paths i d heading now ended is_right own_right within above is said so =
+pub one_ended : {W V : Type 0} (out_of : W → Option (List ℕ)) (err_of : V → Option (List ℕ)) (known : Known) (task : Task) (before : Written) (paths : List (Bor (List ℕ)))
+    (i : ℕ) (d : Bor (List ℕ)) (heading : Option Kind) (now : Written) (ended : Ended W V) (is_right is_told : Bool) (own : Summary)
+    → i < length paths → heading ≡ heading_of task i → ended.said ≡ Ok own
+    → IsPathEnded out_of err_of known task heading (get_or paths i d).now now ended
+    → AreFilesSoFar known task before paths i now is_right is_told
+    → AreFilesSoFar known task before paths (i + 1) (written_by out_of err_of ended) (is_right && own.is_right) (is_told && own.is_told)
+one_ended out_of err_of known task before paths i d heading now ended is_right is_told own within above is said so =
     let path = get_or paths i d in
-    let here = subst (λ (h : Option Kind). IsPathEnded contents known task h path.now now ended) above said in
+    let here = subst (λ (h : Option Kind). IsPathEnded out_of err_of known task h path.now now ended) above said in
     let done = IfOk-at_ok _ is here in
-    one_more known task before paths i path now (contents ended.out) is_right own_right done.0 (drop_more paths i d within) done.1 done.2.0 done.2.1 so
+    some_more task.is_json before (AreFilesSaid known task 0 paths) (AreFilesSaid known task i (drop i paths)) (AreFilesSaid known task (i + 1) (drop (i + 1) paths))
+    now (written_by out_of err_of ended) is_right is_told own done.0
+    (λ rest are. subst (λ (left : List (Bor (List ℕ))). AreFilesSaid known task i left (done.0 ++ rest)) (sym (drop_more paths i d within)) (done.0, rest, done.1, are, refl))
+    done.2 so
+
+pub all_ended : (known : Known) (task : Task) (before : Written) (paths : List (Bor (List ℕ))) (i : ℕ) (now : Written) (is_right is_told : Bool)
+    → drop i paths ≡ [] → AreFilesSoFar known task before paths i now is_right is_told → IsDone task.is_json before (AreFilesSaid known task 0 paths) now is_right is_told
+all_ended known task before paths i now is_right is_told none so =
+    none_left task.is_json before (AreFilesSaid known task 0 paths) (AreFilesSaid known task i (drop i paths)) now is_right is_told
+    (subst (λ (left : List (Bor (List ℕ))). AreFilesSaid known task i left []) (sym none) refl) so
+
+-- ---- members
+
+module _ (known : Known) (task : Task) (first : Option Kind) (path : List ℕ) (items : List Item) (before : Written) where
+  abbrev pub AreMembersSoFar : Option Kind → List Item → Written → Bool → Bool → Type 0
+  AreMembersSoFar heading left now is_right is_told =
+      IsSoFar task.is_json before (AreItemsSaid known task first path items) (AreItemsSaid known task heading path left) now is_right is_told
+
+  pub member_ended : {W V : Type 0} (out_of : W → Option (List ℕ)) (err_of : V → Option (List ℕ)) (heading : Option Kind) (item : Item) (left others : List Item) (now : Written) (ended : Ended W V) (is_right is_told : Bool) (own : Summary)
+      → left ≡ item ∷ others → ended.said ≡ Ok own → IsItemEnded out_of err_of known task heading path item now ended
+      → AreMembersSoFar heading left now is_right is_told
+      → AreMembersSoFar (next_heading heading) others (written_by out_of err_of ended) (is_right && own.is_right) (is_told && own.is_told)
+  member_ended out_of err_of heading item left others now ended is_right is_told own here is said so =
+      let done = IfOk-at_ok _ is said in
+      some_more task.is_json before (AreItemsSaid known task first path items) (AreItemsSaid known task heading path left) (AreItemsSaid known task (next_heading heading) path others)
+      now (written_by out_of err_of ended) is_right is_told own (done.0 ∷ [])
+      (λ rest are. subst (λ (left : List Item). AreItemsSaid known task heading path left (done.0 ∷ rest)) (sym here) (done.0, rest, done.1, are, refl))
+      (written_one task.is_json now (written_by out_of err_of ended) own done.0 done.2) so
+
+  pub members_ended : (heading : Option Kind) (left : List Item) (now : Written) (is_right is_told : Bool) → left ≡ [] → AreMembersSoFar heading left now is_right is_told
+      → IsDone task.is_json before (AreItemsSaid known task first path items) now is_right is_told
+  members_ended heading left now is_right is_told none so =
+      none_left task.is_json before (AreItemsSaid known task first path items) (AreItemsSaid known task heading path left) now is_right is_told
+      (subst (λ (left : List Item). AreItemsSaid known task heading path left []) (sym none) refl) so

@@ -1,3 +1,7 @@
 pub mod AllFiles
 mod Trees
 mod Begun
+pub mod Lifting
+mod Texts
+mod Unopened
+mod Programs

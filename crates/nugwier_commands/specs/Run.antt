@@ -1,12 +1,18 @@
 -- What a run says, and what it writes.
 use Rattle.std.specs.Prelude.{◌≡◌, ℕ, ◌+◌, ◌==◌, nat_lt, Bool, true, false, if◌then◌else◌, List, [], ◌∷◌, ◌++◌, length}
-use Rattle.std.specs.Prelude.{Option, Some, None, Result, Ok, Err, IfSome, codes}
+use Rattle.std.specs.Prelude.{Option, Some, None, Result, Ok, Err, IfSome, codes, is_some}
 use Rattle.std.specs.Borrow.{Bor}
 use Rattle.std.specs.Io.KnownBytes.{Appends}
+use Rattle.std.specs.Fmt.{digits}
 use Rattle.std.specs.List.{flat_map, list_all}
+use Rattle.std.specs.Path.{path_with_file_name}
+use Rattle.std.specs.Str.{bytes_eq, is_utf8}
 use Rattle.std.specs.declared.io.Error.{Error}
+use Rattle.elf_archive.specs.Archive.{File_in, Item, error_text, members_in, thinness}
+use Rattle.elf_archive.specs.declared.archive.ArchiveError.{ArchiveError}
 use Rattle.elf_records.specs.Endian.{any_is_little, any_of_byte}
 use Rattle.elf_records.specs.declared.endian.AnyEndian.{AnyEndian}
+use Rattle.elf_records.specs.declared.file.FileHeader.{FileHeader}
 use Rattle.elf_records.specs.declared.parse.ParseError.{ParseError}
 use Rattle.elf_reading.specs.Opening.{FileView, headers_of, opened_by_segments, opened_file}
 use Rattle.elf.specs.StreamFile.{listed_file}
@@ -15,20 +21,27 @@ use Rattle.nugwier_listing.specs.Job.{IsSaidOf}
 use Rattle.nugwier_programs.specs.Bindings.{IsBindingsSaid}
 use Rattle.nugwier_files.specs.Below.{known_below}
 use Rattle.nugwier_programs.specs.Tree.{IsTreeSaid, Search}
+use Rattle.elf.specs.ObjectFile.{ObjectFile}
+use Rattle.nugwier_listing.specs.Labels.{names_told}
 use Rattle.nugwier_report.specs.Formats.{front, is_elf, not_elf}
+use Rattle.nugwier_report.specs.Labels.{Named, no_sections}
+use Rattle.nugwier_report.specs.Problems.{AreProblemsTold, IsProblemsText}
 use Rattle.nugwier_report.specs.Said.{Said, all_right, said_if, states, text, whole, wrong}
 use Rattle.nugwier_commands.specs.declared.run.Outcome.{Outcome}
 use Rattle.nugwier_commands.specs.declared.run.Outcome.TheVariants.{Done, Stopped, Wrong}
 use Rattle.nugwier_report.specs.Told.{IsTold, told_line}
 use Rattle.nugwier_report.specs.declared.kind.Kind.{Kind}
 use Rattle.nugwier_report.specs.declared.kind.Kind.TheVariants.{FileHeading, NextFileHeading}
-use Rattle.nugwier_report.specs.declared.problem.Fault.TheVariants.{Read, System}
+use Rattle.nugwier_report.specs.declared.problem.Fault.TheVariants.{OtherFormat, Read, System}
+use Rattle.nugwier_report.specs.declared.problem.Fault.{Fault}
 use Rattle.nugwier_report.specs.declared.problem.Part.TheVariants.{File, SectionHeaders}
+use Rattle.nugwier_report.specs.declared.report.Summary.{Summary}
 use Rattle.nugwier_words.specs.Help.{help_of}
+use Rattle.nugwier_words.specs.WordTexts.{word_text}
 use Rattle.nugwier_words.specs.Words.{Answer, Task, help, run, version}
 use Rattle.nugwier_words.specs.declared.help.TheConstants.{VERSION}
 use Rattle.nugwier_words.specs.declared.words.Command.{Command}
-use Rattle.nugwier_words.specs.declared.words.Command.TheVariants.{Bindings, Check, Tree}
+use Rattle.nugwier_words.specs.declared.words.Command.TheVariants.{Bindings, Check, Harden, Tree}
 use Rattle.nugwier_words.specs.declared.words.WordError.{WordError}
 
 -- ---- one file
@@ -37,40 +50,65 @@ use Rattle.nugwier_words.specs.declared.words.WordError.{WordError}
 abbrev pub heading_said : Option Kind → List ℕ → List Said
 heading_said heading path = said_if (λ kind. states kind ((codes "path", text (Some path)) ∷ []) ∷ []) heading
 
+-- the sections with which problems of a file are told
+abbrev pub named_of : Task → ObjectFile → Named
+named_of task file = record { sections = file.sections; names = names_told task file }
+
+-- that the file as a whole is wrong
+abbrev pub IsProblemSaid : Fault → Named → List Said → Type 0
+IsProblemSaid fault named said = (named ≡ no_sections) × (said ≡ wrong (whole File) fault ∷ [])
+
+-- of a file with this header, and the sections with which its problems are told
+abbrev pub IsFileSaid : {E : Type 0} → (E → Bool) → (ℕ → Option E) → Task → List ℕ → FileHeader E → ObjectFile → Named →
+    List Said → Type 0
+IsFileSaid little of_byte task path header file named said =
+    (named ≡ named_of task file) × IsSaidOf little of_byte task path header file said
+
 -- by its headers, as they were opened
-abbrev pub IsViewSaid : Task → List ℕ → List ℕ → FileView AnyEndian → List Said → Type 0
-IsViewSaid task path bytes v said =
-    IsSaidOf any_is_little any_of_byte task path v.ehdr (listed_file any_is_little (headers_of v) bytes) said
+abbrev pub IsViewSaid : Task → List ℕ → List ℕ → FileView AnyEndian → Named → List Said → Type 0
+IsViewSaid task path bytes v named said =
+    IsFileSaid any_is_little any_of_byte task path v.ehdr (listed_file any_is_little (headers_of v) bytes) named said
 
 -- Where opening it has this error: that its section headers cannot be read, and what is said of it through its segments;
 -- or, if it does not open by them either, why it is no ELF file. A file that does not open is not sound, so a check says
 -- the same of both.
 abbrev pub IsUnopenedSaid : Command → Task → List ℕ → List ℕ → ParseError → Result (FileView AnyEndian) ParseError →
-    List Said → Type 0
-IsUnopenedSaid Check task path bytes e by_segments said = said ≡ wrong (whole File) (Read e) ∷ []
-IsUnopenedSaid other task path bytes e (Ok v) said =
-    (rest : List Said) × IsViewSaid task path bytes v rest × (said ≡ wrong (whole SectionHeaders) (Read e) ∷ rest)
-IsUnopenedSaid other task path bytes e (Err _) said = said ≡ wrong (whole File) (Read e) ∷ []
+    Named → List Said → Type 0
+IsUnopenedSaid Check task path bytes e by_segments named said = IsProblemSaid (Read e) named said
+IsUnopenedSaid other task path bytes e (Ok v) named said =
+    (rest : List Said) × IsViewSaid task path bytes v named rest × (said ≡ wrong (whole SectionHeaders) (Read e) ∷ rest)
+IsUnopenedSaid other task path bytes e (Err _) named said = IsProblemSaid (Read e) named said
 
-abbrev pub IsOpenedSaid : Task → List ℕ → List ℕ → Result (FileView AnyEndian) ParseError → List Said → Type 0
-IsOpenedSaid task path bytes (Ok v) said = IsViewSaid task path bytes v said
-IsOpenedSaid task path bytes (Err e) said =
-    IsUnopenedSaid task.command task path bytes e (opened_by_segments any_is_little any_of_byte bytes) said
+abbrev pub IsOpenedSaid : Task → List ℕ → List ℕ → Result (FileView AnyEndian) ParseError → Named → List Said → Type 0
+IsOpenedSaid task path bytes (Ok v) named said = IsViewSaid task path bytes v named said
+IsOpenedSaid task path bytes (Err e) named said =
+    IsUnopenedSaid task.command task path bytes e (opened_by_segments any_is_little any_of_byte bytes) named said
 
--- what is said of a file with this path and these bytes
-abbrev pub IsBytesSaid : Task → List ℕ → List ℕ → List Said → Type 0
-IsBytesSaid task path bytes said = IsOpenedSaid task path bytes (opened_file any_is_little any_of_byte bytes) said
+-- what is said of a file with this path and these bytes, and the sections with which its problems are told
+abbrev pub IsBytesSaid : Task → List ℕ → List ℕ → Named → List Said → Type 0
+IsBytesSaid task path bytes named said =
+    IsOpenedSaid task path bytes (opened_file any_is_little any_of_byte bytes) named said
 
--- what was said was written, after what the writer had, and whether nothing of it is wrong
-abbrev pub IsWritten : Bool → List ℕ → Option (List ℕ) → Option (List ℕ) → Bool → List Said → Type 0
-IsWritten is_json path before after is_right said =
-    IsTold is_json path before after said × (is_right ≡ all_right said)
+-- ---- what was written
+
+-- what the writer of listings and that of problems have
+pub record Written : Type 0 where
+  pub out : Option (List ℕ)
+  pub err : Option (List ℕ)
+
+-- what was said was written after what the writers had: its records, and, unless a write of a problem failed, its
+-- problems. The summary says whether nothing of it is wrong
+abbrev pub IsWritten : Bool → List ℕ → Named → Written → Written → Summary → List Said → Type 0
+IsWritten is_json path named before after summary said =
+    IsTold is_json path before.out after.out said × (summary.is_right ≡ all_right said)
+    × (summary.is_told ≡ true → AreProblemsTold path named before.err after.err said)
 
 -- ---- the files of the words
 
--- of several files each has its path above it, except for `check`, whose lines name it
+-- of several files each has its path above it, except for `check` and `harden`, whose lines name it
 abbrev pub has_headings : Command → List (Bor (List ℕ)) → Bool
 has_headings Check files = false
+has_headings Harden files = false
 has_headings other files = nat_lt 1 (length files)
 
 abbrev pub heading_at : Bool → ℕ → Option Kind
@@ -89,79 +127,220 @@ abbrev pub search_of : Task → Search
 search_of task = record { folders = task.searches; has_cache = task.has_cache }
 
 -- what is said of a program with this path and these bytes, and of its libraries
-abbrev pub IsProgramSaid : Known → Command → Task → List ℕ → List ℕ → List Said → Type 0
-IsProgramSaid known Bindings task path bytes said = IsBindingsSaid known (search_of task) (file_of path bytes) said
-IsProgramSaid known other task path bytes said = IsTreeSaid known (search_of task) (file_of path bytes) said
+abbrev pub IsProgramSaid : Known → Command → Task → List ℕ → List ℕ → Named → List Said → Type 0
+IsProgramSaid known Bindings task path bytes named said =
+    (named ≡ no_sections) × IsBindingsSaid known (search_of task) (file_of path bytes) said
+IsProgramSaid known other task path bytes named said =
+    (named ≡ no_sections) × IsTreeSaid known (search_of task) (file_of path bytes) said
 
 -- of one file, or of a program
-abbrev pub IsContentSaid : Known → Command → Task → List ℕ → List ℕ → List Said → Type 0
-IsContentSaid known Tree task path bytes said = IsProgramSaid known Tree task path bytes said
-IsContentSaid known Bindings task path bytes said = IsProgramSaid known Bindings task path bytes said
-IsContentSaid known other task path bytes said = IsBytesSaid task path bytes said
+abbrev pub IsContentSaid : Known → Command → Task → List ℕ → List ℕ → Named → List Said → Type 0
+IsContentSaid known Tree task path bytes named said = IsProgramSaid known Tree task path bytes named said
+IsContentSaid known Bindings task path bytes named said = IsProgramSaid known Bindings task path bytes named said
+IsContentSaid known other task path bytes named said = IsBytesSaid task path bytes named said
+
+-- what is said of a file by its bytes
+abbrev pub Saying : Type 1
+Saying = List ℕ → Named → List Said → Type 0
 
 -- of a file that begins as an ELF file does this is said; of any other one, that it is no ELF file
-abbrev pub IsBegunSaid : Bool → (List ℕ → List Said → Type 0) → List ℕ → List Said → Type 0
-IsBegunSaid true IsSaid bytes said = IsSaid bytes said
-IsBegunSaid false IsSaid bytes said = said ≡ wrong (whole File) (not_elf (front bytes)) ∷ []
+abbrev pub IsBegunSaid : Bool → Saying → List ℕ → Named → List Said → Type 0
+IsBegunSaid true IsSaid bytes named said = IsSaid bytes named said
+IsBegunSaid false IsSaid bytes named said = IsProblemSaid (not_elf (front bytes)) named said
 
-abbrev pub IsElfSaid : (List ℕ → List Said → Type 0) → List ℕ → List Said → Type 0
-IsElfSaid IsSaid bytes said = IsBegunSaid (is_elf (front bytes)) IsSaid bytes said
+abbrev pub IsElfSaid : Saying → List ℕ → Named → List Said → Type 0
+IsElfSaid IsSaid bytes named said = IsBegunSaid (is_elf (front bytes)) IsSaid bytes named said
 
 -- by the content of the file, if there is one; else the error of the system
-abbrev pub IsFoundSaid : (List ℕ → List Said → Type 0) → Option (List ℕ) → List Said → Type 0
-IsFoundSaid IsSaid (Some bytes) said = IsSaid bytes said
-IsFoundSaid IsSaid None said = (error : Error) × (said ≡ wrong (whole File) (System error) ∷ [])
+abbrev pub IsFoundSaid : Saying → Option (List ℕ) → Named → List Said → Type 0
+IsFoundSaid IsSaid (Some bytes) named said = IsSaid bytes named said
+IsFoundSaid IsSaid None named said = (error : Error) × IsProblemSaid (System error) named said
 
-abbrev pub IsSaidAt : Known → (List ℕ → List Said → Type 0) → List ℕ → List Said → Type 0
-IsSaidAt known IsSaid path said = IfSome known (λ files. IsFoundSaid IsSaid (files path) said)
+abbrev pub IsSaidAt : Known → Saying → List ℕ → Named → List Said → Type 0
+IsSaidAt known IsSaid path named said = IfSome known (λ files. IsFoundSaid IsSaid (files path) named said)
 
-abbrev pub IsPathSaid : Known → Task → List ℕ → List Said → Type 0
-IsPathSaid known task path said = IsSaidAt known (IsElfSaid (IsContentSaid known task.command task path)) path said
+-- ---- listings
 
--- file i and those after it, each with its path above it
-abbrev pub AreFilesSaid : Known → Task → ℕ → List (Bor (List ℕ)) → List (List Said) → Type 0
-AreFilesSaid known task i [] [] = Unit {0}
-AreFilesSaid known task i [] (said ∷ others) = ⊥
-AreFilesSaid known task i (path ∷ paths) [] = ⊥
-AreFilesSaid known task i (path ∷ paths) (said ∷ others) =
-    ((own : List Said) × IsPathSaid known task path.now own × (said ≡ heading_said (heading_of task i) path.now ++ own))
-    × AreFilesSaid known task (i + 1) paths others
+-- what is said of a file or of a member of an archive: its path, the sections with which its problems are told, and what
+-- is said, with the path above it
+pub record Listing : Type 0 where
+  pub path : List ℕ
+  pub named : Named
+  pub said : List Said
 
--- the text of all that is said
-abbrev pub files_text : Bool → List (Bor (List ℕ)) → List (List Said) → List ℕ
-files_text is_json [] all = []
-files_text is_json (path ∷ paths) [] = []
-files_text is_json (path ∷ paths) (said ∷ others) =
-    flat_map (told_line is_json path.now) said ++ files_text is_json paths others
+abbrev pub listing_of : Option Kind → List ℕ → Named → List Said → Listing
+listing_of heading path named said = record { path = path; named = named; said = heading_said heading path ++ said }
+
+abbrev pub listing_text : Bool → Listing → List ℕ
+listing_text is_json listing = flat_map (told_line is_json listing.path) listing.said
+
+-- the text of all that is wrong
+abbrev pub IsProblemsOf : List Listing → List ℕ → Type 0
+IsProblemsOf [] problems = problems ≡ []
+IsProblemsOf (listing ∷ others) problems =
+    (own : List ℕ) × (after : List ℕ) × IsProblemsText listing.path listing.named listing.said own
+    × IsProblemsOf others after × (problems ≡ own ++ after)
+
+-- all that is said was written
+abbrev pub AreWritten : Bool → Written → Written → Summary → List Listing → Type 0
+AreWritten is_json before after summary all =
+    Appends before.out after.out (flat_map (listing_text is_json) all)
+    × (summary.is_right ≡ list_all (λ (listing : Listing). all_right listing.said) all)
+    × (summary.is_told ≡ true → (problems : List ℕ) × IsProblemsOf all problems
+    × Appends before.err after.err problems)
+
+-- ---- an archive: each member is told as a file
+
+-- the path of a member, as ar and nm write it; a name that is not UTF-8 is told by the offset of its header
+abbrev pub shown_name : File_in → List ℕ
+shown_name member = if is_utf8 member.name then member.name else codes "member at 0x" ++ digits 16 false member.offset
+
+abbrev pub member_path : List ℕ → File_in → List ℕ
+member_path path member = path ++ (codes "(" ++ (shown_name member ++ codes ")"))
+
+-- the file of a member of a thin archive: its name is a path, relative to the folder of the archive. The path - would
+-- be standard input
+abbrev pub file_name : List ℕ → List ℕ
+file_name name = if bytes_eq name (codes "-") then codes "./-" else name
+
+abbrev pub outside_path : List ℕ → List ℕ → List ℕ
+outside_path path name = path_with_file_name path (file_name name)
+
+-- that a name is not UTF-8, so no file of this name can be read
+abbrev pub no_path : Fault
+no_path = OtherFormat (codes "a path that is not UTF-8")
+
+abbrev pub IsOutsideSaid : Known → Saying → List ℕ → List ℕ → Bool → Named → List Said → Type 0
+IsOutsideSaid known IsSaid path name true named said = IsSaidAt known IsSaid (outside_path path name) named said
+IsOutsideSaid known IsSaid path name false named said = IsProblemSaid no_path named said
+
+abbrev pub IsHeldSaid : Known → Saying → List ℕ → File_in → Option (List ℕ) → Named → List Said → Type 0
+IsHeldSaid known IsSaid path member (Some bytes) named said = IsSaid bytes named said
+IsHeldSaid known IsSaid path member None named said =
+    IsOutsideSaid known IsSaid path member.name (is_utf8 member.name) named said
+
+-- what is said of a member: that of a file with its path and its bytes
+abbrev pub IsMemberSaid : Known → Task → List ℕ → File_in → Named → List Said → Type 0
+IsMemberSaid known task path member named said =
+    IsHeldSaid known (IsElfSaid (IsBytesSaid task (member_path path member))) path member member.bytes named said
+
+-- that an archive cannot be read on
+abbrev pub broken : ArchiveError → Fault
+broken e = OtherFormat (codes "a broken ar archive: " ++ error_text e)
+
+abbrev pub IsItemSaid : Known → Task → Option Kind → List ℕ → Item → Listing → Type 0
+IsItemSaid known task heading path (Ok member) own =
+    (named : Named) × (said : List Said) × IsMemberSaid known task path member named said
+    × (own ≡ listing_of heading (member_path path member) named said)
+IsItemSaid known task heading path (Err e) own =
+    (named : Named) × (said : List Said) × IsProblemSaid (broken e) named said
+    × (own ≡ listing_of heading path named said)
+
+-- each member has its path above it, except for `check` and `harden`
+abbrev pub first_heading : Command → Option Kind → Option Kind
+first_heading Check heading = None
+first_heading Harden heading = None
+first_heading other (Some kind) = Some kind
+first_heading other None = Some FileHeading
+
+abbrev pub next_heading : Option Kind → Option Kind
+next_heading (Some kind) = Some NextFileHeading
+next_heading None = None
+
+-- the members in order, and then why they cannot be read on, if they cannot
+abbrev pub AreItemsSaid : Known → Task → Option Kind → List ℕ → List Item → List Listing → Type 0
+AreItemsSaid known task heading path [] all = all ≡ []
+AreItemsSaid known task heading path (item ∷ items) all =
+    (own : Listing) × (rest : List Listing) × IsItemSaid known task heading path item own
+    × AreItemsSaid known task (next_heading heading) path items rest × (all ≡ own ∷ rest)
+
+abbrev pub items_of : Result (List Item) ArchiveError → List Item
+items_of (Ok items) = items
+items_of (Err e) = Err e ∷ []
+
+abbrev pub AreMembersSaid : Known → Task → Option Kind → List ℕ → List ℕ → List Listing → Type 0
+AreMembersSaid known task heading path bytes all =
+    AreItemsSaid known task (first_heading task.command heading) path (items_of (members_in bytes)) all
+
+-- a program and its libraries are no archives: of one is said that it is no ELF file
+abbrev pub is_archive : Command → List ℕ → Bool
+is_archive Tree start = false
+is_archive Bindings start = false
+is_archive other start = is_some (thinness start)
+
+-- ---- a file of the words
+
+-- one listing, with the path above it
+abbrev pub IsOne : Option Kind → List ℕ → (Named → List Said → Type 0) → List Listing → Type 0
+IsOne heading path Says all =
+    (named : Named) × (said : List Said) × Says named said × (all ≡ listing_of heading path named said ∷ [])
+
+abbrev pub AreKindSaid : Known → Task → Option Kind → List ℕ → List ℕ → Bool → List Listing → Type 0
+AreKindSaid known task heading path bytes true all = AreMembersSaid known task heading path bytes all
+AreKindSaid known task heading path bytes false all =
+    IsOne heading path (IsElfSaid (IsContentSaid known task.command task path) bytes) all
+
+-- what is said of a file with this path and these bytes
+abbrev pub AreBytesSaid : Known → Task → Option Kind → List ℕ → List ℕ → List Listing → Type 0
+AreBytesSaid known task heading path bytes all =
+    AreKindSaid known task heading path bytes (is_archive task.command (front bytes)) all
+
+abbrev pub AreFoundSaid : Known → Task → Option Kind → List ℕ → Option (List ℕ) → List Listing → Type 0
+AreFoundSaid known task heading path (Some bytes) all = AreBytesSaid known task heading path bytes all
+AreFoundSaid known task heading path None all =
+    IsOne heading path (λ named said. (error : Error) × IsProblemSaid (System error) named said) all
+
+abbrev pub ArePathSaid : Known → Task → Option Kind → List ℕ → List Listing → Type 0
+ArePathSaid known task heading path all = IfSome known (λ files. AreFoundSaid known task heading path (files path) all)
+
+-- file i and those after it
+abbrev pub AreFilesSaid : Known → Task → ℕ → List (Bor (List ℕ)) → List Listing → Type 0
+AreFilesSaid known task i [] all = all ≡ []
+AreFilesSaid known task i (path ∷ paths) all =
+    (own : List Listing) × (rest : List Listing) × ArePathSaid known task (heading_of task i) path.now own
+    × AreFilesSaid known task (i + 1) paths rest × (all ≡ own ++ rest)
 
 -- ---- a whole run
 
 -- what is said of the files of a task was written
-abbrev pub IsTaskAnswered : Known → Option (List ℕ) → Option (List ℕ) → Bool → Task → Type 0
-IsTaskAnswered known before after is_right task =
-    (all : List (List Said)) × AreFilesSaid known task 0 task.files all
-    × Appends before after (files_text task.is_json task.files all) × (is_right ≡ list_all all_right all)
+abbrev pub IsTaskAnswered : Known → Written → Written → Summary → Task → Type 0
+IsTaskAnswered known before after summary task =
+    (all : List Listing) × AreFilesSaid known task 0 task.files all
+    × AreWritten task.is_json before after summary all
+
+-- a text, and a newline, and nothing is wrong
+abbrev pub IsPrinted : List ℕ → Written → Written → Summary → Type 0
+IsPrinted message before after summary =
+    Appends before.out after.out (message ++ codes "\n") × (after.err ≡ before.err)
+    × (summary ≡ record { is_right = true; is_told = true })
 
 -- what a run that was not stopped wrote: the help, or the text of what is said of the files, whose paths are taken below
 -- the folder of an image, if one is named
-abbrev pub IsAnswered : Known → Option (List ℕ) → Option (List ℕ) → Bool → Answer → Type 0
-IsAnswered known before after is_right (help command) =
-    Appends before after (help_of command ++ codes "\n") × (is_right ≡ true)
-IsAnswered known before after is_right version = Appends before after (VERSION.now ++ codes "\n") × (is_right ≡ true)
-IsAnswered known before after is_right (run task) =
-    IsTaskAnswered (known_below task.root known) before after is_right task
+abbrev pub IsAnswered : Known → Written → Written → Summary → Answer → Type 0
+IsAnswered known before after summary (help command) = IsPrinted (help_of command) before after summary
+IsAnswered known before after summary version = IsPrinted VERSION.now before after summary
+IsAnswered known before after summary (run task) =
+    IsTaskAnswered (known_below task.root known) before after summary task
 
--- by what the words ask for: an answer, or that the words are wrong, and nothing is written. A failed write or a failed
+-- the text of the reason was written, and a newline
+abbrev pub IsReasonTold : WordError → Option (List ℕ) → Option (List ℕ) → Type 0
+IsReasonTold error before after = IfSome (word_text error) (λ reason. Appends before after (reason ++ codes "\n"))
+
+-- nothing is listed, and unless the write of the reason failed, it was told
+abbrev pub IsWrong : WordError → Written → Written → Bool → Type 0
+IsWrong error before after is_told =
+    (after.out ≡ before.out) × (is_told ≡ true → IsReasonTold error before.err after.err)
+
+-- by what the words ask for: an answer, or that the words are wrong, and nothing is listed. A failed write or a failed
 -- allocation stops a run at any time
-abbrev pub IsRun : Known → Option (List ℕ) → Option (List ℕ) → Result Answer WordError → Outcome → Type 0
-IsRun known before after (Ok answer) (Done is_right) = IsAnswered known before after is_right answer
-IsRun known before after (Ok answer) Wrong = ⊥
-IsRun known before after (Err error) (Done is_right) = ⊥
-IsRun known before after (Err error) Wrong = after ≡ before
+abbrev pub IsRun : Known → Written → Written → Result Answer WordError → Outcome → Type 0
+IsRun known before after (Ok answer) (Done summary) = IsAnswered known before after summary answer
+IsRun known before after (Ok answer) (Wrong is_told) = ⊥
+IsRun known before after (Err error) (Done summary) = ⊥
+IsRun known before after (Err error) (Wrong is_told) = IsWrong error before after is_told
 IsRun known before after answer (Stopped stop) = Unit {0}
 
 abbrev pub status_of : Outcome → ℕ
-status_of (Done true) = 0
-status_of (Done false) = 1
+status_of (Done summary) = if summary.is_right then 0 else 1
 status_of (Stopped stop) = 1
-status_of Wrong = 2
+status_of (Wrong is_told) = 2

@@ -1,10 +1,11 @@
 //! How saying a file ended.
 ghost use Rattle.std.specs.Prelude.{[], ◌≡◌, ◌∷◌, ◌++◌, false, IfOk, List, Ok, OnOk};
-ghost use Rattle.nugwier_report.specs.Said.{Said, all_right, saying, whole, wrong};
-ghost use Rattle.nugwier_report.specs.Told.{IsTold};
+ghost use Rattle.nugwier_report.specs.Labels.{named_by, no_sections};
+ghost use Rattle.nugwier_report.specs.Said.{Said, saying, whole, wrong};
 ghost use Rattle.nugwier_report.specs.declared.problem.Part.TheVariants.{File};
+ghost use Rattle.nugwier_report.specs.declared.report.Summary.{Summary};
 ghost use Rattle.nugwier_commands.specs.Run.{IsProgramSaid, IsWritten, heading_said, search_of};
-ghost use Rattle.nugwier_commands.specs.inner.Loading.{unread_said};
+ghost use Rattle.nugwier_commands.specs.inner.Loading.{unread_said, written_by};
 ghost use Rattle.nugwier_programs.specs.Tree.{search_view, IsNamedSaid};
 ghost use Rattle.elf_linking.specs.Tree.{found_view};
 ghost use Rattle.nugwier_listing.specs.inner.Job.{IsTablesSaid};
@@ -21,7 +22,7 @@ use nugwier_report::json::Value;
 use nugwier_report::kind::Kind;
 use nugwier_report::names::Labels;
 use nugwier_report::problem::{Fault, Part, Stop};
-use nugwier_report::report::Report;
+use nugwier_report::report::{Report, Summary};
 use nugwier_words::words::{Command, Job};
 use std::alloc::Global;
 use std::io::Write;
@@ -40,10 +41,10 @@ const NO_LABELS: Labels<'static> = Labels {
     names: None,
 };
 
-/// The writers of listings and of problems, after a file: whether nothing is wrong with it, or why the listing stopped.
+/// The writers of listings and of problems, after a file: what saying it came to, or why the listing stopped.
 #[derive(Drop)]
 pub struct Ended<W: Write, V: Write> {
-    pub said: Result<bool, Stop>,
+    pub said: Result<Summary, Stop>,
     pub out: W,
     pub err: V,
 }
@@ -51,12 +52,13 @@ pub struct Ended<W: Write, V: Write> {
 impl<W: Write, V: Write> Ended<W, V> {
     // After all was said in a report.
     fn all_said(report: Report<'_, W, V>) -> Ended<W, V>
-        ensures said { result.said ≡ Ok (all_right report.entry.said) }
-        ensures text { report.entry.is_lost ≡ false → IsTold report.entry.is_json report.entry.path report.entry.start
-            (W.contents result.out) report.entry.said }
+        ensures { (summary : Summary) × (result.said ≡ Ok summary) × (report.entry.is_lost ≡ false
+            → IsWritten report.entry.is_json report.entry.path report.entry.named
+            (record { out = report.entry.start; err = report.entry.told_start })
+            (written_by W.contents V.contents result) summary report.entry.said) }
     {
         let (summary, out, err) = report.end();
-        let said = Ok(summary.is_right);
+        let said = Ok(summary);
         Ended { said, out, err }
     }
 
@@ -137,9 +139,10 @@ impl<'j> Target<'j> {
         out: W,
         err: V,
     ) -> Ended<W, V>
-        ensures { IfOk result.said (λ is_right. (said : List Said)
+        ensures { IfOk result.said (λ summary. (said : List Said)
             × IsTablesSaid E.little self.now.path.now (task_of self.now.job.now).addresses tables.entry said
-            × IsWritten self.now.job.now.is_json self.now.path.now (W.contents out) (W.contents result.out) is_right
+            × IsWritten self.now.job.now.is_json self.now.path.now (named_by labels.entry)
+            (record { out = W.contents out; err = V.contents err }) (written_by W.contents V.contents result) summary
             (heading_said self.now.heading self.now.path.now ++ (unread_said unread ++ said))) }
     {
         let mut report = Report::new(alloc, self.path, self.job.is_json, labels, out, err);
@@ -184,9 +187,10 @@ impl<'j> Target<'j> {
         out: W,
         err: V,
     ) -> Ended<W, V>
-        ensures { IfOk result.said (λ is_right. (said : List Said) × IsNamedSaid (F.known files.now)
+        ensures { IfOk result.said (λ summary. (said : List Said) × IsNamedSaid (F.known files.now)
             (search_of (task_of self.now.job.now)) (found_view program) said
-            × IsWritten self.now.job.now.is_json self.now.path.now (W.contents out) (W.contents result.out) is_right
+            × IsWritten self.now.job.now.is_json self.now.path.now no_sections
+            (record { out = W.contents out; err = V.contents err }) (written_by W.contents V.contents result) summary
             (heading_said self.now.heading self.now.path.now ++ said)) }
     {
         let mut report = Report::new(alloc, self.path, self.job.is_json, NO_LABELS, out, err);
@@ -205,7 +209,7 @@ impl<'j> Target<'j> {
         report: &mut Report<'_, W, V>,
     ) -> Result<(), Stop>
         ensures { OnOk result ((said : List Said) × IsProgramSaid (F.known files.now) self.now.job.now.command
-            (task_of self.now.job.now) self.now.path.now «data».items said
+            (task_of self.now.job.now) self.now.path.now «data».items no_sections said
             × (report.new ≡ saying report.old (heading_said self.now.heading self.now.path.now ++ said))) }
     {
         files.has_libraries();
@@ -227,9 +231,10 @@ impl<'j> Target<'j> {
         out: W,
         err: V,
     ) -> Ended<W, V>
-        ensures { IfOk result.said (λ is_right. (said : List Said) × IsProgramSaid (F.known files.now)
-            self.now.job.now.command (task_of self.now.job.now) self.now.path.now «data».items said
-            × IsWritten self.now.job.now.is_json self.now.path.now (W.contents out) (W.contents result.out) is_right
+        ensures { IfOk result.said (λ summary. (said : List Said) × IsProgramSaid (F.known files.now)
+            self.now.job.now.command (task_of self.now.job.now) self.now.path.now «data».items no_sections said
+            × IsWritten self.now.job.now.is_json self.now.path.now no_sections
+            (record { out = W.contents out; err = V.contents err }) (written_by W.contents V.contents result) summary
             (heading_said self.now.heading self.now.path.now ++ said)) }
     {
         let mut report = Report::new(alloc, self.path, self.job.is_json, NO_LABELS, out, err);
@@ -247,8 +252,8 @@ impl<'j> Target<'j> {
         out: W,
         err: V,
     ) -> Ended<W, V>
-        ensures { IfOk result.said (λ is_right. IsWritten self.now.job.now.is_json self.now.path.now (W.contents out)
-            (W.contents result.out) is_right
+        ensures { IfOk result.said (λ summary. IsWritten self.now.job.now.is_json self.now.path.now no_sections
+            (record { out = W.contents out; err = V.contents err }) (written_by W.contents V.contents result) summary
             (heading_said self.now.heading self.now.path.now ++ wrong (whole File) fault.entry ∷ [])) }
     {
         let mut report = Report::new(alloc, self.path, self.job.is_json, NO_LABELS, out, err);

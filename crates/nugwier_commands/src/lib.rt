@@ -2,6 +2,7 @@
 //! by a trait (`nugwier_files::files::Files`).
 #![tactic(auto)]
 
+mod archive;
 mod ended;
 mod loading;
 mod preloading;

@@ -1,13 +1,15 @@
 //! A source is read by parts: what a job needs is taken of what is loaded, and where a range is missing, that range is
 //! loaded and the taking begins again. So nothing is written before all is taken. Of a file in memory all is loaded.
-ghost use Rattle.std.specs.Prelude.{ℕ, IfOk, List};
+ghost use Rattle.std.specs.Prelude.{◌≡◌, ℕ, IfOk, List};
 ghost use Rattle.elf.specs.ElfBytes.{view};
 ghost use Rattle.elf.specs.StreamFile.{listed_file};
 ghost use Rattle.elf_reading.specs.Opening.{headers_of};
+ghost use Rattle.nugwier_commands.specs.Run.{IsFileSaid, named_of};
 ghost use Rattle.nugwier_commands.specs.inner.Loading.{IsSaidAfter, IsSaidAndWritten, IsSourceListed, IsStreamListed};
 ghost use Rattle.nugwier_listing.specs.Job.{IsSaidOf};
 ghost use Rattle.nugwier_listing.specs.Whole.{file_of};
 ghost use Rattle.nugwier_listing.specs.inner.Job.{IsTablesSaid};
+ghost use Rattle.nugwier_report.specs.Labels.{named_by};
 ghost use Rattle.nugwier_report.specs.Said.{Said};
 ghost use Rattle.nugwier_words.specs.Words.{task_of};
 
@@ -41,8 +43,8 @@ pub(crate) fn list_source<S: StreamSource, W: Write, V: Write>(
     out: W,
     err: V,
 ) -> Listed<W, V>
-    ensures { IsSourceListed W.contents (task_of target.entry.job.now) target.entry.heading target.entry.path.now
-        (S.content source) (W.contents out) result }
+    ensures { IsSourceListed W.contents V.contents (task_of target.entry.job.now) target.entry.heading
+        target.entry.path.now (S.content source) (record { out = W.contents out; err = V.contents err }) result }
 {
     match ElfStream::<AnyEndian, S, Global>::open_stream(alloc, source) {
         Ok(mut stream) => list_stream(alloc, target, &mut stream, out, err),
@@ -58,8 +60,9 @@ fn list_stream<E: EndianParse, S: StreamSource, W: Write, V: Write>(
     out: W,
     err: V,
 ) -> Listed<W, V>
-    ensures { IsStreamListed W.contents E.little E.of_byte (task_of target.entry.job.now) target.entry.heading
-        target.entry.path.now stream.old (W.contents out) result }
+    ensures { IsStreamListed W.contents V.contents E.little E.of_byte (task_of target.entry.job.now)
+        target.entry.heading target.entry.path.now stream.old (record { out = W.contents out; err = V.contents err })
+        result }
 {
     if let Err(error) = preload(alloc, target.job, stream) {
         return Listed::Unread(error, out, err);
@@ -90,10 +93,11 @@ pub(crate) fn list_bytes<E: EndianParse, W: Write, V: Write>(
     out: W,
     err: V,
 ) -> Ended<W, V>
-    ensures { IsSaidAndWritten W.contents (IsSaidAfter unread
-        (IsSaidOf E.little E.of_byte (task_of target.entry.job.now) target.entry.path.now (view file.now).ehdr
+    ensures { IsSaidAndWritten W.contents V.contents (IsSaidAfter unread
+        (IsFileSaid E.little E.of_byte (task_of target.entry.job.now) target.entry.path.now (view file.now).ehdr
         (listed_file E.little (headers_of (view file.now)) bytes.now)))
-        (task_of target.entry.job.now) target.entry.heading target.entry.path.now (W.contents out) result }
+        (task_of target.entry.job.now) target.entry.heading target.entry.path.now
+        (record { out = W.contents out; err = V.contents err }) result }
 {
     match FileInMemory::new(alloc, bytes, file) {
         Ok(file) => list_file(alloc, target, &file, unread, out, err),
@@ -110,10 +114,11 @@ fn list_file<E: EndianParse, R: ListedFile<E>, W: Write, V: Write>(
     out: W,
     err: V,
 ) -> Ended<W, V>
-    ensures { IsSaidAndWritten W.contents (IsSaidAfter unread
-        (IsSaidOf E.little E.of_byte (task_of target.entry.job.now) target.entry.path.now (R.header file.now)
+    ensures { IsSaidAndWritten W.contents V.contents (IsSaidAfter unread
+        (IsFileSaid E.little E.of_byte (task_of target.entry.job.now) target.entry.path.now (R.header file.now)
         (file_of (R.file file.now) (R.bytes file.now))))
-        (task_of target.entry.job.now) target.entry.heading target.entry.path.now (W.contents out) result }
+        (task_of target.entry.job.now) target.entry.heading target.entry.path.now
+        (record { out = W.contents out; err = V.contents err }) result }
 {
     match take_all(alloc, target.job, file) {
         Ok((labels, tables)) => target.say_taken(alloc, unread, labels, tables, out, err),
@@ -128,7 +133,9 @@ fn take_all<'f, 'w, E: EndianParse, R: ListedFile<E>>(
     job: &'w Job<'w>,
     file: &'f R,
 ) -> Result<(Labels<'f>, JobTables<'f, 'w, E>), NotTaken>
-    ensures { IfOk result (λ taken. (path : List ℕ) (said : List Said)
+    ensures labels { IfOk result (λ taken. named_by taken.0
+        ≡ named_of (task_of job.now) (file_of (R.file file.now) (R.bytes file.now))) }
+    ensures tables { IfOk result (λ taken. (path : List ℕ) (said : List Said)
         → IsTablesSaid E.little path (task_of job.now).addresses taken.1 said
         → IsSaidOf E.little E.of_byte (task_of job.now) path (R.header file.now)
         (file_of (R.file file.now) (R.bytes file.now)) said) }

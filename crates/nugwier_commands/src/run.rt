@@ -1,17 +1,19 @@
 //! Runs the program, apart from the operating system.
-ghost use Rattle.std.specs.Prelude.{◌≡◌, ◌++◌, codes, true, IfOk, IfSome, Ok};
+ghost use Rattle.std.specs.Prelude.{◌≡◌, ◌++◌, codes, IfOk, IfSome, Ok, OnOk};
 ghost use Rattle.elf_linking.specs.Tree.{found_view};
 ghost use Rattle.std.specs.Io.KnownBytes.{Appends};
 ghost use Rattle.elf_reading.specs.Opening.{opened_by_segments};
 ghost use Rattle.elf_records.specs.Endian.{any_is_little, any_of_byte};
-ghost use Rattle.nugwier_commands.specs.Run.{IsAnswered, IsBytesSaid, IsContentSaid, IsElfSaid, IsProgramSaid, IsRun};
-ghost use Rattle.nugwier_commands.specs.Run.{IsUnopenedSaid};
-ghost use Rattle.nugwier_commands.specs.Run.{has_headings, heading_of, status_of, IsTaskAnswered};
-ghost use Rattle.nugwier_commands.specs.inner.Loading.{IsFileEnded, IsOutcomeOf, IsPathEnded, IsSaidAndWritten};
-ghost use Rattle.nugwier_commands.specs.inner.Loading.{IsFrontOf, IsNamed, IsWordsTold};
+ghost use Rattle.nugwier_commands.specs.Run.{AreBytesSaid, IsAnswered, IsBytesSaid, IsContentSaid, IsElfSaid};
+ghost use Rattle.nugwier_commands.specs.Run.{IsPrinted, IsProgramSaid, IsRun, IsTaskAnswered, IsUnopenedSaid};
+ghost use Rattle.nugwier_commands.specs.Run.{has_headings, heading_of, status_of};
+ghost use Rattle.nugwier_commands.specs.inner.Loading.{AreSaidAndWritten, IsFileEnded, IsFrontOf, IsNamed, IsOutcomeOf};
+ghost use Rattle.nugwier_commands.specs.inner.Loading.{IsPathEnded, IsSaidAndWritten, IsWordsTold, written_by};
+ghost use Rattle.nugwier_commands.specs.Run.{IsReasonTold};
 ghost use Rattle.nugwier_report.specs.Formats.{front};
 ghost use Rattle.nugwier_words.specs.Words.{answer_of, parsed, run as run_answer, task_of};
 
+use crate::archive::{is_archive, run_archive};
 use crate::ended::{Ended, Target};
 use crate::loading::{Listed, list_bytes, list_source, stopped};
 use elf::endian::AnyEndian;
@@ -23,6 +25,7 @@ use nugwier_files::files::Files;
 use nugwier_report::formats::{FRONT, is_elf, not_elf};
 use nugwier_report::kind::Kind;
 use nugwier_report::problem::{Fault, Stop};
+use nugwier_report::report::Summary;
 use nugwier_words::help::{VERSION, help};
 use nugwier_words::words::{Command, Job, Request, WordError, parse_words};
 use std::alloc::Global;
@@ -32,10 +35,10 @@ use std::io::Write;
 /// How a run ended.
 #[derive(Debug, Drop)]
 pub enum Outcome {
-    /// The words are wrong.
-    Wrong,
-    /// All was said: whether nothing is wrong.
-    Done(bool),
+    /// The words are wrong, and whether no write of the reason failed.
+    Wrong { is_told: bool },
+    /// All was said.
+    Done(Summary),
     /// A write or an allocation failed.
     Stopped(Stop),
 }
@@ -47,9 +50,9 @@ impl Outcome {
         ensures { result ≡ status_of self.now }
     {
         match self {
-            Outcome::Done(true) => 0,
-            Outcome::Done(false) | Outcome::Stopped(_) => 1,
-            Outcome::Wrong => 2,
+            Outcome::Done(summary) if summary.is_right => 0,
+            Outcome::Done(_) | Outcome::Stopped(_) => 1,
+            Outcome::Wrong { .. } => 2,
         }
     }
 }
@@ -63,7 +66,8 @@ pub fn run<F: Files, W: Write, V: Write>(
     out: W,
     err: V,
 ) -> (Outcome, W, V)
-    ensures { IsRun (F.known files.now) (W.contents out) (W.contents result.1) (parsed words.now) result.0 }
+    ensures { IsRun (F.known files.now) (record { out = W.contents out; err = V.contents err })
+        (record { out = W.contents result.1; err = V.contents result.2 }) (parsed words.now) result.0 }
 {
     match parse_words(alloc, words) {
         Ok(request) => answer(alloc, request, files, out, err),
@@ -73,14 +77,21 @@ pub fn run<F: Files, W: Write, V: Write>(
 
 // Tells why the words are wrong.
 fn tell<W: Write, V: Write>(error: WordError<'_>, out: W, mut err: V) -> (Outcome, W, V)
-    ensures { IsWordsTold error.entry (W.contents out) (W.contents result.1) result.0 }
+    ensures { IsWordsTold error.entry (record { out = W.contents out; err = V.contents err })
+        (record { out = W.contents result.1; err = V.contents result.2 }) result.0 }
 {
-    let _ = writeln!(err, "{error}");
-    let _ = err.flush();
+    let is_told = tell_line(&error, &mut err).is_ok();
     match error {
         WordError::Memory => (Outcome::Stopped(Stop::Memory), out, err),
-        _ => (Outcome::Wrong, out, err),
+        _ => (Outcome::Wrong { is_told }, out, err),
     }
+}
+
+fn tell_line<V: Write>(error: &WordError<'_>, err: &mut V) -> io::Result<()>
+    ensures { OnOk result (IsReasonTold error.now (V.contents err.old) (V.contents err.new)) }
+{
+    writeln!(err, "{error}")?;
+    err.flush()
 }
 
 // Does what is asked for.
@@ -91,7 +102,8 @@ fn answer<F: Files, W: Write, V: Write>(
     out: W,
     err: V,
 ) -> (Outcome, W, V)
-    ensures { IsRun (F.known files.now) (W.contents out) (W.contents result.1) (Ok (answer_of request.entry)) result.0 }
+    ensures { IsRun (F.known files.now) (record { out = W.contents out; err = V.contents err })
+        (record { out = W.contents result.1; err = V.contents result.2 }) (Ok (answer_of request.entry)) result.0 }
 {
     match request {
         Request::Help(command) => outcome_of(print(help(command), out, err)),
@@ -102,11 +114,11 @@ fn answer<F: Files, W: Write, V: Write>(
 
 // How a run ended. That the reader of the output has gone is not told; any other reason to stop is.
 fn outcome_of<W: Write, V: Write>(ended: Ended<W, V>) -> (Outcome, W, V)
-    ensures { IsOutcomeOf ended.said result.0 × (result.1 ≡ ended.out) }
+    ensures { IsOutcomeOf ended.said result.0 × (result.1 ≡ ended.out) × IfOk ended.said (λ _. result.2 ≡ ended.err) }
 {
     let Ended { said, out, mut err } = ended;
     match said {
-        Ok(is_right) => (Outcome::Done(is_right), out, err),
+        Ok(summary) => (Outcome::Done(summary), out, err),
         Err(stop) => {
             tell_stop(&stop, &mut err);
             (Outcome::Stopped(stop), out, err)
@@ -130,21 +142,26 @@ fn tell_stop<V: Write>(stop: &Stop, err: &mut V) {
 
 // Prints a text, and a newline.
 fn print<W: Write, V: Write>(text: &str, mut out: W, err: V) -> Ended<W, V>
-    ensures { IfOk result.said (λ is_right. Appends (W.contents out) (W.contents result.out) (text.now ++ codes "\n")
-        × (is_right ≡ true)) }
+    ensures { IfOk result.said (λ summary. IsPrinted text.now (record { out = W.contents out; err = V.contents err })
+        (written_by W.contents V.contents result) summary) }
 {
-    let said = print_line(text, &mut out);
+    let said = match print_line(text, &mut out) {
+        Ok(()) => Ok(Summary {
+            is_right: true,
+            is_told: true,
+        }),
+        Err(stop) => Err(stop),
+    };
     Ended { said, out, err }
 }
 
-fn print_line<W: Write>(text: &str, out: &mut W) -> Result<bool, Stop>
-    ensures { IfOk result (λ is_right. Appends (W.contents out.old) (W.contents out.new) (text.now ++ codes "\n")
-        × (is_right ≡ true)) }
+fn print_line<W: Write>(text: &str, out: &mut W) -> Result<(), Stop>
+    ensures { OnOk result (Appends (W.contents out.old) (W.contents out.new) (text.now ++ codes "\n")) }
 {
     out.write_all(text.as_bytes())?;
     out.write_all(b"\n")?;
     out.flush()?;
-    Ok(true)
+    Ok(())
 }
 
 // Says of each file what is asked for.
@@ -155,8 +172,8 @@ fn run_job<F: Files, W: Write, V: Write>(
     out: W,
     err: V,
 ) -> Ended<W, V>
-    ensures { IfOk result.said
-        (λ is_right. IsAnswered (F.known files.now) (W.contents out) (W.contents result.out) is_right
+    ensures { IfOk result.said (λ summary. IsAnswered (F.known files.now)
+        (record { out = W.contents out; err = V.contents err }) (written_by W.contents V.contents result) summary
         (run_answer (task_of job.now))) }
 {
     let files = FilesBelow {
@@ -166,9 +183,9 @@ fn run_job<F: Files, W: Write, V: Write>(
     };
     let Ended { said, mut out, err } = run_files(alloc, job, &files, out, err);
     match said {
-        Ok(is_right) => match out.flush() {
+        Ok(summary) => match out.flush() {
             Ok(()) => Ended {
-                said: Ok(is_right),
+                said: Ok(summary),
                 out,
                 err,
             },
@@ -193,11 +210,12 @@ fn run_files<F: Files, W: Write, V: Write>(
     mut out: W,
     mut err: V,
 ) -> Ended<W, V>
-    ensures { IfOk result.said
-        (λ is_right. IsTaskAnswered (F.known files.now) (W.contents out) (W.contents result.out) is_right
+    ensures { IfOk result.said (λ summary. IsTaskAnswered (F.known files.now)
+        (record { out = W.contents out; err = V.contents err }) (written_by W.contents V.contents result) summary
         (task_of job.now)) }
 {
     let mut are_right = true;
+    let mut are_told = true;
     for (place, path) in job.files.as_slice().iter().enumerate() {
         let target = Target {
             job: &*job,
@@ -208,11 +226,17 @@ fn run_files<F: Files, W: Write, V: Write>(
         out = ended.out;
         err = ended.err;
         match ended.said {
-            Ok(is_right) => are_right &= is_right,
+            Ok(summary) => {
+                are_right &= summary.is_right;
+                are_told &= summary.is_told;
+            }
             said => return Ended { said, out, err },
         }
     }
-    let said = Ok(are_right);
+    let said = Ok(Summary {
+        is_right: are_right,
+        is_told: are_told,
+    });
     Ended { said, out, err }
 }
 
@@ -235,7 +259,7 @@ fn has_headings(job: &Job<'_>) -> bool
     ensures { result ≡ has_headings job.now.command job.now.files.items }
 {
     match job.command {
-        Command::Check => false,
+        Command::Check | Command::Harden => false,
         _ => job.files.len() > 1,
     }
 }
@@ -248,8 +272,9 @@ fn run_path<F: Files, W: Write, V: Write>(
     out: W,
     err: V,
 ) -> Ended<W, V>
-    ensures { IsPathEnded W.contents (F.known files.now) (task_of target.entry.job.now) target.entry.heading
-        target.entry.path.now (W.contents out) result }
+    ensures { IsPathEnded W.contents V.contents (F.known files.now) (task_of target.entry.job.now) target.entry.heading
+        target.entry.path.now
+        (record { out = W.contents out; err = V.contents err }) result }
 {
     match front_of(alloc, target.path, files) {
         Some(front) => run_front(alloc, target, files, front.as_slice(), out, err),
@@ -282,10 +307,13 @@ fn run_front<F: Files, W: Write, V: Write>(
     err: V,
 ) -> Ended<W, V>
     ensures { IfSome (F.known files.now) (λ files. IsFrontOf (files target.entry.path.now) front.now)
-        → IsPathEnded W.contents (F.known files.now) (task_of target.entry.job.now) target.entry.heading
-        target.entry.path.now (W.contents out) result }
+        → IsPathEnded W.contents V.contents (F.known files.now) (task_of target.entry.job.now) target.entry.heading
+        target.entry.path.now
+        (record { out = W.contents out; err = V.contents err }) result }
 {
-    if is_elf(front) {
+    if is_archive(target.job, front) {
+        run_read(alloc, target, files, out, err)
+    } else if is_elf(front) {
         run_command(alloc, target, files, out, err)
     } else {
         target.say_problem(alloc, not_elf(front), out, err)
@@ -300,8 +328,9 @@ fn run_read<F: Files, W: Write, V: Write>(
     out: W,
     err: V,
 ) -> Ended<W, V>
-    ensures { IsPathEnded W.contents (F.known files.now) (task_of target.entry.job.now) target.entry.heading
-        target.entry.path.now (W.contents out) result }
+    ensures { IsPathEnded W.contents V.contents (F.known files.now) (task_of target.entry.job.now) target.entry.heading
+        target.entry.path.now
+        (record { out = W.contents out; err = V.contents err }) result }
 {
     match files.read(target.path) {
         Ok(data) => run_data(alloc, target, files, data, out, err),
@@ -312,6 +341,7 @@ fn run_read<F: Files, W: Write, V: Write>(
     }
 }
 
+// The same of the bytes of a file.
 fn run_data<F: Files, W: Write, V: Write>(
     alloc: Global,
     target: Target<'_>,
@@ -320,9 +350,30 @@ fn run_data<F: Files, W: Write, V: Write>(
     out: W,
     err: V,
 ) -> Ended<W, V>
-    ensures { let task = task_of target.entry.job.now in IsSaidAndWritten W.contents
+    ensures { let task = task_of target.entry.job.now in AreSaidAndWritten W.contents V.contents
+        (AreBytesSaid (F.known files.now) task target.entry.heading target.entry.path.now «data».items)
+        task (record { out = W.contents out; err = V.contents err }) result }
+{
+    if is_archive(target.job, front_in(data.as_slice())) {
+        run_archive(alloc, target, files, data.as_slice(), out, err)
+    } else {
+        run_one(alloc, target, files, data, out, err)
+    }
+}
+
+// The same of the bytes of one file.
+fn run_one<F: Files, W: Write, V: Write>(
+    alloc: Global,
+    target: Target<'_>,
+    files: &F,
+    data: Vec<u8>,
+    out: W,
+    err: V,
+) -> Ended<W, V>
+    ensures { let task = task_of target.entry.job.now in IsSaidAndWritten W.contents V.contents
         (IsElfSaid (IsContentSaid (F.known files.now) task.command task target.entry.path.now) «data».items)
-        task target.entry.heading target.entry.path.now (W.contents out) result }
+        task target.entry.heading target.entry.path.now
+        (record { out = W.contents out; err = V.contents err }) result }
 {
     let front = front_in(data.as_slice());
     if is_elf(front) {
@@ -347,9 +398,10 @@ fn run_content<F: Files, W: Write, V: Write>(
     out: W,
     err: V,
 ) -> Ended<W, V>
-    ensures { let task = task_of target.entry.job.now in IsSaidAndWritten W.contents
+    ensures { let task = task_of target.entry.job.now in IsSaidAndWritten W.contents V.contents
         (IsContentSaid (F.known files.now) task.command task target.entry.path.now «data».items)
-        task target.entry.heading target.entry.path.now (W.contents out) result }
+        task target.entry.heading target.entry.path.now
+        (record { out = W.contents out; err = V.contents err }) result }
 {
     match target.job.command {
         Command::Tree => target.say_program(alloc, files, data, out, err),
@@ -366,9 +418,10 @@ fn run_command<F: Files, W: Write, V: Write>(
     out: W,
     err: V,
 ) -> Ended<W, V>
-    ensures { let task = task_of target.entry.job.now in IsFileEnded W.contents (F.known files.now)
+    ensures { let task = task_of target.entry.job.now in IsFileEnded W.contents V.contents (F.known files.now)
         (IsContentSaid (F.known files.now) task.command task target.entry.path.now)
-        task target.entry.heading target.entry.path.now (W.contents out) result }
+        task target.entry.heading target.entry.path.now
+        (record { out = W.contents out; err = V.contents err }) result }
 {
     match target.job.command {
         Command::Tree => run_tree(alloc, target, files, out, err),
@@ -385,10 +438,11 @@ fn run_tree<F: Files, W: Write, V: Write>(
     out: W,
     err: V,
 ) -> Ended<W, V>
-    ensures { target.entry.job.now.command ≡ Command.Tree → IsFileEnded W.contents (F.known files.now)
-        (λ bytes said. IsProgramSaid (F.known files.now) Command.Tree (task_of target.entry.job.now)
-        target.entry.path.now bytes said)
-        (task_of target.entry.job.now) target.entry.heading target.entry.path.now (W.contents out) result }
+    ensures { target.entry.job.now.command ≡ Command.Tree → IsFileEnded W.contents V.contents (F.known files.now)
+        (λ bytes named said. IsProgramSaid (F.known files.now) Command.Tree (task_of target.entry.job.now)
+        target.entry.path.now bytes named said)
+        (task_of target.entry.job.now) target.entry.heading target.entry.path.now
+        (record { out = W.contents out; err = V.contents err }) result }
 {
     match open_program(alloc, target.path, files) {
         Some(program) => target.say_named(alloc, files, program, out, err),
@@ -413,10 +467,11 @@ fn run_program<F: Files, W: Write, V: Write>(
     out: W,
     err: V,
 ) -> Ended<W, V>
-    ensures { IsFileEnded W.contents (F.known files.now)
-        (λ bytes said. IsProgramSaid (F.known files.now) target.entry.job.now.command (task_of target.entry.job.now)
-        target.entry.path.now bytes said)
-        (task_of target.entry.job.now) target.entry.heading target.entry.path.now (W.contents out) result }
+    ensures { IsFileEnded W.contents V.contents (F.known files.now)
+        (λ bytes named said. IsProgramSaid (F.known files.now) target.entry.job.now.command (task_of target.entry.job.now)
+        target.entry.path.now bytes named said)
+        (task_of target.entry.job.now) target.entry.heading target.entry.path.now
+        (record { out = W.contents out; err = V.contents err }) result }
 {
     match files.read(target.path) {
         Ok(data) => target.say_program(alloc, files, data, out, err),
@@ -435,9 +490,10 @@ fn run_file<F: Files, W: Write, V: Write>(
     out: W,
     err: V,
 ) -> Ended<W, V>
-    ensures { IsFileEnded W.contents (F.known files.now)
-        (λ bytes said. IsBytesSaid (task_of target.entry.job.now) target.entry.path.now bytes said)
-        (task_of target.entry.job.now) target.entry.heading target.entry.path.now (W.contents out) result }
+    ensures { IsFileEnded W.contents V.contents (F.known files.now)
+        (λ bytes named said. IsBytesSaid (task_of target.entry.job.now) target.entry.path.now bytes named said)
+        (task_of target.entry.job.now) target.entry.heading target.entry.path.now
+        (record { out = W.contents out; err = V.contents err }) result }
 {
     match files.open(target.path) {
         Some(source) => match list_source(alloc, target, source, out, err) {
@@ -456,9 +512,10 @@ fn run_whole<F: Files, W: Write, V: Write>(
     out: W,
     err: V,
 ) -> Ended<W, V>
-    ensures { IsFileEnded W.contents (F.known files.now)
-        (λ bytes said. IsBytesSaid (task_of target.entry.job.now) target.entry.path.now bytes said)
-        (task_of target.entry.job.now) target.entry.heading target.entry.path.now (W.contents out) result }
+    ensures { IsFileEnded W.contents V.contents (F.known files.now)
+        (λ bytes named said. IsBytesSaid (task_of target.entry.job.now) target.entry.path.now bytes named said)
+        (task_of target.entry.job.now) target.entry.heading target.entry.path.now
+        (record { out = W.contents out; err = V.contents err }) result }
 {
     match files.read(target.path) {
         Ok(bytes) => run_bytes(alloc, target, bytes.as_slice(), out, err),
@@ -469,6 +526,27 @@ fn run_whole<F: Files, W: Write, V: Write>(
     }
 }
 
+/// The same of a member of an archive.
+pub(crate) fn run_slice<W: Write, V: Write>(
+    alloc: Global,
+    target: Target<'_>,
+    bytes: &[u8],
+    out: W,
+    err: V,
+) -> Ended<W, V>
+    ensures { let task = task_of target.entry.job.now in IsSaidAndWritten W.contents V.contents
+        (IsElfSaid (IsBytesSaid task target.entry.path.now) bytes.now)
+        task target.entry.heading target.entry.path.now
+        (record { out = W.contents out; err = V.contents err }) result }
+{
+    let front = front_in(bytes);
+    if is_elf(front) {
+        run_bytes(alloc, target, bytes, out, err)
+    } else {
+        target.say_problem(alloc, not_elf(front), out, err)
+    }
+}
+
 fn run_bytes<W: Write, V: Write>(
     alloc: Global,
     target: Target<'_>,
@@ -476,8 +554,9 @@ fn run_bytes<W: Write, V: Write>(
     out: W,
     err: V,
 ) -> Ended<W, V>
-    ensures { IsSaidAndWritten W.contents (IsBytesSaid (task_of target.entry.job.now) target.entry.path.now bytes.now)
-        (task_of target.entry.job.now) target.entry.heading target.entry.path.now (W.contents out) result }
+    ensures { IsSaidAndWritten W.contents V.contents (IsBytesSaid (task_of target.entry.job.now) target.entry.path.now bytes.now)
+        (task_of target.entry.job.now) target.entry.heading target.entry.path.now
+        (record { out = W.contents out; err = V.contents err }) result }
 {
     match ElfBytes::<AnyEndian>::minimal_parse(bytes) {
         Ok(file) => list_bytes(alloc, target, bytes, &file, None, out, err),
@@ -495,10 +574,11 @@ fn run_unopened<W: Write, V: Write>(
     out: W,
     err: V,
 ) -> Ended<W, V>
-    ensures { let task = task_of target.entry.job.now in IsSaidAndWritten W.contents
+    ensures { let task = task_of target.entry.job.now in IsSaidAndWritten W.contents V.contents
         (IsUnopenedSaid task.command task target.entry.path.now bytes.now error
         (opened_by_segments any_is_little any_of_byte bytes.now))
-        task target.entry.heading target.entry.path.now (W.contents out) result }
+        task target.entry.heading target.entry.path.now
+        (record { out = W.contents out; err = V.contents err }) result }
 {
     if matches!(target.job.command, Command::Check) {
         return target.say_problem(alloc, Fault::Read(error), out, err);

@@ -4,6 +4,7 @@ ghost use Rattle.std.specs.Prelude.{None};
 use crate::files::Files;
 use crate::opening::Opening;
 use elf::{FileSource, abi};
+use elf_archive::archive::thinness;
 use elf_linking::tree::Libraries;
 use std::alloc::{AllocError, Global};
 use std::fs::File;
@@ -101,12 +102,12 @@ fn read_regular(rt: &HostRuntime, path: &str) -> io::Result<Option<Vec<u8>>> {
     }
 }
 
-// Reads a pipe up to where its writer closes it. Of one that does not begin as an ELF file only the first bytes are
-// read, since nothing else is asked of it, and it may have no end.
+// Reads a pipe up to where its writer closes it. Of one that begins neither as an ELF file nor as an archive only the
+// first bytes are read, since nothing else is asked of it, and it may have no end.
 fn read_pipe<R: Read + Drop>(alloc: Global, mut pipe: R) -> io::Result<Vec<u8>> {
     let mut data = Vec::new(alloc);
     pipe.by_ref().take(FRONT).read_to_end(&mut data)?;
-    if data.starts_with(&abi::ELFMAGIC) {
+    if data.starts_with(&abi::ELFMAGIC) || thinness(data.as_slice()).is_some() {
         pipe.read_to_end(&mut data)?;
     }
     Ok(data)

@@ -6,3 +6,4 @@ pub mod Viewed
 pub mod Numbers
 mod NoteEnds
 mod PartViews
+mod Hardened

@@ -8,6 +8,7 @@ use Rattle.nugwier_listing.specs.Check.{IsCheckSaid}
 use Rattle.nugwier_listing.specs.Contents.{said_of_contents}
 use Rattle.nugwier_listing.specs.Dynamic.{said_of_entries, said_of_needed}
 use Rattle.nugwier_report.specs.Header.{header_said}
+use Rattle.nugwier_listing.specs.Hardening.{said_of_hardening}
 use Rattle.nugwier_listing.specs.Identity.{said_of_identity}
 use Rattle.nugwier_listing.specs.Notes.{said_of_notes}
 use Rattle.nugwier_listing.specs.Plan.{IsPlanSaid}
@@ -21,7 +22,7 @@ use Rattle.nugwier_listing.specs.declared.list.ListedPart.TheVariants as part
 use Rattle.nugwier_report.specs.Said.{Said}
 use Rattle.nugwier_words.specs.Words.{Task}
 use Rattle.nugwier_words.specs.declared.words.Command.{Command}
-use Rattle.nugwier_words.specs.declared.words.Command.TheVariants.{Address, Bindings, BuildId, Check, Exports}
+use Rattle.nugwier_words.specs.declared.words.Command.TheVariants.{Address, Bindings, BuildId, Check, Exports, Harden}
 use Rattle.nugwier_words.specs.declared.words.Command.TheVariants.{List as ListCommand, Needed, Plan, Symbols, Tree}
 use Rattle.nugwier_words.specs.declared.words.Parts.{Parts}
 
@@ -69,6 +70,8 @@ module _ {E : Type 0} (little : E → Bool) where
     IsSaidBy BuildId task path header file said = said ≡ said_of_identity file
     IsSaidBy Plan task path header file said = IsPlanSaid file said
     IsSaidBy Check task path header file said = IsCheckSaid little of_byte path file said
+    IsSaidBy Harden task path header file said =
+        said ≡ said_of_hardening path task.requirements header.e_type header.e_machine file
     IsSaidBy Address task path header file said = AreAddressesSaid task.addresses file said
     IsSaidBy Tree task path header file said = said ≡ []
     IsSaidBy Bindings task path header file said = said ≡ []

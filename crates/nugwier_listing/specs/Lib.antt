@@ -27,6 +27,8 @@ pub mod Relocations
 pub mod Check
 -- the content of sections
 pub mod Contents
+-- how a file is hardened
+pub mod Hardening
 pub mod Job
 -- the notes
 pub mod Notes

@@ -11,6 +11,8 @@ pub mod Relocations
 -- the content that was taken
 pub mod Contents
 pub mod Job
+-- how a file is hardened
+pub mod Hardening
 -- the notes that were taken
 pub mod Notes
 -- the versions that were taken

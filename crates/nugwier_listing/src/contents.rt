@@ -134,7 +134,7 @@ fn section_of<E: EndianParse, R: ListedFile<E>>(
 }
 
 // The first section of a name, with its number, if there are names.
-fn first_named(
+pub(crate) fn first_named(
     sections: &[SectionHeader],
     names: &Option<TerminatedStrings<'_>>,
     name: &str,

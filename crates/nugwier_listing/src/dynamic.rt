@@ -27,9 +27,9 @@ use std::io::Write;
 /// Dynamic entries, and the strings that they name.
 #[derive(Debug, Drop)]
 pub struct DynamicEntries<'f> {
-    machine: u16,
-    entries: Vec<Dyn>,
-    strings: Result<&'f [u8], NamesError>,
+    pub(crate) machine: u16,
+    pub(crate) entries: Vec<Dyn>,
+    pub(crate) strings: Result<&'f [u8], NamesError>,
 }
 
 /// The dynamic entries of a file, if it has any.
@@ -122,7 +122,7 @@ fn say_names<W: Write, V: Write>(
 }
 
 // The strings, or the problem that they cannot be found.
-fn found_strings<'f, W: Write, V: Write>(
+pub(crate) fn found_strings<'f, W: Write, V: Write>(
     strings: Result<&'f [u8], NamesError>,
     report: &mut Report<'_, W, V>,
 ) -> Result<Option<TerminatedStrings<'f>>, Stop>

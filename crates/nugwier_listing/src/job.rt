@@ -9,6 +9,7 @@ ghost use Rattle.nugwier_words.specs.Words.{task_of};
 use crate::addresses::{say_addresses, take_all_symbols};
 use crate::check::{Checked, say_check, take_check};
 use crate::dynamic::{FoundEntries, say_needed, take_dynamic};
+use crate::hardening::{HardeningTables, say_hardened, take_hardening};
 use crate::identity::say_identity;
 use crate::list::{ListTables, say_list, take_list};
 use crate::listed::ListedFile;
@@ -34,6 +35,7 @@ pub enum JobTables<'f, 'w, E: EndianParse> {
     BuildId(Result<Option<&'f [u8]>, ParseError>),
     Plan(Result<Vec<Mapping>, PlanError>),
     Check(Checked),
+    Hardening(HardeningTables<'f, 'w, E>),
     Address(FoundSymbols<'f, E>),
     /// Nothing is said of one file.
     Nothing,
@@ -59,6 +61,7 @@ pub fn take_job<'f, 'w, E: EndianParse, R: ListedFile<E>>(
         Command::BuildId => Ok(JobTables::BuildId(taking::build_id(file)?)),
         Command::Plan => Ok(JobTables::Plan(take_plan(alloc, file)?)),
         Command::Check => Ok(JobTables::Check(take_check(alloc, file)?)),
+        Command::Harden => Ok(JobTables::Hardening(take_hardening(alloc, job, file)?)),
         Command::Address => Ok(JobTables::Address(take_all_symbols(file)?)),
         Command::Tree | Command::Bindings => Ok(JobTables::Nothing),
     }
@@ -83,6 +86,7 @@ pub fn say_job<E: EndianParse, W: Write, V: Write>(
         JobTables::BuildId(found) => say_identity(found, report),
         JobTables::Plan(planned) => say_plan(planned, report),
         JobTables::Check(checked) => say_check(alloc, path, checked, report),
+        JobTables::Hardening(tables) => say_hardened(alloc, path, tables, report),
         JobTables::Address(symbols) => {
             say_addresses(alloc, symbols, job.addresses.as_slice(), report)
         }

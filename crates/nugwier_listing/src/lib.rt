@@ -6,6 +6,7 @@ mod addresses;
 mod check;
 mod contents;
 mod dynamic;
+mod hardening;
 mod headings;
 mod identity;
 pub mod in_memory;

@@ -19,6 +19,8 @@ use Rattle.elf_linking.specs.declared.bindings.kinds.SymbolBinding.{SymbolBindin
 use Rattle.nugwier_report.specs.Bindings.{BoundSymbol}
 use Rattle.nugwier_report.specs.Said.{Said, Telling, saying}
 use Rattle.nugwier_programs.specs.Tree.{Listed, after_it, cached_in, first_by, walk}
+use Rattle.elf_linking.specs.SymbolUses.{uses_at}
+use Rattle.elf_linking.specs.declared.bindings.uses.SymbolUses.{SymbolUses}
 use Rattle.nugwier_programs.specs.Symbols.{one_said, symbol_of, symbol_said}
 use Rattle.nugwier_programs.specs.inner.Walk.{AreFirsts, listed_view, stack_view, with_first}
 use Rattle.nugwier_programs.specs.declared.tree.Listed.{Listed as Given}
@@ -177,9 +179,12 @@ flat_more f xs x = flat_map-append f xs (x ∷ []) ∙ ap (λ (t : List _). flat
 -- ---- symbols
 
 -- of one symbol more, with what it binds to
-pub one_more : (paths : List (List ℕ)) (objects : List VersionedObject) (path strings : List ℕ) (versions : Option Versions) (bound : List ((ℕ × Symbol) × SymbolBinding)) (k : ℕ) (d : (ℕ × Symbol) × SymbolBinding)
-    (symbol : BoundSymbol) (r now whole : Telling) → k < length bound → symbol ≡ symbol_of path strings versions (get_or bound k d).0 → now ≡ saying r (symbol_said paths objects symbol (get_or bound k d).1) →
-    saying r (flat_map (one_said paths objects path strings versions) (drop k bound)) ≡ whole → saying now (flat_map (one_said paths objects path strings versions) (drop (k + 1) bound)) ≡ whole
-one_more paths objects path strings versions bound k d symbol r now whole less is said before =
-    say_first (one_said paths objects path strings versions) r now (get_or bound k d) (drop (k + 1) bound) (drop k bound) (drop_more bound k d less)
-    (said ∙ ap (λ (s : BoundSymbol). saying r (symbol_said paths objects s (get_or bound k d).1)) is) ∙ before
+pub one_more : (paths : List (List ℕ)) (objects : List VersionedObject) (path strings : List ℕ) (versions : Option Versions) (all : List SymbolUses) (bound : List ((ℕ × Symbol) × SymbolBinding)) (k : ℕ) (d : (ℕ × Symbol) × SymbolBinding)
+    (symbol : BoundSymbol) (uses : SymbolUses) (r now whole : Telling) → k < length bound → symbol ≡ symbol_of path strings versions (get_or bound k d).0 → uses ≡ uses_at all (get_or bound k d).0.0
+    → now ≡ saying r (symbol_said paths objects symbol uses (get_or bound k d).1) →
+    saying r (flat_map (one_said paths objects path strings versions all) (drop k bound)) ≡ whole → saying now (flat_map (one_said paths objects path strings versions all) (drop (k + 1) bound)) ≡ whole
+one_more paths objects path strings versions all bound k d symbol uses r now whole less is used said before =
+    let one = get_or bound k d in
+    say_first (one_said paths objects path strings versions all) r now one (drop (k + 1) bound) (drop k bound) (drop_more bound k d less)
+    (said ∙ ap (λ (u : SymbolUses). saying r (symbol_said paths objects symbol u one.1)) used
+    ∙ ap (λ (s : BoundSymbol). saying r (symbol_said paths objects s (uses_at all one.0.0) one.1)) is) ∙ before

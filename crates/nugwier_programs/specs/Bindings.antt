@@ -149,7 +149,7 @@ module _ {C : Type 0} (view : C → VersionedObject) (scope : List C) (paths : L
       (uses : List SymbolUses) × AreUses read uses × (bindings : List SymbolBinding)
       × AreAllBound view scope symbols.1 versions uses (looked_up symbols.0 uses) bindings
       × (said ≡ uses_problem path read
-      ++ symbols_said paths objects path symbols.1 versions (zip (looked_up symbols.0 uses) bindings))
+      ++ symbols_said paths objects path symbols.1 versions uses (zip (looked_up symbols.0 uses) bindings))
 
 -- ---- all files
 

@@ -16,6 +16,8 @@ use Rattle.elf_linking.specs.declared.bindings.Bound.TheVariants as bound
 use Rattle.elf_linking.specs.declared.bindings.kinds.SymbolBinding.{SymbolBinding}
 use Rattle.elf_linking.specs.declared.bindings.kinds.SymbolFault.{SymbolFault}
 use Rattle.elf_linking.specs.declared.bindings.kinds.SymbolFault.TheVariants.{Name, Object, Version}
+use Rattle.elf_linking.specs.SymbolUses.{uses_at}
+use Rattle.elf_linking.specs.declared.bindings.uses.SymbolUses.{SymbolUses}
 use Rattle.nugwier_report.specs.Bindings.{BoundSymbol, Missing, Target, ToSymbol, Unknown, Weak, binding_said}
 use Rattle.nugwier_report.specs.Said.{Said, whole, wrong}
 use Rattle.nugwier_report.specs.declared.bindings.Place.{Place}
@@ -96,16 +98,20 @@ address_place None address = First
 
 -- ---- what is said of a symbol
 
+-- the kind of references that look-ups for calls are made for; none if no relocation names the symbol
+abbrev pub calls_word : SymbolUses → Option (List ℕ)
+calls_word uses = if uses.jump_slot then Some (codes "jump_slot") else None
+
 module _ (paths : List (List ℕ)) (objects : List VersionedObject) (symbol : BoundSymbol) where
-  abbrev pub reference_said : Place → List ℕ → Option Outcome → List Said
+  abbrev pub reference_said : Place → Option (List ℕ) → Option Outcome → List Said
   reference_said place reference (Some outcome) = binding_said symbol place reference (target_of paths objects outcome)
   reference_said place reference None = []
 
-  abbrev pub symbol_said : SymbolBinding → List Said
-  symbol_said binding =
-      reference_said First (codes "jump_slot") binding.jump_slot
-      ++ reference_said (address_place binding.jump_slot binding.address) (codes "address") binding.address
-      ++ reference_said First (codes "copy") binding.copied
+  abbrev pub symbol_said : SymbolUses → SymbolBinding → List Said
+  symbol_said uses binding =
+      reference_said First (calls_word uses) binding.jump_slot
+      ++ reference_said (address_place binding.jump_slot binding.address) (Some (codes "address")) binding.address
+      ++ reference_said First (Some (codes "copy")) binding.copied
 
 -- ---- what is wrong with it
 
@@ -146,9 +152,10 @@ one_problems paths path strings versions bound =
     symbol_problems paths (symbol_of path strings versions bound.0) bound.1
 
 module _ (paths : List (List ℕ)) (objects : List VersionedObject) (path strings : List ℕ)
-    (versions : Option Versions) where
+    (versions : Option Versions) (uses : List SymbolUses) where
   abbrev pub one_said : (ℕ × Symbol) × SymbolBinding → List Said
-  one_said bound = symbol_said paths objects (symbol_of path strings versions bound.0) bound.1
+  one_said bound =
+      symbol_said paths objects (symbol_of path strings versions bound.0) (uses_at uses bound.0.0) bound.1
 
   abbrev pub symbols_said : List ((ℕ × Symbol) × SymbolBinding) → List Said
   symbols_said bound = flat_map one_said bound ++ flat_map (one_problems paths path strings versions) bound

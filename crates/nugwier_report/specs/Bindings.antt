@@ -45,14 +45,14 @@ abbrev pub target_version : Target → Option Version
 target_version (ToSymbol path index version) = version
 target_version _ = None
 
--- references of a kind to a symbol, and what they bind to
-abbrev pub binding_members : BoundSymbol → List ℕ → Target → Members
+-- references of a kind to a symbol, none if no relocation names it, and what they bind to
+abbrev pub binding_members : BoundSymbol → Option (List ℕ) → Target → Members
 binding_members symbol reference target =
     (codes "object", text (Some symbol.path))
     ∷ (codes "index", number symbol.index)
     ∷ (codes "name", text symbol.name)
     ∷ (codes "version", text symbol.version)
-    ∷ (codes "reference", word (Some reference))
+    ∷ (codes "reference", word reference)
     ∷ (codes "result", word (Some (target_word target)))
     ∷ (codes "path", text (target_path target))
     ∷ (codes "symbol", target_index target)
@@ -68,7 +68,7 @@ binding_kind place.Elsewhere (ToSymbol path index version) = kind.BoundAddress
 binding_kind place.Elsewhere _ = kind.UnboundAddress
 binding_kind place.Same _ = kind.SameAddress
 
-abbrev pub binding_said : BoundSymbol → Place → List ℕ → Target → List Said
+abbrev pub binding_said : BoundSymbol → Place → Option (List ℕ) → Target → List Said
 binding_said symbol place reference target =
     states (binding_kind place target) (binding_members symbol reference target) ∷ []
 

@@ -38,6 +38,8 @@ pub mod VersionRecords
 pub mod Dynamic
 pub mod Relocations
 pub mod Verdicts
+-- how a file is hardened
+pub mod Hardening
 -- the objects of a program, and what their symbols bind to
 pub mod Objects
 pub mod Bindings

@@ -10,6 +10,7 @@ use Rattle.elfshow_lines.specs.Pieces.{◌⧺◌, hex, newline}
 use Rattle.nugwier_report.specs.ErrorTexts.{DIGITS_of, digits_of, file_text, linked_text, number, object_text, plan_text}
 use Rattle.nugwier_report.specs.ErrorTexts.{read_text, section_text, uses_text, words}
 use Rattle.nugwier_report.specs.Escape.{shown_bytes}
+use Rattle.nugwier_report.specs.Hardening.{lack_text}
 use Rattle.nugwier_report.specs.Labels.{Named, label_of}
 use Rattle.nugwier_report.specs.Parts.{tag_name}
 use Rattle.nugwier_report.specs.Said.{Said, states, wrong}
@@ -109,6 +110,7 @@ fault_text (fault.NoSection name) = words (codes "no section ") ++? quoted name
 fault_text (fault.Plan e) = plan_text e
 fault_text (fault.Section f) = section_text f
 fault_text (fault.File f) = file_text f
+fault_text (fault.Lacks requirement) = words (lack_text requirement)
 fault_text (fault.NotFound name path) =
     quoted name ++? words (codes ", which ") ++? quoted path ++? words (codes " needs, is not found")
 fault_text (fault.Names path e) = words (codes "names of ") ++? quoted path ++? words (codes ": ") ++? names_text e

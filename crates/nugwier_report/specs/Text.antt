@@ -82,23 +82,27 @@ shown_addend addend symbol = []
 
 -- ---- names
 
--- the number of a value that has no name
-abbrev pub nameless_signed : ℤ → List ℕ
-nameless_signed (pos n) = hex n
-nameless_signed (negsuc n) = signed_decimal (negsuc n)
+-- the characters of a name, with spaces after them
+abbrev pub left_of : ℕ → List ℕ → List ℕ
+left_of width name = shown_bytes name ⧺ replicate (width - length name) 32
 
-abbrev pub shown_nameless : Content → List ℕ
-shown_nameless (number n) = hex n
-shown_nameless (signed n) = nameless_signed n
-shown_nameless _ = codes "-"
+-- the number of a value that has no name; in a column as at least 8 digits, with spaces after them
+unfoldable pub nameless_number : ℕ → ℕ → List ℕ
+nameless_number width n = if width == 0 then hex n else codes "0x" ⧺ wide n ⧺ replicate (width - 10) 32
 
-abbrev pub shown_name : ℕ → Content → Content → List ℕ
-shown_name width (word (Some name)) n = name ⧺ replicate (width - length name) 32
-shown_name width _ n = shown_nameless n
+abbrev pub nameless_signed : ℕ → ℤ → List ℕ
+nameless_signed width (pos n) = nameless_number width n
+nameless_signed width (negsuc n) = signed_decimal (negsuc n)
 
-abbrev pub shown_rest : ℕ → Content → List ℕ
-shown_rest count (word (Some name)) = shown_bytes (drop count name)
-shown_rest count _ = codes "-"
+abbrev pub shown_nameless : ℕ → Content → List ℕ
+shown_nameless width (number n) = nameless_number width n
+shown_nameless width (signed n) = nameless_signed width n
+shown_nameless width _ = codes "-"
+
+-- a name without its first bytes, or the number
+abbrev pub shown_name : ℕ → ℕ → Content → Content → List ℕ
+shown_name skipped width (word (Some name)) n = left_of width (drop skipped name)
+shown_name skipped width _ n = shown_nameless width n
 
 -- the characters of a name, with spaces before them
 abbrev pub right_of : ℕ → List ℕ → List ℕ
@@ -130,6 +134,11 @@ text_or_mark None = codes "<unreadable>"
 
 abbrev pub shown_text : Content → List ℕ
 shown_text c = text_or_mark (text_in c)
+
+-- the same, with spaces after it
+abbrev pub shown_padded : ℕ → Option (List ℕ) → List ℕ
+shown_padded width (Some t) = left_of width t
+shown_padded width None = left_of width (codes "<unreadable>")
 
 abbrev pub at_signs : Content → List ℕ
 at_signs (flag true) = codes "@@"
@@ -194,10 +203,10 @@ content_at members place = content_of_one (slice_get members place)
 
 abbrev pub shown : Shown → Content → Members → List ℕ
 shown (shows.Addend symbol) c members = shown_addend c (content_at members symbol)
-shown (shows.Name width n) c members = shown_name width c (content_at members n)
-shown (shows.Rest count) c members = shown_rest count c
+shown (shows.Name skipped width n) c members = shown_name skipped width c (content_at members n)
 shown (shows.Index width n) c members = shown_index width c (content_at members n)
 shown shows.Text c members = shown_text c
+shown (shows.Padded width) c members = shown_padded width (text_in c)
 shown (shows.Version place) c members = shown_version c (content_at members place)
 shown (shows.Flags count) c members = shown_flags count c
 shown shows.Character c members = shown_character c

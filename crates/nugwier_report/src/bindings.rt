@@ -120,16 +120,17 @@ impl<'a> Target<'a> {
     }
 }
 
-/// Says what references of a kind to a symbol bind to. The only error is that of the writer.
+/// Says what references of a kind to a symbol bind to; of no kind if no relocation names it. The only error is that of
+/// the writer.
 pub fn say_binding<W: Write, V: Write>(
     symbol: &BoundSymbol<'_>,
     place: Place,
-    reference: &'static str,
+    reference: Option<&'static str>,
     target: &Target<'_>,
     report: &mut Report<'_, W, V>,
 ) -> Result<(), Stop>
     ensures { OnOk result (report.new
-        ≡ saying report.old (binding_said (bound_view symbol.now) place reference.now (target_view target.now))) }
+        ≡ saying report.old (binding_said (bound_view symbol.now) place (option_copied reference.entry) (target_view target.now))) }
 {
     let members = binding_members(symbol, reference, target);
     report.state(target.kind(place), &members)
@@ -137,10 +138,10 @@ pub fn say_binding<W: Write, V: Write>(
 
 fn binding_members<'a>(
     symbol: &BoundSymbol<'a>,
-    reference: &'static str,
+    reference: Option<&'static str>,
     target: &Target<'a>,
 ) -> [Member<'a>; 10]
-    ensures { members_said result ≡ binding_members (bound_view symbol.now) reference.now (target_view target.now) }
+    ensures { members_said result ≡ binding_members (bound_view symbol.now) (option_copied reference.entry) (target_view target.now) }
 {
     let (word, path, index, version, is_default) = target.parts();
     [
@@ -148,7 +149,7 @@ fn binding_members<'a>(
         ("index", Value::Number(symbol.index as u64)),
         ("name", Value::Text(symbol.name)),
         ("version", Value::Text(symbol.version)),
-        ("reference", Value::Word(Some(reference))),
+        ("reference", Value::Word(reference)),
         ("result", Value::Word(Some(word))),
         ("path", Value::Text(path)),
         ("symbol", index),

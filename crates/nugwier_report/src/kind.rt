@@ -7,7 +7,7 @@ ghost use Rattle.nugwier_report.specs.Kinds.{layout_of};
 use crate::text::Column;
 use crate::text::Shown::{
     Addend, Character, Decimal, Depth, Digits8, Digits16, Dump, Flags, Hexadecimal, Index, Name,
-    Order, Pairs, Rest, SectionFlags, SegmentFlags, Text, Version,
+    Order, Padded, Pairs, SectionFlags, SegmentFlags, Text, Version,
 };
 
 /// A kind of record.
@@ -117,6 +117,10 @@ pub enum Kind {
     SoundFile,
     /// That a file is sound, or one of its faults. For people a fault is a problem alone.
     Verdict,
+    /// How a file is hardened, for people, with its path.
+    HardenedFile,
+    /// How a file is hardened. For people there is a row of its own.
+    Hardening,
     /// A program, by its path.
     Program,
     /// A library that was found.
@@ -199,6 +203,8 @@ impl Kind {
             Kind::PastEnd => PAST_END,
             Kind::SoundFile => SOUND_FILE,
             Kind::Verdict => VERDICT,
+            Kind::HardenedFile => HARDENED_FILE,
+            Kind::Hardening => HARDENING,
             Kind::Program => PROGRAM,
             Kind::Library => LIBRARY,
             Kind::MissingLibrary => MISSING_LIBRARY,
@@ -233,13 +239,13 @@ File header:
   names of sections    section %
 ",
     &[
-        Column(1, Rest(8)),
-        Column(3, Name(0, 2)),
+        Column(1, Name(8, 0, 0)),
+        Column(3, Name(0, 0, 2)),
         Column(2, Order),
-        Column(5, Name(0, 4)),
+        Column(5, Name(0, 0, 4)),
         Column(6, Decimal(0)),
-        Column(8, Name(0, 7)),
-        Column(10, Name(0, 9)),
+        Column(8, Name(0, 0, 7)),
+        Column(10, Name(0, 0, 9)),
         Column(11, Decimal(0)),
         Column(12, Hexadecimal),
         Column(15, Hexadecimal),
@@ -257,7 +263,11 @@ File header:
 
 pub const SECTIONS_HEADING: Layout = (
     None,
-    "Sections:\n   nr type               address          offset   size     entsize link info align name, flags\n",
+    "\
+Sections (flags: W write, A alloc, X execute, M merge, S strings, I info,
+L link order, O of a system, G group, T thread, C compressed, R retain, l large, E exclude):
+  nr name               type          address          offset   size       es link info align flags
+",
     &[],
 );
 
@@ -265,23 +275,23 @@ pub const SECTION: Layout = (
     Some("section_header"),
     "% % % % % % % % % % %\n",
     &[
-        Column(0, Decimal(5)),
-        Column(4, Name(18, 3)),
+        Column(0, Decimal(4)),
+        Column(2, Padded(18)),
+        Column(4, Name(4, 13, 3)),
         Column(7, Digits16),
         Column(8, Digits8),
         Column(9, Digits8),
-        Column(13, Decimal(7)),
+        Column(13, Decimal(4)),
         Column(10, Decimal(4)),
         Column(11, Decimal(4)),
         Column(12, Decimal(5)),
-        Column(2, Text),
         Column(5, SectionFlags),
     ],
 );
 
 pub const SEGMENTS_HEADING: Layout = (
     None,
-    "Segments:\n   nr type               offset   address          physical address file size memory   flags align\n",
+    "Segments:\n  nr type          offset   address          physical address file size memory   flags align\n",
     &[],
 );
 
@@ -289,8 +299,8 @@ pub const SEGMENT: Layout = (
     Some("program_header"),
     "% % % % % %  % %   %\n",
     &[
-        Column(0, Decimal(5)),
-        Column(2, Name(18, 1)),
+        Column(0, Decimal(4)),
+        Column(2, Name(3, 13, 1)),
         Column(5, Digits8),
         Column(6, Digits16),
         Column(7, Digits16),
@@ -303,13 +313,13 @@ pub const SEGMENT: Layout = (
 
 pub const SYMBOLS_HEADING: Layout = (
     None,
-    "Symbols:\n    nr value                size type          binding    visibility    section name\n",
+    "Symbols:\n    nr value                size type       binding    visibility section name\n",
     &[],
 );
 
 pub const DYNAMIC_SYMBOLS_HEADING: Layout = (
     None,
-    "Symbols for dynamic linking:\n    nr value                size type          binding    visibility    section name\n",
+    "Symbols for dynamic linking:\n    nr value                size type       binding    visibility section name\n",
     &[],
 );
 
@@ -320,9 +330,9 @@ pub const SYMBOL: Layout = (
         Column(1, Decimal(6)),
         Column(14, Digits16),
         Column(15, Decimal(8)),
-        Column(8, Name(13, 7)),
-        Column(6, Name(10, 5)),
-        Column(11, Name(13, 10)),
+        Column(8, Name(4, 10, 7)),
+        Column(6, Name(4, 10, 5)),
+        Column(11, Name(4, 10, 10)),
         Column(13, Index(7, 12)),
         Column(3, Text),
         Column(16, Version(17)),
@@ -369,7 +379,7 @@ pub const EXPORT: Layout = (
 
 pub const ENTRIES_HEADING: Layout = (
     None,
-    "Dynamic entries:\n   nr tag                  value, string\n",
+    "Dynamic entries:\n  nr tag             value, string\n",
     &[],
 );
 
@@ -377,8 +387,8 @@ pub const ENTRY: Layout = (
     Some("dynamic"),
     "% % %\n",
     &[
-        Column(0, Decimal(5)),
-        Column(2, Name(20, 1)),
+        Column(0, Decimal(4)),
+        Column(2, Name(3, 15, 1)),
         Column(3, Hexadecimal),
     ],
 );
@@ -387,8 +397,8 @@ pub const NAMED_ENTRY: Layout = (
     Some("dynamic"),
     "% % %  %\n",
     &[
-        Column(0, Decimal(5)),
-        Column(2, Name(20, 1)),
+        Column(0, Decimal(4)),
+        Column(2, Name(3, 15, 1)),
         Column(3, Hexadecimal),
         Column(5, Text),
     ],
@@ -399,8 +409,8 @@ pub const FLAGS_ENTRY: Layout = (
     Some("dynamic"),
     "% % %%\n",
     &[
-        Column(0, Decimal(5)),
-        Column(2, Name(20, 1)),
+        Column(0, Decimal(4)),
+        Column(2, Name(3, 15, 1)),
         Column(3, Hexadecimal),
         Column(4, Flags(3)),
     ],
@@ -411,8 +421,8 @@ pub const FLAGS_1_ENTRY: Layout = (
     Some("dynamic"),
     "% % %%\n",
     &[
-        Column(0, Decimal(5)),
-        Column(2, Name(20, 1)),
+        Column(0, Decimal(4)),
+        Column(2, Name(3, 15, 1)),
         Column(3, Hexadecimal),
         Column(4, Flags(5)),
     ],
@@ -440,7 +450,7 @@ pub const RELOCATION: Layout = (
     &[
         Column(1, Decimal(6)),
         Column(2, Digits16),
-        Column(8, Name(22, 7)),
+        Column(8, Name(0, 22, 7)),
         Column(4, Text),
         Column(5, Version(6)),
         Column(9, Addend(3)),
@@ -453,9 +463,9 @@ pub const MIPS_RELOCATION: Layout = (
     &[
         Column(1, Decimal(6)),
         Column(2, Digits16),
-        Column(8, Name(0, 7)),
-        Column(13, Name(0, 12)),
-        Column(15, Name(0, 14)),
+        Column(8, Name(0, 0, 7)),
+        Column(13, Name(0, 0, 12)),
+        Column(15, Name(0, 0, 14)),
         Column(4, Text),
         Column(5, Version(6)),
         Column(9, Addend(3)),
@@ -484,7 +494,7 @@ pub const ABI_TAG_NOTE: Layout = (
     Some("note"),
     "  GNU ABI tag   % %.%.%\n",
     &[
-        Column(6, Name(0, 5)),
+        Column(6, Name(0, 0, 5)),
         Column(7, Decimal(0)),
         Column(8, Decimal(0)),
         Column(9, Decimal(0)),
@@ -494,7 +504,7 @@ pub const ABI_TAG_NOTE: Layout = (
 pub const NOTE: Layout = (
     Some("note"),
     "  % %  %\n",
-    &[Column(4, Text), Column(3, Name(0, 2)), Column(5, Pairs)],
+    &[Column(4, Text), Column(3, Name(0, 0, 2)), Column(5, Pairs)],
 );
 
 pub const DEFINED_HEADING: Layout = (
@@ -577,6 +587,29 @@ pub const SOUND_FILE: Layout = (None, "%: sound\n", &[Column(0, Text)]);
 
 pub const VERDICT: Layout = (Some("check"), "", &[]);
 
+pub const HARDENED_FILE: Layout = (
+    None,
+    "%: %  relro %  %  stack %  wx %  %  fortified %  fortifiable %  rpath %  runpath %%%%\n",
+    &[
+        Column(0, Text),
+        Column(1, Name(0, 13, 1)),
+        Column(2, Name(0, 7, 2)),
+        Column(3, Name(0, 4, 3)),
+        Column(4, Name(0, 10, 4)),
+        Column(5, Decimal(0)),
+        Column(6, Name(0, 9, 6)),
+        Column(7, Decimal(0)),
+        Column(8, Decimal(0)),
+        Column(9, Text),
+        Column(10, Text),
+        Column(11, Name(0, 0, 11)),
+        Column(12, Flags(0)),
+        Column(13, Name(0, 0, 13)),
+    ],
+);
+
+pub const HARDENING: Layout = (Some("hardening"), "", &[]);
+
 pub const PROGRAM: Layout = (Some("object"), "%%\n", &[Column(0, Depth), Column(2, Text)]);
 
 pub const LIBRARY: Layout = (
@@ -603,7 +636,11 @@ pub const BOUND: Layout = (Some("binding"), "%% => %: %%\n", &BOUND_COLUMNS);
 
 pub const BOUND_ADDRESS: Layout = (Some("binding"), "%% => %: %% (address)\n", &BOUND_COLUMNS);
 
-const UNBOUND_COLUMNS: [Column; 3] = [Column(2, Text), Column(3, Version(5)), Column(5, Rest(0))];
+const UNBOUND_COLUMNS: [Column; 3] = [
+    Column(2, Text),
+    Column(3, Version(5)),
+    Column(5, Name(0, 0, 5)),
+];
 
 pub const UNBOUND: Layout = (Some("binding"), "%% => %\n", &UNBOUND_COLUMNS);
 

@@ -11,6 +11,7 @@ pub mod dynamic;
 mod error_texts;
 pub mod escape;
 pub mod formats;
+pub mod hardening;
 pub mod header;
 pub mod json;
 pub mod kind;

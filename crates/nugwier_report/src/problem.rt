@@ -8,6 +8,7 @@ use crate::error_texts::{
     FileText, LinkedText, ObjectText, PlanText, ReadText, SectionText, UsesText,
 };
 use crate::escape::Escaped;
+use crate::hardening::Requirement;
 use crate::quoted::{NamesFault, Quoted, QuotedSymbol, UnknownBinding};
 use elf_check::faults::{FileFault, SectionFault};
 use elf_dynamic::dynamic_view::DynamicError;
@@ -148,6 +149,8 @@ pub enum Fault<'a> {
     Section(SectionFault),
     /// Another fault of a file that is not sound.
     File(FileFault),
+    /// It does not meet what is required of it.
+    Lacks(Requirement),
     /// A library of this name, which the object at the second path needs, is not found.
     NotFound(Quoted<'a>, Quoted<'a>),
     /// The names of the object at this path are not available.
@@ -189,6 +192,7 @@ impl fmt::Display for Fault<'_> {
             Fault::Plan(error) => write!(f, "{}", PlanText(error)),
             Fault::Section(fault) => write!(f, "{}", SectionText(*fault)),
             Fault::File(fault) => write!(f, "{}", FileText(*fault)),
+            Fault::Lacks(requirement) => f.write_str(requirement.lack()),
             Fault::NotFound(name, path) => write!(f, "{name}, which {path} needs, is not found"),
             Fault::Names(path, error) => write!(f, "names of {path}: {error}"),
             Fault::Object(path, fault) => write!(f, "symbols of {path}: {}", ObjectText(fault)),

@@ -9,10 +9,11 @@ ghost use Rattle.elfshow_lines.specs.Adding.{Adds};
 ghost use Rattle.nugwier_report.specs.Noted.{content_of, members_said};
 ghost use Rattle.nugwier_report.specs.Text.{all_digits, ascii, ascii_text, at_signs, bytes_in, cell, content_at, dump};
 ghost use Rattle.nugwier_report.specs.Text.{dump_characters, dump_columns, dump_group, dump_line, dump_offset, is_mark};
-ghost use Rattle.nugwier_report.specs.Text.{letters_of, nameless_signed, number_text, other_flags};
+ghost use Rattle.nugwier_report.specs.Text.{left_of, letters_of, nameless_number, nameless_signed, number_text};
+ghost use Rattle.nugwier_report.specs.Text.{other_flags};
 ghost use Rattle.nugwier_report.specs.Text.{row_text, section_letter, segment_flags, segment_letter, shown, shown_addend};
 ghost use Rattle.nugwier_report.specs.Text.{shown_character, shown_decimal, shown_flag, shown_flags, shown_index, shown_name, shown_nameless};
-ghost use Rattle.nugwier_report.specs.Text.{shown_number, shown_order, shown_rest, shown_text, signed_hex};
+ghost use Rattle.nugwier_report.specs.Text.{shown_number, shown_order, shown_padded, shown_text, signed_hex};
 ghost use Rattle.nugwier_report.specs.Text.{shown_version, text_in, wide};
 
 use crate::escape::add_shown;
@@ -46,16 +47,16 @@ pub enum Shown {
     /// nothing if it is 0; without a symbol, which has number 0, as it is. A relocation without an addend has nothing
     /// there.
     Addend(usize),
-    /// A name, aligned to the left in a column of this width. A value without a name is shown as the number at this
-    /// place.
-    Name(usize, usize),
-    /// A name without this number of bytes at its start.
-    Rest(usize),
+    /// A name without this number of bytes at its start, aligned to the left in a column of this width. A value without
+    /// a name is shown as the number at this place: in hexadecimal, in a column as at least 8 digits.
+    Name(usize, usize, usize),
     /// The name of a special section number without `SHN_`, or the number at this place, aligned to the right in a
     /// column of this width.
     Index(usize, usize),
     /// A text of the file, escaped, or a mark that it cannot be read.
     Text,
+    /// The same, aligned to the left in a column of this width, in which each byte of the file counts as one character.
+    Padded(usize),
     /// A version after its symbol: `@NAME`, or `@@NAME` if the flag at this place says that it is the default one. A
     /// symbol without a version has nothing there.
     Version(usize),
@@ -149,14 +150,15 @@ fn add_value<W: Write>(
 {
     match form {
         Shown::Addend(symbol) => add_addend(value, value_at(members, symbol), lines, out),
-        Shown::Name(width, number) => {
-            add_name(width, value, value_at(members, number), lines, out);
+        Shown::Name(skipped, width, number) => {
+            let number = value_at(members, number);
+            add_name(skipped, width, value, number, lines, out);
         }
-        Shown::Rest(count) => add_rest(count, value, lines, out),
         Shown::Index(width, number) => {
             add_index(width, value, value_at(members, number), lines, out);
         }
         Shown::Text => add_text(value, lines, out),
+        Shown::Padded(width) => add_padded(width, value, lines, out),
         Shown::Version(flag) => add_version(value, value_at(members, flag), lines, out),
         Shown::Flags(count) => add_flag_names(count, value, lines, out),
         Shown::Character => add_character(value, lines, out),
@@ -262,6 +264,7 @@ fn add_signed_hex<W: Write>(plus: &str, n: i64, lines: &mut LineBuffer, out: &mu
 // ---- names
 
 fn add_name<W: Write>(
+    skipped: usize,
     width: usize,
     name: Value<'_>,
     number: Value<'_>,
@@ -269,46 +272,54 @@ fn add_name<W: Write>(
     out: &mut W,
 )
     ensures { Adds (W.contents out.old) lines.old (W.contents out.new) lines.new
-        (shown_name width (content_of name.entry) (content_of number.entry)) }
+        (shown_name skipped width (content_of name.entry) (content_of number.entry)) }
 {
     match name {
-        Value::Word(Some(name)) => {
-            lines.text(name, out);
-            add_spaces(width.saturating_sub(name.len()), lines, out);
-        }
-        _ => add_nameless(number, lines, out),
+        Value::Word(Some(name)) => add_left(width, rest_of(skipped, name.as_bytes()), lines, out),
+        _ => add_nameless(width, number, lines, out),
     }
 }
 
+// A text, and spaces after it.
+fn add_left<W: Write>(width: usize, text: &[u8], lines: &mut LineBuffer, out: &mut W)
+    ensures { Adds (W.contents out.old) lines.old (W.contents out.new) lines.new (left_of width text.now) }
+{
+    add_shown(text, lines, out);
+    add_spaces(width.saturating_sub(text.len()), lines, out);
+}
+
 // The number of a value that has no name.
-fn add_nameless<W: Write>(number: Value<'_>, lines: &mut LineBuffer, out: &mut W)
+fn add_nameless<W: Write>(width: usize, number: Value<'_>, lines: &mut LineBuffer, out: &mut W)
     ensures { Adds (W.contents out.old) lines.old (W.contents out.new) lines.new
-        (shown_nameless (content_of number.entry)) }
+        (shown_nameless width (content_of number.entry)) }
 {
     match number {
-        Value::Number(n) => lines.hex("", n, out),
-        Value::Signed(n) => add_nameless_signed(n, lines, out),
+        Value::Number(n) => add_nameless_number(width, n, lines, out),
+        Value::Signed(n) => add_nameless_signed(width, n, lines, out),
         _ => lines.text("-", out),
     }
 }
 
-fn add_nameless_signed<W: Write>(n: i64, lines: &mut LineBuffer, out: &mut W)
-    ensures { Adds (W.contents out.old) lines.old (W.contents out.new) lines.new (nameless_signed n) }
+fn add_nameless_signed<W: Write>(width: usize, n: i64, lines: &mut LineBuffer, out: &mut W)
+    ensures { Adds (W.contents out.old) lines.old (W.contents out.new) lines.new (nameless_signed width n) }
 {
     if n < 0 {
         lines.signed("", n, out);
     } else {
-        lines.hex("", n.unsigned_abs(), out);
+        add_nameless_number(width, n.unsigned_abs(), lines, out);
     }
 }
 
-fn add_rest<W: Write>(count: usize, name: Value<'_>, lines: &mut LineBuffer, out: &mut W)
-    ensures { Adds (W.contents out.old) lines.old (W.contents out.new) lines.new
-        (shown_rest count (content_of name.entry)) }
+#[tactic(auto, unfolding(crate::specs::Text::nameless_number))]
+fn add_nameless_number<W: Write>(width: usize, n: u64, lines: &mut LineBuffer, out: &mut W)
+    ensures { Adds (W.contents out.old) lines.old (W.contents out.new) lines.new (nameless_number width n) }
 {
-    match name {
-        Value::Word(Some(name)) => add_shown(rest_of(count, name.as_bytes()), lines, out),
-        _ => lines.text("-", out),
+    if width == 0 {
+        lines.hex("", n, out);
+    } else {
+        lines.text("0x", out);
+        add_wide(n, lines, out);
+        add_spaces(width.saturating_sub(10), lines, out);
     }
 }
 
@@ -395,6 +406,17 @@ fn add_text<W: Write>(value: Value<'_>, lines: &mut LineBuffer, out: &mut W)
     match text_in(value) {
         Some(text) => add_shown(text, lines, out),
         None => lines.text("<unreadable>", out),
+    }
+}
+
+// A text, or the mark, and spaces after it.
+fn add_padded<W: Write>(width: usize, value: Value<'_>, lines: &mut LineBuffer, out: &mut W)
+    ensures { Adds (W.contents out.old) lines.old (W.contents out.new) lines.new
+        (shown_padded width (text_in (content_of value.entry))) }
+{
+    match text_in(value) {
+        Some(text) => add_left(width, text, lines, out),
+        None => add_left(width, b"<unreadable>", lines, out),
     }
 }
 

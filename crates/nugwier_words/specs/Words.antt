@@ -3,17 +3,20 @@ use Rattle.std.specs.Prelude.{◌≡◌, ◌⊎◌, ◌^◌, ◌==◌, ◌||◌,
 use Rattle.std.specs.Prelude.{List, [], ◌∷◌, ◌++◌, codes, drop, slice_index, Option, Some, None, is_some, option_map}
 use Rattle.std.specs.Prelude.{Result, Ok, Err}
 use Rattle.std.specs.Char.{is_digit}
-use Rattle.std.specs.List.{find, starts_with}
+use Rattle.std.specs.List.{find, slice_split, starts_with}
 use Rattle.std.specs.Str.{bytes_eq}
 use Rattle.std.specs.Str.Parse.{digits_value}
+use Rattle.nugwier_report.specs.Hardening.{requirement_word}
+use Rattle.nugwier_report.specs.declared.hardening.Requirement.{Requirement}
+use Rattle.nugwier_report.specs.declared.hardening.Requirement.TheVariants as need
 use Rattle.nugwier_words.specs.declared.asked.Asked.{Asked}
 use Rattle.nugwier_words.specs.declared.asked.Awaited.{Awaited}
-use Rattle.nugwier_words.specs.declared.asked.Awaited.TheVariants.{Folder, Nothing, Root, Section}
+use Rattle.nugwier_words.specs.declared.asked.Awaited.TheVariants.{Folder, Nothing, Requirements, Root, Section}
 use Rattle.nugwier_words.specs.declared.asked.Word.{Word}
 use Rattle.nugwier_words.specs.declared.asked.Word.TheVariants.{End, File, Help, Json, Options}
 use Rattle.nugwier_words.specs.declared.letters.Letters.{Letters}
 use Rattle.nugwier_words.specs.declared.words.Command.{Command}
-use Rattle.nugwier_words.specs.declared.words.Command.TheVariants.{Address, Bindings, BuildId, Check, Exports}
+use Rattle.nugwier_words.specs.declared.words.Command.TheVariants.{Address, Bindings, BuildId, Check, Exports, Harden}
 use Rattle.nugwier_words.specs.declared.words.Command.TheVariants.{List as ListCommand, Needed, Plan, Symbols, Tree}
 use Rattle.nugwier_words.specs.declared.words.Form.{Form}
 use Rattle.nugwier_words.specs.declared.words.Form.TheVariants.{Bytes, Strings}
@@ -24,8 +27,9 @@ use Rattle.nugwier_words.specs.declared.words.Request.TheVariants.{Help as HelpR
 use Rattle.nugwier_words.specs.declared.words.Wanted.{Wanted}
 use Rattle.nugwier_words.specs.declared.words.WordError.{WordError}
 use Rattle.nugwier_words.specs.declared.words.WordError.TheVariants.{Address as NotAddress, Command as NotCommand}
-use Rattle.nugwier_words.specs.declared.words.WordError.TheVariants.{Memory, NoAddress, NoCommand, NoFile, NoFolder, NoSection}
-use Rattle.nugwier_words.specs.declared.words.WordError.TheVariants.{Option as NotOption}
+use Rattle.nugwier_words.specs.declared.words.WordError.TheVariants.{Memory, NoAddress, NoCommand, NoFile, NoFolder}
+use Rattle.nugwier_words.specs.declared.words.WordError.TheVariants.{NoList, NoSection, Option as NotOption}
+use Rattle.nugwier_words.specs.declared.words.WordError.TheVariants.{Requirement as NotRequirement}
 use Rattle.std.specs.Global.{Vec}
 use Prim.Native.String.{String}
 use denote.Ref.{Bor}
@@ -39,6 +43,7 @@ pub record Task : Type 0 where
   pub contents : List Wanted
   pub files : List (Bor (List ℕ))
   pub addresses : List ℕ
+  pub requirements : List Requirement
   pub is_json : Bool
   pub searches : List (Bor (List ℕ))
   pub has_cache : Bool
@@ -56,6 +61,7 @@ task_of job = record {
   contents = job.contents.items;
   files = job.files.items;
   addresses = job.addresses.items;
+  requirements = job.requirements.items;
   is_json = job.is_json;
   searches = job.searches.items;
   has_cache = job.has_cache;
@@ -82,6 +88,7 @@ word_of Exports = codes "exports"
 word_of BuildId = codes "build-id"
 word_of Plan = codes "plan"
 word_of Check = codes "check"
+word_of Harden = codes "harden"
 word_of Address = codes "address"
 word_of Tree = codes "tree"
 word_of Bindings = codes "bindings"
@@ -89,7 +96,7 @@ word_of Bindings = codes "bindings"
 unfoldable pub command_of : List ℕ → Option Command
 command_of word =
     find (λ command. bytes_eq (word_of command) word) (ListCommand ∷ Symbols ∷ Needed ∷ Exports ∷ BuildId ∷ Plan ∷ Check
-    ∷ Address ∷ Tree ∷ Bindings ∷ [])
+    ∷ Harden ∷ Address ∷ Tree ∷ Bindings ∷ [])
 
 -- ---- the options of `list`, a letter each
 
@@ -144,6 +151,7 @@ pub record SoFar : Type 0 where
   pub parts : Parts
   pub contents : List Wanted
   pub files : List (Bor (List ℕ))
+  pub requirements : List Requirement
   pub is_json : Bool
   pub searches : List (Bor (List ℕ))
   pub has_cache : Bool
@@ -156,6 +164,7 @@ so_far asked = record {
   parts = asked.parts;
   contents = asked.contents.items;
   files = asked.files.items;
+  requirements = asked.requirements.items;
   is_json = asked.is_json;
   searches = asked.searches.items;
   has_cache = asked.has_cache;
@@ -169,6 +178,7 @@ nothing = record {
   parts = parts_all false;
   contents = [];
   files = [];
+  requirements = [];
   is_json = false;
   searches = [];
   has_cache = true;
@@ -213,12 +223,19 @@ with_search command asked word =
     else if bytes_eq word.now (codes "--no-cache") then next (record asked { has_cache = false })
     else wrong (NotOption command word)
 
+-- the option of `harden`: the list of what is required is the next word
+abbrev pub with_require : SoFar → Bor (List ℕ) → Step
+with_require asked word =
+    if bytes_eq word.now (codes "--require") then next (record asked { awaited = Requirements word })
+    else wrong (NotOption Harden word)
+
 -- any other command has no options but --json and --help
 abbrev pub with_options : Command → SoFar → Bor (List ℕ) → Step
 with_options ListCommand asked word =
     with_list asked word (with_letters (record { parts = asked.parts; form = None }) (drop 1 word.now))
 with_options Tree asked word = with_search Tree asked word
 with_options Bindings asked word = with_search Bindings asked word
+with_options Harden asked word = with_require asked word
 with_options other asked word = wrong (NotOption other word)
 
 abbrev pub with_word : Word → Command → SoFar → Bor (List ℕ) → Step
@@ -239,12 +256,46 @@ with_folder asked word = next (record asked { searches = asked.searches ++ word 
 abbrev pub with_root : SoFar → Bor (List ℕ) → Step
 with_root asked word = next (record asked { root = Some word; awaited = Nothing })
 
+unfoldable pub requirement_of : List ℕ → Option Requirement
+requirement_of word =
+    find (λ r. bytes_eq (requirement_word r) word) (need.Pie ∷ need.Relro ∷ need.BindNow ∷ need.Nx
+    ∷ need.Canary ∷ need.Fortify ∷ need.Runpath ∷ need.Ibt ∷ need.Shstk ∷ need.Bti
+    ∷ need.Pac ∷ need.Stripped ∷ [])
+
+-- those of words after these, if each word is one
+abbrev pub requirements_after : List Requirement → List (List ℕ) → Option (List Requirement)
+requirements_after before [] = Some before
+requirements_after before (word ∷ words) = elim (requirement_of word) [
+  | Some requirement ↦ requirements_after (before ++ requirement ∷ []) words
+  | None ↦ None
+]
+
+-- the words of a list have commas (44) between them
+abbrev pub words_in : List ℕ → List (List ℕ)
+words_in list = slice_split (λ b. b == 44) list
+
+abbrev pub requirements_in : List ℕ → List Requirement → Option (List Requirement)
+requirements_in list before = requirements_after before (words_in list)
+
+-- whether each word is one, and then these are all
+abbrev pub AreAdded : Option (List Requirement) → List Requirement → Bool → Type 0
+AreAdded answer new true = answer ≡ Some new
+AreAdded answer new false = answer ≡ None
+
+abbrev pub required : SoFar → Bor (List ℕ) → Option (List Requirement) → Step
+required asked list (Some all) = next (record asked { requirements = all; awaited = Nothing })
+required asked list None = wrong (NotRequirement list)
+
+abbrev pub with_requirements : SoFar → Bor (List ℕ) → Step
+with_requirements asked word = required asked word (requirements_in word.now asked.requirements)
+
 -- an option takes the next word, whatever it is
 abbrev pub step_for : Awaited → Command → SoFar → Bor (List ℕ) → Step
 step_for Nothing command asked word = with_word (kind_of word.now asked.has_ended) command asked word
 step_for (Section form option) command asked word = with_section form asked word
 step_for (Folder option) command asked word = with_folder asked word
 step_for (Root option) command asked word = with_root asked word
+step_for (Requirements option) command asked word = with_requirements asked word
 
 abbrev pub step : Command → SoFar → Bor (List ℕ) → Step
 step command asked word = step_for asked.awaited command asked word
@@ -306,6 +357,7 @@ run_on command asked files addresses = Ok (run (record {
   contents = asked.contents;
   files = files;
   addresses = addresses;
+  requirements = asked.requirements;
   is_json = asked.is_json;
   searches = asked.searches;
   has_cache = asked.has_cache;
@@ -335,6 +387,7 @@ finished_for Nothing command asked = with_files command asked asked.files
 finished_for (Section form option) command asked = Err (NoSection option)
 finished_for (Folder option) command asked = Err (NoFolder command option)
 finished_for (Root option) command asked = Err (NoFolder command option)
+finished_for (Requirements option) command asked = Err (NoList command option)
 
 abbrev pub finished : Command → SoFar → Result Answer WordError
 finished command asked = finished_for asked.awaited command asked

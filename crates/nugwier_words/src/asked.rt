@@ -1,12 +1,15 @@
 //! What the words after a command ask for, from left to right.
 ghost use Rattle.nugwier_words.specs.Words.{IsParsed, IsStep, answer_of, awaited_form, finished, has_part, kind_of};
 ghost use Rattle.nugwier_words.specs.Words.{listed_parts, nothing, run_on, so_far, step, with_addresses, with_files};
-ghost use Rattle.nugwier_words.specs.Words.{with_folder, with_options, with_root, with_search, with_section, with_word};
+ghost use Rattle.nugwier_words.specs.Words.{with_folder, with_options, with_requirements, with_root, with_search};
+ghost use Rattle.nugwier_words.specs.Words.{with_section, with_word};
 ghost use Rattle.std.specs.Prelude.{◌≡◌, Ok, drop, take};
 
 use crate::address::parse_addresses;
 use crate::letters::add_letters;
+use crate::requirements::add_requirements;
 use crate::words::{Command, Form, Job, Parts, Request, Wanted, WordError};
+use nugwier_report::hardening::Requirement;
 use std::alloc::Global;
 
 // What a word after the command is.
@@ -26,14 +29,17 @@ pub(crate) enum Awaited<'a> {
     Section(Form, &'a str),
     Folder(&'a str),
     Root(&'a str),
+    Requirements(&'a str),
 }
 
 /// What the words so far ask for.
 #[derive(Drop)]
 pub(crate) struct Asked<'a> {
+    alloc: Global,
     parts: Parts,
     contents: Vec<Wanted<'a>>,
     files: Vec<&'a str>,
+    requirements: Vec<Requirement>,
     is_json: bool,
     searches: Vec<&'a str>,
     has_cache: bool,
@@ -48,9 +54,11 @@ impl<'a> Asked<'a> {
         ensures { so_far result ≡ nothing }
     {
         Asked {
+            alloc,
             parts: Parts::each(false),
             contents: Vec::new(alloc),
             files: Vec::new(alloc),
+            requirements: Vec::new(alloc),
             is_json: false,
             searches: Vec::new(alloc),
             has_cache: true,
@@ -69,6 +77,7 @@ impl<'a> Asked<'a> {
             Awaited::Section(form, _) => self.add_section(form, word),
             Awaited::Folder(_) => self.add_folder(word),
             Awaited::Root(_) => Ok(self.set_root(word)),
+            Awaited::Requirements(_) => self.add_requirements(word),
         }
     }
 
@@ -96,6 +105,16 @@ impl<'a> Asked<'a> {
         false
     }
 
+    fn add_requirements(&mut self, list: &'a str) -> Result<bool, WordError<'a>>
+        ensures { IsStep (with_requirements (so_far self.old) list.entry) (so_far self.new) result }
+    {
+        if !add_requirements(self.alloc, list, &mut self.requirements)? {
+            return Err(WordError::Requirement(list));
+        }
+        self.awaited = Awaited::Nothing;
+        Ok(false)
+    }
+
     // A word that no option takes.
     fn add_word(&mut self, command: Command, word: &'a str) -> Result<bool, WordError<'a>>
         ensures { let kind = kind_of word.now self.old.has_ended in
@@ -117,6 +136,7 @@ impl<'a> Asked<'a> {
         match command {
             Command::List => self.add_letters(word),
             Command::Tree | Command::Bindings => self.add_search(command, word),
+            Command::Harden => self.add_require(word),
             _ => Err(WordError::Option(command, word)),
         }
     }
@@ -144,6 +164,16 @@ impl<'a> Asked<'a> {
         Ok(false)
     }
 
+    fn add_require(&mut self, word: &'a str) -> Result<bool, WordError<'a>>
+        ensures { IsStep (with_options Command.Harden (so_far self.old) word.entry) (so_far self.new) result }
+    {
+        match word {
+            "--require" => self.awaited = Awaited::Requirements(word),
+            _ => return Err(WordError::Option(Command::Harden, word)),
+        }
+        Ok(false)
+    }
+
     /// What the words ask for, if no word follows.
     pub fn finish(self, alloc: Global, command: Command) -> Result<Request<'a>, WordError<'a>>
         ensures { IsParsed (finished command (so_far self.entry)) result }
@@ -154,6 +184,7 @@ impl<'a> Asked<'a> {
             Awaited::Folder(word) | Awaited::Root(word) => {
                 Err(WordError::NoFolder(command, word))
             }
+            Awaited::Requirements(word) => Err(WordError::NoList(command, word)),
         }
     }
 
@@ -193,6 +224,7 @@ impl<'a> Asked<'a> {
             contents: self.contents,
             files: self.files,
             addresses,
+            requirements: self.requirements,
             is_json: self.is_json,
             searches: self.searches,
             has_cache: self.has_cache,

@@ -19,6 +19,7 @@ usage: nugwier COMMAND [OPTION..] FILE..
   build-id    the build id
   plan        what a loader maps into memory, and where
   check       whether a file is sound, or its faults
+  harden      how a file is hardened against attacks
   address     the symbols at addresses
   tree        the libraries that a program loads, and the files that are found for them
   bindings    what the symbols of a program and of its libraries bind to
@@ -98,6 +99,29 @@ strings, relocations, hash tables, notes, dynamic entries, versions and segments
 error, one a line with the file's name: the first one of each section, of each segment, and of each other part. Files
 have no headings.";
 
+const HARDEN: &str = "\
+usage: nugwier harden [--json] [--require LIST] FILE..
+
+Prints how each file is hardened against attacks, in one line:
+
+  kind           executable, pie, static pie, shared object, relocatable or core
+  relro          full, partial or none: what is only read after relocations are applied
+  now, lazy      whether all symbols are bound when the file is loaded
+  stack          nx, or executable
+  wx             how many segments are loaded to be both written and executed
+  canary         whether functions check their stack
+  fortified      how many functions of the C library it calls that check the size of their buffers
+  fortifiable    how many it calls that do not and could
+  rpath, runpath the folders in which libraries are looked for; unsafe if one is relative or empty
+  IBT, SHSTK, BTI, PAC, GCS
+                 branch protection that all of its code has
+  stripped       whether it has no table of symbols but that for dynamic linking
+
+A dash stands for what is not known, and for no path. Files have no headings.
+
+  --require LIST  tells what a file lacks of these, on standard error: pie, relro (full), bindnow, nx, canary, fortify,
+                  runpath (no unsafe folder), ibt, shstk, bti, pac, stripped; the words have commas between them";
+
 const ADDRESS: &str = "\
 usage: nugwier address [--json] FILE ADDRESS..
 
@@ -148,6 +172,7 @@ pub fn help(command: Option<Command>) -> &'static str
         Some(Command::BuildId) => BUILD_ID,
         Some(Command::Plan) => PLAN,
         Some(Command::Check) => CHECK,
+        Some(Command::Harden) => HARDEN,
         Some(Command::Address) => ADDRESS,
         Some(Command::Tree) => TREE,
         Some(Command::Bindings) => BINDINGS,

@@ -5,4 +5,5 @@ mod address;
 mod asked;
 pub mod help;
 mod letters;
+mod requirements;
 pub mod words;

@@ -6,9 +6,10 @@ ghost use Rattle.std.specs.Prelude.{◌≡◌};
 
 use crate::asked::Asked;
 use nugwier_report::escape::Escaped;
-use std::alloc::{AllocFailed, Global};
+use nugwier_report::hardening::Requirement;
+use std::alloc::{AllocError, AllocFailed, Global};
+use std::error::Error;
 use std::fmt;
-use thiserror::Error;
 
 /// What is listed of each file.
 #[derive(Debug, Clone, Copy, PartialEq, Eq)]
@@ -20,12 +21,13 @@ pub enum Command {
     BuildId,
     Plan,
     Check,
+    Harden,
     Address,
     Tree,
     Bindings,
 }
 
-static COMMANDS: [Command; 10] = [
+static COMMANDS: [Command; 11] = [
     Command::List,
     Command::Symbols,
     Command::Needed,
@@ -33,6 +35,7 @@ static COMMANDS: [Command; 10] = [
     Command::BuildId,
     Command::Plan,
     Command::Check,
+    Command::Harden,
     Command::Address,
     Command::Tree,
     Command::Bindings,
@@ -51,6 +54,7 @@ impl Command {
             Command::BuildId => "build-id",
             Command::Plan => "plan",
             Command::Check => "check",
+            Command::Harden => "harden",
             Command::Address => "address",
             Command::Tree => "tree",
             Command::Bindings => "bindings",
@@ -59,6 +63,11 @@ impl Command {
 }
 
 impl fmt::Display for Command {
+    ghost use Rattle.std.specs.Prelude.{Some};
+    ghost use Rattle.nugwier_words.specs.Words.{word_of};
+
+    ghost output = { λ command. Some (word_of command) };
+
     fn fmt<W: fmt::Write>(&self, f: &mut fmt::Formatter<W>) -> fmt::Result {
         f.write_str(self.word())
     }
@@ -122,6 +131,8 @@ pub struct Job<'a> {
     pub files: Vec<&'a str>,
     /// The addresses for `address`.
     pub addresses: Vec<u64>,
+    /// What `harden` requires of each file.
+    pub requirements: Vec<Requirement>,
     /// Whether records are listed as objects of JSON.
     pub is_json: bool,
     /// The folders in which `tree` and `bindings` search for libraries, before the usual ones.
@@ -142,29 +153,104 @@ pub enum Request<'a> {
 }
 
 /// Why words are no request.
-#[derive(Debug, Clone, Copy, Error)]
+#[derive(Debug, Clone, Copy)]
 pub enum WordError<'a> {
-    #[error("nugwier: no command; see nugwier --help")]
     NoCommand,
-    #[error("nugwier: unknown command '{word}'; see nugwier --help", word = Escaped(.0.as_bytes()))]
+    /// The word is no command.
     Command(&'a str),
-    #[error("nugwier {0}: unknown option '{word}'; see nugwier {0} --help", word = Escaped(.1.as_bytes()))]
+    /// The command has no such option.
     Option(Command, &'a str),
     /// The option of `list` needs a section.
-    #[error("nugwier list: no section after '{word}'; see nugwier list --help", word = Escaped(.0.as_bytes()))]
     NoSection(&'a str),
     /// The option needs a folder.
-    #[error("nugwier {0}: no folder after '{word}'; see nugwier {0} --help", word = Escaped(.1.as_bytes()))]
     NoFolder(Command, &'a str),
-    #[error("nugwier {0}: no file; see nugwier {0} --help")]
     NoFile(Command),
+    /// The option needs a list of requirements.
+    NoList(Command, &'a str),
+    /// The list has a word that is no requirement.
+    Requirement(&'a str),
     /// The word is no address in hexadecimal.
-    #[error("nugwier address: '{word}' is no address; see nugwier address --help", word = Escaped(.0.as_bytes()))]
     Address(&'a str),
-    #[error("nugwier address: no address; see nugwier address --help")]
     NoAddress,
-    #[error("nugwier: out of memory")]
     Memory,
+}
+
+impl fmt::Display for WordError<'_> {
+    ghost use Rattle.nugwier_words.specs.WordTexts.{word_text};
+
+    ghost output = { word_text };
+
+    fn fmt<W: fmt::Write>(&self, f: &mut fmt::Formatter<W>) -> fmt::Result {
+        match self {
+            WordError::NoCommand => f.write_str("nugwier: no command; see nugwier --help"),
+            WordError::Command(word) => {
+                let word = Escaped(word.as_bytes());
+                write!(f, "nugwier: unknown command '{word}'; see nugwier --help")
+            }
+            WordError::Option(command, word) => {
+                let word = Escaped(word.as_bytes());
+                write!(
+                    f,
+                    "nugwier {command}: unknown option '{word}'; see nugwier {command} --help"
+                )
+            }
+            WordError::NoSection(word) => {
+                let word = Escaped(word.as_bytes());
+                write!(
+                    f,
+                    "nugwier list: no section after '{word}'; see nugwier list --help"
+                )
+            }
+            WordError::NoFolder(command, word) => {
+                let word = Escaped(word.as_bytes());
+                write!(
+                    f,
+                    "nugwier {command}: no folder after '{word}'; see nugwier {command} --help"
+                )
+            }
+            WordError::NoFile(command) => {
+                write!(
+                    f,
+                    "nugwier {command}: no file; see nugwier {command} --help"
+                )
+            }
+            WordError::NoList(command, word) => {
+                let word = Escaped(word.as_bytes());
+                write!(
+                    f,
+                    "nugwier {command}: no list after '{word}'; see nugwier {command} --help"
+                )
+            }
+            WordError::Requirement(word) => {
+                let word = Escaped(word.as_bytes());
+                write!(
+                    f,
+                    "nugwier harden: no such requirement: '{word}'; see nugwier harden --help"
+                )
+            }
+            WordError::Address(word) => {
+                let word = Escaped(word.as_bytes());
+                write!(
+                    f,
+                    "nugwier address: '{word}' is no address; see nugwier address --help"
+                )
+            }
+            WordError::NoAddress => {
+                f.write_str("nugwier address: no address; see nugwier address --help")
+            }
+            WordError::Memory => f.write_str("nugwier: out of memory"),
+        }
+    }
+}
+
+impl Error for WordError<'_> {}
+
+impl<'a> From<AllocError> for WordError<'a> {
+    ghost from_gives = { λ _ error. error ≡ IsMemory };
+
+    fn from(_error: AllocError) -> WordError<'a> {
+        WordError::Memory
+    }
 }
 
 impl<'a, T: Drop> From<AllocFailed<T>> for WordError<'a> {
@@ -178,9 +264,9 @@ impl<'a, T: Drop> From<AllocFailed<T>> for WordError<'a> {
 /// Returns what the words, the arguments after the program's name, ask for.
 ///
 /// Errors, in order: `NoCommand` without words; `Command` if the first word is no command; then, of the first word
-/// that is wrong, `Option`, `NoSection` or `NoFolder`; `NoFile` if no word is a file; of `address`, `Address` for the
-/// first word after the file that is no address, and `NoAddress` if there is no such word. `Memory` if an allocation
-/// failed.
+/// that is wrong, `Option`, `Requirement`, `NoSection`, `NoFolder` or `NoList`; `NoFile` if no word is a file; of
+/// `address`, `Address` for the first word after the file that is no address, and `NoAddress` if there is no such word.
+/// `Memory` if an allocation failed.
 pub fn parse_words<'a>(alloc: Global, words: &[&'a str]) -> Result<Request<'a>, WordError<'a>>
     ensures { IsParsed (parsed words.now) result }
 {

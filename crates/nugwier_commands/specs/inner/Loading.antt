@@ -5,7 +5,11 @@ use Rattle.elf_records.specs.Number.{ok_map}
 use Rattle.elf.specs.ElfStream.{StreamView}
 use Rattle.elf.specs.StreamFile.{stream_file}
 use Rattle.elf_linking.specs.Tree.{Found, file_of, without_bytes}
-use Rattle.nugwier_commands.specs.Run.{IsBytesSaid, IsPathSaid, IsSaidAt, IsWritten, Known, heading_said}
+use Rattle.elf_archive.specs.Archive.{Item}
+use Rattle.nugwier_commands.specs.Run.{ArePathSaid, AreWritten, IsBytesSaid, IsItemSaid, IsSaidAt, IsWritten, Known}
+use Rattle.nugwier_commands.specs.Run.{IsFileSaid, IsWrong, Listing, Saying, Written, heading_said}
+use Rattle.nugwier_report.specs.Labels.{Named}
+use Rattle.nugwier_report.specs.declared.report.Summary.{Summary}
 use Rattle.nugwier_commands.specs.declared.ended.Ended.{Ended}
 use Rattle.nugwier_commands.specs.declared.loading.Listed.{Listed}
 use Rattle.nugwier_commands.specs.declared.loading.Listed.TheVariants.{Said as WasSaid, Unread}
@@ -17,7 +21,6 @@ use Rattle.nugwier_report.specs.declared.problem.Stop.{Stop}
 use Rattle.nugwier_report.specs.declared.problem.Stop.TheVariants.{Memory as IsMemory}
 use Rattle.nugwier_words.specs.declared.words.WordError.{WordError}
 use Rattle.nugwier_words.specs.declared.words.WordError.TheVariants.{Memory}
-use Rattle.nugwier_listing.specs.Job.{IsSaidOf}
 use Rattle.nugwier_report.specs.Formats.{front}
 use Rattle.nugwier_report.specs.Said.{Said, said_if, whole, wrong}
 use Rattle.nugwier_report.specs.declared.kind.Kind.{Kind}
@@ -28,43 +31,59 @@ abbrev pub unread_said : Option ParseError → List Said
 unread_said unread = said_if (λ e. wrong (whole SectionHeaders) (Read e) ∷ []) unread
 
 -- that, and then what this says of the file
-abbrev pub IsSaidAfter : Option ParseError → (List Said → Type 0) → List Said → Type 0
-IsSaidAfter unread Says said = (rest : List Said) × Says rest × (said ≡ unread_said unread ++ rest)
+abbrev pub IsSaidAfter : Option ParseError → (Named → List Said → Type 0) → Named → List Said → Type 0
+IsSaidAfter unread Says named said = (rest : List Said) × Says named rest × (said ≡ unread_said unread ++ rest)
 
-module _ {W V : Type 0} (contents : W → Option (List ℕ)) where
+module _ {W V : Type 0} (out_of : W → Option (List ℕ)) (err_of : V → Option (List ℕ)) where
+  -- what the writers have at the end
+  abbrev pub written_by : Ended W V → Written
+  written_by ended = record { out = out_of ended.out; err = err_of ended.err }
+
   -- what was said was written: something that this says of the file
-  abbrev pub IsSaidAndWritten : (List Said → Type 0) → Task → Option Kind → List ℕ → Option (List ℕ) → Ended W V →
-      Type 0
+  abbrev pub IsSaidAndWritten : (Named → List Said → Type 0) → Task → Option Kind → List ℕ → Written → Ended W V → Type 0
   IsSaidAndWritten Says task heading path before ended =
-      IfOk ended.said (λ is_right. (said : List Said) × Says said
-      × IsWritten task.is_json path before (contents ended.out) is_right (heading_said heading path ++ said))
+      IfOk ended.said (λ summary. (named : Named) × (said : List Said) × Says named said
+      × IsWritten task.is_json path named before (written_by ended) summary (heading_said heading path ++ said))
 
   -- or nothing was written
-  abbrev pub IsListed : (List Said → Type 0) → Task → Option Kind → List ℕ → Option (List ℕ) → Listed W V → Type 0
+  abbrev pub IsListed : (Named → List Said → Type 0) → Task → Option Kind → List ℕ → Written → Listed W V → Type 0
   IsListed Says task heading path before (WasSaid ended) = IsSaidAndWritten Says task heading path before ended
-  IsListed Says task heading path before (Unread error out err) = contents out ≡ before
+  IsListed Says task heading path before (Unread error out err) =
+      (out_of out ≡ before.out) × (err_of err ≡ before.err)
 
   abbrev pub IsStreamListed : {E : Type 0} → (E → Bool) → (ℕ → Option E) → Task → Option Kind → List ℕ → StreamView E →
-      Option (List ℕ) → Listed W V → Type 0
+      Written → Listed W V → Type 0
   IsStreamListed little of_byte task heading path s before listed =
-      IsListed (λ said. IfSome s.content (λ bytes.
-      IsSaidOf little of_byte task path s.headers.ehdr
-      (stream_file little s bytes) said)) task heading path before listed
+      IsListed (λ named said. IfSome s.content (λ bytes.
+      IsFileSaid little of_byte task path s.headers.ehdr
+      (stream_file little s bytes) named said)) task heading path before listed
 
-  abbrev pub IsSourceListed : Task → Option Kind → List ℕ → Option (List ℕ) → Option (List ℕ) → Listed W V → Type 0
+  abbrev pub IsSourceListed : Task → Option Kind → List ℕ → Option (List ℕ) → Written → Listed W V → Type 0
   IsSourceListed task heading path content before listed =
-      IsListed (λ said. IfSome content (λ bytes. IsBytesSaid task path bytes said)) task heading path before listed
+      IsListed (λ named said. IfSome content (λ bytes. IsBytesSaid task path bytes named said)) task heading path before
+      listed
 
   -- what this says of the content of the file at a path, if the files are known
-  abbrev pub IsFileEnded : Known → (List ℕ → List Said → Type 0) → Task → Option Kind → List ℕ → Option (List ℕ) →
-      Ended W V → Type 0
+  abbrev pub IsFileEnded : Known → Saying → Task → Option Kind → List ℕ → Written → Ended W V → Type 0
   IsFileEnded known IsSaid task heading path before ended =
       IsSaidAndWritten (IsSaidAt known IsSaid path) task heading path before ended
 
-  -- what a run says of it
-  abbrev pub IsPathEnded : Known → Task → Option Kind → List ℕ → Option (List ℕ) → Ended W V → Type 0
+  -- all that this says was written
+  abbrev pub AreSaidAndWritten : (List Listing → Type 0) → Task → Written → Ended W V → Type 0
+  AreSaidAndWritten Say task before ended =
+      IfOk ended.said (λ summary. (all : List Listing) × Say all
+      × AreWritten task.is_json before (written_by ended) summary all)
+
+  -- what a run says of a path
+  abbrev pub IsPathEnded : Known → Task → Option Kind → List ℕ → Written → Ended W V → Type 0
   IsPathEnded known task heading path before ended =
-      IsSaidAndWritten (IsPathSaid known task path) task heading path before ended
+      AreSaidAndWritten (ArePathSaid known task heading path) task before ended
+
+  -- what a run says of an item of an archive
+  abbrev pub IsItemEnded : Known → Task → Option Kind → List ℕ → Item → Written → Ended W V → Type 0
+  IsItemEnded known task heading path item before ended =
+      IfOk ended.said (λ summary. (own : Listing) × IsItemSaid known task heading path item own
+      × IsWritten task.is_json own.path own.named before (written_by ended) summary own.said)
 
 -- the bytes at the start of the file with this content
 abbrev pub IsFrontOf : Option (List ℕ) → List ℕ → Type 0
@@ -76,11 +95,12 @@ IsNamed path content program =
     (bytes : List ℕ) × (content ≡ Some bytes) × (ok_map without_bytes (file_of path bytes) ≡ Ok program)
 
 -- a run goes on as its last step ended
-abbrev pub IsOutcomeOf : Result Bool Stop → Outcome → Type 0
-IsOutcomeOf (Ok is_right) outcome = outcome ≡ Done is_right
+abbrev pub IsOutcomeOf : Result Summary Stop → Outcome → Type 0
+IsOutcomeOf (Ok summary) outcome = outcome ≡ Done summary
 IsOutcomeOf (Err stop) outcome = outcome ≡ Stopped stop
 
--- of wrong words nothing is written; without memory it is not known whether they are wrong
-abbrev pub IsWordsTold : WordError → Option (List ℕ) → Option (List ℕ) → Outcome → Type 0
+-- of wrong words nothing is listed; without memory it is not known whether they are wrong
+abbrev pub IsWordsTold : WordError → Written → Written → Outcome → Type 0
 IsWordsTold Memory before after outcome = outcome ≡ Stopped IsMemory
-IsWordsTold error before after outcome = (outcome ≡ Wrong) × (after ≡ before)
+IsWordsTold error before after outcome =
+    (is_told : Bool) × (outcome ≡ Wrong is_told) × IsWrong error before after is_told

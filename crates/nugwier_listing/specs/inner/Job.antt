@@ -11,13 +11,14 @@ use Rattle.nugwier_listing.specs.Plan.{plan_said}
 use Rattle.nugwier_listing.specs.Segments.{segments_said}
 use Rattle.nugwier_listing.specs.Symbols.{all_said}
 use Rattle.nugwier_listing.specs.declared.job.JobTables.{JobTables}
-use Rattle.nugwier_listing.specs.declared.job.JobTables.TheVariants.{Address, BuildId, Check, Linked, Listed, Needed}
-use Rattle.nugwier_listing.specs.declared.job.JobTables.TheVariants.{Nothing, Plan}
+use Rattle.nugwier_listing.specs.declared.job.JobTables.TheVariants.{Address, BuildId, Check, Hardening, Linked, Listed}
+use Rattle.nugwier_listing.specs.declared.job.JobTables.TheVariants.{Needed, Nothing, Plan}
 use Rattle.nugwier_listing.specs.declared.list.ListTables.{ListTables}
 use Rattle.nugwier_listing.specs.declared.list.PartTables.{PartTables}
 use Rattle.nugwier_listing.specs.declared.list.PartTables.TheVariants as part
 use Rattle.nugwier_listing.specs.inner.Contents.{part_said as content_said}
 use Rattle.nugwier_listing.specs.inner.Dynamic.{entries_said, needed_said}
+use Rattle.nugwier_listing.specs.inner.Hardening.{tables_said as hardening_said}
 use Rattle.nugwier_listing.specs.inner.Notes.{part_said as notes_said}
 use Rattle.nugwier_listing.specs.inner.Relocations.{tables_said}
 use Rattle.nugwier_listing.specs.inner.Sections.{taken_sections_said}
@@ -48,5 +49,6 @@ module _ {E : Type 0} (little : E → Bool) where
   IsTablesSaid path addresses (BuildId t) said = said ≡ identity_said (ok_map (option_map (λ id. id.now)) t)
   IsTablesSaid path addresses (Plan t) said = said ≡ plan_said (ok_map (λ plan. plan.items) t)
   IsTablesSaid path addresses (Check checked) said = AreFoundSaid path (ok_map (λ faults. faults.items) checked) said
+  IsTablesSaid path addresses (Hardening t) said = said ≡ hardening_said little path t
   IsTablesSaid path addresses (Address t) said = AreSaidBy addresses (ok_map (option_map symbols_view) t) said
   IsTablesSaid path addresses Nothing said = said ≡ []

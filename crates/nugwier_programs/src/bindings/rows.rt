@@ -16,7 +16,7 @@ ghost use Rattle.nugwier_programs.specs.Symbols.{fault_problem, one_problems};
 ghost use Rattle.nugwier_programs.specs.Symbols.{one_said};
 ghost use Rattle.nugwier_programs.specs.Symbols.{outcome_problem, quoted, reference_problem, reference_said};
 ghost use Rattle.nugwier_programs.specs.Symbols.{symbol_problems};
-ghost use Rattle.nugwier_programs.specs.Symbols.{symbol_said};
+ghost use Rattle.nugwier_programs.specs.Symbols.{calls_word, symbol_said};
 ghost use Rattle.nugwier_programs.specs.inner.Scope.{file_view, indexed_view, scope_paths, versions_of};
 ghost use Rattle.nugwier_report.specs.Bindings.{bound_view};
 ghost use Rattle.nugwier_report.specs.Said.{Said, saying};
@@ -27,7 +27,7 @@ use crate::tree::FILE;
 use elf::symbol::Symbol;
 use elf_linking::bindings::Bound;
 use elf_linking::bindings::kinds::{SymbolBinding, SymbolFault, bind_symbols, bound_symbols};
-use elf_linking::bindings::uses::{NO_USES, SymbolUses};
+use elf_linking::bindings::uses::{NO_USES, SymbolUses, uses_at};
 use elf_linking::dynamic::add_dynamic_uses;
 use nugwier_report::bindings::{BoundSymbol, Place, say_binding};
 use nugwier_report::json::Value;
@@ -60,10 +60,11 @@ pub(crate) fn say_file<W: Write, V: Write>(
 {
     let versions = scope.versions(place);
     say_heading(place, file, report)?;
-    let uses = uses_of(alloc, file, report)?;
-    let bound = bind_all(alloc, scope, file, &uses, versions)?;
+    let found = uses_of(alloc, file, report)?;
+    let uses = found.as_slice();
+    let bound = bind_all(alloc, scope, file, uses, versions)?;
     let bound = bound.as_slice();
-    say_bindings(scope, file, bound, versions, report)?;
+    say_bindings(scope, file, bound, uses, versions, report)?;
     say_problems(scope, file, bound, versions, report)?;
     Ok(())
 }
@@ -169,15 +170,17 @@ fn say_bindings<'n, W: Write, V: Write>(
     scope: Scope<'_, '_, '_, '_>,
     file: &BoundFile<'n>,
     bound: &[BoundOne],
+    uses: &[SymbolUses],
     versions: Option<&'n Versions<'_, '_>>,
     report: &mut Report<'_, W, V>,
 ) -> Result<(), Stop>
     ensures { let said = one_said (scope_paths scope.entry.files.now) (map indexed_view scope.entry.objects.now)
-        file.now.path.now file.now.strings (option_map (λ index. index.now) versions.entry) in
+        file.now.path.now file.now.strings (option_map (λ index. index.now) versions.entry) uses.now in
         OnOk result (report.new ≡ saying report.old (flat_map said bound.now)) }
 {
     for one in bound {
-        say_symbol(scope, &bound_symbol(file, versions, &one.0), &one.1, report)?;
+        let symbol = bound_symbol(file, versions, &one.0);
+        say_symbol(scope, &symbol, uses_at(uses, one.0.0), &one.1, report)?;
     }
     Ok(())
 }
@@ -205,36 +208,39 @@ fn say_problems<'n, W: Write, V: Write>(
 fn say_symbol<W: Write, V: Write>(
     scope: Scope<'_, '_, '_, '_>,
     symbol: &BoundSymbol<'_>,
+    uses: SymbolUses,
     binding: &SymbolBinding,
     report: &mut Report<'_, W, V>,
 ) -> Result<(), Stop>
     ensures { OnOk result (report.new ≡ saying report.old (symbol_said (scope_paths scope.entry.files.now)
-        (map indexed_view scope.entry.objects.now) (bound_view symbol.now) binding.now)) }
+        (map indexed_view scope.entry.objects.now) (bound_view symbol.now) uses binding.now)) }
 {
     let calls = &binding.jump_slot;
     let address = &binding.address;
-    say_reference(scope, symbol, Place::First, "jump_slot", calls, report)?;
-    say_reference(
-        scope,
-        symbol,
-        address_place(calls, address),
-        "address",
-        address,
-        report,
-    )?;
-    say_reference(scope, symbol, Place::First, "copy", &binding.copied, report)
+    let place = address_place(calls, address);
+    let copied = &binding.copied;
+    say_reference(scope, symbol, Place::First, calls_word(uses), calls, report)?;
+    say_reference(scope, symbol, place, Some("address"), address, report)?;
+    say_reference(scope, symbol, Place::First, Some("copy"), copied, report)
+}
+
+// The kind of references that look-ups for calls are made for, if a relocation names the symbol.
+fn calls_word(uses: SymbolUses) -> Option<&'static str>
+    ensures { option_copied result ≡ calls_word uses }
+{
+    uses.jump_slot.then_some("jump_slot")
 }
 
 fn say_reference<W: Write, V: Write>(
     scope: Scope<'_, '_, '_, '_>,
     symbol: &BoundSymbol<'_>,
     place: Place,
-    reference: &'static str,
+    reference: Option<&'static str>,
     outcome: &Option<Outcome>,
     report: &mut Report<'_, W, V>,
 ) -> Result<(), Stop>
     ensures { OnOk result (report.new ≡ saying report.old (reference_said (scope_paths scope.entry.files.now)
-        (map indexed_view scope.entry.objects.now) (bound_view symbol.now) place reference.now outcome.now)) }
+        (map indexed_view scope.entry.objects.now) (bound_view symbol.now) place (option_copied reference.entry) outcome.now)) }
 {
     match outcome {
         Some(outcome) => say_binding(symbol, place, reference, &scope.target(outcome), report),

@@ -1,7 +1,9 @@
 use Rattle.std.proofs.Common.{◌≡◌, ◌++◌, ℕ, List}
 use Rattle.std.proofs.lemmas.Result.{IfOk-weaker}
 use Rattle.elf_linking.specs.Tree.{found_view}
-use Rattle.nugwier_commands.specs.Run.{IsProgramSaid, IsSaidAt, IsWritten, heading_said, search_of}
+use Rattle.nugwier_commands.specs.Run.{IsProgramSaid, IsSaidAt, IsWritten, Written, heading_said, search_of}
+use Rattle.nugwier_commands.specs.inner.Loading.{written_by}
+use Rattle.nugwier_report.specs.Labels.{Named, no_sections}
 use Rattle.nugwier_commands.proofs.Trees.{tree_said}
 use Rattle.nugwier_programs.specs.Tree.{IsNamedSaid}
 use Rattle.nugwier_report.specs.Said.{Said}
@@ -14,12 +16,13 @@ returns-in-Some g c is =
     let known = g.F.Files.known c.args.files.now in
     let task = task_of c.args.target.job.now in
     let path = c.args.target.path.now in
-    let contents = g.W.Write.contents in
     let ended = c.say_named.result in
+    let before : Written = record { out = g.W.Write.contents c.args.out; err = g.V.Write.contents c.args.err } in
+    let after = written_by g.W.Write.contents g.V.Write.contents ended in
     IfOk-weaker ended.said
-    (λ is_right. ((said : List Said) × IsNamedSaid known (search_of task) (found_view c.in-Some.program) said
-    × IsWritten task.is_json path (contents c.args.out) (contents ended.out) is_right (heading_said c.args.target.heading path ++ said)))
-    (λ is_right. ((said : List Said) × IsSaidAt known (λ bytes said. IsProgramSaid known Tree task path bytes said) path said
-    × IsWritten task.is_json path (contents c.args.out) (contents ended.out) is_right (heading_said c.args.target.heading path ++ said)))
-    (λ is_right h. (h.0, tree_said known task path (found_view c.in-Some.program) h.0 c.in-Some.ensures h.1, h.2))
+    (λ summary. ((said : List Said) × IsNamedSaid known (search_of task) (found_view c.in-Some.program) said
+    × IsWritten task.is_json path no_sections before after summary (heading_said c.args.target.heading path ++ said)))
+    (λ summary. ((named : Named) × (said : List Said) × IsSaidAt known (λ bytes named said. IsProgramSaid known Tree task path bytes named said) path named said
+    × IsWritten task.is_json path named before after summary (heading_said c.args.target.heading path ++ said)))
+    (λ summary h. (no_sections, h.0, tree_said known task path (found_view c.in-Some.program) h.0 c.in-Some.ensures h.1, h.2))
     c.say_named.ensures

@@ -7,5 +7,5 @@ use Rattle.nugwier_programs.proofs.bindings.rows.say_bindings.Goals as goal
 
 pub loop-one-preserved : goal.loop-one-preserved
 loop-one-preserved g c =
-    one_more (scope_paths c.args.scope.files.now) (map indexed_view c.args.scope.objects.now) c.args.file.now.path.now c.args.file.now.strings (option_map (λ index. index.now) c.args.versions) c.args.bound.now
-    c.loop-one.one-index _ (bound_view c.bound_symbol.result) c.loop-one.report c.say_symbol.new.report _ c.loop-one-test.true c.bound_symbol.ensures c.in_ok-say_symbol.ensures c.loop-one.invariant
+    one_more (scope_paths c.args.scope.files.now) (map indexed_view c.args.scope.objects.now) c.args.file.now.path.now c.args.file.now.strings (option_map (λ index. index.now) c.args.versions) c.args.uses.now c.args.bound.now
+    c.loop-one.one-index _ (bound_view c.bound_symbol-symbol.result) c.uses_at.result c.loop-one.report c.say_symbol.new.report _ c.loop-one-test.true c.bound_symbol-symbol.ensures c.uses_at.ensures c.in_ok-say_symbol.ensures c.loop-one.invariant

@@ -9,5 +9,5 @@ use Rattle.nugwier_programs.proofs.bindings.rows.say_bindings.Given as goal
 -- all is said once it is said of the symbols that are left
 abbrev pub invariant-loop-one : goal.invariant-loop-one
 invariant-loop-one g l =
-    let said = flat_map (one_said (scope_paths l.scope.files.now) (map indexed_view l.scope.objects.now) l.file.path.now l.file.strings (option_map (λ index. index.now) l.versions)) in
+    let said = flat_map (one_said (scope_paths l.scope.files.now) (map indexed_view l.scope.objects.now) l.file.path.now l.file.strings (option_map (λ index. index.now) l.versions) l.uses) in
     saying l.report (said (drop l.one-index l.bound)) ≡ saying l.initial.report (said l.bound)

@@ -1,0 +1,66 @@
+//! Symbols with their names, many in a call.
+use crate::endian::EndianParse;
+use crate::ffi;
+use crate::records::{Record, CHUNK};
+use crate::string_table::StringTable;
+use crate::symbol::{Symbol, SymbolTable};
+
+/// The symbols of a table with the bytes of their names, up to the first that cannot be read or has no name.
+///
+/// ```no_run
+/// use nugwier::{endian::AnyEndian, named::named_symbols, ElfBytes};
+///
+/// let bytes = std::fs::read("/bin/sh").unwrap();
+/// let file = ElfBytes::<AnyEndian>::minimal_parse(&bytes).unwrap();
+/// if let Some((symbols, strings)) = file.dynamic_symbol_table().unwrap() {
+///     for (symbol, name) in named_symbols(&symbols, &strings) {
+///         println!("{:x} {}", symbol.st_value, String::from_utf8_lossy(name));
+///     }
+/// }
+/// ```
+pub fn named_symbols<'data, E: EndianParse>(
+    symbols: &SymbolTable<'data, E>,
+    strings: &StringTable<'data>,
+) -> NamedSymbols<'data> {
+    NamedSymbols {
+        table: symbols.raw(),
+        strings: strings.bytes(),
+        next: 0,
+        chunk: [ffi::NamedSymbol::default(); CHUNK],
+        taken: 0,
+        fetched: 0,
+    }
+}
+
+/// Symbols with the bytes of their names. They are fetched some at a time.
+#[derive(Debug)]
+pub struct NamedSymbols<'data> {
+    table: ffi::Table<'data>,
+    strings: ffi::Bytes<'data>,
+    /// The number of the first symbol that is not fetched yet.
+    next: usize,
+    chunk: [ffi::NamedSymbol<'data>; CHUNK],
+    /// How many symbols of the chunk were taken, and how many were fetched.
+    taken: usize,
+    fetched: usize,
+}
+
+impl<'data> Iterator for NamedSymbols<'data> {
+    type Item = (Symbol, &'data [u8]);
+
+    #[inline]
+    fn next(&mut self) -> Option<(Symbol, &'data [u8])> {
+        if self.taken == self.fetched {
+            self.taken = 0;
+            self.fetched =
+                ffi::named_symbols(&self.table, self.strings, self.next, &mut self.chunk);
+            self.next += self.fetched;
+            if self.fetched == 0 {
+                return None;
+            }
+        }
+        let raw = self.chunk.get(self.taken)?;
+        self.taken += 1;
+        Some((Symbol::of(&raw.symbol), raw.name.get()))
+    }
+}

@@ -1,0 +1,10 @@
+-- What the contracts of this crate cite, in reading order.
+
+-- the fields of headers: numbers and names
+pub mod Fields
+-- the members of an archive
+pub mod Archive
+-- what implementations cite
+pub mod inner
+-- archives for theorems
+pub mod KnownArchives

@@ -1,0 +1,35 @@
+-- What is said of a file that opens, and of one that does not.
+use Rattle.std.proofs.Common.{◌≡◌, ℕ, List, Result, Ok, Err, None, sym, subst}
+use Rattle.elf_reading.specs.Opening.{FileView}
+use Rattle.elf_records.specs.declared.endian.AnyEndian.{AnyEndian}
+use Rattle.elf_records.specs.declared.parse.ParseError.{ParseError}
+use Rattle.nugwier_commands.specs.Run.{IsOpenedSaid, IsProblemSaid, IsUnopenedSaid, IsViewSaid}
+use Rattle.nugwier_commands.specs.inner.Loading.{IsSaidAfter}
+use Rattle.nugwier_report.specs.Labels.{Named}
+use Rattle.nugwier_report.specs.Said.{Said}
+use Rattle.nugwier_report.specs.declared.problem.Fault.TheVariants.{Read}
+use Rattle.nugwier_words.specs.Words.{Task}
+use Rattle.nugwier_words.specs.declared.words.Command.{Command}
+use Rattle.nugwier_words.specs.declared.words.Command.TheVariants.{Check}
+
+module _ (task : Task) (path bytes : List ℕ) (error : ParseError) (named : Named) (said : List Said) where
+  -- if it is checked
+  pub checked_said : (command : Command) (viewed : Result (FileView AnyEndian) ParseError) → command ≡ Check → IsProblemSaid (Read error) named said
+      → IsUnopenedSaid command task path bytes error viewed named said
+  checked_said command viewed is h = subst (λ (c : Command). IsUnopenedSaid c task path bytes error viewed named said) (sym is) h
+
+  lost_by : (command : Command) (fault : ParseError) → IsProblemSaid (Read error) named said → IsUnopenedSaid command task path bytes error (Err fault) named said
+  lost_by Check fault h = h
+  lost_by other fault h = h
+
+  -- if its segments cannot be read
+  pub lost_said : (command : Command) (fault : ParseError) (viewed : Result (FileView AnyEndian) ParseError) → Err fault ≡ viewed → IsProblemSaid (Read error) named said
+      → IsUnopenedSaid command task path bytes error viewed named said
+  lost_said command fault viewed is h = subst (λ (v : Result (FileView AnyEndian) ParseError). IsUnopenedSaid command task path bytes error v named said) is (lost_by command fault h)
+
+-- of one that opens, without an error before it
+pub opened_said : (task : Task) (path bytes : List ℕ) (named : Named) (said : List Said) (view : FileView AnyEndian) (opened : Result (FileView AnyEndian) ParseError) → Ok view ≡ opened
+    → IsSaidAfter None (IsViewSaid task path bytes view) named said → IsOpenedSaid task path bytes opened named said
+opened_said task path bytes named said view opened is h =
+    subst (λ (o : Result (FileView AnyEndian) ParseError). IsOpenedSaid task path bytes o named said) is
+    (subst (λ (s : List Said). IsViewSaid task path bytes view named s) (sym h.2) h.1)

@@ -1,0 +1,25 @@
+use Rattle.std.proofs.Common.{◌≡◌, ap, ◌∙◌, sym, subst}
+use Rattle.nugwier_listing.specs.Hardening.{Hardened, hardened_said}
+use Rattle.nugwier_listing.specs.Job.{IsSaidBy, IsSaidOf}
+use Rattle.nugwier_listing.specs.Whole.{file_of}
+use Rattle.nugwier_listing.specs.inner.Hardening.{tables_view}
+use Rattle.nugwier_report.specs.declared.hardening.Requirement.{Requirement}
+use Rattle.nugwier_report.specs.Said.{Said}
+use Rattle.nugwier_words.specs.Words.{task_of}
+use Rattle.std.specs.Prelude.{List}
+use Rattle.nugwier_listing.proofs.job.take_job.Goals as goal
+
+-- the tables are those of the file, and what is required is what the words ask for
+pub returns-in_ok-take_hardening-in-Harden : goal.returns-in_ok-take_hardening-in-Harden
+unfolding IsSaidOf
+returns-in_ok-take_hardening-in-Harden g c path said is =
+    let little = g.E.EndianParse.little in
+    let task = task_of c.args.job.now in
+    let header = g.R.ListedFile.header c.args.file.now in
+    let file = file_of (g.R.Headers.file c.args.file.now) (g.R.ListedFile.bytes c.args.file.now) in
+    let tables = c.in_ok-take_hardening-in-Harden.field-0 in
+    let clauses = c.in_ok-take_hardening-in-Harden.ensures in
+    subst (λ command. IsSaidBy little g.E.EndianParse.of_byte command task path header file said) (sym c.in-Harden.is)
+    (is
+    ∙ ap (λ (r : List Requirement). hardened_said path r (tables_view little tables)) clauses.requirements
+    ∙ ap (λ (f : Hardened). hardened_said path task.requirements f) clauses.tables)
