@@ -144,6 +144,47 @@ static void read_common(const struct nugwier_file *file)
     if (common.dynamics.found) nugwier_dynamics(&common.dynamics.entries, 0, entries, 4);
 }
 
+static void touch_found(struct nugwier_status status, const struct nugwier_found_bytes *found)
+{
+    if (!status.code && found->found) touch(found->bytes, found->bytes_len);
+}
+
+static void read_names(const struct nugwier_file *file)
+{
+    struct nugwier_dynamic_names names = {0};
+    struct nugwier_found_bytes bytes = {0};
+    struct nugwier_needed needed = {0};
+    touch_found(nugwier_build_id(file, &bytes), &bytes);
+    if (nugwier_dynamic_names(file, &names).code || !names.found) return;
+    touch_found(nugwier_soname(&names, &bytes), &bytes);
+    touch_found(nugwier_runpath(&names, &bytes), &bytes);
+    touch_found(nugwier_rpath(&names, &bytes), &bytes);
+    size_t next = 0, before = 0;
+    for (;; before = next) {
+        struct nugwier_status status = nugwier_needed(&names, &next, &needed);
+        if (!status.code && !needed.found) break;
+        expect(next > before, "a walk over libraries that stands still");
+        if (!status.code) touch(needed.name, needed.name_len);
+    }
+    expect(next == before, "a walk over libraries that goes on past its end");
+}
+
+/* The symbol at an address, by a look at each: objects and functions that a section of the file defines. */
+static void find_at(const struct nugwier_table *table, uint64_t address)
+{
+    struct nugwier_found found = {0}, wanted = {0};
+    struct nugwier_symbol one = {0};
+    for (size_t i = 0; !nugwier_symbol(table, i, &one).code; i++) {
+        int type = one.info & 15;
+        if ((type != 1 && type != 2 && type != 10) || !one.shndx || one.shndx == 0xfff1 || one.shndx == 0xfff2) continue;
+        if (one.value <= address && (!wanted.found || wanted.symbol.value <= one.value))
+            wanted = (struct nugwier_found){true, i, one};
+    }
+    nugwier_symbol_at(table, address, &found);
+    expect(found.found == wanted.found && found.index == wanted.index && found.symbol.value == wanted.symbol.value,
+           "another symbol at an address");
+}
+
 /* Of a file that is called sound these calls return no error. */
 static void read_checked(const struct nugwier_file *file)
 {
@@ -240,8 +281,12 @@ static void read_all(const uint8_t *bytes, size_t length)
             touch(part.bytes + part.bytes_len - 1, 1);
         if (!nugwier_segment_notes(&file, &segment, &notes).code) read_notes(&notes);
     }
+    find_at(&table.symbols, 0);
+    find_at(&table.symbols, UINT64_MAX);
+    find_at(&table.symbols, file.header.entry);
     read_versions(&file);
     read_common(&file);
+    read_names(&file);
     read_checked(&file);
     read_by_parts(bytes, length);
 }
@@ -437,6 +482,24 @@ static void tables_by_parts(const struct nugwier_file *whole)
     forget(&parts, 0);
 }
 
+static void linking_by_parts(const struct nugwier_file *whole)
+{
+    FRESH(whole);
+    struct nugwier_dynamic_names names = {0}, names_of_parts = {0};
+    BY_PARTS(nugwier_dynamic_names(&parts.file, &names_of_parts));
+    expect(same_status(status, nugwier_dynamic_names(whole, &names)) && names.found == names_of_parts.found &&
+               same_table(&names.entries, &names_of_parts.entries) &&
+               same_bytes(names.strings, names.strings_len, names_of_parts.strings, names_of_parts.strings_len),
+           "other names of the dynamic linker by parts");
+    forget(&parts, 0);
+    struct nugwier_found_bytes id = {0}, id_of_parts = {0};
+    BY_PARTS(nugwier_build_id(&parts.file, &id_of_parts));
+    expect(same_status(status, nugwier_build_id(whole, &id)) && id.found == id_of_parts.found &&
+               same_bytes(id.bytes, id.bytes_len, id_of_parts.bytes, id_of_parts.bytes_len),
+           "another build id by parts");
+    forget(&parts, 0);
+}
+
 static void names_by_parts(const struct nugwier_file *whole)
 {
     FRESH(whole);
@@ -490,6 +553,7 @@ static void read_by_parts(const uint8_t *bytes, size_t length)
             segment_by_parts(&whole, &segment);
         }
         tables_by_parts(&whole);
+        linking_by_parts(&whole);
         names_by_parts(&whole);
     }
     forget(&parts, 0);
@@ -636,8 +700,11 @@ static void texts(void)
         {{10, 15, 0}, "Could not interpret section with unexpected alignment of 15"},
         {{11, 0x2c, 0x3d}, "Could not read bytes in range [0x2C, 0x3D)"},
         {{12, 0, 0}, "Integer overflow detected"},
-        /* one that the crate does not have */
+        /* those that the crate does not have */
         {{NUGWIER_NOT_LOADED, 0x1f, 0xabc}, "Bytes in range [0x1F, 0xABC) are not loaded"},
+        {{NUGWIER_NO_ADDRESS, 0, 0}, "no entry DT_STRTAB"},
+        {{NUGWIER_NO_SIZE, 0, 0}, "no entry DT_STRSZ"},
+        {{NUGWIER_NO_SEGMENT, 0xabc, 0}, "no segment holds the string table at 0xabc"},
     };
     for (size_t i = 0; i < sizeof all / sizeof *all; i++) {
         uint8_t text[100];
@@ -720,6 +787,31 @@ static void nothing(void)
     expect(!nugwier_check(&file, &found, &fault).code && found && fault.kind == NUGWIER_NO_FAULT && fault.part == 0 &&
                fault.index == 0 && fault.first == 0 && fault.second == 0,
            "a fault of a file with no headers");
+    struct nugwier_dynamic_names linked = {0};
+    struct nugwier_found_bytes bytes = {true, NULL, 0};
+    struct nugwier_needed needed = {.found = true};
+    expect(!nugwier_dynamic_names(&file, &linked).code && !linked.found, "names of a file without any");
+    expect(!nugwier_build_id(&file, &bytes).code && !bytes.found, "a build id of a file without any");
+    expect(!nugwier_soname(&linked, &bytes).code && !bytes.found, "a soname among no entries");
+    offset = SIZE_MAX;
+    expect(!nugwier_needed(&linked, &offset, &needed).code && !needed.found && offset == SIZE_MAX,
+           "a library among no entries");
+    /* two libraries, of which the first has no name, and an entry past DT_NULL */
+    static const uint8_t entries[] = {0, 0, 0, 1, 0, 0, 0, 9, 0, 0, 0, 14, 0, 0, 0, 1, 0x7f, 0xff, 0xff, 0xff, 0, 0, 0, 0,
+                                      0, 0, 0, 0, 0, 0, 0, 0, 0, 0,    0,  29, 0, 0, 0, 0};
+    linked = (struct nugwier_dynamic_names){true, {false, false, entries, sizeof entries}, (const uint8_t *)"lib", 4};
+    offset = 0;
+    expect(nugwier_needed(&linked, &offset, &needed).code == NUGWIER_BAD_OFFSET && offset == 1 && !needed.found,
+           "a library without a name");
+    expect(!nugwier_needed(&linked, &offset, &needed).code && offset == 3 && needed.found && needed.tag == 0x7fffffff &&
+               needed.name_len == 3,
+           "a library after one without a name");
+    expect(!nugwier_needed(&linked, &offset, &needed).code && !needed.found && offset == 3, "a library past the last one");
+    expect(!nugwier_soname(&linked, &bytes).code && bytes.found && bytes.bytes_len == 2, "the soname");
+    bytes.found = true;
+    expect(!nugwier_runpath(&linked, &bytes).code && !bytes.found, "search paths past DT_NULL");
+    nugwier_symbol_at(&table, 0, &one);
+    expect(!one.found && !one.index, "a symbol at an address of an empty table");
     nugwier_e_machine_name(62, &name);
     expect(name.found && name.bytes_len == 9 && !memcmp(name.bytes, "EM_X86_64", 9), "the name of a machine");
     nugwier_e_machine_name(0xfffe, &name);

@@ -44,7 +44,10 @@ enum {
     NUGWIER_SLICE_READ_ERROR = 11,         /* first: start, second: end of the range that does not lie in the bytes */
     NUGWIER_INTEGER_OVERFLOW = 12,
     NUGWIER_UTF8_ERROR = 13,               /* never returned */
-    NUGWIER_NOT_LOADED = 18                /* first: start, second: end of a range of the file that is not loaded */
+    NUGWIER_NOT_LOADED = 18,               /* first: start, second: end of a range of the file that is not loaded */
+    NUGWIER_NO_ADDRESS = 19,               /* no dynamic entry DT_STRTAB */
+    NUGWIER_NO_SIZE = 20,                  /* no dynamic entry DT_STRSZ */
+    NUGWIER_NO_SEGMENT = 21                /* first: the address of strings that no segment of type PT_LOAD holds */
 };
 
 struct nugwier_status {
@@ -56,6 +59,13 @@ struct nugwier_status {
 /* ---- bytes and tables */
 
 struct nugwier_bytes {
+    const uint8_t *bytes;
+    size_t bytes_len;
+};
+
+/* If `found` is false, the call wrote nothing else. */
+struct nugwier_found_bytes {
+    bool found;
     const uint8_t *bytes;
     size_t bytes_len;
 };
@@ -311,6 +321,43 @@ struct nugwier_status nugwier_section_names(const struct nugwier_file *file, str
 struct nugwier_status nugwier_section_by_name(const struct nugwier_file *file, const uint8_t *name, size_t name_len,
                                               bool *found, struct nugwier_section *section);
 
+/* ---- the names that dynamic entries give */
+
+/* The dynamic entries of a file, and the strings that they name. If `found` is false, the call wrote nothing else. */
+struct nugwier_dynamic_names {
+    bool found;
+    struct nugwier_table entries;
+    const uint8_t *strings;
+    size_t strings_len;
+};
+
+/* A library that is loaded with a file: the tag of its entry, DT_NEEDED, DT_AUXILIARY or DT_FILTER, and its name. If
+ * `found` is false, the call wrote nothing else. */
+struct nugwier_needed {
+    bool found;
+    int64_t tag;
+    const uint8_t *name;
+    size_t name_len;
+};
+
+/* The strings are found by their address, as the dynamic linker finds them, so no section header is needed. */
+struct nugwier_status nugwier_dynamic_names(const struct nugwier_file *file, struct nugwier_dynamic_names *names);
+
+/* The name of the file for those that need it (DT_SONAME), and where libraries are looked for (DT_RUNPATH, or without
+ * it DT_RPATH): each by the first entry with its tag. */
+struct nugwier_status nugwier_soname(const struct nugwier_dynamic_names *names, struct nugwier_found_bytes *soname);
+struct nugwier_status nugwier_runpath(const struct nugwier_dynamic_names *names, struct nugwier_found_bytes *runpath);
+struct nugwier_status nugwier_rpath(const struct nugwier_dynamic_names *names, struct nugwier_found_bytes *rpath);
+
+/* The next library, from entry number `next` on, which is 0 at first. If none is left, `found` is false, and `next`
+ * stays. Otherwise `next` is moved past its entry, also after an error, so that the next call takes the library after
+ * it. */
+struct nugwier_status nugwier_needed(const struct nugwier_dynamic_names *names, size_t *next,
+                                     struct nugwier_needed *needed);
+
+/* The build id: the first among the notes of the segments of type PT_NOTE, and then of the sections of type SHT_NOTE. */
+struct nugwier_status nugwier_build_id(const struct nugwier_file *file, struct nugwier_found_bytes *id);
+
 /* ---- notes */
 
 struct nugwier_abi_tag {
@@ -362,6 +409,11 @@ struct nugwier_status nugwier_gnu_find(const uint8_t *section, size_t section_le
 struct nugwier_status nugwier_sysv_find(const uint8_t *section, size_t section_len, const struct nugwier_table *symbols,
                                         const uint8_t *strings, size_t strings_len, const uint8_t *name,
                                         size_t name_len, struct nugwier_found *found);
+
+/* The last symbol, in the order of addresses, that starts at an address or before it; of several with one address that
+ * which comes last in the table. These are the objects and functions that a section of the file defines. The address is
+ * one of the symbol's bytes if `address - symbol.value` is below `symbol.size`. Each symbol is looked at. */
+void nugwier_symbol_at(const struct nugwier_table *symbols, uint64_t address, struct nugwier_found *found);
 
 /* A hash section that was opened, so that a look-up does not open it anew. It belongs to the caller, and holds nothing
  * that has to be freed. */
@@ -645,6 +697,7 @@ size_t nugwier_error_text(const struct nugwier_status *status, uint8_t *text, si
 namespace nugwier {
 using status = struct ::nugwier_status;
 using bytes = struct ::nugwier_bytes;
+using found_bytes = struct ::nugwier_found_bytes;
 using table = struct ::nugwier_table;
 using symbol = struct ::nugwier_symbol;
 using named_symbol = struct ::nugwier_named_symbol;
@@ -662,6 +715,8 @@ using notes = struct ::nugwier_notes;
 using symbol_table = struct ::nugwier_symbol_table;
 using dynamic_table = struct ::nugwier_dynamic_table;
 using section_names = struct ::nugwier_section_names;
+using dynamic_names = struct ::nugwier_dynamic_names;
+using needed = struct ::nugwier_needed;
 using abi_tag = struct ::nugwier_abi_tag;
 using note = struct ::nugwier_note;
 using found = struct ::nugwier_found;

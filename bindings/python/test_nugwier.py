@@ -177,6 +177,8 @@ class Reading(unittest.TestCase):
             sizes.setdefault(int(row[1], 16), set()).add(int(row[2], 0))
         with nugwier.open(LIBRARY) as file:
             self.assertIsNone(file.address(placed[0] - 1))
+            self.assertIsNone(file.address(-1))
+            self.assertEqual(file.address(1 << 70).distance, (1 << 70) - placed[-1])
             for value, following in list(zip(placed, placed[1:]))[::9]:
                 for address in (value, following - 1):
                     found = file.address(address)
@@ -404,6 +406,22 @@ class Changed(unittest.TestCase):
                              {one for one in whole.notes() if one.owner == "GNU"})
             self.assertEqual(len(file.dynamic_symbols), 0)
             self.assertEqual(list(file.symbols), [])
+
+    def test_dynamic_entries_whose_strings_are_not_there(self):
+        with nugwier.open(FILE) as file:
+            tags = [entry.tag for entry in file.dynamic()]
+        for tag, place, value, error in (
+                (DT.DT_STRTAB, 0, 99, ("NoAddress", "no entry DT_STRTAB")),
+                (DT.DT_STRSZ, 0, 99, ("NoSize", "no entry DT_STRSZ")),
+                (DT.DT_STRTAB, 8, 1 << 60, ("NoSegment", "no segment holds the string table at 0x1000000000000000"))):
+            before = bytes(self.content)
+            self.put(self.sections[".dynamic"].offset + 16 * tags.index(tag) + place, "Q", value)
+            with nugwier.open(bytes(self.content)) as file:
+                with self.assertRaises(nugwier.ElfError) as raised:
+                    file.needed
+                self.assertEqual((raised.exception.kind, str(raised.exception)), error)
+                self.assertEqual([entry.text for entry in file.dynamic()], [None] * len(tags))
+            self.content[:] = before
 
     def test_bytes_of_a_section(self):
         index = self.sections[".rodata"].index

@@ -13,7 +13,7 @@ _nugwier() {
         esac
         case $word in
             -*)
-                mapfile -t COMPREPLY < <(compgen -W "-h -S -l -s -D -d -r -n -V -a -x -p --json --help" -- "$word")
+                mapfile -t COMPREPLY < <(compgen -W "-h -S -l -s -D -d -r -n -V -a -x -p --json -R --recursive --help" -- "$word")
                 return
                 ;;
         esac
@@ -22,7 +22,7 @@ _nugwier() {
             mapfile -t COMPREPLY < <(compgen -d -- "$word")
             return
         elif [ "${word#-}" != "$word" ]; then
-            mapfile -t COMPREPLY < <(compgen -W "--search --root --no-cache --json --help" -- "$word")
+            mapfile -t COMPREPLY < <(compgen -W "--search --root --no-cache --json -R --recursive --help" -- "$word")
             return
         fi
     elif [ "${COMP_WORDS[1]}" = harden ]; then
@@ -31,11 +31,19 @@ _nugwier() {
                 "pie relro bindnow nx canary fortify runpath ibt shstk bti pac stripped" -- "$word")
             return
         elif [ "${word#-}" != "$word" ]; then
-            mapfile -t COMPREPLY < <(compgen -W "--require --json --help" -- "$word")
+            mapfile -t COMPREPLY < <(compgen -W "--require --json -R --recursive --help" -- "$word")
             return
         fi
+    elif [ "${COMP_WORDS[1]}" = symbols ] && [ "${word#-}" != "$word" ]; then
+        mapfile -t COMPREPLY < <(compgen -W \
+            "-D -g -u -n -p -S -P --dynamic --extern-only --undefined-only --defined-only --numeric-sort --size-sort \
+--no-sort --print-size --format=posix --json --help" -- "$word")
+        return
+    elif [ "${COMP_WORDS[1]}" = exports ] && [ "${word#-}" != "$word" ]; then
+        mapfile -t COMPREPLY < <(compgen -W "--functions --json --help" -- "$word")
+        return
     elif [ "${word#-}" != "$word" ]; then
-        mapfile -t COMPREPLY < <(compgen -W "--json --help" -- "$word")
+        mapfile -t COMPREPLY < <(compgen -W "--json -R --recursive --help" -- "$word")
         return
     fi
     mapfile -t COMPREPLY < <(compgen -f -- "$word")

@@ -2,9 +2,9 @@
 set -l commands list symbols needed exports build-id plan check harden address tree bindings
 complete -c nugwier -n "not __fish_seen_subcommand_from $commands" -f
 complete -c nugwier -n "not __fish_seen_subcommand_from $commands" -a list -d "headers, tables and contents"
-complete -c nugwier -n "not __fish_seen_subcommand_from $commands" -a symbols -d "symbols for dynamic linking"
+complete -c nugwier -n "not __fish_seen_subcommand_from $commands" -a symbols -d "symbols, as nm lists them"
 complete -c nugwier -n "not __fish_seen_subcommand_from $commands" -a needed -d "needed libraries"
-complete -c nugwier -n "not __fish_seen_subcommand_from $commands" -a exports -d "defined functions"
+complete -c nugwier -n "not __fish_seen_subcommand_from $commands" -a exports -d "defined functions and data"
 complete -c nugwier -n "not __fish_seen_subcommand_from $commands" -a build-id -d "build id"
 complete -c nugwier -n "not __fish_seen_subcommand_from $commands" -a plan -d "what a loader maps"
 complete -c nugwier -n "not __fish_seen_subcommand_from $commands" -a check -d "whether a file is sound"
@@ -15,6 +15,7 @@ complete -c nugwier -n "not __fish_seen_subcommand_from $commands" -a bindings -
 complete -c nugwier -n "not __fish_seen_subcommand_from $commands" -l version -d "the version"
 complete -c nugwier -l help -d "how it is called"
 complete -c nugwier -n "__fish_seen_subcommand_from $commands" -l json -d "objects of JSON"
+complete -c nugwier -n "__fish_seen_subcommand_from $commands" -s R -l recursive -d "ELF files below folders"
 complete -c nugwier -n "__fish_seen_subcommand_from $commands" -F
 complete -c nugwier -n "__fish_seen_subcommand_from list" -s h -d "file header"
 complete -c nugwier -n "__fish_seen_subcommand_from list" -s S -d sections
@@ -28,6 +29,16 @@ complete -c nugwier -n "__fish_seen_subcommand_from list" -s V -d versions
 complete -c nugwier -n "__fish_seen_subcommand_from list" -s a -d all
 complete -c nugwier -n "__fish_seen_subcommand_from list" -s x -x -d "bytes of a section"
 complete -c nugwier -n "__fish_seen_subcommand_from list" -s p -x -d "strings of a section"
+complete -c nugwier -n "__fish_seen_subcommand_from symbols" -s D -l dynamic -d "those for dynamic linking"
+complete -c nugwier -n "__fish_seen_subcommand_from symbols" -s g -l extern-only -d "those that other files can see"
+complete -c nugwier -n "__fish_seen_subcommand_from symbols" -s u -l undefined-only -d "undefined ones"
+complete -c nugwier -n "__fish_seen_subcommand_from symbols" -l defined-only -d "defined ones"
+complete -c nugwier -n "__fish_seen_subcommand_from symbols" -s n -l numeric-sort -d "in the order of values"
+complete -c nugwier -n "__fish_seen_subcommand_from symbols" -l size-sort -d "in the order of sizes"
+complete -c nugwier -n "__fish_seen_subcommand_from symbols" -s p -l no-sort -d "in the order of the table"
+complete -c nugwier -n "__fish_seen_subcommand_from symbols" -s S -l print-size -d "with sizes"
+complete -c nugwier -n "__fish_seen_subcommand_from symbols" -s P -l format=posix -d "as POSIX has it"
+complete -c nugwier -n "__fish_seen_subcommand_from exports" -l functions -d "functions alone"
 complete -c nugwier -n "__fish_seen_subcommand_from harden" -l require -x -a "pie relro bindnow nx canary fortify runpath ibt shstk bti pac stripped" -d "what a file must have"
 complete -c nugwier -n "__fish_seen_subcommand_from tree bindings" -l search -x -a "(__fish_complete_directories)" -d "folder of libraries"
 complete -c nugwier -n "__fish_seen_subcommand_from tree bindings" -l root -x -a "(__fish_complete_directories)" -d "folder of an image"

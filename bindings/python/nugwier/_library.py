@@ -13,6 +13,7 @@ _ERRORS = {
     1: "BadMagic", 2: "UnsupportedElfClass", 3: "UnsupportedElfEndianness", 4: "UnsupportedVersion", 5: "BadOffset",
     6: "StringTableMissingNul", 7: "BadEntsize", 8: "UnexpectedSectionType", 9: "UnexpectedSegmentType",
     10: "UnexpectedAlignment", 11: "SliceReadError", 12: "IntegerOverflow", 13: "Utf8Error", 18: "NotLoaded",
+    19: "NoAddress", 20: "NoSize", 21: "NoSegment",
 }
 NOT_LOADED = 18
 
@@ -81,6 +82,9 @@ AbiTag = _struct("AbiTag", ("os", c_uint32), ("major", c_uint32), ("minor", c_ui
 Note = _struct("Note", ("kind", c_uint32), ("tag", AbiTag), ("n_type", c_uint64), *_bytes("name"), *_bytes("desc"))
 Symbols = _struct("Symbols", ("found", c_bool), ("symbols", Table), *_bytes("strings"))
 Dynamics = _struct("Dynamics", ("found", c_bool), ("entries", Table))
+FoundBytes = _struct("FoundBytes", ("found", c_bool), *_bytes("bytes"))
+DynamicNames = _struct("DynamicNames", ("found", c_bool), ("entries", Table), *_bytes("strings"))
+Needed = _struct("Needed", ("found", c_bool), ("tag", c_int64), *_bytes("name"))
 Names = _struct("Names", ("found", c_bool), *_bytes("strings"))
 Found = _struct("Found", ("found", c_bool), ("index", c_size_t), ("symbol", Symbol))
 Gnu = _struct("Gnu", ("little", c_bool), ("is_64", c_bool), ("nbucket", c_uint32), ("first", c_uint32),
@@ -127,6 +131,10 @@ _CALLS: Any = {
         "segment_notes": (POINTER(File), POINTER(Segment), POINTER(Notes)),
         "symbol_table": (POINTER(File), c_bool, POINTER(Symbols)),
         "dynamic_table": (POINTER(File), POINTER(Dynamics)),
+        "dynamic_names": (POINTER(File), POINTER(DynamicNames)),
+        **{name: (POINTER(DynamicNames), POINTER(FoundBytes)) for name in ("soname", "runpath", "rpath")},
+        "needed": (POINTER(DynamicNames), POINTER(c_size_t), POINTER(Needed)),
+        "build_id": (POINTER(File), POINTER(FoundBytes)),
         "version_table": (POINTER(File), POINTER(Versions)),
         "version_index": (POINTER(Versions), c_size_t, POINTER(VersionIndex)),
         "requirement": (POINTER(Versions), c_size_t, POINTER(Requirement)),
@@ -148,6 +156,7 @@ _CALLS: Any = {
         "error_text": (POINTER(Status), *_RAW),
         "fault_text": (POINTER(Fault), *_RAW),
     },
+    None: {"symbol_at": (POINTER(Table), c_uint64, POINTER(Found))},
 }
 
 _library: Any = None

@@ -3,12 +3,11 @@
 from __future__ import annotations
 
 import ctypes
-from bisect import bisect_right
 from ctypes import byref
 from typing import Any, Callable, Iterator, List, Tuple
 
 from . import _library as c
-from .constants import DT, ELFOSABI, EM, ET, PT, RELOCATION_TYPES, SECTION_TYPES, SEGMENT_TYPES, SHN, SHT, STT, TAGS
+from .constants import DT, ELFOSABI, EM, ET, PT, RELOCATION_TYPES, SECTION_TYPES, SEGMENT_TYPES, SHT, TAGS
 from .faults import FaultKind, Part
 from .notes import Note, note_of
 from .records import DynamicEntry, Fault, Nearest, Relocation, Section, Segment, Symbol, Version
@@ -25,8 +24,6 @@ _STRINGS = {
     DT.DT_NEEDED, DT.DT_SONAME, DT.DT_RPATH, DT.DT_RUNPATH, DT.DT_AUXILIARY, DT.DT_FILTER, DT.DT_CONFIG,
     DT.DT_DEPAUDIT, DT.DT_AUDIT,
 }
-_PLACED = {STT.STT_OBJECT, STT.STT_FUNC, STT.STT_GNU_IFUNC}
-_IN_NO_SECTION = {SHN.SHN_UNDEF, SHN.SHN_ABS, SHN.SHN_COMMON}
 
 
 class ElfFile:
@@ -49,7 +46,6 @@ class ElfFile:
         self._segments: Segments | None = None
         self._tables: dict[bool, Any] = {}
         self._versions: Versions | None = None
-        self._located: Tuple[List[int], List[Symbol]] | None = None
         self._looked_up: Any = None
         self._source = opened_source(source)
         try:
@@ -304,7 +300,8 @@ class ElfFile:
 
     def address(self, address: int) -> Nearest | None:
         """The last symbol that starts at an address or before it, among the objects and functions that this file
-        defines; or None. They are those of `symbols`, or of `dynamic_symbols` if there are no others.
+        defines; or None. They are those of `symbols`, or of `dynamic_symbols` if there are no others. Each call looks
+        at all of them.
 
             >>> with nugwier.open("/lib/x86_64-linux-gnu/libc.so.6") as file:
             ...     printf = file.find("printf")
@@ -312,19 +309,14 @@ class ElfFile:
             >>> found.symbol.name, found.distance, found.is_inside
             ('printf', 5, True)
         """
-        if self._located is None:
-            table = self.symbols if len(self.symbols) else self.dynamic_symbols
-            placed = [symbol for symbol in table if symbol.type in _PLACED and symbol.shndx not in _IN_NO_SECTION]
-            placed.sort(key=lambda symbol: symbol.value)
-            self._located = [symbol.value for symbol in placed], placed
-        self._opened()
-        addresses, symbols = self._located
-        before = bisect_right(addresses, address)
-        if before == 0:
+        table = self._table(dynamic=len(self.symbols) == 0)
+        found = c.Found()
+        if address >= 0:
+            c.library().nugwier_symbol_at(byref(table.symbols), min(address, 2**64 - 1), byref(found))
+        if not found.found:
             return None
-        symbol = symbols[before - 1]
-        distance = address - symbol.value
-        return Nearest(symbol, distance, distance < symbol.size)
+        distance = address - found.symbol.value
+        return Nearest(self._symbol(table, found.index, found.symbol), distance, distance < found.symbol.size)
 
     # ---- relocations
 
@@ -370,63 +362,56 @@ class ElfFile:
             ...     print([entry.text for entry in file.dynamic() if entry.tag == DT.DT_NEEDED])
             ['libc.so.6']
         """
-        strings, tags = self._dynamic_strings(), TAGS.get(self.machine)
-        for index, tag, value in self._dynamic_numbers():
-            text = self._string_or_none(*strings, value) if tag in _STRINGS else None
-            yield DynamicEntry(index, named(DT, tags, tag), value, text)
-            if tag == DT.DT_NULL:
-                return
-
-    def _dynamic_numbers(self) -> Iterator[Tuple[int, int, int]]:
-        table = c.Dynamics()
+        table, names, tags = c.Dynamics(), c.DynamicNames(), TAGS.get(self.machine)
         self._call("dynamic_table", byref(table))
-        if table.found:
-            for first, lot in self._lots("dynamics", c.Dynamic, table.entries):
-                for index, (tag, value) in enumerate(lot, first):
-                    self._opened()
-                    yield index, tag, value
+        try:
+            self._call("dynamic_names", byref(names))
+        except c.ElfError:
+            pass  # the strings are missing, and the entries are there
+        for first, lot in self._lots("dynamics", c.Dynamic, table.entries) if table.found else ():
+            for index, (tag, value) in enumerate(lot, first):
+                self._opened()
+                is_string = names.found and tag in _STRINGS
+                text = self._string_or_none(names.strings, names.strings_len, value) if is_string else None
+                yield DynamicEntry(index, named(DT, tags, tag), value, text)
+                if tag == DT.DT_NULL:
+                    return
 
-    def _dynamic_strings(self) -> Tuple[Any, int]:
-        """The strings of dynamic entries: those of the section that SHT_DYNAMIC is linked with, or without one those at
-        the address DT_STRTAB."""
-        section = self._of_type(SHT.SHT_DYNAMIC)
-        if section is not None and section.linked is not None:
-            strings = self._part("section_strings", section.linked, c.Bytes)
-            return strings.bytes, strings.bytes_len
-        numbers = {tag: value for _, tag, value in self._dynamic_numbers()}
-        address, size = numbers.get(DT.DT_STRTAB, 0), numbers.get(DT.DT_STRSZ, 0)
-        for segment in self.segments:
-            start = address - segment.vaddr
-            if segment.kind == PT.PT_LOAD and 0 <= start < segment.filesz:
-                part = self._part("segment_data", segment, c.Bytes)
-                return part.bytes + start, min(size, part.bytes_len - start)
-        return None, 0
+    def _dynamic_names(self) -> Any:
+        names = c.DynamicNames()
+        self._call("dynamic_names", byref(names))
+        return names
 
-    def _dynamic_texts(self, tag: int) -> Iterator[str]:
-        """The strings of the dynamic entries with a tag. One that cannot be read is an error."""
-        found = [entry for entry in self.dynamic() if entry.tag == tag]
-        strings = self._dynamic_strings() if found else (None, 0)
-        return (self._string(*strings, entry.value) for entry in found)
+    def _dynamic_name(self, call: str) -> str | None:
+        names, name = self._dynamic_names(), c.FoundBytes()
+        c.call(call, byref(names), byref(name))
+        return c.to_text(c.copy_of(name)) if name.found else None
 
     @property
     def needed(self) -> List[str]:
-        """The libraries that are needed (DT_NEEDED), in order."""
-        return list(self._dynamic_texts(DT.DT_NEEDED))
+        """The libraries that are needed (DT_NEEDED), in order. A name that cannot be read is an error."""
+        names, place, library, needed = self._dynamic_names(), ctypes.c_size_t(0), c.Needed(), []
+        while True:
+            c.call("needed", byref(names), byref(place), byref(library))
+            if not library.found:
+                return needed
+            if library.tag == DT.DT_NEEDED:
+                needed.append(c.to_text(c.copy(library.name, library.name_len)))
 
     @property
     def soname(self) -> str | None:
         """The name of this library for those that need it (DT_SONAME)."""
-        return next(self._dynamic_texts(DT.DT_SONAME), None)
+        return self._dynamic_name("soname")
 
     @property
     def rpath(self) -> str | None:
         """Where libraries are looked for (DT_RPATH), unless there is a `runpath`."""
-        return next(self._dynamic_texts(DT.DT_RPATH), None)
+        return self._dynamic_name("rpath")
 
     @property
     def runpath(self) -> str | None:
         """Where libraries are looked for (DT_RUNPATH)."""
-        return next(self._dynamic_texts(DT.DT_RUNPATH), None)
+        return self._dynamic_name("runpath")
 
     # ---- notes
 
@@ -437,12 +422,9 @@ class ElfFile:
                 if section.kind == SHT.SHT_NOTE:
                     yield from section.notes()
         else:
-            yield from self._segment_notes()
-
-    def _segment_notes(self) -> Iterator[Note]:
-        for segment in self.segments:
-            if segment.kind == PT.PT_NOTE:
-                yield from segment.notes()
+            for segment in self.segments:
+                if segment.kind == PT.PT_NOTE:
+                    yield from segment.notes()
 
     def _notes(self, part: str, header: Section | Segment) -> Iterator[Note]:
         notes, offset = self._part(part + "_notes", header, c.Notes), ctypes.c_size_t(0)
@@ -463,11 +445,9 @@ class ElfFile:
             ...     print(len(file.build_id))
             40
         """
-        for notes in (self._segment_notes(), self.notes()):
-            for note in notes:
-                if note.build_id is not None:
-                    return note.build_id
-        return None
+        found = c.FoundBytes()
+        self._call("build_id", byref(found))
+        return c.copy_of(found).hex() if found.found else None
 
     # ---- hash sections
 

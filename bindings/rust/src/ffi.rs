@@ -60,6 +60,14 @@ pub struct Status {
     pub second: u64,
 }
 
+impl core::fmt::Display for Status {
+    fn fmt(&self, f: &mut core::fmt::Formatter<'_>) -> core::fmt::Result {
+        let mut text = [0; 128];
+        let length = error_text(self, &mut text).min(text.len());
+        f.write_str(core::str::from_utf8(&text[..length]).map_err(|_| core::fmt::Error)?)
+    }
+}
+
 impl Status {
     /// The start and the end of the range that is not loaded, if the status says so.
     pub fn missing(&self) -> Option<(u64, u64)> {
@@ -267,6 +275,36 @@ pub struct SymbolTable<'a> {
 pub struct DynamicTable<'a> {
     pub found: bool,
     pub entries: Table<'a>,
+}
+
+/// Bytes that may be there or not.
+#[repr(C)]
+#[derive(Clone, Copy, Debug, Default)]
+pub struct FoundBytes<'a> {
+    found: bool,
+    bytes: Bytes<'a>,
+}
+
+impl<'a> FoundBytes<'a> {
+    pub fn get(self) -> Option<&'a [u8]> {
+        self.found.then(|| self.bytes.get())
+    }
+}
+
+#[repr(C)]
+#[derive(Clone, Copy, Debug, Default)]
+pub struct DynamicNames<'a> {
+    pub found: bool,
+    pub entries: Table<'a>,
+    pub strings: Bytes<'a>,
+}
+
+#[repr(C)]
+#[derive(Clone, Copy, Debug, Default)]
+pub struct Needed<'a> {
+    pub found: bool,
+    pub tag: i64,
+    pub name: Bytes<'a>,
 }
 
 #[repr(C)]
@@ -554,6 +592,17 @@ extern "C" {
     ) -> Status;
     fn nugwier_dynamic_table(file: &File<'_, '_>, dynamics: &mut DynamicTable<'_>) -> Status;
     fn nugwier_section_names(file: &File<'_, '_>, names: &mut SectionNames<'_>) -> Status;
+    fn nugwier_dynamic_names(file: &File<'_, '_>, names: &mut DynamicNames<'_>) -> Status;
+    fn nugwier_soname(names: &DynamicNames<'_>, soname: &mut FoundBytes<'_>) -> Status;
+    fn nugwier_runpath(names: &DynamicNames<'_>, runpath: &mut FoundBytes<'_>) -> Status;
+    fn nugwier_rpath(names: &DynamicNames<'_>, rpath: &mut FoundBytes<'_>) -> Status;
+    fn nugwier_needed(
+        names: &DynamicNames<'_>,
+        next: &mut usize,
+        needed: &mut Needed<'_>,
+    ) -> Status;
+    fn nugwier_build_id(file: &File<'_, '_>, id: &mut FoundBytes<'_>) -> Status;
+    fn nugwier_symbol_at(symbols: &Table<'_>, address: u64, found: &mut Found);
     fn nugwier_section_by_name(
         file: &File<'_, '_>,
         name: *const u8,
@@ -878,6 +927,41 @@ pub fn dynamic_table<'a>(file: &File<'_, 'a>, dynamics: &mut DynamicTable<'a>) -
 pub fn section_names<'a>(file: &File<'_, 'a>, names: &mut SectionNames<'a>) -> Status {
     // SAFETY: the export accepts all values of these types, and writes values of these types.
     unsafe { nugwier_section_names(file, names) }
+}
+
+pub fn dynamic_names<'a>(file: &File<'_, 'a>, names: &mut DynamicNames<'a>) -> Status {
+    // SAFETY: the export accepts all values of these types, and writes values of these types.
+    unsafe { nugwier_dynamic_names(file, names) }
+}
+
+pub fn soname<'a>(names: &DynamicNames<'a>, soname: &mut FoundBytes<'a>) -> Status {
+    // SAFETY: the export accepts all values of these types, and writes values of these types.
+    unsafe { nugwier_soname(names, soname) }
+}
+
+pub fn runpath<'a>(names: &DynamicNames<'a>, runpath: &mut FoundBytes<'a>) -> Status {
+    // SAFETY: the export accepts all values of these types, and writes values of these types.
+    unsafe { nugwier_runpath(names, runpath) }
+}
+
+pub fn rpath<'a>(names: &DynamicNames<'a>, rpath: &mut FoundBytes<'a>) -> Status {
+    // SAFETY: the export accepts all values of these types, and writes values of these types.
+    unsafe { nugwier_rpath(names, rpath) }
+}
+
+pub fn needed<'a>(names: &DynamicNames<'a>, next: &mut usize, needed: &mut Needed<'a>) -> Status {
+    // SAFETY: the export accepts all values of these types, and writes values of these types.
+    unsafe { nugwier_needed(names, next, needed) }
+}
+
+pub fn build_id<'a>(file: &File<'_, 'a>, id: &mut FoundBytes<'a>) -> Status {
+    // SAFETY: the export accepts all values of these types, and writes values of these types.
+    unsafe { nugwier_build_id(file, id) }
+}
+
+pub fn symbol_at(symbols: &Table<'_>, address: u64, found: &mut Found) {
+    // SAFETY: the export accepts all values of these types, and writes values of these types.
+    unsafe { nugwier_symbol_at(symbols, address, found) }
 }
 
 pub fn section_by_name(

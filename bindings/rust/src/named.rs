@@ -1,4 +1,4 @@
-//! Symbols with their names, many in a call.
+//! Symbols with their names, many in a call, and symbols by address.
 use crate::endian::EndianParse;
 use crate::ffi;
 use crate::records::{Record, CHUNK};
@@ -63,4 +63,18 @@ impl<'data> Iterator for NamedSymbols<'data> {
         self.taken += 1;
         Some((Symbol::of(&raw.symbol), raw.name.get()))
     }
+}
+
+/// The last symbol of a table, in the order of addresses, that starts at an address or before it, with its index; of
+/// several with one address that which comes last in the table. These are the objects and functions that a section of
+/// the file defines. Each symbol of the table is looked at.
+pub fn symbol_at<E: EndianParse>(
+    symbols: &SymbolTable<'_, E>,
+    address: u64,
+) -> Option<(usize, Symbol)> {
+    let mut found = ffi::Found::default();
+    ffi::symbol_at(&symbols.raw(), address, &mut found);
+    found
+        .found
+        .then(|| (found.index, Symbol::of(&found.symbol)))
 }

@@ -69,14 +69,12 @@ impl fmt::Display for ParseError {
             #[cfg(feature = "std")]
             ParseError::IOError(error) => return error.fmt(f),
         };
-        let status = ffi::Status {
+        ffi::Status {
             code,
             first,
             second,
-        };
-        let mut text = [0; 128];
-        let length = ffi::error_text(&status, &mut text).min(text.len());
-        f.write_str(core::str::from_utf8(&text[..length]).map_err(|_| fmt::Error)?)
+        }
+        .fmt(f)
     }
 }
 

@@ -4,7 +4,8 @@ use nugwier::abi;
 use nugwier::check::{check_file, Fault, Part};
 use nugwier::endian::{AnyEndian, BigEndian, LittleEndian, NativeEndian};
 use nugwier::fault_kinds;
-use nugwier::named::named_symbols;
+use nugwier::linking::{build_id, dynamic_names, Library};
+use nugwier::named::{named_symbols, symbol_at};
 use nugwier::note::Note;
 use nugwier::{ElfBytes, ParseError};
 
@@ -274,4 +275,39 @@ fn a_file_is_checked() {
         fault.to_string(),
         format!("segment {index} (PT_INTERP): does not lie in the file")
     );
+}
+
+#[test]
+fn names_for_the_dynamic_linker_need_no_sections() {
+    let mut bytes = own_file();
+    let with_sections = bytes.clone();
+    bytes[40..48].fill(0);
+    bytes[60..62].fill(0);
+    let whole = ElfBytes::<AnyEndian>::minimal_parse(&with_sections).unwrap();
+    let file = ElfBytes::<AnyEndian>::minimal_parse(&bytes).unwrap();
+    assert!(file.section_headers().is_none());
+    let names = dynamic_names(&file).unwrap().unwrap();
+    let libraries: Vec<Library<'_>> = names.libraries().map(Result::unwrap).collect();
+    let libc = Library {
+        tag: abi::DT_NEEDED,
+        name: b"libc.so.6",
+    };
+    assert!(libraries.contains(&libc));
+    assert!(names.soname().unwrap().is_none());
+    assert_eq!(build_id(&file).unwrap(), build_id(&whole).unwrap());
+}
+
+#[test]
+fn a_symbol_is_found_by_its_address() {
+    let bytes = own_file();
+    let file = ElfBytes::<AnyEndian>::minimal_parse(&bytes).unwrap();
+    let (symbols, _) = file.symbol_table().unwrap().unwrap();
+    let function = symbols
+        .iter()
+        .find(|symbol| symbol.st_symtype() == abi::STT_FUNC && symbol.st_size > 1)
+        .unwrap();
+    let (index, found) = symbol_at(&symbols, function.st_value + 1).unwrap();
+    assert_eq!(found.st_value, function.st_value);
+    assert_eq!(symbols.get(index).unwrap(), found);
+    assert!(symbol_at(&symbols, 0).is_none());
 }

@@ -3,6 +3,7 @@ pub mod Loads
 pub mod Opened
 pub mod Steps
 pub mod Lent
+pub mod Methods
 pub mod Needs
 pub mod SectionAt
 pub mod Parted

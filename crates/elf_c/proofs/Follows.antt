@@ -7,8 +7,8 @@ use Rattle.std.specs.Prelude.{nat_le, nat_lt, not}
 use Rattle.std.specs.List.{All}
 use Rattle.elf_abi.specs.Values.{pt_note, sht_dynamic, sht_dynsym, sht_gnu_hash, sht_hash, sht_note, sht_strtab, sht_symtab}
 use Rattle.elf_records.specs.Dynamic.{dyn_layout}
-use Rattle.elf_records.specs.Number.{bytes_at}
-use Rattle.elf_records.specs.Record.{size_by}
+use Rattle.elf_records.specs.Number.{bytes_at, ok_map}
+use Rattle.elf_records.specs.Record.{◌>>=◌, size_by}
 use Rattle.elf_records.specs.Table.{Table}
 use Rattle.elf_records.specs.inner.RecordLaws.{bytes_at-from}
 use Rattle.elf_records.specs.declared.compression.CompressionHeader.{CompressionHeader}
@@ -18,24 +18,29 @@ use Rattle.elf_parts.specs.GnuFind.{gnu_section}
 use Rattle.elf_parts.specs.SysvFind.{sysv_section}
 use Rattle.elf_reading.specs.Cache.{IsOf, is_cached, range_of}
 use Rattle.elf.proofs.Partly.{follows_bind, follows_found, follows_if, follows_map, linked_follows, nothing_missing, part_follows, section_follows}
-use Rattle.elf.specs.Answers.{first_symbols, section_dynamic, segment_data, segment_dynamic, symbols_in, symbols_of, with_linked}
+use Rattle.elf.specs.Answers.{dynamic, first_symbols, section_dynamic, segment_data, segment_dynamic, symbols_in, symbols_of, with_linked}
 use Rattle.elf.specs.Common.{CommonData, CommonPart, DynamicEntries, DynamicSymbols, GnuHash, Symbols, SysvHash}
 use Rattle.elf.specs.Common.{all_ok, common_of_sections, common_part, dynamic_or_segment, find_common_data, gnu_hash_table_of, last_of_each, sysv_hash_table_of, with_dynamic}
 use Rattle.elf.specs.Data.{content, content_of_type, section_data}
 use Rattle.elf.specs.Headers.{first_segment_of, if_found}
-use Rattle.elf.specs.ObjectFile.{FileOf, ObjectFile, Partial, entry_size, err_map, section_part, table_of}
+use Rattle.elf.specs.ObjectFile.{FileOf, ObjectFile, Partial, Whole, entry_size, err_map, section_part, table_of}
 use Rattle.elf.specs.Parts.{ArePartOf, Follows, Ranges, loaded}
 use Rattle.elf.specs.Readers.{Dynamic, DynamicSymbolTable, SectionData, SectionHeaderByName, SymbolTable, SymbolVersionTable}
 use Rattle.elf.specs.Names.{name_section, name_table}
 use Rattle.elf.specs.declared.read_error.ReadError.{ReadError}
 use Rattle.elf.specs.declared.read_error.ReadError.TheVariants.{Parse}
+use Rattle.elf_linking.proofs.Naming.{strings_follow}
+use Rattle.elf_linking.specs.Needed.{NamesFollow, read_error, strings_by}
+use Rattle.elf_dynamic.specs.dynamic_view.Entries.{entries_in}
+use Rattle.elf_linking.specs.declared.needed.NamesError.{NamesError}
+use Rattle.elf_tools.proofs.BuildIds.{id_follows}
 use Rattle.elf_c.proofs.Held.{loaded_follows}
 use Rattle.elf_c.specs.Common.{all_loaded, common_loaded, dynamic_loaded, gnu_loaded, part_loaded, sections_loaded, sysv_loaded}
 use Rattle.elf_c.specs.Data.{notes_with}
 use Rattle.elf_c.specs.File.{IsWhole, file_of_c, file_over}
-use Rattle.elf_c.specs.Follows.{AreFollowed, IsAnswered}
+use Rattle.elf_c.specs.Follows.{AreFollowed, AreNamesAnswered, IsAnswered}
 use Rattle.elf_c.specs.Loaded.{is_missing, loaded_of_c, part_of_c, parts_of_c, ranges_of_c}
-use Rattle.elf_c.specs.Status.{read_status, status_of}
+use Rattle.elf_c.specs.Status.{names_status, read_status, status_of}
 use Rattle.elf_c.specs.Symbols.{symbols_type}
 use Rattle.elf_c.specs.declared.loaded.NugwierRange.{NugwierRange}
 use Rattle.elf_c.specs.declared.file.NugwierFile.{NugwierFile}
@@ -47,6 +52,26 @@ same_status (Err e) = refl
 answered : {A : Type 0} (away : ℕ × ℕ → Bool) (whole : Result A ParseError) (part : Result A ReadError) → Follows away whole part → IsAnswered away whole part
 answered away whole part (inl same) = (inl same, inl (ap read_status same ∙ same_status whole))
 answered away whole part (inr other) = (inr other, inr (other.0, other.1, ap read_status other.2))
+
+names_answered : {A : Type 0} (away : ℕ × ℕ → Bool) (whole part : Result A NamesError) → NamesFollow away whole part → AreNamesAnswered away whole part
+names_answered away whole part (inl same) = (inl same, inl (ap names_status same))
+names_answered away whole part (inr other) = (inr other, inr (other.0, other.1, ap names_status other.2))
+
+-- the entries with their strings
+abbrev with_strings : (Table → Result (List ℕ) NamesError) → Table → Result (Table × List ℕ) NamesError
+with_strings strings entries = ok_map (λ bytes. (entries, bytes)) (strings entries)
+
+module _ (away : ℕ × ℕ → Bool) (of_whole of_part : Table → Result (List ℕ) NamesError) where
+  pair_names : (t : Table) → NamesFollow away (of_whole t) (of_part t) → NamesFollow away (ok_map Some (with_strings of_whole t)) (ok_map Some (with_strings of_part t))
+  pair_names t (inl same) = inl (ap (λ r. ok_map Some (ok_map (λ (bytes : List ℕ). (t, bytes)) r)) same)
+  pair_names t (inr other) = inr (other.0, other.1, ap (λ r. ok_map Some (ok_map (λ (bytes : List ℕ). (t, bytes)) r)) other.2)
+
+  named_by : (w : Result (Option Table) ParseError) (p : Result (Option Table) ReadError) → ((t : Table) → NamesFollow away (of_whole t) (of_part t)) → Follows away w p
+      → NamesFollow away (err_map (read_error Whole) w >>= if_found (with_strings of_whole)) (err_map (read_error Partial) p >>= if_found (with_strings of_part))
+  named_by (Ok None) p each (inl same) = inl (ap (λ r. err_map (read_error Partial) r >>= if_found (with_strings of_part)) same)
+  named_by (Ok (Some t)) p each (inl same) = rw same (pair_names t (each t))
+  named_by (Err e) p each (inl same) = inl (ap (λ r. err_map (read_error Partial) r >>= if_found (with_strings of_part)) same)
+  named_by w p each (inr other) = inr (other.0, other.1, ap (λ r. err_map (read_error Partial) r >>= if_found (with_strings of_part)) other.2)
 
 module _ (whole : ObjectFile) (range : Ranges) (away : ℕ × ℕ → Bool) (each : ArePartOf whole away range) where
   abbrev part : FileOf Partial
@@ -140,6 +165,8 @@ module _ (whole : ObjectFile) (range : Ranges) (away : ℕ × ℕ → Bool) (eac
     by_name = λ name. answered away _ _ (part_follows whole range away each (SectionHeaderByName name));
     versions = answered away _ _ (part_follows whole range away each SymbolVersionTable);
     common = answered away _ _ common_follows;
+    linked = names_answered away _ _ (named_by away (λ t. strings_by whole (entries_in t)) (λ t. strings_by part (entries_in t)) (dynamic whole) (dynamic part) (λ t. strings_follow whole range away each (entries_in t)) (part_follows whole range away each Dynamic));
+    id = answered away _ _ (id_follows whole range away each);
     bytes = answered away _ _ (each 0 whole.size);
   }
 

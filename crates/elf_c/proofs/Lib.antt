@@ -15,3 +15,5 @@ pub mod Held
 pub mod Moved
 pub mod Opened
 pub mod Follows
+pub mod DynamicNames
+pub mod Nearest

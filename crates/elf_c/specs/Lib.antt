@@ -34,10 +34,14 @@ pub mod Opening
 pub mod Data
 -- symbols and dynamic entries
 pub mod Symbols
+-- the names that dynamic entries give
+pub mod DynamicNames
 -- what is looked up most often
 pub mod Common
 -- the names of sections
 pub mod SectionNames
+-- symbols by address
+pub mod Addresses
 -- the faults of a file
 pub mod Faults
 -- the texts of faults

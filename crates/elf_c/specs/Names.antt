@@ -31,4 +31,7 @@ error_name code =
     else if code == 16 then Some (codes "IOError")
     else if code == 17 then Some (codes "OutOfMemory")
     else if code == 18 then Some (codes "NotLoaded")
+    else if code == 19 then Some (codes "NoAddress")
+    else if code == 20 then Some (codes "NoSize")
+    else if code == 21 then Some (codes "NoSegment")
     else None

@@ -1,5 +1,5 @@
 -- The texts of errors.
-use Rattle.std.specs.Prelude.{ℕ, ◌/◌, ◌%◌, ◌==◌, true, if◌then◌else◌, List, [], ◌∷◌, ◌++◌, codes}
+use Rattle.std.specs.Prelude.{ℕ, ◌/◌, ◌%◌, ◌==◌, true, false, if◌then◌else◌, List, [], ◌∷◌, ◌++◌, codes}
 use Rattle.std.specs.Fmt.{digits}
 use Rattle.elf_c.specs.declared.status.NugwierStatus.{NugwierStatus}
 
@@ -52,6 +52,9 @@ error_text s =
     else if s.code == 12 then codes "Integer overflow detected"
     else if s.code == 17 then codes "Out of memory"
     else if s.code == 18 then missing_text s.first s.second
+    else if s.code == 19 then codes "no entry DT_STRTAB"
+    else if s.code == 20 then codes "no entry DT_STRSZ"
+    else if s.code == 21 then codes "no segment holds the string table at 0x" ++ digits 16 false s.first
     else []
 
 -- bytes written over the front of a place, as far as it has room

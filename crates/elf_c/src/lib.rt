@@ -2,9 +2,12 @@
 //! Nothing is allocated, and nothing is kept between two calls.
 #![tactic(auto)]
 
+pub mod addresses;
+pub mod build_id;
 pub mod check;
 pub mod common;
 pub mod data;
+pub mod dynamic_names;
 pub mod fault_texts;
 pub mod faults;
 pub mod file;

@@ -149,6 +149,9 @@ fn error_name(code: u32) -> Option<&'static str>
         16 => Some("IOError"),
         17 => Some("OutOfMemory"),
         18 => Some("NotLoaded"),
+        19 => Some("NoAddress"),
+        20 => Some("NoSize"),
+        21 => Some("NoSegment"),
         _ => None,
     }
 }

@@ -14,6 +14,14 @@ pub struct NugwierBytes<'data> {
     pub bytes: &'data [u8],
 }
 
+/// Some bytes, if there are any to be found.
+#[repr(C)]
+#[derive(Drop)]
+pub struct NugwierFoundBytes<'data> {
+    pub found: bool,
+    pub bytes: &'data [u8],
+}
+
 /// Finds the string at an offset of a table, without the 0 byte that ends it. An error leaves `string` as it is; the
 /// errors are those of `StringTable::get_raw`.
 #[unsafe(no_mangle)]

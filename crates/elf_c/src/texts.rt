@@ -1,5 +1,5 @@
 //! The texts of errors.
-ghost use Rattle.std.specs.Prelude.{◌≡◌, ◌+◌, ◌<◌, ◌≤◌, ◌^◌, ◌++◌, ◌∷◌, [], drop, length, true};
+ghost use Rattle.std.specs.Prelude.{◌≡◌, ◌+◌, ◌<◌, ◌≤◌, ◌^◌, ◌++◌, ◌∷◌, [], codes, drop, false, length, true};
 ghost use Rattle.std.specs.Fmt.{digit_glyph, digits};
 ghost use Rattle.elf_c.specs.Texts.{bytes_text, error_text, magic_text, missing_text, over, range_text};
 ghost use Rattle.elf_c.specs.inner.Writing.{IsWritten};
@@ -150,6 +150,15 @@ fn write_missing(place: &mut [u8], start: u64, end: u64) -> usize
     write(place, index, b") are not loaded")
 }
 
+// Writes the text of an address that no segment holds.
+fn write_no_segment(place: &mut [u8], address: u64) -> usize
+    ensures { IsWritten 0 (codes "no segment holds the string table at 0x" ++ digits 16 false address)
+        place.old place.new result }
+{
+    let end = write(place, 0, b"no segment holds the string table at 0x");
+    write_number(place, end, address, 16, false)
+}
+
 // Writes the text of an error of a range of bytes.
 fn write_range(place: &mut [u8], start: u64, end: u64) -> usize
     ensures { IsWritten 0 (range_text start end) place.old place.new result }
@@ -215,12 +224,15 @@ fn write_error(place: &mut [u8], status: &NugwierStatus) -> usize
         12 => write(place, 0, b"Integer overflow detected"),
         17 => write(place, 0, b"Out of memory"),
         18 => write_missing(place, first, second),
+        19 => write(place, 0, b"no entry DT_STRTAB"),
+        20 => write(place, 0, b"no entry DT_STRSZ"),
+        21 => write_no_segment(place, first),
         _ => write(place, 0, b""),
     }
 }
 
 /// Writes the text of the error that a status stands for over the front of `text`, as far as there is room, and returns
-/// the length of the whole text. `ReadError` prints the same by `{}`. The status of success has no text; neither have
+/// the length of the whole text. `ReadError` and `NamesError` print the same by `{}`. The status of success has no text; neither have
 /// the codes 13 to 16, which no call returns.
 #[unsafe(no_mangle)]
 pub extern "C" fn nugwier_error_text(status: &NugwierStatus, text: &mut [u8]) -> usize

@@ -1,9 +1,9 @@
 -- Dynamic entries whose strings can be read.
-use Rattle.std.proofs.Common.{◌≡◌, ℕ, ◌+◌, ◌<◌, Bool, true, false, not, List, [], ◌∷◌, ◌&&◌, length, drop, take, Option, Some, None, refl, ap, sym, ◌∙◌, subst, if◌then◌else◌, arith}
-use Rattle.std.specs.List.{list_all, position, position_from, slice_get, take_while}
+use Rattle.std.proofs.Common.{◌≡◌, ℕ, ◌+◌, ◌<◌, Bool, true, false, not, List, [], ◌∷◌, ◌&&◌, length, drop, take, Option, Some, None, refl, ap, sym, ◌∙◌, if◌then◌else◌, arith}
+use Rattle.std.specs.List.{list_all, position, position_from, slice_get}
 use Rattle.std.proofs.lemmas.Iterator.Adapters.{position_from-zero}
 use Rattle.std.proofs.lemmas.List.{get_or-take, length-take}
-use Rattle.std.proofs.lemmas.List.Sums.{AllPass-from_list_all, take_while-cons}
+use Rattle.std.proofs.lemmas.List.Sums.{AllPass-from_list_all}
 use Rattle.std.proofs.lemmas.Option.{get_or_from_slice_get, slice_get_read, slice_get_within}
 use Rattle.elf_records.specs.declared.dynamic.Dyn.{Dyn}
 use Rattle.elf_check.specs.Dynamic.{entries_with_strings, string_of}
@@ -35,21 +35,6 @@ pub one_fails : {A : Type 0} (p : A → Bool) (xs : List A) (k : ℕ) → positi
 one_fails p xs k e all = some_from p 0 xs k (sym (position_from-zero (λ x. not (p x)) xs) ∙ e) all
 
 -- ---- entries before DT_NULL
-
-step_taken : {A : Type 0} (p : A → Bool) (x : A) (xs : List A) (b : Bool) → p x ≡ b → take (length (take_while p xs)) xs ≡ take_while p xs → take (length (take_while p (x ∷ xs))) (x ∷ xs) ≡ take_while p (x ∷ xs)
-step_taken {A = A} p x xs true e rest =
-    let front : take_while p (x ∷ xs) ≡ x ∷ take_while p xs =
-    take_while-cons p x xs ∙ ap (λ (b : Bool). if b then x ∷ take_while p xs else []) e in
-    subst (λ (ys : List A). take (length ys) (x ∷ xs) ≡ ys) (sym front) (ap (λ (ys : List A). x ∷ ys) rest)
-step_taken {A = A} p x xs false e rest =
-    let none : take_while p (x ∷ xs) ≡ [] =
-    take_while-cons p x xs ∙ ap (λ (b : Bool). if b then x ∷ take_while p xs else []) e in
-    subst (λ (ys : List A). take (length ys) (x ∷ xs) ≡ ys) (sym none) refl
-
--- they are as many as they are, from the front on
-pub taken : {A : Type 0} (p : A → Bool) (xs : List A) → take (length (take_while p xs)) xs ≡ take_while p xs
-taken p [] = refl
-taken p (x ∷ xs) = step_taken p x xs (p x) refl (taken p xs)
 
 -- one of the first ones of a list
 pub taken_at : {A : Type 0} (count : ℕ) (xs : List A) (i : ℕ) (x : A) → i < count → slice_get xs i ≡ Some x → slice_get (take count xs) i ≡ Some x

@@ -1,6 +1,6 @@
 -- The symbols that relocations of a sound section name.
 use Rattle.std.proofs.Common.{◌≡◌, ℕ, zero, suc, ◌/◌, ◌^◌, ◌<◌, ◌==◌, ◌||◌, Bool, true, false, if◌then◌else◌, List, length, Option, Some, None, Result, Ok, Err, refl, ap, sym, ◌∙◌, subst, inl, inr, rules, arith, tests}
-use Rattle.std.specs.Option.{IsSome, IsSomeAnd, option_map, option_and_then}
+use Rattle.std.specs.Option.{IsSome, option_map, option_and_then}
 use Rattle.std.specs.Result.{IsOkAnd, result_ok}
 use Rattle.std.proofs.Math.Dec.{eqb-suc-zero}
 use Rattle.elf_check.proofs.Tables.{same_value}
@@ -21,12 +21,9 @@ use Rattle.elf_check.specs.Relocations.{SoundRelocationTable, SoundRelocations, 
 use Rattle.elf_check.specs.Relocations.{symbols_counted, symbols_to_name}
 use Rattle.elf_check.specs.Sound.{IsSized, SoundFile}
 use Rattle.elf_check.specs.Symbols.{HoldsSymbols, SoundSymbols, holds_symbols}
+use Rattle.elf_hash_check.proofs.Reading.{some_and}
 
-some_and : {A : Type 0} (o : Option A) (P : A → Type 0) → IsSomeAnd o P → (x : A) × (o ≡ Some x) × P x
-some_and (Some x) P h = (x, refl, h)
-some_and None P h = absurd h
-
-ok_inj : {A : Type 0} (x y : A) → ◌≡◌ {A = Result A ParseError} (Ok x) (Ok y) → x ≡ y
+pub ok_inj : {A : Type 0} (x y : A) → ◌≡◌ {A = Result A ParseError} (Ok x) (Ok y) → x ≡ y
 ok_inj x y e = cc
 
 pub some_of_shown : {A X E : Type 0} (P : A → Type 0) (f : X → A) (o : Option X) (r : Result A E) → option_map f o ≡ result_ok r → IsOkAnd r P → IsSome o

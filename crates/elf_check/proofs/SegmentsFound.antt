@@ -4,7 +4,6 @@ use Rattle.std.proofs.lemmas.Option.{slice_get_within}
 use Rattle.std.specs.List.{slice_get}
 use Rattle.std.specs.Option.{IsSome, option_map}
 use Rattle.std.specs.Result.{IsOk, IsOkAnd, result_ok, result_unwrap_or}
-use Rattle.elf_records.specs.Number.{ok_map}
 use Rattle.elf_records.specs.declared.parse.ParseError.{ParseError}
 use Rattle.elf_records.specs.declared.segment.ProgramHeader.{ProgramHeader}
 use Rattle.elf.specs.Headers.{first_segment_of}
@@ -39,10 +38,6 @@ ok_of_some (Err d) x e = cc
 
 pub and_value : {A E : Type 0} (P : A → Type 0) (r : Result A E) (x : A) → r ≡ Ok x → IsOkAnd r P → P x
 and_value {A = A} {E = E} P r x e p = subst (λ (q : Result A E). IsOkAnd q P) e p
-
-pub ok_of_shown : {A B E : Type 0} (f : A → B) (r : Result A E) (shown : Result B E) → ok_map f r ≡ shown → IsOk shown → IsOk r
-ok_of_shown f (Ok x) shown e ok = refl
-ok_of_shown f (Err d) shown e ok = cc
 
 -- ---- segments that an iterator yields
 

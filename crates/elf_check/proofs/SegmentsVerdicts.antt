@@ -1,9 +1,8 @@
 -- That a fault which is true of a file means that its segments are not sound.
-use Rattle.std.proofs.Common.{◌≡◌, ◌⊎◌, ℕ, ◌<◌, Bool, true, false, List, Option, Some, None, Result, Ok, Err, refl, inl, inr, arith}
+use Rattle.std.proofs.Common.{◌≡◌, ◌⊎◌, ℕ, ◌<◌, Bool, true, false, List, Option, Some, None, refl, inl, inr, arith}
 use Rattle.std.proofs.lemmas.Option.{slice_get_within}
 use Rattle.std.specs.List.{slice_get}
 use Rattle.std.specs.Option.{IfSome, IsSomeAnd}
-use Rattle.std.specs.Result.{IsErr, IsOk, IsOkAnd}
 use Rattle.elf_abi.specs.Values.{pt_load, sht_dynamic}
 use Rattle.elf_records.specs.declared.segment.ProgramHeader.{ProgramHeader}
 use Rattle.elf.specs.Headers.{first_section_of}
@@ -16,16 +15,10 @@ use Rattle.elf_check.specs.declared.segments.faults.SegmentFault.{SegmentFault}
 use Rattle.elf_check.specs.declared.segments.faults.SegmentFault.TheVariants.{EntriesWithoutEnd, FileSize, NoBytes}
 use Rattle.elf_check.specs.declared.segments.faults.SegmentFault.TheVariants.{NoLastNul, NoNote, OtherSection}
 use Rattle.elf_check.specs.declared.segments.faults.SegmentFault.TheVariants.{PartOfEntry, PastAddresses}
+use Rattle.elf_check.proofs.Verdicts.{ok_not_err}
+use Rattle.elf_check.proofs.VersionFaults.{both_and}
 
 -- ---- results and options
-
-ok_not_err : {A E : Type 0} (r : Result A E) → IsOk r → IsErr r → ⊥
-ok_not_err (Ok x) ok err = cc
-ok_not_err (Err e) ok err = cc
-
-both_and : {A E : Type 0} (P Q : A → Type 0) (r : Result A E) → IsOkAnd r P → IsOkAnd r Q → ((x : A) → P x → Q x → ⊥) → ⊥
-both_and P Q (Ok x) p q none = none x p q
-both_and P Q (Err e) p q none = p
 
 value_and : {A : Type 0} (P : A → Type 0) (o : Option A) → IsSomeAnd o P → ((x : A) → o ≡ Some x → P x → ⊥) → ⊥
 value_and P (Some x) p none = none x refl p

@@ -50,16 +50,13 @@ use Rattle.elf_check.specs.declared.faults.SymbolsFault.TheVariants.{At, BadLink
 use Rattle.elf_check.specs.declared.faults.SymbolsFault.TheVariants.{PartOfSymbol}
 use Rattle.elf_check.proofs.Entries.{one_fails}
 use Rattle.elf_check.proofs.Tables.{ok_and, ok_from_some}
+use Rattle.elf_check.proofs.VersionFaults.{and_not_err}
 
 -- ---- results
 
 pub ok_not_err : {A E : Type 0} (r : Result A E) → IsOk r → IsErr r → ⊥
 ok_not_err (Ok x) ok err = cc
 ok_not_err (Err e) ok err = cc
-
-and_not_err : {A E : Type 0} (P : A → Type 0) (r : Result A E) → IsOkAnd r P → IsErr r → ⊥
-and_not_err P (Ok x) ok err = cc
-and_not_err P (Err e) ok err = ok
 
 both_and : {A E : Type 0} (P Q : A → Type 0) (r : Result A E) → IsOkAnd r P → IsOkAnd r Q → ((x : A) → r ≡ Ok x → P x → Q x → ⊥) → ⊥
 both_and P Q (Ok x) p q none = none x refl p q

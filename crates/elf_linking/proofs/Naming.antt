@@ -1,7 +1,6 @@
 -- The names of a partly loaded file.
 use Rattle.std.proofs.Common.{◌≡◌, inl, inr, ℕ, Bool, true, false, List, [], ◌∷◌, Result, Ok, Err, Option, Some, None, refl, ap, sym, subst, ◌∙◌, true≢false}
-use Rattle.std.specs.Prelude.{IfSome, cond}
-use Rattle.std.specs.List.{find}
+use Rattle.std.specs.Prelude.{IfSome}
 use Rattle.std.specs.Option.{option_map}
 use Rattle.elf_records.specs.Number.{ok_map}
 use Rattle.elf_records.specs.Record.{◌>>=◌}
@@ -19,22 +18,13 @@ use Rattle.elf.specs.declared.read_error.ReadError.{ReadError}
 use Rattle.elf.specs.Readers.{Dynamic}
 use Rattle.elf.proofs.Partly.{follows_map, part_follows}
 use Rattle.elf.proofs.stream.Parted.{streamed_loaded}
+use Rattle.elf_dynamic.specs.dynamic_view.Entries.{entries_in}
 use Rattle.elf_linking.specs.Missing.{loaded_part}
-use Rattle.elf_linking.specs.Needed.{IsAnswered, IsNamesAnswer, Named, NamesFollow, entries_in, entries_of, missing_of}
+use Rattle.elf_linking.specs.Needed.{IsAnswered, IsNamesAnswer, Named, NamesFollow, entries_of, missing_of}
 use Rattle.elf_linking.specs.Needed.{names, names_by, names_in, read_error, string_part, strings_by}
 use Rattle.elf_linking.specs.declared.needed.NamesError.{NamesError}
 use Rattle.elf_linking.specs.declared.needed.NamesError.TheVariants.{Memory, Missing, Name, NoAddress, NoSize}
 use Rattle.elf_linking.specs.declared.needed.NamesError.TheVariants.{NotLoaded, Read}
-
--- ---- what is found passes the test
-
-found_or : {X : Type 0} (p : X → Bool) (b : Bool) (y x : X) (rest : Option X) → p y ≡ b → (rest ≡ Some x → p x ≡ true) → cond b (Some y) rest ≡ Some x → p x ≡ true
-found_or p true y x rest is later e = let same : y ≡ x = cc in subst (λ z. p z ≡ true) same is
-found_or p false y x rest is later e = later e
-
-pub found_passes : {X : Type 0} (p : X → Bool) (xs : List X) (x : X) → find p xs ≡ Some x → p x ≡ true
-found_passes p [] x e = cc
-found_passes p (y ∷ ys) x e = found_or p (p y) y x (find p ys) refl (λ f. found_passes p ys x f) e
 
 -- ---- the names of a part are those of the whole file, or a range is missing
 

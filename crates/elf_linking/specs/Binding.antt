@@ -6,6 +6,7 @@ use Rattle.std.specs.Option.{IsSomeAnd, option_map}
 use Rattle.std.specs.Str.{bytes_eq}
 use Rattle.elf_abi.specs.Values.{shn_abs, shn_undef, stb_global, stb_gnu_unique, stb_weak, stt_common, stt_func}
 use Rattle.elf_abi.specs.Values.{stt_gnu_ifunc, stt_notype, stt_object, stt_tls, stv_hidden, stv_internal, ver_flg_base}
+use Rattle.elf_records.specs.Number.{ok_map}
 use Rattle.elf_records.specs.Record.{◌>>=◌}
 use Rattle.elf_records.specs.StringTable.{text_of}
 use Rattle.elf_records.specs.Symbol.{symbol_binding, symbol_type, symbol_visibility}
@@ -24,6 +25,8 @@ use Rattle.elf_linking.specs.declared.Rule.{Rule}
 use Rattle.elf_linking.specs.declared.Rule.TheVariants.{Versioned, Exact, Base, Shown}
 use Rattle.elf_linking.specs.declared.Unreadable.{Unreadable}
 use Rattle.elf_linking.specs.declared.Version.{Version}
+use Rattle.elf_linking.specs.declared.versions.SymbolEntry.{SymbolEntry}
+use Rattle.elf_linking.specs.declared.versions.SymbolEntry.TheVariants as code
 use Rattle.elf_linking.specs.declared.Wanted.{Wanted}
 use Rattle.elf_linking.specs.declared.Wanted.TheVariants.{Any, Compatible, Only}
 
@@ -87,25 +90,38 @@ unreadable i = record { symbol = i }
 abbrev pub named_version : ℕ → List ℕ → NamedVersion
 named_version hash name = record { name = name; hash = hash }
 
--- the first name of a definition with its hash; what is defined for the file itself (VER_FLG_BASE) is no version
-abbrev pub first_name : ℕ → ℕ → List (Result (List ℕ) ParseError) → Result (Option NamedVersion) Unreadable
+-- what a version index stands for: nothing, the file itself, a version that the file defines, or one of another file
+pub data NamedEntry : Type 0 where
+  Nothing : NamedEntry
+  File : NamedEntry
+  Defined : NamedVersion → NamedEntry
+  Needed : List ℕ → NamedVersion → NamedEntry
+
+abbrev pub entry_view : SymbolEntry → NamedEntry
+entry_view code.Nothing = Nothing
+entry_view code.File = File
+entry_view (code.Defined version) = Defined (version_view version)
+entry_view (code.Needed file version) = Needed file.now (version_view version)
+
+-- a definition by its first name, with its hash; one for the file itself (VER_FLG_BASE) is no version
+abbrev pub first_name : ℕ → ℕ → List (Result (List ℕ) ParseError) → Result NamedEntry Unreadable
 first_name i hash [] = Err (unreadable i)
 first_name i hash (name ∷ others) =
-    ok_or (option_map (λ text. Some (named_version hash text)) (text_of name)) (unreadable i)
+    ok_or (option_map (λ text. Defined (named_version hash text)) (text_of name)) (unreadable i)
 
-abbrev pub defined_as : ℕ → Definition → Result (Option NamedVersion) Unreadable
-defined_as i d = if bit_and d.flags ver_flg_base == 0 then first_name i d.hash d.names else Ok None
+abbrev pub defined_as : ℕ → Definition → Result NamedEntry Unreadable
+defined_as i d = if bit_and d.flags ver_flg_base == 0 then first_name i d.hash d.names else Ok File
 
 -- the name of a need with its hash, where the name of its file can be read too
-abbrev pub needed_by : ℕ → ℕ → Option (List ℕ) → Option (List ℕ) → Result (Option NamedVersion) Unreadable
-needed_by i hash (Some file) (Some name) = Ok (Some (named_version hash name))
+abbrev pub needed_by : ℕ → ℕ → Option (List ℕ) → Option (List ℕ) → Result NamedEntry Unreadable
+needed_by i hash (Some file) (Some name) = Ok (Needed file (named_version hash name))
 needed_by i hash (Some file) None = Err (unreadable i)
 needed_by i hash None name = Err (unreadable i)
 
-abbrev pub version_by : ℕ → Option VersionEntry → Result (Option NamedVersion) Unreadable
-version_by i (Some (ByDefinition d)) = defined_as i d
-version_by i (Some (ByNeed r)) = needed_by i r.hash (text_of r.file) (text_of r.name)
-version_by i None = Ok None
+abbrev pub entry_by : ℕ → Option VersionEntry → Result NamedEntry Unreadable
+entry_by i (Some (ByDefinition d)) = defined_as i d
+entry_by i (Some (ByNeed r)) = needed_by i r.hash (text_of r.file) (text_of r.name)
+entry_by i None = Ok Nothing
 
 -- the version index of symbol i, whose bit 15 says that it is hidden
 abbrev pub index_by : ℕ → Result VersionIndex ParseError → Result VersionIndex Unreadable
@@ -115,9 +131,18 @@ index_by i (Err e) = Err (unreadable i)
 abbrev pub version_index_of : Versions → ℕ → Result VersionIndex Unreadable
 version_index_of versions i = index_by i (index_of versions i)
 
--- by what the version index stands for. A symbol that is defined by a need is the copy of one of another file.
+abbrev pub symbol_entry : Versions → ℕ → Result NamedEntry Unreadable
+symbol_entry versions i = version_index_of versions i >>= λ index. entry_by i (version_entry versions index)
+
+-- the version, if it is one. A symbol that is defined by a need is the copy of one of another file.
+abbrev pub version_in : NamedEntry → Option NamedVersion
+version_in Nothing = None
+version_in File = None
+version_in (Defined version) = Some version
+version_in (Needed file version) = Some version
+
 abbrev pub version_of : Versions → ℕ → Result (Option NamedVersion) Unreadable
-version_of versions i = version_index_of versions i >>= λ index. version_by i (version_entry versions index)
+version_of versions i = ok_map version_in (symbol_entry versions i)
 
 -- ---- whether a definition serves a reference
 

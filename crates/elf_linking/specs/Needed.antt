@@ -1,17 +1,16 @@
 -- The names by which the dynamic linker finds a file and the libraries that it loads with it (gABI, chapter "Dynamic
 -- Section"; GNU C library), of a whole file or of a part, and what is answered of them over a stream.
-use Rattle.std.specs.Prelude.{◌≡◌, ◌⊎◌, ℕ, ◌+◌, ◌-◌, ◌^◌, ◌==◌, ◌&&◌, ◌||◌, nat_le, nat_lt, not, Bool, false, if◌then◌else◌}
+use Rattle.std.specs.Prelude.{◌≡◌, ◌⊎◌, ℕ, ◌==◌, ◌||◌, not, Bool, false, if◌then◌else◌}
 use Rattle.std.specs.Prelude.{bit_and, filter, IsTrue, ℤ, pos, List, [], ◌∷◌, map, unwrap_or}
 use Rattle.std.specs.Prelude.{Option, Some, None, Result, Ok, Err, IfSome, ok_or}
-use Rattle.std.specs.List.{find, take_while}
+use Rattle.std.specs.List.{find}
 use Rattle.std.specs.Option.{option_map}
 use Rattle.std.specs.Result.{result_ok}
-use Rattle.elf_abi.specs.Values.{dt_needed, dt_null, dt_rpath, dt_runpath, dt_soname, dt_strsz, dt_strtab, pt_load}
-use Rattle.elf_records.specs.Dynamic.{d_un_view, dyn_reads, has_tag}
+use Rattle.elf_abi.specs.Values.{dt_needed, dt_rpath, dt_runpath, dt_soname, dt_strsz, dt_strtab}
+use Rattle.elf_records.specs.Dynamic.{d_un_view, has_tag}
 use Rattle.elf_records.specs.Number.{ok_map}
 use Rattle.elf_records.specs.Record.{◌>>=◌}
 use Rattle.elf_records.specs.StringTable.{string_at}
-use Rattle.elf_records.specs.Table.{Table, table_items}
 use Rattle.elf_records.specs.declared.dynamic.Dyn.{Dyn}
 use Rattle.elf_records.specs.declared.parse.ParseError.{ParseError}
 use Rattle.elf_records.specs.declared.segment.ProgramHeader.{ProgramHeader}
@@ -21,6 +20,8 @@ use Rattle.elf_reading.specs.Refusals.{IsRefused, Kind, kind}
 use Rattle.elf.specs.Headers.{if_found}
 use Rattle.elf.specs.ObjectFile.{ErrorOf, Extent, FileOf, Partial, Whole, err_map}
 use Rattle.elf.specs.declared.read_error.ReadError.TheVariants.{Parse, NotLoaded as NotRead}
+use Rattle.elf_dynamic.specs.dynamic_view.Entries.{entries_in}
+use Rattle.elf_dynamic.specs.dynamic_view.Segments.{part_of}
 use Rattle.elf_linking.specs.declared.needed.Library.{Library}
 use Rattle.elf_linking.specs.declared.needed.Name.{Name}
 use Rattle.elf_linking.specs.declared.needed.Names.{Names}
@@ -39,31 +40,11 @@ read_error Partial (NotRead range) = Missing range
 
 -- ---- the entries
 
--- the entries of a table up to the first with the tag DT_NULL, which ends it
-abbrev pub entries_in : Table → List Dyn
-entries_in table = take_while (λ entry. not (has_tag dt_null entry)) (table_items dyn_reads table)
-
 -- the first entry with a tag
 abbrev pub first_entry : ℤ → List Dyn → Option Dyn
 first_entry tag entries = find (has_tag tag) entries
 
--- ---- the string table: DT_STRTAB gives its address and DT_STRSZ its size. An address is one of memory, and the
--- segments of type PT_LOAD say which bytes of the file are loaded there (gABI, chapter "Program Header").
-
--- the segment has the bytes of these addresses in the file
-abbrev pub holds : ℕ → ℕ → ProgramHeader → Bool
-holds address size p =
-    p.p_type == pt_load && nat_le p.p_vaddr address && nat_le (address + size) (p.p_vaddr + p.p_filesz)
-    && nat_lt (p.p_offset + (address - p.p_vaddr)) (2 ^ 64)
-
--- where in the file the byte of an address of the segment is
-abbrev pub offset_in : ℕ → ProgramHeader → ℕ
-offset_in address p = p.p_offset + (address - p.p_vaddr)
-
--- where these addresses are in the file, by the first segment that holds them
-abbrev pub offset_of : List ProgramHeader → ℕ → ℕ → Result ℕ NamesError
-offset_of segments address size =
-    ok_or (option_map (offset_in address) (find (holds address size) segments)) (NotLoaded address)
+-- ---- the string table: DT_STRTAB gives its address in memory and DT_STRSZ its size
 
 -- the address and the size that the entries give
 abbrev pub string_range : List Dyn → Result (ℕ × ℕ) NamesError
@@ -74,7 +55,7 @@ string_range entries =
 -- the range of the string table in the file, by its start and its size
 abbrev pub string_part : List ProgramHeader → List Dyn → Result (ℕ × ℕ) NamesError
 string_part segments entries =
-    string_range entries >>= λ range. ok_map (λ start. (start, range.1)) (offset_of segments range.0 range.1)
+    string_range entries >>= λ range. err_map (λ _. NotLoaded range.0) (part_of segments range.0 range.1)
 
 -- ---- the names: the number of an entry is the offset of its string in the string table
 

@@ -5,7 +5,7 @@ ghost use Rattle.std.specs.Option.{option_map};
 ghost use Rattle.elf.specs.Answers.{relas_left, rels_left, symbols_view};
 ghost use Rattle.elf.specs.ElfBytes.{view};
 ghost use Rattle.elf.specs.ObjectFile.{object_file};
-ghost use Rattle.elf_dynamic.specs.dynamic_view.Entries.{entries_in, required};
+ghost use Rattle.elf_dynamic.specs.dynamic_view.Entries.{entries_in};
 ghost use Rattle.elf_dynamic.specs.dynamic_view.Relocations.{Relas, Rels, plt_left};
 ghost use Rattle.elf_hash_check.specs.CheckedTable.{object_view};
 ghost use Rattle.elf_hash_check.specs.Object.{object_in};
@@ -165,13 +165,6 @@ fn count_named<E: EndianParse>(relocations: RelocationLists<'_, E>) -> u64
 
 // ---- symbols
 
-// The value of a tag that some entry has to have.
-fn required<E: EndianParse>(entries: &DynamicTable<'_, E>, tag: i64) -> Result<u64, DynamicError>
-    ensures { result ≡ required tag (entries_in (table_view entries.now)) }
-{
-    dynamic_view::value(entries, tag).ok_or(DynamicError::NoEntry(tag))
-}
-
 // The bytes of this many records of a size at an address.
 #[tactic(auto, using(crate::proofs::BySegments::whole))]
 fn sized_bytes<'f, E: EndianParse>(
@@ -198,7 +191,7 @@ fn symbols_at<'f, E: EndianParse>(
     ensures { ok_map table_view result
         ≡ symbols_at (object_file E.little (view file.now)) (entries_in (table_view entries.now)) count }
 {
-    let address = required(entries, abi::DT_SYMTAB)?;
+    let address = dynamic_view::required(entries, abi::DT_SYMTAB)?;
     let size = Symbol::size_for(file.ehdr.class) as u64;
     let bytes = sized_bytes(file, address, count, size)?;
     Ok(SymbolTable::new(file.ehdr.endianness, file.ehdr.class, bytes))
@@ -313,7 +306,7 @@ fn gnu_bytes<'f, E: EndianParse>(
     ensures { ok_map (λ bytes. bytes.now) result ≡ gnu_bytes (object_file E.little (view file.now))
         (entries_in (table_view entries.now)) (gnu_view table.now) }
 {
-    let address = required(entries, abi::DT_GNU_HASH)?;
+    let address = dynamic_view::required(entries, abi::DT_GNU_HASH)?;
     dynamic_view::bytes_of(file, address, gnu_size(file.ehdr.class, table))
 }
 

@@ -39,7 +39,7 @@ use elf_hash_check::hashcheck::AnyChecked;
 pub use kinds::reference_kind;
 pub use objects::{reference, versioned_object};
 use thiserror::Error;
-pub use versions::{indexed, version_of};
+pub use versions::{SymbolEntry, indexed, symbol_entry, version_index_of, version_of};
 
 /// A version of a symbol: its name, and the SysV hash of the name as a file states it.
 #[derive(Debug, Clone, Copy)]

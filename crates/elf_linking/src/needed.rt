@@ -1,6 +1,5 @@
 //! The names by which the dynamic linker finds a file and the libraries that it loads with it.
-ghost use Rattle.std.specs.Prelude.{◌≡◌, ◌≢◌, Err, IfOk, IfSome, IsTrue, None, Ok, map};
-ghost use Rattle.std.specs.List.{find};
+ghost use Rattle.std.specs.Prelude.{◌≡◌, ◌≢◌, Err, IfOk, IfSome, None, Ok, map};
 ghost use Rattle.std.specs.Option.{option_map};
 ghost use Rattle.elf_records.specs.Dynamic.{has_tag};
 ghost use Rattle.elf_records.specs.Number.{ok_map};
@@ -9,11 +8,12 @@ ghost use Rattle.elf.specs.Answers.{dynamic};
 ghost use Rattle.elf.specs.ObjectFile.{Partial};
 ghost use Rattle.elf.specs.Parts.{loaded};
 ghost use Rattle.elf.specs.StreamFile.{stream_file};
+ghost use Rattle.elf_dynamic.specs.dynamic_view.Entries.{entries_in};
 ghost use Rattle.elf_linking.specs.Missing.{LoadsMissing};
 ghost use Rattle.elf_linking.specs.Needed.{GivesNames, IsAnswered, IsGiven, MissesNames};
-ghost use Rattle.elf_linking.specs.Needed.{entries_in, first_entry, first_name, has_nodeflib, holds, is_library};
+ghost use Rattle.elf_linking.specs.Needed.{first_entry, first_name, has_nodeflib, is_library};
 ghost use Rattle.elf_linking.specs.Needed.{libraries_of, library_of, library_view, missing_of};
-ghost use Rattle.elf_linking.specs.Needed.{name_bytes, name_of, names, names_by, names_in, names_view, offset_in};
+ghost use Rattle.elf_linking.specs.Needed.{name_bytes, name_of, names, names_by, names_in, names_view};
 ghost use Rattle.elf_linking.specs.Needed.{read_error, role_of};
 ghost use Rattle.elf_linking.specs.Needed.{string_part, string_range, strings_by};
 ghost use Rattle.elf_linking.specs.Readings.{ReadsFile};
@@ -22,9 +22,9 @@ ghost use Rattle.elf_linking.specs.declared.needed.NamesError.TheVariants.{Memor
 use elf::dynamic::{Dyn, DynamicTable};
 use elf::endian::EndianParse;
 use elf::reader::{Reader, dynamic};
-use elf::segment::ProgramHeader;
 use elf::string_table::{StringTable, TerminatedStrings};
 use elf::{ElfStream, ParseError, ReadError, StreamSource, abi};
+use elf_dynamic::dynamic_view::part_of;
 use std::alloc::{AllocError, AllocFailed, Allocator, Global};
 use thiserror::Error;
 
@@ -182,39 +182,6 @@ fn first_entry(entries: &[Dyn], tag: i64) -> Option<&Dyn>
     entries.iter().find(|entry| has_tag(entry, tag))
 }
 
-// Whether the segment is loaded and has the bytes of these addresses in the file.
-fn holds(segment: &ProgramHeader, address: u64, size: u64) -> bool
-    ensures { result ≡ holds address size segment.now }
-{
-    if segment.p_type != abi::PT_LOAD || address < segment.p_vaddr {
-        return false;
-    }
-    let before = address - segment.p_vaddr;
-    before <= segment.p_filesz
-        && size <= segment.p_filesz - before
-        && before <= u64::MAX - segment.p_offset
-}
-
-// The offset in the file of the byte of an address.
-fn offset_in(segment: &ProgramHeader, address: u64, size: u64) -> u64
-    requires { IsTrue (holds address size segment.now) }
-    ensures { result ≡ offset_in address segment.now }
-{
-    segment.p_offset + (address - segment.p_vaddr)
-}
-
-// The first segment of a file that holds this many bytes from an address on.
-fn first_holding<E: EndianParse, R: Reader<E>>(
-    file: &R,
-    address: u64,
-    size: u64,
-) -> Option<ProgramHeader>
-    ensures { result ≡ find (holds address size) (R.file file.now).segments }
-{
-    file.each_segment()
-        .find(|segment| holds(segment, address, size))
-}
-
 // The address of the string table, and its size.
 fn string_range(entries: &[Dyn]) -> Result<(u64, u64), NamesError>
     ensures value { result ≡ string_range entries.now }
@@ -245,9 +212,9 @@ pub fn string_part<E: EndianParse, R: Reader<E>>(
         Ok(range) => range,
         Err(error) => return Err(error),
     };
-    match first_holding(file, address, size) {
-        Some(segment) => Ok((offset_in(&segment, address, size), size)),
-        None => Err(NamesError::NotLoaded(address)),
+    match part_of(file, address, size) {
+        Ok(part) => Ok(part),
+        Err(_) => Err(NamesError::NotLoaded(address)),
     }
 }
 

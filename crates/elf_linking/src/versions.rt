@@ -5,8 +5,9 @@ ghost use Rattle.std.specs.Option.{option_map};
 ghost use Rattle.elf_records.specs.Number.{ok_map};
 ghost use Rattle.elf_parts.specs.gnu_symver.VersionEntry.{ByNeed, required_with};
 ghost use Rattle.elf_parts.specs.gnu_symver.Table.{definition_view, index_of, names_left, versions_view};
-ghost use Rattle.elf_linking.specs.Binding.{defined_as, first_name, is_base, is_version, serves, serves_exactly};
-ghost use Rattle.elf_linking.specs.Binding.{serves_version, version_by, version_index_of, version_of, version_view};
+ghost use Rattle.elf_linking.specs.Binding.{defined_as, entry_by, entry_view, first_name, is_base, is_version, serves};
+ghost use Rattle.elf_linking.specs.Binding.{serves_exactly, serves_version, symbol_entry, version_in, version_index_of};
+ghost use Rattle.elf_linking.specs.Binding.{version_of, version_view};
 
 use crate::{Rule, Unreadable, Version};
 use elf::endian::EndianParse;
@@ -17,67 +18,95 @@ use elf::gnu_symver::{
 use elf_abi::abi;
 use std::alloc::{AllocError, Global};
 
-// A version by the first of its names.
+/// What the version index of a symbol stands for.
+#[derive(Debug, Clone, Copy)]
+pub enum SymbolEntry<'a> {
+    /// Nothing: no definition and no need has the index.
+    Nothing,
+    /// The file itself (`VER_FLG_BASE`), which is no version.
+    File,
+    /// This version of the file.
+    Defined(Version<'a>),
+    /// This version of the other file `file`.
+    Needed { file: &'a str, version: Version<'a> },
+}
+
+impl<'a> SymbolEntry<'a> {
+    /// Returns the version, if it is one.
+    pub fn version(&self) -> Option<Version<'a>>
+        ensures { option_map version_view result ≡ version_in (entry_view self.now) }
+    {
+        match self {
+            SymbolEntry::Nothing | SymbolEntry::File => None,
+            SymbolEntry::Defined(version) => Some(*version),
+            SymbolEntry::Needed { version, .. } => Some(*version),
+        }
+    }
+}
+
+// A definition by the first of its names.
 fn first_name<'a, E: EndianParse>(
     mut names: SymbolNamesIterator<'a, E>,
     hash: u32,
     symbol: usize,
-) -> Result<Option<Version<'a>>, Unreadable>
-    ensures { ok_map (option_map version_view) result ≡ first_name symbol hash (names_left names.entry) }
+) -> Result<SymbolEntry<'a>, Unreadable>
+    ensures { ok_map entry_view result ≡ first_name symbol hash (names_left names.entry) }
 {
     match names.next() {
-        Some(Ok(name)) => Ok(Some(Version { name, hash })),
+        Some(Ok(name)) => Ok(SymbolEntry::Defined(Version { name, hash })),
         Some(Err(_)) => Err(Unreadable { symbol }),
         None => Err(Unreadable { symbol }),
     }
 }
 
-// The version of a definition. What is defined for the file itself is no version.
+// A definition. What is defined for the file itself is no version.
 fn defined_as<'a, E: EndianParse>(
     definition: SymbolDefinition<'a, E>,
     symbol: usize,
-) -> Result<Option<Version<'a>>, Unreadable>
-    ensures { ok_map (option_map version_view) result ≡ defined_as symbol (definition_view definition.entry) }
+) -> Result<SymbolEntry<'a>, Unreadable>
+    ensures { ok_map entry_view result ≡ defined_as symbol (definition_view definition.entry) }
 {
     if definition.flags & abi::VER_FLG_BASE != 0 {
-        return Ok(None);
+        return Ok(SymbolEntry::File);
     }
     first_name(definition.names, definition.hash, symbol)
 }
 
-// The version that a symbol needs.
+// The version that a symbol needs, or nothing.
 #[tactic(auto, using(crate::proofs::Requirements::needed_given, crate::proofs::Requirements::needed_none))]
 fn needed_as<'a, E: EndianParse, V: SymbolVersions<E>>(
     versions: &'a V,
     symbol: usize,
     index: VersionIndex,
-) -> Result<Option<Version<'a>>, Unreadable>
+) -> Result<SymbolEntry<'a>, Unreadable>
     requires { index_of (V.versions versions.now) symbol ≡ Ok index }
-    ensures { ok_map (option_map version_view) result
-        ≡ version_by symbol (option_map ByNeed (required_with (V.versions versions.now).needs index)) }
+    ensures { ok_map entry_view result
+        ≡ entry_by symbol (option_map ByNeed (required_with (V.versions versions.now).needs index)) }
 {
     match versions.get_requirement(symbol) {
-        Ok(Some(needed)) => Ok(Some(Version {
-            name: needed.name,
-            hash: needed.hash,
-        })),
-        Ok(None) => Ok(None),
+        Ok(Some(needed)) => Ok(SymbolEntry::Needed {
+            file: needed.file,
+            version: Version {
+                name: needed.name,
+                hash: needed.hash,
+            },
+        }),
+        Ok(None) => Ok(SymbolEntry::Nothing),
         Err(_) => Err(Unreadable { symbol }),
     }
 }
 
-/// Returns the version of a symbol, counted from 0, in its file: the first name and the hash of the definition with
-/// the symbol's version index, or if there is no such definition of the need with it. Returns `None` if the
-/// definition is the one of the file itself (`VER_FLG_BASE`), or if there is neither.
+/// Returns what the version index of a symbol, counted from 0, stands for in its file: the first name and the hash of the
+/// definition with this index, or if there is no such definition of the need with it.
 ///
 /// The error is `Unreadable` if the version index or a name cannot be read (of a need also the name of its file),
 /// or if the definition has no names.
-#[tactic(auto, using(crate::proofs::Requirements::version_defined, crate::proofs::Requirements::version_needed, crate::proofs::Requirements::version_refused))]
-pub fn version_of<'a, E: EndianParse, V: SymbolVersions<E>>(
+#[tactic(auto, using(crate::proofs::Requirements::symbol_defined, crate::proofs::Requirements::symbol_needed, crate::proofs::Requirements::symbol_refused))]
+pub fn symbol_entry<'a, E: EndianParse, V: SymbolVersions<E>>(
     versions: &'a V,
     symbol: usize,
-) -> Result<Option<Version<'a>>, Unreadable>
-    ensures { ok_map (option_map version_view) result ≡ version_of (V.versions versions.now) symbol }
+) -> Result<SymbolEntry<'a>, Unreadable>
+    ensures { ok_map entry_view result ≡ symbol_entry (V.versions versions.now) symbol }
 {
     let Ok(index) = versions.get_index(symbol) else {
         return Err(Unreadable { symbol });
@@ -89,8 +118,20 @@ pub fn version_of<'a, E: EndianParse, V: SymbolVersions<E>>(
     }
 }
 
-// The version index of a symbol.
-fn version_index_of<E: EndianParse, V: SymbolVersions<E>>(
+/// Returns the version of a symbol, counted from 0, in its file: that of `symbol_entry`, with its error. Returns `None`
+/// if the definition is the one of the file itself (`VER_FLG_BASE`), or if there is no definition and no need.
+pub fn version_of<'a, E: EndianParse, V: SymbolVersions<E>>(
+    versions: &'a V,
+    symbol: usize,
+) -> Result<Option<Version<'a>>, Unreadable>
+    ensures { ok_map (option_map version_view) result ≡ version_of (V.versions versions.now) symbol }
+{
+    let entry = symbol_entry(versions, symbol)?;
+    Ok(entry.version())
+}
+
+/// Returns the version index of a symbol, counted from 0. The error is `Unreadable` if it cannot be read.
+pub fn version_index_of<E: EndianParse, V: SymbolVersions<E>>(
     versions: &V,
     symbol: usize,
 ) -> Result<VersionIndex, Unreadable>

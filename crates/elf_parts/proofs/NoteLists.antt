@@ -18,9 +18,6 @@ use Rattle.elf_parts.specs.declared.note.NoteHeader.{NoteHeader}
 
 module _ {A : Type 0} (gives : ℕ → Result (A × ℕ) ParseError) (size : ℕ)
     (law : (o : ℕ) (p : A × ℕ) → gives o ≡ Ok p → (o < size) × (o < p.1)) where
-  follow : ℕ → A × ℕ → Option ℕ
-  follow o p = Some p.1
-
   past : (o : ℕ) (r : Result (A × ℕ) ParseError) (behind : ℕ → List (ℕ × (A × ℕ))) → size ≤ o → gives o ≡ r →
       links_from (λ _ p. Some p.1) o r behind ≡ []
   past o (Ok p) behind end e = let inside = law o p e in absurd (omega (arith, inside.0))

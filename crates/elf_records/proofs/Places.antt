@@ -1,6 +1,5 @@
 -- Where the records of a table lie: record i of the list is the record at the place i * size.
 use Rattle.std.proofs.Common.{◌≡◌, ◌↔◌, ℕ, zero, suc, ◌+◌, ◌*◌, ◌/◌, ◌^◌, ◌<◌, ◌≤◌, List, [], ◌∷◌, length, None, Some, Result, Ok, Err, refl, ap, sym, ◌∙◌, inl, inr, arith}
-use Rattle.std.specs.Prelude.{IsErr}
 use Rattle.std.specs.Result.{IsOk, result_ok}
 use Rattle.std.specs.List.{slice_get}
 use Rattle.std.proofs.Math.Nat.{suc-mul, div-lt_iff_lt-mul, mul-le-mul_right}
@@ -74,19 +73,6 @@ item_ok gives size bytes i x e = grind (arith, common_steps)
 item_read : {A : Type 0} (gives : List ℕ → ℕ → Result A ParseError) (size : ℕ) (bytes : List ℕ) (i : ℕ) → 1 ≤ size → length bytes < 2 ^ 64 → i * size + size ≤ length bytes → IsOk (gives bytes (i * size)) → IsOk (item_at gives size bytes i)
 item_read gives size [] i some small within h = absurd (omega arith)
 item_read gives size (b ∷ bytes) i some small within h = grind (arith, common_steps)
-
--- a record that is read where it lies is the one at its index
-pub item_at-read : {A : Type 0} (gives : List ℕ → ℕ → Result A ParseError) (size : ℕ) (bytes : List ℕ) (i : ℕ) (x : A) → 1 ≤ size → length bytes < 2 ^ 64 → i * size + size ≤ length bytes → gives bytes (i * size) ≡ Ok x → item_at gives size bytes i ≡ Ok x
-item_at-read gives size [] i x some small within e = absurd (omega arith)
-item_at-read gives size (b ∷ bytes) i x some small within e = grind (arith, common_steps)
-
--- one that is refused there is refused at its index
-pub item_at-refused : {A : Type 0} (gives : List ℕ → ℕ → Result A ParseError) (size : ℕ) (bytes : List ℕ) (i : ℕ) → IsErr (gives bytes (i * size)) → IsErr (item_at gives size bytes i)
-item_at-refused gives size bytes i h = grind (arith, common_steps)
-
--- and so is one whose place does not fit 64 bits
-pub item_at-far : {A : Type 0} (gives : List ℕ → ℕ → Result A ParseError) (size : ℕ) (bytes : List ℕ) (i : ℕ) → 2 ^ 64 ≤ i * size → IsErr (item_at gives size bytes i)
-item_at-far gives size bytes i far = grind (arith, common_steps)
 
 -- i is below a quotient exactly where i + 1 times the divisor is within the dividend
 below_forth : (i size n : ℕ) → 0 < size → i * size + size ≤ n → i < n / size

@@ -1,4 +1,3 @@
 pub mod BuildIds
 mod Apart
 mod Places
-pub mod SymbolVersions

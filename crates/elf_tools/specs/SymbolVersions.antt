@@ -1,19 +1,14 @@
 -- The version of a symbol, as it is written after the symbol's name (GNU symbol versioning; LSB, "Symbol Versioning").
-use Rattle.std.specs.Prelude.{ℕ, ◌==◌, if◌then◌else◌, nat_lt, not, Bool, bit_and, List, [], ◌∷◌, Option, Some, None}
-use Rattle.std.specs.Prelude.{map, ok_or, Result, Ok, Err}
+use Rattle.std.specs.Prelude.{ℕ, if◌then◌else◌, nat_lt, not, Bool, List, Option, Some, None, map, Result, Ok, Err}
 use Rattle.std.specs.List.{enumerate_from}
 use Rattle.std.specs.Option.{option_map}
-use Rattle.elf_abi.specs.Values.{ver_flg_base}
 use Rattle.elf_records.specs.Number.{ok_map}
 use Rattle.elf_records.specs.Record.{◌>>=◌}
-use Rattle.elf_records.specs.declared.parse.ParseError.{ParseError}
 use Rattle.elf_records.specs.declared.symbol.Symbol.{Symbol}
-use Rattle.elf_parts.specs.gnu_symver.Records.{version_index}
-use Rattle.elf_parts.specs.gnu_symver.Table.{Definition, Versions}
+use Rattle.elf_parts.specs.gnu_symver.Records.{version_index, version_is_hidden}
+use Rattle.elf_parts.specs.gnu_symver.Table.{Versions}
 use Rattle.elf_parts.specs.declared.gnu_symver.records.VersionIndex.{VersionIndex}
-use Rattle.elf_records.specs.StringTable.{text_of}
-use Rattle.elf_parts.specs.gnu_symver.VersionEntry.{ByDefinition, ByNeed, VersionEntry, version_entry}
-use Rattle.elf_linking.specs.Binding.{unreadable, version_index_of}
+use Rattle.elf_linking.specs.Binding.{NamedEntry, symbol_entry, unreadable, version_index_of}
 use Rattle.elf_linking.specs.declared.Unreadable.{Unreadable}
 use Rattle.elf_tools.specs.declared.symbol_versions.SymbolVersion.{SymbolVersion}
 use Rattle.elf_tools.specs.declared.symbol_versions.SymbolVersion.TheVariants as code
@@ -29,39 +24,23 @@ abbrev pub symbol_version_view : SymbolVersion → WrittenVersion
 symbol_version_view (code.Needed file name) = WrittenVersion.Needed file.now name.now
 symbol_version_view (code.Defined name is_default) = WrittenVersion.Defined name.now is_default
 
--- ---- of a definition
-
--- its first name; a symbol whose version index is hidden does not have the default version
-abbrev pub defined_by_name : ℕ → Bool → List (Result (List ℕ) ParseError) → Result (Option WrittenVersion) Unreadable
-defined_by_name i hidden [] = Err (unreadable i)
-defined_by_name i hidden (name ∷ others) =
-    ok_or (option_map (λ text. Some (WrittenVersion.Defined text (not hidden))) (text_of name)) (unreadable i)
-
--- what is defined for the file itself (VER_FLG_BASE) is no version
-abbrev pub definition_version : ℕ → Definition → Result (Option WrittenVersion) Unreadable
-definition_version i d = if bit_and d.flags ver_flg_base == 0 then defined_by_name i d.hidden d.names else Ok None
-
--- ---- of a need
-
-abbrev pub needed_by_names : ℕ → Option (List ℕ) → Option (List ℕ) → Result (Option WrittenVersion) Unreadable
-needed_by_names i (Some file) (Some name) = Ok (Some (WrittenVersion.Needed file name))
-needed_by_names i (Some file) None = Err (unreadable i)
-needed_by_names i None name = Err (unreadable i)
-
 -- ---- of a symbol
 
--- by what its version index stands for; an index that no definition and no need has stands for nothing. A symbol that
--- is defined may have its version among the needs: it is the copy of one of another file.
-abbrev pub symbol_version_by : ℕ → Option VersionEntry → Result (Option WrittenVersion) Unreadable
-symbol_version_by i (Some (ByDefinition d)) = definition_version i d
-symbol_version_by i (Some (ByNeed r)) = needed_by_names i (text_of r.file) (text_of r.name)
-symbol_version_by i None = Err (unreadable i)
+-- what its version index stands for: a symbol whose index is hidden does not have the default version, and what is
+-- defined for the file itself is no version. A symbol that is defined may have its version among the needs: it is the
+-- copy of one of another file.
+abbrev pub written : ℕ → VersionIndex → NamedEntry → Result (Option WrittenVersion) Unreadable
+written i index NamedEntry.Nothing = Err (unreadable i)
+written i index NamedEntry.File = Ok None
+written i index (NamedEntry.Defined version) =
+    Ok (Some (WrittenVersion.Defined version.name (not (version_is_hidden index))))
+written i index (NamedEntry.Needed file version) = Ok (Some (WrittenVersion.Needed file version.name))
 
 -- the version indexes 0 (VER_NDX_LOCAL) and 1 (VER_NDX_GLOBAL) say that a symbol has no version
 abbrev pub symbol_version_with : Versions → ℕ → VersionIndex → Result (Option WrittenVersion) Unreadable
 symbol_version_with versions i index =
     if nat_lt (version_index index) 2 then Ok None
-    else symbol_version_by i (version_entry versions index)
+    else symbol_entry versions i >>= written i index
 
 abbrev pub symbol_version : Versions → ℕ → Result (Option WrittenVersion) Unreadable
 symbol_version versions i = version_index_of versions i >>= symbol_version_with versions i

@@ -1,20 +1,17 @@
 //! The versions of symbols, as they are written after the names of the symbols.
-ghost use Rattle.std.specs.Prelude.{◌≡◌, IfOk, Ok, map};
+ghost use Rattle.std.specs.Prelude.{◌≡◌, IfOk, map};
 ghost use Rattle.std.specs.Option.{option_map};
 ghost use Rattle.elf_records.specs.Number.{ok_map};
 ghost use Rattle.elf_records.specs.Symbol.{symbol_reads};
 ghost use Rattle.elf_records.specs.Table.{table_items, table_view};
-ghost use Rattle.elf_parts.specs.gnu_symver.Table.{definition_view, index_of, names_left};
-ghost use Rattle.elf_parts.specs.gnu_symver.VersionEntry.{ByNeed, required_with};
-ghost use Rattle.elf_tools.specs.SymbolVersions.{definition_version, defined_by_name, symbol_version_by, symbol_view};
-ghost use Rattle.elf_tools.specs.SymbolVersions.{symbol_version_in};
-ghost use Rattle.elf_tools.specs.SymbolVersions.{symbol_version, symbol_version_view, versioned_symbols};
+ghost use Rattle.elf_linking.specs.Binding.{entry_view};
+ghost use Rattle.elf_tools.specs.SymbolVersions.{symbol_version, symbol_version_in, symbol_version_view, symbol_view};
+ghost use Rattle.elf_tools.specs.SymbolVersions.{versioned_symbols, written};
 
-use elf::abi;
 use elf::endian::EndianParse;
-use elf::gnu_symver::{SymbolDefinition, SymbolNamesIterator, SymbolVersions, VersionIndex};
+use elf::gnu_symver::{SymbolVersions, VersionIndex};
 use elf::symbol::{Symbol, SymbolTable};
-use elf_linking::Unreadable;
+use elf_linking::{SymbolEntry, Unreadable, symbol_entry, version_index_of};
 use std::alloc::{AllocError, Global};
 
 /// The version of a symbol.
@@ -34,56 +31,25 @@ pub struct VersionedSymbol<'a> {
     pub version: Result<Option<SymbolVersion<'a>>, Unreadable>,
 }
 
-// The version with the first of these names.
-fn defined_by_name<'a, E: EndianParse>(
-    mut names: SymbolNamesIterator<'a, E>,
-    hidden: bool,
-    symbol: usize,
-) -> Result<Option<SymbolVersion<'a>>, Unreadable>
-    ensures { ok_map (option_map symbol_version_view) result ≡ defined_by_name symbol hidden (names_left names.entry) }
-{
-    match names.next() {
-        Some(Ok(name)) => Ok(Some(SymbolVersion::Defined {
-            name,
-            is_default: !hidden,
-        })),
-        Some(Err(_)) => Err(Unreadable { symbol }),
-        None => Err(Unreadable { symbol }),
-    }
-}
-
-// The version of a definition. What is defined for the file itself is no version.
-fn definition_version<'a, E: EndianParse>(
-    definition: SymbolDefinition<'a, E>,
-    symbol: usize,
-) -> Result<Option<SymbolVersion<'a>>, Unreadable>
-    ensures { ok_map (option_map symbol_version_view) result
-        ≡ definition_version symbol (definition_view definition.entry) }
-{
-    if definition.flags & abi::VER_FLG_BASE != 0 {
-        return Ok(None);
-    }
-    defined_by_name(definition.names, definition.hidden, symbol)
-}
-
-// The version of another file that a symbol has.
-#[tactic(auto, using(crate::proofs::SymbolVersions::needed_given, crate::proofs::SymbolVersions::needed_none))]
-fn need_version<'a, E: EndianParse, V: SymbolVersions<E>>(
-    versions: &'a V,
-    symbol: usize,
+// What a version index stands for, as it is written after a name.
+fn written<'a>(
+    entry: SymbolEntry<'a>,
     index: VersionIndex,
+    symbol: usize,
 ) -> Result<Option<SymbolVersion<'a>>, Unreadable>
-    requires { index_of (V.versions versions.now) symbol ≡ Ok index }
-    ensures { ok_map (option_map symbol_version_view) result
-        ≡ symbol_version_by symbol (option_map ByNeed (required_with (V.versions versions.now).needs index)) }
+    ensures { ok_map (option_map symbol_version_view) result ≡ written symbol index (entry_view entry.entry) }
 {
-    match versions.get_requirement(symbol) {
-        Ok(Some(needed)) => Ok(Some(SymbolVersion::Needed {
-            file: needed.file,
-            name: needed.name,
+    match entry {
+        SymbolEntry::Nothing => Err(Unreadable { symbol }),
+        SymbolEntry::File => Ok(None),
+        SymbolEntry::Defined(version) => Ok(Some(SymbolVersion::Defined {
+            name: version.name,
+            is_default: !index.is_hidden(),
         })),
-        Ok(None) => Err(Unreadable { symbol }),
-        Err(_) => Err(Unreadable { symbol }),
+        SymbolEntry::Needed { file, version } => Ok(Some(SymbolVersion::Needed {
+            file,
+            name: version.name,
+        })),
     }
 }
 
@@ -104,24 +70,18 @@ fn need_version<'a, E: EndianParse, V: SymbolVersions<E>>(
 ///     }
 /// }
 /// ```
-#[tactic(auto, using(crate::proofs::SymbolVersions::version_defined, crate::proofs::SymbolVersions::version_needed, crate::proofs::SymbolVersions::version_refused))]
 pub fn symbol_version<'a, E: EndianParse, V: SymbolVersions<E>>(
     versions: &'a V,
     symbol: usize,
 ) -> Result<Option<SymbolVersion<'a>>, Unreadable>
     ensures { ok_map (option_map symbol_version_view) result ≡ symbol_version (V.versions versions.now) symbol }
 {
-    let Ok(index) = versions.get_index(symbol) else {
-        return Err(Unreadable { symbol });
-    };
+    let index = version_index_of(versions, symbol)?;
     if index.index() < 2 {
         return Ok(None);
     }
-    match versions.get_definition(symbol) {
-        Ok(Some(definition)) => definition_version(definition, symbol),
-        Ok(None) => need_version(versions, symbol, index),
-        Err(_) => Err(Unreadable { symbol }),
-    }
+    let entry = symbol_entry(versions, symbol)?;
+    written(entry, index, symbol)
 }
 
 // The version of a symbol of a file that may have no versions.

@@ -136,8 +136,9 @@ impl LineBuffer {
         self.put(&room[start..], out);
     }
 
+    /// Adds a number in hexadecimal, without `0x`.
     #[inline(never)]
-    fn put_hex_digits<W: Write>(&mut self, n: u64, out: &mut W)
+    pub fn digits<W: Write>(&mut self, n: u64, out: &mut W)
         ensures { Adds (W.contents out.old) self.old (W.contents out.new) self.new (digits 16 false n) }
     {
         let mut room = [0; MAX_DIGITS];
@@ -172,7 +173,7 @@ impl LineBuffer {
     {
         self.put(label.as_bytes(), out);
         self.put(b"0x", out);
-        self.put_hex_digits(n, out);
+        self.digits(n, out);
     }
 
     /// Adds a label and a text, escaped.

@@ -14,6 +14,7 @@ use changes::change;
 use elf_linking::tree::Libraries;
 use nugwier_commands::run::run;
 use nugwier_files::files::Files;
+use nugwier_files::folder::Entry;
 use nugwier_files::opening::Opening;
 use nugwier_files::system::SystemFiles;
 use source::{CaseSource, broken, failing_read};
@@ -32,6 +33,8 @@ impl Files for CaseFiles<'_> {
 
     // Files may change, so their contents are not known.
     ghost known = { λ _. None };
+
+    ghost folders = { λ _. None };
 
     fn open(&self, path: &str) -> Option<CaseSource> {
         let (name, reads) = match path.split_once(',') {
@@ -65,6 +68,10 @@ impl Files for CaseFiles<'_> {
             }
             None => self.system.read(path),
         }
+    }
+
+    fn folder(&self, path: &str) -> io::Result<Option<Vec<Entry>>> {
+        self.system.folder(path)
     }
 
     fn has_libraries(&self) {}

@@ -1,5 +1,5 @@
 -- What is said of several files, or of the members of an archive, in order.
-use Rattle.std.proofs.Common.{◌≡◌, ◌&&◌, ◌+◌, ◌<◌, ℕ, Bool, true, false, List, [], ◌∷◌, ◌++◌, Option, Some, None, Ok, drop}
+use Rattle.std.proofs.Common.{◌≡◌, ◌&&◌, ◌+◌, ◌<◌, ℕ, Bool, true, false, List, [], ◌∷◌, ◌++◌, IfSome, Option, Some, None, Ok, drop}
 use Rattle.std.proofs.Common.{get_or, length, refl, sym, ap, ◌∙◌, subst, append_assoc, append-nil}
 use Rattle.std.proofs.Math.Bool.{and-true, and_assoc}
 use Rattle.std.proofs.lemmas.Grind.{flat_map-append}
@@ -10,10 +10,14 @@ use Rattle.std.specs.Borrow.{Bor}
 use Rattle.std.specs.Io.KnownBytes.{Appends}
 use Rattle.std.specs.List.{flat_map, list_all}
 use Rattle.elf_archive.specs.Archive.{Item}
-use Rattle.nugwier_commands.specs.Run.{AreFilesSaid, AreItemsSaid, AreWritten, IsItemSaid, IsProblemsOf, IsWritten}
-use Rattle.nugwier_commands.specs.Run.{Known, Listing, Written, heading_of, listing_text, next_heading}
+use Rattle.nugwier_commands.specs.Run.{AreAllTold, AreFilesSaid, AreItemsSaid, ArePlacesSaid, AreWritten, IsFoundTold}
+use Rattle.nugwier_commands.specs.Run.{IsItemSaid, IsProblemsOf, IsWritten, Known, KnownFolders, Listing, Written, heading_of}
+use Rattle.nugwier_commands.specs.Run.{listing_text, next_heading}
+use Rattle.nugwier_commands.specs.Walk.{AreFound, Found, IsNextFound}
 use Rattle.nugwier_commands.specs.declared.ended.Ended.{Ended}
-use Rattle.nugwier_commands.specs.inner.Loading.{IsItemEnded, IsPathEnded, written_by}
+use Rattle.nugwier_commands.specs.inner.Loading.{AreSaidAndWritten, IsItemEnded, IsPathEnded, written_by}
+use Rattle.nugwier_commands.proofs.Walks.{both}
+use Rattle.nugwier_files.specs.Folder.{Folder, Place}
 use Rattle.nugwier_report.specs.Problems.{IsProblemsText}
 use Rattle.nugwier_report.specs.declared.kind.Kind.{Kind}
 use Rattle.nugwier_report.specs.declared.report.Summary.{Summary}
@@ -166,3 +170,37 @@ module _ (known : Known) (task : Task) (first : Option Kind) (path : List ℕ) (
   members_ended heading left now is_right is_told none so =
       none_left task.is_json before (AreItemsSaid known task first path items) (AreItemsSaid known task heading path left) now is_right is_told
       (subst (λ (left : List Item). AreItemsSaid known task heading path left []) (sym none) refl) so
+
+-- ---- what is found below folders
+
+module _ (known : Known) (folders : KnownFolders) (task : Task) (first : Option Kind) (places : List Place) (before : Written) where
+  abbrev pub ArePlacesSoFar : Option Kind → List Place → Written → Bool → Bool → Type 0
+  ArePlacesSoFar heading left now is_right is_told =
+      IsSoFar task.is_json before (ArePlacesSaid known folders task first places) (ArePlacesSaid known folders task heading left) now is_right is_told
+
+  found_first : (heading : Option Kind) (found : Found) (left next : List Place) (own rest : List Listing) → IsFoundTold known task heading found own
+      → IfSome known (λ files. IfSome folders (λ names. IsNextFound files names left (Some found) next))
+      → ArePlacesSaid known folders task (next_heading heading) next rest → ArePlacesSaid known folders task heading left (own ++ rest)
+  found_first heading found left next own rest told =
+      both known folders (λ files names. IsNextFound files names left (Some found) next)
+      (λ files names. (all : List Found) × AreFound files names next all × AreAllTold known task (next_heading heading) all rest)
+      (λ files names. (all : List Found) × AreFound files names left all × AreAllTold known task heading all (own ++ rest))
+      (λ files names later are. (found ∷ are.0, later are.0 are.1, (own, rest, told, are.2, refl)))
+
+  -- what was found was said, and what is said of it was written
+  pub found_ended : {W V : Type 0} (out_of : W → Option (List ℕ)) (err_of : V → Option (List ℕ)) (heading : Option Kind) (found : Found) (left next : List Place) (now : Written) (ended : Ended W V) (is_right is_told : Bool) (own : Summary)
+      → ended.said ≡ Ok own → AreSaidAndWritten out_of err_of (IsFoundTold known task heading found) task now ended
+      → IfSome known (λ files. IfSome folders (λ names. IsNextFound files names left (Some found) next)) → ArePlacesSoFar heading left now is_right is_told
+      → ArePlacesSoFar (next_heading heading) next (written_by out_of err_of ended) (is_right && own.is_right) (is_told && own.is_told)
+  found_ended out_of err_of heading found left next now ended is_right is_told own is said here so =
+      let done = IfOk-at_ok _ is said in
+      some_more task.is_json before (ArePlacesSaid known folders task first places) (ArePlacesSaid known folders task heading left) (ArePlacesSaid known folders task (next_heading heading) next)
+      now (written_by out_of err_of ended) is_right is_told own done.0 (λ rest are. found_first heading found left next done.0 rest done.1 here are) done.2 so
+
+  pub places_ended : (heading : Option Kind) (left next : List Place) (now : Written) (is_right is_told : Bool)
+      → IfSome known (λ files. IfSome folders (λ names. IsNextFound files names left None next)) → ArePlacesSoFar heading left now is_right is_told
+      → IsDone task.is_json before (ArePlacesSaid known folders task first places) now is_right is_told
+  places_ended heading left next now is_right is_told none so =
+      let Ended = λ (files : List ℕ → Option (List ℕ)) (names : List ℕ → Folder). IsNextFound files names left None next in
+      none_left task.is_json before (ArePlacesSaid known folders task first places) (ArePlacesSaid known folders task heading left) now is_right is_told
+      (both known folders Ended Ended (λ files names. (all : List Found) × AreFound files names left all × AreAllTold known task heading all []) (λ files names end same. ([], end, refl)) none none) so

@@ -5,3 +5,4 @@ pub mod Lifting
 mod Texts
 mod Unopened
 mod Programs
+mod Walks

@@ -51,7 +51,7 @@ pub(crate) fn run_archive<F: Files, W: Write, V: Write>(
     let target = Target {
         job: target.job,
         path: target.path,
-        heading: first_heading(target),
+        heading: first_heading(target.job.command, target.heading),
     };
     match members_of(bytes) {
         Ok(members) => run_members(alloc, target, files, members, out, err),
@@ -59,17 +59,19 @@ pub(crate) fn run_archive<F: Files, W: Write, V: Write>(
     }
 }
 
-fn first_heading(target: Target<'_>) -> Option<Kind>
-    ensures { result ≡ first_heading target.entry.job.now.command target.entry.heading }
+/// What is above the first file, if something may be above files.
+pub(crate) fn first_heading(command: Command, heading: Option<Kind>) -> Option<Kind>
+    ensures { result ≡ first_heading command heading }
 {
-    match (target.job.command, target.heading) {
+    match (command, heading) {
         (Command::Check | Command::Harden, _) => None,
         (_, Some(kind)) => Some(kind),
         (_, None) => Some(Kind::FileHeading),
     }
 }
 
-fn next_heading(heading: Option<Kind>) -> Option<Kind>
+/// What is above the file after one with this above it.
+pub(crate) fn next_heading(heading: Option<Kind>) -> Option<Kind>
     ensures { result ≡ next_heading heading }
 {
     match heading {

@@ -5,5 +5,7 @@
 mod archive;
 mod ended;
 mod loading;
+mod places;
 mod preloading;
 pub mod run;
+mod walk;

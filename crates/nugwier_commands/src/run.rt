@@ -6,7 +6,7 @@ ghost use Rattle.elf_reading.specs.Opening.{opened_by_segments};
 ghost use Rattle.elf_records.specs.Endian.{any_is_little, any_of_byte};
 ghost use Rattle.nugwier_commands.specs.Run.{AreBytesSaid, IsAnswered, IsBytesSaid, IsContentSaid, IsElfSaid};
 ghost use Rattle.nugwier_commands.specs.Run.{IsPrinted, IsProgramSaid, IsRun, IsTaskAnswered, IsUnopenedSaid};
-ghost use Rattle.nugwier_commands.specs.Run.{has_headings, heading_of, status_of};
+ghost use Rattle.nugwier_commands.specs.Run.{AreFilesSaid, has_headings, heading_of, status_of};
 ghost use Rattle.nugwier_commands.specs.inner.Loading.{AreSaidAndWritten, IsFileEnded, IsFrontOf, IsNamed, IsOutcomeOf};
 ghost use Rattle.nugwier_commands.specs.inner.Loading.{IsPathEnded, IsSaidAndWritten, IsWordsTold, written_by};
 ghost use Rattle.nugwier_commands.specs.Run.{IsReasonTold};
@@ -16,6 +16,7 @@ ghost use Rattle.nugwier_words.specs.Words.{answer_of, parsed, run as run_answer
 use crate::archive::{is_archive, run_archive};
 use crate::ended::{Ended, Target};
 use crate::loading::{Listed, list_bytes, list_source, stopped};
+use crate::places::run_places;
 use elf::endian::AnyEndian;
 use elf::{ElfBytes, ParseError, StreamSource};
 use elf_linking::tree::LoadedFile;
@@ -66,7 +67,7 @@ pub fn run<F: Files, W: Write, V: Write>(
     out: W,
     err: V,
 ) -> (Outcome, W, V)
-    ensures { IsRun (F.known files.now) (record { out = W.contents out; err = V.contents err })
+    ensures { IsRun (F.known files.now) (F.folders files.now) (record { out = W.contents out; err = V.contents err })
         (record { out = W.contents result.1; err = V.contents result.2 }) (parsed words.now) result.0 }
 {
     match parse_words(alloc, words) {
@@ -102,7 +103,7 @@ fn answer<F: Files, W: Write, V: Write>(
     out: W,
     err: V,
 ) -> (Outcome, W, V)
-    ensures { IsRun (F.known files.now) (record { out = W.contents out; err = V.contents err })
+    ensures { IsRun (F.known files.now) (F.folders files.now) (record { out = W.contents out; err = V.contents err })
         (record { out = W.contents result.1; err = V.contents result.2 }) (Ok (answer_of request.entry)) result.0 }
 {
     match request {
@@ -172,7 +173,7 @@ fn run_job<F: Files, W: Write, V: Write>(
     out: W,
     err: V,
 ) -> Ended<W, V>
-    ensures { IfOk result.said (λ summary. IsAnswered (F.known files.now)
+    ensures { IfOk result.said (λ summary. IsAnswered (F.known files.now) (F.folders files.now)
         (record { out = W.contents out; err = V.contents err }) (written_by W.contents V.contents result) summary
         (run_answer (task_of job.now))) }
 {
@@ -181,7 +182,7 @@ fn run_job<F: Files, W: Write, V: Write>(
         root: job.root,
         files,
     };
-    let Ended { said, mut out, err } = run_files(alloc, job, &files, out, err);
+    let Ended { said, mut out, err } = run_task(alloc, job, &files, out, err);
     match said {
         Ok(summary) => match out.flush() {
             Ok(()) => Ended {
@@ -203,6 +204,24 @@ fn run_job<F: Files, W: Write, V: Write>(
     }
 }
 
+fn run_task<F: Files, W: Write, V: Write>(
+    alloc: Global,
+    job: &Job<'_>,
+    files: &F,
+    out: W,
+    err: V,
+) -> Ended<W, V>
+    ensures { IfOk result.said (λ summary. IsTaskAnswered (F.known files.now) (F.folders files.now)
+        (record { out = W.contents out; err = V.contents err }) (written_by W.contents V.contents result) summary
+        (task_of job.now)) }
+{
+    if job.is_recursive {
+        run_places(alloc, job, files, out, err)
+    } else {
+        run_files(alloc, job, files, out, err)
+    }
+}
+
 fn run_files<F: Files, W: Write, V: Write>(
     alloc: Global,
     job: &Job<'_>,
@@ -210,9 +229,9 @@ fn run_files<F: Files, W: Write, V: Write>(
     mut out: W,
     mut err: V,
 ) -> Ended<W, V>
-    ensures { IfOk result.said (λ summary. IsTaskAnswered (F.known files.now)
-        (record { out = W.contents out; err = V.contents err }) (written_by W.contents V.contents result) summary
-        (task_of job.now)) }
+    ensures { let task = task_of job.now in AreSaidAndWritten W.contents V.contents
+        (AreFilesSaid (F.known files.now) task 0 task.files) task
+        (record { out = W.contents out; err = V.contents err }) result }
 {
     let mut are_right = true;
     let mut are_told = true;
@@ -264,8 +283,8 @@ fn has_headings(job: &Job<'_>) -> bool
     }
 }
 
-// Says what is asked for of the file at a path. Its first bytes are read first, and no more if it is no ELF file.
-fn run_path<F: Files, W: Write, V: Write>(
+/// Says what is asked for of the file at a path. Its first bytes are read first, and no more if it is no ELF file.
+pub(crate) fn run_path<F: Files, W: Write, V: Write>(
     alloc: Global,
     target: Target<'_>,
     files: &F,
@@ -282,8 +301,8 @@ fn run_path<F: Files, W: Write, V: Write>(
     }
 }
 
-// The bytes at the start of the file at a path that tell its format, if it can be read by parts.
-fn front_of<F: Files>(alloc: Global, path: &str, files: &F) -> Option<Vec<u8>>
+/// The bytes at the start of the file at a path that tell its format, if it can be read by parts.
+pub(crate) fn front_of<F: Files>(alloc: Global, path: &str, files: &F) -> Option<Vec<u8>>
     ensures { IfSome result (λ start. IfSome (F.known files.now) (λ files. IsFrontOf (files path.now) start.items)) }
 {
     let mut source = files.open(path)?;
@@ -383,8 +402,8 @@ fn run_one<F: Files, W: Write, V: Write>(
     }
 }
 
-// The first bytes of a file.
-fn front_in(bytes: &[u8]) -> &[u8]
+/// The first bytes of a file.
+pub(crate) fn front_in(bytes: &[u8]) -> &[u8]
     ensures { result.now ≡ front bytes.now }
 {
     &bytes[..bytes.len().min(FRONT)]

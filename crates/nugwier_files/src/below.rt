@@ -4,6 +4,7 @@ ghost use Rattle.std.specs.Option.{option_map};
 ghost use Rattle.nugwier_files.specs.Below.{below};
 
 use crate::files::Files;
+use crate::folder::Entry;
 use crate::opening::Opening;
 use elf_linking::tree::Libraries;
 use std::alloc::{AllocError, Global};
@@ -42,11 +43,13 @@ fn text_below(alloc: Global, root: &str, path: &str) -> Result<String, AllocErro
 }
 
 impl<'a, F: Files> Files for FilesBelow<'a, F> {
-    ghost use Rattle.nugwier_files.specs.Below.{known_below};
+    ghost use Rattle.nugwier_files.specs.Below.{folders_known_below, known_below};
 
     type Source = F::Source;
 
     ghost known = { λ s. known_below s.root (F.known s.files.now) };
+
+    ghost folders = { λ s. folders_known_below s.root (F.folders s.files.now) };
 
     fn open(&self, path: &str) -> Option<F::Source> {
         match self.root {
@@ -75,6 +78,16 @@ impl<'a, F: Files> Files for FilesBelow<'a, F> {
                 self.files.read(full.as_str())
             }
             None => self.files.read(path),
+        }
+    }
+
+    fn folder(&self, path: &str) -> io::Result<Option<Vec<Entry>>> {
+        match self.root {
+            Some(root) => {
+                let full = text_below(self.alloc, root, path)?;
+                self.files.folder(full.as_str())
+            }
+            None => self.files.folder(path),
         }
     }
 

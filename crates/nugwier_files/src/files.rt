@@ -1,9 +1,11 @@
 //! Files by their paths.
 ghost use Rattle.std.specs.Prelude.{◌≡◌, ◌⊎◌, ℕ, List, None, Option, Some, IfErr, IfOk, IfSome};
 ghost use Rattle.std.specs.IoError.{error_kind};
+ghost use Rattle.nugwier_files.specs.Folder.{Folder, folder_of, unreadable};
 ghost use Rattle.nugwier_files.specs.Opening.{IsOpening};
 ghost use Rattle.std.specs.declared.io.ErrorKind.TheVariants.{OutOfMemory};
 
+use crate::folder::Entry;
 use crate::opening::Opening;
 use elf::StreamSource;
 use elf_linking::tree::Libraries;
@@ -15,6 +17,9 @@ pub trait Files: Libraries {
 
     /// The content of the file at each path, if the files are known.
     ghost known: { Self → Option (List ℕ → Option (List ℕ)) };
+
+    /// What folder is at each path, if the files are known.
+    ghost folders: { Self → Option (List ℕ → Folder) };
 
     /// Opens the file at a path, so that it can be read by parts. Returns `None` if it can only be read whole, or not
     /// at all; nothing was read of it then.
@@ -33,6 +38,15 @@ pub trait Files: Libraries {
             ⊎ (error_kind error ≡ OutOfMemory))) }
         ensures content { IfOk result (λ content. IfSome (known self.now) (λ files. files path.now
             ≡ Some content.items)) };
+
+    /// Returns the regular files and the folders in the folder at a path by their names, in any order, or `None` if no
+    /// folder is there. A link at the path is followed, and those in the folder are left out. The error is that of the
+    /// system, if the folder cannot be read, or that an allocation failed.
+    fn folder(&self, path: &str) -> io::Result<Option<Vec<Entry>>>
+        ensures error { IfErr result (λ error. IfSome (folders self.now) (λ folders. (folders path.now ≡ unreadable)
+            ⊎ (error_kind error ≡ OutOfMemory))) }
+        ensures found { IfOk result (λ found. IfSome (folders self.now) (λ folders. folders path.now
+            ≡ folder_of found)) };
 
     /// States that the libraries are files like the others: both are known, and the same, or none is known.
     fn has_libraries(&self)

@@ -4,6 +4,7 @@
 
 pub mod below;
 pub mod files;
+pub mod folder;
 pub mod memory;
 pub mod named;
 pub mod opening;

@@ -1,9 +1,12 @@
-//! Files in memory, whose contents are known.
-ghost use Rattle.std.specs.Prelude.{◌≡◌, Some};
+//! Files and folders in memory, which are known.
+ghost use Rattle.std.specs.Prelude.{[], ◌≡◌, IfOk, Some, map};
 ghost use Rattle.std.specs.Option.{option_map};
 ghost use Rattle.elf_linking.specs.Tree.{content_in};
+ghost use Rattle.nugwier_files.specs.Files.{folder_in, found_folder, mem_place};
+ghost use Rattle.nugwier_files.specs.Folder.{place_of};
 
 use crate::files::Files;
+use crate::folder::{Entry, EntryKind};
 use crate::opening::Opening;
 use elf::MemSource;
 use elf_linking::tree::Libraries;
@@ -11,21 +14,61 @@ use elf_linking::tree::memory::MemFile;
 use std::alloc::{AllocError, Global};
 use std::io;
 
-/// Files in memory. Of those with one path the first counts.
+/// A name of a folder in memory.
+#[derive(Debug, Clone, Copy)]
+pub struct MemEntry<'a> {
+    pub name: &'a str,
+    pub kind: EntryKind,
+}
+
+/// A folder in memory, with its names if it can be read.
+#[derive(Debug, Clone, Copy)]
+pub struct MemFolder<'a> {
+    pub path: &'a [u8],
+    pub entries: Option<&'a [MemEntry<'a>]>,
+}
+
+/// Files and folders in memory. Of those with one path the first counts.
 #[derive(Clone, Copy)]
 pub struct MemFiles<'a> {
     alloc: Global,
     files: &'a [MemFile<'a>],
+    folders: &'a [MemFolder<'a>],
 }
 
 impl<'a> MemFiles<'a> {
-    ghost use Rattle.nugwier_files.specs.Files.{mem_files};
+    ghost use Rattle.nugwier_files.specs.Files.{mem_files, mem_folders};
 
     /// These files. What is read of them is copied into memory of the allocator.
     pub fn new(alloc: Global, files: &'a [MemFile<'a>]) -> Self
-        ensures { mem_files result ≡ files.now }
+        ensures files { mem_files result ≡ files.now }
+        ensures folders { mem_folders result ≡ [] }
     {
-        MemFiles { alloc, files }
+        MemFiles {
+            alloc,
+            files,
+            folders: &[],
+        }
+    }
+
+    /// The same files, and these folders.
+    pub fn with_folders(self, folders: &'a [MemFolder<'a>]) -> Self
+        ensures files { mem_files result ≡ mem_files self.entry }
+        ensures folders { mem_folders result ≡ folders.now }
+    {
+        MemFiles { folders, ..self }
+    }
+
+    // Returns the folder at a path.
+    fn find_folder(&self, path: &[u8]) -> Option<MemFolder<'a>>
+        ensures { found_folder result ≡ folder_in (mem_folders self.now) path.now }
+    {
+        for folder in self.folders {
+            if folder.path == path {
+                return Some(*folder);
+            }
+        }
+        None
     }
 
     // Returns the bytes of the file at a path.
@@ -41,12 +84,28 @@ impl<'a> MemFiles<'a> {
     }
 }
 
+// The names of a folder.
+fn copied(alloc: Global, entries: &[MemEntry<'_>]) -> Result<Vec<Entry>, AllocError>
+    ensures { IfOk result (λ copies. map place_of copies.items ≡ map mem_place entries.now) }
+{
+    let mut copies = Vec::new(alloc);
+    for entry in entries {
+        copies.push(Entry {
+            path: String::from_str(alloc, entry.name)?,
+            kind: entry.kind,
+        })?;
+    }
+    Ok(copies)
+}
+
 impl<'a> Files for MemFiles<'a> {
-    ghost use Rattle.nugwier_files.specs.Files.{mem_files};
+    ghost use Rattle.nugwier_files.specs.Files.{mem_files, mem_folders};
 
     type Source = MemSource<'a>;
 
     ghost known = { λ s. Some (content_in (mem_files s)) };
+
+    ghost folders = { λ s. Some (folder_in (mem_folders s)) };
 
     fn open(&self, path: &str) -> Option<MemSource<'a>> {
         let bytes = self.find(path.as_bytes())?;
@@ -65,6 +124,16 @@ impl<'a> Files for MemFiles<'a> {
             return Err(io::Error::from(io::ErrorKind::NotFound));
         };
         Ok(Vec::from_slice(self.alloc, bytes)?)
+    }
+
+    fn folder(&self, path: &str) -> io::Result<Option<Vec<Entry>>> {
+        let Some(folder) = self.find_folder(path.as_bytes()) else {
+            return Ok(None);
+        };
+        let Some(entries) = folder.entries else {
+            return Err(io::Error::from(io::ErrorKind::PermissionDenied));
+        };
+        Ok(Some(copied(self.alloc, entries)?))
     }
 
     fn has_libraries(&self) {}

@@ -2,12 +2,13 @@
 ghost use Rattle.std.specs.Prelude.{None};
 
 use crate::files::Files;
+use crate::folder::{Entry, EntryKind};
 use crate::opening::Opening;
 use elf::{FileSource, abi};
 use elf_archive::archive::thinness;
 use elf_linking::tree::Libraries;
 use std::alloc::{AllocError, Global};
-use std::fs::File;
+use std::fs::{DirEntry, File, FileType};
 use std::io::Read;
 use std::os::unix::fs::FileTypeExt;
 use std::str::from_utf8;
@@ -34,6 +35,8 @@ impl Files for SystemFiles<'_> {
 
     // Files may change, so they are not known.
     ghost known = { λ _. None };
+
+    ghost folders = { λ _. None };
 
     // Only a regular file is read by parts: a pipe is read once, from its start.
     fn open(&self, path: &str) -> Option<FileSource> {
@@ -66,6 +69,14 @@ impl Files for SystemFiles<'_> {
         }
     }
 
+    // What cannot be told of a path is no folder: reading it tells why.
+    fn folder(&self, path: &str) -> io::Result<Option<Vec<Entry>>> {
+        match fs::metadata(self.rt, path) {
+            Ok(found) if found.is_dir() && path != "-" => Ok(Some(entries_in(self.rt, path)?)),
+            _ => Ok(None),
+        }
+    }
+
     fn has_libraries(&self) {}
 }
 
@@ -84,6 +95,45 @@ impl Libraries for SystemFiles<'_> {
                 _ => Ok(None),
             },
         }
+    }
+}
+
+// The files and the folders in a folder.
+fn entries_in(rt: &HostRuntime, folder: &str) -> io::Result<Vec<Entry>> {
+    let mut entries = Vec::new(rt.alloc());
+    for item in fs::read_dir(rt, folder)? {
+        if let Some(entry) = entry_of(rt.alloc(), item)? {
+            entries.push(entry)?;
+        }
+    }
+    Ok(entries)
+}
+
+// The file or the folder that a name of a folder stands for. Std of Rattle does not tell a name that is not UTF-8.
+fn entry_of(alloc: Global, item: io::Result<DirEntry>) -> io::Result<Option<Entry>> {
+    let item = match item {
+        Ok(item) => item,
+        Err(error) if error.kind() == io::ErrorKind::InvalidFilename => {
+            return Ok(Some(Entry {
+                path: String::new(alloc),
+                kind: EntryKind::Unnamed,
+            }));
+        }
+        Err(error) => return Err(error),
+    };
+    let Some(kind) = kind_of(&item) else {
+        return Ok(None);
+    };
+    let path = String::from_str(alloc, item.file_name())?;
+    Ok(Some(Entry { path, kind }))
+}
+
+// Links, devices, pipes and sockets are left out. Of a name of which nothing can be told reading it tells why.
+fn kind_of(item: &DirEntry) -> Option<EntryKind> {
+    match item.file_type() {
+        Ok(kind) if kind.is_dir() => Some(EntryKind::Folder),
+        Ok(kind) if !kind.is_file() => None,
+        _ => Some(EntryKind::File),
     }
 }
 
@@ -113,17 +163,28 @@ fn read_pipe<R: Read + Drop>(alloc: Global, mut pipe: R) -> io::Result<Vec<u8>> 
     Ok(data)
 }
 
-// Reads a file. A device is refused, since it may have no end.
+// Reads a regular file or a pipe, which a shell may have made in place of a file. A device may have no end.
 fn read_file(rt: &HostRuntime, path: &str) -> io::Result<Vec<u8>> {
     let kind = fs::metadata(rt, path)?.file_type();
-    if kind.is_char_device() || kind.is_block_device() {
-        return Err(io::Error::new(io::ErrorKind::InvalidInput, "is a device"));
-    }
-    let file = File::open(rt, path)?;
     if kind.is_file() {
-        return read_to_length(rt, file);
+        read_to_length(rt, File::open(rt, path)?)
+    } else if kind.is_fifo() {
+        read_pipe(rt.alloc(), File::open(rt, path)?)
+    } else {
+        let reason = refused(kind);
+        Err(io::Error::new(io::ErrorKind::InvalidInput, reason))
     }
-    read_pipe(rt.alloc(), file)
+}
+
+// Why nothing is read of what is neither a regular file nor a pipe.
+fn refused(kind: FileType) -> &'static str {
+    if kind.is_dir() {
+        "is a folder; see -R"
+    } else if kind.is_char_device() || kind.is_block_device() {
+        "is a device"
+    } else {
+        "is not a regular file"
+    }
 }
 
 // Reads a regular file up to the length that the system reports: some files of the system have more, without end.

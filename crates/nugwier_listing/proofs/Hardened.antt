@@ -4,12 +4,13 @@ use Rattle.std.specs.Option.{option_map}
 use Rattle.elf_abi.specs.Values.{dt_rpath, dt_runpath}
 use Rattle.elf_records.specs.Table.{Table}
 use Rattle.elf_records.specs.declared.dynamic.Dyn.{Dyn}
-use Rattle.nugwier_listing.specs.Hardening.{Hardened, entries_unread, feature_type, features_by, first_tagged, hardened_said, hardening_by, judged_said, known_entries}
+use Rattle.nugwier_listing.specs.Hardening.{Hardened, entries_unread, features_by, first_tagged, hardened_said, hardening_by, judged_said, known_entries}
 use Rattle.nugwier_listing.specs.Hardening.{path_at, path_in, path_missed, path_unread, paths_of, properties_unread}
 use Rattle.nugwier_listing.specs.Read.{fault_said, if_read}
 use Rattle.nugwier_listing.specs.declared.hardening.LinkEntries.{LinkEntries}
 use Rattle.nugwier_listing.specs.inner.Hardening.{link_view}
 use Rattle.nugwier_report.specs.Hardening.{Paths}
+use Rattle.nugwier_report.specs.Properties.{feature_type}
 use Rattle.nugwier_report.specs.Said.{Said, Telling, saying, whole}
 use Rattle.nugwier_report.specs.declared.hardening.Hardening.{Hardening}
 use Rattle.nugwier_report.specs.declared.hardening.Requirement.{Requirement}

@@ -7,3 +7,5 @@ pub mod Numbers
 mod NoteEnds
 mod PartViews
 mod Hardened
+-- the symbols of a table, each with its number
+pub mod Ordered

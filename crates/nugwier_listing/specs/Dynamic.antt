@@ -8,7 +8,8 @@ use Rattle.elf_records.specs.declared.parse.ParseError.{ParseError}
 use Rattle.elf_records.specs.declared.parse.ParseError.TheVariants.{OutOfMemory, SliceReadError}
 use Rattle.elf.specs.Answers.{dynamic}
 use Rattle.elf.specs.ObjectFile.{ObjectFile}
-use Rattle.elf_linking.specs.Needed.{entries_in, strings_by}
+use Rattle.elf_dynamic.specs.dynamic_view.Entries.{entries_in}
+use Rattle.elf_linking.specs.Needed.{strings_by}
 use Rattle.elf_linking.specs.declared.needed.NamesError.{NamesError}
 use Rattle.elf_linking.specs.declared.needed.NamesError.TheVariants as error
 use Rattle.nugwier_listing.specs.Read.{answer_said, missing}

@@ -1,13 +1,12 @@
 -- How a file is hardened against attacks: by its segments (gABI, chapter "Program Header"; GNU extensions), its dynamic
 -- entries (gABI, chapter "Dynamic Section"), its symbols, and the properties of its code (Linux Extensions to gABI,
 -- section "Program Property"). What is not known is None.
-use Rattle.std.specs.Prelude.{ℕ, ℤ, pos, ◌+◌, ◌*◌, ◌/◌, ◌==◌, ◌||◌, ◌&&◌, not, nat_lt, bit_and, Bool, false}
+use Rattle.std.specs.Prelude.{ℕ, ℤ, pos, ◌+◌, ◌==◌, ◌||◌, ◌&&◌, not, nat_lt, bit_and, Bool, false}
 use Rattle.std.specs.Prelude.{if◌then◌else◌, List, [], ◌∷◌, ◌++◌, codes, drop, filter, length, map}
 use Rattle.std.specs.Prelude.{Option, Some, None, Result, Ok, Err, unwrap_or}
 use Rattle.std.specs.List.{enumerate_from, find, flat_map, list_any, position, slice_get, slice_split, starts_with}
-use Rattle.std.specs.Option.{option_and_then, option_map}
+use Rattle.std.specs.Option.{option_map}
 use Rattle.std.specs.Result.{result_ok}
-use Rattle.std.specs.Str.{bytes_eq}
 use Rattle.elf.specs.Answers.{segment_data, symbol_table}
 use Rattle.elf.specs.Data.{content}
 use Rattle.elf.specs.Names.{is_string}
@@ -18,13 +17,11 @@ use Rattle.elf_names.specs.Tags.{dt_flags, dt_flags_1}
 use Rattle.elf_abi.specs.Values.{dt_rpath, dt_runpath}
 use Rattle.elf_parts.specs.Note.{AbiTag, BuildId, NoteContent, Other, notes_in}
 use Rattle.elf_records.specs.Dynamic.{d_un_view, has_tag}
-use Rattle.elf_records.specs.Number.{number_at}
 use Rattle.elf_records.specs.StringTable.{string_at}
 use Rattle.elf_records.specs.Symbol.{symbol_reads}
 use Rattle.elf_records.specs.Table.{Table, table_items}
 use Rattle.elf_records.specs.declared.dynamic.Dyn.{Dyn}
 use Rattle.elf_records.specs.declared.file.Class.{Class}
-use Rattle.elf_records.specs.declared.file.Class.TheVariants.{ELF32, ELF64}
 use Rattle.elf_records.specs.declared.parse.ParseError.{ParseError}
 use Rattle.elf_records.specs.declared.section.SectionHeader.{SectionHeader}
 use Rattle.elf_records.specs.declared.segment.ProgramHeader.{ProgramHeader}
@@ -35,7 +32,8 @@ use Rattle.nugwier_listing.specs.Headings.{known_names}
 use Rattle.nugwier_listing.specs.Linked.{linked_symbols}
 use Rattle.nugwier_listing.specs.Read.{fault_said, if_read}
 use Rattle.nugwier_listing.specs.declared.hardening.TheConstants as names
-use Rattle.nugwier_report.specs.Hardening.{Paths, hardening_said, is_aarch64, is_x86, meets}
+use Rattle.nugwier_report.specs.Hardening.{Paths, hardening_said, meets}
+use Rattle.nugwier_report.specs.Properties.{feature_type, is_property_note, number_in, padded, property_at}
 use Rattle.nugwier_report.specs.Said.{Said, unread, whole, wrong}
 use Rattle.nugwier_report.specs.declared.hardening.FileKind.{FileKind}
 use Rattle.nugwier_report.specs.declared.hardening.FileKind.TheVariants as kinds
@@ -132,6 +130,11 @@ abbrev pub known_entries : Result (Option Entries) ParseError → Option (List D
 known_entries (Ok (Some (machine, entries, strings))) = Some (entries, result_ok strings)
 known_entries (Ok None) = Some ([], None)
 known_entries (Err e) = None
+
+-- what a file with this type, for this machine, is
+abbrev pub kind_of : ℕ → ℕ → ObjectFile → Option FileKind
+kind_of e_type machine file =
+    file_kind e_type file.segments (option_map (λ k. k.0) (known_entries (entries_of machine file)))
 
 abbrev pub entries_unread : Result (Option Entries) ParseError → List Said
 entries_unread (Ok (Some (machine, entries, strings))) = strings_missed strings
@@ -238,29 +241,13 @@ properties_or file None = option_map (of_section file) (property_section file)
 abbrev pub properties_of : ObjectFile → Option Properties
 properties_of file = properties_or file (property_segment file.segments)
 
--- the descriptor of the first note with the name GNU and the type NT_GNU_PROPERTY_TYPE_0 (5)
-abbrev pub is_property_note : ℕ → List ℕ → Bool
-is_property_note n_type name = n_type == 5 && bytes_eq name (codes "GNU\0")
-
+-- the descriptor of the first note with properties
 abbrev pub first_properties : List NoteContent → List ℕ
 first_properties [] = []
 first_properties (AbiTag tag ∷ notes) = first_properties notes
 first_properties (BuildId id ∷ notes) = first_properties notes
 first_properties (Other n_type name descriptor ∷ notes) =
     if is_property_note n_type name then descriptor else first_properties notes
-
--- a property begins with its type and the size of its data, four bytes each
-abbrev pub number_in : Bool → List ℕ → ℕ → Option ℕ
-number_in little bytes o = result_ok (number_at little 4 bytes o)
-
-abbrev pub property_at : Bool → List ℕ → Option (ℕ × ℕ)
-property_at little bytes =
-    option_and_then (λ type. option_map (λ size. (type, size)) (number_in little bytes 4)) (number_in little bytes 0)
-
--- its data are filled up to a multiple of 4 bytes, in a 64-bit file of 8
-abbrev pub padded : Class → ℕ → ℕ
-padded ELF32 size = (size + 3) / 4 * 4
-padded ELF64 size = (size + 7) / 8 * 8
 
 -- the number of the first property of a type, among no more properties than the first list has bytes
 abbrev pub feature_in : Bool → Class → ℕ → List ℕ → List ℕ → Option ℕ
@@ -270,11 +257,6 @@ feature_in little class wanted (byte ∷ bytes) rest = elim (property_at little 
       else feature_in little class wanted bytes (drop (8 + padded class p.1) rest)
   | None ↦ None
 ]
-
--- GNU_PROPERTY_X86_FEATURE_1_AND and GNU_PROPERTY_AARCH64_FEATURE_1_AND
-abbrev pub feature_type : ℕ → Option ℕ
-feature_type machine =
-    if is_x86 machine then Some 0xc0000002 else if is_aarch64 machine then Some 0xc0000000 else None
 
 -- without such a property the code has none of the features
 abbrev pub features_in : Bool → Class → ℕ → List ℕ → ℕ

@@ -8,14 +8,14 @@ use Rattle.nugwier_listing.specs.Check.{IsCheckSaid}
 use Rattle.nugwier_listing.specs.Contents.{said_of_contents}
 use Rattle.nugwier_listing.specs.Dynamic.{said_of_entries, said_of_needed}
 use Rattle.nugwier_report.specs.Header.{header_said}
-use Rattle.nugwier_listing.specs.Hardening.{said_of_hardening}
+use Rattle.nugwier_listing.specs.Hardening.{kind_of, said_of_hardening}
 use Rattle.nugwier_listing.specs.Identity.{said_of_identity}
 use Rattle.nugwier_listing.specs.Notes.{said_of_notes}
 use Rattle.nugwier_listing.specs.Plan.{IsPlanSaid}
 use Rattle.nugwier_listing.specs.Relocations.{machine_of, said_of_relocations}
 use Rattle.nugwier_listing.specs.Sections.{said_of_sections}
 use Rattle.nugwier_listing.specs.Segments.{said_of_segments}
-use Rattle.nugwier_listing.specs.Symbols.{said_of_dynamic_symbols, said_of_exports, said_of_letters, said_of_symbols}
+use Rattle.nugwier_listing.specs.Symbols.{AreExportsSaid, AreSymbolsSaid, said_of_dynamic_symbols, said_of_symbols}
 use Rattle.nugwier_listing.specs.VersionLists.{said_of_version_lists}
 use Rattle.nugwier_listing.specs.declared.list.ListedPart.{ListedPart}
 use Rattle.nugwier_listing.specs.declared.list.ListedPart.TheVariants as part
@@ -40,14 +40,15 @@ is_listed parts part.Versions = parts.versions
 
 module _ {E : Type 0} (little : E → Bool) where
   abbrev pub said_of_part : FileHeader E → ObjectFile → ListedPart → List Said
-  said_of_part header file part.Header = header_said little header
+  said_of_part header file part.Header =
+      header_said little header (kind_of header.e_type header.e_machine file)
   said_of_part header file part.Sections = said_of_sections header.e_machine file
   said_of_part header file part.Segments = said_of_segments header.e_machine file
   said_of_part header file part.Symbols = said_of_symbols file
   said_of_part header file part.DynamicSymbols = said_of_dynamic_symbols file
   said_of_part header file part.Dynamic = said_of_entries header.e_machine file
   said_of_part header file part.Relocations = said_of_relocations (machine_of little header) file
-  said_of_part header file part.Notes = said_of_notes file
+  said_of_part header file part.Notes = said_of_notes header.e_machine file
   said_of_part header file part.Versions = said_of_version_lists file
 
   abbrev pub said_if_listed : Parts → FileHeader E → ObjectFile → ListedPart → List Said
@@ -64,8 +65,8 @@ module _ {E : Type 0} (little : E → Bool) where
     -- by the command, of a file of this path; `tree` and `bindings` say nothing of one file
     abbrev pub IsSaidBy : Command → Task → List ℕ → FileHeader E → ObjectFile → List Said → Type 0
     IsSaidBy ListCommand task path header file said = said ≡ said_of_list task header file
-    IsSaidBy Symbols task path header file said = said ≡ said_of_letters file
-    IsSaidBy Exports task path header file said = said ≡ said_of_exports file
+    IsSaidBy Symbols task path header file said = AreSymbolsSaid task.symbols file said
+    IsSaidBy Exports task path header file said = AreExportsSaid task.symbols file said
     IsSaidBy Needed task path header file said = said ≡ said_of_needed header.e_machine file
     IsSaidBy BuildId task path header file said = said ≡ said_of_identity file
     IsSaidBy Plan task path header file said = IsPlanSaid file said

@@ -2,6 +2,8 @@
 pub mod Linked
 -- what is said of what was taken
 pub mod Sections
+-- the segments that were taken
+pub mod Segments
 -- the symbols that were taken
 pub mod Symbols
 -- the dynamic entries that were taken

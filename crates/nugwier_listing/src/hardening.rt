@@ -12,19 +12,19 @@ ghost use Rattle.elf_records.specs.Symbol.{symbol_reads};
 ghost use Rattle.elf_records.specs.Table.{table_items, table_view};
 ghost use Rattle.nugwier_listing.specs.Hardening.{any_symbol, binds_now, count_symbols, dt_debug, dynamic_kind};
 ghost use Rattle.nugwier_listing.specs.Hardening.{entries_unread, has_symbols};
-ghost use Rattle.nugwier_listing.specs.Hardening.{feature_in, feature_type, features_by, features_in};
+ghost use Rattle.nugwier_listing.specs.Hardening.{feature_in, features_by, features_in};
 ghost use Rattle.nugwier_listing.specs.Hardening.{features_of, file_kind};
 ghost use Rattle.nugwier_listing.specs.Hardening.{first_properties, first_tagged, hardened, hardening_by};
 ghost use Rattle.nugwier_listing.specs.Hardening.{headers_of};
 ghost use Rattle.nugwier_listing.specs.Hardening.{has_flag, has_type, has_unsafe_path, is_canary};
 ghost use Rattle.nugwier_listing.specs.Hardening.{is_executable_stack, is_fortifiable, is_fortified};
-ghost use Rattle.nugwier_listing.specs.Hardening.{is_marked_pie, is_named, is_pie, is_property_note};
+ghost use Rattle.nugwier_listing.specs.Hardening.{is_marked_pie, is_named, is_pie};
 ghost use Rattle.nugwier_listing.specs.Hardening.{is_stripped};
 ghost use Rattle.nugwier_listing.specs.Hardening.{is_unsafe_folder, is_unsafe_path, is_writable_code, judged_said};
-ghost use Rattle.nugwier_listing.specs.Hardening.{known_entries, lack_said, number_in, of_section, of_segment, padded};
+ghost use Rattle.nugwier_listing.specs.Hardening.{kind_of, known_entries, lack_said, of_section, of_segment};
 ghost use Rattle.nugwier_listing.specs.Hardening.{path_at, path_in, path_lost, path_missed, path_of};
 ghost use Rattle.nugwier_listing.specs.Hardening.{path_unread};
-ghost use Rattle.nugwier_listing.specs.Hardening.{properties_of, properties_unread, property_at, property_section};
+ghost use Rattle.nugwier_listing.specs.Hardening.{properties_of, properties_unread, property_section};
 ghost use Rattle.nugwier_listing.specs.Hardening.{property_segment, relro_of, stack_of, symbols_of};
 ghost use Rattle.nugwier_listing.specs.Read.{fault_said, if_read};
 ghost use Rattle.nugwier_listing.specs.Whole.{file_of};
@@ -32,6 +32,7 @@ ghost use Rattle.nugwier_listing.specs.inner.Dynamic.{entries_view};
 ghost use Rattle.nugwier_listing.specs.inner.Hardening.{headers_view, link_view, property_view, tables_said};
 ghost use Rattle.nugwier_listing.specs.inner.Hardening.{tables_view};
 ghost use Rattle.nugwier_report.specs.Hardening.{paths_view};
+ghost use Rattle.nugwier_report.specs.Properties.{feature_type};
 ghost use Rattle.nugwier_report.specs.Said.{saying, whole};
 ghost use Rattle.nugwier_words.specs.Words.{task_of};
 
@@ -55,9 +56,12 @@ use elf::symbol::{Symbol, SymbolTable};
 use elf::{ParseError, abi};
 use elf_check::notes::note_align;
 use nugwier_report::hardening::{
-    FileKind, Hardening, Relro, Requirement, SearchPaths, is_aarch64, is_x86, say_hardening,
+    FileKind, Hardening, Relro, Requirement, SearchPaths, say_hardening,
 };
 use nugwier_report::problem::{Fault, Item, Part, Stop};
+use nugwier_report::properties::{
+    feature_type, is_property_note, number_in, padded, property_at, rest_of,
+};
 use nugwier_report::report::Report;
 use nugwier_words::words::Job;
 use std::alloc::{AllocError, Global};
@@ -115,6 +119,31 @@ pub(crate) fn take_hardening<'f, 'w, E: EndianParse, R: ListedFile<E>>(
         symbols,
         properties,
     })
+}
+
+/// Takes what a file is.
+pub(crate) fn take_kind<E: EndianParse, R: ListedFile<E>>(
+    alloc: Global,
+    file: &R,
+) -> Result<Option<FileKind>, NotTaken>
+    ensures { let header = R.header file.now in IfOk result (λ kind. kind
+        ≡ kind_of header.e_type header.e_machine (file_of (R.file file.now) (R.bytes file.now))) }
+{
+    let entries = take_dynamic(alloc, file)?;
+    let e_type = file.file_header().e_type;
+    Ok(file_kind(e_type, file.segment_list(), entries_read(&entries)))
+}
+
+// The entries, if they could be read. A file without any has no entries.
+fn entries_read<'a>(found: &'a FoundEntries<'_>) -> Option<&'a [Dyn]>
+    ensures { option_copied result
+        ≡ option_map (λ k. k.0) (known_entries (ok_map (option_map entries_view) found.now)) }
+{
+    match found {
+        Ok(Some(found)) => Some(found.entries.as_slice()),
+        Ok(None) => Some(&[]),
+        Err(_) => None,
+    }
 }
 
 fn headers_of<'f, E: EndianParse, R: ListedFile<E>>(file: &'f R) -> HeaderLists<'f>
@@ -897,19 +926,6 @@ fn count_fortifiable<E: EndianParse>(symbols: &Option<Symbols<'_, E>>) -> Option
 
 // ---- the properties of code
 
-// The type of the property that has the features of all code, by the machine.
-fn feature_type(machine: u16) -> Option<u32>
-    ensures { result ≡ feature_type machine }
-{
-    if is_x86(machine) {
-        Some(0xc000_0002)
-    } else if is_aarch64(machine) {
-        Some(abi::GNU_PROPERTY_AARCH64_FEATURE_1_AND)
-    } else {
-        None
-    }
-}
-
 // The features, if they can be read. It is a problem if notes with properties cannot be read.
 fn known_features<E: EndianParse, W: Write, V: Write>(
     order: E,
@@ -990,12 +1006,6 @@ fn first_properties<'f, E: EndianParse>(notes: NoteIterator<'f, E>) -> &'f [u8]
     &[]
 }
 
-fn is_property_note(n_type: u64, name: &[u8]) -> bool
-    ensures { result ≡ is_property_note n_type name.now }
-{
-    n_type == abi::NT_GNU_PROPERTY_TYPE_0 && name == b"GNU\0".as_slice()
-}
-
 // The number of the first property of a type; 0 if there is none.
 fn features_in<E: EndianParse>(order: E, class: Class, wanted: u32, bytes: &[u8]) -> u64
     ensures { result ≡ features_in (E.little order) class wanted bytes.now }
@@ -1022,41 +1032,4 @@ fn feature_in<E: EndianParse>(order: E, class: Class, wanted: u32, bytes: &[u8])
         left = others;
     }
     None
-}
-
-// The type of a property, and the size of its data.
-fn property_at<E: EndianParse>(order: E, bytes: &[u8]) -> Option<(u32, u32)>
-    ensures { result ≡ property_at (E.little order) bytes.now }
-{
-    let kind = number_in(order, bytes, 0)?;
-    let size = number_in(order, bytes, 4)?;
-    Some((kind, size))
-}
-
-fn number_in<E: EndianParse>(order: E, bytes: &[u8], offset: usize) -> Option<u32>
-    ensures { result ≡ number_in (E.little order) bytes.now offset }
-{
-    let mut offset = offset;
-    order.parse_u32_at(&mut offset, bytes).ok()
-}
-
-// The data of a property are filled up.
-fn padded(class: Class, size: u32) -> usize
-    ensures { result ≡ padded class size }
-{
-    let size = size as usize;
-    match class {
-        Class::ELF32 => (size + 3) / 4 * 4,
-        Class::ELF64 => (size + 7) / 8 * 8,
-    }
-}
-
-// The bytes after the first ones.
-fn rest_of(count: usize, bytes: &[u8]) -> &[u8]
-    ensures { result.now ≡ drop count bytes.now }
-{
-    match bytes.get(count..) {
-        Some(rest) => rest,
-        None => &[],
-    }
 }

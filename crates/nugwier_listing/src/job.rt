@@ -14,13 +14,14 @@ use crate::identity::say_identity;
 use crate::list::{ListTables, say_list, take_list};
 use crate::listed::ListedFile;
 use crate::plan::{say_plan, take_plan};
-use crate::symbols::{LinkedTables, say_linked, take_exports, take_letters};
+use crate::symbols::{SymbolTables, say_table, take_letters, take_linked};
 use crate::taking::{self, FoundSymbols, NotTaken};
 use elf::ParseError;
 use elf::endian::EndianParse;
 use elf_tools::load_plan::{Mapping, PlanError};
 use nugwier_report::problem::Stop;
 use nugwier_report::report::Report;
+use nugwier_report::symbols::Form;
 use nugwier_words::words::{Command, Job};
 use std::alloc::Global;
 use std::io::Write;
@@ -30,7 +31,7 @@ use std::io::Write;
 pub enum JobTables<'f, 'w, E: EndianParse> {
     Listed(ListTables<'f, 'w, E>),
     /// For `symbols` and `exports`.
-    Linked(LinkedTables<'f, E>),
+    Symbols(SymbolTables<'f, E>),
     Needed(FoundEntries<'f>),
     BuildId(Result<Option<&'f [u8]>, ParseError>),
     Plan(Result<Vec<Mapping>, PlanError>),
@@ -55,8 +56,13 @@ pub fn take_job<'f, 'w, E: EndianParse, R: ListedFile<E>>(
 {
     match job.command {
         Command::List => Ok(JobTables::Listed(take_list(alloc, job, file)?)),
-        Command::Symbols => Ok(JobTables::Linked(take_letters(file)?)),
-        Command::Exports => Ok(JobTables::Linked(take_exports(file)?)),
+        Command::Symbols => Ok(JobTables::Symbols(take_letters(alloc, job.symbols, file)?)),
+        Command::Exports => {
+            let form = Form::Export {
+                functions_only: job.symbols.functions_only,
+            };
+            Ok(JobTables::Symbols(take_linked(alloc, form, file)?))
+        }
         Command::Needed => Ok(JobTables::Needed(take_dynamic(alloc, file)?)),
         Command::BuildId => Ok(JobTables::BuildId(taking::build_id(file)?)),
         Command::Plan => Ok(JobTables::Plan(take_plan(alloc, file)?)),
@@ -81,7 +87,7 @@ pub fn say_job<E: EndianParse, W: Write, V: Write>(
 {
     match tables {
         JobTables::Listed(tables) => say_list(alloc, tables, report),
-        JobTables::Linked(tables) => say_linked(alloc, tables, report),
+        JobTables::Symbols(tables) => say_table(alloc, tables, report),
         JobTables::Needed(entries) => say_needed(entries, report),
         JobTables::BuildId(found) => say_identity(found, report),
         JobTables::Plan(planned) => say_plan(planned, report),

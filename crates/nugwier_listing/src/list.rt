@@ -9,18 +9,19 @@ ghost use Rattle.nugwier_words.specs.Words.{task_of};
 
 use crate::contents::{ContentPart, take_contents};
 use crate::dynamic::{FoundEntries, say_entries, take_dynamic};
+use crate::hardening::take_kind;
 use crate::listed::ListedFile;
 use crate::notes::{NotePart, take_notes};
 use crate::parts::say_each;
 use crate::relocations::{RelocationTables, say_relocations, take_relocations};
 use crate::sections::{SectionTables, say_sections, take_sections};
-use crate::segments::say_segments;
-use crate::symbols::{LinkedTables, say_linked, say_symbols, take_dynamic_symbols};
-use crate::taking::{self, FoundSymbols, NotTaken};
+use crate::segments::{SegmentTables, say_segments, take_segments};
+use crate::symbols::{SymbolTables, say_table, take_dynamic_symbols, take_symbols};
+use crate::taking::NotTaken;
 use crate::version_lists::{VersionPart, take_version_lists};
 use elf::endian::EndianParse;
 use elf::file::FileHeader;
-use elf::segment::ProgramHeader;
+use nugwier_report::hardening::FileKind;
 use nugwier_report::header::say_header;
 use nugwier_report::problem::Stop;
 use nugwier_report::report::Report;
@@ -58,14 +59,13 @@ static PARTS: [ListedPart; 9] = [
 // A part that was taken.
 #[derive(Drop)]
 enum PartTables<'f, E: EndianParse> {
-    Header(FileHeader<E>),
+    Header(FileHeader<E>, Option<FileKind>),
     Sections(Option<SectionTables<'f>>),
-    Segments(u16, &'f [ProgramHeader]),
-    Symbols(FoundSymbols<'f, E>),
-    DynamicSymbols(LinkedTables<'f, E>),
+    Segments(SegmentTables<'f>),
+    Symbols(SymbolTables<'f, E>),
     Dynamic(FoundEntries<'f>),
     Relocations(RelocationTables<'f, E>),
-    Notes(Vec<NotePart<'f, E>>),
+    Notes(Vec<NotePart<'f>>),
     Versions(Vec<VersionPart<'f, E>>),
 }
 
@@ -156,14 +156,14 @@ fn take_part<'f, E: EndianParse, R: ListedFile<E>>(
         ≡ said_of_part E.little (R.header file.now) (file_of (R.file file.now) (R.bytes file.now)) part) }
 {
     match part {
-        ListedPart::Header => Ok(PartTables::Header(file.file_header())),
-        ListedPart::Sections => Ok(PartTables::Sections(take_sections(file)?)),
-        ListedPart::Segments => {
-            let machine = file.file_header().e_machine;
-            Ok(PartTables::Segments(machine, file.segment_list()))
+        ListedPart::Header => {
+            let kind = take_kind(alloc, file)?;
+            Ok(PartTables::Header(file.file_header(), kind))
         }
-        ListedPart::Symbols => Ok(PartTables::Symbols(taking::symbols(file)?)),
-        ListedPart::DynamicSymbols => Ok(PartTables::DynamicSymbols(take_dynamic_symbols(file)?)),
+        ListedPart::Sections => Ok(PartTables::Sections(take_sections(file)?)),
+        ListedPart::Segments => Ok(PartTables::Segments(take_segments(alloc, file)?)),
+        ListedPart::Symbols => Ok(PartTables::Symbols(take_symbols(alloc, file)?)),
+        ListedPart::DynamicSymbols => Ok(PartTables::Symbols(take_dynamic_symbols(alloc, file)?)),
         ListedPart::Dynamic => Ok(PartTables::Dynamic(take_dynamic(alloc, file)?)),
         ListedPart::Relocations => Ok(PartTables::Relocations(take_relocations(alloc, file)?)),
         ListedPart::Notes => Ok(PartTables::Notes(take_notes(alloc, file)?)),
@@ -207,11 +207,10 @@ fn say_part<E: EndianParse, W: Write, V: Write>(
     ensures { OnOk result (report.new ≡ saying report.old (part_said E.little part.entry)) }
 {
     match part {
-        PartTables::Header(header) => say_header(&header, report),
+        PartTables::Header(header, kind) => say_header(&header, kind, report),
         PartTables::Sections(tables) => say_sections(tables, report),
-        PartTables::Segments(machine, segments) => say_segments(machine, segments, report),
-        PartTables::Symbols(symbols) => say_symbols(symbols, report),
-        PartTables::DynamicSymbols(tables) => say_linked(alloc, tables, report),
+        PartTables::Segments(tables) => say_segments(tables, report),
+        PartTables::Symbols(tables) => say_table(alloc, tables, report),
         PartTables::Dynamic(entries) => say_entries(entries, report),
         PartTables::Relocations(found) => say_relocations(alloc, found, report),
         PartTables::Notes(parts) => say_each(parts, report),

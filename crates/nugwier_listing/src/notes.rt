@@ -1,17 +1,16 @@
 //! The notes of a file.
 ghost use Rattle.std.specs.Prelude.{◌≡◌, ◌++◌, IfOk, OnOk};
 ghost use Rattle.std.specs.List.{flat_map};
-ghost use Rattle.elf.specs.Answers.{segment_data};
-ghost use Rattle.elf.specs.Data.{content};
 ghost use Rattle.elf_records.specs.Number.{ok_map};
 ghost use Rattle.nugwier_listing.specs.Headings.{known_names};
-ghost use Rattle.nugwier_listing.specs.Notes.{end_said, list_said, note_list, said_of_notes, section_notes_in};
-ghost use Rattle.nugwier_listing.specs.Notes.{segment_members, segment_notes_in};
-ghost use Rattle.nugwier_listing.specs.Read.{read_said};
+ghost use Rattle.nugwier_listing.specs.Notes.{after_section, after_segment, end_said, left_after, list_said, note_file};
+ghost use Rattle.nugwier_listing.specs.Notes.{note_list, said_of_note_sections, said_of_note_segments, said_of_notes};
+ghost use Rattle.nugwier_listing.specs.Notes.{section_notes_in, segment_members, segment_notes_in, within};
+ghost use Rattle.nugwier_listing.specs.Read.{given_said};
 ghost use Rattle.nugwier_listing.specs.Whole.{file_of};
 ghost use Rattle.nugwier_listing.specs.inner.Notes.{notes_view, part_said};
 ghost use Rattle.nugwier_report.specs.Noted.{members_said};
-ghost use Rattle.nugwier_report.specs.Said.{numbered, said_if, saying};
+ghost use Rattle.nugwier_report.specs.Said.{said_if, saying};
 
 use crate::headings::{heading_members, known_names, name_shown};
 use crate::listed::ListedFile;
@@ -33,37 +32,38 @@ use nugwier_report::json::{Member, Value};
 use nugwier_report::kind::Kind;
 use nugwier_report::notes;
 use nugwier_report::problem::{Fault, Part, Stop};
+use nugwier_report::properties::NoteFile;
 use nugwier_report::report::Report;
 use std::alloc::Global;
 use std::io::Write;
 
-/// Bytes of notes, and the alignment that they declare.
+/// Bytes of notes of a file, and the alignment that they declare.
 #[derive(Clone, Copy)]
-pub struct NoteBytes<'f, E: EndianParse> {
-    order: E,
+pub struct NoteBytes<'f> {
+    file: NoteFile,
     align: u64,
     bytes: &'f [u8],
 }
 
 /// The notes of a section, by its number and its name, or of a segment, by its number.
 #[derive(Drop)]
-pub enum NotePart<'f, E: EndianParse> {
-    Section(u64, &'f [u8], Result<NoteBytes<'f, E>, ParseError>),
-    Segment(u64, Result<NoteBytes<'f, E>, ParseError>),
+pub enum NotePart<'f> {
+    Section(u64, &'f [u8], Result<NoteBytes<'f>, Fault<'static>>),
+    Segment(u64, Result<NoteBytes<'f>, Fault<'static>>),
 }
 
-impl<'f, E: EndianParse> TakenPart for NotePart<'f, E> {
-    ghost said = { part_said E.little };
+impl TakenPart for NotePart<'_> {
+    ghost said = { part_said };
 
     fn say<W: Write, V: Write>(self, report: &mut Report<'_, W, V>) -> Result<(), Stop> {
         match self {
             NotePart::Section(number, name, notes) => {
                 report.state(Kind::SectionNotesHeading, &heading_members(number, name))?;
-                say_read(Part::Section(number), notes, report)
+                say_given(Part::Section(number), notes, report)
             }
             NotePart::Segment(number, notes) => {
                 report.state(Kind::SegmentNotesHeading, &segment_members(number))?;
-                say_read(Part::Segment(number), notes, report)
+                say_given(Part::Segment(number), notes, report)
             }
         }
     }
@@ -73,9 +73,9 @@ impl<'f, E: EndianParse> TakenPart for NotePart<'f, E> {
 pub(crate) fn take_notes<'f, E: EndianParse, R: ListedFile<E>>(
     alloc: Global,
     file: &'f R,
-) -> Result<Vec<NotePart<'f, E>>, NotTaken>
-    ensures { IfOk result (λ parts. flat_map (part_said E.little) parts.items
-        ≡ said_of_notes (file_of (R.file file.now) (R.bytes file.now))) }
+) -> Result<Vec<NotePart<'f>>, NotTaken>
+    ensures { IfOk result (λ parts. flat_map part_said parts.items
+        ≡ said_of_notes (R.header file.now).e_machine (file_of (R.file file.now) (R.bytes file.now))) }
 {
     if file.declares_sections() {
         take_sections(alloc, file)
@@ -87,75 +87,107 @@ pub(crate) fn take_notes<'f, E: EndianParse, R: ListedFile<E>>(
 fn take_sections<'f, E: EndianParse, R: ListedFile<E>>(
     alloc: Global,
     file: &'f R,
-) -> Result<Vec<NotePart<'f, E>>, NotTaken>
-    ensures { let whole = file_of (R.file file.now) (R.bytes file.now) in
-        IfOk result (λ parts. flat_map (part_said E.little) parts.items
-        ≡ numbered (section_notes_in whole) 0 whole.sections) }
+) -> Result<Vec<NotePart<'f>>, NotTaken>
+    ensures { IfOk result (λ parts. flat_map part_said parts.items
+        ≡ said_of_note_sections (R.header file.now).e_machine (file_of (R.file file.now) (R.bytes file.now))) }
 {
     let names = known_names(file)?;
     let mut parts = Vec::new(alloc);
+    let mut left = file.size();
     let mut number = 0;
     for section in file.section_list() {
-        add_section(file, &names, number, section, &mut parts)?;
+        left = add_section(file, &names, left, number, section, &mut parts)?;
         number += 1;
     }
     Ok(parts)
 }
 
-// Takes the notes of a section, if it has any, and adds them.
+// Takes the notes of a section, if it has any, and adds them. Returns how many bytes of notes may follow.
 fn add_section<'f, E: EndianParse, R: ListedFile<E>>(
     file: &'f R,
     names: &Option<TerminatedStrings<'f>>,
+    left: u64,
     number: u64,
     section: &SectionHeader,
-    parts: &mut Vec<NotePart<'f, E>>,
-) -> Result<(), NotTaken>
-    ensures { let whole = file_of (R.file file.now) (R.bytes file.now) in
-        names.now ≡ known_names whole → OnOk result (flat_map (part_said E.little) parts.new.items
-        ≡ flat_map (part_said E.little) parts.old.items ++ section_notes_in whole number section.now) }
+    parts: &mut Vec<NotePart<'f>>,
+) -> Result<u64, NotTaken>
+    ensures after { IfOk result (λ after. after
+        ≡ after_section (file_of (R.file file.now) (R.bytes file.now)) left section.now) }
+    ensures taken { let whole = file_of (R.file file.now) (R.bytes file.now) in
+        names.now ≡ known_names whole → OnOk result (flat_map part_said parts.new.items
+        ≡ flat_map part_said parts.old.items
+        ++ section_notes_in (R.header file.now).e_machine whole left number section.now) }
 {
     if section.sh_type != abi::SHT_NOTE {
-        return Ok(());
+        return Ok(left);
     }
-    let notes = section_notes(file, section)?;
+    let bytes = taking::content(file, section)?;
+    let after = left_after(left, &bytes);
+    let notes = notes_of(note_file(file), section.sh_addralign, within(left, bytes));
     parts.push(NotePart::Section(number, name_shown(names, section), notes))?;
-    Ok(())
+    Ok(after)
 }
 
 fn take_segments<'f, E: EndianParse, R: ListedFile<E>>(
     alloc: Global,
     file: &'f R,
-) -> Result<Vec<NotePart<'f, E>>, NotTaken>
-    ensures { let whole = file_of (R.file file.now) (R.bytes file.now) in
-        IfOk result (λ parts. flat_map (part_said E.little) parts.items
-        ≡ numbered (segment_notes_in whole) 0 whole.segments) }
+) -> Result<Vec<NotePart<'f>>, NotTaken>
+    ensures { IfOk result (λ parts. flat_map part_said parts.items
+        ≡ said_of_note_segments (R.header file.now).e_machine (file_of (R.file file.now) (R.bytes file.now))) }
 {
     let mut parts = Vec::new(alloc);
+    let mut left = file.size();
     let mut number = 0;
     for segment in file.segment_list() {
-        add_segment(file, number, segment, &mut parts)?;
+        left = add_segment(file, left, number, segment, &mut parts)?;
         number += 1;
     }
     Ok(parts)
 }
 
-// Takes the notes of a segment, if it has any, and adds them.
+// Takes the notes of a segment, if it has any, and adds them. Returns how many bytes of notes may follow.
 fn add_segment<'f, E: EndianParse, R: ListedFile<E>>(
     file: &'f R,
+    left: u64,
     number: u64,
     segment: &ProgramHeader,
-    parts: &mut Vec<NotePart<'f, E>>,
-) -> Result<(), NotTaken>
-    ensures { OnOk result (flat_map (part_said E.little) parts.new.items
-        ≡ flat_map (part_said E.little) parts.old.items
-        ++ segment_notes_in (file_of (R.file file.now) (R.bytes file.now)) number segment.now) }
+    parts: &mut Vec<NotePart<'f>>,
+) -> Result<u64, NotTaken>
+    ensures after { IfOk result (λ after. after
+        ≡ after_segment (file_of (R.file file.now) (R.bytes file.now)) left segment.now) }
+    ensures taken { OnOk result (flat_map part_said parts.new.items ≡ flat_map part_said parts.old.items
+        ++ segment_notes_in (R.header file.now).e_machine (file_of (R.file file.now) (R.bytes file.now)) left number
+        segment.now) }
 {
     if segment.p_type != abi::PT_NOTE {
-        return Ok(());
+        return Ok(left);
     }
-    let notes = segment_notes(file, segment)?;
+    let bytes = taking::segment_data(file, segment)?;
+    let after = left_after(left, &bytes);
+    let notes = notes_of(note_file(file), segment.p_align, within(left, bytes));
     parts.push(NotePart::Segment(number, notes))?;
-    Ok(())
+    Ok(after)
+}
+
+// Bytes of which this many may be listed.
+fn within<'f>(left: u64, bytes: Result<&'f [u8], ParseError>) -> Result<&'f [u8], Fault<'static>>
+    ensures { ok_map (λ bytes. bytes.now) result ≡ within left (ok_map (λ bytes. bytes.now) bytes.entry) }
+{
+    match bytes {
+        Ok(bytes) if left < bytes.len() as u64 => Err(Fault::Repeated),
+        Ok(bytes) => Ok(bytes),
+        Err(error) => Err(Fault::Read(error)),
+    }
+}
+
+// How many may be listed after them.
+fn left_after(left: u64, bytes: &Result<&[u8], ParseError>) -> u64
+    ensures { result ≡ left_after left (ok_map (λ bytes. bytes.now) bytes.now) }
+{
+    match bytes {
+        Ok(bytes) => left.saturating_sub(bytes.len() as u64),
+        Err(_) => left,
+    }
 }
 
 fn segment_members(number: u64) -> [Member<'static>; 1]
@@ -164,91 +196,68 @@ fn segment_members(number: u64) -> [Member<'static>; 1]
     [("segment", Value::Number(number))]
 }
 
-// Takes the notes of a section.
-fn section_notes<'f, E: EndianParse, R: ListedFile<E>>(
-    file: &'f R,
-    section: &SectionHeader,
-) -> Result<Result<NoteBytes<'f, E>, ParseError>, NotTaken>
-    ensures { let whole = file_of (R.file file.now) (R.bytes file.now) in
-        IfOk result (λ notes. ok_map (notes_view E.little) notes
-        ≡ ok_map (note_list whole.little section.now.sh_addralign) (content whole section.now)) }
+// The file, as the descriptors of its notes depend on it.
+fn note_file<E: EndianParse, R: ListedFile<E>>(file: &R) -> NoteFile
+    ensures { result ≡ note_file (R.header file.now).e_machine (file_of (R.file file.now) (R.bytes file.now)) }
 {
-    let bytes = taking::content(file, section)?;
-    Ok(notes_of(file.endianness(), section.sh_addralign, bytes))
-}
-
-// Takes the notes of a segment.
-fn segment_notes<'f, E: EndianParse, R: ListedFile<E>>(
-    file: &'f R,
-    segment: &ProgramHeader,
-) -> Result<Result<NoteBytes<'f, E>, ParseError>, NotTaken>
-    ensures { let whole = file_of (R.file file.now) (R.bytes file.now) in
-        IfOk result (λ notes. ok_map (notes_view E.little) notes
-        ≡ ok_map (note_list whole.little segment.now.p_align) (segment_data whole segment.now)) }
-{
-    let bytes = taking::segment_data(file, segment)?;
-    Ok(notes_of(file.endianness(), segment.p_align, bytes))
-}
-
-// The notes of these bytes, if they can be read.
-fn notes_of<'f, E: EndianParse>(
-    order: E,
-    align: u64,
-    bytes: Result<&'f [u8], ParseError>,
-) -> Result<NoteBytes<'f, E>, ParseError>
-    ensures { ok_map (notes_view E.little) result
-        ≡ ok_map (note_list (E.little order) align) (ok_map (λ bytes. bytes.now) bytes.entry) }
-{
-    match bytes {
-        Ok(bytes) => Ok(NoteBytes {
-            order,
-            align,
-            bytes,
-        }),
-        Err(error) => Err(error),
+    NoteFile {
+        is_little: file.endianness().is_little(),
+        class: file.class(),
+        machine: file.file_header().e_machine,
     }
 }
 
-// Says notes, or that they cannot be read.
-fn say_read<E: EndianParse, W: Write, V: Write>(
+// The notes of these bytes, if they can be read.
+fn notes_of<'f>(
+    file: NoteFile,
+    align: u64,
+    bytes: Result<&'f [u8], Fault<'static>>,
+) -> Result<NoteBytes<'f>, Fault<'static>>
+    ensures { ok_map (notes_view) result
+        ≡ ok_map (note_list file align) (ok_map (λ bytes. bytes.now) bytes.entry) }
+{
+    match bytes {
+        Ok(bytes) => Ok(NoteBytes { file, align, bytes }),
+        Err(fault) => Err(fault),
+    }
+}
+
+// Says notes, or why they are not listed.
+fn say_given<W: Write, V: Write>(
     part: Part,
-    notes: Result<NoteBytes<'_, E>, ParseError>,
+    notes: Result<NoteBytes<'_>, Fault<'static>>,
     report: &mut Report<'_, W, V>,
 ) -> Result<(), Stop>
     ensures { OnOk result (report.new ≡ saying report.old
-        (read_said part (list_said part) (ok_map (notes_view E.little) notes.entry))) }
+        (given_said part (list_said part) (ok_map (notes_view) notes.entry))) }
 {
     match notes {
         Ok(notes) => say_list(part, notes, report),
-        Err(error) => report.problem(part.whole(), Fault::Read(error)),
+        Err(fault) => report.problem(part.whole(), fault),
     }
 }
 
 // Says notes, and where they end, if they do not fill their bytes.
-fn say_list<E: EndianParse, W: Write, V: Write>(
+fn say_list<W: Write, V: Write>(
     part: Part,
-    notes: NoteBytes<'_, E>,
+    notes: NoteBytes<'_>,
     report: &mut Report<'_, W, V>,
 ) -> Result<(), Stop>
-    ensures { OnOk result (report.new ≡ saying report.old (list_said part (notes_view E.little notes.entry))) }
+    ensures { OnOk result (report.new ≡ saying report.old (list_said part (notes_view notes.entry))) }
 {
-    let NoteBytes {
-        order,
-        align,
-        bytes,
-    } = notes;
+    let NoteBytes { file, align, bytes } = notes;
     let align = align as usize;
-    let list = NoteIterator::new(order, Class::ELF64, note_align(align), bytes);
-    notes::say_notes(part, list, report)?;
-    say_end(part, end_of(order.is_little(), align, bytes), report)
+    let list = NoteIterator::new(file.order(), Class::ELF64, note_align(align), bytes);
+    notes::say_notes(file, part, list, report)?;
+    say_end(part, end_of(file, align, bytes), report)
 }
 
 // Where notes end, if they do not fill their bytes.
 #[tactic(auto, using(crate::proofs::NoteEnds::end_found))]
-fn end_of(little: bool, align: usize, bytes: &[u8]) -> Option<usize>
-    ensures { result ≡ (note_list little align bytes.now).end }
+fn end_of(file: NoteFile, align: usize, bytes: &[u8]) -> Option<usize>
+    ensures { result ≡ (note_list file align bytes.now).end }
 {
-    first_no_note(little, align, bytes)
+    first_no_note(file.is_little, align, bytes)
 }
 
 fn say_end<W: Write, V: Write>(

@@ -4,184 +4,243 @@ ghost use Rattle.std.specs.Option.{option_map};
 ghost use Rattle.elf.specs.Answers.{symbols_view};
 ghost use Rattle.elf_parts.specs.gnu_symver.Table.{versions_view};
 ghost use Rattle.elf_records.specs.Number.{ok_map};
+ghost use Rattle.elf_records.specs.StringTable.{strings_view};
+ghost use Rattle.elf_records.specs.Table.{table_view};
 ghost use Rattle.nugwier_listing.specs.Read.{fault_said, if_read};
-ghost use Rattle.nugwier_listing.specs.Symbols.{all_said, heading_said, none_said, plain_said, rows_said};
-ghost use Rattle.nugwier_listing.specs.Symbols.{said_of_dynamic_symbols, said_of_exports, said_of_letters};
-ghost use Rattle.nugwier_listing.specs.Symbols.{said_of_linked};
+ghost use Rattle.nugwier_listing.specs.Symbols.{AreLinkedSaid, AreSymbolsSaid, AreTableSaid, IsByKey, IsOrdered};
+ghost use Rattle.nugwier_listing.specs.Symbols.{heading_said, none_said, order_key, rows_of, rows_said, said_of_dynamic_symbols};
+ghost use Rattle.nugwier_listing.specs.Symbols.{said_of_symbols};
 ghost use Rattle.nugwier_listing.specs.Whole.{file_of};
-ghost use Rattle.nugwier_listing.specs.inner.Symbols.{linked_said, one_linked_said};
+ghost use Rattle.nugwier_listing.specs.inner.Symbols.{one_table_said, rows_view, table_said};
 ghost use Rattle.nugwier_report.specs.Said.{saying, whole};
 ghost use Rattle.nugwier_report.specs.Symbols.{form_view};
-ghost use Rattle.nugwier_report.specs.declared.problem.Part.TheVariants.{DynamicSymbols, Versions as VersionPart};
+ghost use Rattle.nugwier_report.specs.declared.problem.Part.TheVariants.{Versions as VersionPart};
 
 use crate::linked::{FoundVersions, linked_symbols, linked_versions};
 use crate::listed::ListedFile;
-use crate::taking::{FoundSymbols, NotTaken, Symbols};
+use crate::taking;
+use crate::taking::{FoundSymbols, NotTaken};
 use elf::endian::EndianParse;
-use elf::gnu_symver::{IndexedVersions, SymbolVersionTable, SymbolVersions};
-use elf::string_table::TerminatedStrings;
+use elf::gnu_symver::{SymbolVersionTable, SymbolVersions};
+use elf::string_table::{StringTable, TerminatedStrings};
+use elf::symbol::{Symbol, SymbolTable};
 use elf_linking::indexed;
 use nugwier_report::kind::Kind;
 use nugwier_report::problem::{Fault, Part, Stop};
 use nugwier_report::report::Report;
-use nugwier_report::rows::say_records;
+use nugwier_report::rows::{Renumbered, say_records, say_slice};
+use nugwier_report::symbol_options::{SymbolOptions, SymbolOrder};
 use nugwier_report::symbols::{Form, Names, SymbolRow};
-use std::alloc::Global;
+use std::alloc::{AllocError, Global};
 use std::io::Write;
 use std::marker::PhantomData;
 
-/// Says the symbols that were taken, if there are any, under a heading.
-pub(crate) fn say_symbols<E: EndianParse, W: Write, V: Write>(
-    symbols: FoundSymbols<'_, E>,
-    report: &mut Report<'_, W, V>,
-) -> Result<(), Stop>
-    ensures { OnOk result (report.new ≡ saying report.old
-        (all_said (ok_map (option_map symbols_view) symbols.entry))) }
-{
-    match symbols {
-        Ok(Some(symbols)) => say_plain(symbols, report),
-        Ok(None) => Ok(()),
-        Err(fault) => report.problem(Part::Symbols.whole(), fault),
-    }
-}
-
-fn say_plain<E: EndianParse, W: Write, V: Write>(
-    symbols: Symbols<'_, E>,
-    report: &mut Report<'_, W, V>,
-) -> Result<(), Stop>
-    ensures { OnOk result (report.new ≡ saying report.old (plain_said (symbols_view symbols.entry))) }
-{
-    report.state(Kind::SymbolsHeading, &[])?;
-    let versions: Option<IndexedVersions<'_, '_, E, Global>> = None;
-    say_rows(Part::Symbols, Form::Fields, symbols, versions, report)
-}
-
-// Says each symbol of a table.
-fn say_rows<'f, E: EndianParse, T: SymbolVersions<E> + Drop, W: Write, V: Write>(
-    part: Part,
-    form: Form<'f>,
-    symbols: Symbols<'f, E>,
-    versions: Option<T>,
-    report: &mut Report<'_, W, V>,
-) -> Result<(), Stop>
-    ensures { OnOk result (report.new ≡ saying report.old (rows_said (form_view form.entry) part
-        (option_map T.versions versions) (symbols_view symbols.entry))) }
-{
-    let (table, strings) = symbols;
-    let names = Names {
-        part,
-        strings: TerminatedStrings::new(&strings),
-        versions,
-        order: PhantomData,
-    };
-    say_records(table.iter(), &SymbolRow { names, form }, report)
-}
-
-/// Symbols for dynamic linking that were taken, and their versions.
+// The symbols of a table: in its order, or in another one, each with its number.
 #[derive(Drop)]
-pub struct LinkedSymbols<'f, E: EndianParse> {
-    symbols: Symbols<'f, E>,
+enum Rows<'f, E: EndianParse> {
+    InTable(SymbolTable<'f, E>),
+    Ordered(Vec<(usize, Symbol)>),
+}
+
+/// Symbols that were taken, their strings, and their versions.
+#[derive(Drop)]
+pub struct VersionedSymbols<'f, E: EndianParse> {
+    rows: Rows<'f, E>,
+    strings: StringTable<'f>,
     versions: FoundVersions<'f, E>,
 }
 
-/// Symbols for dynamic linking that were taken, if there are any, and what is said of them.
+/// The symbols of a part that were taken, if there are any, and what is said of them.
 #[derive(Drop)]
-pub struct LinkedTables<'f, E: EndianParse> {
+pub struct SymbolTables<'f, E: EndianParse> {
+    part: Part,
     form: Form<'f>,
-    linked: Result<Option<LinkedSymbols<'f, E>>, Fault<'static>>,
+    found: Result<Option<VersionedSymbols<'f, E>>, Fault<'static>>,
+}
+
+/// Takes the symbols of the section of type `SHT_SYMTAB`, to say all their fields.
+#[tactic(auto, using(crate::proofs::Ordered::in_table_order))]
+pub(crate) fn take_symbols<'f, E: EndianParse, R: ListedFile<E>>(
+    alloc: Global,
+    file: &'f R,
+) -> Result<SymbolTables<'f, E>, NotTaken>
+    ensures { IfOk result (λ tables. table_said tables
+        ≡ said_of_symbols (file_of (R.file file.now) (R.bytes file.now))) }
+{
+    let found = taking::symbols(file)?;
+    take_table(alloc, Part::Symbols, Form::Fields, found, Ok(None))
 }
 
 /// Takes the symbols for dynamic linking, to say all their fields.
+#[tactic(auto, using(crate::proofs::Ordered::in_table_order))]
 pub(crate) fn take_dynamic_symbols<'f, E: EndianParse, R: ListedFile<E>>(
+    alloc: Global,
     file: &'f R,
-) -> Result<LinkedTables<'f, E>, NotTaken>
-    ensures { IfOk result (λ tables. linked_said tables
+) -> Result<SymbolTables<'f, E>, NotTaken>
+    ensures { IfOk result (λ tables. table_said tables
         ≡ said_of_dynamic_symbols (file_of (R.file file.now) (R.bytes file.now))) }
 {
-    take_linked(file, Form::Fields)
+    take_linked(alloc, Form::Fields, file)
 }
 
-/// Takes the symbols for dynamic linking, to say their values and letters.
+/// Takes the symbols that the options ask for, to say their values and letters.
 pub(crate) fn take_letters<'f, E: EndianParse, R: ListedFile<E>>(
+    alloc: Global,
+    options: SymbolOptions,
     file: &'f R,
-) -> Result<LinkedTables<'f, E>, NotTaken>
-    ensures { IfOk result (λ tables. linked_said tables
-        ≡ said_of_letters (file_of (R.file file.now) (R.bytes file.now))) }
+) -> Result<SymbolTables<'f, E>, NotTaken>
+    ensures { IfOk result (λ tables. AreSymbolsSaid options (file_of (R.file file.now) (R.bytes file.now))
+        (table_said tables)) }
 {
     let form = Form::Letter {
         class: file.class(),
         sections: file.section_list(),
+        options,
     };
-    take_linked(file, form)
+    if options.is_dynamic {
+        return take_linked(alloc, form, file);
+    }
+    match taking::symbols(file)? {
+        Ok(None) => take_linked(alloc, form, file),
+        found => take_table(alloc, Part::Symbols, form, found, Ok(None)),
+    }
 }
 
-/// Takes the symbols for dynamic linking, to say those that other files can call.
-pub(crate) fn take_exports<'f, E: EndianParse, R: ListedFile<E>>(
-    file: &'f R,
-) -> Result<LinkedTables<'f, E>, NotTaken>
-    ensures { IfOk result (λ tables. linked_said tables
-        ≡ said_of_exports (file_of (R.file file.now) (R.bytes file.now))) }
-{
-    take_linked(file, Form::Export)
-}
-
-fn take_linked<'f, E: EndianParse, R: ListedFile<E>>(
-    file: &'f R,
+/// Takes the symbols for dynamic linking, with their versions.
+pub(crate) fn take_linked<'f, E: EndianParse, R: ListedFile<E>>(
+    alloc: Global,
     form: Form<'f>,
-) -> Result<LinkedTables<'f, E>, NotTaken>
-    ensures { IfOk result (λ tables. linked_said tables
-        ≡ said_of_linked (form_view form.entry) (file_of (R.file file.now) (R.bytes file.now))) }
+    file: &'f R,
+) -> Result<SymbolTables<'f, E>, NotTaken>
+    ensures { IfOk result (λ tables. AreLinkedSaid (form_view form.entry)
+        (file_of (R.file file.now) (R.bytes file.now)) (table_said tables)) }
 {
-    let linked = match linked_symbols(file)? {
-        Ok(Some(symbols)) => {
-            let versions = linked_versions(file)?;
-            Ok(Some(LinkedSymbols { symbols, versions }))
+    let found = linked_symbols(file)?;
+    let versions = linked_versions(file)?;
+    take_table(alloc, Part::DynamicSymbols, form, found, versions)
+}
+
+// Puts the symbols of a part that were found into the order of the form.
+fn take_table<'f, E: EndianParse>(
+    alloc: Global,
+    part: Part,
+    form: Form<'f>,
+    found: FoundSymbols<'f, E>,
+    versions: FoundVersions<'f, E>,
+) -> Result<SymbolTables<'f, E>, NotTaken>
+    ensures { IfOk result (λ tables. AreTableSaid (form_view form.entry) part
+        (ok_map (option_map versions_view) versions.entry) (ok_map (option_map symbols_view) found.entry)
+        (table_said tables)) }
+{
+    let found = match found {
+        Ok(Some((table, strings))) => {
+            let rows = in_order(alloc, form.order(), table)?;
+            Ok(Some(VersionedSymbols {
+                rows,
+                strings,
+                versions,
+            }))
         }
         Ok(None) => Ok(None),
         Err(fault) => Err(fault),
     };
-    Ok(LinkedTables { form, linked })
+    Ok(SymbolTables { part, form, found })
 }
 
-/// Says the symbols for dynamic linking that were taken. It is wrong if there are none, unless all fields are said.
-pub(crate) fn say_linked<E: EndianParse, W: Write, V: Write>(
+fn in_order<'f, E: EndianParse>(
     alloc: Global,
-    tables: LinkedTables<'_, E>,
-    report: &mut Report<'_, W, V>,
-) -> Result<(), Stop>
-    ensures { OnOk result (report.new ≡ saying report.old (linked_said tables.entry)) }
+    order: SymbolOrder,
+    table: SymbolTable<'f, E>,
+) -> Result<Rows<'f, E>, AllocError>
+    ensures { IfOk result (λ rows. IsOrdered order (rows_of (table_view table.entry)) (rows_view rows)) }
 {
-    let LinkedTables { form, linked } = tables;
-    match linked {
-        Ok(Some(linked)) => say_versioned(alloc, form, linked, report),
-        Ok(None) => say_none(form, report),
-        Err(fault) => report.problem(Part::DynamicSymbols.whole(), fault),
+    match order {
+        SymbolOrder::Table => Ok(Rows::InTable(table)),
+        SymbolOrder::Value | SymbolOrder::Size => Ok(Rows::Ordered(ordered(alloc, order, &table)?)),
     }
 }
 
-fn say_none<W: Write, V: Write>(form: Form<'_>, report: &mut Report<'_, W, V>) -> Result<(), Stop>
-    ensures { OnOk result (report.new ≡ saying report.old (none_said (form_view form.entry))) }
+fn ordered<E: EndianParse>(
+    alloc: Global,
+    order: SymbolOrder,
+    table: &SymbolTable<'_, E>,
+) -> Result<Vec<(usize, Symbol)>, AllocError>
+    ensures { IfOk result (λ rows. IsByKey (order_key order) (rows_of (table_view table.now)) rows.items) }
+{
+    let mut rows = numbered(alloc, table)?;
+    rows.sort_by_key(|one| order_key(order, &one.1))?;
+    Ok(rows)
+}
+
+fn numbered<E: EndianParse>(
+    alloc: Global,
+    table: &SymbolTable<'_, E>,
+) -> Result<Vec<(usize, Symbol)>, AllocError>
+    ensures { IfOk result (λ rows. rows.items ≡ rows_of (table_view table.now)) }
+{
+    table.iter().enumerate().collect(alloc)
+}
+
+// What symbols are ordered by.
+fn order_key(order: SymbolOrder, symbol: &Symbol) -> u128
+    ensures { result ≡ order_key order symbol.now }
+{
+    match order {
+        SymbolOrder::Table => 0,
+        SymbolOrder::Value if symbol.is_undefined() => 0,
+        SymbolOrder::Value => symbol.st_value as u128 + 1,
+        SymbolOrder::Size => symbol.st_size as u128,
+    }
+}
+
+/// Says the symbols that were taken. It is wrong if there are none, unless all fields are said.
+pub(crate) fn say_table<E: EndianParse, W: Write, V: Write>(
+    alloc: Global,
+    tables: SymbolTables<'_, E>,
+    report: &mut Report<'_, W, V>,
+) -> Result<(), Stop>
+    ensures { OnOk result (report.new ≡ saying report.old (table_said tables.entry)) }
+{
+    let SymbolTables { part, form, found } = tables;
+    match found {
+        Ok(Some(symbols)) => say_versioned(alloc, part, form, symbols, report),
+        Ok(None) => say_none(part, form, report),
+        Err(fault) => report.problem(part.whole(), fault),
+    }
+}
+
+fn say_none<W: Write, V: Write>(
+    part: Part,
+    form: Form<'_>,
+    report: &mut Report<'_, W, V>,
+) -> Result<(), Stop>
+    ensures { OnOk result (report.new ≡ saying report.old (none_said (form_view form.entry) part)) }
 {
     match form {
         Form::Fields => Ok(()),
-        Form::Letter { .. } | Form::Export => {
-            report.problem(Part::DynamicSymbols.whole(), Fault::Missing)
-        }
+        Form::Letter { .. } | Form::Export { .. } => report.problem(part.whole(), Fault::Missing),
     }
 }
 
 fn say_versioned<'f, E: EndianParse, W: Write, V: Write>(
     alloc: Global,
+    part: Part,
     form: Form<'f>,
-    linked: LinkedSymbols<'f, E>,
+    symbols: VersionedSymbols<'f, E>,
     report: &mut Report<'_, W, V>,
 ) -> Result<(), Stop>
-    ensures { OnOk result (report.new ≡ saying report.old (one_linked_said (form_view form.entry) linked.entry)) }
+    ensures { OnOk result (report.new ≡ saying report.old
+        (one_table_said (form_view form.entry) part symbols.entry)) }
 {
-    let LinkedSymbols { symbols, versions } = linked;
+    let VersionedSymbols {
+        rows,
+        strings,
+        versions,
+    } = symbols;
     let versions = known_versions(versions, report)?;
-    say_heading(form, report)?;
-    say_indexed(alloc, form, symbols, versions, report)
+    say_heading(part, form, report)?;
+    let versions = indexed(alloc, versions.as_ref())?;
+    say_rows(part, form, rows, strings, versions, report)
 }
 
 // The versions, if they can be read.
@@ -205,27 +264,39 @@ pub(crate) fn known_versions<'f, E: EndianParse, W: Write, V: Write>(
 
 // The heading above all fields of symbols.
 fn say_heading<W: Write, V: Write>(
+    part: Part,
     form: Form<'_>,
     report: &mut Report<'_, W, V>,
 ) -> Result<(), Stop>
-    ensures { OnOk result (report.new ≡ saying report.old (heading_said (form_view form.entry))) }
+    ensures { OnOk result (report.new ≡ saying report.old (heading_said (form_view form.entry) part)) }
 {
-    match form {
-        Form::Fields => report.state(Kind::DynamicSymbolsHeading, &[]),
-        Form::Letter { .. } | Form::Export => Ok(()),
+    match (form, part) {
+        (Form::Fields, Part::Symbols) => report.state(Kind::SymbolsHeading, &[]),
+        (Form::Fields, _) => report.state(Kind::DynamicSymbolsHeading, &[]),
+        (Form::Letter { .. } | Form::Export { .. }, _) => Ok(()),
     }
 }
 
-fn say_indexed<'f, E: EndianParse, W: Write, V: Write>(
-    alloc: Global,
+fn say_rows<'f, E: EndianParse, T: SymbolVersions<E> + Drop, W: Write, V: Write>(
+    part: Part,
     form: Form<'f>,
-    symbols: Symbols<'f, E>,
-    versions: Option<SymbolVersionTable<'f, E>>,
+    rows: Rows<'f, E>,
+    strings: StringTable<'f>,
+    versions: Option<T>,
     report: &mut Report<'_, W, V>,
 ) -> Result<(), Stop>
-    ensures { OnOk result (report.new ≡ saying report.old (rows_said (form_view form.entry) DynamicSymbols
-        (option_map versions_view versions.entry) (symbols_view symbols.entry))) }
+    ensures { OnOk result (report.new ≡ saying report.old (rows_said (form_view form.entry) part
+        (option_map T.versions versions) (rows_view rows.entry) (strings_view strings.entry))) }
 {
-    let versions = indexed(alloc, versions.as_ref())?;
-    say_rows(Part::DynamicSymbols, form, symbols, versions, report)
+    let names = Names {
+        part,
+        strings: TerminatedStrings::new(&strings),
+        versions,
+        order: PhantomData,
+    };
+    let row = SymbolRow { names, form };
+    match rows {
+        Rows::InTable(table) => say_records(table.iter(), &row, report),
+        Rows::Ordered(rows) => say_slice(rows.as_slice(), &Renumbered(&row), report),
+    }
 }

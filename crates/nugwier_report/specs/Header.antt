@@ -1,5 +1,6 @@
 -- What is said of a file header (gABI, chapter "ELF Header").
 use Rattle.std.specs.Prelude.{ℕ, Bool, List, [], ◌∷◌, Option, Some, codes, nat_eq, if◌then◌else◌}
+use Rattle.std.specs.Option.{option_map}
 use Rattle.elf_abi.specs.HeaderNames.{e_osabi_names, e_type_names}
 use Rattle.elf_abi.specs.MachineNames.{e_machine_names}
 use Rattle.elf_abi.specs.Names.{name_of}
@@ -8,8 +9,10 @@ use Rattle.elf_names.specs.Flags.{file_flags}
 use Rattle.elf_records.specs.declared.file.Class.{Class}
 use Rattle.elf_records.specs.declared.file.Class.TheVariants.{ELF32, ELF64}
 use Rattle.elf_records.specs.declared.file.FileHeader.{FileHeader}
+use Rattle.nugwier_report.specs.Hardening.{kind_name}
 use Rattle.nugwier_report.specs.Said.{Members, Said, flags, number, states, word}
-use Rattle.nugwier_report.specs.declared.kind.Kind.TheVariants as kind
+use Rattle.nugwier_report.specs.declared.hardening.FileKind.{FileKind}
+use Rattle.nugwier_report.specs.declared.kind.Kind.TheVariants as kinds
 
 -- ---- names
 
@@ -30,9 +33,9 @@ order_name is_little = if is_little then codes "ELFDATA2LSB" else codes "ELFDATA
 
 -- ---- the record
 
--- `little` says whether the byte order is little
-unfoldable pub header_members : {E : Type 0} → (E → Bool) → FileHeader E → Members
-header_members little h =
+-- `little` says whether the byte order is little; the kind is what `harden` says of the file
+unfoldable pub header_members : {E : Type 0} → (E → Bool) → FileHeader E → Option FileKind → Members
+header_members little h kind =
     (codes "ei_class", number (class_number h.class))
     ∷ (codes "ei_class_name", word (Some (class_name h.class)))
     ∷ (codes "ei_data", number (order_number (little h.endianness)))
@@ -56,7 +59,8 @@ header_members little h =
     ∷ (codes "e_shentsize", number h.e_shentsize)
     ∷ (codes "e_shnum", number h.e_shnum)
     ∷ (codes "e_shstrndx", number h.e_shstrndx)
+    ∷ (codes "kind", word (option_map kind_name kind))
     ∷ []
 
-abbrev pub header_said : {E : Type 0} → (E → Bool) → FileHeader E → List Said
-header_said little h = states kind.FileHeader (header_members little h) ∷ []
+abbrev pub header_said : {E : Type 0} → (E → Bool) → FileHeader E → Option FileKind → List Said
+header_said little h kind = states kinds.FileHeader (header_members little h kind) ∷ []

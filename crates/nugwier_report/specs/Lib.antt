@@ -23,16 +23,22 @@ pub mod Problems
 pub mod Header
 pub mod Sections
 pub mod Segments
+pub mod SegmentSections
 pub mod Mappings
 pub mod BuildId
 -- the versions of symbols
 pub mod Versions
+-- which symbols are listed
+pub mod SymbolOptions
 -- what is said of symbols
 pub mod Symbols
 -- what is said of addresses
 pub mod Addresses
 pub mod Parts
 pub mod Notes
+-- what is said of the descriptors of notes
+pub mod Properties
+pub mod Descriptors
 pub mod Contents
 pub mod VersionRecords
 pub mod Dynamic

@@ -8,10 +8,12 @@ use Rattle.elf_abi.specs.Values.{nt_gnu_abi_tag, nt_gnu_build_id}
 use Rattle.elf_names.specs.Notes.{note_type_name}
 use Rattle.elf_parts.specs.Note.{AbiTag, BuildId, NoteContent, Other}
 use Rattle.elf_parts.specs.declared.note.NoteGnuAbiTag.{NoteGnuAbiTag}
+use Rattle.nugwier_report.specs.Descriptors.{descriptor_said}
 use Rattle.nugwier_report.specs.Parts.{part_member}
 use Rattle.nugwier_report.specs.Said.{Members, Said, bytes, number, numbered, states, text, word}
 use Rattle.nugwier_report.specs.declared.kind.Kind.TheVariants as kind
 use Rattle.nugwier_report.specs.declared.problem.Part.{Part}
+use Rattle.nugwier_report.specs.declared.properties.NoteFile.{NoteFile}
 
 -- a name ends in a 0 byte, which belongs to its size
 abbrev pub ends_in_nul : List ℕ → Bool
@@ -55,12 +57,16 @@ other_members part i n_type name descriptor =
     ∷ (codes "desc", bytes descriptor)
     ∷ []
 
-abbrev pub note_said : Part → ℕ → NoteContent → List Said
-note_said part i (AbiTag tag) = states kind.AbiTagNote (abi_tag_members part i tag) ∷ []
-note_said part i (BuildId id) = states kind.BuildIdNote (build_id_members part i id) ∷ []
-note_said part i (Other n_type name descriptor) =
-    states kind.Note (other_members part i n_type name descriptor) ∷ []
+abbrev pub abi_tag_said : Part → ℕ → NoteGnuAbiTag → List Said
+abi_tag_said part i tag = states kind.AbiTagNote (abi_tag_members part i tag) ∷ []
+
+-- a note, and what its descriptor holds
+abbrev pub note_said : NoteFile → Part → ℕ → NoteContent → List Said
+note_said file part i (AbiTag tag) = abi_tag_said part i tag
+note_said file part i (BuildId id) = states kind.BuildIdNote (build_id_members part i id) ∷ []
+note_said file part i (Other n_type name descriptor) =
+    states kind.Note (other_members part i n_type name descriptor) ∷ descriptor_said file part i n_type name descriptor
 
 -- each, with its number
-abbrev pub notes_said : Part → List NoteContent → List Said
-notes_said part notes = numbered (note_said part) 0 notes
+abbrev pub notes_said : NoteFile → Part → List NoteContent → List Said
+notes_said file part notes = numbered (note_said file part) 0 notes

@@ -1,9 +1,9 @@
 -- What is said of segments (gABI, chapter "Program Header").
-use Rattle.std.specs.Prelude.{ℕ, List, [], ◌∷◌, Option, codes}
+use Rattle.std.specs.Prelude.{ℕ, List, [], ◌∷◌, Option, Some, codes}
 use Rattle.elf_names.specs.Flags.{segment_flags}
 use Rattle.elf_names.specs.Segments.{segment_type_name}
 use Rattle.elf_records.specs.declared.segment.ProgramHeader.{ProgramHeader}
-use Rattle.nugwier_report.specs.Said.{Members, Said, flags, number, states, word}
+use Rattle.nugwier_report.specs.Said.{Members, Said, flags, number, states, text, word}
 use Rattle.nugwier_report.specs.declared.kind.Kind.TheVariants as kind
 
 -- segment i of a file for this machine
@@ -24,3 +24,8 @@ segment_members machine i p =
 
 abbrev pub segment_said : ℕ → ℕ → ProgramHeader → List Said
 segment_said machine i p = states kind.Segment (segment_members machine i p) ∷ []
+
+-- the path of the program that loads the file, of segment i
+abbrev pub interpreter_said : ℕ → List ℕ → List Said
+interpreter_said i path =
+    states kind.Interpreter ((codes "segment", number i) ∷ (codes "path", text (Some path)) ∷ []) ∷ []

@@ -7,25 +7,28 @@ use Rattle.std.specs.List.{slice_get}
 use Rattle.std.specs.Result.{result_ok}
 use Rattle.elf_abi.specs.Names.{name_of}
 use Rattle.elf_abi.specs.SymbolNames.{st_bind_names, st_symtype_names, st_vis_names}
-use Rattle.elf_abi.specs.Values.{shn_abs, shn_undef, sht_nobits, stb_gnu_unique, stb_local, stb_weak, stt_func}
-use Rattle.elf_abi.specs.Values.{stt_gnu_ifunc, stt_object}
+use Rattle.elf_abi.specs.Values.{shn_abs, shn_undef, sht_nobits, stb_gnu_unique, stb_local, stb_weak, stt_common}
+use Rattle.elf_abi.specs.Values.{stt_func, stt_gnu_ifunc, stt_object, stt_tls}
 use Rattle.elf_parts.specs.gnu_symver.Table.{Versions}
 use Rattle.elf_records.specs.StringTable.{string_at}
 use Rattle.elf_records.specs.Symbol.{symbol_binding, symbol_type, symbol_visibility}
 use Rattle.elf_records.specs.declared.file.Class.{Class}
-use Rattle.elf_records.specs.declared.file.Class.TheVariants.{ELF32, ELF64}
 use Rattle.elf_records.specs.declared.parse.ParseError.{ParseError}
 use Rattle.elf_records.specs.declared.section.SectionHeader.{SectionHeader}
 use Rattle.elf_records.specs.declared.symbol.Symbol.{Symbol}
 use Rattle.elf_tools.specs.Addresses.{shn_common}
 use Rattle.nugwier_report.specs.Said.{Content, Members, Said, character, flag, nothing, number, states, text, unread}
 use Rattle.nugwier_report.specs.Said.{word}
+use Rattle.nugwier_report.specs.SymbolOptions.{is_selected, row_kind}
 use Rattle.nugwier_report.specs.Versions.{Version, shown_version, version_default, version_name}
 use Rattle.nugwier_report.specs.declared.kind.Kind.{Kind}
 use Rattle.nugwier_report.specs.declared.kind.Kind.TheVariants as kind
 use Rattle.nugwier_report.specs.declared.problem.Item.TheVariants.{SymbolName, SymbolVersion}
 use Rattle.nugwier_report.specs.declared.problem.Part.{Part}
 use Rattle.nugwier_report.specs.declared.problem.Part.TheVariants as part
+use Rattle.nugwier_report.specs.declared.symbol_options.SymbolOptions.{SymbolOptions}
+use Rattle.nugwier_report.specs.declared.symbol_options.SymbolOrder.{SymbolOrder}
+use Rattle.nugwier_report.specs.declared.symbol_options.SymbolOrder.TheVariants.{Table}
 use Rattle.nugwier_report.specs.declared.symbols.Form.{Form}
 use Rattle.nugwier_report.specs.declared.symbols.Form.TheVariants.{Export, Fields, Letter}
 
@@ -97,46 +100,54 @@ letter_of sections s =
 
 -- ---- what is shown of symbols
 
--- all fields; a letter, in a file of this class with these sections; names and versions alone, of exports
+-- all fields; a letter, in a file of this class with these sections, by the options of nm; names and versions alone, of
+-- exports or of the functions among them
 pub data Manner : Type 0 where
   all_fields : Manner
-  by_letter : Class → List SectionHeader → Manner
-  exports_alone : Manner
+  by_letter : Class → List SectionHeader → SymbolOptions → Manner
+  exports_alone : Bool → Manner
 
 abbrev pub form_view : Form → Manner
 form_view Fields = all_fields
-form_view (Letter class sections) = by_letter class sections.now
-form_view Export = exports_alone
+form_view (Letter class sections options) = by_letter class sections.now options
+form_view (Export functions_only) = exports_alone functions_only
+
+-- the order of the symbols
+abbrev pub order_of : Manner → SymbolOrder
+order_of (by_letter class sections options) = options.order
+order_of _ = Table
 
 -- it is a function (STT_FUNC) or one that is chosen when the file is loaded (STT_GNU_IFUNC)
 abbrev pub is_function : Symbol → Bool
 is_function s = symbol_type s == stt_func || symbol_type s == stt_gnu_ifunc
 
--- a section defines it, it is not local, and it is a function in this sense
-abbrev pub is_export : Symbol → Bool
-is_export s = not (s.st_shndx == shn_undef) && not (symbol_binding s == stb_local) && is_function s
+-- it is an object (STT_OBJECT), one for each thread (STT_TLS) or a common one (STT_COMMON), and has a place: a symbol of
+-- a version is an absolute object
+abbrev pub is_data : Symbol → Bool
+is_data s =
+    (symbol_type s == stt_object || symbol_type s == stt_tls || symbol_type s == stt_common)
+    && not (s.st_shndx == shn_abs)
 
--- the symbol has a row: with letters all but the first, which is none
+-- a section defines it, it is not local, and it is a function or, unless only these are asked for, data in this sense
+abbrev pub is_export : Bool → Symbol → Bool
+is_export functions_only s =
+    not (s.st_shndx == shn_undef) && not (symbol_binding s == stb_local)
+    && (is_function s || not functions_only && is_data s)
+
+-- the symbol has a row
 abbrev pub is_listed : Manner → ℕ → Symbol → Bool
 is_listed all_fields i s = true
-is_listed (by_letter class sections) i s = not (i == 0)
-is_listed exports_alone i s = is_export s
-
--- by the class of the file, and whether the symbol is undefined
-abbrev pub letter_kind : Class → Bool → Kind
-letter_kind ELF32 true = kind.Undefined32
-letter_kind ELF64 true = kind.Undefined64
-letter_kind ELF32 false = kind.Symbol32
-letter_kind ELF64 false = kind.Symbol64
+is_listed (by_letter class sections options) i s = is_selected options i s
+is_listed (exports_alone functions_only) i s = is_export functions_only s
 
 abbrev pub symbol_kind : Manner → Symbol → Kind
 symbol_kind all_fields s = kind.Symbol
-symbol_kind (by_letter class sections) s = letter_kind class (s.st_shndx == shn_undef)
-symbol_kind exports_alone s = kind.Export
+symbol_kind (by_letter class sections options) s = row_kind options class s
+symbol_kind (exports_alone functions_only) s = kind.Export
 
 -- the letter, if it is shown
 abbrev pub shown_letter : Manner → Symbol → Option ℕ
-shown_letter (by_letter class sections) s = Some (letter_of sections s)
+shown_letter (by_letter class sections options) s = Some (letter_of sections s)
 shown_letter _ s = None
 
 -- ---- versions

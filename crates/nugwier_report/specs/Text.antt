@@ -1,8 +1,8 @@
 -- Rows for people.
-use Rattle.std.specs.Prelude.{ℕ, ◌+◌, ◌-◌, ◌*◌, ◌/◌, ◌==◌, ℤ, Bool, true, if◌then◌else◌, nat_lt, suc, pos}
+use Rattle.std.specs.Prelude.{ℕ, ◌+◌, ◌-◌, ◌*◌, ◌/◌, ◌==◌, ℤ, Bool, false, true, if◌then◌else◌, nat_lt, suc, pos}
 use Rattle.std.specs.Prelude.{negsuc, bit_and, List, [], ◌∷◌}
 use Rattle.std.specs.Prelude.{Option, Some, None, ◌&&◌, codes, drop, length, nat_le, replicate, take, zero}
-use Rattle.std.specs.Fmt.{decimal, signed_decimal}
+use Rattle.std.specs.Fmt.{decimal, digits, signed_decimal}
 use Rattle.std.specs.Int.{div_ceil, to_be_bytes, w32, w64}
 use Rattle.std.specs.List.{after_first, before_first, flat_map, slice_get}
 use Rattle.std.specs.Str.{encode_utf8_all}
@@ -54,6 +54,7 @@ abbrev pub number_text : Shown → ℕ → List ℕ
 number_text (shows.Decimal width) n = shown_decimal width n
 number_text shows.Digits8 n = wide n
 number_text shows.Digits16 n = all_digits n
+number_text shows.Digits n = digits 16 false n
 number_text shows.Order n = shown_order n
 number_text shows.SectionFlags n = letters_of n
 number_text shows.SegmentFlags n = segment_flags n

@@ -228,7 +228,7 @@ pub const X86_FEATURES: Flags = &[(0x1, 0x1, "IBT"), (0x2, 0x2, "SHSTK")];
 pub const AARCH64_FEATURES: Flags = &[(0x1, 0x1, "BTI"), (0x2, 0x2, "PAC"), (0x4, 0x4, "GCS")];
 
 #[tactic(auto, unfolding(crate::specs::Hardening::feature_flags))]
-fn feature_flags(machine: u16) -> Flags
+pub(crate) fn feature_flags(machine: u16) -> Flags
     ensures { flags_of result.now ≡ feature_flags machine }
 {
     match machine {
@@ -336,7 +336,7 @@ fn hardening_members<'a>(hardening: &Hardening, paths: SearchPaths<'a>) -> [Memb
 }
 
 // The name of what a file is, if it is known.
-fn kind_name(kind: Option<FileKind>) -> Option<&'static str>
+pub(crate) fn kind_name(kind: Option<FileKind>) -> Option<&'static str>
     ensures { option_copied result ≡ option_map kind_name kind }
 {
     match kind {
@@ -374,7 +374,7 @@ fn flag_value(flag: Option<bool>) -> Value<'static>
     }
 }
 
-fn number_value(number: Option<u64>) -> Value<'static>
+pub(crate) fn number_value(number: Option<u64>) -> Value<'static>
     ensures { content_of result ≡ number_content number }
 {
     match number {

@@ -5,6 +5,7 @@ ghost use Rattle.nugwier_report.specs.Header.{order_number};
 ghost use Rattle.nugwier_report.specs.Noted.{members_said};
 ghost use Rattle.nugwier_report.specs.Said.{saying};
 
+use crate::hardening::{FileKind, kind_name};
 use crate::json::{Member, Value};
 use crate::kind::Kind;
 use crate::problem::Stop;
@@ -15,19 +16,23 @@ use elf_parts::endian::EndianParse;
 use elf_parts::file::{Class, FileHeader};
 use std::io::Write;
 
-/// Says the fields of a file header (gABI, chapter "ELF Header").
+/// Says the fields of a file header (gABI, chapter "ELF Header"), and what the file is, if that is known.
 pub fn say_header<E: EndianParse, W: Write, V: Write>(
     header: &FileHeader<E>,
+    kind: Option<FileKind>,
     report: &mut Report<'_, W, V>,
 ) -> Result<(), Stop>
-    ensures { OnOk result (report.new ≡ saying report.old (header_said E.little header.now)) }
+    ensures { OnOk result (report.new ≡ saying report.old (header_said E.little header.now kind)) }
 {
-    report.state(Kind::FileHeader, &header_members(header))
+    report.state(Kind::FileHeader, &header_members(header, kind))
 }
 
 #[tactic(auto, unfolding(crate::specs::Header::header_members))]
-fn header_members<E: EndianParse>(header: &FileHeader<E>) -> [Member<'static>; 23]
-    ensures { members_said result ≡ header_members E.little header.now }
+fn header_members<E: EndianParse>(
+    header: &FileHeader<E>,
+    kind: Option<FileKind>,
+) -> [Member<'static>; 24]
+    ensures { members_said result ≡ header_members E.little header.now kind }
 {
     let (class, class_name) = class_parts(header.class);
     let (order, order_name) = order_parts(header.endianness.is_little());
@@ -67,6 +72,7 @@ fn header_members<E: EndianParse>(header: &FileHeader<E>) -> [Member<'static>; 2
         ("e_shentsize", Value::Number(header.e_shentsize as u64)),
         ("e_shnum", Value::Number(header.e_shnum as u64)),
         ("e_shstrndx", Value::Number(header.e_shstrndx as u64)),
+        ("kind", Value::Word(kind_name(kind))),
     ]
 }
 

@@ -6,8 +6,8 @@ ghost use Rattle.nugwier_report.specs.Kinds.{layout_of};
 
 use crate::text::Column;
 use crate::text::Shown::{
-    Addend, Character, Decimal, Depth, Digits8, Digits16, Dump, Flags, Hexadecimal, Index, Name,
-    Order, Padded, Pairs, SectionFlags, SegmentFlags, Text, Version,
+    Addend, Character, Decimal, Depth, Digits, Digits8, Digits16, Dump, Flags, Hexadecimal, Index,
+    Name, Order, Padded, Pairs, SectionFlags, SegmentFlags, Text, Version,
 };
 
 /// A kind of record.
@@ -27,6 +27,16 @@ pub enum Kind {
     SegmentsHeading,
     /// A segment (gABI, chapter "Program Header").
     Segment,
+    /// The path of the program that loads the file.
+    Interpreter,
+    /// The heading of the sections of the segments.
+    SegmentSectionsHeading,
+    /// A segment, by its number; its sections follow.
+    SegmentSections,
+    /// A section of a segment.
+    SegmentSection,
+    /// The end of the sections of a segment.
+    SegmentSectionsEnd,
     /// The heading of the symbols.
     SymbolsHeading,
     /// The heading of the symbols for dynamic linking.
@@ -37,10 +47,24 @@ pub enum Kind {
     Symbol32,
     /// A symbol of a 64-bit file by its value and a letter.
     Symbol64,
+    /// A symbol of a 32-bit file by its size and a letter.
+    Size32,
+    /// A symbol of a 64-bit file by its size and a letter.
+    Size64,
+    /// A symbol of a 32-bit file by its value, its size and a letter.
+    SizedSymbol32,
+    /// A symbol of a 64-bit file by its value, its size and a letter.
+    SizedSymbol64,
     /// An undefined symbol of a 32-bit file by a letter.
     Undefined32,
     /// An undefined symbol of a 64-bit file by a letter.
     Undefined64,
+    /// A symbol in the form of POSIX: its name, a letter and its value.
+    Portable,
+    /// The same with its size.
+    PortableSized,
+    /// An undefined symbol in this form.
+    PortableUndefined,
     /// A symbol by its name and its version.
     Export,
     /// The heading of the dynamic entries.
@@ -81,6 +105,14 @@ pub enum Kind {
     AbiTagNote,
     /// Any other note (gABI, chapter "Program Loading", "Note Section").
     Note,
+    /// A property of code, whose data are a number.
+    NumberProperty,
+    /// Another property of code.
+    Property,
+    /// The text of a note.
+    NoteText,
+    /// A probe of SystemTap.
+    Probe,
     /// The heading of the versions that a file defines: the number and the name of their section.
     DefinedHeading,
     /// The heading of the versions that a file needs: the number and the name of their section.
@@ -158,13 +190,25 @@ impl Kind {
             Kind::Section => SECTION,
             Kind::SegmentsHeading => SEGMENTS_HEADING,
             Kind::Segment => SEGMENT,
+            Kind::Interpreter => INTERPRETER,
+            Kind::SegmentSectionsHeading => SEGMENT_SECTIONS_HEADING,
+            Kind::SegmentSections => SEGMENT_SECTIONS,
+            Kind::SegmentSection => SEGMENT_SECTION,
+            Kind::SegmentSectionsEnd => SEGMENT_SECTIONS_END,
             Kind::SymbolsHeading => SYMBOLS_HEADING,
             Kind::DynamicSymbolsHeading => DYNAMIC_SYMBOLS_HEADING,
             Kind::Symbol => SYMBOL,
             Kind::Symbol32 => SYMBOL_32,
             Kind::Symbol64 => SYMBOL_64,
+            Kind::Size32 => SIZE_32,
+            Kind::Size64 => SIZE_64,
+            Kind::SizedSymbol32 => SIZED_SYMBOL_32,
+            Kind::SizedSymbol64 => SIZED_SYMBOL_64,
             Kind::Undefined32 => UNDEFINED_32,
             Kind::Undefined64 => UNDEFINED_64,
+            Kind::Portable => PORTABLE,
+            Kind::PortableSized => PORTABLE_SIZED,
+            Kind::PortableUndefined => PORTABLE_UNDEFINED,
             Kind::Export => EXPORT,
             Kind::EntriesHeading => ENTRIES_HEADING,
             Kind::Entry => ENTRY,
@@ -185,6 +229,10 @@ impl Kind {
             Kind::BuildIdNote => BUILD_ID_NOTE,
             Kind::AbiTagNote => ABI_TAG_NOTE,
             Kind::Note => NOTE,
+            Kind::NumberProperty => NUMBER_PROPERTY,
+            Kind::Property => PROPERTY,
+            Kind::NoteText => NOTE_TEXT,
+            Kind::Probe => PROBE,
             Kind::DefinedHeading => DEFINED_HEADING,
             Kind::NeededHeading => NEEDED_HEADING,
             Kind::Verdef => VERDEF,
@@ -229,6 +277,7 @@ File header:
   byte order           % (%)
   ABI                  %, version %
   type                 %
+  kind                 %
   machine              %
   version              %
   entry point          %
@@ -245,6 +294,7 @@ File header:
         Column(5, Name(0, 0, 4)),
         Column(6, Decimal(0)),
         Column(8, Name(0, 0, 7)),
+        Column(23, Name(0, 0, 23)),
         Column(10, Name(0, 0, 9)),
         Column(11, Decimal(0)),
         Column(12, Hexadecimal),
@@ -311,6 +361,20 @@ pub const SEGMENT: Layout = (
     ],
 );
 
+pub const INTERPRETER: Layout = (
+    Some("interpreter"),
+    "Interpreter of segment %: %\n",
+    &[Column(0, Decimal(0)), Column(1, Text)],
+);
+
+pub const SEGMENT_SECTIONS_HEADING: Layout = (None, "Sections of the segments:\n", &[]);
+
+pub const SEGMENT_SECTIONS: Layout = (None, "%", &[Column(0, Decimal(4))]);
+
+pub const SEGMENT_SECTION: Layout = (Some("segment_section"), " %", &[Column(2, Text)]);
+
+pub const SEGMENT_SECTIONS_END: Layout = (None, "\n", &[]);
+
 pub const SYMBOLS_HEADING: Layout = (
     None,
     "Symbols:\n    nr value                size type       binding    visibility section name\n",
@@ -361,6 +425,52 @@ pub const SYMBOL_64: Layout = (
     ],
 );
 
+pub const SIZE_32: Layout = (
+    Some("symbol"),
+    "% % %%\n",
+    &[
+        Column(15, Digits8),
+        Column(18, Character),
+        Column(3, Text),
+        Column(16, Version(17)),
+    ],
+);
+
+pub const SIZE_64: Layout = (
+    Some("symbol"),
+    "% % %%\n",
+    &[
+        Column(15, Digits16),
+        Column(18, Character),
+        Column(3, Text),
+        Column(16, Version(17)),
+    ],
+);
+
+pub const SIZED_SYMBOL_32: Layout = (
+    Some("symbol"),
+    "% % % %%\n",
+    &[
+        Column(14, Digits8),
+        Column(15, Digits8),
+        Column(18, Character),
+        Column(3, Text),
+        Column(16, Version(17)),
+    ],
+);
+
+pub const SIZED_SYMBOL_64: Layout = (
+    Some("symbol"),
+    "% % % %%\n",
+    &[
+        Column(14, Digits16),
+        Column(15, Digits16),
+        Column(18, Character),
+        Column(3, Text),
+        Column(16, Version(17)),
+    ],
+);
+
 const LETTER_COLUMNS: [Column; 3] = [
     Column(18, Character),
     Column(3, Text),
@@ -370,6 +480,39 @@ const LETTER_COLUMNS: [Column; 3] = [
 pub const UNDEFINED_32: Layout = (Some("symbol"), "         % %%\n", &LETTER_COLUMNS);
 
 pub const UNDEFINED_64: Layout = (Some("symbol"), "                 % %%\n", &LETTER_COLUMNS);
+
+pub const PORTABLE: Layout = (
+    Some("symbol"),
+    "%% % %\n",
+    &[
+        Column(3, Text),
+        Column(16, Version(17)),
+        Column(18, Character),
+        Column(14, Digits),
+    ],
+);
+
+pub const PORTABLE_SIZED: Layout = (
+    Some("symbol"),
+    "%% % % %\n",
+    &[
+        Column(3, Text),
+        Column(16, Version(17)),
+        Column(18, Character),
+        Column(14, Digits),
+        Column(15, Digits),
+    ],
+);
+
+pub const PORTABLE_UNDEFINED: Layout = (
+    Some("symbol"),
+    "%% %\n",
+    &[
+        Column(3, Text),
+        Column(16, Version(17)),
+        Column(18, Character),
+    ],
+);
 
 pub const EXPORT: Layout = (
     Some("symbol"),
@@ -505,6 +648,38 @@ pub const NOTE: Layout = (
     Some("note"),
     "  % %  %\n",
     &[Column(4, Text), Column(3, Name(0, 0, 2)), Column(5, Pairs)],
+);
+
+// The names of properties without `GNU_PROPERTY_`.
+pub const NUMBER_PROPERTY: Layout = (
+    Some("note_property"),
+    "    % %%\n",
+    &[
+        Column(3, Name(13, 0, 2)),
+        Column(5, Hexadecimal),
+        Column(6, Flags(0)),
+    ],
+);
+
+pub const PROPERTY: Layout = (
+    Some("note_property"),
+    "    %, % bytes\n",
+    &[Column(3, Name(13, 0, 2)), Column(4, Decimal(0))],
+);
+
+pub const NOTE_TEXT: Layout = (Some("note_text"), "    %\n", &[Column(2, Text)]);
+
+pub const PROBE: Layout = (
+    Some("note_probe"),
+    "    %:%  at % of %, semaphore %  %\n",
+    &[
+        Column(2, Text),
+        Column(3, Text),
+        Column(5, Hexadecimal),
+        Column(6, Hexadecimal),
+        Column(7, Hexadecimal),
+        Column(4, Text),
+    ],
 );
 
 pub const DEFINED_HEADING: Layout = (

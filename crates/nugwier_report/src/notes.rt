@@ -1,14 +1,16 @@
 //! What is said of notes.
 ghost use Rattle.std.specs.Prelude.{◌≡◌, OnOk};
-ghost use Rattle.elf_parts.specs.Note.{AbiTag, note_view, notes_left};
+ghost use Rattle.elf_parts.specs.Note.{Other, note_view, notes_left};
 ghost use Rattle.nugwier_report.specs.Noted.{members_said};
-ghost use Rattle.nugwier_report.specs.Notes.{abi_tag_members, build_id_members, note_said, notes_said};
+ghost use Rattle.nugwier_report.specs.Notes.{abi_tag_members, abi_tag_said, build_id_members, note_said, notes_said};
 ghost use Rattle.nugwier_report.specs.Notes.{other_members, without_nul};
 ghost use Rattle.nugwier_report.specs.Said.{saying};
 
+use crate::descriptors::say_descriptor;
 use crate::json::{Member, Value, part_member};
 use crate::kind::Kind;
 use crate::problem::{Part, Stop};
+use crate::properties::NoteFile;
 use crate::report::Report;
 use crate::rows::{Row, say_items};
 use elf_abi::{abi, to_str};
@@ -21,14 +23,16 @@ use std::marker::PhantomData;
 
 /// Says the notes of a section or of a segment.
 pub fn say_notes<E: EndianParse, W: Write, V: Write>(
+    file: NoteFile,
     part: Part,
     notes: NoteIterator<'_, E>,
     report: &mut Report<'_, W, V>,
 ) -> Result<(), Stop>
-    ensures { OnOk result (report.new ≡ saying report.old (notes_said part (notes_left notes.entry))) }
+    ensures { OnOk result (report.new ≡ saying report.old (notes_said file part (notes_left notes.entry))) }
 {
     few_notes_are_left(&notes);
     let row = NoteRow {
+        file,
         part,
         data: PhantomData,
     };
@@ -38,6 +42,7 @@ pub fn say_notes<E: EndianParse, W: Write, V: Write>(
 // A note of a section or of a segment.
 #[derive(Drop)]
 struct NoteRow<'data> {
+    file: NoteFile,
     part: Part,
     data: PhantomData<&'data [u8]>,
 }
@@ -45,7 +50,7 @@ struct NoteRow<'data> {
 impl<'data> Row for NoteRow<'data> {
     type Item = Note<'data>;
 
-    ghost said = { λ row number note. note_said row.part number (note_view note) };
+    ghost said = { λ row number note. note_said row.file row.part number (note_view note) };
 
     fn say<W: Write, V: Write>(
         &self,
@@ -59,7 +64,7 @@ impl<'data> Row for NoteRow<'data> {
             Note::GnuBuildId(id) => {
                 report.state(Kind::BuildIdNote, &build_id_members(part, number, id.0))
             }
-            Note::Unknown(note) => report.state(Kind::Note, &other_members(part, number, note)),
+            Note::Unknown(note) => say_other(self.file, part, number, note, report),
         }
     }
 }
@@ -70,9 +75,23 @@ fn say_abi_tag<W: Write, V: Write>(
     tag: &NoteGnuAbiTag,
     report: &mut Report<'_, W, V>,
 ) -> Result<(), Stop>
-    ensures { OnOk result (report.new ≡ saying report.old (note_said part number (AbiTag tag.now))) }
+    ensures { OnOk result (report.new ≡ saying report.old (abi_tag_said part number tag.now)) }
 {
     report.state(Kind::AbiTagNote, &abi_tag_members(part, number, tag))
+}
+
+fn say_other<W: Write, V: Write>(
+    file: NoteFile,
+    part: Part,
+    number: u64,
+    note: &NoteAny<'_>,
+    report: &mut Report<'_, W, V>,
+) -> Result<(), Stop>
+    ensures { OnOk result (report.new ≡ saying report.old
+        (note_said file part number (Other note.now.n_type note.now.name.now note.now.desc.now))) }
+{
+    report.state(Kind::Note, &other_members(part, number, note))?;
+    say_descriptor(file, part, number, note, report)
 }
 
 fn abi_tag_members(part: Part, number: u64, tag: &NoteGnuAbiTag) -> [Member<'static>; 10]

@@ -133,6 +133,10 @@ pub enum Fault<'a> {
     System(io::Error),
     /// The file has no such part.
     Missing,
+    /// It is not listed, since what was listed of its kind has as many bytes as the file.
+    Repeated,
+    /// There are too many to list those of each segment.
+    TooMany,
     /// No entry gives the address of the strings.
     NoAddress,
     /// No entry gives the size of the strings.
@@ -182,6 +186,10 @@ impl fmt::Display for Fault<'_> {
             Fault::Linked(error) => write!(f, "{}", LinkedText(error)),
             Fault::System(error) => write!(f, "{error}"),
             Fault::Missing => f.write_str("the file has none"),
+            Fault::Repeated => {
+                f.write_str("left out: the notes up to here have more bytes than the file")
+            }
+            Fault::TooMany => f.write_str("too many to list those of each segment"),
             Fault::NoAddress => f.write_str("no entry DT_STRTAB gives their address"),
             Fault::NoSize => f.write_str("no entry DT_STRSZ gives their size"),
             Fault::NotLoaded(address) => {

@@ -27,6 +27,25 @@ pub trait Row {
         ensures { OnOk result (report.new ≡ saying report.old (said self.now number item.now)) };
 }
 
+/// What is said of items that come with the numbers that they have in a table.
+#[derive(Drop)]
+pub struct Renumbered<'r, R: Row>(pub &'r R);
+
+impl<R: Row> Row for Renumbered<'_, R> {
+    type Item = (usize, R::Item);
+
+    ghost said = { λ row number one. R.said row.0.now one.0 one.1 };
+
+    fn say<W: Write, V: Write>(
+        &self,
+        _number: u64,
+        one: &(usize, R::Item),
+        report: &mut Report<'_, W, V>,
+    ) -> Result<(), Stop> {
+        self.0.say(one.0 as u64, &one.1, report)
+    }
+}
+
 // Says it of the items of an iterator.
 pub(crate) fn say_items<R: Row, I: Iterator<Item = R::Item> + Drop, W: Write, V: Write>(
     items: I,

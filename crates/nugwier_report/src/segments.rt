@@ -1,7 +1,8 @@
 //! What is said of segments.
-ghost use Rattle.std.specs.Prelude.{◌≡◌};
+ghost use Rattle.std.specs.Prelude.{◌≡◌, OnOk};
 ghost use Rattle.nugwier_report.specs.Noted.{members_said};
-ghost use Rattle.nugwier_report.specs.Segments.{segment_members, segment_said};
+ghost use Rattle.nugwier_report.specs.Said.{saying};
+ghost use Rattle.nugwier_report.specs.Segments.{interpreter_said, segment_members, segment_said};
 
 use crate::json::{Member, Value};
 use crate::kind::Kind;
@@ -60,4 +61,21 @@ fn segment_members(machine: u16, number: u64, segment: &ProgramHeader) -> [Membe
         ("p_memsz", Value::Number(segment.p_memsz)),
         ("p_align", Value::Number(segment.p_align)),
     ]
+}
+
+/// Says the path of the program that loads the file, which the segment of this number has.
+pub fn say_interpreter<W: Write, V: Write>(
+    number: u64,
+    path: &[u8],
+    report: &mut Report<'_, W, V>,
+) -> Result<(), Stop>
+    ensures { OnOk result (report.new ≡ saying report.old (interpreter_said number path.now)) }
+{
+    report.state(
+        Kind::Interpreter,
+        &[
+            ("segment", Value::Number(number)),
+            ("path", Value::Text(Some(path))),
+        ],
+    )
 }

@@ -5,7 +5,8 @@ ghost use Rattle.std.specs.Result.{result_ok};
 ghost use Rattle.elf_records.specs.StringTable.{string_at};
 ghost use Rattle.nugwier_report.specs.Noted.{content_of, members_said};
 ghost use Rattle.nugwier_report.specs.Said.{saying, unread};
-ghost use Rattle.nugwier_report.specs.Symbols.{form_view, is_export, is_listed, letter_in, letter_kind, letter_of};
+ghost use Rattle.nugwier_report.specs.Symbols.{form_view, is_data, is_export, is_function, is_listed, letter_in, letter_of};
+ghost use Rattle.nugwier_report.specs.Symbols.{order_of};
 ghost use Rattle.nugwier_report.specs.Symbols.{section_letter, shown_letter, st_shndx_name, symbol_kind, symbol_members};
 ghost use Rattle.nugwier_report.specs.Symbols.{symbol_said, table_name, undefined_letter, version_known, version_read};
 ghost use Rattle.nugwier_report.specs.Symbols.{weak_letter};
@@ -17,6 +18,7 @@ use crate::kind::Kind;
 use crate::problem::{Fault, Item, Part, Stop};
 use crate::report::Report;
 use crate::rows::Row;
+use crate::symbol_options::{SymbolOptions, SymbolOrder};
 use crate::versions::{ShownVersion, shown_version};
 use elf_abi::{abi, to_str};
 use elf_parts::endian::EndianParse;
@@ -89,25 +91,38 @@ impl<'a, E: EndianParse, V: SymbolVersions<E> + Drop> Names<'a, E, V> {
 pub enum Form<'a> {
     /// All its fields.
     Fields,
-    /// Its value and a letter, in the manner of `nm`; nothing of the first symbol, which is none.
+    /// Its value and a letter, in the manner of `nm`.
     Letter {
         class: Class,
         /// The sections that define symbols.
         sections: &'a [SectionHeader],
+        options: SymbolOptions,
     },
-    /// Its name with its version alone, if it is a function that the file defines for others.
-    Export,
+    /// Its name with its version alone, if the file defines it for others.
+    Export {
+        functions_only: bool,
+    },
 }
 
 impl Form<'_> {
+    /// The order of the rows.
+    pub fn order(self) -> SymbolOrder
+        ensures { result ≡ order_of (form_view self.entry) }
+    {
+        match self {
+            Form::Letter { options, .. } => options.order,
+            Form::Fields | Form::Export { .. } => SymbolOrder::Table,
+        }
+    }
+
     // Whether a symbol has a row.
     fn lists(self, number: u64, symbol: &Symbol) -> bool
         ensures { result ≡ is_listed (form_view self.entry) number symbol.now }
     {
         match self {
             Form::Fields => true,
-            Form::Letter { .. } => number != 0,
-            Form::Export => is_export(symbol),
+            Form::Letter { options, .. } => options.selects(number, symbol),
+            Form::Export { functions_only } => is_export(functions_only, symbol),
         }
     }
 
@@ -117,8 +132,8 @@ impl Form<'_> {
     {
         match self {
             Form::Fields => Kind::Symbol,
-            Form::Letter { class, .. } => letter_kind(class, symbol.is_undefined()),
-            Form::Export => Kind::Export,
+            Form::Letter { class, options, .. } => options.kind(class, symbol),
+            Form::Export { .. } => Kind::Export,
         }
     }
 
@@ -128,19 +143,8 @@ impl Form<'_> {
     {
         match self {
             Form::Letter { sections, .. } => Some(letter_of(sections, symbol)),
-            Form::Fields | Form::Export => None,
+            Form::Fields | Form::Export { .. } => None,
         }
-    }
-}
-
-fn letter_kind(class: Class, is_undefined: bool) -> Kind
-    ensures { result ≡ letter_kind class is_undefined }
-{
-    match (class, is_undefined) {
-        (Class::ELF32, true) => Kind::Undefined32,
-        (Class::ELF64, true) => Kind::Undefined64,
-        (Class::ELF32, false) => Kind::Symbol32,
-        (Class::ELF64, false) => Kind::Symbol64,
     }
 }
 
@@ -337,13 +341,27 @@ fn letter_in(section: &SectionHeader) -> char
     }
 }
 
-// Whether the symbol is a function that this file defines and other files can call. A function may be chosen when the
-// file is loaded (`STT_GNU_IFUNC`).
-fn is_export(symbol: &Symbol) -> bool
-    ensures { result ≡ is_export symbol.now }
+// Whether the symbol is a function, or unless only functions are asked for data, that this file defines for others.
+fn is_export(functions_only: bool, symbol: &Symbol) -> bool
+    ensures { result ≡ is_export functions_only symbol.now }
+{
+    let is_wanted = is_function(symbol) || !functions_only && is_data(symbol);
+    !symbol.is_undefined() && symbol.st_bind() != abi::STB_LOCAL && is_wanted
+}
+
+// A function may be chosen when the file is loaded (`STT_GNU_IFUNC`).
+fn is_function(symbol: &Symbol) -> bool
+    ensures { result ≡ is_function symbol.now }
 {
     let kind = symbol.st_symtype();
-    !symbol.is_undefined()
-        && symbol.st_bind() != abi::STB_LOCAL
-        && (kind == abi::STT_FUNC || kind == abi::STT_GNU_IFUNC)
+    kind == abi::STT_FUNC || kind == abi::STT_GNU_IFUNC
+}
+
+// An absolute symbol, as of a version, is no data.
+fn is_data(symbol: &Symbol) -> bool
+    ensures { result ≡ is_data symbol.now }
+{
+    let kind = symbol.st_symtype();
+    let is_object = kind == abi::STT_OBJECT || kind == abi::STT_TLS || kind == abi::STT_COMMON;
+    is_object && symbol.st_shndx != abi::SHN_ABS
 }

@@ -32,6 +32,8 @@ pub enum Shown {
     Decimal(usize),
     /// A number in hexadecimal, after `0x`.
     Hexadecimal,
+    /// The same without `0x`.
+    Digits,
     /// A number as 8 hexadecimal digits, or as 16 if it has more than 32 bits.
     Digits8,
     /// A number as 16 hexadecimal digits.
@@ -194,6 +196,7 @@ fn add_digits<W: Write>(form: Shown, n: u64, lines: &mut LineBuffer, out: &mut W
 {
     match form {
         Shown::Decimal(width) => add_decimal(width, n, lines, out),
+        Shown::Digits => lines.digits(n, out),
         Shown::Digits8 => add_wide(n, lines, out),
         Shown::Digits16 => add_all_digits(n, lines, out),
         Shown::Order => add_order(n, lines, out),

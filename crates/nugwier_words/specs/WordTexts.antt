@@ -1,5 +1,5 @@
 -- Why words are no request, as standard error tells it.
-use Rattle.std.specs.Prelude.{ℕ, List, Option, Some, codes}
+use Rattle.std.specs.Prelude.{ℕ, List, Option, None, Some, codes}
 use Rattle.std.specs.Fmt.{◌++?◌}
 use Rattle.nugwier_report.specs.ErrorTexts.{words}
 use Rattle.nugwier_report.specs.Problems.{quoted}
@@ -14,8 +14,11 @@ named command = Some (word_of command)
 
 abbrev pub word_text : WordError → Option (List ℕ)
 word_text wrong.NoCommand = words (codes "nugwier: no command; see nugwier --help")
-word_text (wrong.Command w) =
+word_text (wrong.Command w None) =
     words (codes "nugwier: unknown command '") ++? quoted w.now ++? words (codes "'; see nugwier --help")
+word_text (wrong.Command w (Some c)) =
+    words (codes "nugwier: unknown command '") ++? quoted w.now ++? words (codes "', did you mean '") ++? named c
+    ++? words (codes "'? see nugwier --help")
 word_text (wrong.Option c w) =
     words (codes "nugwier ") ++? named c ++? words (codes ": unknown option '") ++? quoted w.now
     ++? words (codes "'; see nugwier ") ++? named c ++? words (codes " --help")

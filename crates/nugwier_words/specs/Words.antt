@@ -1,19 +1,24 @@
 -- What the words of a command line ask for: `parsed`, at the end, beside what `nugwier --help` says.
 use Rattle.std.specs.Prelude.{◌≡◌, ◌⊎◌, ◌^◌, ◌==◌, ◌||◌, ◌&&◌, not, Bool, true, false, if◌then◌else◌, nat_lt, ℕ}
-use Rattle.std.specs.Prelude.{List, [], ◌∷◌, ◌++◌, codes, drop, slice_index, Option, Some, None, is_some, option_map}
+use Rattle.std.specs.Prelude.{List, [], ◌∷◌, ◌++◌, codes, drop, length, slice_index, Option, Some, None, is_some}
+use Rattle.std.specs.Prelude.{option_map}
 use Rattle.std.specs.Prelude.{Result, Ok, Err}
 use Rattle.std.specs.Char.{is_digit}
 use Rattle.std.specs.List.{find, slice_split, starts_with}
 use Rattle.std.specs.Str.{bytes_eq}
 use Rattle.std.specs.Str.Parse.{digits_value}
 use Rattle.nugwier_report.specs.Hardening.{requirement_word}
+use Rattle.nugwier_report.specs.SymbolOptions.{no_options}
 use Rattle.nugwier_report.specs.declared.hardening.Requirement.{Requirement}
 use Rattle.nugwier_report.specs.declared.hardening.Requirement.TheVariants as need
+use Rattle.nugwier_report.specs.declared.symbol_options.Extent.TheVariants.{Defined, Undefined}
+use Rattle.nugwier_report.specs.declared.symbol_options.SymbolOptions.{SymbolOptions}
+use Rattle.nugwier_report.specs.declared.symbol_options.SymbolOrder.TheVariants as order
 use Rattle.nugwier_words.specs.declared.asked.Asked.{Asked}
 use Rattle.nugwier_words.specs.declared.asked.Awaited.{Awaited}
 use Rattle.nugwier_words.specs.declared.asked.Awaited.TheVariants.{Folder, Nothing, Requirements, Root, Section}
 use Rattle.nugwier_words.specs.declared.asked.Word.{Word}
-use Rattle.nugwier_words.specs.declared.asked.Word.TheVariants.{End, File, Help, Json, Options}
+use Rattle.nugwier_words.specs.declared.asked.Word.TheVariants.{End, File, Help, Json, Options, Recursive}
 use Rattle.nugwier_words.specs.declared.letters.Letters.{Letters}
 use Rattle.nugwier_words.specs.declared.words.Command.{Command}
 use Rattle.nugwier_words.specs.declared.words.Command.TheVariants.{Address, Bindings, BuildId, Check, Exports, Harden}
@@ -43,8 +48,10 @@ pub record Task : Type 0 where
   pub contents : List Wanted
   pub files : List (Bor (List ℕ))
   pub addresses : List ℕ
+  pub symbols : SymbolOptions
   pub requirements : List Requirement
   pub is_json : Bool
+  pub is_recursive : Bool
   pub searches : List (Bor (List ℕ))
   pub has_cache : Bool
   pub root : Option (Bor (List ℕ))
@@ -61,8 +68,10 @@ task_of job = record {
   contents = job.contents.items;
   files = job.files.items;
   addresses = job.addresses.items;
+  symbols = job.symbols;
   requirements = job.requirements.items;
   is_json = job.is_json;
+  is_recursive = job.is_recursive;
   searches = job.searches.items;
   has_cache = job.has_cache;
   root = job.root;
@@ -93,12 +102,29 @@ word_of Address = codes "address"
 word_of Tree = codes "tree"
 word_of Bindings = codes "bindings"
 
-unfoldable pub command_of : List ℕ → Option Command
-command_of word =
-    find (λ command. bytes_eq (word_of command) word) (ListCommand ∷ Symbols ∷ Needed ∷ Exports ∷ BuildId ∷ Plan ∷ Check
-    ∷ Harden ∷ Address ∷ Tree ∷ Bindings ∷ [])
+abbrev pub commands : List Command
+commands =
+    ListCommand ∷ Symbols ∷ Needed ∷ Exports ∷ BuildId ∷ Plan ∷ Check ∷ Harden ∷ Address ∷ Tree ∷ Bindings ∷ []
 
--- ---- the options of `list`, a letter each
+unfoldable pub command_of : List ℕ → Option Command
+command_of word = find (λ command. bytes_eq (word_of command) word) commands
+
+-- one letter at the most is left out, added or changed
+abbrev pub is_near : List ℕ → List ℕ → Bool
+is_near [] other = nat_lt (length other) 2
+is_near (c ∷ cs) [] = length cs == 0
+is_near (c ∷ cs) (d ∷ ds) =
+    if c == d then is_near cs ds else (bytes_eq cs ds || bytes_eq cs (d ∷ ds) || bytes_eq (c ∷ cs) ds)
+
+-- or a word begins another one
+abbrev pub is_like : List ℕ → List ℕ → Bool
+is_like word other = is_near word other || (not (length word == 0) && starts_with ◌==◌ other word)
+
+-- the first command that a word which is none may mean
+unfoldable pub nearest : List ℕ → Option Command
+nearest word = find (λ command. is_like word (word_of command)) commands
+
+-- ---- the options of `list`, a letter each, and of `symbols` and `exports`
 
 -- no part, or all
 abbrev pub parts_all : Bool → Parts
@@ -133,26 +159,78 @@ with_part parts letter =
     else None
 
 -- after the letters x and p, whose section is the next word, none may follow
-abbrev pub with_letter : Letters → ℕ → Option Letters
-with_letter letters letter =
+abbrev pub with_list_letter : Letters → ℕ → Option Letters
+with_list_letter letters letter =
     if is_some letters.form then None
     else if letter == code "x" then Some (record letters { form = Some Bytes })
     else if letter == code "p" then Some (record letters { form = Some Strings })
     else option_map (λ parts. record letters { parts = parts }) (with_part letters.parts letter)
 
-abbrev pub with_letters : Letters → List ℕ → Option Letters
-with_letters letters [] = Some letters
-with_letters letters (c ∷ cs) = elim (with_letter letters c) [ Some more ↦ with_letters more cs | None ↦ None ]
+-- the words of `symbols` after two hyphens, as of GNU nm; of those that exclude each other the last one counts
+unfoldable pub with_symbol_word : SymbolOptions → List ℕ → Option SymbolOptions
+with_symbol_word symbols word =
+    if bytes_eq word (codes "dynamic") then Some (record symbols { is_dynamic = true })
+    else if bytes_eq word (codes "extern-only") then Some (record symbols { is_external = true })
+    else if bytes_eq word (codes "undefined-only") then Some (record symbols { extent = Undefined })
+    else if bytes_eq word (codes "defined-only") then Some (record symbols { extent = Defined })
+    else if bytes_eq word (codes "no-sort") then Some (record symbols { order = order.Table })
+    else if bytes_eq word (codes "numeric-sort") then Some (record symbols { order = order.Value })
+    else if bytes_eq word (codes "size-sort") then Some (record symbols { order = order.Size })
+    else if bytes_eq word (codes "print-size") then Some (record symbols { has_sizes = true })
+    else if bytes_eq word (codes "format=posix") then Some (record symbols { is_portable = true })
+    else None
+
+-- the word of `exports`
+abbrev pub with_export_word : SymbolOptions → List ℕ → Option SymbolOptions
+with_export_word symbols word =
+    if bytes_eq word (codes "functions") then Some (record symbols { functions_only = true }) else None
+
+abbrev pub with_symbols : Letters → Option SymbolOptions → Option Letters
+with_symbols letters found = option_map (λ symbols. record letters { symbols = symbols }) found
+
+abbrev pub with_long_word : Command → Letters → List ℕ → Option Letters
+with_long_word Symbols letters word = with_symbols letters (with_symbol_word letters.symbols word)
+with_long_word Exports letters word = with_symbols letters (with_export_word letters.symbols word)
+with_long_word other letters word = None
+
+-- the long word that a letter of `symbols` stands for
+unfoldable pub long_word : ℕ → List ℕ
+long_word letter =
+    if letter == code "D" then codes "dynamic"
+    else if letter == code "g" then codes "extern-only"
+    else if letter == code "n" then codes "numeric-sort"
+    else if letter == code "p" then codes "no-sort"
+    else if letter == code "P" then codes "format=posix"
+    else if letter == code "S" then codes "print-size"
+    else if letter == code "u" then codes "undefined-only"
+    else []
+
+abbrev pub with_letter : Command → Letters → ℕ → Option Letters
+with_letter ListCommand letters letter = with_list_letter letters letter
+with_letter other letters letter = with_long_word other letters (long_word letter)
+
+abbrev pub with_letters : Command → Letters → List ℕ → Option Letters
+with_letters command letters [] = Some letters
+with_letters command letters (c ∷ cs) =
+    elim (with_letter command letters c) [ Some more ↦ with_letters command more cs | None ↦ None ]
+
+-- a long word, or the letters after a hyphen
+abbrev pub with_word_of : Command → Letters → List ℕ → Option Letters
+with_word_of command letters word =
+    if starts_with ◌==◌ word (codes "--") then with_long_word command letters (drop 2 word)
+    else with_letters command letters (drop 1 word)
 
 -- ---- the words after the command, from left to right
 
 -- what the words so far ask for, what the next word is for, and whether `--` was there: the lists of an `Asked`
 pub record SoFar : Type 0 where
   pub parts : Parts
+  pub symbols : SymbolOptions
   pub contents : List Wanted
   pub files : List (Bor (List ℕ))
   pub requirements : List Requirement
   pub is_json : Bool
+  pub is_recursive : Bool
   pub searches : List (Bor (List ℕ))
   pub has_cache : Bool
   pub root : Option (Bor (List ℕ))
@@ -162,10 +240,12 @@ pub record SoFar : Type 0 where
 abbrev pub so_far : Asked → SoFar
 so_far asked = record {
   parts = asked.parts;
+  symbols = asked.symbols;
   contents = asked.contents.items;
   files = asked.files.items;
   requirements = asked.requirements.items;
   is_json = asked.is_json;
+  is_recursive = asked.is_recursive;
   searches = asked.searches.items;
   has_cache = asked.has_cache;
   root = asked.root;
@@ -176,10 +256,12 @@ so_far asked = record {
 abbrev pub nothing : SoFar
 nothing = record {
   parts = parts_all false;
+  symbols = no_options;
   contents = [];
   files = [];
   requirements = [];
   is_json = false;
+  is_recursive = false;
   searches = [];
   has_cache = true;
   root = None;
@@ -196,6 +278,7 @@ kind_of word has_ended =
     if is_file word has_ended then File
     else if bytes_eq word (codes "--help") then Help
     else if bytes_eq word (codes "--json") then Json
+    else if bytes_eq word (codes "-R") || bytes_eq word (codes "--recursive") then Recursive
     else if bytes_eq word (codes "--") then End
     else Options
 
@@ -210,10 +293,19 @@ abbrev pub awaited_form : Option Form → Bor (List ℕ) → Awaited
 awaited_form None word = Nothing
 awaited_form (Some form) word = Section form word
 
-abbrev pub with_list : SoFar → Bor (List ℕ) → Option Letters → Step
-with_list asked word None = wrong (NotOption ListCommand word)
-with_list asked word (Some letters) =
-    next (record asked { parts = letters.parts; awaited = awaited_form letters.form word })
+abbrev pub with_found : Command → SoFar → Bor (List ℕ) → Option Letters → Step
+with_found command asked word None = wrong (NotOption command word)
+with_found command asked word (Some letters) =
+    next (record asked {
+      parts = letters.parts;
+      symbols = letters.symbols;
+      awaited = awaited_form letters.form word;
+    })
+
+abbrev pub with_listed : Command → SoFar → Bor (List ℕ) → Step
+with_listed command asked word =
+    with_found command asked word
+    (with_word_of command (record { parts = asked.parts; symbols = asked.symbols; form = None }) word.now)
 
 -- the options of `tree` and `bindings`: a folder to search, or the one of the files, is the next word
 abbrev pub with_search : Command → SoFar → Bor (List ℕ) → Step
@@ -229,10 +321,11 @@ with_require asked word =
     if bytes_eq word.now (codes "--require") then next (record asked { awaited = Requirements word })
     else wrong (NotOption Harden word)
 
--- any other command has no options but --json and --help
+-- any other command has no options but --json, --recursive and --help
 abbrev pub with_options : Command → SoFar → Bor (List ℕ) → Step
-with_options ListCommand asked word =
-    with_list asked word (with_letters (record { parts = asked.parts; form = None }) (drop 1 word.now))
+with_options ListCommand asked word = with_listed ListCommand asked word
+with_options Symbols asked word = with_listed Symbols asked word
+with_options Exports asked word = with_listed Exports asked word
 with_options Tree asked word = with_search Tree asked word
 with_options Bindings asked word = with_search Bindings asked word
 with_options Harden asked word = with_require asked word
@@ -242,6 +335,7 @@ abbrev pub with_word : Word → Command → SoFar → Bor (List ℕ) → Step
 with_word File command asked word = next (record asked { files = asked.files ++ word ∷ [] })
 with_word Help command asked word = helps
 with_word Json command asked word = next (record asked { is_json = true })
+with_word Recursive command asked word = next (record asked { is_recursive = true })
 with_word End command asked word = next (record asked { has_ended = true })
 with_word Options command asked word = with_options command asked word
 
@@ -357,8 +451,10 @@ run_on command asked files addresses = Ok (run (record {
   contents = asked.contents;
   files = files;
   addresses = addresses;
+  symbols = asked.symbols;
   requirements = asked.requirements;
   is_json = asked.is_json;
+  is_recursive = asked.is_recursive;
   searches = asked.searches;
   has_cache = asked.has_cache;
   root = asked.root;
@@ -403,15 +499,28 @@ after command asked (word ∷ words) = elim (step command asked word) [
   | wrong error ↦ Err error
 ]
 
+abbrev pub unknown : Bor (List ℕ) → WordError
+unknown word = NotCommand word (nearest word.now)
+
+abbrev pub helped_for : Bor (List ℕ) → Option Command → Result Answer WordError
+helped_for word None = Err (unknown word)
+helped_for word (Some command) = Ok (help (Some command))
+
+-- of a command, if there is a word
+abbrev pub helped : List (Bor (List ℕ)) → Result Answer WordError
+helped [] = Ok (help None)
+helped (word ∷ words) = helped_for word (command_of word.now)
+
 abbrev pub parsed_for : Bor (List ℕ) → Option Command → List (Bor (List ℕ)) → Result Answer WordError
-parsed_for first None words = Err (NotCommand first)
+parsed_for first None words = Err (unknown first)
 parsed_for first (Some command) words = after command nothing words
 
 -- by the first word
 abbrev pub parsed_from : Bor (List ℕ) → List (Bor (List ℕ)) → Result Answer WordError
 parsed_from first words =
-    if bytes_eq first.now (codes "--help") then Ok (help None)
-    else if bytes_eq first.now (codes "--version") then Ok version
+    if bytes_eq first.now (codes "--help") || bytes_eq first.now (codes "-h") then Ok (help None)
+    else if bytes_eq first.now (codes "--version") || bytes_eq first.now (codes "-V") then Ok version
+    else if bytes_eq first.now (codes "help") then helped words
     else parsed_for first (command_of first.now) words
 
 abbrev pub parsed : List (Bor (List ℕ)) → Result Answer WordError

@@ -2,14 +2,15 @@
 ghost use Rattle.nugwier_words.specs.Words.{IsParsed, IsStep, answer_of, awaited_form, finished, has_part, kind_of};
 ghost use Rattle.nugwier_words.specs.Words.{listed_parts, nothing, run_on, so_far, step, with_addresses, with_files};
 ghost use Rattle.nugwier_words.specs.Words.{with_folder, with_options, with_requirements, with_root, with_search};
-ghost use Rattle.nugwier_words.specs.Words.{with_section, with_word};
+ghost use Rattle.nugwier_words.specs.Words.{with_listed, with_section, with_word, with_word_of};
 ghost use Rattle.std.specs.Prelude.{◌≡◌, Ok, drop, take};
 
 use crate::address::parse_addresses;
-use crate::letters::add_letters;
+use crate::letters::{Letters, add_letters, add_long_word};
 use crate::requirements::add_requirements;
 use crate::words::{Command, Form, Job, Parts, Request, Wanted, WordError};
 use nugwier_report::hardening::Requirement;
+use nugwier_report::symbol_options::SymbolOptions;
 use std::alloc::Global;
 
 // What a word after the command is.
@@ -17,6 +18,7 @@ enum Word {
     File,
     Help,
     Json,
+    Recursive,
     // After this word all are files.
     End,
     Options,
@@ -37,10 +39,12 @@ pub(crate) enum Awaited<'a> {
 pub(crate) struct Asked<'a> {
     alloc: Global,
     parts: Parts,
+    symbols: SymbolOptions,
     contents: Vec<Wanted<'a>>,
     files: Vec<&'a str>,
     requirements: Vec<Requirement>,
     is_json: bool,
+    is_recursive: bool,
     searches: Vec<&'a str>,
     has_cache: bool,
     root: Option<&'a str>,
@@ -56,10 +60,12 @@ impl<'a> Asked<'a> {
         Asked {
             alloc,
             parts: Parts::each(false),
+            symbols: SymbolOptions::none(),
             contents: Vec::new(alloc),
             files: Vec::new(alloc),
             requirements: Vec::new(alloc),
             is_json: false,
+            is_recursive: false,
             searches: Vec::new(alloc),
             has_cache: true,
             root: None,
@@ -124,6 +130,7 @@ impl<'a> Asked<'a> {
             Word::File => self.files.push(word)?,
             Word::Help => return Ok(true),
             Word::Json => self.is_json = true,
+            Word::Recursive => self.is_recursive = true,
             Word::End => self.has_ended = true,
             Word::Options => return self.add_options(command, word),
         }
@@ -134,20 +141,28 @@ impl<'a> Asked<'a> {
         ensures { IsStep (with_options command (so_far self.old) word.entry) (so_far self.new) result }
     {
         match command {
-            Command::List => self.add_letters(word),
+            Command::List | Command::Symbols | Command::Exports => {
+                self.add_letters(command, word)
+            }
             Command::Tree | Command::Bindings => self.add_search(command, word),
             Command::Harden => self.add_require(word),
             _ => Err(WordError::Option(command, word)),
         }
     }
 
-    fn add_letters(&mut self, word: &'a str) -> Result<bool, WordError<'a>>
-        ensures { IsStep (with_options Command.List (so_far self.old) word.entry) (so_far self.new) result }
+    fn add_letters(&mut self, command: Command, word: &'a str) -> Result<bool, WordError<'a>>
+        ensures { IsStep (with_listed command (so_far self.old) word.entry) (so_far self.new) result }
     {
-        let Some(letters) = add_letters(self.parts, after_first(word.as_bytes())) else {
-            return Err(WordError::Option(Command::List, word));
+        let letters = Letters {
+            parts: self.parts,
+            symbols: self.symbols,
+            form: None,
+        };
+        let Some(letters) = options_in(command, letters, word) else {
+            return Err(WordError::Option(command, word));
         };
         self.parts = letters.parts;
+        self.symbols = letters.symbols;
         self.awaited = awaited_form(letters.form, word);
         Ok(false)
     }
@@ -221,11 +236,13 @@ impl<'a> Asked<'a> {
         Request::Run(Job {
             command,
             parts: listed_parts(self.parts, &self.contents),
+            symbols: self.symbols,
             contents: self.contents,
             files: self.files,
             addresses,
             requirements: self.requirements,
             is_json: self.is_json,
+            is_recursive: self.is_recursive,
             searches: self.searches,
             has_cache: self.has_cache,
             root: self.root,
@@ -243,8 +260,19 @@ fn kind_of(word: &str, has_ended: bool) -> Word
     match word {
         "--help" => Word::Help,
         "--json" => Word::Json,
+        "-R" | "--recursive" => Word::Recursive,
         "--" => Word::End,
         _ => Word::Options,
+    }
+}
+
+// What a word of letters or a long word adds to these.
+fn options_in(command: Command, letters: Letters, word: &str) -> Option<Letters>
+    ensures { result ≡ with_word_of command letters word.now }
+{
+    match word.strip_prefix("--") {
+        Some(long) => add_long_word(command, letters, long),
+        None => add_letters(command, letters, after_first(word.as_bytes())),
     }
 }
 

@@ -13,9 +13,9 @@ nugwier lists what an ELF file holds.
 usage: nugwier COMMAND [OPTION..] FILE..
 
   list        the headers, the tables and the contents of a file
-  symbols     the symbols for dynamic linking, with their versions
+  symbols     the symbols, as nm lists them
   needed      the file's own name, the libraries that it needs, and where they are looked for
-  exports     the functions that a file defines for others, with their versions
+  exports     the functions and the data that a file defines for others, with their versions
   build-id    the build id
   plan        what a loader maps into memory, and where
   check       whether a file is sound, or its faults
@@ -24,12 +24,16 @@ usage: nugwier COMMAND [OPTION..] FILE..
   tree        the libraries that a program loads, and the files that are found for them
   bindings    what the symbols of a program and of its libraries bind to
 
-  COMMAND --help    how the command is called
+  COMMAND --help    how the command is called, also help COMMAND
   COMMAND --json    an object of JSON for each record, one a line, in place of lines for people
+  COMMAND -R        of a FILE that is a folder, the ELF files below it (or --recursive)
   --version         the version of nugwier
 
 FILE is a path, or - for standard input. Of several files each has a heading. What cannot be read is told on
 standard error with the file's name, and the rest is still listed.
+
+With -R regular files below a folder that begin as ELF files do are listed as if they were named, in the order of their
+names. Others are passed over, archives too, and links below the folder are not followed.
 
 Exit status: 0 if all was read; 1 if a file, or a part of it, is missing, cannot be read or is wrong; 2 if the words are
 wrong.";
@@ -52,14 +56,30 @@ Lists the parts of a file that the options name; without options, all of -a.
   -x SECTION   the bytes of a section, by its name or its number
   -p SECTION   the strings of a section, by its name or its number
   --json       an object of JSON for each record, one a line, in place of lines for people
+  -R           of a FILE that is a folder, the ELF files below it
 
 Letters may stand together, as in -hSl. After -- each word is a file.";
 
 const SYMBOLS: &str = "\
-usage: nugwier symbols [--json] FILE..
+usage: nugwier symbols [OPTION..] FILE..
 
-Lists the symbols for dynamic linking in the order of their table: the value, a letter, and NAME@VERSION, or
-NAME@@VERSION of a default version. The letter is in lower case if the symbol is local:
+Lists the symbols of a file, as nm does, in the order of their table; of a stripped file those for dynamic linking: the
+value, a letter, and the name. Symbols for dynamic linking have a version, as NAME@VERSION, or NAME@@VERSION of a
+default version. Symbols that stand for sections and files are left out.
+
+  -D, --dynamic         only the symbols for dynamic linking
+  -g, --extern-only     only those that other files can see
+  -u, --undefined-only  only undefined ones
+      --defined-only    only defined ones
+  -n, --numeric-sort    in the order of their values, undefined ones first
+      --size-sort       in the order of their sizes, which stand in the place of values; only defined ones with a size
+  -p, --no-sort         in the order of the table
+  -S, --print-size      the size after the value, if it is not 0
+  -P, --format=posix    as POSIX has it: name, letter, value and size
+  -R, --recursive       of a FILE that is a folder, the ELF files below it
+      --json            an object of JSON for each record, one a line, in place of lines for people
+
+Letters may stand together, as in -gu. After -- each word is a file. A letter is in lower case if the symbol is local:
 
   T  code                     V, v  a weak object, defined or not
   D  data that is written     W, w  another weak symbol, defined or not
@@ -70,29 +90,31 @@ NAME@@VERSION of a default version. The letter is in lower case if the symbol is
   ?  of no section";
 
 const NEEDED: &str = "\
-usage: nugwier needed [--json] FILE..
+usage: nugwier needed [--json] [-R] FILE..
 
 Lists the file's own name (soname), the libraries that it needs (needed) and where they are looked for (rpath, runpath),
 in the order of the dynamic entries.";
 
 const EXPORTS: &str = "\
-usage: nugwier exports [--json] FILE..
+usage: nugwier exports [--json] [-R] [--functions] FILE..
 
-Lists the functions that a file defines for others, as NAME@VERSION, or NAME@@VERSION of a default version.";
+Lists the functions and the data that a file defines for others, as NAME@VERSION, or NAME@@VERSION of a default version.
+
+  --functions  the functions alone";
 
 const BUILD_ID: &str = "\
-usage: nugwier build-id [--json] FILE..
+usage: nugwier build-id [--json] [-R] FILE..
 
 Prints the build id, which the notes of a file hold, in hexadecimal.";
 
 const PLAN: &str = "\
-usage: nugwier plan [--json] FILE..
+usage: nugwier plan [--json] [-R] FILE..
 
 Lists what a loader maps: the addresses, the bytes of the file that are there, and the permissions. The rest of the
 memory is 0. Tells why, if a file cannot be mapped so.";
 
 const CHECK: &str = "\
-usage: nugwier check [--json] FILE..
+usage: nugwier check [--json] [-R] FILE..
 
 Prints FILE: sound if all that the headers of a file declare can be read: the sections and their names, symbols,
 strings, relocations, hash tables, notes, dynamic entries, versions and segments. Otherwise tells its faults on standard
@@ -100,7 +122,7 @@ error, one a line with the file's name: the first one of each section, of each s
 have no headings.";
 
 const HARDEN: &str = "\
-usage: nugwier harden [--json] [--require LIST] FILE..
+usage: nugwier harden [--json] [-R] [--require LIST] FILE..
 
 Prints how each file is hardened against attacks, in one line:
 
@@ -123,14 +145,14 @@ A dash stands for what is not known, and for no path. Files have no headings.
                   runpath (no unsafe folder), ibt, shstk, bti, pac, stripped; the words have commas between them";
 
 const ADDRESS: &str = "\
-usage: nugwier address [--json] FILE ADDRESS..
+usage: nugwier address [--json] [-R] FILE ADDRESS..
 
 Prints, for each address, NAME+DISTANCE of the last symbol of a function or a variable that starts there or before, and
 says so if the address lies past its end. An address is in hexadecimal, with or without 0x. The symbols are those of
 list -s or, if the file has none, those for dynamic linking.";
 
 const TREE: &str = "\
-usage: nugwier tree [--json] [--search FOLDER].. [--root FOLDER] [--no-cache] FILE..
+usage: nugwier tree [--json] [-R] [--search FOLDER].. [--root FOLDER] [--no-cache] FILE..
 
 Prints the program, and below it each library that it loads: the name by which it is needed, and the path of the file
 that is found, or 'not found'. A library stands below the one that needs it first. Nothing is run.
@@ -145,7 +167,7 @@ usual folders of its machine, such as /lib/x86_64-linux-gnu, /lib64 and /usr/lib
 path. LD_LIBRARY_PATH and ld.so.conf are not read.";
 
 const BINDINGS: &str = "\
-usage: nugwier bindings [--json] [--search FOLDER].. [--root FOLDER] [--no-cache] FILE..
+usage: nugwier bindings [--json] [-R] [--search FOLDER].. [--root FOLDER] [--no-cache] FILE..
 
 Prints what the symbols of a program and of the libraries that it loads bind to, as the dynamic linker binds them.
 Nothing is run. The libraries are those of tree, with the same options. Under the path of each file there is a line for

@@ -1,30 +1,41 @@
-//! The options of `list`, a letter each.
-ghost use Rattle.nugwier_words.specs.Words.{with_letter, with_letters, with_part};
+//! Options that ask for what is listed: letters, which may stand together in a word, and long words.
+ghost use Rattle.nugwier_words.specs.Words.{long_word, with_export_word, with_letter, with_letters, with_part};
+ghost use Rattle.nugwier_words.specs.Words.{with_list_letter, with_long_word, with_symbol_word};
 ghost use Rattle.std.specs.Prelude.{◌≡◌};
 
-use crate::words::{Form, Parts};
+use crate::words::{Command, Form, Parts};
+use nugwier_report::symbol_options::{Extent, SymbolOptions, SymbolOrder};
 
-/// What letters ask for. After the letters of `form`, the next word is a section.
+/// What options ask for. After the letters of `form`, the next word is a section.
 #[derive(Clone, Copy)]
 pub(crate) struct Letters {
     pub parts: Parts,
+    pub symbols: SymbolOptions,
     pub form: Option<Form>,
 }
 
-/// Adds the letters of a word to the parts. Returns `None` if one is no option, or stands after one that needs a
+/// Adds the letters of a word. Returns `None` if one is no option of the command, or stands after one that needs a
 /// section.
-pub(crate) fn add_letters(parts: Parts, word: &[u8]) -> Option<Letters>
-    ensures { result ≡ with_letters (record { parts = parts; form = None }) word.now }
+pub(crate) fn add_letters(command: Command, mut letters: Letters, word: &[u8]) -> Option<Letters>
+    ensures { result ≡ with_letters command letters word.now }
 {
-    let mut letters = Letters { parts, form: None };
     for letter in word {
-        letters = add_letter(letters, *letter)?;
+        letters = add_letter(command, letters, *letter)?;
     }
     Some(letters)
 }
 
-fn add_letter(mut letters: Letters, letter: u8) -> Option<Letters>
-    ensures { result ≡ with_letter letters letter }
+fn add_letter(command: Command, letters: Letters, letter: u8) -> Option<Letters>
+    ensures { result ≡ with_letter command letters letter }
+{
+    match command {
+        Command::List => add_list_letter(letters, letter),
+        _ => add_long_word(command, letters, long_word(letter)),
+    }
+}
+
+fn add_list_letter(mut letters: Letters, letter: u8) -> Option<Letters>
+    ensures { result ≡ with_list_letter letters letter }
 {
     if letters.form.is_some() {
         return None;
@@ -54,4 +65,63 @@ fn add_part(mut parts: Parts, letter: u8) -> Option<Parts>
         _ => return None,
     }
     Some(parts)
+}
+
+// The long word that a letter of `symbols` stands for; an empty one if it is none.
+#[tactic(auto, unfolding(crate::specs::Words::long_word))]
+fn long_word(letter: u8) -> &'static str
+    ensures { result.now ≡ long_word letter }
+{
+    match letter {
+        b'D' => "dynamic",
+        b'g' => "extern-only",
+        b'n' => "numeric-sort",
+        b'p' => "no-sort",
+        b'P' => "format=posix",
+        b'S' => "print-size",
+        b'u' => "undefined-only",
+        _ => "",
+    }
+}
+
+/// Adds a long word, from which the two hyphens are taken. Returns `None` if it is no option of the command.
+pub(crate) fn add_long_word(command: Command, letters: Letters, word: &str) -> Option<Letters>
+    ensures { result ≡ with_long_word command letters word.now }
+{
+    let symbols = match command {
+        Command::Symbols => add_symbol_word(letters.symbols, word)?,
+        Command::Exports => add_export_word(letters.symbols, word)?,
+        _ => return None,
+    };
+    Some(Letters { symbols, ..letters })
+}
+
+// Of the options that exclude each other the last one counts.
+#[tactic(auto, unfolding(crate::specs::Words::with_symbol_word))]
+fn add_symbol_word(mut symbols: SymbolOptions, word: &str) -> Option<SymbolOptions>
+    ensures { result ≡ with_symbol_word symbols word.now }
+{
+    match word {
+        "dynamic" => symbols.is_dynamic = true,
+        "extern-only" => symbols.is_external = true,
+        "undefined-only" => symbols.extent = Extent::Undefined,
+        "defined-only" => symbols.extent = Extent::Defined,
+        "no-sort" => symbols.order = SymbolOrder::Table,
+        "numeric-sort" => symbols.order = SymbolOrder::Value,
+        "size-sort" => symbols.order = SymbolOrder::Size,
+        "print-size" => symbols.has_sizes = true,
+        "format=posix" => symbols.is_portable = true,
+        _ => return None,
+    }
+    Some(symbols)
+}
+
+fn add_export_word(mut symbols: SymbolOptions, word: &str) -> Option<SymbolOptions>
+    ensures { result ≡ with_export_word symbols word.now }
+{
+    match word {
+        "functions" => symbols.functions_only = true,
+        _ => return None,
+    }
+    Some(symbols)
 }

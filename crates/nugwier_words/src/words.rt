@@ -1,12 +1,13 @@
 //! What the words of a command line ask for.
-ghost use Rattle.nugwier_words.specs.Words.{IsParsed, after, command_of, nothing, parsed, parsed_from, parts_all};
-ghost use Rattle.nugwier_words.specs.Words.{word_of};
+ghost use Rattle.nugwier_words.specs.Words.{IsParsed, after, command_of, helped, is_like, is_near, nearest, nothing};
+ghost use Rattle.nugwier_words.specs.Words.{parsed, parsed_from, parts_all, word_of};
 ghost use Rattle.nugwier_words.specs.declared.words.WordError.TheVariants.{Memory as IsMemory};
 ghost use Rattle.std.specs.Prelude.{◌≡◌};
 
 use crate::asked::Asked;
 use nugwier_report::escape::Escaped;
 use nugwier_report::hardening::Requirement;
+use nugwier_report::symbol_options::SymbolOptions;
 use std::alloc::{AllocError, AllocFailed, Global};
 use std::error::Error;
 use std::fmt;
@@ -131,10 +132,14 @@ pub struct Job<'a> {
     pub files: Vec<&'a str>,
     /// The addresses for `address`.
     pub addresses: Vec<u64>,
+    /// The options of `symbols` and `exports`.
+    pub symbols: SymbolOptions,
     /// What `harden` requires of each file.
     pub requirements: Vec<Requirement>,
     /// Whether records are listed as objects of JSON.
     pub is_json: bool,
+    /// Whether the ELF files below a folder are listed.
+    pub is_recursive: bool,
     /// The folders in which `tree` and `bindings` search for libraries, before the usual ones.
     pub searches: Vec<&'a str>,
     /// Whether they take libraries that the linker's cache lists.
@@ -156,8 +161,8 @@ pub enum Request<'a> {
 #[derive(Debug, Clone, Copy)]
 pub enum WordError<'a> {
     NoCommand,
-    /// The word is no command.
-    Command(&'a str),
+    /// The word is no command, but it may mean this one.
+    Command(&'a str, Option<Command>),
     /// The command has no such option.
     Option(Command, &'a str),
     /// The option of `list` needs a section.
@@ -183,9 +188,16 @@ impl fmt::Display for WordError<'_> {
     fn fmt<W: fmt::Write>(&self, f: &mut fmt::Formatter<W>) -> fmt::Result {
         match self {
             WordError::NoCommand => f.write_str("nugwier: no command; see nugwier --help"),
-            WordError::Command(word) => {
+            WordError::Command(word, None) => {
                 let word = Escaped(word.as_bytes());
                 write!(f, "nugwier: unknown command '{word}'; see nugwier --help")
+            }
+            WordError::Command(word, Some(command)) => {
+                let word = Escaped(word.as_bytes());
+                write!(
+                    f,
+                    "nugwier: unknown command '{word}', did you mean '{command}'? see nugwier --help"
+                )
             }
             WordError::Option(command, word) => {
                 let word = Escaped(word.as_bytes());
@@ -263,7 +275,7 @@ impl<'a, T: Drop> From<AllocFailed<T>> for WordError<'a> {
 
 /// Returns what the words, the arguments after the program's name, ask for.
 ///
-/// Errors, in order: `NoCommand` without words; `Command` if the first word is no command; then, of the first word
+/// Errors, in order: `NoCommand` without words; `Command` if the first word, or the one after `help`, is no command; then, of the first word
 /// that is wrong, `Option`, `Requirement`, `NoSection`, `NoFolder` or `NoList`; `NoFile` if no word is a file; of
 /// `address`, `Address` for the first word after the file that is no address, and `NoAddress` if there is no such word.
 /// `Memory` if an allocation failed.
@@ -284,12 +296,26 @@ fn parse_from<'a>(
     ensures { IsParsed (parsed_from first.entry words.now) result }
 {
     match first {
-        "--help" => Ok(Request::Help(None)),
-        "--version" => Ok(Request::Version),
+        "--help" | "-h" => Ok(Request::Help(None)),
+        "--version" | "-V" => Ok(Request::Version),
+        "help" => parse_help(words),
         word => match parse_command(word) {
             Some(command) => parse_rest(alloc, command, words),
-            None => Err(WordError::Command(word)),
+            None => Err(WordError::Command(word, nearest(word))),
         },
+    }
+}
+
+// Of `help` with a command, that command's help.
+fn parse_help<'a>(words: &[&'a str]) -> Result<Request<'a>, WordError<'a>>
+    ensures { IsParsed (helped words.now) result }
+{
+    let [word, ..] = words else {
+        return Ok(Request::Help(None));
+    };
+    match parse_command(*word) {
+        Some(command) => Ok(Request::Help(Some(command))),
+        None => Err(WordError::Command(*word, nearest(*word))),
     }
 }
 
@@ -301,6 +327,42 @@ fn parse_command(word: &str) -> Option<Command>
         .iter()
         .copied()
         .find(|command| command.word() == word)
+}
+
+// The first command that a word with an error may mean.
+#[tactic(auto, unfolding(crate::specs::Words::nearest))]
+fn nearest(word: &str) -> Option<Command>
+    ensures { result ≡ nearest word.now }
+{
+    let word = word.as_bytes();
+    COMMANDS
+        .iter()
+        .copied()
+        .find(|command| is_like(word, command.word().as_bytes()))
+}
+
+// Whether a word begins another one, or is it but for one letter.
+fn is_like(word: &[u8], other: &[u8]) -> bool
+    ensures { result ≡ is_like word.now other.now }
+{
+    is_near(word, other) || !word.is_empty() && other.starts_with(word)
+}
+
+// Whether one letter at the most is left out, added or changed.
+fn is_near(word: &[u8], other: &[u8]) -> bool
+    ensures { result ≡ is_near word.now other.now }
+{
+    match (word, other) {
+        ([], _) => other.len() < 2,
+        ([_, rest @ ..], []) => rest.is_empty(),
+        ([first, rest @ ..], [letter, others @ ..]) => {
+            if *first == *letter {
+                is_near(rest, others)
+            } else {
+                rest == others || rest == other || word == others
+            }
+        }
+    }
 }
 
 fn parse_rest<'a>(

@@ -61,7 +61,7 @@ unfolding name_section
 names_alone little s bytes = refl
 
 -- the ranges hang on the headers alone
-ranges_alone : {E : Type 0} (little : E → Bool) (s : StreamView E) (bytes : List ℕ) (m : Method) → requested_ranges m (headers_alone little s) ≡ requested_ranges m (stream_file little s bytes)
+pub ranges_alone : {E : Type 0} (little : E → Bool) (s : StreamView E) (bytes : List ℕ) (m : Method) → requested_ranges m (headers_alone little s) ≡ requested_ranges m (stream_file little s bytes)
 ranges_alone little s bytes SectionHeadersWithStrtab = ap (if_chosen whole_section) (names_alone little s bytes)
 ranges_alone little s bytes (SectionHeaderByName name) = ap (if_chosen whole_section) (names_alone little s bytes)
 ranges_alone little s bytes m = refl

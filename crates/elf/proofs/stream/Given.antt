@@ -1,13 +1,12 @@
 -- What a read of a range says of its size and of its error, and when a load is refused.
-use Rattle.std.proofs.Common.{◌≡◌, ℕ, ◌+◌, ◌<◌, ◌≤◌, Bool, List, length, take, drop, refl, sym, ap, arith, subst, Option, Some, None, IfSome}
-use Rattle.std.specs.Prelude.{◌^◌, Result, Ok, Err, IfErr, IfOk, IsErr, IsOk, is_ok}
+use Rattle.std.proofs.Common.{◌≡◌, ℕ, ◌≤◌, List, length, drop, sym, arith, subst}
+use Rattle.std.specs.Prelude.{Result, Ok, Err, IfErr, IfOk}
 use Rattle.std.proofs.lemmas.List.{length-take}
 use Rattle.elf_records.specs.Number.{bytes_at, ok_map}
 use Rattle.elf_records.specs.declared.parse.ParseError.{ParseError}
 use Rattle.elf_records.specs.inner.RecordLaws.{bytes_at-ok}
-use Rattle.elf_reading.specs.Refusals.{HasReason, IsAnswer, Kind, kind}
+use Rattle.elf_reading.specs.Refusals.{Kind, kind}
 use Rattle.elf_reading.proofs.steps.Chains.{IsPlain}
-use Rattle.elf_reading.proofs.steps.Ranges.{read_is_within, read_within, refused_not, refused_so}
 
 pub given_size : {T : Type 0} (shown : T → List ℕ) (r : Result T ParseError) (size start : ℕ) (bytes : List ℕ) → ok_map shown r ≡ bytes_at size bytes start → IfOk r (λ x. length (shown x) ≤ size)
 given_size shown (Ok x) size start bytes h =

@@ -1,6 +1,6 @@
 -- What a call leaves that loads the ranges that it requests, and then reads what is loaded.
 use Rattle.std.proofs.Common.{◌≡◌, ℕ, ◌≤◌, ◌==◌, Bool, true, false, List, [], ◌∷◌, length, Option, Some, None, Result, Ok, Err, IfSome, refl, sym, ap, ◌∙◌, subst, arith}
-use Rattle.std.specs.Prelude.{IfErr, IfOk, IsErr, IsOk, OnOk, if◌then◌else◌, is_err, is_ok}
+use Rattle.std.specs.Prelude.{IfErr, IfOk, IsErr, IsOk, if◌then◌else◌, is_err, is_ok}
 use Rattle.std.proofs.lemmas.Bool.Decides.{nat_tests}
 use Rattle.elf_records.specs.Number.{bytes_at, ok_map}
 use Rattle.elf_records.specs.declared.parse.ParseError.{ParseError}
@@ -12,7 +12,7 @@ use Rattle.elf_parts.specs.gnu_symver.Table.{Versions}
 use Rattle.elf_records.specs.declared.segment.ProgramHeader.{ProgramHeader}
 use Rattle.elf.specs.Answers.{segment_data_as_notes, symbol_version_table}
 use Rattle.elf.specs.Data.{content, content_of_type}
-use Rattle.elf.specs.ElfStream.{AreCached, IsFor, IsNeeded, Leaves, StreamView}
+use Rattle.elf.specs.ElfStream.{Leaves, StreamView}
 use Rattle.elf.specs.Loaded.{AreLoadedOf, loaded_ranges, streamed_file}
 use Rattle.elf.specs.ObjectFile.{FileOf, ObjectFile, Partial, err_map}
 use Rattle.elf.specs.Parts.{IsPlain, as_parse_error, loaded}

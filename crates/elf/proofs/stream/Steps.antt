@@ -1,5 +1,5 @@
 -- One load after another, and what a call leaves whose loads were refused.
-use Rattle.std.proofs.Common.{◌≡◌, ℕ, ◌+◌, ◌<◌, ◌||◌, ◌⊎◌, inl, inr, Bool, List, [], ◌∷◌, ◌++◌, map, refl, sym, ap, ◌∙◌, subst, Option, Some, None, IfSome}
+use Rattle.std.proofs.Common.{◌≡◌, ℕ, ◌+◌, ◌<◌, ◌||◌, ◌⊎◌, inl, inr, Bool, List, [], ◌∷◌, ◌++◌, map, refl, ap, ◌∙◌, subst, Option, Some, None, IfSome}
 use Rattle.std.specs.Prelude.{IsTrue, ◌^◌, Result, Ok, Err, IsOk, IfErr, OnOk, OnErr, is_ok, take, drop}
 use Rattle.std.proofs.lemmas.List.{map-append}
 use Rattle.std.proofs.lemmas.List.Folds.{list_any-append}
@@ -13,7 +13,7 @@ use Rattle.elf_reading.specs.Refusals.{IsAnswer}
 use Rattle.elf_reading.specs.Refusals.{IsRefused, Kind, kind}
 use Rattle.elf_reading.specs.Cache.{is_cached}
 use Rattle.elf_reading.proofs.Cached.{or_true}
-use Rattle.elf_reading.proofs.steps.Ranges.{not_ok, read_is_within, refused_not, refused_so}
+use Rattle.elf_reading.proofs.steps.Ranges.{not_ok, refused_not, refused_so}
 
 pub keeps_then : {E : Type 0} (old middle new : StreamView E) → Keeps old middle → Keeps middle new → Keeps old new
 keeps_then old middle new a b = record {

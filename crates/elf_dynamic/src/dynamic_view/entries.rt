@@ -104,8 +104,8 @@ pub fn value<E: EndianParse>(entries: &DynamicTable<'_, E>, tag: i64) -> Option<
     last_of(values(entries, tag))
 }
 
-// The value of a tag that some entry has to have.
-pub(crate) fn required<E: EndianParse>(
+/// Returns the value of a tag that some entry has to have, as `value` does. The error is `NoEntry(tag)`, if none has it.
+pub fn required<E: EndianParse>(
     entries: &DynamicTable<'_, E>,
     tag: i64,
 ) -> Result<u64, DynamicError>

@@ -67,8 +67,10 @@ fn segment_of<E: EndianParse, R: Reader<E>>(
     first_holding(file, address, size).ok_or(DynamicError::NotLoaded(address))
 }
 
-// The range of these addresses in the file, by its start and its size.
-pub(crate) fn part_of<E: EndianParse, R: Reader<E>>(
+/// Returns the range of these addresses in the file, by its start and its size.
+///
+/// The error is `NotLoaded(address)`, if no segment of type `PT_LOAD` has all of them in the file.
+pub fn part_of<E: EndianParse, R: Reader<E>>(
     file: &R,
     address: u64,
     size: u64,

@@ -1,5 +1,6 @@
 //! Libraries in memory, whose contents are known.
 ghost use Rattle.std.specs.Prelude.{◌≡◌, Some};
+ghost use Rattle.std.specs.Option.{option_map};
 ghost use Rattle.elf_linking.specs.Tree.{content_in};
 
 use crate::tree::Libraries;
@@ -28,6 +29,18 @@ impl<'a> MemLibraries<'a> {
     {
         MemLibraries { alloc, files }
     }
+
+    /// Returns the bytes of the file at a path, or `None` if there is none.
+    pub fn find(&self, path: &[u8]) -> Option<&'a [u8]>
+        ensures { option_map (λ bytes. bytes.now) result ≡ content_in (mem_files self.now) path.now }
+    {
+        for file in self.files {
+            if file.path == path {
+                return Some(file.bytes);
+            }
+        }
+        None
+    }
 }
 
 impl Libraries for MemLibraries<'_> {
@@ -36,11 +49,9 @@ impl Libraries for MemLibraries<'_> {
     ghost contents = { λ s. Some (content_in (mem_files s)) };
 
     fn read_library(&self, path: &[u8]) -> Result<Option<Vec<u8>>, AllocError> {
-        for file in self.files {
-            if file.path == path {
-                return Ok(Some(Vec::from_slice(self.alloc, file.bytes)?));
-            }
+        match self.find(path) {
+            Some(bytes) => Ok(Some(Vec::from_slice(self.alloc, bytes)?)),
+            None => Ok(None),
         }
-        Ok(None)
     }
 }

@@ -1,28 +1,13 @@
 -- Answers that are found step by step.
-use Rattle.std.proofs.Common.{◌≡◌, ℕ, ◌+◌, ◌-◌, ◌<◌, ◌≤◌, Bool, List, length, take, drop, refl, sym, ap, ◌∙◌, subst, arith, Option, Some, None, IfSome}
-use Rattle.std.specs.Prelude.{◌^◌, Result, Ok, Err, IsErr, is_err, IfOk, IfErr}
+use Rattle.std.proofs.Common.{◌≡◌, ℕ, ◌+◌, ◌<◌, ◌≤◌, Bool, List, length, take, drop, refl, sym, ap, ◌∙◌, subst, arith, Option, Some, None, IfSome}
+use Rattle.std.specs.Prelude.{◌^◌, Result, Ok, Err, IsErr, is_err, IfErr}
 use Rattle.elf_records.specs.Number.{bytes_at, ok_map}
 use Rattle.elf_records.specs.Record.{◌>>=◌}
 use Rattle.elf_records.specs.declared.parse.ParseError.{ParseError}
-use Rattle.elf_reading.specs.Refusals.{HasReason}
 use Rattle.elf_reading.specs.Refusals.{IsAnswer}
 use Rattle.elf_reading.specs.Refusals.{Kind, kind}
-use Rattle.elf_reading.proofs.steps.Ranges.{read_within, read_past}
+use Rattle.elf_reading.proofs.steps.Ranges.{read_within}
 use Rattle.elf_reading.proofs.steps.Ranges.{refused_so}
-
--- what a read of a range gives
-fetched : {T : Type 0} (bytes : List ℕ) (start size end before now : ℕ) (can_fail : Bool) (shown : T → List ℕ) (r : Result T ParseError) → start + size < 2 ^ 64 → end ≡ start + size → end ≤ length bytes
-    → IfOk r (λ v. shown v ≡ take (end - start) (drop start bytes)) → HasReason before now can_fail (length bytes < end) r → IsAnswer shown (bytes_at size bytes start) can_fail before now r
-fetched bytes start size end before now can_fail shown (Ok v) low to within same reason =
-    let long : end - start ≡ size = omega arith in
-    (reason, read_within bytes start size low (omega arith) ∙ ap Ok (ap (λ n. take n (drop start bytes)) (sym long) ∙ sym same))
-fetched bytes start size end before now can_fail shown (Err e) low to within same reason =
-    refused_so (kind e) (length bytes < end) _ before before now can_fail (λ past. read_past bytes start size (omega arith)) refl reason
-
-pub fetch_answered : {T : Type 0} (known : Option (List ℕ)) (len start size end before now : ℕ) (can_fail : Bool) (shown : T → List ℕ) (r : Result T ParseError) → IfSome known (λ bytes. len ≡ length bytes) → start + size < 2 ^ 64 → end ≡ start + size → end ≤ len
-    → IfOk r (λ v. IfSome known (λ bytes. shown v ≡ take (end - start) (drop start bytes))) → IfSome known (λ bytes. HasReason before now can_fail (length bytes < end) r) → IfSome known (λ bytes. IsAnswer shown (bytes_at size bytes start) can_fail before now r)
-fetch_answered None len start size end before now can_fail shown r whole low to within same reason = tt
-fetch_answered (Some bytes) len start size end before now can_fail shown r whole low to within same reason = fetched bytes start size end before now can_fail shown r low to (omega arith) same reason
 
 -- bytes that were read into room of their length
 pub array_answered : (known : Option (List ℕ)) (len start size end before now : ℕ) (can_fail : Bool) (room part : List ℕ) → IfSome known (λ bytes. len ≡ length bytes) → start + size < 2 ^ 64 → end ≡ start + size → end ≤ len → length room ≡ size

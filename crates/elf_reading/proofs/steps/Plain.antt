@@ -5,12 +5,10 @@ use Rattle.elf_records.specs.declared.parse.ParseError.TheVariants.{BadOffset, I
 use Rattle.std.specs.Prelude.{◌^◌, ◌==◌, nat_le, nat_lt, length, take, drop, Result, Ok, Err, IfErr, ok_or, if◌then◌else◌}
 use Rattle.elf_records.specs.File.{byte_in, class_of, ident_of, magic_in, order_of, version_in}
 use Rattle.elf_records.specs.Number.{bytes_at, number_at, ok_map}
-use Rattle.elf_records.specs.Record.{◌>>=◌, Field, Layout, field_value, numbers_at, record_by, size_by}
-use Rattle.elf_records.specs.Section.{section_header_layout, section_header_reads}
-use Rattle.elf_records.specs.Table.{Table, item_at}
+use Rattle.elf_records.specs.Record.{◌>>=◌, Field, Layout, field_value, numbers_at, record_by}
+use Rattle.elf_records.specs.Table.{item_at}
 use Rattle.elf_records.specs.declared.file.Class.{Class}
 use Rattle.elf_records.specs.declared.parse.ParseError.{ParseError}
-use Rattle.elf_records.specs.declared.section.SectionHeader.{SectionHeader}
 use Rattle.elf_reading.specs.Refusals.{Kind, kind}
 use Rattle.elf_reading.specs.Leading.{at_front}
 use Rattle.elf_reading.specs.Refusals.{IsNoAllocationFailure}

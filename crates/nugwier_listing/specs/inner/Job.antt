@@ -8,11 +8,9 @@ use Rattle.nugwier_listing.specs.Addresses.{AreSaidBy}
 use Rattle.nugwier_listing.specs.Check.{AreFoundSaid}
 use Rattle.nugwier_listing.specs.Identity.{identity_said}
 use Rattle.nugwier_listing.specs.Plan.{plan_said}
-use Rattle.nugwier_listing.specs.Segments.{segments_said}
-use Rattle.nugwier_listing.specs.Symbols.{all_said}
 use Rattle.nugwier_listing.specs.declared.job.JobTables.{JobTables}
-use Rattle.nugwier_listing.specs.declared.job.JobTables.TheVariants.{Address, BuildId, Check, Hardening, Linked, Listed}
-use Rattle.nugwier_listing.specs.declared.job.JobTables.TheVariants.{Needed, Nothing, Plan}
+use Rattle.nugwier_listing.specs.declared.job.JobTables.TheVariants.{Address, BuildId, Check, Hardening, Listed}
+use Rattle.nugwier_listing.specs.declared.job.JobTables.TheVariants.{Needed, Nothing, Plan, Symbols}
 use Rattle.nugwier_listing.specs.declared.list.ListTables.{ListTables}
 use Rattle.nugwier_listing.specs.declared.list.PartTables.{PartTables}
 use Rattle.nugwier_listing.specs.declared.list.PartTables.TheVariants as part
@@ -22,21 +20,21 @@ use Rattle.nugwier_listing.specs.inner.Hardening.{tables_said as hardening_said}
 use Rattle.nugwier_listing.specs.inner.Notes.{part_said as notes_said}
 use Rattle.nugwier_listing.specs.inner.Relocations.{tables_said}
 use Rattle.nugwier_listing.specs.inner.Sections.{taken_sections_said}
-use Rattle.nugwier_listing.specs.inner.Symbols.{linked_said}
+use Rattle.nugwier_listing.specs.inner.Segments.{tables_said as segments_said}
+use Rattle.nugwier_listing.specs.inner.Symbols.{table_said}
 use Rattle.nugwier_listing.specs.inner.VersionLists.{part_said as versions_said}
 use Rattle.nugwier_report.specs.Header.{header_said}
 use Rattle.nugwier_report.specs.Said.{Said}
 
 module _ {E : Type 0} (little : E → Bool) where
   unfoldable pub part_said : PartTables E → List Said
-  part_said (part.Header h) = header_said little h
+  part_said (part.Header h kind) = header_said little h kind
   part_said (part.Sections t) = taken_sections_said t
-  part_said (part.Segments machine segments) = segments_said machine segments.now
-  part_said (part.Symbols t) = all_said (ok_map (option_map symbols_view) t)
-  part_said (part.DynamicSymbols t) = linked_said t
+  part_said (part.Segments t) = segments_said t
+  part_said (part.Symbols t) = table_said t
   part_said (part.Dynamic t) = entries_said t
   part_said (part.Relocations t) = tables_said t
-  part_said (part.Notes t) = flat_map (notes_said little) t.items
+  part_said (part.Notes t) = flat_map notes_said t.items
   part_said (part.Versions t) = flat_map versions_said t.items
 
   unfoldable pub list_said : ListTables E → List Said
@@ -44,7 +42,7 @@ module _ {E : Type 0} (little : E → Bool) where
 
   abbrev pub IsTablesSaid : List ℕ → List ℕ → JobTables E → List Said → Type 0
   IsTablesSaid path addresses (Listed t) said = said ≡ list_said t
-  IsTablesSaid path addresses (Linked t) said = said ≡ linked_said t
+  IsTablesSaid path addresses (Symbols t) said = said ≡ table_said t
   IsTablesSaid path addresses (Needed t) said = said ≡ needed_said t
   IsTablesSaid path addresses (BuildId t) said = said ≡ identity_said (ok_map (option_map (λ id. id.now)) t)
   IsTablesSaid path addresses (Plan t) said = said ≡ plan_said (ok_map (λ plan. plan.items) t)

@@ -1,6 +1,7 @@
 use Rattle.std.proofs.Common.{◌≡◌, ap, ◌∙◌, sym, subst}
 use Rattle.nugwier_listing.specs.Hardening.{Hardened, hardened_said}
 use Rattle.nugwier_listing.specs.Job.{IsSaidBy, IsSaidOf}
+use Rattle.nugwier_listing.specs.Symbols.{AreExportsSaid, AreSymbolsSaid}
 use Rattle.nugwier_listing.specs.Whole.{file_of}
 use Rattle.nugwier_listing.specs.inner.Hardening.{tables_view}
 use Rattle.nugwier_report.specs.declared.hardening.Requirement.{Requirement}
@@ -23,3 +24,24 @@ returns-in_ok-take_hardening-in-Harden g c path said is =
     (is
     ∙ ap (λ (r : List Requirement). hardened_said path r (tables_view little tables)) clauses.requirements
     ∙ ap (λ (f : Hardened). hardened_said path task.requirements f) clauses.tables)
+
+-- what is said is what the tables say
+pub returns-in_ok-take_letters-in-Symbols : goal.returns-in_ok-take_letters-in-Symbols
+unfolding IsSaidOf
+returns-in_ok-take_letters-in-Symbols g c path said is =
+    let task = task_of c.args.job.now in
+    let header = g.R.ListedFile.header c.args.file.now in
+    let file = file_of (g.R.Headers.file c.args.file.now) (g.R.ListedFile.bytes c.args.file.now) in
+    subst (λ command. IsSaidBy g.E.EndianParse.little g.E.EndianParse.of_byte command task path header file said)
+    (sym c.in-Symbols.is)
+    (subst (λ (s : List Said). AreSymbolsSaid task.symbols file s) (sym is) c.in_ok-take_letters-in-Symbols.ensures)
+
+pub returns-in_ok-take_linked-in-Exports : goal.returns-in_ok-take_linked-in-Exports
+unfolding IsSaidOf
+returns-in_ok-take_linked-in-Exports g c path said is =
+    let task = task_of c.args.job.now in
+    let header = g.R.ListedFile.header c.args.file.now in
+    let file = file_of (g.R.Headers.file c.args.file.now) (g.R.ListedFile.bytes c.args.file.now) in
+    subst (λ command. IsSaidBy g.E.EndianParse.little g.E.EndianParse.of_byte command task path header file said)
+    (sym c.in-Exports.is)
+    (subst (λ (s : List Said). AreExportsSaid task.symbols file s) (sym is) c.in_ok-take_linked-in-Exports.ensures)

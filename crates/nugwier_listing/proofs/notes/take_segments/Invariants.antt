@@ -1,15 +1,16 @@
 use Rattle.std.proofs.Common.{◌≡◌, ◌++◌, drop}
 use Rattle.std.specs.List.{flat_map}
-use Rattle.nugwier_listing.specs.Notes.{segment_notes_in}
+use Rattle.nugwier_listing.specs.Notes.{after_segment, numbered_within, said_of_note_segments, segment_notes_in}
 use Rattle.nugwier_listing.specs.Whole.{file_of}
 use Rattle.nugwier_listing.specs.inner.Notes.{part_said}
-use Rattle.nugwier_report.specs.Said.{numbered}
 use Rattle.nugwier_listing.proofs.notes.take_segments.Given as goal
 
 -- what was taken so far, and then the segments that are left, is the whole
 abbrev pub invariant-loop-segment : goal.invariant-loop-segment
 invariant-loop-segment g l =
     let whole = file_of (g.R.Headers.file l.file) (g.R.ListedFile.bytes l.file) in
+    let machine = (g.R.ListedFile.header l.file).e_machine in
     (l.number ≡ l.segment-index)
-    × (flat_map (part_said g.E.EndianParse.little) l.parts.items ++ numbered (segment_notes_in whole) l.segment-index (drop l.segment-index l.segment-items)
-    ≡ numbered (segment_notes_in whole) 0 whole.segments)
+    × (flat_map part_said l.parts.items
+    ++ numbered_within (segment_notes_in machine whole) (after_segment whole) l.left l.segment-index (drop l.segment-index l.segment-items)
+    ≡ said_of_note_segments machine whole)

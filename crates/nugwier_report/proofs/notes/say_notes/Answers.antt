@@ -7,4 +7,4 @@ use Rattle.nugwier_report.proofs.notes.say_notes.Goals as goal
 
 pub returns : goal.returns
 returns g c =
-    given_by note_view notes_left (note_said c.args.part) c.args.notes (λ said. c.say_items.new.report ≡ saying c.args.report.now said) c.say_items.result c.say_items.ensures
+    given_by note_view notes_left (note_said c.args.file c.args.part) c.args.notes (λ said. c.say_items.new.report ≡ saying c.args.report.now said) c.say_items.result c.say_items.ensures

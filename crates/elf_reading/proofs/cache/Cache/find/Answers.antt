@@ -2,7 +2,6 @@ use Rattle.std.proofs.Common.{rules, arith, sym, ◌∙◌, ◌≡◌, true, fal
 use Rattle.std.specs.Prelude.{is_some}
 use Rattle.std.proofs.lemmas.Bool.Decides.{nat_tests}
 use Rattle.elf_reading.proofs.Cached.{last_cached, last_found, last_low, last_there, no_some, none_cached, none_found}
-use Rattle.elf_reading.specs.Cache.{covers, piece_of}
 use Rattle.elf_reading.proofs.cache.Cache.find.Goals as goal
 
 pub returns-clause-cached : goal.returns-clause-cached

@@ -5,8 +5,9 @@ use Rattle.elf_records.specs.StringTable.{string_at, strings_view}
 use Rattle.elf.specs.ElfBytes.{view}
 use Rattle.elf.specs.ObjectFile.{object_file}
 use Rattle.elf_check.specs.Segments.{EndsWithNul, segment_bytes}
-use Rattle.elf_check.proofs.SegmentsFound.{and_value, ok_of_shown, ok_of_some}
+use Rattle.elf_check.proofs.SegmentsFound.{and_value, ok_of_some}
 use Rattle.elf_check.proofs.SegmentsPaths.{path_read}
+use Rattle.elf_check.proofs.Tables.{ok_of_shown}
 use Rattle.elf_check.proofs.segments.whole.WholeSegments.path.Goals as goal
 
 pub unwrap-requires : goal.unwrap-requires

@@ -1,6 +1,6 @@
 use Rattle.std.proofs.Common.{◌≡◌, drop}
 use Rattle.elf_linking.specs.Tree.{content_in}
-use Rattle.elf_linking.proofs.tree.memory.MemLibrariesLibraries.read_library.Given as goal
+use Rattle.elf_linking.proofs.tree.memory.MemLibraries.find.Given as goal
 
 -- no file so far has the path
 abbrev pub invariant-loop-file : goal.invariant-loop-file

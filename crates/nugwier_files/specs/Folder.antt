@@ -1,0 +1,24 @@
+-- What is in a folder.
+use Rattle.std.specs.Prelude.{ℕ, List, map, Option, Some, None, string_bytes}
+use Rattle.std.specs.Option.{option_map}
+use Rattle.std.specs.Global.{Vec}
+use Rattle.nugwier_files.specs.declared.folder.Entry.{Entry}
+use Rattle.nugwier_files.specs.declared.folder.EntryKind.{EntryKind}
+
+-- a file or a folder by its path
+pub record Place : Type 0 where
+  pub path : List ℕ
+  pub kind : EntryKind
+
+abbrev pub place_of : Entry → Place
+place_of entry = record { path = string_bytes entry.path; kind = entry.kind }
+
+-- what is at a path: no folder, one that cannot be read, or one with these names
+pub data Folder : Type 0 where
+  none : Folder
+  unreadable : Folder
+  has : List Place → Folder
+
+abbrev pub folder_of : Option (Vec Entry) → Folder
+folder_of None = none
+folder_of (Some entries) = has (map place_of entries.items)

@@ -1,0 +1,175 @@
+//! The options of `symbols`, which are those of GNU `nm`: which symbols are listed, and how.
+ghost use Rattle.std.specs.Prelude.{◌≡◌};
+ghost use Rattle.nugwier_report.specs.SymbolOptions.{is_external, is_for_debuggers, is_of_extent, is_selected, is_sized};
+ghost use Rattle.nugwier_report.specs.SymbolOptions.{letter_kind, no_options, portable_kind, row_kind, shown_columns};
+
+use crate::kind::Kind;
+use elf_abi::abi;
+use elf_parts::file::Class;
+use elf_parts::symbol::Symbol;
+
+/// Which symbols are listed, by whether they are defined.
+#[derive(Debug, Clone, Copy)]
+pub enum Extent {
+    All,
+    Undefined,
+    Defined,
+}
+
+/// The order of symbols. Equal ones stay in the order of the table.
+#[derive(Debug, Clone, Copy)]
+pub enum SymbolOrder {
+    Table,
+    /// By value; undefined ones come first.
+    Value,
+    /// By size. Those without a size, and those that no section defines, are left out.
+    Size,
+}
+
+/// What the options ask for.
+#[derive(Debug, Clone, Copy)]
+pub struct SymbolOptions {
+    /// Only the symbols for dynamic linking.
+    pub is_dynamic: bool,
+    /// Only those that other files can see.
+    pub is_external: bool,
+    pub extent: Extent,
+    pub order: SymbolOrder,
+    /// The size stands after the value.
+    pub has_sizes: bool,
+    /// The form of POSIX: the name, the letter, the value and the size.
+    pub is_portable: bool,
+    /// Of exports the functions alone.
+    pub functions_only: bool,
+}
+
+// The numbers that a row shows before the letter.
+#[derive(Clone, Copy)]
+enum Columns {
+    Nothing,
+    Value,
+    Size,
+    Both,
+}
+
+impl SymbolOptions {
+    /// What is asked for without options.
+    pub fn none() -> SymbolOptions
+        ensures { result ≡ no_options }
+    {
+        SymbolOptions {
+            is_dynamic: false,
+            is_external: false,
+            extent: Extent::All,
+            order: SymbolOrder::Table,
+            has_sizes: false,
+            is_portable: false,
+            functions_only: false,
+        }
+    }
+
+    // Whether a symbol is listed. The first one is none.
+    pub(crate) fn selects(self, number: u64, symbol: &Symbol) -> bool
+        ensures { result ≡ is_selected self number symbol.now }
+    {
+        let is_seen = !self.is_external || is_external(symbol);
+        number != 0
+            && !is_for_debuggers(symbol)
+            && is_seen
+            && self.extent.has(symbol)
+            && self.order.has(symbol)
+    }
+
+    // The kind of a symbol's record, in a file of this class.
+    pub(crate) fn kind(self, class: Class, symbol: &Symbol) -> Kind
+        ensures { result ≡ row_kind self class symbol.now }
+    {
+        if self.is_portable {
+            portable_kind(symbol)
+        } else {
+            letter_kind(class, self.shown_columns(symbol))
+        }
+    }
+
+    fn shown_columns(self, symbol: &Symbol) -> Columns
+        ensures { result ≡ shown_columns self symbol.now }
+    {
+        if symbol.is_undefined() {
+            return Columns::Nothing;
+        }
+        if symbol.st_size == 0 {
+            return Columns::Value;
+        }
+        match (self.has_sizes, self.order) {
+            (true, _) => Columns::Both,
+            (false, SymbolOrder::Size) => Columns::Size,
+            (false, _) => Columns::Value,
+        }
+    }
+}
+
+impl Extent {
+    fn has(self, symbol: &Symbol) -> bool
+        ensures { result ≡ is_of_extent self symbol.now }
+    {
+        match self {
+            Extent::All => true,
+            Extent::Undefined => symbol.is_undefined(),
+            Extent::Defined => !symbol.is_undefined(),
+        }
+    }
+}
+
+impl SymbolOrder {
+    fn has(self, symbol: &Symbol) -> bool
+        ensures { result ≡ is_sized self symbol.now }
+    {
+        match self {
+            SymbolOrder::Table | SymbolOrder::Value => true,
+            SymbolOrder::Size => {
+                symbol.st_size != 0 && !symbol.is_undefined() && symbol.st_shndx != abi::SHN_ABS
+            }
+        }
+    }
+}
+
+// Whether it stands for a section or a file, which `nm` takes as for debuggers.
+fn is_for_debuggers(symbol: &Symbol) -> bool
+    ensures { result ≡ is_for_debuggers symbol.now }
+{
+    symbol.st_symtype() == abi::STT_SECTION || symbol.st_symtype() == abi::STT_FILE
+}
+
+fn is_external(symbol: &Symbol) -> bool
+    ensures { result ≡ is_external symbol.now }
+{
+    symbol.st_bind() != abi::STB_LOCAL
+}
+
+fn letter_kind(class: Class, columns: Columns) -> Kind
+    ensures { result ≡ letter_kind class columns }
+{
+    match (class, columns) {
+        (Class::ELF32, Columns::Nothing) => Kind::Undefined32,
+        (Class::ELF64, Columns::Nothing) => Kind::Undefined64,
+        (Class::ELF32, Columns::Value) => Kind::Symbol32,
+        (Class::ELF64, Columns::Value) => Kind::Symbol64,
+        (Class::ELF32, Columns::Size) => Kind::Size32,
+        (Class::ELF64, Columns::Size) => Kind::Size64,
+        (Class::ELF32, Columns::Both) => Kind::SizedSymbol32,
+        (Class::ELF64, Columns::Both) => Kind::SizedSymbol64,
+    }
+}
+
+// A size of 0 is left out.
+fn portable_kind(symbol: &Symbol) -> Kind
+    ensures { result ≡ portable_kind symbol.now }
+{
+    if symbol.is_undefined() {
+        Kind::PortableUndefined
+    } else if symbol.st_size == 0 {
+        Kind::Portable
+    } else {
+        Kind::PortableSized
+    }
+}
