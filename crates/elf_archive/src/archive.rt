@@ -48,7 +48,7 @@ impl fmt::Display for ArchiveError {
 #[derive(Debug, Clone, Copy)]
 pub struct Member<'a> {
     pub name: &'a [u8],
-    /// Where its header begins in the archive.
+    /// The offset of its header in the archive.
     pub offset: usize,
     /// Its content. A thin archive does not have it: the name is the path of the file, and a path that does not begin with a
     /// slash is relative to the folder of the archive.

@@ -19,7 +19,7 @@ next_place i size =
     let next : i + 1 ≡ suc i = omega arith in
     ap (λ (n : ℕ). n * size) next ∙ omega (arith, suc-mul i size)
 
--- the bytes that are left, where there are enough for a record, begin with its own bytes
+-- the bytes that are left, if they are enough for a record, begin with its own bytes
 pub room : (bytes left : List ℕ) (place size : ℕ) → place ≤ length bytes → left ≡ drop place bytes → size ≤ length left →
     place + size ≤ length bytes
 room bytes left place size within is fits = omega (arith, ap length is, length-drop place bytes)

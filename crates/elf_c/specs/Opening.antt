@@ -25,7 +25,7 @@ IsNotLoaded size ranges old new status =
     (range : ℕ × ℕ) × IsTrue (is_missing size (parts_in [] ranges) range) × (status ≡ unread (NotLoaded range))
     × (new ≡ old)
 
--- the one or the other, of a file with these bytes
+-- either of them, of a file with these bytes
 abbrev pub IsOpened : List ℕ → List NugwierRange → NugwierFile → NugwierFile → NugwierStatus → Type 0
 IsOpened bytes ranges old new status =
     IsOpenedAs bytes ranges old new status ⊎ IsNotLoaded (length bytes) ranges old new status

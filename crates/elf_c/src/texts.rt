@@ -45,7 +45,7 @@ fn digit(number: u64, upper: bool) -> u8
     }
 }
 
-// Writes the digits of a number at the end of `room`, and returns where they start.
+// Writes the digits of a number at the end of `room`, and returns the index of the first one.
 fn write_digits(number: u64, base: u64, upper: bool, room: &mut [u8; 64]) -> usize
     requires least { 2 ≤ base }
     requires most { base ≤ 16 }

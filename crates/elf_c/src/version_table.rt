@@ -1,4 +1,4 @@
-//! The versions of the symbols of a file: where its headers say that they lie.
+//! The versions of the symbols of a file, at the ranges that its headers give.
 ghost use Rattle.std.specs.Prelude.{◌≡◌, IfOk, IfSome, None, Some, false, true};
 ghost use Rattle.std.specs.Option.{option_map};
 ghost use Rattle.elf_records.specs.Number.{ok_map};

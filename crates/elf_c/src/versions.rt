@@ -257,7 +257,7 @@ fn definitions_in<'data>(definitions: &NugwierEntries<'data>) -> Links<'data, An
     )
 }
 
-// The first definition with this index, and where it begins.
+// The first definition with this index, and its offset.
 fn first_defined(definitions: &NugwierEntries<'_>, index: u16) -> Option<(usize, VerDef)>
     ensures { result ≡ find (has_index index) (definition_links definitions.now) }
 {

@@ -92,7 +92,7 @@ module _ (file : ObjectFile) (fault : FileFault) where
   not_sound (x ∷ xs) (inl here) all = true_subject file x fault here all.0
   not_sound (x ∷ xs) (inr first) all = not_sound xs first.1 all.1
 
-  -- where it was stopped at the first one
+  -- if it was stopped at the first one
   pub stopped : (xs : List Subject) → Stops file xs (λ faults. faults ≡ fault ∷ []) [] → FirstIn file xs fault
   stopped xs s =
       let r = s.2 in

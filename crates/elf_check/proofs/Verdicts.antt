@@ -197,4 +197,4 @@ true_section file s NoBytes t sound = ok_not_err (section_data file s) sound.byt
 true_section file s Compressed t sound = t.2 sound.plain
 true_section file s fault t sound = true_content file s fault t.content sound.content
 
--- ---- the content of a section that is read where it lies
+-- ---- the content of a section that is read at its own offset

@@ -1,5 +1,5 @@
 //! The configuration of `ldconfig`, `/etc/ld.so.conf`: folders of libraries, and patterns of further files (the manual page
-//! ldconfig(8); glibc, `elf/ldconfig.c`). Where there is no cache, it says which folders the cache would list.
+//! ldconfig(8); glibc, `elf/ldconfig.c`). Without a cache, it says which folders the cache would list.
 ghost use Rattle.std.specs.Prelude.{◌≡◌, ◌++◌, IfOk, OnOk, map, position};
 ghost use Rattle.std.specs.List.{before_first, slice_split};
 ghost use Rattle.elf_dynamic.specs.Conf.{Entry, blanks, conf_entries, folder_if, folder_in, has_at, is_hwcap, is_in};
@@ -111,7 +111,7 @@ fn folder_in(text: &[u8]) -> &[u8]
     without_last(b"/", without_last(SPACES, before_first(b"=", text)))
 }
 
-// The words of a text with blanks between them, some of which may be empty.
+// The words of a text with blanks between them. A word may be empty.
 fn words<'a>(alloc: Global, text: &'a [u8]) -> Result<Vec<&'a [u8]>, AllocError>
     ensures { IfOk result (λ words. map (λ word. word.now) words.items ≡ slice_split (is_in blanks) text.now) }
 {

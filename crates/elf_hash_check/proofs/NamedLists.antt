@@ -40,7 +40,7 @@ pub pairs_all : {A : Type 0} (R : A → A → Type 0) (xs : List A) → Pairs R 
 pairs_all R [] h = λ i j d less below. absurd (omega (arith, below))
 pairs_all R (x ∷ xs) h = AllPairs-cons R x xs (all_from_in (R x) xs h.0) (pairs_all R xs h.1)
 
--- ---- what a function keeps of indexes, where it keeps the index
+-- ---- what a function keeps of indexes, if it keeps the index
 
 module _ {B : Type 0} (f : ℕ → Option (ℕ × B)) (keeps : (i : ℕ) (one : ℕ × B) → f i ≡ Some one → one.0 ≡ i) where
   in_one : (i : ℕ) (is : List ℕ) (one : ℕ × B) (o : Option (ℕ × B)) → f i ≡ o →

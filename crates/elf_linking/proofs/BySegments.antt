@@ -72,7 +72,7 @@ failed_with (Err found) e is = let same : e ≡ found = cc is in ap Dynamic same
 pub two_made : {A B D E : Type 0} (x : Result A E) (y : Result B E) (f : A → B → Result D E) (a : A) (b : B) → x ≡ Ok a → y ≡ Ok b → f a b ≡ (x >>= λ a. y >>= λ b. f a b)
 two_made x y f a b p q = rw (p, q) refl
 
--- three steps, of which the last one fails or none does
+-- three steps; either the last one fails, or none does
 pub three_made : {A B C D E : Type 0} (x : Result A E) (y : Result B E) (z : Result C E) (f : A → B → C → D) (a : A) (b : B) (c : C) → x ≡ Ok a → y ≡ Ok b → z ≡ Ok c
     → Ok (f a b c) ≡ (x >>= λ a. y >>= λ b. z >>= λ c. Ok (f a b c))
 three_made x y z f a b c p q r = rw (p, q, r) refl

@@ -1,7 +1,7 @@
 //! The cache of the dynamic linker of glibc, `/etc/ld.so.cache`: libraries by their names, with their paths. The program
 //! `ldconfig` writes it (glibc, `sysdeps/generic/dl-cache.h`).
 //!
-//! Only the format `glibc-ld.so.cache1.1` is read, also where it follows a cache of the older format `ld.so-1.7.0`.
+//! Only the format `glibc-ld.so.cache1.1` is read, also if it follows a cache of the older format `ld.so-1.7.0`.
 //! Entries for processors of a certain level (`glibc-hwcaps`) are passed over. Two names are the same if their bytes are;
 //! glibc also ignores zeros before a number in a name. A file that gives the path of an entry is not looked for.
 ghost use Rattle.std.specs.Prelude.{◌≡◌, ◌==◌, drop};

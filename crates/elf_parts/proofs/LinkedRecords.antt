@@ -12,7 +12,7 @@ use Rattle.elf_parts.specs.Link.{AreLinked, AreLongest, from_next, links_from, l
 use Rattle.elf_parts.specs.gnu_symver.Links.{front_then, links_in, next_start}
 
 module _ {A : Type 0} (record_at : Bool → Class → List ℕ → ℕ → Result A ParseError) (next : A → ℕ) where
-  -- no record where there is to be none
+  -- no record if there is to be none
   pub links_none : (t : Table) (o : ℕ) → links_in record_at next t 0 o ≡ []
   unfolding links_in
   links_none t o = refl

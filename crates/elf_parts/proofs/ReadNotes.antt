@@ -49,7 +49,7 @@ header_fits parts fit =
     let same : 256 ^ 4 ≡ 2 ^ 32 = refl in
     (omega (arith, fit.0, same), (omega (arith, fit.1, same), (omega (arith, fit.2, same), tt)))
 
--- the note of these parts is read, where its content is
+-- the note of these parts is read, if its content is
 note_read_back : (little : Bool) (align : ℕ) (parts : ℕ × List ℕ × List ℕ) (note : NoteContent) (before behind : List ℕ) →
     0 < align → PartsFit parts → content_of little parts.0 parts.1 parts.2 ≡ Ok note →
     note_end align (length before) parts < 2 ^ 64 →

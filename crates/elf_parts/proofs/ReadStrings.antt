@@ -40,7 +40,7 @@ strings_of_both (name ∷ names) others =
 parts : (a h t b r : List ℕ) → (a ++ ((h ++ t) ++ 0 ∷ b)) ++ r ≡ (a ++ h) ++ (t ++ 0 ∷ (b ++ r))
 parts a h t b r = simp append_assoc refl
 
--- the end of a name is read where it begins
+-- the end of a name is read from its first byte on
 pub name_read_back : (before behind : List (List ℕ)) (head text rest : List ℕ) → HasNoNul text →
     string_at (strings_of (before ++ (head ++ text) ∷ behind) ++ rest) (length (strings_of before) + length head) ≡ Ok text
 name_read_back before behind head text rest none =

@@ -26,7 +26,7 @@ use Rattle.elf_records.proofs.Items.{LiesWithin, items_from-enough, items_from-r
 use Rattle.elf_parts.proofs.ReadBack.{signed_number_complement, is_struct_of, is_packed_from, place_is_sum, length-struct, struct_read_back}
 
 -- what has to be checked for each type of records in each class, mostly by evaluation: the table has the widths of the
--- structure, one after the other, and the numbers of a structure make its record
+-- structure, in their order, and the numbers of a structure make its record
 record Meets {A : Type 0} (layout : Layout A) (struct : Class → A → List Member) (class : Class) : Type 0 where
   pub size : (1 ≤ size_by layout class) × (size_by layout class < 2 ^ 64)
   pub fields : (x : A) → is_struct_of 0 (layout.fields class) (struct class x) ≡ true

@@ -38,7 +38,7 @@ ok_map f (Err e) = Err e
 unfoldable pub number_at : Bool → ℕ → List ℕ → ℕ → Result ℕ ParseError
 number_at little width bytes o = ok_map (number little) (bytes_at width bytes o)
 
--- where a read of `width` bytes leaves an offset: after them, or where it was
+-- an offset after a read of `width` bytes: after them, or unchanged
 abbrev pub moved_by : {A E : Type 0} → ℕ → Result A E → ℕ → ℕ
 moved_by width (Ok x) o = o + width
 moved_by width (Err e) o = o

@@ -1,4 +1,4 @@
--- The elements of a list that pass a test, where they are its first ones.
+-- The elements of a list that pass a test, if they are its first ones.
 use Rattle.std.proofs.Common.{◌≡◌, ℕ, zero, suc, ◌-◌, ◌<◌, ◌≤◌, Bool, true, false, List, [], ◌∷◌, length, refl, sym, ap, ◌∙◌, arith, Option, None, Some, get_or}
 use Rattle.std.specs.Prelude.{cond, take, filter}
 use Rattle.std.specs.List.{AllWithin, last_or}

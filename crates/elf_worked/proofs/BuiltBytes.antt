@@ -55,7 +55,7 @@ module _ (layout : Layout ℕ) (struct : ℕ → List Member) (is : IsStruct lay
       length-table layout (λ _. struct) is little class (all_below count at)
       ∙ ap (λ n. size_by layout class * n) (length-map-range_with_len at 0 count)
 
-  -- each is read where it was written
+  -- each is read at the offset at which it was written
   pub item_written : LiesWithin (record_by layout little class) (size_by layout class) → (count : ℕ) (at : ℕ → ℕ) →
       AllFit struct (all_below count at) → size_by layout class * count < 2 ^ 64 → (i : ℕ) → i < count →
       let bytes = table_of little struct (all_below count at) in

@@ -15,7 +15,7 @@ ident_fields little h =
     ⧺ codes " version=" ⧺ decimal h.version
     ⧺ codes " osabi=" ⧺ decimal h.osabi ⧺ codes " abiversion=" ⧺ decimal h.abiversion
 
--- what the file is, and where its tables begin
+-- what the file is, and the offsets of its tables
 unfoldable pub file_fields : {E : Type 0} → FileHeader E → List ℕ
 file_fields h =
     codes " type=" ⧺ decimal h.e_type ⧺ codes " machine=" ⧺ decimal h.e_machine

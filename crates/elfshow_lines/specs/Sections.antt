@@ -5,7 +5,7 @@ use Rattle.elf_records.specs.declared.section.SectionHeader.{SectionHeader}
 use Rattle.elfshow_lines.specs.Pieces.{◌⧺◌, newline, hex}
 use Rattle.elfshow_lines.specs.Name.{name_field}
 
--- what a section is, and where it lies
+-- what a section is, and its range
 unfoldable pub place_fields : SectionHeader → List ℕ
 place_fields s =
     codes "nameoff=" ⧺ decimal s.sh_name ⧺ codes " type=" ⧺ decimal s.sh_type ⧺ codes " flags=" ⧺ hex s.sh_flags

@@ -4,7 +4,7 @@ use Rattle.std.specs.Fmt.{decimal}
 use Rattle.elf_records.specs.declared.segment.ProgramHeader.{ProgramHeader}
 use Rattle.elfshow_lines.specs.Pieces.{◌⧺◌, newline, hex}
 
--- what a segment is, and where it lies
+-- what a segment is, and its ranges
 unfoldable pub segment_places : ProgramHeader → List ℕ
 segment_places p =
     codes " type=" ⧺ decimal p.p_type ⧺ codes " flags=" ⧺ hex p.p_flags ⧺ codes " offset=" ⧺ decimal p.p_offset

@@ -269,7 +269,7 @@ fn write_both<W: Write>(first: &[u8], second: &[u8], out: &mut W) -> io::Result<
     out.write_all(second)
 }
 
-/// Fills the end of `room` with the digits of a number, and returns where they begin.
+/// Fills the end of `room` with the digits of a number, and returns the index of the first one.
 // Inlined, so that the base is a constant when numbers are divided by it.
 #[tactic(auto, using(crate::proofs::Digits::digits_more, crate::proofs::Digits::digits_end))]
 #[inline(always)]
@@ -291,7 +291,7 @@ fn fill_digits(base: u64, n: u64, room: &mut [u8; MAX_DIGITS]) -> usize
     start
 }
 
-/// Fills the end of `room` with the decimal digits of a number, two by two, and returns where they begin.
+/// Fills the end of `room` with the decimal digits of a number, two by two, and returns the index of the first one.
 fn fill_decimal(n: u64, room: &mut [u8; MAX_DIGITS]) -> usize
     ensures within { result ≤ 64 }
     ensures digits { drop result room.new ≡ decimal n }

@@ -64,7 +64,7 @@ module _ (files : List ℕ → Option (List ℕ)) (folders : List ℕ → Folder
   IsStep kind.Folder path others found next = IsOpened (folders path) path others found next
   IsStep kind.Unnamed path others found next = (found ≡ Some (unread path)) × (next ≡ others)
 
-  -- all that is found from these places on, in so many steps
+  -- all that is found from these places on, in this number of steps
   abbrev pub IsExpanded : ℕ → List Place → List Found → Type 0
   IsExpanded steps [] all = all ≡ []
   IsExpanded zero (place ∷ others) all = ⊥

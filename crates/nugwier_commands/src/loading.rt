@@ -105,7 +105,7 @@ pub(crate) fn list_bytes<E: EndianParse, W: Write, V: Write>(
     }
 }
 
-// Lists a file of which nothing is missing.
+// Lists a file that has all its bytes.
 fn list_file<E: EndianParse, R: ListedFile<E>, W: Write, V: Write>(
     alloc: Global,
     target: Target<'_>,

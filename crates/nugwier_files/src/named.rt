@@ -1,4 +1,4 @@
-//! Libraries of which only the names are read.
+//! Libraries that are opened for their names alone.
 ghost use Rattle.std.specs.Prelude.{◌≡◌, IfOk, IfSome, Some};
 ghost use Rattle.std.specs.Option.{option_map};
 ghost use Rattle.elf_linking.specs.Tree.{Found, found_view, opened_names};
@@ -10,7 +10,8 @@ use elf_linking::tree::whole::opened;
 use elf_linking::tree::{LoadedFile, Opener};
 use std::alloc::{AllocError, Global};
 
-/// Libraries of which only the headers and the names are read, by parts. A library that cannot be read so is read whole.
+/// Libraries that are read by parts, only their headers and their names. A library that cannot be read so is read
+/// whole.
 #[derive(Clone, Copy)]
 pub struct NamedLibraries<'a, F> {
     pub files: &'a F,

@@ -128,7 +128,7 @@ fn entry_of(alloc: Global, item: io::Result<DirEntry>) -> io::Result<Option<Entr
     Ok(Some(Entry { path, kind }))
 }
 
-// Links, devices, pipes and sockets are left out. Of a name of which nothing can be told reading it tells why.
+// Links, devices, pipes and sockets are left out. If nothing can be told of a name, reading it tells why.
 fn kind_of(item: &DirEntry) -> Option<EntryKind> {
     match item.file_type() {
         Ok(kind) if kind.is_dir() => Some(EntryKind::Folder),
@@ -152,7 +152,7 @@ fn read_regular(rt: &HostRuntime, path: &str) -> io::Result<Option<Vec<u8>>> {
     }
 }
 
-// Reads a pipe up to where its writer closes it. Of one that begins neither as an ELF file nor as an archive only the
+// Reads a pipe until its writer closes it. Of one that begins neither as an ELF file nor as an archive only the
 // first bytes are read, since nothing else is asked of it, and it may have no end.
 fn read_pipe<R: Read + Drop>(alloc: Global, mut pipe: R) -> io::Result<Vec<u8>> {
     let mut data = Vec::new(alloc);

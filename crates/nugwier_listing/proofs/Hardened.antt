@@ -15,7 +15,7 @@ use Rattle.nugwier_report.specs.Said.{Said, Telling, saying, whole}
 use Rattle.nugwier_report.specs.declared.hardening.Hardening.{Hardening}
 use Rattle.nugwier_report.specs.declared.hardening.Requirement.{Requirement}
 
--- ---- one after the other
+-- ---- in turn
 
 said_two : (r a b : Telling) (p s : List Said) → a ≡ saying r p → b ≡ saying a s → b ≡ saying r (p ++ s)
 said_two r a b p s first second =

@@ -1,4 +1,4 @@
--- the file of which a part is loaded
+-- the file that is loaded in part
 pub mod Whole
 -- what is said of what was read
 pub mod Read

@@ -23,7 +23,7 @@ use Rattle.nugwier_report.specs.declared.problem.Part.{Part}
 use Rattle.nugwier_report.specs.declared.problem.Part.TheVariants.{Section, Segment}
 use Rattle.nugwier_report.specs.declared.properties.NoteFile.{NoteFile}
 
--- the notes of a part of this file, and where they end if they do not fill it
+-- the notes of a part of this file, and their end if they do not fill it
 pub record NoteList : Type 0 where
   pub file : NoteFile
   pub notes : List NoteContent
@@ -54,7 +54,7 @@ list_said part list = notes_said list.file part list.notes ++ said_if (end_said 
 -- ---- how many are listed
 
 -- The notes of all parts have at most as many bytes as the file, so notes that many parts have are not listed over and
--- over. Bytes of which this many may be listed:
+-- over. Bytes, if no more than this number are left to list:
 abbrev pub within : ℕ → Result (List ℕ) ParseError → Result (List ℕ) Fault
 within left (Ok bytes) = if nat_lt left (length bytes) then Err Repeated else Ok bytes
 within left (Err e) = Err (Read e)

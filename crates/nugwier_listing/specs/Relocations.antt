@@ -48,7 +48,7 @@ pub data Records : Type 0 where
 abbrev pub relative_in : Table → Records
 relative_in words = relative (relative_addresses words.class (table_items relr_reads words))
 
--- where they are: in section k of this name, or in a table that a dynamic entry gives
+-- their place: section k of this name, or in a table that a dynamic entry gives
 pub data Place : Type 0 where
   in_section : ℕ → List ℕ → Place
   in_table : RelocationTable → Place

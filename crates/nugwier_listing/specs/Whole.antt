@@ -1,4 +1,4 @@
--- The file of which a part is loaded.
+-- The file that is loaded in part.
 use Rattle.std.specs.Prelude.{ℕ, Bool, List, Option, Some, None, Result}
 use Rattle.elf_reading.specs.Opening.{StreamHeaders}
 use Rattle.elf_records.specs.Number.{bytes_at}

@@ -169,7 +169,7 @@ fn add_segment<'f, E: EndianParse, R: ListedFile<E>>(
     Ok(after)
 }
 
-// Bytes of which this many may be listed.
+// Bytes, if no more than this number are left to list.
 fn within<'f>(left: u64, bytes: Result<&'f [u8], ParseError>) -> Result<&'f [u8], Fault<'static>>
     ensures { ok_map (λ bytes. bytes.now) result ≡ within left (ok_map (λ bytes. bytes.now) bytes.entry) }
 {
@@ -237,7 +237,7 @@ fn say_given<W: Write, V: Write>(
     }
 }
 
-// Says notes, and where they end, if they do not fill their bytes.
+// Says notes, and their end, if they do not fill their bytes.
 fn say_list<W: Write, V: Write>(
     part: Part,
     notes: NoteBytes<'_>,

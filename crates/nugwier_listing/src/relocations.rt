@@ -58,7 +58,7 @@ use std::marker::PhantomData;
 enum TakenRecords<'f, E: EndianParse> {
     Rels(RelIterator<'f, E>),
     Relas(RelaIterator<'f, E>),
-    /// Packed relative relocations, of which there are the addresses alone.
+    /// Packed relative relocations: their addresses alone.
     Relative(RelrIterator<'f, E>),
 }
 

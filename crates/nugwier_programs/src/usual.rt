@@ -151,8 +151,8 @@ pub(crate) fn lib_of(kind: Kind) -> &'static [u8]
     }
 }
 
-/// Returns what stands for `$PLATFORM`: the name of the machine, or nothing where it depends on the processor. Before glibc
-/// 2.39 it does on x86-64 too.
+/// Returns what stands for `$PLATFORM`: the name of the machine, or nothing if it depends on the processor. Before
+/// glibc 2.39 it does on x86-64 too.
 pub(crate) fn platform_of(kind: Kind) -> &'static [u8]
     ensures { result.now ≡ platform_of kind }
 {

@@ -58,7 +58,7 @@ addresses_in file bytes =
     record { location = location; base = base; semaphore = semaphore })
     (address_in file bytes (2 * size))) (address_in file bytes size)) (address_in file bytes 0)
 
--- three strings, one after the other
+-- three strings in a row
 pub record ProbeTexts : Type 0 where
   pub provider : List ℕ
   pub name : List ℕ

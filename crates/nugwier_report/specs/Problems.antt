@@ -140,7 +140,7 @@ abbrev pub in_part : Part → Item → List ℕ → List ℕ
 in_part part.File i t = t
 in_part p i t = part_text p ++ (item_text i ++ t)
 
--- where it is, with the number and the name of the section, if it is in one, and the text of its fault
+-- its place, with the number and the name of the section, if it is in one, and the text of its fault
 abbrev pub problem_text : Option (ℕ × List ℕ) → Place → List ℕ → List ℕ
 problem_text (Some section) place t =
     codes "section " ++ (decimal section.0 ++ (codes " (" ++ (shown_bytes section.1

@@ -58,7 +58,7 @@ is_in_file s p = has_no_bytes s || is_within s.sh_offset s.sh_size p.p_offset p.
 abbrev pub is_in_memory : SectionHeader → ProgramHeader → Bool
 is_in_memory s p = not (has_flag abi.SHF_ALLOC s) || is_within s.sh_addr s.sh_size p.p_vaddr p.p_memsz
 
--- neither where the range starts nor where it ends
+-- neither at the start of the range nor at its end
 abbrev pub is_inside : ℕ → ℕ → ℕ → Bool
 is_inside place start length = nat_lt start place && nat_lt (place - start) length
 

@@ -89,7 +89,7 @@ fn is_probe_note(n_type: u64, name: &[u8]) -> bool
 /// The addresses of a probe.
 #[derive(Clone, Copy)]
 pub struct ProbeAddresses {
-    /// Where it is.
+    /// Its address.
     pub location: u64,
     /// Where the section `.stapsdt.base` was when this was written.
     pub base: u64,
@@ -148,7 +148,7 @@ fn after_string<'a>(string: &[u8], bytes: &'a [u8]) -> &'a [u8]
     rest_of(string.len() + 1, bytes)
 }
 
-// The strings of a probe, one after the other.
+// The strings of a probe, in a row.
 fn texts_in(bytes: &[u8]) -> Option<ProbeNames<'_>>
     ensures { option_map texts_view result ≡ texts_in bytes.now }
 {

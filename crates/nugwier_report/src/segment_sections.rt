@@ -1,4 +1,4 @@
-//! What is said of which sections belong to which segments.
+//! What is said of the sections that belong to each segment.
 ghost use Rattle.std.specs.Prelude.{◌≡◌, ◌<◌, length, OnOk};
 ghost use Rattle.std.specs.Option.{option_copied};
 ghost use Rattle.nugwier_report.specs.Noted.{members_said};

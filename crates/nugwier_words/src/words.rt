@@ -341,7 +341,7 @@ fn nearest(word: &str) -> Option<Command>
         .find(|command| is_like(word, command.word().as_bytes()))
 }
 
-// Whether a word begins another one, or is it but for one letter.
+// Whether a word begins another one, or differs from it by one letter.
 fn is_like(word: &[u8], other: &[u8]) -> bool
     ensures { result ≡ is_like word.now other.now }
 {

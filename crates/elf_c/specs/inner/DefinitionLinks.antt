@@ -8,7 +8,7 @@ use Rattle.elf_parts.specs.declared.gnu_symver.records.VerDefAux.{VerDefAux}
 use Rattle.elf_c.specs.Tables.{table_of_c}
 use Rattle.elf_c.specs.declared.versions.NugwierEntries.{NugwierEntries}
 
--- the definitions with the offsets where they begin
+-- the definitions with their offsets
 abbrev pub definition_links : NugwierEntries → List (ℕ × VerDef)
 definition_links e = links_in ver_def_reads.record_at (λ x. x.vd_next) (table_of_c e.entries) e.count 0
 

@@ -30,7 +30,7 @@ count_by file None gnu = if_found (count_by_gnu file) gnu
 abbrev pub symbol_count : {x : Extent} → FileOf x → List Dyn → Result (Option ℕ) DynamicError
 symbol_count file entries = count_by file (value_of dt_hash entries) (value_of dt_gnu_hash entries)
 
--- the same where it has to be known
+-- the same if it has to be known
 abbrev pub known_count : {x : Extent} → FileOf x → List Dyn → Result ℕ DynamicError
 known_count file entries = symbol_count file entries >>= λ count. ok_or count UnknownCount
 

@@ -68,7 +68,7 @@ pub fn symbol_count<E: EndianParse, R: Reader<E>>(
     )
 }
 
-// The same where it has to be known.
+// The same if it has to be known.
 pub(crate) fn known_count<E: EndianParse, R: Reader<E>>(
     file: &R,
     entries: &DynamicTable<'_, E>,

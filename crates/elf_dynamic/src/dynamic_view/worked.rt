@@ -25,7 +25,7 @@ pub fn values_by_tag()
     ensures size { entry_size dt_syment 24 of_symbols ≡ Err (EntrySize dt_syment 16 24) }
 {}
 
-/// The first segment that has the whole range in the file says where it is.
+/// The first segment that has the whole range in the file gives its offset.
 pub fn ranges_of_addresses()
     ensures first { part_of segments 0x1002 6 ≡ Ok (2, 6) }
     ensures second { part_of segments 0x2050 8 ≡ Ok (0x50, 8) }

@@ -13,7 +13,7 @@ use Rattle.elf_hash_check.specs.WithSymbols.{WithSymbols}
 
 -- ---- GNU
 
--- the words of a table can be read, as they can where it was cut from a section
+-- the words of a table can be read, as they can if it was cut from a section
 abbrev pub GnuReads : GnuTable → Type 0
 GnuReads t = ReadsBelowCount t.buckets × ReadsBelowCount t.chains × ReadsBloom t
 

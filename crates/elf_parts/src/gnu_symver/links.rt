@@ -26,7 +26,7 @@ pub trait Linked: ParseAt {
 pub trait VersionEntry: Linked {
     type Aux: Linked;
 
-    // An entry, from the offset where it begins, with its auxiliary entries.
+    // An entry from its offset on, with its auxiliary entries.
     ghost with_aux: { Table → ℕ × Self → Self × List Self.Aux };
 
     /// Returns the auxiliary entries of this entry, whose own start is the offset `start`, in bytes.

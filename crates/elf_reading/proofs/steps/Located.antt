@@ -1,4 +1,4 @@
--- Tables that were located: the number of their records was read, and then where they lie was found.
+-- Tables that were located: the number of their records was read, and then their range was found.
 use Rattle.std.proofs.Common.{◌≡◌, ℕ, Bool, List, length, refl, ap, ◌∙◌, Option, Some, None, IfSome}
 use Rattle.std.specs.Prelude.{◌==◌, false, Result, Ok, Err, IsErr, is_err, IfErr}
 use Rattle.std.specs.Option.{option_map}

@@ -5,7 +5,7 @@ use Rattle.elf_linking.specs.inner.LoadedNames.{AreNamesOf}
 use Rattle.elf_linking.specs.inner.Loading.{loading_view}
 use Rattle.elf_linking.proofs.tree.load_order.Given as goal
 
--- what is loaded after so many steps
+-- what is loaded after this number of steps
 abbrev pub invariant-steps : goal.invariant-steps
 invariant-steps g l = record {
   names : AreNamesOf l.loading.names (map entry_view l.loading.objects.items);

@@ -34,7 +34,7 @@ fn clones_of_stretches()
     ensures { ClonesExactly ⟦<Stretch as Clone>⟧.is_clone ⟦<Stretch as Clone>⟧.is_infallible }
 {}
 
-// A walk since the last stretch that it stored or skipped: where it began, and its number of entries.
+// A walk since the last stretch that it stored or skipped: its first entry, and its number of entries.
 #[derive(Drop)]
 struct Walk {
     from: usize,
