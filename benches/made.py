@@ -203,8 +203,8 @@ def versioned_library(count, versions, symbol_prefix, version_prefix):
     names = [b"libmade.so"] + [version_name(version_prefix, k) for k in range(versions)]
     strings, records = b"\0", b""
     for k, name in enumerate(names):
-        behind = 28 if k + 1 < len(names) else 0
-        records += struct.pack("<HHHHIII", 1, VER_FLG_BASE if k == 0 else 0, 1 + k, 1, sysv_hash(name), 20, behind)
+        following = 28 if k + 1 < len(names) else 0
+        records += struct.pack("<HHHHIII", 1, VER_FLG_BASE if k == 0 else 0, 1 + k, 1, sysv_hash(name), 20, following)
         records += struct.pack("<II", len(strings), 0)
         strings += name + b"\0"
     own = [k % versions for k in range(len(symbols))]
@@ -246,9 +246,9 @@ def sharing_needs(count, step=0):
     made.add(b".gnu.version", SHT_GNU_VERSYM, struct.pack("<H", 5) * 40, made.first(SHT_DYNSYM), 0, 2)
     needs = []
     for k in range(count):
-        first, behind = k * step % count, 16 if k + 1 < count else 0
+        first, following = k * step % count, 16 if k + 1 < count else 0
         entries = min(count - first, 0xFFFF)
-        needs.append(struct.pack("<HHIII", 1, entries, 13, 16 * (count - k + first), behind))
+        needs.append(struct.pack("<HHIII", 1, entries, 13, 16 * (count - k + first), following))
     entries = b"".join(struct.pack("<IHHII", 7, 0, 2, 1, 16 if k + 1 < count else 0) for k in range(count))
     made.add(b".gnu.version_r", SHT_GNU_VERNEED, b"".join(needs) + entries, strings, count)
     return made
@@ -320,13 +320,13 @@ def sections_of_ranges(count, size, is_falling):
     """A file of `count` sections with a range each. Its header has no room for the count, which is the size of section 0.
     The names of all but the names' own are `.text`, of this `.names`."""
     names = b"\0.text\0.names\0"
-    behind = 64 + 64 * (count + 2)
-    places = [behind + len(names) + size * number for number in range(count)]
+    following = 64 + 64 * (count + 2)
+    places = [following + len(names) + size * number for number in range(count)]
     if is_falling:
         places.reverse()
     headers = [SECTION.pack(0, 0, 0, 0, 0, count + 2, 0, 0, 0, 0)]
     headers += [SECTION.pack(1, SHT_PROGBITS, 3, 0, place, size, 0, 0, 1, 0) for place in places]
-    headers.append(SECTION.pack(7, SHT_STRTAB, 0, 0, behind, len(names), 0, 0, 1, 0))
+    headers.append(SECTION.pack(7, SHT_STRTAB, 0, 0, following, len(names), 0, 0, 1, 0))
     head = file_header(0, 0, 64, 0, count + 1 if count + 1 < 0xFF00 else 0)
     return head + b"".join(headers) + names + bytes(size * count)
 

@@ -2,6 +2,12 @@
 _nugwier() {
     local word=${COMP_WORDS[COMP_CWORD]} before=${COMP_WORDS[COMP_CWORD - 1]}
     COMPREPLY=()
+    # The sign in --root=FOLDER is a word of its own.
+    if [ "$word" = = ]; then
+        word=''
+    elif [ "$before" = = ]; then
+        before=${COMP_WORDS[COMP_CWORD - 2]}
+    fi
     if [ "$COMP_CWORD" -eq 1 ]; then
         mapfile -t COMPREPLY < <(compgen -W \
             "list symbols needed exports build-id plan check harden address tree bindings --help --version" -- "$word")
@@ -13,7 +19,7 @@ _nugwier() {
         esac
         case $word in
             -*)
-                mapfile -t COMPREPLY < <(compgen -W "-h -S -l -s -D -d -r -n -V -a -x -p --json -R --recursive --help" -- "$word")
+                mapfile -t COMPREPLY < <(compgen -W "-h -S -g -l -s -D -d -r -n -V -a -x -p --json -R --recursive --help" -- "$word")
                 return
                 ;;
         esac

@@ -19,6 +19,7 @@ complete -c nugwier -n "__fish_seen_subcommand_from $commands" -s R -l recursive
 complete -c nugwier -n "__fish_seen_subcommand_from $commands" -F
 complete -c nugwier -n "__fish_seen_subcommand_from list" -s h -d "file header"
 complete -c nugwier -n "__fish_seen_subcommand_from list" -s S -d sections
+complete -c nugwier -n "__fish_seen_subcommand_from list" -s g -d "section groups"
 complete -c nugwier -n "__fish_seen_subcommand_from list" -s l -d segments
 complete -c nugwier -n "__fish_seen_subcommand_from list" -s s -d symbols
 complete -c nugwier -n "__fish_seen_subcommand_from list" -s D -d "symbols for dynamic linking"

@@ -72,7 +72,7 @@ class ElfFile:
         return byref(self._file)
 
     def _call(self, name: str, *arguments: Any) -> None:
-        """A call whose first parameter is the file, of which the ranges are loaded that it needs."""
+        """A call whose first parameter is the file. The ranges that it needs are loaded first."""
         while True:
             try:
                 return c.call(name, self._opened(), *arguments)

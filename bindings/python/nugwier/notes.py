@@ -70,7 +70,7 @@ class Property(NamedTuple):
 
     @property
     def bits(self) -> IntFlag | None:
-        """The number by the names of its bits, of a type of which they are known."""
+        """The number by the names of its bits, if those of its type are known."""
         of_type = _BITS.get(self.type)
         return None if of_type is None or self.number is None else of_type(self.number)
 

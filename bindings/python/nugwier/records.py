@@ -16,7 +16,7 @@ if TYPE_CHECKING:
 
 
 class Version(NamedTuple):
-    """The version of a symbol. `file` is the library of which the version is needed, or None if this file defines it.
+    """The version of a symbol. `file` is the library that defines a needed version, or None if this file defines it.
     A reference without a version binds to a symbol whose version is defined and not hidden."""
 
     name: str

@@ -38,7 +38,7 @@ class Whole:
 
 
 class Parts:
-    """A file of which the ranges are read that a call needs. Each is kept, so what was read stays as it was."""
+    """A file that is read by the ranges that calls need. Each is kept, so what was read stays as it was."""
 
     def __init__(self, file: BinaryIO, size: int, is_own: bool) -> None:
         self._file, self._size, self._is_own = file, size, is_own

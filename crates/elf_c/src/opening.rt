@@ -132,7 +132,7 @@ fn opened<'data>(loaded: &Loaded<'data>) -> Result<ElfBytes<'data, AnyEndian>, R
     Ok(ElfBytes::from_parts(ehdr, loaded.bytes, shdrs, phdrs))
 }
 
-/// Opens a file of `size` bytes of which these ranges are loaded: reads its header, and finds its two tables of headers.
+/// Opens a file of `size` bytes that has these ranges loaded: reads its header, and finds its two tables of headers.
 /// The ranges may be in any order and may overlap. If they are ranges of a file, the status and the opened file are those
 /// of `nugwier_open` for all of its bytes; or the status names a range that is missing, by its start and its end: it lies
 /// in the file, has bytes, and lies within none of the ranges. The caller loads it, or more, and calls again with all

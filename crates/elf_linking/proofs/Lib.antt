@@ -3,6 +3,6 @@ pub mod Tables
 pub mod Missing
 pub mod Naming
 pub mod BySegments
-mod Expanding
+pub mod Expanding
 mod Loading
 mod Opening

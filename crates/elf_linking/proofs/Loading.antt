@@ -1,20 +1,17 @@
 -- The names of objects, the search for a name, and the loaders of an object, one step at a time.
-use Rattle.std.proofs.Common.{◌≡◌, ℕ, zero, suc, ◌-◌, ◌<◌, ◌==◌, Bool, true, false, ◌||◌, cond, List, [], ◌∷◌, ◌++◌, Option, Some, None, IfSome, Ordering, Less, Equal, Greater, is_eq, nat_cmp, Vec, refl, sym, ap, ◌∙◌, subst, append-nil, arith}
+use Rattle.std.proofs.Common.{◌≡◌, ℕ, zero, suc, ◌-◌, ◌<◌, ◌==◌, Bool, true, false, ◌||◌, cond, List, [], ◌∷◌, ◌++◌, Option, Some, None, IfSome, Ordering, Less, Equal, Greater, is_eq, nat_cmp, Vec, refl, sym, ap, ◌∙◌, subst, arith}
 use Rattle.std.specs.Prelude.{is_some}
 use Rattle.std.specs.Option.{option_map}
 use Rattle.std.specs.BTreeSet.{insert_key}
 use Rattle.std.specs.BTreeMap.{is_at}
 use Rattle.std.specs.Cmp.Lexicographic.{slice_cmp}
-use Rattle.std.specs.List.{flat_map, list_any}
+use Rattle.std.specs.List.{list_any}
 use Rattle.std.specs.Ordering.{match_ordering}
 use Rattle.std.specs.Str.{bytes_eq}
 use Rattle.std.specs.Vec.{vec_items}
-use Rattle.std.proofs.lemmas.List.Concat.{flat_map-append}
-use Rattle.std.proofs.lemmas.List.Folds.{list_any-append}
 use Rattle.std.proofs.lemmas.Map.Text.{is_eq-slice_cmp}
 use Rattle.std.proofs.lemmas.Slice.Eq.{bytes_eq-Decides}
-use Rattle.elf_linking.specs.Tree.{Entry, Found, first_fitting, fitting, is_loaded, loader_at}
-use Rattle.elf_linking.specs.Tree.{loader_places, names_of, or_next}
+use Rattle.elf_linking.specs.Tree.{Entry, Found, first_fitting, fitting, loader_at, loader_places, or_next}
 use Rattle.elf_linking.specs.declared.tree.Kind.{Kind}
 
 -- ---- what is known
@@ -28,12 +25,6 @@ when_known None P h = tt
 when_known (Some x) P h = h x refl
 
 -- ---- tests of either
-
-or_flip : (a b : Bool) → (a || b) ≡ (b || a)
-or_flip true true = refl
-or_flip true false = refl
-or_flip false true = refl
-or_flip false false = refl
 
 or_swap : (a b c : Bool) → (a || (b || c)) ≡ (b || (a || c))
 or_swap true true c = refl
@@ -72,16 +63,6 @@ name_added name key keys =
     any_inserted (λ x y. slice_cmp nat_cmp (vec_items x) (vec_items y)) test key
     (λ x e. ap (λ bytes. is_eq (slice_cmp nat_cmp name bytes)) (equal_items (vec_items key) (vec_items x) e)) keys
     ∙ ap (λ b. b || list_any test keys) (is_eq-slice_cmp name (vec_items key))
-
--- ---- one object more
-
-pub loaded_more : (name : List ℕ) (objects : List Entry) (e : Entry)
-    → is_loaded name (objects ++ e ∷ []) ≡ (list_any (bytes_eq name) (names_of e) || is_loaded name objects)
-loaded_more name objects e =
-    let test = bytes_eq name in
-    ap (list_any test) (flat_map-append names_of objects (e ∷ []) ∙ ap (λ l. flat_map names_of objects ++ l) (append-nil (names_of e)))
-    ∙ list_any-append test (flat_map names_of objects) (names_of e)
-    ∙ or_flip (list_any test (flat_map names_of objects)) (list_any test (names_of e))
 
 -- ---- the search for a name
 
@@ -133,12 +114,6 @@ module _ (opened : List ℕ → Option Found) (kind : Kind) where
   first_later path paths is = ap (λ o. or_next o (first_fitting opened kind paths)) is
 
 -- ---- the loaders
-
-pub no_loaders : (n : ℕ) (objects : List Entry) (at : ℕ) → at ≡ 0 → loader_places n objects at ≡ []
-no_loaders zero objects at is = refl
-no_loaders (suc n) objects at is =
-    let test : (at == 0) ≡ true = ap (λ k. k == 0) is in
-    ap (λ b. cond b [] (loader_at objects at ∷ loader_places n objects (loader_at objects at))) test
 
 pub next_loader : (n : ℕ) (objects : List Entry) (at : ℕ) → 0 < n → (at == 0) ≡ false
     → loader_places n objects at ≡ loader_at objects at ∷ loader_places (n - 1) objects (loader_at objects at)

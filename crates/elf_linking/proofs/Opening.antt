@@ -1,34 +1,22 @@
 -- Files that are opened whole, or by their names alone.
-use Rattle.std.proofs.Common.{◌≡◌, inl, inr, ℕ, Bool, List, [], Result, Ok, Err, Option, Some, None, IfSome, refl, sym, ap, ◌∙◌}
+use Rattle.std.proofs.Common.{◌≡◌, inl, inr, ℕ, Bool, List, [], Result, Ok, Option, IfSome, refl, sym, ap, ◌∙◌}
 use Rattle.std.specs.Option.{option_map}
 use Rattle.elf_records.specs.Endian.{any_is_little, any_of_byte}
 use Rattle.elf_records.specs.Number.{ok_map}
 use Rattle.elf_records.specs.declared.endian.AnyEndian.{AnyEndian}
-use Rattle.elf_records.specs.declared.parse.ParseError.{ParseError}
 use Rattle.elf_reading.specs.Opening.{FileView, StreamHeaders, headers_of, opened_file}
 use Rattle.elf.specs.Data.{section_data}
-use Rattle.elf.specs.ElfStream.{IsOpening, StreamView}
+use Rattle.elf.specs.ElfStream.{StreamView}
 use Rattle.elf.specs.ObjectFile.{object_file}
 use Rattle.elf.specs.StreamFile.{listed_file, stream_file}
 use Rattle.elf.proofs.Same.{opened_is}
 use Rattle.elf_linking.specs.Needed.{GivesNames, IsNamesAnswer, Named, names, names_view}
-use Rattle.elf_linking.specs.Tree.{Found, file_of, found_in, found_view, kind_of, opened_as, opened_whole, without_bytes}
+use Rattle.elf_linking.specs.Tree.{Found, found_in, found_view, kind_of, without_bytes}
 use Rattle.elf_linking.specs.declared.needed.Names.{Names}
 use Rattle.elf_linking.specs.declared.needed.NamesError.{NamesError}
 use Rattle.elf_linking.specs.declared.tree.Kind.{Kind}
 use Rattle.elf_linking.specs.declared.tree.LoadedFile.{LoadedFile}
 use Rattle.elf_linking.proofs.Loading.{if_known, when_known}
-
-pub some_weaker : {A : Type 0} (o : Option A) (P Q : A → Type 0) → ((x : A) → P x → Q x) → IfSome o P → IfSome o Q
-some_weaker None P Q f h = tt
-some_weaker (Some x) P Q f h = f x h
-
--- ---- what is opened whole
-
-pub whole_found : (o : Option (List ℕ → Option (List ℕ))) (path : List ℕ) (content : Option (List ℕ))
-    → IfSome o (λ files. files path ≡ content) → IfSome (option_map opened_whole o) (λ found_at. found_at path ≡ opened_as path content)
-whole_found None path content h = tt
-whole_found (Some files) path content h = ap (opened_as path) h
 
 -- ---- what is opened by its names
 
@@ -62,20 +50,3 @@ found_by_names path s new n file gives same_path empty kind_is names_are =
     ∙ ap (λ k. found_made path [] k (ok_map (option_map names_view) file.names)) kind
     ∙ ap (λ b. found_made path b file.kind (ok_map (option_map names_view) file.names)) (sym empty)
     ∙ ap (λ p. found_made p file.bytes.items file.kind (ok_map (option_map names_view) file.names)) (sym same_path))
-
-headers_from : (o : Result (FileView AnyEndian) ParseError) (h : StreamHeaders AnyEndian) → ok_map headers_of o ≡ Ok h
-    → (v : FileView AnyEndian) × (o ≡ Ok v) × (h ≡ headers_of v)
-headers_from (Ok v) h is = (v, refl, cc is)
-headers_from (Err e) h is = absurd (cc is)
-
-pub opened_by_names : (known : Option (List ℕ)) (path : List ℕ) (s : StreamView AnyEndian) (can_fail : Bool) (before : ℕ) (found : Found)
-    → s.content ≡ known
-    → IfSome known (λ bytes. IsOpening (ok_map headers_of (opened_file any_is_little any_of_byte bytes)) can_fail before (Ok s))
-    → IfSome s.content (λ bytes. (v : FileView AnyEndian) → opened_file any_is_little any_of_byte bytes ≡ Ok v → s.headers ≡ headers_of v
-    → without_bytes (found_in path bytes v) ≡ found)
-    → IfSome known (λ bytes. ok_map without_bytes (file_of path bytes) ≡ Ok found)
-opened_by_names known path s can_fail before found same opening names_of =
-    when_known known _ (λ bytes is.
-    let opened = headers_from (opened_file any_is_little any_of_byte bytes) s.headers (if_known known bytes _ opening is).1 in
-    let by_names = if_known s.content bytes _ names_of (same ∙ is) in
-    ap (λ o. ok_map without_bytes (ok_map (found_in path bytes) o)) opened.1 ∙ ap Ok (by_names opened.0 opened.1 opened.2))

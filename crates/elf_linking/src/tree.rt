@@ -214,7 +214,8 @@ fn slash_or(byte: u8, place: usize, last: Option<usize>) -> Option<usize>
     if byte == b'/' { Some(place) } else { last }
 }
 
-fn last_slash(path: &[u8]) -> Option<usize>
+/// Returns the place of the last slash of a path, if it has one.
+pub fn last_slash(path: &[u8]) -> Option<usize>
     ensures { result ≡ last_slash 0 None path.now }
 {
     let mut last = None;
@@ -224,8 +225,8 @@ fn last_slash(path: &[u8]) -> Option<usize>
     last
 }
 
-// The folder that a path names a file in.
-fn folder_of(path: &[u8]) -> &[u8]
+/// Returns the folder that a path names a file in: what is before its last slash, or `.` if it has none.
+pub fn folder_of(path: &[u8]) -> &[u8]
     ensures { result.now ≡ folder_of path.now }
 {
     match last_slash(path) {
@@ -379,8 +380,8 @@ fn file_at(objects: &[Object], place: usize) -> Option<&LoadedFile>
     }
 }
 
-// The place of the loader of the object at a place.
-fn loader_at(objects: &[Object], place: usize) -> usize
+/// Returns the place of the loader of the object at a place, or 0 if there is no object.
+pub fn loader_at(objects: &[Object], place: usize) -> usize
     ensures { result ≡ loader_at (map entry_view objects.now) place }
 {
     match objects.get(place) {
@@ -926,8 +927,8 @@ pub fn load_order<O: Opener>(
     Err(AllocError)
 }
 
-// The object at a place, if there is one.
-fn object_at(objects: &[Object], place: usize) -> Option<&Object>
+/// Returns the object at a place, if there is one.
+pub fn object_at(objects: &[Object], place: usize) -> Option<&Object>
     ensures { option_map entry_of result ≡ slice_get (map entry_view objects.now) place }
 {
     objects.get(place)

@@ -22,15 +22,21 @@ symbol_at info shndx value size = record {
   st_shndx = shndx;
 }
 
+-- a symbol of this section, whose value is its address
+abbrev pub located_in : ℕ → ℕ → ℕ → ℕ → Located
+located_in section symbol address size =
+    record { symbol = symbol; section = section; value = address; address = address; size = size }
+
 abbrev pub located_at : ℕ → ℕ → ℕ → Located
-located_at symbol address size = record { symbol = symbol; address = address; size = size }
+located_at symbol address size = located_in 1 symbol address size
 
--- symbols by address: one at 16, and two at 32
+-- symbols by address: one at 16, and two at 32, of which the second is in section 2
 abbrev pub by_address : List Located
-by_address = located_at 3 16 4 ∷ located_at 1 32 0 ∷ located_at 2 32 8 ∷ []
+by_address = located_at 3 16 4 ∷ located_at 1 32 0 ∷ located_in 2 2 32 8 ∷ []
 
-abbrev pub found : ℕ → ℕ → Bool → Option Nearest
-found symbol distance is_inside = Some (record { symbol = symbol; distance = distance; is_inside = is_inside })
+abbrev pub found : ℕ → ℕ → ℕ → Bool → Option Nearest
+found symbol value distance is_inside =
+    Some (record { symbol = symbol; value = value; distance = distance; is_inside = is_inside })
 
 -- ---- the versions of symbols
 

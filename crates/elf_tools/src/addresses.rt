@@ -2,7 +2,8 @@
 ghost use Rattle.std.specs.Prelude.{◌≡◌, ◌≤◌, ◌<◌, ℕ, IfOk, length, slice_index_or, take};
 ghost use Rattle.elf_records.specs.Symbol.{symbol_reads};
 ghost use Rattle.elf_records.specs.Table.{table_items, table_view};
-ghost use Rattle.elf_tools.specs.Addresses.{IsByAddress, has_address, location, located_symbols, nearest, nearest_of};
+ghost use Rattle.elf_tools.specs.Addresses.{IsByAddress, code_address, has_address, has_code_bit, is_code, is_in};
+ghost use Rattle.elf_tools.specs.Addresses.{last_in, location, located_symbols, nearest, nearest_in, nearest_of};
 ghost use Rattle.elf_tools.specs.Addresses.{starts_before};
 ghost use Rattle.elf_tools.specs.declared.addresses.Located.{Located};
 
@@ -12,11 +13,18 @@ use elf::symbol::{Symbol, SymbolTable};
 use std::alloc::{AllocError, Global};
 use std::marker::Model;
 
-/// A symbol that has an address: its index in its table, counted from 0, its address, and its size in bytes.
+/// A symbol that has an address.
 #[derive(Debug, Clone, Copy)]
 pub struct Located {
+    /// Its index in its table, counted from 0.
     pub symbol: usize,
+    /// The index of its section (`st_shndx`).
+    pub section: u16,
+    /// Its value (`st_value`).
+    pub value: u64,
+    /// The address of its first byte (`code_address`).
     pub address: u64,
+    /// Its size in bytes.
     pub size: u64,
 }
 
@@ -25,6 +33,8 @@ pub struct Located {
 pub struct Nearest {
     /// Its index in its table, counted from 0.
     pub symbol: usize,
+    /// Its value (`st_value`).
+    pub value: u64,
     /// The number of bytes from its start to the address.
     pub distance: u64,
     /// Whether its size reaches past the address, so that the address is one of its bytes.
@@ -56,33 +66,66 @@ impl Model for Addresses {
 pub fn has_address(symbol: &Symbol) -> bool
     ensures { result ≡ has_address symbol.now }
 {
-    let symtype = symbol.st_symtype();
     let section = symbol.st_shndx;
-    let is_placed = symtype == abi::STT_OBJECT
-        || symtype == abi::STT_FUNC
-        || symtype == abi::STT_GNU_IFUNC;
+    let is_placed = symbol.st_symtype() == abi::STT_OBJECT || is_code(symbol);
     is_placed && section != abi::SHN_UNDEF && section != abi::SHN_ABS && section != abi::SHN_COMMON
 }
 
+fn is_code(symbol: &Symbol) -> bool
+    ensures { result ≡ is_code symbol.now }
+{
+    let symtype = symbol.st_symtype();
+    symtype == abi::STT_FUNC || symtype == abi::STT_GNU_IFUNC
+}
+
+// Whether bit 0 of the value of a symbol is no part of its address.
+fn has_code_bit(machine: u16, symbol: &Symbol) -> bool
+    ensures { result ≡ has_code_bit machine symbol.now }
+{
+    (machine == abi::EM_ARM || machine == abi::EM_MIPS) && is_code(symbol)
+}
+
+/// Returns the address of the first byte of a symbol, in a file for this machine (`e_machine`). It is the value of the
+/// symbol, but for functions of ARM and MIPS. Bit 0 of their values is no part of the address: it is set for Thumb,
+/// MIPS16 and microMIPS code.
+pub fn code_address(machine: u16, symbol: &Symbol) -> u64
+    ensures { result ≡ code_address machine symbol.now }
+{
+    let value = symbol.st_value;
+    if has_code_bit(machine, symbol) {
+        value - value % 2
+    } else {
+        value
+    }
+}
+
 impl Located {
-    fn new(symbol: usize, found: &Symbol) -> Self
-        ensures { result ≡ location (symbol, found.now) }
+    fn new(machine: u16, symbol: usize, found: &Symbol) -> Self
+        ensures { result ≡ location machine (symbol, found.now) }
     {
         Located {
             symbol,
-            address: found.st_value,
+            section: found.st_shndx,
+            value: found.st_value,
+            address: code_address(machine, found),
             size: found.st_size,
         }
     }
 
+    fn is_in(&self, section: u64) -> bool
+        ensures { result ≡ is_in section self.now }
+    {
+        section < u64::from(abi::SHN_LORESERVE) && u64::from(self.section) == section
+    }
+
     // What is known of an address at which the symbol starts, or before which it starts.
     fn nearest(&self, address: u64) -> Nearest
-        requires { self.now.address ≤ address }
         ensures { result ≡ nearest_of address self.now }
     {
-        let distance = address - self.address;
+        let distance = address.saturating_sub(self.address);
         Nearest {
             symbol: self.symbol,
+            value: self.value,
             distance,
             is_inside: distance < self.size,
         }
@@ -92,31 +135,47 @@ impl Located {
 // The symbols of a table that have an address, in its order.
 fn located_symbols<E: EndianParse>(
     alloc: Global,
+    machine: u16,
     symbols: &SymbolTable<'_, E>,
 ) -> Result<Vec<Located>, AllocError>
-    ensures { IfOk result (λ found. found.items ≡ located_symbols (table_items symbol_reads (table_view symbols.now))) }
+    ensures { IfOk result (λ found.
+        found.items ≡ located_symbols machine (table_items symbol_reads (table_view symbols.now))) }
 {
     symbols
         .iter()
         .enumerate()
         .filter(|one| has_address(&one.1))
-        .map(|one| Located::new(one.0, &one.1))
+        .map(|one| Located::new(machine, one.0, &one.1))
         .collect(alloc)
 }
 
+// The last of the symbols of a section.
+fn last_in(section: u64, symbols: &[Located]) -> Option<Located>
+    ensures { result ≡ last_in section symbols.now }
+{
+    let mut last = None;
+    for symbol in symbols {
+        if symbol.is_in(section) {
+            last = Some(*symbol);
+        }
+    }
+    last
+}
+
 impl Addresses {
-    /// Returns the symbols of a table that have an address, sorted by it. The only error is a failed allocation. The
-    /// time is the number of symbols times its logarithm.
+    /// Returns the symbols of a table that have an address, in a file for this machine (`e_machine`), sorted by it. The
+    /// only error is a failed allocation. The time is the number of symbols times its logarithm.
     ///
-    /// In a relocatable file (`ET_REL`) the values of symbols are offsets in their sections, and no addresses.
+    /// In a relocatable file (`ET_REL`) the values of symbols are offsets in their sections: see `find_in`.
     pub fn new<E: EndianParse>(
         alloc: Global,
+        machine: u16,
         symbols: &SymbolTable<'_, E>,
     ) -> Result<Self, AllocError>
         ensures { IfOk result (λ map.
-            IsByAddress (located_symbols (table_items symbol_reads (table_view symbols.now))) map) }
+            IsByAddress (located_symbols machine (table_items symbol_reads (table_view symbols.now))) map) }
     {
-        let mut symbols = located_symbols(alloc, symbols)?;
+        let mut symbols = located_symbols(alloc, machine, symbols)?;
         symbols.sort_by_key(|one| one.address)?;
         Ok(Addresses { symbols })
     }
@@ -144,7 +203,7 @@ impl Addresses {
     ///
     /// ```rust
     /// if let Some((symbols, _)) = file.dynamic_symbol_table()? {
-    ///     let addresses = Addresses::new(rt.alloc(), &symbols)?;
+    ///     let addresses = Addresses::new(rt.alloc(), file.ehdr.e_machine, &symbols)?;
     ///     if let Some(nearest) = addresses.find(file.ehdr.e_entry) {
     ///         println!(rt; "symbol {} and {} bytes", nearest.symbol, nearest.distance)?;
     ///     }
@@ -158,5 +217,16 @@ impl Addresses {
             return None;
         }
         Some(self.symbols[count - 1].nearest(address))
+    }
+
+    /// Returns the same among the symbols of one section, by its number: those whose section index (`st_shndx`) it is. In
+    /// a relocatable file the address is an offset in the section. No symbol has a number from `SHN_LORESERVE` on as its
+    /// section index. The time grows with the number of symbols.
+    pub fn find_in(&self, section: u64, address: u64) -> Option<Nearest>
+        ensures { result ≡ nearest_in section address self.now }
+    {
+        let count = self.count_before(address);
+        let last = last_in(section, &self.symbols[..count])?;
+        Some(last.nearest(address))
     }
 }

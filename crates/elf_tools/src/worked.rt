@@ -1,7 +1,7 @@
 //! The definitions at known values.
 ghost use Rattle.std.specs.Prelude.{◌≡◌, ◌∷◌, [], true, false, None, Some, Ok, Err};
 ghost use Rattle.elf_linking.specs.Binding.{unreadable};
-ghost use Rattle.elf_tools.specs.Addresses.{has_address, located_symbols, nearest};
+ghost use Rattle.elf_tools.specs.Addresses.{code_address, has_address, located_symbols, nearest, nearest_in};
 ghost use Rattle.elf_tools.specs.Known.{by_address, found, symbol_at};
 ghost use Rattle.elf_tools.specs.Known.{located_at, own_version, version_of_f, versions};
 ghost use Rattle.elf_tools.specs.SymbolVersions.{symbol_version_in, symbol_version};
@@ -20,18 +20,34 @@ pub fn symbols_with_an_address()
     ensures section { has_address (symbol_at 0x03 1 16 4) ≡ false }
     ensures file_name { has_address (symbol_at 0x04 0xfff1 16 4) ≡ false }
     ensures thread_local { has_address (symbol_at 0x16 1 16 4) ≡ false }
-    ensures indexes { located_symbols (symbol_at 0x12 0 16 4 ∷ symbol_at 0x12 1 32 8 ∷ [])
+    ensures indexes { located_symbols 62 (symbol_at 0x12 0 16 4 ∷ symbol_at 0x12 1 32 8 ∷ [])
         ≡ located_at 1 32 8 ∷ [] }
+{}
+
+/// Bit 0 of the value of a function of ARM (40) and MIPS (8) is no part of its address. It is one of data, and for other
+/// machines, as x86-64 (62).
+pub fn addresses_of_code()
+    ensures thumb { code_address 40 (symbol_at 0x12 1 0x8001 4) ≡ 0x8000 }
+    ensures arm { code_address 40 (symbol_at 0x12 1 0x8000 4) ≡ 0x8000 }
+    ensures local_thumb { code_address 40 (symbol_at 0x02 1 0x8003 4) ≡ 0x8002 }
+    ensures indirect { code_address 40 (symbol_at 0x1a 1 0x8001 4) ≡ 0x8000 }
+    ensures of_data { code_address 40 (symbol_at 0x11 1 0x8001 4) ≡ 0x8001 }
+    ensures micro_mips { code_address 8 (symbol_at 0x12 1 0x401 4) ≡ 0x400 }
+    ensures of_another_machine { code_address 62 (symbol_at 0x12 1 0x8001 4) ≡ 0x8001 }
 {}
 
 /// The nearest symbol is the last that starts at the address or before it.
 pub fn nearest_symbols()
     ensures before { nearest 15 by_address ≡ None }
-    ensures start { nearest 16 by_address ≡ found 3 0 true }
-    ensures last_byte { nearest 19 by_address ≡ found 3 3 true }
-    ensures past { nearest 20 by_address ≡ found 3 4 false }
-    ensures tie { nearest 32 by_address ≡ found 2 0 true }
-    ensures far { nearest 100 by_address ≡ found 2 68 false }
+    ensures start { nearest 16 by_address ≡ found 3 16 0 true }
+    ensures last_byte { nearest 19 by_address ≡ found 3 16 3 true }
+    ensures past { nearest 20 by_address ≡ found 3 16 4 false }
+    ensures tie { nearest 32 by_address ≡ found 2 32 0 true }
+    ensures far { nearest 100 by_address ≡ found 2 32 68 false }
+    ensures in_a_section { nearest_in 1 32 by_address ≡ found 1 32 0 false }
+    ensures in_another_section { nearest_in 2 32 by_address ≡ found 2 32 0 true }
+    ensures before_a_section { nearest_in 2 31 by_address ≡ None }
+    ensures in_no_section { nearest_in 3 100 by_address ≡ None }
 {}
 
 /// The version indexes 0 and 1 are no version, and neither is the one of the file itself. An index that a definition and

@@ -1,15 +1,13 @@
 -- The small sound sections were built as linkers build them.
-use Rattle.std.proofs.Common.{◌≡◌, ◌≢◌, ℕ, zero, suc, ◌+◌, ◌<◌, List, Some, refl, lit≤, arith}
+use Rattle.std.proofs.Common.{◌≡◌, ◌≢◌, ℕ, zero, suc, ◌+◌, ◌/◌, ◌<◌, List, Some, refl, lit≤, arith}
+use Rattle.std.specs.Prelude.{slice_index_or}
 use Rattle.std.specs.List.{All, AllPairs}
-use Rattle.elf_parts.specs.GnuFind.{GnuTable, bloom_word}
-use Rattle.elf_parts.specs.Hash.{gnu_hash_of, named_symbol, sysv_hash_of, word_at}
-use Rattle.elf_records.specs.Number.{bytes_at, number_at}
-use Rattle.elf_records.specs.Record.{numbers_at}
-use Rattle.elf_records.specs.StringTable.{string_at}
+use Rattle.elf_parts.specs.GnuFind.{GnuTable}
 use Rattle.elf_parts.specs.SysvFind.{SysvTable}
-use Rattle.elf_hash_check.specs.WithSymbols.{WithSymbols, bloom, name_at, symbol_and_name, word}
+use Rattle.elf_hash_check.specs.WithSymbols.{WithSymbols, bloom, name_at, word}
 use Rattle.elf_worked.proofs.Below.{below_one, below_three, below_two}
-use Rattle.elf_worked.specs.Built.{AreGrouped, HasGnuWords, HasSysvWords, IsBuiltGnu, IsBuiltSysv, bloom_of_all, bucket_after, bucket_word, chain_after, gnu_hashes, name_in, run_word, sysv_bucket}
+use Rattle.elf_worked.proofs.KnownBytes.{known_bytes}
+use Rattle.elf_worked.specs.Built.{AreGrouped, HasGnuWords, HasSysvWords, IsBuiltGnu, IsBuiltSysv, bloom_of_all, bucket_after, bucket_word, chain_after, gnu_bucket, gnu_hashes, name_in, run_word, sysv_bucket}
 use Rattle.elf_worked.specs.BuiltSections.{gnu_built_names, sysv_built_names, sysv_built_order}
 use Rattle.elf_worked.specs.Files.{in_four}
 use Rattle.elf_worked.specs.SoundSections.{gnu_with, sysv_with}
@@ -25,24 +23,15 @@ below_four P p q r s (suc i) h = below_three (λ k. P (suc k)) q r s i (omega (a
 
 -- what holds of the three symbols holds of all that were put in
 all_put : (P : ℕ → Type 0) → P 1 → P 2 → P 3 → All P sysv_built_order
-all_put P p q r zero d h = p
-all_put P p q r (suc zero) d h = q
-all_put P p q r (suc (suc zero)) d h = r
-all_put P p q r (suc (suc (suc k))) d h = absurd (omega (arith, h))
+all_put P p q r k d h = below_three (λ i. P (slice_index_or sysv_built_order i d)) p q r k h
 
 put_once : AllPairs (λ i j. i ≢ j) sysv_built_order
-put_once zero zero d less below same = omega (arith, less)
-put_once zero (suc zero) d less below same = omega (arith, same)
-put_once zero (suc (suc zero)) d less below same = omega (arith, same)
-put_once (suc i) zero d less below same = omega (arith, less)
-put_once (suc zero) (suc zero) d less below same = omega (arith, less)
-put_once (suc (suc i)) (suc zero) d less below same = omega (arith, less)
-put_once (suc zero) (suc (suc zero)) d less below same = omega (arith, same)
-put_once (suc (suc i)) (suc (suc zero)) d less below same = omega (arith, less)
-put_once i (suc (suc (suc j))) d less below same = omega (arith, below)
+put_once i j d less below same =
+    let at = below_three (λ k. slice_index_or sysv_built_order k d ≡ k + 1) refl refl refl in
+    omega (arith, less, below, same, at i (omega (arith, less, below)), at j below)
 
 sysv_words : HasSysvWords sysv_built_names sysv_built_order sysv_one.table
-unfolding word word_at bytes_at number_at numbers_at sysv_hash_of
+unfolding known_bytes
 sysv_words =
     let of : ℕ → ℕ = sysv_bucket 2 sysv_built_names in
     let B : ℕ → Type 0 = λ i. word sysv_one.table.buckets i ≡ Some (bucket_after of sysv_built_order i) in
@@ -54,7 +43,7 @@ abbrev HasItsName : ℕ → Type 0
 HasItsName index = name_at sysv_one.symbols sysv_one.strings index ≡ Some (name_in sysv_built_names index)
 
 sysv_named : All HasItsName sysv_built_order
-unfolding symbol_and_name named_symbol string_at bytes_at number_at numbers_at
+unfolding known_bytes
 sysv_named = all_put HasItsName refl refl refl
 
 pub sysv_built : IsBuiltSysv sysv_built_names sysv_built_order sysv_one
@@ -74,7 +63,7 @@ abbrev gnu_one : WithSymbols GnuTable
 gnu_one = gnu_with 3 5 0xc0 0x06 0x09
 
 gnu_words : HasGnuWords (gnu_hashes gnu_built_names) gnu_one.table
-unfolding word word_at bloom bloom_word bytes_at number_at numbers_at gnu_hash_of
+unfolding known_bytes
 gnu_words =
     let hashes : List ℕ = gnu_hashes gnu_built_names in
     let F : ℕ → Type 0 = λ i. bloom gnu_one.table.bloom i ≡ Some (bloom_of_all 32 1 5 hashes i) in
@@ -85,24 +74,18 @@ gnu_words =
     record { bloom = below_one F refl; buckets = (refl, buckets); chains = (refl, chains) }
 
 -- the buckets of the hashes are 0, 0 and 1
+bucket_is : (k : ℕ) → k < 3 → gnu_bucket 2 (gnu_hashes gnu_built_names) k ≡ k / 2
+unfolding known_bytes
+bucket_is = below_three (λ k. gnu_bucket 2 (gnu_hashes gnu_built_names) k ≡ k / 2) refl refl refl
+
 gnu_grouped : AreGrouped 2 (gnu_hashes gnu_built_names)
-unfolding gnu_hash_of
-gnu_grouped i zero zero a b c e = let same : i ≡ 0 = omega (arith, a) in rw same refl
-gnu_grouped zero (suc zero) k a b c e = refl
-gnu_grouped (suc zero) (suc zero) k a b c e = refl
-gnu_grouped zero (suc (suc zero)) (suc (suc zero)) a b c e = cc e
-gnu_grouped (suc zero) (suc (suc zero)) (suc (suc zero)) a b c e = cc e
-gnu_grouped (suc (suc zero)) (suc (suc zero)) k a b c e = refl
-gnu_grouped i zero (suc k) a b c e = let same : i ≡ 0 = omega (arith, a) in rw same refl
-gnu_grouped (suc (suc i)) (suc zero) k a b c e = absurd (omega (arith, a))
-gnu_grouped i (suc (suc (suc j))) k a b c e = absurd (omega (arith, b, c))
-gnu_grouped i (suc (suc zero)) (suc (suc (suc k))) a b c e = absurd (omega (arith, c))
-gnu_grouped i (suc (suc zero)) (suc zero) a b c e = absurd (omega (arith, b))
-gnu_grouped i (suc (suc zero)) zero a b c e = absurd (omega (arith, b))
-gnu_grouped (suc (suc (suc i))) (suc (suc zero)) k a b c e = absurd (omega (arith, a))
+gnu_grouped i j k a b c e =
+    let at_i = bucket_is i (omega (arith, a, b, c)) in
+    let at_j = bucket_is j (omega (arith, b, c)) in
+    omega (arith, a, b, e, at_i, at_j, bucket_is k c)
 
 gnu_named : (k : ℕ) → k < 3 → name_at gnu_one.symbols gnu_one.strings (1 + k) ≡ Some (name_in gnu_built_names k)
-unfolding symbol_and_name named_symbol string_at bytes_at number_at numbers_at
+unfolding known_bytes
 gnu_named =
     let P : ℕ → Type 0 = λ k. name_at gnu_one.symbols gnu_one.strings (1 + k) ≡ Some (name_in gnu_built_names k) in
     below_three P refl refl refl
@@ -118,3 +101,6 @@ gnu_built = (
     named = gnu_named;
   },
 )
+
+-- both
+pub ruleset small_built = (sysv_built, gnu_built)

@@ -1,10 +1,10 @@
 pub mod Below
+pub mod KnownBytes
 pub mod SysvSound
 pub mod GnuSound
 pub mod HashesOfA
 pub mod Resolved
 pub mod WrittenFiles
-pub mod FilesWritten
 pub mod PutIn
 pub mod Grouped
 pub mod BuiltSound

@@ -196,23 +196,17 @@ file_opened little h of_byte sections segments bytes w =
 
 -- ---- the headers in the tables
 
-listed_sections : {E : Type 0} (little : E → Bool) (h : FileHeader E) (sections : List SectionHeader) (bytes : List ℕ) → length bytes < 2 ^ 64 → SectionsLie little h sections bytes → section_list (written_sections little h sections) ≡ sections
+pub listed_sections : {E : Type 0} (little : E → Bool) (h : FileHeader E) (sections : List SectionHeader) (bytes : List ℕ) → length bytes < 2 ^ 64 → SectionsLie little h sections bytes → section_list (written_sections little h sections) ≡ sections
 listed_sections little h [] bytes small lie = refl
 listed_sections little h (first ∷ rest) bytes small lie =
     section_header_is_struct.2 (little h.endianness) h.class (first ∷ rest) lie.fit
     (part_small (table_of (little h.endianness) (section_header_struct h.class) (first ∷ rest)) bytes h.e_shoff small lie.lie)
 
-pub sections_listed : {E : Type 0} (little : E → Bool) (h : FileHeader E) (of_byte : ℕ → Option E) (sections : List SectionHeader) (segments : Option (List ProgramHeader)) (bytes : List ℕ) → IsWritten little h of_byte sections segments bytes → section_list (written_sections little h sections) ≡ sections
-sections_listed little h of_byte sections segments bytes w = listed_sections little h sections bytes w.small w.sections_lie
-
-listed_segments : {E : Type 0} (little : E → Bool) (h : FileHeader E) (sections : List SectionHeader) (segments : Option (List ProgramHeader)) (bytes : List ℕ) → length bytes < 2 ^ 64 → SegmentsLie little h sections segments bytes → segment_list (written_segments little h segments) ≡ segments_of segments
+pub listed_segments : {E : Type 0} (little : E → Bool) (h : FileHeader E) (sections : List SectionHeader) (segments : Option (List ProgramHeader)) (bytes : List ℕ) → length bytes < 2 ^ 64 → SegmentsLie little h sections segments bytes → segment_list (written_segments little h segments) ≡ segments_of segments
 listed_segments little h sections None bytes small lie = refl
 listed_segments little h sections (Some segments) bytes small lie =
     program_header_is_struct.2 (little h.endianness) h.class segments lie.fit
     (part_small (table_of (little h.endianness) (program_header_struct h.class) segments) bytes h.e_phoff small lie.lie)
-
-pub segments_listed : {E : Type 0} (little : E → Bool) (h : FileHeader E) (of_byte : ℕ → Option E) (sections : List SectionHeader) (segments : Option (List ProgramHeader)) (bytes : List ℕ) → IsWritten little h of_byte sections segments bytes → segment_list (written_segments little h segments) ≡ segments_of segments
-segments_listed little h of_byte sections segments bytes w = listed_segments little h sections segments bytes w.small w.segments_lie
 
 -- ---- the names of the sections
 
@@ -234,7 +228,7 @@ section_found little h first rest bytes small lie i s there =
     let same = slice_get-items gives (size_by section_header_layout h.class) part i within (part_small part bytes h.e_shoff small lie.lie) most in
     ok_from_some (item_at gives (size_by section_header_layout h.class) part i) s (sym same ∙ ap (λ (xs : List SectionHeader). slice_get xs i) all ∙ there)
 
-names_read : {E : Type 0} (little : E → Bool) (h : FileHeader E) (of_byte : ℕ → Option E) (sections : List SectionHeader) (segments : Option (List ProgramHeader)) (names bytes : List ℕ) → length bytes < 2 ^ 64 → SectionsLie little h sections bytes → NamesLie little h sections names bytes → name_table (object_file little (written_view little h sections segments bytes)) ≡ Ok (Some names)
+pub names_read : {E : Type 0} (little : E → Bool) (h : FileHeader E) (of_byte : ℕ → Option E) (sections : List SectionHeader) (segments : Option (List ProgramHeader)) (names bytes : List ℕ) → length bytes < 2 ^ 64 → SectionsLie little h sections bytes → NamesLie little h sections names bytes → name_table (object_file little (written_view little h sections segments bytes)) ≡ Ok (Some names)
 unfolding name_table name_section
 names_read little h of_byte [] segments names bytes small lie n = cc n.there
 names_read little h of_byte (first ∷ rest) segments names bytes small lie n =
@@ -246,6 +240,3 @@ names_read little h of_byte (first ∷ rest) segments names bytes small lie n =
     bind_step (name_section (object_file little (written_view little h (first ∷ rest) segments bytes))) (if_found (section_range bytes)) (Some n.section) (Some names)
     (named_steps false (nat_eq h.e_shstrndx 0) (name_index (object_file little (written_view little h (first ∷ rest) segments bytes))) at (declared_names little h (first ∷ rest)) n.section refl unnamed index found)
     (ap (ok_map Some) (bytes_lie names bytes n.section.sh_offset n.section.sh_size small (sym n.size) n.lie))
-
-pub names_found : {E : Type 0} (little : E → Bool) (h : FileHeader E) (of_byte : ℕ → Option E) (sections : List SectionHeader) (segments : Option (List ProgramHeader)) (names bytes : List ℕ) → IsWritten little h of_byte sections segments bytes → NamesLie little h sections names bytes → name_table (object_file little (written_view little h sections segments bytes)) ≡ Ok (Some names)
-names_found little h of_byte sections segments names bytes w n = names_read little h of_byte sections segments names bytes w.small w.sections_lie n

@@ -1,4 +1,6 @@
 //! Which symbols a reference may bind to, and which of them serves it.
+#![tactic(auto, unfolding(crate::proofs::KnownBytes::known_bytes))]
+
 ghost use Rattle.std.specs.Prelude.{◌≡◌, ℕ, List, [], ◌∷◌, true, false, Ok, Err, None, Some};
 ghost use Rattle.elf_linking.specs.Binding.{VersionedObject, ChosenAt, IsBinding, is_definition, unreadable};
 ghost use Rattle.elf_linking.specs.Binding.{IsBindingFor, IsChosenFor, is_definition_for, version_of};

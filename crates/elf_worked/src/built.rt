@@ -52,6 +52,7 @@ pub fn built_sysv_bytes_are_sound()
 
 /// A GNU section that was built for any symbols is sound, and `find`, whose contract is `IsLeastNamed`, finds each of
 /// their names.
+#[tactic(auto, using(crate::proofs::BuiltSound::gnu_sound, crate::proofs::BuiltSound::gnu_found))]
 pub fn built_gnu_section_is_sound()
     ensures sound { (names : List (List ℕ)) (s : WithSymbols GnuTable) → IsBuiltGnu names s → SoundGnu s }
     ensures found { (names : List (List ℕ)) (s : WithSymbols GnuTable) → IsBuiltGnu names s →
@@ -70,6 +71,7 @@ pub fn built_gnu_bytes_are_sound()
 {}
 
 /// The small sound sections were built so, and their bytes are those that a linker writes.
+#[tactic(auto, using(crate::proofs::BuiltKnown::small_built), unfolding(crate::proofs::KnownBytes::known_bytes))]
 pub fn small_sections_are_built()
     ensures sysv { IsBuiltSysv sysv_built_names sysv_built_order (sysv_with 8 (in_four 0)) }
     ensures sysv_bytes { sysv_section_bytes true 2 sysv_built_names sysv_built_order ≡ sysv_bytes 4 (in_four 0) }

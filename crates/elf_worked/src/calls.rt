@@ -1,4 +1,6 @@
 //! Whole calls of a listing, from the bytes of small files on.
+#![tactic(auto, unfolding(crate::proofs::KnownBytes::known_bytes))]
+
 ghost use Rattle.std.specs.Prelude.{◌≡◌, [], ◌∷◌, ◌++◌, Ok, codes};
 ghost use Rattle.elf_hash_check.specs.declared.hashcheck.any.HashKind.TheVariants.{Gnu, Sysv};
 ghost use Rattle.elfshow.specs.Question.{Data, DynSyms, Dynamic, Hash, Name, Notes, Relas, Rels};

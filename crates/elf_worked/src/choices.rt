@@ -1,5 +1,5 @@
 //! Which sections are taken, if there are several.
-#![tactic(auto, unfolding(elf_reading::specs::Versions::version_sections))]
+#![tactic(auto, unfolding(crate::proofs::KnownBytes::known_bytes))]
 
 ghost use Rattle.std.specs.Prelude.{◌≡◌, [], ◌∷◌, Some, None};
 ghost use Rattle.elf.specs.Headers.{first_section_of};

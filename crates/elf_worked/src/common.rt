@@ -1,5 +1,5 @@
 //! What is looked up most often, found in one pass over the sections.
-#![tactic(auto, unfolding(elf::specs::Common::common_of_sections, elf::specs::Data::section_data, elf_parts::specs::GnuFind::gnu_section, elf_parts::specs::SysvFind::sysv_section, elf_records::specs::Number::bytes_at, elf_records::specs::Number::number_at, elf_records::specs::Record::numbers_at))]
+#![tactic(auto, unfolding(crate::proofs::KnownBytes::known_bytes))]
 
 ghost use Rattle.std.specs.Prelude.{◌≡◌, [], ◌∷◌, ◌++◌, true, Ok, Err, Some, None, drop, take};
 ghost use Rattle.elf_records.specs.Table.{table_in};

@@ -1,5 +1,5 @@
 //! Both hashes of names, and what small hash sections find.
-#![tactic(auto, unfolding(crate::specs::HashSections::cyclic, crate::specs::HashSections::gnu_finds, crate::specs::HashSections::short_chain, crate::specs::HashSections::two_names, elf_parts::specs::GnuFind::bloom_word, elf_parts::specs::GnuFind::find_in_run, elf_parts::specs::GnuFind::gnu_find, elf_parts::specs::GnuFind::gnu_section, elf_parts::specs::GnuFind::passes, elf_parts::specs::Hash::gnu_hash_of, elf_parts::specs::Hash::named_symbol, elf_parts::specs::Hash::sysv_hash_of, elf_parts::specs::Hash::word_at, elf_parts::specs::SysvFind::find_along, elf_parts::specs::SysvFind::sysv_find, elf_parts::specs::SysvFind::sysv_section, elf_records::specs::Number::bytes_at, elf_records::specs::Number::number_at, elf_records::specs::Record::numbers_at, elf_records::specs::StringTable::string_at))]
+#![tactic(auto, unfolding(crate::proofs::KnownBytes::known_bytes))]
 
 ghost use Rattle.std.specs.Prelude.{◌≡◌, ℕ, [], Ok, Err, Some, None};
 ghost use Rattle.elf_parts.specs.Hash.{gnu_hash_of, sysv_hash_of};
@@ -8,7 +8,6 @@ ghost use Rattle.elf_worked.specs.HashSections.{a, b, capital_a, cyclic, exit};
 ghost use Rattle.elf_worked.specs.HashSections.{gnu_finds, printf, short_chain, two_names};
 
 /// Hashes of names.
-#[tactic(auto, unfolding(elf_parts::specs::Hash::sysv_hash_of, elf_parts::specs::Hash::gnu_hash_of))]
 pub fn hashes()
     ensures sysv_empty { sysv_hash_of [] ≡ 0 }
     ensures sysv_exit { sysv_hash_of exit ≡ 0x6cf04 }

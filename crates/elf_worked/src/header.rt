@@ -1,5 +1,5 @@
 //! Identifications, records of both classes, and the tail of a header.
-#![tactic(auto, unfolding(elf_records::specs::Number::bytes_at, elf_records::specs::Number::number_at, elf_records::specs::Record::numbers_at, elf_records::specs::Record::numbers_end, elf_records::specs::File::ident_of))]
+#![tactic(auto, unfolding(crate::proofs::KnownBytes::known_bytes))]
 
 ghost use Rattle.std.specs.Prelude.{◌≡◌, ◌-◌, ◌^◌, [], ◌∷◌, ◌++◌, true, false, Ok, Err, take};
 ghost use Rattle.elf_records.specs.File.{header_with_tail, ident_of};

@@ -1,4 +1,6 @@
 //! The lines of a listing, of records whose fields are given.
+#![tactic(auto, unfolding(crate::proofs::KnownBytes::known_bytes))]
+
 ghost use Rattle.std.specs.Prelude.{◌≡◌, [], ◌∷◌, ◌++◌, Ok, Err, Some, None, codes, negsuc, pos};
 ghost use Rattle.elf_parts.specs.Note.{AbiTag, BuildId, Other};
 ghost use Rattle.elf_records.specs.declared.parse.ParseError.TheVariants.{BadOffset};

@@ -1,5 +1,5 @@
 //! Notes: their headers, their padding, and what they say.
-#![tactic(auto, unfolding(elf_parts::specs::Note::aligned_offset, elf_parts::specs::Note::content_of, elf_parts::specs::Note::note_at, elf_parts::specs::Note::note_links, elf_records::specs::Number::bytes_at, elf_records::specs::Number::number_at, elf_records::specs::Record::numbers_at))]
+#![tactic(auto, unfolding(crate::proofs::KnownBytes::known_bytes))]
 
 ghost use Rattle.std.specs.Prelude.{◌≡◌, [], ◌∷◌, ◌++◌, true, false, Ok, Err};
 ghost use Rattle.elf_parts.specs.Note.{AbiTag, BuildId, Other, note_at, notes_in};

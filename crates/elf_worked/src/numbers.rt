@@ -1,5 +1,5 @@
 //! Numbers in a few bytes.
-#![tactic(auto, unfolding(elf_records::specs::Number::bytes_at, elf_records::specs::Number::number_at, elf_records::specs::Number::signed_number_at))]
+#![tactic(auto, unfolding(crate::proofs::KnownBytes::known_bytes))]
 
 ghost use Rattle.std.specs.Prelude.{◌≡◌, ◌-◌, ◌^◌, [], ◌∷◌, true, false, pos, negsuc, Ok, Err};
 ghost use Rattle.elf_records.specs.Number.{bytes_at, moved_by, number_at, signed_number_at};

@@ -1,5 +1,5 @@
 //! Files as they are opened: headers, tables and names.
-#![tactic(auto, unfolding(elf_records::specs::Number::bytes_at, elf_records::specs::Number::number_at, elf_records::specs::Record::numbers_at, elf_records::specs::File::ident_of, elf_reading::specs::Opening::header_at_front, elf_reading::specs::Opening::section_table, elf_reading::specs::Opening::segment_table, elf::specs::Names::name_section, elf::specs::Names::name_table))]
+#![tactic(auto, unfolding(crate::proofs::KnownBytes::known_bytes))]
 
 ghost use Rattle.std.specs.Prelude.{◌≡◌, [], ◌∷◌, ◌++◌, true, false, None, Some, Ok, Err, length, take};
 ghost use Rattle.elf_records.specs.Number.{ok_map};

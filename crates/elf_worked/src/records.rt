@@ -1,6 +1,6 @@
 //! Symbols, relocations, dynamic entries, compression headers and the headers of hash sections in the bytes 00, 01 and
 //! so on.
-#![tactic(auto, unfolding(elf_records::specs::Number::bytes_at, elf_records::specs::Number::number_at, elf_records::specs::Record::numbers_at))]
+#![tactic(auto, unfolding(crate::proofs::KnownBytes::known_bytes))]
 
 ghost use Rattle.std.specs.Prelude.{◌≡◌, [], ◌∷◌, ◌++◌, true, false, pos, negsuc, Ok, Err, take};
 ghost use Rattle.elf_records.specs.Compression.{compression_header_layout};

@@ -1,5 +1,5 @@
 //! A name over a list of two objects, and what files are as objects.
-#![tactic(auto, unfolding(elf::specs::Data::section_data, elf_hash_check::specs::WithSymbols::symbol_and_name, elf_hash_check::specs::WithSymbols::word, elf_parts::specs::GnuFind::gnu_section, elf_parts::specs::Hash::named_symbol, elf_parts::specs::Hash::word_at, elf_parts::specs::SysvFind::sysv_section, elf_reading::specs::Opening::header_at_front, elf_reading::specs::Opening::section_table, elf_reading::specs::Opening::segment_table, elf_records::specs::File::ident_of, elf_records::specs::Number::bytes_at, elf_records::specs::Number::number_at, elf_records::specs::Record::numbers_at, elf_records::specs::StringTable::string_at))]
+#![tactic(auto, unfolding(crate::proofs::KnownBytes::known_bytes))]
 
 ghost use Rattle.std.specs.Prelude.{◌≡◌, [], ◌∷◌, None, Ok, Err, Some, codes};
 ghost use Rattle.elf_records.specs.declared.parse.ParseError.TheVariants.{SliceReadError};
@@ -45,6 +45,7 @@ pub fn objects_of_files()
 
 /// The faults of an object: bytes of the section that are not in the file, no symbols of dynamic linking, and a section
 /// that is not sound.
+#[tactic(auto, using(crate::proofs::HashesOfA::is_cyclic), unfolding(crate::proofs::KnownBytes::known_bytes))]
 pub fn faults_of_objects()
     ensures read { object_of (object_with counted_file (section_of 5 0 0x3c 8 ∷ []) [])
         ≡ Some (Err (Read (SliceReadError (0x3c, 0x44)))) }

@@ -1,5 +1,5 @@
 //! The bytes of a section.
-#![tactic(auto, unfolding(elf::specs::Data::section_data, elf_records::specs::Number::bytes_at, elf_records::specs::Number::number_at, elf_records::specs::Record::numbers_at))]
+#![tactic(auto, unfolding(crate::proofs::KnownBytes::known_bytes))]
 
 ghost use Rattle.std.specs.Prelude.{◌≡◌, ◌-◌, ◌^◌, [], ◌∷◌, Ok, Err, Some, None};
 ghost use Rattle.elf.specs.Data.{content_of_type, section_data};

@@ -1,4 +1,6 @@
 //! Small hash sections that are sound, and for each fault one that is off by one thing.
+#![tactic(auto, unfolding(crate::proofs::KnownBytes::known_bytes))]
+
 ghost use Rattle.std.specs.Prelude.{◌≡◌, [], Ok, codes};
 ghost use Rattle.std.specs.Result.{IsOkAnd};
 ghost use Rattle.elf_records.specs.Number.{ok_map};
@@ -29,6 +31,7 @@ pub fn sysv_section_is_sound()
 /// The same, except: the chain word of symbol 3, which leads back to symbol 1; the number of chain words, which leaves
 /// symbol 3 without one; the name of symbol 3, which would begin past the strings; and the chain word of symbol 3,
 /// which leads to symbol 2, of the other bucket.
+#[tactic(auto, using(crate::proofs::SysvSound::sysv_faults), unfolding(crate::proofs::KnownBytes::known_bytes))]
 pub fn sysv_sections_with_a_fault()
     ensures endless { IsOkAnd (sysv_cut 8 (sysv_bytes 4 (in_four 1))) (HasSysvFault (Endless 0)) }
     ensures other_bucket { ¬ IsTrueOfSysv (sysv_with 8 (in_four 1)) (Endless 1) }
@@ -40,6 +43,7 @@ pub fn sysv_sections_with_a_fault()
 {}
 
 /// A run of "a" and "c" and a run of "b": the section is sound, no fault is true of it, and it indexes three symbols.
+#[tactic(auto, using(crate::proofs::GnuSound::gnu_is_sound), unfolding(crate::proofs::KnownBytes::known_bytes))]
 pub fn gnu_section_is_sound()
     ensures cut { gnu_cut 3 (gnu_bytes 5 0xc0 0x06 0x09) ≡ Ok (gnu_with 3 5 0xc0 0x06 0x09) }
     ensures sound { IsOkAnd (gnu_cut 3 (gnu_bytes 5 0xc0 0x06 0x09)) SoundGnu }
@@ -51,6 +55,7 @@ pub fn gnu_section_is_sound()
 /// The same, except: a shift of 32; the name of symbol 2, which would begin past the strings; the chain word of
 /// symbol 2, which is the hash of another name; bit 7 of the bloom word, which "b" needs; and bit 0 of the first chain
 /// word, which ends the run before symbol 2.
+#[tactic(auto, using(crate::proofs::GnuSound::gnu_faults), unfolding(crate::proofs::KnownBytes::known_bytes))]
 pub fn gnu_sections_with_a_fault()
     ensures shift { IsOkAnd (gnu_cut 3 (gnu_bytes 32 0xc0 0x06 0x09)) (HasGnuFault ShiftTooLarge) }
     ensures unreadable { IsOkAnd (gnu_cut 8 (gnu_bytes 5 0xc0 0x06 0x09)) (HasGnuFault (Unreadable 2)) }

@@ -1,5 +1,5 @@
 //! Strings in a table.
-#![tactic(auto, unfolding(elf_records::specs::StringTable::string_at))]
+#![tactic(auto, unfolding(crate::proofs::KnownBytes::known_bytes))]
 
 ghost use Rattle.std.specs.Prelude.{◌≡◌, [], ◌∷◌, ℕ, List, Result, Ok, Err, IsErrAnd, IsOkAnd, IsUtf8, codes};
 ghost use Rattle.elf_records.specs.StringTable.{GivesText, string_at};

@@ -1,4 +1,6 @@
 //! Listings, byte for byte.
+#![tactic(auto, unfolding(crate::proofs::KnownBytes::known_bytes))]
+
 ghost use Rattle.std.specs.Prelude.{◌≡◌, ◌-◌, ◌^◌, [], ◌∷◌, ◌++◌, Ok, Err, codes, take};
 ghost use Rattle.std.specs.Fmt.{decimal};
 ghost use Rattle.elf_records.specs.declared.parse.ParseError.TheVariants.{SliceReadError};

@@ -1,5 +1,5 @@
 //! Needs and definitions of versions, and the versions of symbols.
-#![tactic(auto, unfolding(elf_parts::specs::gnu_symver::Links::links_in, elf_parts::specs::gnu_symver::Table::defined_version, elf_parts::specs::gnu_symver::Table::needed_version, elf_records::specs::Number::bytes_at, elf_records::specs::Number::number_at, elf_records::specs::Record::numbers_at, elf_records::specs::StringTable::string_at))]
+#![tactic(auto, unfolding(crate::proofs::KnownBytes::known_bytes))]
 
 ghost use Rattle.std.specs.Prelude.{◌≡◌, [], ◌∷◌, ◌++◌, true, false, Ok, Err, Some, None, codes};
 ghost use Rattle.elf_parts.specs.gnu_symver.Lists.{ver_defs, ver_needs};

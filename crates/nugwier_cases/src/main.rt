@@ -34,8 +34,6 @@ impl Files for CaseFiles<'_> {
     // Files may change, so their contents are not known.
     ghost known = { λ _. None };
 
-    ghost folders = { λ _. None };
-
     fn open(&self, path: &str) -> Option<CaseSource> {
         let (name, reads) = match path.split_once(',') {
             Some((name, word)) => (name, Some(failing_read(word)?)),

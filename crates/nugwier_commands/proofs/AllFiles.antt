@@ -11,13 +11,13 @@ use Rattle.std.specs.Io.KnownBytes.{Appends}
 use Rattle.std.specs.List.{flat_map, list_all}
 use Rattle.elf_archive.specs.Archive.{Item}
 use Rattle.nugwier_commands.specs.Run.{AreAllTold, AreFilesSaid, AreItemsSaid, ArePlacesSaid, AreWritten, IsFoundTold}
-use Rattle.nugwier_commands.specs.Run.{IsItemSaid, IsProblemsOf, IsWritten, Known, KnownFolders, Listing, Written, heading_of}
+use Rattle.nugwier_commands.specs.Run.{IsItemSaid, IsProblemsOf, IsWritten, Known, Listing, Written, heading_of}
 use Rattle.nugwier_commands.specs.Run.{listing_text, next_heading}
 use Rattle.nugwier_commands.specs.Walk.{AreFound, Found, IsNextFound}
 use Rattle.nugwier_commands.specs.declared.ended.Ended.{Ended}
 use Rattle.nugwier_commands.specs.inner.Loading.{AreSaidAndWritten, IsItemEnded, IsPathEnded, written_by}
-use Rattle.nugwier_commands.proofs.Walks.{both}
-use Rattle.nugwier_files.specs.Folder.{Folder, Place}
+use Rattle.nugwier_programs.proofs.Configuring.{both}
+use Rattle.nugwier_files.specs.Folder.{KnownFiles, Place}
 use Rattle.nugwier_report.specs.Problems.{IsProblemsText}
 use Rattle.nugwier_report.specs.declared.kind.Kind.{Kind}
 use Rattle.nugwier_report.specs.declared.report.Summary.{Summary}
@@ -173,34 +173,34 @@ module _ (known : Known) (task : Task) (first : Option Kind) (path : List ℕ) (
 
 -- ---- what is found below folders
 
-module _ (known : Known) (folders : KnownFolders) (task : Task) (first : Option Kind) (places : List Place) (before : Written) where
+module _ (known : Known) (task : Task) (first : Option Kind) (places : List Place) (before : Written) where
   abbrev pub ArePlacesSoFar : Option Kind → List Place → Written → Bool → Bool → Type 0
   ArePlacesSoFar heading left now is_right is_told =
-      IsSoFar task.is_json before (ArePlacesSaid known folders task first places) (ArePlacesSaid known folders task heading left) now is_right is_told
+      IsSoFar task.is_json before (ArePlacesSaid known task first places) (ArePlacesSaid known task heading left) now is_right is_told
 
   found_first : (heading : Option Kind) (found : Found) (left next : List Place) (own rest : List Listing) → IsFoundTold known task heading found own
-      → IfSome known (λ files. IfSome folders (λ names. IsNextFound files names left (Some found) next))
-      → ArePlacesSaid known folders task (next_heading heading) next rest → ArePlacesSaid known folders task heading left (own ++ rest)
+      → IfSome known (λ files. IsNextFound files left (Some found) next)
+      → ArePlacesSaid known task (next_heading heading) next rest → ArePlacesSaid known task heading left (own ++ rest)
   found_first heading found left next own rest told =
-      both known folders (λ files names. IsNextFound files names left (Some found) next)
-      (λ files names. (all : List Found) × AreFound files names next all × AreAllTold known task (next_heading heading) all rest)
-      (λ files names. (all : List Found) × AreFound files names left all × AreAllTold known task heading all (own ++ rest))
-      (λ files names later are. (found ∷ are.0, later are.0 are.1, (own, rest, told, are.2, refl)))
+      both known (λ files. IsNextFound files left (Some found) next)
+      (λ files. (all : List Found) × AreFound files next all × AreAllTold known task (next_heading heading) all rest)
+      (λ files. (all : List Found) × AreFound files left all × AreAllTold known task heading all (own ++ rest))
+      (λ files later are. (found ∷ are.0, later are.0 are.1, (own, rest, told, are.2, refl)))
 
   -- what was found was said, and what is said of it was written
   pub found_ended : {W V : Type 0} (out_of : W → Option (List ℕ)) (err_of : V → Option (List ℕ)) (heading : Option Kind) (found : Found) (left next : List Place) (now : Written) (ended : Ended W V) (is_right is_told : Bool) (own : Summary)
       → ended.said ≡ Ok own → AreSaidAndWritten out_of err_of (IsFoundTold known task heading found) task now ended
-      → IfSome known (λ files. IfSome folders (λ names. IsNextFound files names left (Some found) next)) → ArePlacesSoFar heading left now is_right is_told
+      → IfSome known (λ files. IsNextFound files left (Some found) next) → ArePlacesSoFar heading left now is_right is_told
       → ArePlacesSoFar (next_heading heading) next (written_by out_of err_of ended) (is_right && own.is_right) (is_told && own.is_told)
   found_ended out_of err_of heading found left next now ended is_right is_told own is said here so =
       let done = IfOk-at_ok _ is said in
-      some_more task.is_json before (ArePlacesSaid known folders task first places) (ArePlacesSaid known folders task heading left) (ArePlacesSaid known folders task (next_heading heading) next)
+      some_more task.is_json before (ArePlacesSaid known task first places) (ArePlacesSaid known task heading left) (ArePlacesSaid known task (next_heading heading) next)
       now (written_by out_of err_of ended) is_right is_told own done.0 (λ rest are. found_first heading found left next done.0 rest done.1 here are) done.2 so
 
   pub places_ended : (heading : Option Kind) (left next : List Place) (now : Written) (is_right is_told : Bool)
-      → IfSome known (λ files. IfSome folders (λ names. IsNextFound files names left None next)) → ArePlacesSoFar heading left now is_right is_told
-      → IsDone task.is_json before (ArePlacesSaid known folders task first places) now is_right is_told
+      → IfSome known (λ files. IsNextFound files left None next) → ArePlacesSoFar heading left now is_right is_told
+      → IsDone task.is_json before (ArePlacesSaid known task first places) now is_right is_told
   places_ended heading left next now is_right is_told none so =
-      let Ended = λ (files : List ℕ → Option (List ℕ)) (names : List ℕ → Folder). IsNextFound files names left None next in
-      none_left task.is_json before (ArePlacesSaid known folders task first places) (ArePlacesSaid known folders task heading left) now is_right is_told
-      (both known folders Ended Ended (λ files names. (all : List Found) × AreFound files names left all × AreAllTold known task heading all []) (λ files names end same. ([], end, refl)) none none) so
+      let Ended = λ (files : KnownFiles). IsNextFound files left None next in
+      none_left task.is_json before (ArePlacesSaid known task first places) (ArePlacesSaid known task heading left) now is_right is_told
+      (both known Ended Ended (λ files. (all : List Found) × AreFound files left all × AreAllTold known task heading all []) (λ files end same. ([], end, refl)) none none) so

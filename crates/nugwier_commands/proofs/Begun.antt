@@ -6,6 +6,7 @@ use Rattle.std.specs.declared.io.ErrorKind.TheVariants.{OutOfMemory}
 use Rattle.nugwier_commands.specs.Run.{AreBytesSaid, AreFoundSaid, AreKindSaid, ArePathSaid, IsBegunSaid, IsContentSaid, IsElfSaid}
 use Rattle.nugwier_commands.specs.Run.{IsFoundSaid, IsProblemSaid, IsSaidAt, Known, Listing, Saying, is_archive, listing_of}
 use Rattle.nugwier_commands.specs.inner.Loading.{IsFrontOf}
+use Rattle.nugwier_files.specs.Folder.{KnownFiles}
 use Rattle.nugwier_report.specs.declared.kind.Kind.{Kind}
 use Rattle.nugwier_report.specs.Formats.{front, is_elf, not_elf}
 use Rattle.nugwier_report.specs.Labels.{Named}
@@ -35,7 +36,7 @@ module _ (known : Known) (task : Task) (heading : Option Kind) (path : List ℕ)
   one_file bytes start named said same is h =
       subst (λ (b : Bool). AreKindSaid known task heading path bytes b (listing_of heading path named said ∷ [])) (sym is ∙ ap (is_archive task.command) same) (named, said, h, refl)
 
-module _ (files : List ℕ → Option (List ℕ)) (task : Task) (heading : Option Kind) (path start : List ℕ) (begins : IsFrontOf (files path) start) where
+module _ (files : KnownFiles) (task : Task) (heading : Option Kind) (path start : List ℕ) (begins : IsFrontOf (files.contents path) start) where
   -- by the content at the path
   found : (all : List Listing) → AreBytesSaid (Some files) task heading path begins.0 all → ArePathSaid (Some files) task heading path all
   found all h = subst (λ (content : Option (List ℕ)). AreFoundSaid (Some files) task heading path content all) (sym begins.1) h
@@ -56,27 +57,27 @@ module _ (files : List ℕ → Option (List ℕ)) (task : Task) (heading : Optio
       (other_begun (IsContentSaid (Some files) task.command task path) begins.0 start fault named said begins.2 is told h))
 
 -- of the file at a path, by the bytes at its start
-pub elf_said : (known : Known) (task : Task) (heading : Option Kind) (path start : List ℕ) (named : Named) (said : List Said) → IfSome known (λ files. IsFrontOf (files path) start)
+pub elf_said : (known : Known) (task : Task) (heading : Option Kind) (path start : List ℕ) (named : Named) (said : List Said) → IfSome known (λ files. IsFrontOf (files.contents path) start)
     → is_archive task.command start ≡ false → is_elf start ≡ true → IsSaidAt known (IsContentSaid known task.command task path) path named said
     → ArePathSaid known task heading path (listing_of heading path named said ∷ [])
 elf_said None task heading path start named said begins is_file is h = tt
 elf_said (Some files) task heading path start named said begins is_file is h = elf_found files task heading path start begins named said is_file is h
 
-pub other_said : (known : Known) (task : Task) (heading : Option Kind) (path start : List ℕ) (fault : Fault) (named : Named) (said : List Said) → IfSome known (λ files. IsFrontOf (files path) start)
+pub other_said : (known : Known) (task : Task) (heading : Option Kind) (path start : List ℕ) (fault : Fault) (named : Named) (said : List Said) → IfSome known (λ files. IsFrontOf (files.contents path) start)
     → is_archive task.command start ≡ false → is_elf start ≡ false → fault ≡ not_elf start → IsProblemSaid fault named said
     → ArePathSaid known task heading path (listing_of heading path named said ∷ [])
 other_said None task heading path start fault named said begins is_file is told h = tt
 other_said (Some files) task heading path start fault named said begins is_file is told h = other_found files task heading path start begins fault named said is_file is told h
 
 -- the error is that there is no such file, unless an allocation failed
-pub missing_from : (known : Known) (path : List ℕ) (kind : ErrorKind) → IfSome known (λ files. (files path ≡ None) ⊎ (kind ≡ OutOfMemory)) → (kind ≡ OutOfMemory → ⊥)
-    → IfSome known (λ files. files path ≡ None)
+pub missing_from : (known : Known) (path : List ℕ) (kind : ErrorKind) → IfSome known (λ files. (files.contents path ≡ None) ⊎ (kind ≡ OutOfMemory)) → (kind ≡ OutOfMemory → ⊥)
+    → IfSome known (λ files. files.contents path ≡ None)
 missing_from None path kind h other = tt
 missing_from (Some files) path kind h other = ⊎_elim (λ none. none) (λ is. absurd (other is)) h
 
 -- of a file that is not there
 pub missing_said : (known : Known) (task : Task) (heading : Option Kind) (path : List ℕ) (error : Error) (named : Named) (said : List Said)
-    → IfSome known (λ files. files path ≡ None) → IsProblemSaid (System error) named said
+    → IfSome known (λ files. files.contents path ≡ None) → IsProblemSaid (System error) named said
     → ArePathSaid known task heading path (listing_of heading path named said ∷ [])
 missing_said None task heading path error named said is h = tt
 missing_said (Some files) task heading path error named said is h =
@@ -84,12 +85,12 @@ missing_said (Some files) task heading path error named said is h =
 
 -- of a file that was read, by what this says of its bytes
 pub read_as : (known : Known) (IsSaid : Saying) (path bytes : List ℕ) (named : Named) (said : List Said)
-    → IfSome known (λ files. files path ≡ Some bytes) → IsSaid bytes named said → IsSaidAt known IsSaid path named said
+    → IfSome known (λ files. files.contents path ≡ Some bytes) → IsSaid bytes named said → IsSaidAt known IsSaid path named said
 read_as None IsSaid path bytes named said is h = tt
 read_as (Some files) IsSaid path bytes named said is h = subst (λ (content : Option (List ℕ)). IsFoundSaid IsSaid content named said) (sym is) h
 
 -- of a file that is not there, by what this says of the bytes of one that is
 pub missing_as : (known : Known) (IsSaid : Saying) (path : List ℕ) (error : Error) (named : Named) (said : List Said)
-    → IfSome known (λ files. files path ≡ None) → IsProblemSaid (System error) named said → IsSaidAt known IsSaid path named said
+    → IfSome known (λ files. files.contents path ≡ None) → IsProblemSaid (System error) named said → IsSaidAt known IsSaid path named said
 missing_as None IsSaid path error named said is h = tt
 missing_as (Some files) IsSaid path error named said is h = subst (λ (content : Option (List ℕ)). IsFoundSaid IsSaid content named said) (sym is) (error, h)

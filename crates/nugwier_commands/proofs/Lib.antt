@@ -2,7 +2,6 @@ pub mod AllFiles
 mod Trees
 mod Begun
 pub mod Lifting
-mod Texts
 mod Unopened
 mod Programs
 mod Walks

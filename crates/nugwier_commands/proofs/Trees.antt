@@ -19,7 +19,7 @@ tree_by known search program said (Ok whole) is named =
 tree_by known search program said (Err e) is named = absurd (cc is)
 
 pub tree_said : (known : Known) (task : Task) (path : List ℕ) (program : Found) (said : List Said)
-    → IfSome known (λ files. IsNamed path (files path) program) → IsNamedSaid known (search_of task) program said
+    → IfSome known (λ files. IsNamed path (files.contents path) program) → IsNamedSaid known (search_of task) program said
     → IsSaidAt known (λ bytes named said. IsProgramSaid known Tree task path bytes named said) path no_sections said
 tree_said None task path program said is named = tt
 tree_said (Some files) task path program said is named =

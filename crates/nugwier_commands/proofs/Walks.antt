@@ -1,24 +1,17 @@
 -- Which files are told where folders are named.
-use Rattle.std.proofs.Common.{◌≡◌, ◌+◌, ℕ, suc, Bool, List, [], ◌∷◌, ◌++◌, map, reverse, get_or, length}
-use Rattle.std.proofs.Common.{Option, Some, None, IfSome, refl, sym, ap, subst, ◌∙◌, arith, string_bytes, append_assoc}
-use Rattle.std.proofs.lemmas.List.{get_or-map, length-map, map-append, reverse-append}
+use Rattle.std.proofs.Common.{◌≡◌, suc, List, [], ◌∷◌, ◌++◌, map, reverse}
+use Rattle.std.proofs.Common.{Option, Some, None, IfSome, refl, sym, ap, subst, ◌∙◌, string_bytes, append_assoc}
+use Rattle.std.proofs.lemmas.List.{map-append, reverse-append}
 use Rattle.std.proofs.lemmas.List.Sorted.{IsPermutation-map}
 use Rattle.std.specs.Cmp.Lexicographic.{slice_cmp}
-use Rattle.std.specs.List.Sorted.{IsPermutation, IsSortedBy, IsSortedByKey}
+use Rattle.std.specs.List.Sorted.{IsPermutation, IsSortedByKey}
 use Rattle.std.specs.Option.{option_map}
 use Rattle.std.specs.Ordering.{is_lt, nat_cmp}
-use Rattle.nugwier_files.specs.Folder.{Folder, Place, place_of}
+use Rattle.nugwier_files.specs.Folder.{KnownFiles, Place, place_of}
 use Rattle.nugwier_files.specs.declared.folder.Entry.{Entry}
+use Rattle.nugwier_programs.proofs.Configuring.{both, sorted_mapped}
 use Rattle.nugwier_commands.specs.Walk.{AreFound, Found, IsInOrder, IsNextFound, IsStep, found_view}
 use Rattle.nugwier_commands.specs.declared.walk.Found.{Found as FoundFile}
-
-sorted_mapped : {X Y : Type 0} (f : X → Y) (lt : Y → Y → Bool) (xs : List X) → IsSortedBy (λ a b. lt (f a) (f b)) xs → IsSortedBy lt (map f xs)
-sorted_mapped f lt [] h k d low within = absurd (omega (arith, within))
-sorted_mapped f lt (x ∷ xs) h k d low within =
-    let long = length-map (x ∷ xs) f in
-    let later = get_or-map f (x ∷ xs) (k + 1) x d (omega (arith, long, within)) in
-    let here = get_or-map f (x ∷ xs) k x d (omega (arith, long, within)) in
-    ap (λ a. lt a (get_or (map f (x ∷ xs)) k d)) later ∙ ap (λ b. lt (f (get_or (x ∷ xs) (k + 1) x)) b) here ∙ h k x low (omega (arith, long, within))
 
 pub in_order : (names ordered : List Entry) → IsPermutation names ordered → IsSortedByKey (λ (e : Entry). string_bytes e.path) (slice_cmp nat_cmp) ordered → IsInOrder (map place_of names) (map place_of ordered)
 in_order names ordered same up =
@@ -41,35 +34,28 @@ entered f names left items name entry is below =
     ap (λ (l : List Entry). map f (map place_of l)) is ∙ ap (map f) (map-append place_of left (name ∷ [])) ∙ map-append f (map place_of left) (place_of name ∷ []) in
     ap (λ (l : List Place). before ++ l) (pushed items entry ∙ ap (λ (p : Place). p ∷ rest) below) ∙ sym (append_assoc before (f (place_of name) ∷ []) rest) ∙ ap (λ (l : List Place). l ++ rest) (sym whole)
 
--- of files that are known, or of none
-pub both : {A B : Type 0} (a : Option A) (b : Option B) (P Q R : A → B → Type 0) → ((x : A) (y : B) → P x y → Q x y → R x y)
-    → IfSome a (λ x. IfSome b (λ y. P x y)) → IfSome a (λ x. IfSome b (λ y. Q x y)) → IfSome a (λ x. IfSome b (λ y. R x y))
-both None b P Q R step h k = tt
-both (Some x) None P Q R step h k = tt
-both (Some x) (Some y) P Q R step h k = step x y h k
-
 -- what is found from some places on is found of all
-abbrev pub IsFoundLater : (List ℕ → Option (List ℕ)) → (List ℕ → Folder) → List Place → List Place → Type 0
-IsFoundLater files folders places left = (all : List Found) → AreFound files folders left all → AreFound files folders places all
+abbrev pub IsFoundLater : KnownFiles → List Place → List Place → Type 0
+IsFoundLater files places left = (all : List Found) → AreFound files left all → AreFound files places all
 
-module _ (known : Option (List ℕ → Option (List ℕ))) (names : Option (List ℕ → Folder)) (items left : List Entry) (place : Entry) (first next : List Place) (is : items ≡ left ++ place ∷ []) where
+module _ (known : Option KnownFiles) (items left : List Entry) (place : Entry) (first next : List Place) (is : items ≡ left ++ place ∷ []) where
   -- the step at the place that was popped
-  abbrev Visited : Option Found → (List ℕ → Option (List ℕ)) → (List ℕ → Folder) → Type 0
-  Visited found files folders = IsStep files folders place.kind (string_bytes place.path) (map place_of (reverse left)) found next
+  abbrev Visited : Option Found → KnownFiles → Type 0
+  Visited found files = IsStep files place.kind (string_bytes place.path) (map place_of (reverse left)) found next
 
-  abbrev Before : (List ℕ → Option (List ℕ)) → (List ℕ → Folder) → Type 0
-  Before files folders = IsFoundLater files folders first (map place_of (reverse items))
+  abbrev Before : KnownFiles → Type 0
+  Before files = IsFoundLater files first (map place_of (reverse items))
 
-  pub nothing_here : (answer : Option FoundFile) → answer ≡ None → IfSome known (λ files. IfSome names (λ folders. Visited (option_map found_view answer) files folders))
-      → IfSome known (λ files. IfSome names (λ folders. Before files folders)) → IfSome known (λ files. IfSome names (λ folders. IsFoundLater files folders first next))
+  pub nothing_here : (answer : Option FoundFile) → answer ≡ None → IfSome known (λ files. Visited (option_map found_view answer) files)
+      → IfSome known (λ files. Before files) → IfSome known (λ files. IsFoundLater files first next)
   nothing_here answer none =
-      both known names (Visited (option_map found_view answer)) Before (λ files folders. IsFoundLater files folders first next) (λ files folders step later all are.
-      later all (subst (λ (l : List Place). AreFound files folders l all) (sym (popped items left place is))
-      (suc are.0, (None, next, all, subst (λ (a : Option FoundFile). Visited (option_map found_view a) files folders) none step, are.1, refl))))
+      both known (Visited (option_map found_view answer)) Before (λ files. IsFoundLater files first next) (λ files step later all are.
+      later all (subst (λ (l : List Place). AreFound files l all) (sym (popped items left place is))
+      (suc are.0, (None, next, all, subst (λ (a : Option FoundFile). Visited (option_map found_view a) files) none step, are.1, refl))))
 
-  pub found_here : (answer : Option FoundFile) (found : FoundFile) → answer ≡ Some found → IfSome known (λ files. IfSome names (λ folders. Visited (option_map found_view answer) files folders))
-      → IfSome known (λ files. IfSome names (λ folders. Before files folders)) → IfSome known (λ files. IfSome names (λ folders. IsNextFound files folders first (Some (found_view found)) next))
+  pub found_here : (answer : Option FoundFile) (found : FoundFile) → answer ≡ Some found → IfSome known (λ files. Visited (option_map found_view answer) files)
+      → IfSome known (λ files. Before files) → IfSome known (λ files. IsNextFound files first (Some (found_view found)) next)
   found_here answer found some =
-      both known names (Visited (option_map found_view answer)) Before (λ files folders. IsNextFound files folders first (Some (found_view found)) next) (λ files folders step later rest are.
-      later (found_view found ∷ rest) (subst (λ (l : List Place). AreFound files folders l (found_view found ∷ rest)) (sym (popped items left place is))
-      (suc are.0, (Some (found_view found), next, rest, subst (λ (a : Option FoundFile). Visited (option_map found_view a) files folders) some step, are.1, refl))))
+      both known (Visited (option_map found_view answer)) Before (λ files. IsNextFound files first (Some (found_view found)) next) (λ files step later rest are.
+      later (found_view found ∷ rest) (subst (λ (l : List Place). AreFound files l (found_view found ∷ rest)) (sym (popped items left place is))
+      (suc are.0, (Some (found_view found), next, rest, subst (λ (a : Option FoundFile). Visited (option_map found_view a) files) some step, are.1, refl))))

@@ -19,8 +19,8 @@ use Rattle.elf.specs.StreamFile.{listed_file}
 use Rattle.elf_linking.specs.Tree.{file_of}
 use Rattle.nugwier_listing.specs.Job.{IsSaidOf}
 use Rattle.nugwier_programs.specs.Bindings.{IsBindingsSaid}
-use Rattle.nugwier_files.specs.Below.{folders_known_below, known_below}
-use Rattle.nugwier_files.specs.Folder.{Folder, Place}
+use Rattle.nugwier_files.specs.Below.{known_below}
+use Rattle.nugwier_files.specs.Folder.{KnownFiles, Place}
 use Rattle.nugwier_programs.specs.Tree.{IsTreeSaid, Search}
 use Rattle.elf.specs.ObjectFile.{ObjectFile}
 use Rattle.nugwier_listing.specs.Labels.{names_told}
@@ -120,9 +120,9 @@ heading_at true i = if i == 0 then Some FileHeading else Some NextFileHeading
 abbrev pub heading_of : Task → ℕ → Option Kind
 heading_of task i = heading_at (has_headings task.command task.files) i
 
--- the contents of files by their paths, if the files are known
+-- what is known of the files, if something is
 abbrev pub Known : Type 0
-Known = Option (List ℕ → Option (List ℕ))
+Known = Option KnownFiles
 
 -- where the libraries of a program are searched for
 abbrev pub search_of : Task → Search
@@ -159,7 +159,7 @@ IsFoundSaid IsSaid (Some bytes) named said = IsSaid bytes named said
 IsFoundSaid IsSaid None named said = (error : Error) × IsProblemSaid (System error) named said
 
 abbrev pub IsSaidAt : Known → Saying → List ℕ → Named → List Said → Type 0
-IsSaidAt known IsSaid path named said = IfSome known (λ files. IsFoundSaid IsSaid (files path) named said)
+IsSaidAt known IsSaid path named said = IfSome known (λ files. IsFoundSaid IsSaid (files.contents path) named said)
 
 -- ---- listings
 
@@ -293,7 +293,8 @@ AreFoundSaid known task heading path None all =
     IsOne heading path (λ named said. (error : Error) × IsProblemSaid (System error) named said) all
 
 abbrev pub ArePathSaid : Known → Task → Option Kind → List ℕ → List Listing → Type 0
-ArePathSaid known task heading path all = IfSome known (λ files. AreFoundSaid known task heading path (files path) all)
+ArePathSaid known task heading path all =
+    IfSome known (λ files. AreFoundSaid known task heading path (files.contents path) all)
 
 -- file i and those after it
 abbrev pub AreFilesSaid : Known → Task → ℕ → List (Bor (List ℕ)) → List Listing → Type 0
@@ -303,10 +304,6 @@ AreFilesSaid known task i (path ∷ paths) all =
     × AreFilesSaid known task (i + 1) paths rest × (all ≡ own ++ rest)
 
 -- ---- files below folders, with -R
-
--- what folder is at each path, if the files are known
-abbrev pub KnownFolders : Type 0
-KnownFolders = Option (List ℕ → Folder)
 
 abbrev pub IsFoundTold : Known → Task → Option Kind → Found → List Listing → Type 0
 IsFoundTold known task heading (file_at path) all = ArePathSaid known task heading path all
@@ -320,21 +317,21 @@ AreAllTold known task heading (found ∷ others) all =
     × AreAllTold known task (next_heading heading) others rest × (all ≡ own ++ rest)
 
 -- what is said of all that is found from these places on
-abbrev pub ArePlacesSaid : Known → KnownFolders → Task → Option Kind → List Place → List Listing → Type 0
-ArePlacesSaid known folders task heading places all = IfSome known (λ files. IfSome folders (λ names.
-    (found : List Found) × AreFound files names places found × AreAllTold known task heading found all))
+abbrev pub ArePlacesSaid : Known → Task → Option Kind → List Place → List Listing → Type 0
+ArePlacesSaid known task heading places all = IfSome known (λ files.
+    (found : List Found) × AreFound files places found × AreAllTold known task heading found all)
 
 -- ---- a whole run
 
-abbrev pub AreSaidBy : Bool → Known → KnownFolders → Task → List Listing → Type 0
-AreSaidBy false known folders task all = AreFilesSaid known task 0 task.files all
-AreSaidBy true known folders task all =
-    ArePlacesSaid known folders task (first_heading task.command None) (map place_named task.files) all
+abbrev pub AreSaidBy : Bool → Known → Task → List Listing → Type 0
+AreSaidBy false known task all = AreFilesSaid known task 0 task.files all
+AreSaidBy true known task all =
+    ArePlacesSaid known task (first_heading task.command None) (map place_named task.files) all
 
 -- what is said of the files of a task was written
-abbrev pub IsTaskAnswered : Known → KnownFolders → Written → Written → Summary → Task → Type 0
-IsTaskAnswered known folders before after summary task =
-    (all : List Listing) × AreSaidBy task.is_recursive known folders task all
+abbrev pub IsTaskAnswered : Known → Written → Written → Summary → Task → Type 0
+IsTaskAnswered known before after summary task =
+    (all : List Listing) × AreSaidBy task.is_recursive known task all
     × AreWritten task.is_json before after summary all
 
 -- a text, and a newline, and nothing is wrong
@@ -345,11 +342,11 @@ IsPrinted message before after summary =
 
 -- what a run that was not stopped wrote: the help, or the text of what is said of the files, whose paths are taken below
 -- the folder of an image, if one is named
-abbrev pub IsAnswered : Known → KnownFolders → Written → Written → Summary → Answer → Type 0
-IsAnswered known folders before after summary (help command) = IsPrinted (help_of command) before after summary
-IsAnswered known folders before after summary version = IsPrinted VERSION.now before after summary
-IsAnswered known folders before after summary (run task) =
-    IsTaskAnswered (known_below task.root known) (folders_known_below task.root folders) before after summary task
+abbrev pub IsAnswered : Known → Written → Written → Summary → Answer → Type 0
+IsAnswered known before after summary (help command) = IsPrinted (help_of command) before after summary
+IsAnswered known before after summary version = IsPrinted VERSION.now before after summary
+IsAnswered known before after summary (run task) =
+    IsTaskAnswered (known_below task.root known) before after summary task
 
 -- the text of the reason was written, and a newline
 abbrev pub IsReasonTold : WordError → Option (List ℕ) → Option (List ℕ) → Type 0
@@ -362,12 +359,12 @@ IsWrong error before after is_told =
 
 -- by what the words ask for: an answer, or that the words are wrong, and nothing is listed. A failed write or a failed
 -- allocation stops a run at any time
-abbrev pub IsRun : Known → KnownFolders → Written → Written → Result Answer WordError → Outcome → Type 0
-IsRun known folders before after (Ok answer) (Done summary) = IsAnswered known folders before after summary answer
-IsRun known folders before after (Ok answer) (Wrong is_told) = ⊥
-IsRun known folders before after (Err error) (Done summary) = ⊥
-IsRun known folders before after (Err error) (Wrong is_told) = IsWrong error before after is_told
-IsRun known folders before after answer (Stopped stop) = Unit {0}
+abbrev pub IsRun : Known → Written → Written → Result Answer WordError → Outcome → Type 0
+IsRun known before after (Ok answer) (Done summary) = IsAnswered known before after summary answer
+IsRun known before after (Ok answer) (Wrong is_told) = ⊥
+IsRun known before after (Err error) (Done summary) = ⊥
+IsRun known before after (Err error) (Wrong is_told) = IsWrong error before after is_told
+IsRun known before after answer (Stopped stop) = Unit {0}
 
 abbrev pub status_of : Outcome → ℕ
 status_of (Done summary) = if summary.is_right then 0 else 1

@@ -9,7 +9,7 @@ use Rattle.std.specs.Path.{path_join}
 use Rattle.nugwier_commands.specs.declared.walk.Found.{Found as FoundFile}
 use Rattle.nugwier_commands.specs.declared.walk.Found.TheVariants as was
 use Rattle.nugwier_commands.specs.declared.walk.Walk.{Walk}
-use Rattle.nugwier_files.specs.Folder.{Folder, Place, has, none, place_of, unreadable}
+use Rattle.nugwier_files.specs.Folder.{Folder, KnownFiles, Place, has, none, place_of, unreadable}
 use Rattle.nugwier_files.specs.declared.folder.EntryKind.{EntryKind}
 use Rattle.nugwier_files.specs.declared.folder.EntryKind.TheVariants as kind
 use Rattle.nugwier_report.specs.Formats.{front, is_elf}
@@ -57,11 +57,11 @@ IsOpened (has names) path others found next =
     (ordered : List Place) × IsInOrder names ordered × (found ≡ None)
     × (next ≡ map (place_below path) ordered ++ others)
 
-module _ (files : List ℕ → Option (List ℕ)) (folders : List ℕ → Folder) where
+module _ (files : KnownFiles) where
   -- what is found at a path, if something is to be told, and the places that come next, if these were to
   abbrev pub IsStep : EntryKind → List ℕ → List Place → Option Found → List Place → Type 0
-  IsStep kind.File path others found next = (found ≡ file_unless (is_passed (files path)) path) × (next ≡ others)
-  IsStep kind.Folder path others found next = IsOpened (folders path) path others found next
+  IsStep kind.File path others found next = (found ≡ file_unless (is_passed (files.contents path)) path) × (next ≡ others)
+  IsStep kind.Folder path others found next = IsOpened (files.folders path) path others found next
   IsStep kind.Unnamed path others found next = (found ≡ Some (unread path)) × (next ≡ others)
 
   -- all that is found from these places on, in this number of steps

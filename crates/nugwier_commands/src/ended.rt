@@ -108,12 +108,12 @@ impl<'j> Target<'j> {
         report: &mut Report<'_, W, V>,
     ) -> Result<(), Stop>
         ensures { OnOk result ((said : List Said) × IsTablesSaid E.little self.now.path.now
-            (task_of self.now.job.now).addresses tables.entry said × (report.new ≡ saying report.old
+            tables.entry said × (report.new ≡ saying report.old
             (heading_said self.now.heading self.now.path.now ++ (unread_said unread ++ said)))) }
     {
         self.say_heading(report)?;
         say_unread(unread, report)?;
-        say_job(alloc, self.job, self.path, tables, report)
+        say_job(alloc, self.path, tables, report)
     }
 
     // Says what is above the file, and then that the file as a whole is wrong.
@@ -140,7 +140,7 @@ impl<'j> Target<'j> {
         err: V,
     ) -> Ended<W, V>
         ensures { IfOk result.said (λ summary. (said : List Said)
-            × IsTablesSaid E.little self.now.path.now (task_of self.now.job.now).addresses tables.entry said
+            × IsTablesSaid E.little self.now.path.now tables.entry said
             × IsWritten self.now.job.now.is_json self.now.path.now (named_by labels.entry)
             (record { out = W.contents out; err = V.contents err }) (written_by W.contents V.contents result) summary
             (heading_said self.now.heading self.now.path.now ++ (unread_said unread ++ said))) }
@@ -212,7 +212,6 @@ impl<'j> Target<'j> {
             (task_of self.now.job.now) self.now.path.now «data».items no_sections said
             × (report.new ≡ saying report.old (heading_said self.now.heading self.now.path.now ++ said))) }
     {
-        files.has_libraries();
         self.say_heading(report)?;
         match self.job.command {
             Command::Bindings => {

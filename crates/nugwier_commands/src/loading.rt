@@ -136,7 +136,7 @@ fn take_all<'f, 'w, E: EndianParse, R: ListedFile<E>>(
     ensures labels { IfOk result (λ taken. named_by taken.0
         ≡ named_of (task_of job.now) (file_of (R.file file.now) (R.bytes file.now))) }
     ensures tables { IfOk result (λ taken. (path : List ℕ) (said : List Said)
-        → IsTablesSaid E.little path (task_of job.now).addresses taken.1 said
+        → IsTablesSaid E.little path taken.1 said
         → IsSaidOf E.little E.of_byte (task_of job.now) path (R.header file.now)
         (file_of (R.file file.now) (R.bytes file.now)) said) }
 {

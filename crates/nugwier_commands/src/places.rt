@@ -27,7 +27,7 @@ pub(crate) fn run_places<F: Files, W: Write, V: Write>(
     mut err: V,
 ) -> Ended<W, V>
     ensures { let task = task_of job.now in AreSaidAndWritten W.contents V.contents (ArePlacesSaid (F.known files.now)
-        (F.folders files.now) task (first_heading task.command None) (map named task.files))
+        task (first_heading task.command None) (map named task.files))
         task (record { out = W.contents out; err = V.contents err }) result }
 {
     let Ok(mut walk) = Walk::new(alloc, job.files.as_slice()) else {

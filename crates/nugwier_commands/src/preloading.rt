@@ -6,15 +6,18 @@ use elf::endian::EndianParse;
 use elf::section::SectionHeader;
 use elf::segment::ProgramHeader;
 use elf::{ElfStream, ParseError, StreamSource, abi};
+use nugwier_listing::contents::has_name;
+use nugwier_listing::headings::known_names;
+use nugwier_listing::taking::NotTaken;
 use nugwier_words::words::{Command, Job};
 use std::alloc::{AllocError, Global};
 
 // A range of a file, by its start and its size.
 type Range = (u64, u64);
 
-/// Loads the relocations, notes and versions that a job takes, with the sections that they link to. A file may declare
-/// many of them that overlap: if they are in sum longer than the file, it is loaded whole. The error is that of the
-/// source or of an allocation.
+/// Loads the relocations, groups, notes and versions that a job takes, with the sections that they link to, and the
+/// sections that it names. A file may declare many of them that overlap: if they are in sum longer than the file, it is
+/// loaded whole. The error is that of the source or of an allocation.
 pub(crate) fn preload<E: EndianParse, S: StreamSource>(
     alloc: Global,
     job: &Job<'_>,
@@ -22,12 +25,30 @@ pub(crate) fn preload<E: EndianParse, S: StreamSource>(
 ) -> Result<(), ParseError>
     ensures { Keeps stream.old stream.new }
 {
+    load_names(job, stream)?;
     let ranges = ranges_of(alloc, job, stream)?;
     let len = stream.source_len();
     if sum(ranges.as_slice()) > len {
         return stream.load_range(0, len);
     }
     load(ranges.as_slice(), stream)
+}
+
+// Loads the names of sections, if sections are wanted by their names.
+fn load_names<E: EndianParse, S: StreamSource>(
+    job: &Job<'_>,
+    stream: &mut ElfStream<E, S, Global>,
+) -> Result<(), ParseError>
+    ensures { Keeps stream.old stream.new }
+{
+    if job.contents.is_empty() {
+        return Ok(());
+    }
+    match known_names(&*stream) {
+        Err(NotTaken::Missing((start, end))) => stream.load_range(start, end.saturating_sub(start)),
+        Err(NotTaken::Memory) => Err(ParseError::OutOfMemory),
+        Ok(_) => Ok(()),
+    }
 }
 
 fn load<E: EndianParse, S: StreamSource>(
@@ -57,6 +78,7 @@ fn takes_sections(job: &Job<'_>, sh_type: u32) -> bool {
     match sh_type {
         abi::SHT_REL | abi::SHT_RELA => is_list && job.parts.relocations,
         abi::SHT_GNU_VERDEF | abi::SHT_GNU_VERNEED => is_list && job.parts.versions,
+        abi::SHT_GROUP => is_list && job.parts.groups,
         abi::SHT_NOTE => takes_notes(job),
         _ => false,
     }
@@ -87,7 +109,27 @@ fn ranges_of<E: EndianParse, S: StreamSource>(
         }
     }
     add_sections(job, stream.section_headers().as_slice(), &mut ranges)?;
+    for wanted in job.contents.as_slice() {
+        add_named(wanted.section, stream, &mut ranges)?;
+    }
     Ok(ranges)
+}
+
+// Adds the sections of a name.
+fn add_named<E: EndianParse, S: StreamSource>(
+    name: &str,
+    stream: &ElfStream<E, S, Global>,
+    ranges: &mut Vec<Range>,
+) -> Result<(), AllocError> {
+    let Ok(Some(names)) = known_names(stream) else {
+        return Ok(());
+    };
+    for section in stream.section_headers().as_slice() {
+        if has_name(&names, section, name.as_bytes()) {
+            add_section(section, ranges)?;
+        }
+    }
+    Ok(())
 }
 
 // Sections that follow one another often link to the same one, which is added once.

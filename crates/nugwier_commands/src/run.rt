@@ -11,7 +11,7 @@ ghost use Rattle.nugwier_commands.specs.inner.Loading.{AreSaidAndWritten, IsFile
 ghost use Rattle.nugwier_commands.specs.inner.Loading.{IsPathEnded, IsSaidAndWritten, IsWordsTold, written_by};
 ghost use Rattle.nugwier_commands.specs.Run.{IsReasonTold};
 ghost use Rattle.nugwier_report.specs.Formats.{front};
-ghost use Rattle.nugwier_words.specs.Words.{answer_of, parsed, run as run_answer, task_of};
+ghost use Rattle.nugwier_words.specs.Words.{parsed, run as run_answer, task_of};
 
 use crate::archive::{is_archive, run_archive};
 use crate::ended::{Ended, Target};
@@ -67,11 +67,13 @@ pub fn run<F: Files, W: Write, V: Write>(
     out: W,
     err: V,
 ) -> (Outcome, W, V)
-    ensures { IsRun (F.known files.now) (F.folders files.now) (record { out = W.contents out; err = V.contents err })
+    ensures { IsRun (F.known files.now) (record { out = W.contents out; err = V.contents err })
         (record { out = W.contents result.1; err = V.contents result.2 }) (parsed words.now) result.0 }
 {
     match parse_words(alloc, words) {
-        Ok(request) => answer(alloc, request, files, out, err),
+        Ok(Request::Help(command)) => outcome_of(print(help(command), out, err)),
+        Ok(Request::Version) => outcome_of(print(VERSION, out, err)),
+        Ok(Request::Run(job)) => outcome_of(run_job(alloc, &job, files, out, err)),
         Err(error) => tell(error, out, err),
     }
 }
@@ -93,24 +95,6 @@ fn tell_line<V: Write>(error: &WordError<'_>, err: &mut V) -> io::Result<()>
 {
     writeln!(err, "{error}")?;
     err.flush()
-}
-
-// Does what is asked for.
-fn answer<F: Files, W: Write, V: Write>(
-    alloc: Global,
-    request: Request<'_>,
-    files: &F,
-    out: W,
-    err: V,
-) -> (Outcome, W, V)
-    ensures { IsRun (F.known files.now) (F.folders files.now) (record { out = W.contents out; err = V.contents err })
-        (record { out = W.contents result.1; err = V.contents result.2 }) (Ok (answer_of request.entry)) result.0 }
-{
-    match request {
-        Request::Help(command) => outcome_of(print(help(command), out, err)),
-        Request::Version => outcome_of(print(VERSION, out, err)),
-        Request::Run(job) => outcome_of(run_job(alloc, &job, files, out, err)),
-    }
 }
 
 // How a run ended. That the reader of the output has gone is not told; any other reason to stop is.
@@ -173,7 +157,7 @@ fn run_job<F: Files, W: Write, V: Write>(
     out: W,
     err: V,
 ) -> Ended<W, V>
-    ensures { IfOk result.said (λ summary. IsAnswered (F.known files.now) (F.folders files.now)
+    ensures { IfOk result.said (λ summary. IsAnswered (F.known files.now)
         (record { out = W.contents out; err = V.contents err }) (written_by W.contents V.contents result) summary
         (run_answer (task_of job.now))) }
 {
@@ -211,7 +195,7 @@ fn run_task<F: Files, W: Write, V: Write>(
     out: W,
     err: V,
 ) -> Ended<W, V>
-    ensures { IfOk result.said (λ summary. IsTaskAnswered (F.known files.now) (F.folders files.now)
+    ensures { IfOk result.said (λ summary. IsTaskAnswered (F.known files.now)
         (record { out = W.contents out; err = V.contents err }) (written_by W.contents V.contents result) summary
         (task_of job.now)) }
 {
@@ -303,7 +287,7 @@ pub(crate) fn run_path<F: Files, W: Write, V: Write>(
 
 /// The bytes at the start of the file at a path that tell its format, if it can be read by parts.
 pub(crate) fn front_of<F: Files>(alloc: Global, path: &str, files: &F) -> Option<Vec<u8>>
-    ensures { IfSome result (λ start. IfSome (F.known files.now) (λ files. IsFrontOf (files path.now) start.items)) }
+    ensures { IfSome result (λ start. IfSome (F.known files.now) (λ files. IsFrontOf (files.contents path.now) start.items)) }
 {
     let mut source = files.open(path)?;
     start_of(alloc, &mut source)
@@ -325,7 +309,7 @@ fn run_front<F: Files, W: Write, V: Write>(
     out: W,
     err: V,
 ) -> Ended<W, V>
-    ensures { IfSome (F.known files.now) (λ files. IsFrontOf (files target.entry.path.now) front.now)
+    ensures { IfSome (F.known files.now) (λ files. IsFrontOf (files.contents target.entry.path.now) front.now)
         → IsPathEnded W.contents V.contents (F.known files.now) (task_of target.entry.job.now) target.entry.heading
         target.entry.path.now
         (record { out = W.contents out; err = V.contents err }) result }
@@ -472,7 +456,7 @@ fn run_tree<F: Files, W: Write, V: Write>(
 // The program at a path by its names, if it can be read by parts.
 fn open_program<F: Files>(alloc: Global, path: &str, files: &F) -> Option<LoadedFile>
     ensures { IfSome result (λ program. IfSome (F.known files.now)
-        (λ files. IsNamed path.now (files path.now) (found_view program))) }
+        (λ files. IsNamed path.now (files.contents path.now) (found_view program))) }
 {
     let source = files.open(path)?;
     LoadedFile::open_names(alloc, path.as_bytes(), source)

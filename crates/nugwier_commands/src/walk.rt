@@ -46,8 +46,8 @@ impl Walk {
 
     /// Returns what is told next.
     pub(crate) fn next<F: Files>(&mut self, files: &F) -> Result<Option<Found>, AllocError>
-        ensures { IfOk result (λ found. IfSome (F.known files.now) (λ known. IfSome (F.folders files.now) (λ folders.
-            IsNextFound known folders (places_of self.old) (option_map found_view found) (places_of self.new)))) }
+        ensures { IfOk result (λ found. IfSome (F.known files.now) (λ files.
+            IsNextFound files (places_of self.old) (option_map found_view found) (places_of self.new))) }
     {
         'visits: for _ in 0..u64::MAX {
             let Some(place) = self.places.pop() else {
@@ -61,9 +61,9 @@ impl Walk {
     }
 
     fn visit<F: Files>(&mut self, files: &F, place: Entry) -> Result<Option<Found>, AllocError>
-        ensures { IfOk result (λ found. IfSome (F.known files.now) (λ known. IfSome (F.folders files.now) (λ folders.
-            IsStep known folders place.kind (string_bytes place.path) (places_of self.old) (option_map found_view found)
-            (places_of self.new)))) }
+        ensures { IfOk result (λ found. IfSome (F.known files.now) (λ files.
+            IsStep files place.kind (string_bytes place.path) (places_of self.old) (option_map found_view found)
+            (places_of self.new))) }
     {
         match place.kind {
             EntryKind::File => visit_file(self.alloc, files, place.path),
@@ -74,8 +74,8 @@ impl Walk {
 
     // Visits a path that may be that of a folder.
     fn open<F: Files>(&mut self, files: &F, path: String) -> Result<Option<Found>, AllocError>
-        ensures { IfOk result (λ found. IfSome (F.folders files.now) (λ folders.
-            IsOpened (folders (string_bytes path)) (string_bytes path) (places_of self.old)
+        ensures { IfOk result (λ found. IfSome (F.known files.now) (λ files.
+            IsOpened (files.folders (string_bytes path)) (string_bytes path) (places_of self.old)
             (option_map found_view found) (places_of self.new))) }
     {
         match files.folder(path.as_str()) {
@@ -123,8 +123,8 @@ fn below(alloc: Global, folder: &str, name: Entry) -> Result<Entry, AllocError>
 
 // Visits a file below a folder.
 fn visit_file<F: Files>(alloc: Global, files: &F, path: String) -> Result<Option<Found>, AllocError>
-    ensures { IfOk result (λ found. IfSome (F.known files.now) (λ known. option_map found_view found
-        ≡ file_unless (is_passed (known (string_bytes path))) (string_bytes path))) }
+    ensures { IfOk result (λ found. IfSome (F.known files.now) (λ files. option_map found_view found
+        ≡ file_unless (is_passed (files.contents (string_bytes path))) (string_bytes path))) }
 {
     if is_passed(alloc, files, path.as_str())? {
         Ok(None)
@@ -134,7 +134,7 @@ fn visit_file<F: Files>(alloc: Global, files: &F, path: String) -> Result<Option
 }
 
 fn is_passed<F: Files>(alloc: Global, files: &F, path: &str) -> Result<bool, AllocError>
-    ensures { IfOk result (λ passed. IfSome (F.known files.now) (λ known. passed ≡ is_passed (known path.now))) }
+    ensures { IfOk result (λ passed. IfSome (F.known files.now) (λ files. passed ≡ is_passed (files.contents path.now))) }
 {
     if let Some(front) = front_of(alloc, path, files) {
         return Ok(!is_elf(front.as_slice()));

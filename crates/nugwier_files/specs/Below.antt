@@ -2,26 +2,22 @@
 use Rattle.std.specs.Prelude.{ℕ, ◌==◌, if◌then◌else◌, List, ◌++◌, codes, Option, Some, None}
 use Rattle.std.specs.List.{starts_with}
 use Rattle.std.specs.Option.{option_map}
-use denote.Ref.{Bor}
-use Rattle.nugwier_files.specs.Folder.{Folder}
+use Rattle.nugwier_files.specs.Folder.{KnownFiles}
 
 -- the path of the file that has this path below the folder, if there is one
-abbrev pub below : Option (Bor (List ℕ)) → List ℕ → List ℕ
+abbrev pub below : Option (List ℕ) → List ℕ → List ℕ
 below None path = path
 below (Some root) path =
-    if starts_with ◌==◌ path (codes "/") then root.now ++ path else root.now ++ codes "/" ++ path
+    if starts_with ◌==◌ path (codes "/") then root ++ path else root ++ codes "/" ++ path
 
 -- the contents of these files
-abbrev pub files_below : Option (Bor (List ℕ)) → (List ℕ → Option (List ℕ)) → List ℕ → Option (List ℕ)
-files_below root files path = files (below root path)
+abbrev pub contents_below : Option (List ℕ) → (List ℕ → Option (List ℕ)) → List ℕ → Option (List ℕ)
+contents_below root contents path = contents (below root path)
 
-abbrev pub known_below :
-    Option (Bor (List ℕ)) → Option (List ℕ → Option (List ℕ)) → Option (List ℕ → Option (List ℕ))
+-- what is known of them
+abbrev pub files_below : Option (List ℕ) → KnownFiles → KnownFiles
+files_below root files =
+    record { contents = contents_below root files.contents; folders = λ path. files.folders (below root path) }
+
+abbrev pub known_below : Option (List ℕ) → Option KnownFiles → Option KnownFiles
 known_below root known = option_map (files_below root) known
-
--- the folders among them
-abbrev pub folders_below : Option (Bor (List ℕ)) → (List ℕ → Folder) → List ℕ → Folder
-folders_below root folders path = folders (below root path)
-
-abbrev pub folders_known_below : Option (Bor (List ℕ)) → Option (List ℕ → Folder) → Option (List ℕ → Folder)
-folders_known_below root known = option_map (folders_below root) known

@@ -2,8 +2,9 @@
 use Rattle.std.specs.Prelude.{ℕ, if◌then◌else◌, List, [], ◌∷◌, map, Option, Some, None}
 use Rattle.std.specs.Borrow.{Bor}
 use Rattle.std.specs.Str.{bytes_eq}
+use Rattle.elf_linking.specs.Tree.{content_in}
 use Rattle.elf_linking.specs.declared.tree.memory.MemFile.{MemFile}
-use Rattle.nugwier_files.specs.Folder.{Folder, Place, has, none, unreadable}
+use Rattle.nugwier_files.specs.Folder.{Folder, KnownFiles, Place, has, none, unreadable}
 use Rattle.nugwier_files.specs.declared.memory.MemEntry.{MemEntry}
 use Rattle.nugwier_files.specs.declared.memory.MemFiles.{MemFiles}
 use Rattle.nugwier_files.specs.declared.memory.MemFolder.{MemFolder}
@@ -30,3 +31,7 @@ abbrev pub folder_in : List MemFolder → List ℕ → Folder
 folder_in [] path = none
 folder_in (folder ∷ folders) path =
     if bytes_eq folder.path.now path then mem_folder folder.entries else folder_in folders path
+
+-- what is known of them
+abbrev pub known_in : MemFiles → KnownFiles
+known_in s = record { contents = content_in (mem_files s); folders = folder_in (mem_folders s) }

@@ -1,4 +1,4 @@
--- What is in a folder.
+-- What is known of files and folders.
 use Rattle.std.specs.Prelude.{ℕ, List, map, Option, Some, None, string_bytes}
 use Rattle.std.specs.Option.{option_map}
 use Rattle.std.specs.Global.{Vec}
@@ -18,6 +18,15 @@ pub data Folder : Type 0 where
   none : Folder
   unreadable : Folder
   has : List Place → Folder
+
+-- the content of the file at each path, and what folder is there
+pub record KnownFiles : Type 0 where
+  pub contents : List ℕ → Option (List ℕ)
+  pub folders : List ℕ → Folder
+
+-- the contents alone, if the files are known
+abbrev pub contents_known : Option KnownFiles → Option (List ℕ → Option (List ℕ))
+contents_known known = option_map (λ (files : KnownFiles). files.contents) known
 
 abbrev pub folder_of : Option (Vec Entry) → Folder
 folder_of None = none

@@ -1,6 +1,6 @@
 -- files in memory
 pub mod Files
--- what is in a folder
+-- what is known of files and folders
 pub mod Folder
 -- libraries that are opened
 pub mod Opening

@@ -20,7 +20,7 @@ pub struct FilesBelow<'a, F> {
 
 // The path of the file that has this path below a folder.
 fn below(alloc: Global, root: &str, path: &[u8]) -> Result<Vec<u8>, AllocError>
-    ensures { IfOk result (λ full. full.items ≡ below (Some root.entry) path.now) }
+    ensures { IfOk result (λ full. full.items ≡ below (Some root.now) path.now) }
 {
     let mut full = Vec::from_slice(alloc, root.as_bytes())?;
     if !path.starts_with(b"/") {
@@ -32,7 +32,7 @@ fn below(alloc: Global, root: &str, path: &[u8]) -> Result<Vec<u8>, AllocError>
 
 // The same as text.
 fn text_below(alloc: Global, root: &str, path: &str) -> Result<String, AllocError>
-    ensures { IfOk result (λ full. string_bytes full ≡ below (Some root.entry) path.now) }
+    ensures { IfOk result (λ full. string_bytes full ≡ below (Some root.now) path.now) }
 {
     let mut full = String::from_str(alloc, root)?;
     if !path.as_bytes().starts_with(b"/") {
@@ -43,13 +43,12 @@ fn text_below(alloc: Global, root: &str, path: &str) -> Result<String, AllocErro
 }
 
 impl<'a, F: Files> Files for FilesBelow<'a, F> {
-    ghost use Rattle.nugwier_files.specs.Below.{folders_known_below, known_below};
+    ghost use Rattle.std.specs.Option.{option_map};
+    ghost use Rattle.nugwier_files.specs.Below.{known_below};
 
     type Source = F::Source;
 
-    ghost known = { λ s. known_below s.root (F.known s.files.now) };
-
-    ghost folders = { λ s. folders_known_below s.root (F.folders s.files.now) };
+    ghost known = { λ s. known_below (option_map (λ root. root.now) s.root) (F.known s.files.now) };
 
     fn open(&self, path: &str) -> Option<F::Source> {
         match self.root {
@@ -97,9 +96,10 @@ impl<'a, F: Files> Files for FilesBelow<'a, F> {
 }
 
 impl<F: Files> Libraries for FilesBelow<'_, F> {
-    ghost use Rattle.nugwier_files.specs.Below.{known_below};
+    ghost use Rattle.std.specs.Option.{option_map};
+    ghost use Rattle.nugwier_files.specs.Below.{contents_below};
 
-    ghost contents = { λ s. known_below s.root (F.contents s.files.now) };
+    ghost contents = { λ s. option_map (contents_below (option_map (λ root. root.now) s.root)) (F.contents s.files.now) };
 
     fn read_library(&self, path: &[u8]) -> Result<Option<Vec<u8>>, AllocError> {
         match self.root {

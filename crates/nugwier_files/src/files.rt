@@ -1,7 +1,7 @@
 //! Files by their paths.
 ghost use Rattle.std.specs.Prelude.{◌≡◌, ◌⊎◌, ℕ, List, None, Option, Some, IfErr, IfOk, IfSome};
 ghost use Rattle.std.specs.IoError.{error_kind};
-ghost use Rattle.nugwier_files.specs.Folder.{Folder, folder_of, unreadable};
+ghost use Rattle.nugwier_files.specs.Folder.{KnownFiles, contents_known, folder_of, unreadable};
 ghost use Rattle.nugwier_files.specs.Opening.{IsOpening};
 ghost use Rattle.std.specs.declared.io.ErrorKind.TheVariants.{OutOfMemory};
 
@@ -15,40 +15,37 @@ use std::io;
 pub trait Files: Libraries {
     type Source: StreamSource;
 
-    /// The content of the file at each path, if the files are known.
-    ghost known: { Self → Option (List ℕ → Option (List ℕ)) };
-
-    /// What folder is at each path, if the files are known.
-    ghost folders: { Self → Option (List ℕ → Folder) };
+    /// The content of the file at each path, and what folder is there, if the files are known.
+    ghost known: { Self → Option KnownFiles };
 
     /// Opens the file at a path, so that it can be read by parts. Returns `None` if it can only be read whole, or not
     /// at all; nothing was read of it then.
     fn open(&self, path: &str) -> Option<Self::Source>
         ensures { IfSome result (λ source. IfSome (known self.now) (λ files. (bytes : List ℕ)
-            × (files path.now ≡ Some bytes) × (Self.Source.content source ≡ Some bytes))) };
+            × (files.contents path.now ≡ Some bytes) × (Self.Source.content source ≡ Some bytes))) };
 
     /// Opens the library at a path, so that it can be read by parts.
     fn open_library(&self, path: &[u8]) -> Opening<Self::Source>
-        ensures { IfSome (known self.now) (λ files. IsOpening Self.Source.content (files path.now) result) };
+        ensures { IfSome (known self.now) (λ files. IsOpening Self.Source.content (files.contents path.now) result) };
 
     /// Returns the content of the whole file at a path, or the error of the system: that there is no such file, or that
     /// an allocation failed. `-` is standard input.
     fn read(&self, path: &str) -> io::Result<Vec<u8>>
-        ensures error { IfErr result (λ error. IfSome (known self.now) (λ files. (files path.now ≡ None)
+        ensures error { IfErr result (λ error. IfSome (known self.now) (λ files. (files.contents path.now ≡ None)
             ⊎ (error_kind error ≡ OutOfMemory))) }
-        ensures content { IfOk result (λ content. IfSome (known self.now) (λ files. files path.now
+        ensures content { IfOk result (λ content. IfSome (known self.now) (λ files. files.contents path.now
             ≡ Some content.items)) };
 
     /// Returns the regular files and the folders in the folder at a path by their names, in any order, or `None` if no
     /// folder is there. A link at the path is followed, and those in the folder are left out. The error is that of the
     /// system, if the folder cannot be read, or that an allocation failed.
     fn folder(&self, path: &str) -> io::Result<Option<Vec<Entry>>>
-        ensures error { IfErr result (λ error. IfSome (folders self.now) (λ folders. (folders path.now ≡ unreadable)
+        ensures error { IfErr result (λ error. IfSome (known self.now) (λ files. (files.folders path.now ≡ unreadable)
             ⊎ (error_kind error ≡ OutOfMemory))) }
-        ensures found { IfOk result (λ found. IfSome (folders self.now) (λ folders. folders path.now
+        ensures found { IfOk result (λ found. IfSome (known self.now) (λ files. files.folders path.now
             ≡ folder_of found)) };
 
     /// States that the libraries are files like the others: both are known, and the same, or none is known.
     fn has_libraries(&self)
-        ensures { known self.now ≡ Self.contents self.now };
+        ensures { contents_known (known self.now) ≡ Self.contents self.now };
 }

@@ -99,13 +99,11 @@ fn copied(alloc: Global, entries: &[MemEntry<'_>]) -> Result<Vec<Entry>, AllocEr
 }
 
 impl<'a> Files for MemFiles<'a> {
-    ghost use Rattle.nugwier_files.specs.Files.{mem_files, mem_folders};
+    ghost use Rattle.nugwier_files.specs.Files.{known_in};
 
     type Source = MemSource<'a>;
 
-    ghost known = { λ s. Some (content_in (mem_files s)) };
-
-    ghost folders = { λ s. Some (folder_in (mem_folders s)) };
+    ghost known = { λ s. Some (known_in s) };
 
     fn open(&self, path: &str) -> Option<MemSource<'a>> {
         let bytes = self.find(path.as_bytes())?;

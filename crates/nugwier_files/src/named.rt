@@ -2,6 +2,7 @@
 ghost use Rattle.std.specs.Prelude.{◌≡◌, IfOk, IfSome, Some};
 ghost use Rattle.std.specs.Option.{option_map};
 ghost use Rattle.elf_linking.specs.Tree.{Found, found_view, opened_names};
+ghost use Rattle.nugwier_files.specs.Folder.{contents_known};
 
 use crate::files::Files;
 use crate::opening::Opening;
@@ -19,8 +20,9 @@ pub struct NamedLibraries<'a, F> {
 
 impl<'a, F: Files> Opener for NamedLibraries<'a, F> {
     ghost use Rattle.elf_linking.specs.Tree.{opened_names};
+    ghost use Rattle.nugwier_files.specs.Folder.{contents_known};
 
-    ghost opened = { λ s. option_map opened_names (F.known s.files.now) };
+    ghost opened = { λ s. option_map opened_names (contents_known (F.known s.files.now)) };
 
     fn open_at(&self, alloc: Global, path: Vec<u8>) -> Result<Option<LoadedFile>, AllocError> {
         let source = match self.files.open_library(&path) {
@@ -42,7 +44,7 @@ fn open_whole<F: Files>(
     path: Vec<u8>,
 ) -> Result<Option<LoadedFile>, AllocError>
     ensures { IfOk result (λ found. IfSome (F.known files.now)
-        (λ files. opened_names files path.items ≡ option_map found_view found)) }
+        (λ files. opened_names files.contents path.items ≡ option_map found_view found)) }
 {
     files.has_libraries();
     let Some(bytes) = files.read_library(&path)? else {

@@ -36,8 +36,6 @@ impl Files for SystemFiles<'_> {
     // Files may change, so they are not known.
     ghost known = { λ _. None };
 
-    ghost folders = { λ _. None };
-
     // Only a regular file is read by parts: a pipe is read once, from its start.
     fn open(&self, path: &str) -> Option<FileSource> {
         if path == "-" || !fs::metadata(self.rt, path).ok()?.is_file() {

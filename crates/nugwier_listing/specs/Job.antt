@@ -7,6 +7,7 @@ use Rattle.nugwier_listing.specs.Addresses.{AreAddressesSaid}
 use Rattle.nugwier_listing.specs.Check.{IsCheckSaid}
 use Rattle.nugwier_listing.specs.Contents.{said_of_contents}
 use Rattle.nugwier_listing.specs.Dynamic.{said_of_entries, said_of_needed}
+use Rattle.nugwier_listing.specs.Groups.{said_of_groups}
 use Rattle.nugwier_report.specs.Header.{header_said}
 use Rattle.nugwier_listing.specs.Hardening.{kind_of, said_of_hardening}
 use Rattle.nugwier_listing.specs.Identity.{said_of_identity}
@@ -30,6 +31,7 @@ use Rattle.nugwier_words.specs.declared.words.Parts.{Parts}
 abbrev pub is_listed : Parts → ListedPart → Bool
 is_listed parts part.Header = parts.header
 is_listed parts part.Sections = parts.sections
+is_listed parts part.Groups = parts.groups
 is_listed parts part.Segments = parts.segments
 is_listed parts part.Symbols = parts.symbols
 is_listed parts part.DynamicSymbols = parts.dynamic_symbols
@@ -43,6 +45,7 @@ module _ {E : Type 0} (little : E → Bool) where
   said_of_part header file part.Header =
       header_said little header (kind_of header.e_type header.e_machine file)
   said_of_part header file part.Sections = said_of_sections header.e_machine file
+  said_of_part header file part.Groups = said_of_groups file
   said_of_part header file part.Segments = said_of_segments header.e_machine file
   said_of_part header file part.Symbols = said_of_symbols file
   said_of_part header file part.DynamicSymbols = said_of_dynamic_symbols file
@@ -57,8 +60,8 @@ module _ {E : Type 0} (little : E → Bool) where
   -- `list`: the parts that are asked for, in this order, and the contents of sections
   abbrev pub said_of_list : Task → FileHeader E → ObjectFile → List Said
   said_of_list task header file =
-      flat_map (said_if_listed task.parts header file) (part.Header ∷ part.Sections ∷ part.Segments ∷ part.Symbols
-      ∷ part.DynamicSymbols ∷ part.Dynamic ∷ part.Relocations ∷ part.Notes ∷ part.Versions ∷ [])
+      flat_map (said_if_listed task.parts header file) (part.Header ∷ part.Sections ∷ part.Groups ∷ part.Segments
+      ∷ part.Symbols ∷ part.DynamicSymbols ∷ part.Dynamic ∷ part.Relocations ∷ part.Notes ∷ part.Versions ∷ [])
       ++ said_of_contents file task.contents
 
   module _ (of_byte : ℕ → Option E) where
@@ -73,7 +76,8 @@ module _ {E : Type 0} (little : E → Bool) where
     IsSaidBy Check task path header file said = IsCheckSaid little of_byte path file said
     IsSaidBy Harden task path header file said =
         said ≡ said_of_hardening path task.requirements header.e_type header.e_machine file
-    IsSaidBy Address task path header file said = AreAddressesSaid task.addresses file said
+    IsSaidBy Address task path header file said =
+        AreAddressesSaid header.e_type header.e_machine task.addresses file said
     IsSaidBy Tree task path header file said = said ≡ []
     IsSaidBy Bindings task path header file said = said ≡ []
 

@@ -10,8 +10,8 @@ use Rattle.nugwier_words.specs.declared.words.Parts.{Parts}
 -- whether a part is asked for that is more than a header
 abbrev pub has_sections : Parts → Bool
 has_sections parts =
-    parts.sections || parts.symbols || parts.dynamic_symbols || parts.dynamic || parts.relocations || parts.notes
-    || parts.versions
+    parts.sections || parts.groups || parts.symbols || parts.dynamic_symbols || parts.dynamic || parts.relocations
+    || parts.notes || parts.versions
 
 -- whether something of a section can be wrong, by the command
 abbrev pub tells_sections : Command → Task → Bool

@@ -23,6 +23,8 @@ pub mod Headings
 pub mod Labels
 -- the relocations
 pub mod Relocations
+-- the section groups
+pub mod Groups
 -- what is said of a file that is checked
 pub mod Check
 -- the content of sections

@@ -10,6 +10,8 @@ pub mod Symbols
 pub mod Dynamic
 -- the relocations that were taken
 pub mod Relocations
+-- the section groups that were taken
+pub mod Groups
 -- the content that was taken
 pub mod Contents
 pub mod Job

@@ -1,31 +1,35 @@
 //! The content of sections.
-ghost use Rattle.std.specs.Prelude.{◌≡◌, ◌++◌, IfOk, None, OnOk, Some};
+ghost use Rattle.std.specs.Prelude.{◌≡◌, ◌++◌, IfOk, OnOk, map};
 ghost use Rattle.std.specs.List.{flat_map};
-ghost use Rattle.std.specs.Option.{option_map};
+ghost use Rattle.elf_reading.specs.Leading.{data_view};
+ghost use Rattle.elf_records.specs.Number.{ok_map};
+ghost use Rattle.nugwier_listing.specs.Contents.{bytes_said, content_said, first_named, form_said, heading_of};
+ghost use Rattle.nugwier_listing.specs.Contents.{is_named, none_said, number_in, numbered, or_numbered};
+ghost use Rattle.nugwier_listing.specs.Contents.{said_of_contents};
+ghost use Rattle.nugwier_listing.specs.Contents.{section_of_number, sections_named, sections_of, sections_said};
+ghost use Rattle.nugwier_listing.specs.Contents.{wanted_said, within};
+ghost use Rattle.nugwier_listing.specs.Notes.{left_after};
 ghost use Rattle.elf.specs.Names.{has_name};
-ghost use Rattle.nugwier_listing.specs.Contents.{bytes_said, content_of, content_said, first_named, form_said};
-ghost use Rattle.nugwier_listing.specs.Contents.{found_said, heading_members, heading_of};
-ghost use Rattle.nugwier_listing.specs.Contents.{number_in, or_numbered, said_of_contents, section_of_number};
-ghost use Rattle.nugwier_listing.specs.Headings.{known_names};
-ghost use Rattle.nugwier_listing.specs.Read.{read_said};
+ghost use Rattle.elf.specs.Data.{content};
 ghost use Rattle.nugwier_listing.specs.Whole.{file_of};
-ghost use Rattle.nugwier_listing.specs.inner.Contents.{bytes_view, found_view, part_said};
-ghost use Rattle.nugwier_report.specs.Noted.{members_said};
-ghost use Rattle.nugwier_report.specs.Said.{saying};
-ghost use Rattle.nugwier_report.specs.declared.problem.Part.TheVariants.{Section};
+ghost use Rattle.nugwier_listing.specs.inner.Contents.{part_said, section_part_said};
+ghost use Rattle.nugwier_report.specs.Contents.{compression_said};
+ghost use Rattle.nugwier_report.specs.Said.{said_if, saying};
+ghost use Rattle.nugwier_words.specs.Words.{wanted_view};
 
-use crate::headings::known_names;
+use crate::headings::{heading_members, known_names, name_shown};
 use crate::listed::ListedFile;
 use crate::parts::TakenPart;
 use crate::taking;
 use crate::taking::NotTaken;
-use elf::ParseError;
+use elf::compression::CompressionHeader;
 use elf::endian::EndianParse;
 use elf::headers::Headers;
+use elf::reader::Reader;
 use elf::section::SectionHeader;
 use elf::string_table::TerminatedStrings;
-use nugwier_report::contents::{say_data, say_strings};
-use nugwier_report::json::{Member, Value};
+use elf::{ParseError, abi};
+use nugwier_report::contents::{say_compression, say_data, say_strings};
 use nugwier_report::kind::Kind;
 use nugwier_report::problem::{Fault, Part, Stop};
 use nugwier_report::quoted::Quoted;
@@ -34,21 +38,36 @@ use nugwier_words::words::{Form, Wanted};
 use std::alloc::Global;
 use std::io::Write;
 
-/// A section that is wanted, and its number and its bytes, if there is such a section.
+// The bytes of a section, and its compression header if it has one.
+type Content<'f> = (&'f [u8], Option<CompressionHeader>);
+
+/// A section that is wanted, with its number, its name and its content, or a word that names none.
 #[derive(Drop)]
-pub struct ContentPart<'w, 'f> {
-    wanted: Wanted<'w>,
-    found: Option<(u64, Result<&'f [u8], ParseError>)>,
+pub enum ContentPart<'w, 'f> {
+    Section(SectionContent<'f>),
+    Missing(&'w str),
+}
+
+/// A section that is wanted, and what it holds.
+#[derive(Drop)]
+pub struct SectionContent<'f> {
+    form: Form,
+    number: u64,
+    name: &'f [u8],
+    section: SectionHeader,
+    content: Result<Content<'f>, Fault<'static>>,
 }
 
 impl TakenPart for ContentPart<'_, '_> {
     ghost said = { part_said };
 
     fn say<W: Write, V: Write>(self, report: &mut Report<'_, W, V>) -> Result<(), Stop> {
-        let ContentPart { wanted, found } = self;
-        match found {
-            Some((number, bytes)) => say_read(wanted, number, bytes, report),
-            None => say_missing(wanted, report),
+        match self {
+            ContentPart::Section(part) => say_section(part, report),
+            ContentPart::Missing(word) => {
+                let word = Quoted::new(word.as_bytes());
+                report.problem(Part::File.whole(), Fault::NoSection(word))
+            }
         }
     }
 }
@@ -60,7 +79,7 @@ pub(crate) fn take_contents<'w, 'f, E: EndianParse, R: ListedFile<E>>(
     contents: &[Wanted<'w>],
 ) -> Result<Vec<ContentPart<'w, 'f>>, NotTaken>
     ensures { IfOk result (λ parts. flat_map part_said parts.items
-        ≡ said_of_contents (file_of (R.file file.now) (R.bytes file.now)) contents.now) }
+        ≡ said_of_contents (file_of (R.file file.now) (R.bytes file.now)) (map wanted_view contents.now)) }
 {
     let mut parts = Vec::new(alloc);
     if contents.is_empty() {
@@ -68,58 +87,121 @@ pub(crate) fn take_contents<'w, 'f, E: EndianParse, R: ListedFile<E>>(
     }
     let names = known_names(file)?;
     for wanted in contents {
-        add_content(file, &names, *wanted, &mut parts)?;
+        add_content(alloc, file, &names, *wanted, &mut parts)?;
     }
     Ok(parts)
 }
 
-// Takes the content of a section, and adds it.
+// Takes the content of the sections that a word names, and adds it.
 fn add_content<'w, 'f, E: EndianParse, R: ListedFile<E>>(
+    alloc: Global,
     file: &'f R,
     names: &Option<TerminatedStrings<'f>>,
     wanted: Wanted<'w>,
     parts: &mut Vec<ContentPart<'w, 'f>>,
 ) -> Result<(), NotTaken>
-    ensures { let whole = file_of (R.file file.now) (R.bytes file.now) in
-        names.now ≡ known_names whole → OnOk result (flat_map part_said parts.new.items
-        ≡ flat_map part_said parts.old.items ++ content_said whole wanted.entry) }
+    ensures { OnOk result (flat_map part_said parts.new.items ≡ flat_map part_said parts.old.items
+        ++ content_said (file_of (R.file file.now) (R.bytes file.now)) names.now (wanted_view wanted.entry)) }
 {
-    let part = take_content(file, names, wanted)?;
-    parts.push(part)?;
+    let sections = sections_of(alloc, file, names, wanted.section)?;
+    if sections.is_empty() {
+        parts.push(ContentPart::Missing(wanted.section))?;
+        return Ok(());
+    }
+    add_sections(file, names, wanted.form, sections.as_slice(), parts)
+}
+
+// Takes the content of these sections, and adds it.
+fn add_sections<'f, E: EndianParse, R: ListedFile<E>>(
+    file: &'f R,
+    names: &Option<TerminatedStrings<'f>>,
+    form: Form,
+    sections: &[(usize, SectionHeader)],
+    parts: &mut Vec<ContentPart<'_, 'f>>,
+) -> Result<(), NotTaken>
+    ensures { let whole = file_of (R.file file.now) (R.bytes file.now) in
+        OnOk result (flat_map part_said parts.new.items
+        ≡ flat_map part_said parts.old.items ++ sections_said whole names.now form whole.size sections.now) }
+{
+    let mut left = file.size();
+    for section in sections {
+        left = add_section(file, names, form, left, section, parts)?;
+    }
     Ok(())
 }
 
-// Takes the content of a section, by its name or its number.
-fn take_content<'w, 'f, E: EndianParse, R: ListedFile<E>>(
+// Takes the content of a section, and adds it. Returns how many bytes may follow.
+fn add_section<'f, E: EndianParse, R: ListedFile<E>>(
     file: &'f R,
     names: &Option<TerminatedStrings<'f>>,
-    wanted: Wanted<'w>,
-) -> Result<ContentPart<'w, 'f>, NotTaken>
-    ensures { let whole = file_of (R.file file.now) (R.bytes file.now) in
-        names.now ≡ known_names whole → IfOk result (λ part. part_said part ≡ content_said whole wanted.entry) }
+    form: Form,
+    left: u64,
+    section: &(usize, SectionHeader),
+    parts: &mut Vec<ContentPart<'_, 'f>>,
+) -> Result<u64, NotTaken>
+    ensures after { let whole = file_of (R.file file.now) (R.bytes file.now) in
+        IfOk result (λ after. after ≡ left_after left (content whole section.now.1)) }
+    ensures taken { OnOk result (flat_map part_said parts.new.items ≡ flat_map part_said parts.old.items
+        ++ wanted_said (file_of (R.file file.now) (R.bytes file.now)) names.now form left section.now) }
 {
-    let section = section_of(file, names, wanted.section);
-    let found = take_found(file, section)?;
-    Ok(ContentPart { wanted, found })
+    let (number, section) = *section;
+    let content = taking::section_data(file, &section)?;
+    let after = left_after(left, &content);
+    parts.push(ContentPart::Section(SectionContent {
+        form,
+        number: number as u64,
+        name: name_shown(names, &section),
+        section,
+        content: within(left, content),
+    }))?;
+    Ok(after)
 }
 
-// Takes the bytes of a section, if there is one.
-fn take_found<'f, E: EndianParse, R: ListedFile<E>>(
-    file: &'f R,
-    section: Option<(usize, SectionHeader)>,
-) -> Result<Option<(u64, Result<&'f [u8], ParseError>)>, NotTaken>
-    ensures { IfOk result (λ found. option_map found_view found
-        ≡ option_map (content_of (file_of (R.file file.now) (R.bytes file.now))) section) }
+// What was found, if no more than this number of bytes are left to list.
+fn within<'f>(
+    left: u64,
+    content: Result<Content<'f>, ParseError>,
+) -> Result<Content<'f>, Fault<'static>>
+    ensures { ok_map data_view result ≡ within left (ok_map data_view content.entry) }
 {
-    let Some((number, section)) = section else {
-        return Ok(None);
-    };
-    let bytes = taking::content(file, &section)?;
-    Ok(Some((number as u64, bytes)))
+    match content {
+        Ok((bytes, _)) if left < bytes.len() as u64 => Err(Fault::Repeated),
+        Ok(content) => Ok(content),
+        Err(error) => Err(Fault::Read(error)),
+    }
 }
 
-// The first section that has the word as its name; or if none has, the one whose number it is.
-fn section_of<E: EndianParse, R: ListedFile<E>>(
+// How many bytes may be listed after them.
+fn left_after(left: u64, content: &Result<Content<'_>, ParseError>) -> u64
+    ensures { result ≡ left_after left (ok_map (λ found. found.0.now) content.now) }
+{
+    match content {
+        Ok((bytes, _)) => left.saturating_sub(bytes.len() as u64),
+        Err(_) => left,
+    }
+}
+
+// All sections that have the word as their name; or if none has, the one whose number it is.
+fn sections_of<E: EndianParse, R: ListedFile<E>>(
+    alloc: Global,
+    file: &R,
+    names: &Option<TerminatedStrings<'_>>,
+    word: &str,
+) -> Result<Vec<(usize, SectionHeader)>, NotTaken>
+    ensures { IfOk result (λ sections. sections.items
+        ≡ sections_of (file_of (R.file file.now) (R.bytes file.now)) names.now word.now) }
+{
+    let mut sections = sections_named(alloc, file.section_list(), names, word)?;
+    if sections.is_empty()
+        && let Some(one) = numbered(file, word)
+    {
+        sections.push(one)?;
+    }
+    Ok(sections)
+}
+
+/// The first section that has the word as its name; or if none has, the one whose number it is.
+pub(crate) fn section_of<E: EndianParse, R: ListedFile<E>>(
     file: &R,
     names: &Option<TerminatedStrings<'_>>,
     word: &str,
@@ -129,8 +211,36 @@ fn section_of<E: EndianParse, R: ListedFile<E>>(
 {
     match first_named(file.section_list(), names, word) {
         Some(one) => Some(one),
-        None => section_of_number(file, number_in(word)?),
+        None => numbered(file, word),
     }
+}
+
+// The section whose number a word is.
+fn numbered<E: EndianParse, R: ListedFile<E>>(
+    file: &R,
+    word: &str,
+) -> Option<(usize, SectionHeader)>
+    ensures { result ≡ numbered (file_of (R.file file.now) (R.bytes file.now)) word.now }
+{
+    section_of_number(file, number_in(word)?)
+}
+
+// The sections of a name, with their numbers.
+fn sections_named(
+    alloc: Global,
+    sections: &[SectionHeader],
+    names: &Option<TerminatedStrings<'_>>,
+    name: &str,
+) -> Result<Vec<(usize, SectionHeader)>, NotTaken>
+    ensures { IfOk result (λ found. found.items ≡ sections_named sections.now name.now names.now) }
+{
+    let found = sections
+        .iter()
+        .copied()
+        .enumerate()
+        .filter(|one| is_named(names, &one.1, name))
+        .collect(alloc)?;
+    Ok(found)
 }
 
 // The first section of a name, with its number, if there are names.
@@ -141,28 +251,25 @@ pub(crate) fn first_named(
 ) -> Option<(usize, SectionHeader)>
     ensures { result ≡ first_named sections.now name.now names.now }
 {
-    match names {
-        Some(names) => first_in(sections, names, name),
-        None => None,
-    }
-}
-
-fn first_in(
-    sections: &[SectionHeader],
-    names: &TerminatedStrings<'_>,
-    name: &str,
-) -> Option<(usize, SectionHeader)>
-    ensures { result ≡ first_named sections.now name.now (Some names.now) }
-{
     sections
         .iter()
         .copied()
         .enumerate()
-        .find(|one| has_name(names, &one.1, name.as_bytes()))
+        .find(|one| is_named(names, &one.1, name))
+}
+
+// Whether a section has a name, if there are names.
+fn is_named(names: &Option<TerminatedStrings<'_>>, section: &SectionHeader, name: &str) -> bool
+    ensures { result ≡ is_named names.now name.now section.now }
+{
+    match names {
+        Some(names) => has_name(names, section, name.as_bytes()),
+        None => false,
+    }
 }
 
 /// Whether a section has a name.
-pub(crate) fn has_name(names: &TerminatedStrings<'_>, section: &SectionHeader, name: &[u8]) -> bool
+pub fn has_name(names: &TerminatedStrings<'_>, section: &SectionHeader, name: &[u8]) -> bool
     ensures { result ≡ has_name names.now name.now section.now }
 {
     match names.is(section.sh_name as usize, name) {
@@ -191,53 +298,25 @@ fn section_of_number<E: EndianParse, R: ListedFile<E>>(
     }
 }
 
-// Says of the file that it has no such section.
-fn say_missing<W: Write, V: Write>(
-    wanted: Wanted<'_>,
+// Says the content of a section, or why it is not listed.
+fn say_section<W: Write, V: Write>(
+    part: SectionContent<'_>,
     report: &mut Report<'_, W, V>,
 ) -> Result<(), Stop>
-    ensures { OnOk result (report.new
-        ≡ saying report.old (found_said wanted.entry.form wanted.entry.section.now None)) }
+    ensures { OnOk result (report.new ≡ saying report.old (section_part_said part.entry)) }
 {
-    let word = Quoted::new(wanted.section.as_bytes());
-    report.problem(Part::File.whole(), Fault::NoSection(word))
-}
-
-// Says the bytes of a section, or that they cannot be read.
-fn say_read<W: Write, V: Write>(
-    wanted: Wanted<'_>,
-    number: u64,
-    bytes: Result<&[u8], ParseError>,
-    report: &mut Report<'_, W, V>,
-) -> Result<(), Stop>
-    ensures { OnOk result (report.new ≡ saying report.old
-        (read_said (Section number) (bytes_said wanted.entry.form wanted.entry.section.now number)
-        (bytes_view bytes.entry))) }
-{
-    match bytes {
-        Ok(bytes) => say_bytes(wanted, number, bytes, report),
-        Err(error) => report.problem(Part::Section(number).whole(), Fault::Read(error)),
+    let SectionContent {
+        form,
+        number,
+        name,
+        section,
+        content,
+    } = part;
+    report.state(heading_of(form), &heading_members(number, name))?;
+    match content {
+        Ok(content) => say_content(form, number, &section, content, report),
+        Err(fault) => report.problem(Part::Section(number).whole(), fault),
     }
-}
-
-fn say_bytes<W: Write, V: Write>(
-    wanted: Wanted<'_>,
-    number: u64,
-    bytes: &[u8],
-    report: &mut Report<'_, W, V>,
-) -> Result<(), Stop>
-    ensures { OnOk result (report.new ≡ saying report.old
-        (bytes_said wanted.entry.form wanted.entry.section.now number bytes.now)) }
-{
-    let members = heading_members(wanted.section);
-    report.state(heading_of(wanted.form), &members)?;
-    say_form(wanted.form, number, bytes, report)
-}
-
-fn heading_members(word: &str) -> [Member<'_>; 1]
-    ensures { members_said result ≡ heading_members word.now }
-{
-    [("section", Value::Text(Some(word.as_bytes())))]
 }
 
 fn heading_of(form: Form) -> Kind
@@ -249,16 +328,62 @@ fn heading_of(form: Form) -> Kind
     }
 }
 
-fn say_form<W: Write, V: Write>(
+// Says how the bytes of a section are compressed, if they are, and the bytes after the header.
+fn say_content<W: Write, V: Write>(
     form: Form,
     number: u64,
+    section: &SectionHeader,
+    content: Content<'_>,
+    report: &mut Report<'_, W, V>,
+) -> Result<(), Stop>
+    ensures { OnOk result (report.new
+        ≡ saying report.old (bytes_said form number section.now (data_view content.entry))) }
+{
+    let (bytes, header) = content;
+    say_header(number, &header, report)?;
+    say_none(section, bytes, report)?;
+    say_form(form, number, section, bytes, report)
+}
+
+fn say_header<W: Write, V: Write>(
+    number: u64,
+    header: &Option<CompressionHeader>,
+    report: &mut Report<'_, W, V>,
+) -> Result<(), Stop>
+    ensures { OnOk result (report.new ≡ saying report.old (said_if (compression_said number) header.now)) }
+{
+    match header {
+        Some(header) => say_compression(number, header, report),
+        None => Ok(()),
+    }
+}
+
+// Says that a section has no bytes in the file, or is empty.
+fn say_none<W: Write, V: Write>(
+    section: &SectionHeader,
     bytes: &[u8],
     report: &mut Report<'_, W, V>,
 ) -> Result<(), Stop>
-    ensures { OnOk result (report.new ≡ saying report.old (form_said form number bytes.now)) }
+    ensures { OnOk result (report.new ≡ saying report.old (none_said section.now bytes.now)) }
+{
+    match bytes {
+        [] if section.sh_type == abi::SHT_NOBITS => report.state(Kind::NoBytes, &[]),
+        [] => report.state(Kind::EmptySection, &[]),
+        _ => Ok(()),
+    }
+}
+
+fn say_form<W: Write, V: Write>(
+    form: Form,
+    number: u64,
+    section: &SectionHeader,
+    bytes: &[u8],
+    report: &mut Report<'_, W, V>,
+) -> Result<(), Stop>
+    ensures { OnOk result (report.new ≡ saying report.old (form_said form number section.now bytes.now)) }
 {
     match form {
-        Form::Bytes => say_data(number, bytes, report),
+        Form::Bytes => say_data(number, section.sh_addr, bytes, report),
         Form::Strings => say_strings(number, bytes, report),
     }
 }

@@ -6,7 +6,7 @@ ghost use Rattle.nugwier_listing.specs.inner.Job.{IsTablesSaid};
 ghost use Rattle.nugwier_report.specs.Said.{Said, saying};
 ghost use Rattle.nugwier_words.specs.Words.{task_of};
 
-use crate::addresses::{say_addresses, take_all_symbols};
+use crate::addresses::{AddressTables, say_addresses, take_addresses};
 use crate::check::{Checked, say_check, take_check};
 use crate::dynamic::{FoundEntries, say_needed, take_dynamic};
 use crate::hardening::{HardeningTables, say_hardened, take_hardening};
@@ -15,7 +15,7 @@ use crate::list::{ListTables, say_list, take_list};
 use crate::listed::ListedFile;
 use crate::plan::{say_plan, take_plan};
 use crate::symbols::{SymbolTables, say_table, take_letters, take_linked};
-use crate::taking::{self, FoundSymbols, NotTaken};
+use crate::taking::{self, NotTaken};
 use elf::ParseError;
 use elf::endian::EndianParse;
 use elf_tools::load_plan::{Mapping, PlanError};
@@ -37,7 +37,7 @@ pub enum JobTables<'f, 'w, E: EndianParse> {
     Plan(Result<Vec<Mapping>, PlanError>),
     Check(Checked),
     Hardening(HardeningTables<'f, 'w, E>),
-    Address(FoundSymbols<'f, E>),
+    Address(AddressTables<'f, 'w, E>),
     /// Nothing is said of one file.
     Nothing,
 }
@@ -50,7 +50,7 @@ pub fn take_job<'f, 'w, E: EndianParse, R: ListedFile<E>>(
     file: &'f R,
 ) -> Result<JobTables<'f, 'w, E>, NotTaken>
     ensures { IfOk result (λ tables. (path : List ℕ) (said : List Said)
-        → IsTablesSaid E.little path (task_of job.now).addresses tables said
+        → IsTablesSaid E.little path tables said
         → IsSaidOf E.little E.of_byte (task_of job.now) path (R.header file.now)
         (file_of (R.file file.now) (R.bytes file.now)) said) }
 {
@@ -68,7 +68,7 @@ pub fn take_job<'f, 'w, E: EndianParse, R: ListedFile<E>>(
         Command::Plan => Ok(JobTables::Plan(take_plan(alloc, file)?)),
         Command::Check => Ok(JobTables::Check(take_check(alloc, file)?)),
         Command::Harden => Ok(JobTables::Hardening(take_hardening(alloc, job, file)?)),
-        Command::Address => Ok(JobTables::Address(take_all_symbols(file)?)),
+        Command::Address => Ok(JobTables::Address(take_addresses(alloc, job, file)?)),
         Command::Tree | Command::Bindings => Ok(JobTables::Nothing),
     }
 }
@@ -76,13 +76,11 @@ pub fn take_job<'f, 'w, E: EndianParse, R: ListedFile<E>>(
 /// Says what was taken of a file of this path.
 pub fn say_job<E: EndianParse, W: Write, V: Write>(
     alloc: Global,
-    job: &Job<'_>,
     path: &str,
     tables: JobTables<'_, '_, E>,
     report: &mut Report<'_, W, V>,
 ) -> Result<(), Stop>
-    ensures { OnOk result ((said : List Said)
-        × IsTablesSaid E.little path.now (task_of job.now).addresses tables.entry said
+    ensures { OnOk result ((said : List Said) × IsTablesSaid E.little path.now tables.entry said
         × (report.new ≡ saying report.old said)) }
 {
     match tables {
@@ -93,9 +91,7 @@ pub fn say_job<E: EndianParse, W: Write, V: Write>(
         JobTables::Plan(planned) => say_plan(planned, report),
         JobTables::Check(checked) => say_check(alloc, path, checked, report),
         JobTables::Hardening(tables) => say_hardened(alloc, path, tables, report),
-        JobTables::Address(symbols) => {
-            say_addresses(alloc, symbols, job.addresses.as_slice(), report)
-        }
+        JobTables::Address(tables) => say_addresses(alloc, tables, report),
         JobTables::Nothing => Ok(()),
     }
 }

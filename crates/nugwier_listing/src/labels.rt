@@ -56,6 +56,6 @@ fn tells_sections(job: &Job<'_>) -> bool
 fn has_sections(parts: &Parts) -> bool
     ensures { result ≡ has_sections parts.now }
 {
-    let listed = parts.sections || parts.symbols || parts.dynamic_symbols || parts.dynamic;
-    listed || parts.relocations || parts.notes || parts.versions
+    let listed = parts.sections || parts.groups || parts.symbols || parts.dynamic_symbols;
+    listed || parts.dynamic || parts.relocations || parts.notes || parts.versions
 }

@@ -4,10 +4,11 @@
 
 mod addresses;
 mod check;
-mod contents;
+pub mod contents;
 mod dynamic;
+mod groups;
 mod hardening;
-mod headings;
+pub mod headings;
 mod identity;
 pub mod in_memory;
 pub mod job;

@@ -9,6 +9,7 @@ ghost use Rattle.nugwier_words.specs.Words.{task_of};
 
 use crate::contents::{ContentPart, take_contents};
 use crate::dynamic::{FoundEntries, say_entries, take_dynamic};
+use crate::groups::{GroupTables, say_groups, take_groups};
 use crate::hardening::take_kind;
 use crate::listed::ListedFile;
 use crate::notes::{NotePart, take_notes};
@@ -34,6 +35,7 @@ use std::io::Write;
 enum ListedPart {
     Header,
     Sections,
+    Groups,
     Segments,
     Symbols,
     DynamicSymbols,
@@ -44,9 +46,10 @@ enum ListedPart {
 }
 
 // All of them, in the order of a listing.
-static PARTS: [ListedPart; 9] = [
+static PARTS: [ListedPart; 10] = [
     ListedPart::Header,
     ListedPart::Sections,
+    ListedPart::Groups,
     ListedPart::Segments,
     ListedPart::Symbols,
     ListedPart::DynamicSymbols,
@@ -61,6 +64,7 @@ static PARTS: [ListedPart; 9] = [
 enum PartTables<'f, E: EndianParse> {
     Header(FileHeader<E>, Option<FileKind>),
     Sections(Option<SectionTables<'f>>),
+    Groups(GroupTables<'f, E>),
     Segments(SegmentTables<'f>),
     Symbols(SymbolTables<'f, E>),
     Dynamic(FoundEntries<'f>),
@@ -136,6 +140,7 @@ fn is_listed(parts: &Parts, part: ListedPart) -> bool
     match part {
         ListedPart::Header => parts.header,
         ListedPart::Sections => parts.sections,
+        ListedPart::Groups => parts.groups,
         ListedPart::Segments => parts.segments,
         ListedPart::Symbols => parts.symbols,
         ListedPart::DynamicSymbols => parts.dynamic_symbols,
@@ -161,6 +166,7 @@ fn take_part<'f, E: EndianParse, R: ListedFile<E>>(
             Ok(PartTables::Header(file.file_header(), kind))
         }
         ListedPart::Sections => Ok(PartTables::Sections(take_sections(file)?)),
+        ListedPart::Groups => Ok(PartTables::Groups(take_groups(alloc, file)?)),
         ListedPart::Segments => Ok(PartTables::Segments(take_segments(alloc, file)?)),
         ListedPart::Symbols => Ok(PartTables::Symbols(take_symbols(alloc, file)?)),
         ListedPart::DynamicSymbols => Ok(PartTables::Symbols(take_dynamic_symbols(alloc, file)?)),
@@ -209,6 +215,7 @@ fn say_part<E: EndianParse, W: Write, V: Write>(
     match part {
         PartTables::Header(header, kind) => say_header(&header, kind, report),
         PartTables::Sections(tables) => say_sections(tables, report),
+        PartTables::Groups(tables) => say_groups(tables, report),
         PartTables::Segments(tables) => say_segments(tables, report),
         PartTables::Symbols(tables) => say_table(alloc, tables, report),
         PartTables::Dynamic(entries) => say_entries(entries, report),

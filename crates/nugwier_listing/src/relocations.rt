@@ -161,8 +161,10 @@ fn machine_of<E: EndianParse>(header: &FileHeader<E>) -> Machine
     }
 }
 
-// The sections, and their names if they can be read.
-fn labels_of<'f, E: EndianParse, R: ListedFile<E>>(file: &'f R) -> Result<Labels<'f>, NotTaken>
+/// The sections, and their names if they can be read.
+pub(crate) fn labels_of<'f, E: EndianParse, R: ListedFile<E>>(
+    file: &'f R,
+) -> Result<Labels<'f>, NotTaken>
     ensures { let whole = file_of (R.file file.now) (R.bytes file.now) in IfOk result (λ labels. named_by labels
         ≡ record { sections = whole.sections; names = known_names whole }) }
 {

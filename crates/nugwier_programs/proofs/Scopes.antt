@@ -39,9 +39,6 @@ pub borrowed : {A B : Type 0} (f : A → B) (o : Option (Bor A)) (p : Option A) 
 borrowed f (Some x) p same = ap (option_map f) same
 borrowed f None p same = ap (option_map f) same
 
-cons_same : {A : Type 0} (x y : A) (xs ys : List A) → x ≡ y → xs ≡ ys → x ∷ xs ≡ y ∷ ys
-cons_same x y xs ys e es = cc
-
 abbrev pub made : Object → Option Versions → VersionedObject
 made table versions = record { symbols = table; versions = versions }
 

@@ -4,7 +4,7 @@ use Rattle.std.proofs.lemmas.Bool.Decides.{nat_tests}
 use Rattle.std.proofs.lemmas.Grind.{flat_map-append}
 use Rattle.std.proofs.lemmas.List.{drop_all, drop_more, get_or-replicate, get_or-set_other, get_or-set_same, length-replicate, length-set, map-append, reverse-append}
 use Rattle.std.specs.List.{flat_map}
-use Rattle.std.specs.Prelude.{IfSome, if◌then◌else◌, nat_lt, set}
+use Rattle.std.specs.Prelude.{IfSome, if◌then◌else◌, is_some, nat_lt, set}
 use Rattle.std.specs.Option.{option_map}
 use Rattle.elf_linking.specs.Cache.{Cache, cache_view, cached_path, flags_of, flags_view}
 use Rattle.elf_linking.specs.Search.{Others, cached_by}
@@ -125,22 +125,23 @@ firsts_known objects (suc (suc k)) firsts past empty known = absurd (omega (arit
 
 -- ---- the folders that are searched
 
-abbrev pub made_others : List ℕ → List ℕ → List ℕ → (List ℕ → Option (List ℕ)) → List (List ℕ) → Others
-made_others path lib platform cached usual =
+abbrev pub made_others : List ℕ → List ℕ → List ℕ → (List ℕ → Option (List ℕ)) → List (List ℕ) → List (List ℕ) → Others
+made_others path lib platform cached listed usual =
     record {
       library_path = Some path;
       lib = lib;
       platform = platform;
       cached = cached;
-      listed_folders = [];
+      listed_folders = listed;
       usual_folders = usual;
     }
 
-pub same_others : (a b l m p q : List ℕ) (c d : List ℕ → Option (List ℕ)) (u v : List (List ℕ)) → a ≡ b → l ≡ m → p ≡ q → c ≡ d → u ≡ v → made_others a l p c u ≡ made_others b m q d v
-same_others a b l m p q c d u v same lib platform cached usual =
-    ap (λ (path : List ℕ). made_others path l p c u) same ∙ ap (λ (k : List ℕ). made_others b k p c u) lib
-    ∙ ap (λ (k : List ℕ). made_others b m k c u) platform ∙ ap (λ (k : List ℕ → Option (List ℕ)). made_others b m q k u) cached
-    ∙ ap (made_others b m q d) usual
+pub same_others : (a b l m p q : List ℕ) (c d : List ℕ → Option (List ℕ)) (s t u v : List (List ℕ)) → a ≡ b → l ≡ m → p ≡ q → c ≡ d → s ≡ t → u ≡ v
+    → made_others a l p c s u ≡ made_others b m q d t v
+same_others a b l m p q c d s t u v same lib platform cached listed usual =
+    ap (λ (path : List ℕ). made_others path l p c s u) same ∙ ap (λ (k : List ℕ). made_others b k p c s u) lib
+    ∙ ap (λ (k : List ℕ). made_others b m k c s u) platform ∙ ap (λ (k : List ℕ → Option (List ℕ)). made_others b m q k s u) cached
+    ∙ ap (λ (k : List (List ℕ)). made_others b m q d k u) listed ∙ ap (made_others b m q d t) usual
 
 -- the cache that was read is the one of the file
 pub same_cached : (o : Option (Bor LinkerCache)) (flags : LibraryFlags) (kind : Kind) (cache : Option Cache) → flags_view flags ≡ flags_of kind.machine kind.class →
@@ -153,9 +154,13 @@ pub known_as : {A B : Type 0} (f : A → B) (o : Option A) (P : B → Type 0) �
 known_as f None P h = tt
 known_as f (Some x) P h = h
 
-pub both_known : {A : Type 0} (P Q R : A → Type 0) (o : Option A) → IfSome o P → IfSome o Q → ((x : A) → P x → Q x → R x) → IfSome o R
-both_known P Q R None p q f = tt
-both_known P Q R (Some x) p q f = f x p q
+pub all_known : {A : Type 0} (P Q R S : A → Type 0) (o : Option A) → IfSome o P → IfSome o Q → IfSome o R → ((x : A) → P x → Q x → R x → S x) → IfSome o S
+all_known P Q R S None p q r f = tt
+all_known P Q R S (Some x) p q r f = f x p q r
+
+pub is_some_of : {A B : Type 0} (f : A → B) (o : Option A) → is_some (option_map f o) ≡ is_some o
+is_some_of f None = refl
+is_some_of f (Some x) = refl
 
 pub nothing_left : {A : Type 0} (xs : List A) → length xs ≡ 0 → xs ≡ []
 nothing_left [] none = refl

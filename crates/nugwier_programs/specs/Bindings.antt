@@ -32,7 +32,7 @@ use Rattle.nugwier_report.specs.declared.problem.Fault.{Fault}
 use Rattle.nugwier_report.specs.declared.problem.Fault.TheVariants.{NoHash, Object, Read, Relocations}
 use Rattle.nugwier_report.specs.declared.problem.Part.TheVariants.{File}
 use Rattle.nugwier_programs.specs.Symbols.{symbols_said}
-use Rattle.nugwier_programs.specs.Tree.{AreObjects, Contents, Order, Search, object_problems}
+use Rattle.nugwier_programs.specs.Tree.{AreObjects, Known, Order, Search, object_problems}
 
 -- ---- what is searched
 
@@ -208,9 +208,9 @@ AreObjectsSaid (program ∷ libraries) said =
 
 -- of a file: that it is no program, or which libraries are missing or have names that are not known, and what the
 -- symbols bind to
-abbrev pub IsBindingsSaid : Contents → Search → Result Found ParseError → List Said → Type 0
-IsBindingsSaid contents search (Ok program) said =
-    (order : Order) × AreObjects contents search program order
+abbrev pub IsBindingsSaid : Known → Search → Result Found ParseError → List Said → Type 0
+IsBindingsSaid known search (Ok program) said =
+    (order : Order) × AreObjects known search program order
     × (symbols : List Said) × AreObjectsSaid (in_order order.0 order.1) symbols
     × (said ≡ object_problems order.0 ++ symbols)
-IsBindingsSaid contents search (Err e) said = said ≡ wrong (whole File) (Read e) ∷ []
+IsBindingsSaid known search (Err e) said = said ≡ wrong (whole File) (Read e) ∷ []

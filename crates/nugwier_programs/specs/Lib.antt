@@ -1,5 +1,9 @@
 -- the usual folders of libraries
 pub mod Usual
+-- names by shell patterns
+pub mod Patterns
+-- the folders of ld.so.conf
+pub mod Configured
 -- what is said of a program and the libraries that it loads
 pub mod Tree
 -- what is said of symbols that are bound, and of the files that have them

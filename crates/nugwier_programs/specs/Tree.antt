@@ -2,7 +2,7 @@
 -- that are missing and those whose names are not known.
 use Rattle.std.specs.Prelude.{◌≡◌, ℕ, ◌+◌, zero, suc, ◌==◌, nat_lt, Bool, false, if◌then◌else◌, List, [], ◌∷◌, ◌++◌}
 use Rattle.std.specs.Prelude.{codes, drop, map}
-use Rattle.std.specs.Prelude.{length, Option, Some, None, Result, Ok, Err, IfSome, IsErr, slice_get, unwrap_or}
+use Rattle.std.specs.Prelude.{length, Option, Some, None, Result, Ok, Err, IfSome, IsErr, is_some, slice_get, unwrap_or}
 use Rattle.std.specs.List.{flat_map, join_by}
 use Rattle.std.specs.Option.{option_map}
 use Rattle.std.specs.Result.{result_ok}
@@ -19,10 +19,12 @@ use Rattle.elf_linking.specs.declared.needed.NamesError.{NamesError}
 use Rattle.elf_linking.specs.declared.tree.Kind.{Kind}
 use Rattle.elf_linking.specs.declared.tree.LoadOrder.{LoadOrder}
 use Rattle.elf_linking.specs.declared.tree.LoadedFile.{LoadedFile}
+use Rattle.nugwier_files.specs.Folder.{KnownFiles}
 use Rattle.nugwier_report.specs.Objects.{object_said}
 use Rattle.nugwier_report.specs.Said.{Said, whole, wrong}
 use Rattle.nugwier_report.specs.declared.problem.Fault.TheVariants.{Names, NotFound, Read}
 use Rattle.nugwier_report.specs.declared.problem.Part.TheVariants.{File}
+use Rattle.nugwier_programs.specs.Configured.{AreListed}
 use Rattle.nugwier_programs.specs.Usual.{lib_of, platform_of, usual_folders}
 use Rattle.nugwier_programs.specs.declared.tree.Search.{Search as Given}
 use denote.Ref.{Bor}
@@ -36,15 +38,18 @@ IsProgram file (Some program) = file ≡ Ok (found_view program)
 
 -- where libraries are searched for: in these folders, and whether the linker's cache counts
 pub record Search : Type 0 where
-  pub folders : List (Bor (List ℕ))
+  pub folders : List (List ℕ)
   pub has_cache : Bool
 
 abbrev pub search_view : Given → Search
-search_view search = record { folders = search.folders.now; has_cache = search.has_cache }
+search_view search = record {
+  folders = map (λ (folder : Bor (List ℕ)). folder.now) search.folders.now;
+  has_cache = search.has_cache;
+}
 
 -- the folders that are searched as the value of LD_LIBRARY_PATH: with colons between them
-abbrev pub library_path : List (Bor (List ℕ)) → List ℕ
-library_path searches = join_by (λ (folder : Bor (List ℕ)). folder.now) (58 ∷ []) searches
+abbrev pub library_path : List (List ℕ) → List ℕ
+library_path folders = join_by (λ (folder : List ℕ). folder) (58 ∷ []) folders
 
 -- the linker's cache in this file, if there is one that can be read
 abbrev pub cache_in : AnyEndian → Option (List ℕ) → Option Cache
@@ -60,20 +65,24 @@ cached_in (Some cache) kind name = cached_path cache (flags_of kind.machine kind
 abbrev pub cache_file : Bool → (List ℕ → Option (List ℕ)) → Option (List ℕ)
 cache_file has_cache files = if has_cache then files (codes "/etc/ld.so.cache") else None
 
--- these, the cache, and what belongs to the program's kind
-abbrev pub others_of : (List ℕ → Option (List ℕ)) → Search → Kind → Others
-others_of files search kind = record {
+-- the cache that counts for programs of a kind, if there is one
+abbrev pub cache_for : (List ℕ → Option (List ℕ)) → Search → Kind → Option Cache
+cache_for contents search kind = cache_in kind.order (cache_file search.has_cache contents)
+
+-- these, the cache, the folders that count in its place, and what belongs to the program's kind
+abbrev pub others_of : (List ℕ → Option (List ℕ)) → List (List ℕ) → Search → Kind → Others
+others_of contents listed search kind = record {
   library_path = Some (library_path search.folders);
   lib = lib_of kind;
   platform = platform_of kind;
-  cached = cached_in (cache_in kind.order (cache_file search.has_cache files)) kind;
-  listed_folders = [];
+  cached = cached_in (cache_for contents search kind) kind;
+  listed_folders = listed;
   usual_folders = usual_folders kind;
 }
 
--- the contents of files by their paths, if the files are known
-abbrev pub Contents : Type 0
-Contents = Option (List ℕ → Option (List ℕ))
+-- what is known of the files, if something is
+abbrev pub Known : Type 0
+Known = Option KnownFiles
 
 -- objects in the order in which they are loaded, and their places in the order of look-ups
 abbrev pub Order : Type 0
@@ -83,16 +92,23 @@ abbrev pub order_view : LoadOrder → Order
 order_view order = (map entry_view order.objects.items, order.scope.items)
 
 -- the program with the libraries that it loads, in order, by what is opened of files with these contents
-abbrev pub AreOpened : ((List ℕ → Option (List ℕ)) → List ℕ → Option Found) → Contents → Search → Found → Order → Type 0
-AreOpened opened contents search program order = IfSome contents (λ files.
-    IsLoadOrder (opened files) (others_of files search program.kind) program order.0 order.1)
+abbrev pub Opened : Type 0
+Opened = (List ℕ → Option (List ℕ)) → List ℕ → Option Found
+
+abbrev pub AreOpenedIn : Opened → KnownFiles → Search → Found → Order → Type 0
+AreOpenedIn opened files search program order =
+    (listed : List (List ℕ)) × AreListed files (is_some (cache_for files.contents search program.kind)) listed
+    × IsLoadOrder (opened files.contents) (others_of files.contents listed search program.kind) program order.0 order.1
+
+abbrev pub AreOpened : Opened → Known → Search → Found → Order → Type 0
+AreOpened opened known search program order = IfSome known (λ files. AreOpenedIn opened files search program order)
 
 -- with all bytes, or by their names alone
-abbrev pub AreObjects : Contents → Search → Found → Order → Type 0
-AreObjects contents search program order = AreOpened opened_whole contents search program order
+abbrev pub AreObjects : Known → Search → Found → Order → Type 0
+AreObjects known search program order = AreOpened opened_whole known search program order
 
-abbrev pub AreNamedObjects : Contents → Search → Found → Order → Type 0
-AreNamedObjects contents search program order = AreOpened opened_names contents search program order
+abbrev pub AreNamedObjects : Known → Search → Found → Order → Type 0
+AreNamedObjects known search program order = AreOpened opened_names known search program order
 
 -- ---- the order in which they are listed
 
@@ -179,11 +195,11 @@ abbrev pub said_of_tree : List Entry → List Said
 said_of_tree objects = flat_map (listed_said objects) (listed objects) ++ object_problems objects
 
 -- of a program by its names alone
-abbrev pub IsNamedSaid : Contents → Search → Found → List Said → Type 0
-IsNamedSaid contents search program said =
-    (order : Order) × AreNamedObjects contents search program order × (said ≡ said_of_tree order.0)
+abbrev pub IsNamedSaid : Known → Search → Found → List Said → Type 0
+IsNamedSaid known search program said =
+    (order : Order) × AreNamedObjects known search program order × (said ≡ said_of_tree order.0)
 
 -- of a file: that it is no program, or the tree
-abbrev pub IsTreeSaid : Contents → Search → Result Found ParseError → List Said → Type 0
-IsTreeSaid contents search (Ok program) said = IsNamedSaid contents search (without_bytes program) said
-IsTreeSaid contents search (Err e) said = said ≡ wrong (whole File) (Read e) ∷ []
+abbrev pub IsTreeSaid : Known → Search → Result Found ParseError → List Said → Type 0
+IsTreeSaid known search (Ok program) said = IsNamedSaid known search (without_bytes program) said
+IsTreeSaid known search (Err e) said = said ≡ wrong (whole File) (Read e) ∷ []

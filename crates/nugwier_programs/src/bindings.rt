@@ -18,7 +18,8 @@ use crate::bindings::objects::{
 use crate::bindings::rows::say_file;
 use crate::bindings::targets::Scope;
 use crate::tree::{Search, objects, open_program, say_problems};
-use elf_linking::tree::{Libraries, Object, in_order};
+use elf_linking::tree::{Object, in_order};
+use nugwier_files::files::Files;
 use nugwier_report::problem::Stop;
 use nugwier_report::report::Report;
 use std::alloc::Global;
@@ -27,22 +28,22 @@ use std::io::Write;
 /// Says what the symbols of a program and of its libraries bind to, which libraries are missing or have names that are
 /// not known, and what is missing or not known of the symbols. The path and the data are those of the program. The errors
 /// are that of the writer, and a failed allocation.
-pub fn say_bindings<L: Libraries, W: Write, V: Write>(
+pub fn say_bindings<F: Files, W: Write, V: Write>(
     alloc: Global,
     search: Search<'_>,
-    libraries: &L,
+    files: &F,
     path: &str,
     data: Vec<u8>,
     report: &mut Report<'_, W, V>,
 ) -> Result<(), Stop>
     ensures { OnOk result ((said : List Said)
-        × IsBindingsSaid (L.contents libraries.now) (search_view search.entry) (file_of path.now «data».items) said
+        × IsBindingsSaid (F.known files.now) (search_view search.entry) (file_of path.now «data».items) said
         × (report.new ≡ saying report.old said)) }
 {
     let Some(program) = open_program(alloc, path, data, report)? else {
         return Ok(());
     };
-    let order = objects(alloc, search, libraries, program)?;
+    let order = objects(alloc, search, files, program)?;
     say_problems(&order.objects, report)?;
     let objects = in_order(alloc, &order)?;
     say_objects(alloc, &objects, report)?;

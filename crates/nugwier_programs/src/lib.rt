@@ -2,5 +2,7 @@
 #![tactic(auto)]
 
 pub mod bindings;
+mod configured;
+pub mod patterns;
 pub mod tree;
 mod usual;

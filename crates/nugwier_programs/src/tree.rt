@@ -12,16 +12,20 @@ ghost use Rattle.nugwier_programs.specs.Tree.{first_needed};
 ghost use Rattle.nugwier_programs.specs.Tree.{is_needed_by, library_path, listed, listed_said, names_problem};
 ghost use Rattle.nugwier_programs.specs.Tree.{next_beside, order_view};
 ghost use Rattle.nugwier_programs.specs.Tree.{object_problem, object_problems, path_at, path_of, path_or_name};
+ghost use Rattle.nugwier_files.specs.Folder.{contents_known};
 ghost use Rattle.nugwier_programs.specs.inner.Walk.{AreFirsts, listed_view, stack_view, with_first};
 ghost use Rattle.nugwier_report.specs.Said.{Said, saying, unread, whole};
 ghost use Rattle.nugwier_report.specs.declared.problem.Part.TheVariants.{File};
 
+use crate::configured::{borrowed, listed_folders};
 use crate::usual::{lib_of, platform_of, usual_folders};
 use elf::endian::AnyEndian;
 use elf_linking::cache::{LibraryFlags, LinkerCache};
 use elf_linking::search::Surroundings;
 use elf_linking::tree::whole::WholeLibraries;
-use elf_linking::tree::{Libraries, LoadOrder, LoadedFile, Object, OpenError, Opener, load_order};
+use elf_linking::tree::{
+    LoadOrder, LoadedFile, Object, OpenError, Opener, load_order, loader_at, object_at,
+};
 use nugwier_files::files::Files;
 use nugwier_files::named::NamedLibraries;
 use nugwier_report::objects::ListedObject;
@@ -108,17 +112,18 @@ pub const FILE: Place = Place {
 const CACHE: &[u8] = b"/etc/ld.so.cache";
 
 /// Returns the program with its libraries, with all their bytes.
-pub(crate) fn objects<L: Libraries>(
+pub(crate) fn objects<F: Files>(
     alloc: Global,
     search: Search<'_>,
-    libraries: &L,
+    files: &F,
     program: LoadedFile,
 ) -> Result<LoadOrder, AllocError>
-    ensures { IfOk result (λ order. AreObjects (L.contents libraries.now) (search_view search.entry) (found_view program)
+    ensures { IfOk result (λ order. AreObjects (F.known files.now) (search_view search.entry) (found_view program)
         (order_view order)) }
 {
-    let opener = WholeLibraries { libraries };
-    opened_objects(alloc, search, libraries, &opener, program)
+    files.has_libraries();
+    let opener = WholeLibraries { libraries: files };
+    opened_objects(alloc, search, files, &opener, program)
 }
 
 // The same by their names alone.
@@ -131,50 +136,48 @@ fn named_objects<F: Files>(
     ensures { IfOk result (λ order. AreNamedObjects (F.known files.now) (search_view search.entry) (found_view program)
         (order_view order)) }
 {
-    files.has_libraries();
     let opener = NamedLibraries { files };
     opened_objects(alloc, search, files, &opener, program)
 }
 
 // The content of the linker's cache, if it counts and can be read.
-fn cache_file<L: Libraries>(
-    search: Search<'_>,
-    libraries: &L,
-) -> Result<Option<Vec<u8>>, AllocError>
-    ensures { IfOk result (λ file. IfSome (L.contents libraries.now)
-        (λ files. cache_file search.entry.has_cache files ≡ option_map vec_items file)) }
+fn cache_file<F: Files>(search: Search<'_>, files: &F) -> Result<Option<Vec<u8>>, AllocError>
+    ensures { IfOk result (λ file. IfSome (F.known files.now)
+        (λ files. cache_file search.entry.has_cache files.contents ≡ option_map vec_items file)) }
 {
     if search.has_cache {
-        libraries.read_library(CACHE)
+        files.has_libraries();
+        files.read_library(CACHE)
     } else {
         Ok(None)
     }
 }
 
 // The program with the libraries that are opened so.
-fn opened_objects<L: Libraries, O: Opener>(
+fn opened_objects<F: Files, O: Opener>(
     alloc: Global,
     search: Search<'_>,
-    libraries: &L,
+    files: &F,
     opener: &O,
     program: LoadedFile,
 ) -> Result<LoadOrder, AllocError>
     ensures { IfOk result (λ order. (opened : (List ℕ → Option (List ℕ)) → List ℕ → Option Found)
-        → O.opened opener.now ≡ option_map opened (L.contents libraries.now)
-        → AreOpened opened (L.contents libraries.now) (search_view search.entry) (found_view program)
-        (order_view order)) }
+        → O.opened opener.now ≡ option_map opened (contents_known (F.known files.now))
+        → AreOpened opened (F.known files.now) (search_view search.entry) (found_view program) (order_view order)) }
 {
     let library_path = library_path(alloc, search.folders)?;
     let usual_folders = usual_folders(alloc, program.kind)?;
-    let file = cache_file(search, libraries)?;
+    let file = cache_file(search, files)?;
     let cache = cache_in(program.kind.order, &file);
+    let listed = listed_folders(alloc, files, cache.is_some())?;
+    let listed_folders = borrowed(alloc, listed.as_slice())?;
     let surroundings = Surroundings {
         library_path: Some(library_path.as_slice()),
         lib: lib_of(program.kind),
         platform: platform_of(program.kind),
         cache: cache.as_ref(),
         flags: LibraryFlags::of(program.kind.machine, program.kind.class),
-        listed_folders: &[],
+        listed_folders: listed_folders.as_slice(),
         usual_folders: usual_folders.as_slice(),
     };
     load_order(alloc, opener, &surroundings, program)
@@ -192,7 +195,7 @@ fn cache_in(order: AnyEndian, file: &Option<Vec<u8>>) -> Option<LinkerCache<'_>>
 
 // The folders as the value of `LD_LIBRARY_PATH`: with colons between them.
 fn library_path(alloc: Global, searches: &[&str]) -> Result<Vec<u8>, AllocError>
-    ensures { IfOk result (λ path. path.items ≡ library_path searches.now) }
+    ensures { IfOk result (λ path. path.items ≡ library_path (map (λ folder. folder.now) searches.now)) }
 {
     let [first, others @ ..] = searches else {
         return Ok(Vec::new(alloc));
@@ -334,16 +337,6 @@ fn first_needed(firsts: &[Option<usize>], place: usize) -> Option<usize>
     }
 }
 
-// The place of the loader of the object at a place.
-fn loader_at(objects: &[Object], place: usize) -> usize
-    ensures { result ≡ loader_at (map entry_view objects.now) place }
-{
-    match objects.get(place) {
-        Some(object) => object.loader,
-        None => 0,
-    }
-}
-
 fn is_needed_by(objects: &[Object], loader: usize, place: usize) -> bool
     ensures { result ≡ is_needed_by loader (slice_get (map entry_view objects.now) place) }
 {
@@ -394,13 +387,6 @@ fn add_at(place: Option<usize>, depth: usize, waiting: &mut Vec<Listed>) -> Resu
         }
         None => Ok(()),
     }
-}
-
-// The object at a place, if there is one.
-fn object_at(objects: &[Object], place: usize) -> Option<&Object>
-    ensures { option_map (λ object. entry_view object.now) result ≡ slice_get (map entry_view objects.now) place }
-{
-    objects.get(place)
 }
 
 #[tactic(auto, using(crate::proofs::Walk::saying_nothing))]

@@ -1,12 +1,31 @@
 -- What is said of the content of sections.
-use Rattle.std.specs.Prelude.{ℕ, ◌+◌, ◌==◌, if◌then◌else◌, List, [], ◌∷◌, ◌++◌, Some, codes, length}
-use Rattle.nugwier_report.specs.Said.{Members, Said, bytes, number, states, text}
+use Rattle.std.specs.Prelude.{ℕ, ◌+◌, ◌==◌, nat_eq, if◌then◌else◌, List, [], ◌∷◌, ◌++◌, Some, codes, length}
+use Rattle.elf_abi.specs.Names.{name_of}
+use Rattle.elf_abi.specs.SectionNames.{ch_type_names}
+use Rattle.elf_records.specs.declared.compression.CompressionHeader.{CompressionHeader}
+use Rattle.nugwier_report.specs.Said.{Members, Said, bytes, number, states, text, word}
 use Rattle.nugwier_report.specs.declared.kind.Kind.TheVariants as kind
 
--- the bytes of section i
-abbrev pub data_said : ℕ → List ℕ → List Said
-data_said i content =
-    states kind.SectionData ((codes "section", number i) ∷ (codes "data", bytes content) ∷ []) ∷ []
+-- how section i is compressed (gABI, chapter "Sections", "Section Compression")
+abbrev pub compression_members : ℕ → CompressionHeader → Members
+compression_members i c =
+    (codes "section", number i)
+    ∷ (codes "ch_type", number c.ch_type)
+    ∷ (codes "ch_type_name", word (name_of nat_eq ch_type_names c.ch_type))
+    ∷ (codes "ch_size", number c.ch_size)
+    ∷ (codes "ch_addralign", number c.ch_addralign)
+    ∷ []
+
+abbrev pub compression_said : ℕ → CompressionHeader → List Said
+compression_said i c = states kind.Compression (compression_members i c) ∷ []
+
+-- the bytes of section i, from this address on
+abbrev pub data_members : ℕ → ℕ → List ℕ → Members
+data_members i address content =
+    (codes "section", number i) ∷ (codes "address", number address) ∷ (codes "data", bytes content) ∷ []
+
+abbrev pub data_said : ℕ → ℕ → List ℕ → List Said
+data_said i address content = states kind.SectionData (data_members i address content) ∷ []
 
 -- a string of section i, by its offset in the section
 abbrev pub string_members : ℕ → ℕ → List ℕ → Members

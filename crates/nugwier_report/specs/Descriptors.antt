@@ -1,14 +1,13 @@
 -- What is said of the descriptors of notes, by their owner and type. Of one that has not the form of its type nothing is
 -- said here; its bytes are a member of its note.
-use Rattle.std.specs.Prelude.{ℕ, ◌+◌, ◌*◌, ◌==◌, ◌||◌, ◌&&◌, Bool, if◌then◌else◌, List, [], ◌∷◌, codes, drop, length, take}
-use Rattle.std.specs.Prelude.{Option, Some, None}
-use Rattle.std.specs.List.{position}
+use Rattle.std.specs.Prelude.{ℕ, ◌*◌, ◌==◌, ◌||◌, ◌&&◌, Bool, if◌then◌else◌, List, [], ◌∷◌, codes, drop, Option, Some}
 use Rattle.std.specs.Option.{option_and_then, option_map}
 use Rattle.std.specs.Result.{result_ok}
 use Rattle.std.specs.Str.{bytes_eq}
 use Rattle.elf_records.specs.Class.{address_size}
-use Rattle.elf_records.specs.Number.{number_at}
 use Rattle.elf_records.specs.StringTable.{string_at}
+use Rattle.nugwier_report.specs.CoreNotes.{core_said, is_core_note}
+use Rattle.nugwier_report.specs.NoteParts.{address_in, after_string, text_in}
 use Rattle.nugwier_report.specs.Parts.{part_member}
 use Rattle.nugwier_report.specs.Properties.{is_property_note, properties_said}
 use Rattle.nugwier_report.specs.Said.{Members, Said, number, said_if, states, text}
@@ -26,14 +25,6 @@ is_text_note n_type name =
     (n_type == 4 && bytes_eq name (codes "GNU\0"))
     || ((n_type == 0xcafe1a7e || n_type == 0x407c0c0a) && bytes_eq name (codes "FDO\0"))
 
--- the bytes before the first 0 byte, or all
-abbrev pub text_before : List ℕ → Option ℕ → List ℕ
-text_before bytes (Some end) = take end bytes
-text_before bytes None = bytes
-
-abbrev pub text_in : List ℕ → List ℕ
-text_in bytes = text_before bytes (position (λ b. b == 0) bytes)
-
 -- of note i of a section or of a segment
 abbrev pub text_members : Part → ℕ → List ℕ → Members
 text_members part i bytes =
@@ -46,10 +37,6 @@ text_members part i bytes =
 
 abbrev pub is_probe_note : ℕ → List ℕ → Bool
 is_probe_note n_type name = n_type == 3 && bytes_eq name (codes "stapsdt\0")
-
--- an address of the file
-abbrev pub address_in : NoteFile → List ℕ → ℕ → Option ℕ
-address_in file bytes o = result_ok (number_at file.is_little (address_size file.class) bytes o)
 
 abbrev pub addresses_in : NoteFile → List ℕ → Option ProbeAddresses
 addresses_in file bytes =
@@ -69,10 +56,6 @@ texts_view names = record { provider = names.provider.now; name = names.name.now
 
 abbrev pub first_string : List ℕ → Option (List ℕ)
 first_string bytes = result_ok (string_at bytes 0)
-
--- the bytes after a string and the 0 byte at its end
-abbrev pub after_string : List ℕ → List ℕ → List ℕ
-after_string string bytes = drop (length string + 1) bytes
 
 abbrev pub texts_in : List ℕ → Option ProbeTexts
 texts_in bytes =
@@ -109,4 +92,5 @@ descriptor_said file part i n_type name bytes =
     if is_property_note n_type name then properties_said file part i bytes bytes
     else if is_text_note n_type name then states kind.NoteText (text_members part i bytes) ∷ []
     else if is_probe_note n_type name then said_if (probe_said part i) (probe_in file bytes)
+    else if is_core_note name then core_said file part i n_type bytes
     else []

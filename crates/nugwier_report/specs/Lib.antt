@@ -38,11 +38,14 @@ pub mod Parts
 pub mod Notes
 -- what is said of the descriptors of notes
 pub mod Properties
+pub mod NoteParts
+pub mod CoreNotes
 pub mod Descriptors
 pub mod Contents
 pub mod VersionRecords
 pub mod Dynamic
 pub mod Relocations
+pub mod Groups
 pub mod Verdicts
 -- how a file is hardened
 pub mod Hardening

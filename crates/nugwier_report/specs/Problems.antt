@@ -54,6 +54,8 @@ item_text (item.SymbolVersion k) = codes ": version of symbol " ++ (decimal k ++
 item_text (item.EntryName k) = codes ": string of entry " ++ (decimal k ++ codes ": ")
 item_text (item.RelocationSymbol k) = codes ": symbol of relocation " ++ (decimal k ++ codes ": ")
 item_text (item.VersionName k) = version_name k
+item_text item.Signature = codes ": signature: "
+item_text (item.Member k) = codes ": member " ++ (decimal k ++ codes ": ")
 
 -- ---- a fault
 
@@ -101,7 +103,7 @@ fault_text (fault.OtherFormat name) = words (codes "not an ELF file (") ++? quot
 fault_text (fault.Linked e) = linked_text e
 fault_text (fault.System e) = None
 fault_text fault.Missing = words (codes "the file has none")
-fault_text fault.Repeated = words (codes "left out: the notes up to here have more bytes than the file")
+fault_text fault.Repeated = words (codes "left out: those up to here have more bytes than the file")
 fault_text fault.TooMany = words (codes "too many to list those of each segment")
 fault_text fault.NoAddress = words (codes "no entry DT_STRTAB gives their address")
 fault_text fault.NoSize = words (codes "no entry DT_STRSZ gives their size")
@@ -109,6 +111,8 @@ fault_text (fault.NotLoaded address) =
     words (codes "no segment of type PT_LOAD has them at 0x") ++? digits_of address
 fault_text fault.NoSymbol = words (codes "no symbol starts there or before it")
 fault_text (fault.NoSection name) = words (codes "no section ") ++? quoted name
+fault_text fault.NeedsSection =
+    words (codes "in a relocatable file an address needs a section, as SECTION:ADDRESS")
 fault_text (fault.Plan e) = plan_text e
 fault_text (fault.Section f) = section_text f
 fault_text (fault.File f) = file_text f

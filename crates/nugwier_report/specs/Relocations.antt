@@ -102,11 +102,14 @@ abbrev pub stt_section : ℕ
 stt_section = 3
 
 -- a symbol of a section that has no name is shown by that of the section
-abbrev pub name_of_symbol : Used → Symbol → Result (List ℕ) ParseError
-name_of_symbol used s =
+abbrev pub symbol_name : Named → List ℕ → Symbol → Result (List ℕ) ParseError
+symbol_name named strings s =
     if symbol_type s == stt_section && s.st_name == 0
-    then Ok (section_name (label_at used.named (Some s.st_shndx)))
-    else string_at used.strings s.st_name
+    then Ok (section_name (label_at named (Some s.st_shndx)))
+    else string_at strings s.st_name
+
+abbrev pub name_of_symbol : Used → Symbol → Result (List ℕ) ParseError
+name_of_symbol used s = symbol_name used.named used.strings s
 
 abbrev pub name_if : Option Used → Option Symbol → Result (List ℕ) ParseError
 name_if (Some used) (Some s) = name_of_symbol used s

@@ -65,7 +65,7 @@ abbrev pub all_right : List Said → Bool
 all_right [] = true
 all_right (s ∷ said) = is_right_one s && all_right said
 
--- what a report shows: how it is written, the sections with which problems are told, what the writers of records and of
+-- a report: how it is written, the sections with which problems are told, what the writers of records and of
 -- problems had, whether a write of a record failed, and what was said
 pub record Telling : Type 0 where
   pub path : List ℕ

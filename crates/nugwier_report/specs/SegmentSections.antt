@@ -47,7 +47,7 @@ is_memory p =
 abbrev pub fits_memory : SectionHeader → ProgramHeader → Bool
 fits_memory s p = has_flag abi.SHF_ALLOC s || not (is_memory p)
 
--- these bytes lie in a range, by its start and length; where it ends no empty section belongs to it, unless it is empty
+-- these bytes lie in a range, by its start and length; an empty section at its end does not belong to it, unless the range is empty
 abbrev pub is_within : ℕ → ℕ → ℕ → ℕ → Bool
 is_within place size start length =
     nat_le start place && (length == 0 || nat_lt (place - start) length) && nat_le (place - start + size) length

@@ -3,6 +3,7 @@ use Rattle.std.specs.Prelude.{ℕ, ◌+◌, ◌-◌, ◌*◌, ◌/◌, ◌==◌,
 use Rattle.std.specs.Prelude.{negsuc, bit_and, List, [], ◌∷◌}
 use Rattle.std.specs.Prelude.{Option, Some, None, ◌&&◌, codes, drop, length, nat_le, replicate, take, zero}
 use Rattle.std.specs.Fmt.{decimal, digits, signed_decimal}
+use Rattle.std.specs.Hash.DefaultHasher.{wrapping_add}
 use Rattle.std.specs.Int.{div_ceil, to_be_bytes, w32, w64}
 use Rattle.std.specs.List.{after_first, before_first, flat_map, slice_get}
 use Rattle.std.specs.Str.{encode_utf8_all}
@@ -64,6 +65,11 @@ number_text _ n = hex n
 abbrev pub shown_number : Shown → Content → List ℕ
 shown_number form (number n) = number_text form n
 shown_number form _ = codes "-"
+
+-- in decimal
+abbrev pub shown_signed : Content → List ℕ
+shown_signed (signed n) = signed_decimal n
+shown_signed _ = codes "-"
 
 -- in hexadecimal, with this before it if it is not negative
 abbrev pub signed_hex : List ℕ → ℤ → List ℕ
@@ -153,11 +159,30 @@ abbrev pub shown_character : Content → List ℕ
 shown_character (character (Some c)) = encode_utf8_all (c ∷ [])
 shown_character _ = codes "-"
 
+-- ---- bytes
+
+-- how many bytes are left out
+unfoldable pub count_left_out : ℕ → List ℕ
+count_left_out n = codes " .. " ⧺ decimal n ⧺ codes " bytes more"
+
+-- if some are
+abbrev pub left_out : ℕ → List ℕ
+left_out n = if n == 0 then [] else count_left_out n
+
+-- the first of them, at most this number, and how many are left out
+abbrev pub front_of : ℕ → List ℕ → List ℕ
+front_of most content = hex_of (take most content) ⧺ left_out (length content - most)
+
 -- ---- bytes, 16 in a line
 
 abbrev pub bytes_in : Content → List ℕ
 bytes_in (bytes b) = b
 bytes_in _ = []
+
+-- the number that a value is, or 0
+abbrev pub number_in : Content → ℕ
+number_in (number n) = n
+number_in _ = 0
 
 -- the digits of the first four bytes, filled up with spaces, and a space
 abbrev pub dump_group : List ℕ → List ℕ
@@ -173,24 +198,25 @@ ascii b = if nat_le 0x20 b && nat_le b 0x7e then b ∷ [] else codes "."
 abbrev pub ascii_text : List ℕ → List ℕ
 ascii_text line = flat_map ascii line
 
-unfoldable pub dump_offset : ℕ → List ℕ
-dump_offset offset = codes "  " ⧺ wide offset ⧺ codes "  "
+unfoldable pub dump_address : ℕ → List ℕ
+dump_address address = codes "  " ⧺ wide address ⧺ codes "  "
 
 unfoldable pub dump_characters : List ℕ → List ℕ
 dump_characters line = codes " " ⧺ ascii_text line ⧺ newline
 
--- the offset of the first byte, the digits, and the characters
+-- the address of the first byte, the digits, and the characters
 abbrev pub dump_line : ℕ → List ℕ → List ℕ
-dump_line offset line = dump_offset offset ⧺ dump_columns line ⧺ dump_characters line
+dump_line address line = dump_address address ⧺ dump_columns line ⧺ dump_characters line
 
--- this number of lines; the first byte has this offset
-abbrev pub dump_lines : ℕ → ℕ → List ℕ → List ℕ
-dump_lines zero offset part = []
-dump_lines (suc count) offset part =
-    dump_line offset (take 16 part) ⧺ dump_lines count (offset + 16) (drop 16 part)
+-- this number of lines from an offset on; at offset 0 is this address, and after the last address comes address 0
+abbrev pub dump_lines : ℕ → ℕ → ℕ → List ℕ → List ℕ
+dump_lines address zero offset part = []
+dump_lines address (suc count) offset part =
+    dump_line (wrapping_add address offset) (take 16 part) ⧺ dump_lines address count (offset + 16) (drop 16 part)
 
-abbrev pub dump : List ℕ → List ℕ
-dump content = dump_lines (div_ceil (length content) 16) 0 content
+-- bytes; the first one has this address
+abbrev pub dump : ℕ → List ℕ → List ℕ
+dump address content = dump_lines address (div_ceil (length content) 16) 0 content
 
 -- ---- rows
 
@@ -211,8 +237,10 @@ shown (shows.Padded width) c members = shown_padded width (text_in c)
 shown (shows.Version place) c members = shown_version c (content_at members place)
 shown (shows.Flags count) c members = shown_flags count c
 shown shows.Character c members = shown_character c
+shown shows.Signed c members = shown_signed c
 shown shows.Pairs c members = hex_of (bytes_in c)
-shown shows.Dump c members = dump (bytes_in c)
+shown (shows.Front most) c members = front_of most (bytes_in c)
+shown (shows.Dump address) c members = dump (number_in (content_at members address)) (bytes_in c)
 shown form c members = shown_number form c
 
 -- the member of a column

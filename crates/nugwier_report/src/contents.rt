@@ -1,6 +1,7 @@
 //! What is said of the content of sections.
 ghost use Rattle.std.specs.Prelude.{◌≡◌, OnOk};
-ghost use Rattle.nugwier_report.specs.Contents.{data_said, string_members, string_said, strings_said};
+ghost use Rattle.nugwier_report.specs.Contents.{compression_members, compression_said, data_said, string_members};
+ghost use Rattle.nugwier_report.specs.Contents.{string_said, strings_said};
 ghost use Rattle.nugwier_report.specs.Noted.{members_said};
 ghost use Rattle.nugwier_report.specs.Said.{saying};
 
@@ -8,20 +9,47 @@ use crate::json::{Member, Value};
 use crate::kind::Kind;
 use crate::problem::Stop;
 use crate::report::Report;
+use elf_abi::to_str::ch_type_to_str;
+use elf_parts::compression::CompressionHeader;
 use std::io::Write;
 
-/// Says the bytes of a section, by its number.
+/// Says how a section is compressed, by its number.
+pub fn say_compression<W: Write, V: Write>(
+    section: u64,
+    header: &CompressionHeader,
+    report: &mut Report<'_, W, V>,
+) -> Result<(), Stop>
+    ensures { OnOk result (report.new ≡ saying report.old (compression_said section header.now)) }
+{
+    report.state(Kind::Compression, &compression_members(section, header))
+}
+
+fn compression_members(section: u64, header: &CompressionHeader) -> [Member<'static>; 5]
+    ensures { members_said result ≡ compression_members section header.now }
+{
+    [
+        ("section", Value::Number(section)),
+        ("ch_type", Value::Number(header.ch_type as u64)),
+        ("ch_type_name", Value::Word(ch_type_to_str(header.ch_type))),
+        ("ch_size", Value::Number(header.ch_size)),
+        ("ch_addralign", Value::Number(header.ch_addralign)),
+    ]
+}
+
+/// Says the bytes of a section, by its number. The first byte has this address.
 pub fn say_data<W: Write, V: Write>(
     section: u64,
+    address: u64,
     bytes: &[u8],
     report: &mut Report<'_, W, V>,
 ) -> Result<(), Stop>
-    ensures { OnOk result (report.new ≡ saying report.old (data_said section bytes.now)) }
+    ensures { OnOk result (report.new ≡ saying report.old (data_said section address bytes.now)) }
 {
     report.state(
         Kind::SectionData,
         &[
             ("section", Value::Number(section)),
+            ("address", Value::Number(address)),
             ("data", Value::Bytes(bytes)),
         ],
     )

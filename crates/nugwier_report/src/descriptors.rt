@@ -1,24 +1,21 @@
 //! What is said of the descriptors of notes.
-ghost use Rattle.std.specs.Prelude.{◌≡◌, ◌==◌, OnOk};
-ghost use Rattle.std.specs.List.{position};
+ghost use Rattle.std.specs.Prelude.{◌≡◌, OnOk};
 ghost use Rattle.std.specs.Option.{option_copied, option_map};
-ghost use Rattle.elf_records.specs.Class.{address_size};
-ghost use Rattle.nugwier_report.specs.Descriptors.{address_in, addresses_in, after_string};
-ghost use Rattle.nugwier_report.specs.Descriptors.{descriptor_said, first_string};
+ghost use Rattle.nugwier_report.specs.Descriptors.{addresses_in, descriptor_said, first_string};
 ghost use Rattle.nugwier_report.specs.Descriptors.{is_probe_note, is_text_note, probe_in, probe_members, probe_said};
-ghost use Rattle.nugwier_report.specs.Descriptors.{text_in, text_members, texts_in, texts_view};
+ghost use Rattle.nugwier_report.specs.Descriptors.{text_members, texts_in, texts_view};
 ghost use Rattle.nugwier_report.specs.Noted.{members_said};
 ghost use Rattle.nugwier_report.specs.Said.{said_if, saying};
 
+use crate::core_notes::{is_core_note, say_core_note};
 use crate::json::{Member, Value, part_member};
 use crate::kind::Kind;
+use crate::note_parts::{address_in, address_size, after_string, text_in};
 use crate::problem::{Part, Stop};
 use crate::properties::{NoteFile, is_property_note, rest_of, say_properties};
 use crate::report::Report;
-use elf_parts::file::Class;
 use elf_parts::note::NoteAny;
 use elf_parts::string_table::StringTable;
-use elf_records::parse::parse_by_class;
 use std::io::Write;
 
 /// Says what the descriptor of a note holds, by the number of the note.
@@ -38,6 +35,8 @@ pub(crate) fn say_descriptor<W: Write, V: Write>(
         report.state(Kind::NoteText, &text_members(part, number, note.desc))
     } else if is_probe_note(note.n_type, note.name) {
         say_probe(part, number, probe_in(file, note.desc), report)
+    } else if is_core_note(note.name) {
+        say_core_note(file, part, number, note.n_type, note.desc, report)
     } else {
         Ok(())
     }
@@ -50,22 +49,6 @@ fn is_text_note(n_type: u64, name: &[u8]) -> bool
 {
     (n_type == 4 && name == b"GNU\0".as_slice())
         || ((n_type == 0xcafe_1a7e || n_type == 0x407c_0c0a) && name == b"FDO\0".as_slice())
-}
-
-// The bytes before the first 0 byte, or all.
-fn text_in(bytes: &[u8]) -> &[u8]
-    ensures { result.now ≡ text_in bytes.now }
-{
-    match first_nul(bytes) {
-        Some(end) => &bytes[..end],
-        None => bytes,
-    }
-}
-
-fn first_nul(bytes: &[u8]) -> Option<usize>
-    ensures { result ≡ position (λ byte. byte == 0) bytes.now }
-{
-    bytes.iter().position(|byte| *byte == 0)
 }
 
 fn text_members(part: Part, number: u64, bytes: &[u8]) -> [Member<'_>; 3]
@@ -105,22 +88,6 @@ pub struct ProbeNames<'a> {
     pub arguments: &'a [u8],
 }
 
-fn address_size(class: Class) -> usize
-    ensures { result ≡ address_size class }
-{
-    match class {
-        Class::ELF32 => 4,
-        Class::ELF64 => 8,
-    }
-}
-
-fn address_in(file: NoteFile, bytes: &[u8], offset: usize) -> Option<u64>
-    ensures { result ≡ address_in file bytes.now offset }
-{
-    let mut offset = offset;
-    parse_by_class(file.order(), file.class, &mut offset, bytes).ok()
-}
-
 fn addresses_in(file: NoteFile, bytes: &[u8]) -> Option<ProbeAddresses>
     ensures { result ≡ addresses_in file bytes.now }
 {
@@ -139,13 +106,6 @@ fn first_string(bytes: &[u8]) -> Option<&[u8]>
     ensures { option_copied result ≡ first_string bytes.now }
 {
     StringTable::new(bytes).get_raw(0).ok()
-}
-
-// The bytes after a string and the 0 byte at its end.
-fn after_string<'a>(string: &[u8], bytes: &'a [u8]) -> &'a [u8]
-    ensures { result.now ≡ after_string string.now bytes.now }
-{
-    rest_of(string.len() + 1, bytes)
 }
 
 // The strings of a probe, in a row.

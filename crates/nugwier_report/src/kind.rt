@@ -6,8 +6,8 @@ ghost use Rattle.nugwier_report.specs.Kinds.{layout_of};
 
 use crate::text::Column;
 use crate::text::Shown::{
-    Addend, Character, Decimal, Depth, Digits, Digits8, Digits16, Dump, Flags, Hexadecimal, Index,
-    Name, Order, Padded, Pairs, SectionFlags, SegmentFlags, Text, Version,
+    Addend, Character, Decimal, Depth, Digits, Digits8, Digits16, Dump, Flags, Front, Hexadecimal,
+    Index, Name, Order, Padded, Pairs, SectionFlags, SegmentFlags, Signed, Text, Version,
 };
 
 /// A kind of record.
@@ -23,6 +23,10 @@ pub enum Kind {
     SectionsHeading,
     /// A section (gABI, chapter "Sections").
     Section,
+    /// A section group (gABI, chapter "Sections", "Section Groups"); its members follow.
+    Group,
+    /// A section of a group.
+    GroupMember,
     /// The heading of the segments.
     SegmentsHeading,
     /// A segment (gABI, chapter "Program Header").
@@ -113,6 +117,18 @@ pub enum Kind {
     NoteText,
     /// A probe of SystemTap.
     Probe,
+    /// The files that a process had mapped: their number, and the size of a page.
+    MappedFiles,
+    /// A file that a process had mapped.
+    MappedFile,
+    /// The signal and the number of a thread.
+    ProcessStatus,
+    /// The name and the arguments of a process.
+    ProcessInfo,
+    /// The signal that ended a process.
+    SignalInfo,
+    /// An entry of the auxiliary vector of a process.
+    AuxiliaryEntry,
     /// The heading of the versions that a file defines: the number and the name of their section.
     DefinedHeading,
     /// The heading of the versions that a file needs: the number and the name of their section.
@@ -127,10 +143,16 @@ pub enum Kind {
     Verneed,
     /// A version that is needed.
     Vernaux,
-    /// The heading of the bytes of a section: its name or its number, as in the command.
+    /// The heading of the bytes of a section: its number and its name.
     BytesHeading,
     /// The heading of the strings of a section.
     StringsHeading,
+    /// That a section has no bytes in the file.
+    NoBytes,
+    /// That a section is empty.
+    EmptySection,
+    /// How the bytes of a section are compressed (gABI, chapter "Sections", "Section Compression").
+    Compression,
     /// The bytes of a section.
     SectionData,
     /// A string of a section, with its offset.
@@ -188,6 +210,8 @@ impl Kind {
             Kind::FileHeader => FILE_HEADER,
             Kind::SectionsHeading => SECTIONS_HEADING,
             Kind::Section => SECTION,
+            Kind::Group => GROUP,
+            Kind::GroupMember => GROUP_MEMBER,
             Kind::SegmentsHeading => SEGMENTS_HEADING,
             Kind::Segment => SEGMENT,
             Kind::Interpreter => INTERPRETER,
@@ -233,6 +257,12 @@ impl Kind {
             Kind::Property => PROPERTY,
             Kind::NoteText => NOTE_TEXT,
             Kind::Probe => PROBE,
+            Kind::MappedFiles => MAPPED_FILES,
+            Kind::MappedFile => MAPPED_FILE,
+            Kind::ProcessStatus => PROCESS_STATUS,
+            Kind::ProcessInfo => PROCESS_INFO,
+            Kind::SignalInfo => SIGNAL_INFO,
+            Kind::AuxiliaryEntry => AUXILIARY_ENTRY,
             Kind::DefinedHeading => DEFINED_HEADING,
             Kind::NeededHeading => NEEDED_HEADING,
             Kind::Verdef => VERDEF,
@@ -242,6 +272,9 @@ impl Kind {
             Kind::Vernaux => VERNAUX,
             Kind::BytesHeading => BYTES_HEADING,
             Kind::StringsHeading => STRINGS_HEADING,
+            Kind::NoBytes => NO_BYTES,
+            Kind::EmptySection => EMPTY_SECTION,
+            Kind::Compression => COMPRESSION,
             Kind::SectionData => SECTION_DATA,
             Kind::SectionString => SECTION_STRING,
             Kind::MappingsHeading => MAPPINGS_HEADING,
@@ -337,6 +370,25 @@ pub const SECTION: Layout = (
         Column(12, Decimal(5)),
         Column(5, SectionFlags),
     ],
+);
+
+// The names of flags without `GRP_`.
+pub const GROUP: Layout = (
+    Some("group"),
+    "Group of section % (%): signature %, flags %%\n",
+    &[
+        Column(0, Decimal(0)),
+        Column(1, Text),
+        Column(4, Text),
+        Column(2, Hexadecimal),
+        Column(3, Flags(4)),
+    ],
+);
+
+pub const GROUP_MEMBER: Layout = (
+    Some("group_member"),
+    "% %\n",
+    &[Column(2, Decimal(6)), Column(3, Text)],
 );
 
 pub const SEGMENTS_HEADING: Layout = (
@@ -647,7 +699,11 @@ pub const ABI_TAG_NOTE: Layout = (
 pub const NOTE: Layout = (
     Some("note"),
     "  % %  %\n",
-    &[Column(4, Text), Column(3, Name(0, 0, 2)), Column(5, Pairs)],
+    &[
+        Column(4, Text),
+        Column(3, Name(0, 0, 2)),
+        Column(5, Front(32)),
+    ],
 );
 
 // The names of properties without `GNU_PROPERTY_`.
@@ -680,6 +736,48 @@ pub const PROBE: Layout = (
         Column(7, Hexadecimal),
         Column(4, Text),
     ],
+);
+
+pub const MAPPED_FILES: Layout = (
+    Some("note_files"),
+    "    mapped files: %, page size %\n",
+    &[Column(2, Decimal(0)), Column(3, Decimal(0))],
+);
+
+pub const MAPPED_FILE: Layout = (
+    Some("note_file"),
+    "    %-% page %  %\n",
+    &[
+        Column(2, Digits16),
+        Column(3, Digits16),
+        Column(4, Hexadecimal),
+        Column(5, Text),
+    ],
+);
+
+pub const PROCESS_STATUS: Layout = (
+    Some("note_prstatus"),
+    "    process %, signal %\n",
+    &[Column(3, Decimal(0)), Column(2, Decimal(0))],
+);
+
+pub const PROCESS_INFO: Layout = (
+    Some("note_prpsinfo"),
+    "    program %, arguments %\n",
+    &[Column(2, Text), Column(3, Text)],
+);
+
+pub const SIGNAL_INFO: Layout = (
+    Some("note_siginfo"),
+    "    signal %, code %, error %\n",
+    &[Column(2, Signed), Column(3, Signed), Column(4, Signed)],
+);
+
+// The names of entries without `AT_`.
+pub const AUXILIARY_ENTRY: Layout = (
+    Some("note_auxv"),
+    "    % %\n",
+    &[Column(3, Name(3, 17, 2)), Column(4, Hexadecimal)],
 );
 
 pub const DEFINED_HEADING: Layout = (
@@ -716,11 +814,25 @@ pub const VERNAUX: Layout = (
     ],
 );
 
-pub const BYTES_HEADING: Layout = (None, "Bytes of section %:\n", &[Column(0, Text)]);
+pub const BYTES_HEADING: Layout = (None, "Bytes of section % (%):\n", &HEADING_COLUMNS);
 
-pub const STRINGS_HEADING: Layout = (None, "Strings of section %:\n", &[Column(0, Text)]);
+pub const STRINGS_HEADING: Layout = (None, "Strings of section % (%):\n", &HEADING_COLUMNS);
 
-pub const SECTION_DATA: Layout = (Some("section_data"), "%", &[Column(1, Dump)]);
+pub const NO_BYTES: Layout = (None, "  none in the file\n", &[]);
+
+pub const EMPTY_SECTION: Layout = (None, "  none, the section is empty\n", &[]);
+
+pub const COMPRESSION: Layout = (
+    Some("compression"),
+    "  compressed: %, % bytes, alignment %\n",
+    &[
+        Column(2, Name(0, 0, 1)),
+        Column(3, Decimal(0)),
+        Column(4, Decimal(0)),
+    ],
+);
+
+pub const SECTION_DATA: Layout = (Some("section_data"), "%", &[Column(2, Dump(1))]);
 
 pub const SECTION_STRING: Layout = (
     Some("section_string"),

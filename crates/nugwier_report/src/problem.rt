@@ -109,6 +109,10 @@ pub enum Item {
     RelocationSymbol(u64),
     /// The name of the version of this index. For index 0 the name of a file from which versions are needed.
     VersionName(u64),
+    /// The signature of a section group.
+    Signature,
+    /// A member of a section group, by the number of its section.
+    Member(u64),
 }
 
 /// A place in a file.
@@ -147,6 +151,8 @@ pub enum Fault<'a> {
     NoSymbol,
     /// No section has this name or this number.
     NoSection(Quoted<'a>),
+    /// An address of a relocatable file is an offset in a section, and none is given.
+    NeedsSection,
     /// Its segments cannot be mapped.
     Plan(PlanError),
     /// A section of a file that is not sound.
@@ -187,7 +193,7 @@ impl fmt::Display for Fault<'_> {
             Fault::System(error) => write!(f, "{error}"),
             Fault::Missing => f.write_str("the file has none"),
             Fault::Repeated => {
-                f.write_str("left out: the notes up to here have more bytes than the file")
+                f.write_str("left out: those up to here have more bytes than the file")
             }
             Fault::TooMany => f.write_str("too many to list those of each segment"),
             Fault::NoAddress => f.write_str("no entry DT_STRTAB gives their address"),
@@ -197,6 +203,9 @@ impl fmt::Display for Fault<'_> {
             }
             Fault::NoSymbol => f.write_str("no symbol starts there or before it"),
             Fault::NoSection(name) => write!(f, "no section {name}"),
+            Fault::NeedsSection => {
+                f.write_str("in a relocatable file an address needs a section, as SECTION:ADDRESS")
+            }
             Fault::Plan(error) => write!(f, "{}", PlanText(error)),
             Fault::Section(fault) => write!(f, "{}", SectionText(*fault)),
             Fault::File(fault) => write!(f, "{}", FileText(*fault)),
@@ -327,6 +336,8 @@ impl fmt::Display for Item {
             Item::SymbolVersion(number) => write!(f, ": version of symbol {number}: "),
             Item::EntryName(number) => write!(f, ": string of entry {number}: "),
             Item::RelocationSymbol(number) => write!(f, ": symbol of relocation {number}: "),
+            Item::Signature => f.write_str(": signature: "),
+            Item::Member(number) => write!(f, ": member {number}: "),
             Item::VersionName(0) => f.write_str(": name of a needed file: "),
             Item::VersionName(index) => write!(f, ": name of version {index}: "),
         }

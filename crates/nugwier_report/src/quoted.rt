@@ -30,6 +30,13 @@ impl<'a> Quoted<'a> {
             text: Escaped(text),
         }
     }
+
+    /// The same name or path once more.
+    pub fn again(&self) -> Quoted<'a>
+        ensures { result ≡ self.now }
+    {
+        Quoted { text: self.text }
+    }
 }
 
 impl fmt::Display for Quoted<'_> {

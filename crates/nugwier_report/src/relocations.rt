@@ -4,12 +4,13 @@ ghost use Rattle.std.specs.List.{flat_map};
 ghost use Rattle.std.specs.Option.{option_copied, option_map};
 ghost use Rattle.elf_dynamic.specs.Relr.{addresses_left};
 ghost use Rattle.elf_records.specs.Number.{ok_map};
+ghost use Rattle.nugwier_report.specs.Labels.{named_by};
 ghost use Rattle.nugwier_report.specs.Noted.{content_of, members_said};
 ghost use Rattle.nugwier_report.specs.Relocations.{addend_of, info_of, is_mips_64, mips_big_info, mips_info};
 ghost use Rattle.nugwier_report.specs.Relocations.{mips_little_info, name_of_symbol, name_used, plain_info};
 ghost use Rattle.nugwier_report.specs.Relocations.{relative_members, relocation_members, stated};
-ghost use Rattle.nugwier_report.specs.Relocations.{relative_said, relocation_said, table_name, type_name, used_symbol};
-ghost use Rattle.nugwier_report.specs.Relocations.{used_view, version_used};
+ghost use Rattle.nugwier_report.specs.Relocations.{relative_said, relocation_said, symbol_name, table_name, type_name};
+ghost use Rattle.nugwier_report.specs.Relocations.{used_symbol, used_view, version_used};
 ghost use Rattle.nugwier_report.specs.Said.{saying};
 ghost use Rattle.nugwier_report.specs.Symbols.{version_read};
 ghost use Rattle.nugwier_report.specs.Versions.{version_view};
@@ -203,6 +204,20 @@ pub struct Symbols<'a, E: EndianParse, V: SymbolVersions<E>> {
     pub labels: &'a Labels<'a>,
 }
 
+/// Returns the name of a symbol. That of a section may have none: it is shown by the name of the section.
+pub fn symbol_name<'a>(
+    labels: &Labels<'a>,
+    strings: &TerminatedStrings<'a>,
+    symbol: &Symbol,
+) -> Result<&'a [u8], ParseError>
+    ensures { ok_map (λ name. name.now) result ≡ symbol_name (named_by labels.now) strings.now symbol.now }
+{
+    if symbol.st_symtype() == abi::STT_SECTION && symbol.st_name == 0 {
+        return Ok(labels.name_at(symbol.st_shndx as usize));
+    }
+    strings.get_raw(symbol.st_name as usize)
+}
+
 // The name and the version of a symbol.
 #[derive(Drop)]
 struct UsedName<'a> {
@@ -224,14 +239,11 @@ impl<'a, E: EndianParse, V: SymbolVersions<E>> Symbols<'a, E, V> {
         }
     }
 
-    // The name of a symbol. That of a section may have none: it is shown by the name of the section.
+    // The name of a symbol.
     fn name(&self, symbol: &Symbol) -> Result<&'a [u8], ParseError>
         ensures { ok_map (λ name. name.now) result ≡ name_of_symbol (used_view V.versions self.now) symbol.now }
     {
-        if symbol.st_symtype() == abi::STT_SECTION && symbol.st_name == 0 {
-            return Ok(self.labels.name_at(symbol.st_shndx as usize));
-        }
-        self.strings.get_raw(symbol.st_name as usize)
+        symbol_name(self.labels, &self.strings, symbol)
     }
 
     // The version of a symbol, if there are versions.

@@ -8,12 +8,13 @@ ghost use Rattle.elf_names.specs.Flags.{flag_of, flags_of};
 ghost use Rattle.elfshow_lines.specs.Adding.{Adds};
 ghost use Rattle.nugwier_report.specs.Noted.{content_of, members_said};
 ghost use Rattle.nugwier_report.specs.Text.{all_digits, ascii, ascii_text, at_signs, bytes_in, cell, content_at, dump};
-ghost use Rattle.nugwier_report.specs.Text.{dump_characters, dump_columns, dump_group, dump_line, dump_offset, is_mark};
-ghost use Rattle.nugwier_report.specs.Text.{left_of, letters_of, nameless_number, nameless_signed, number_text};
+ghost use Rattle.nugwier_report.specs.Text.{dump_address, dump_characters, dump_columns, dump_group, dump_line, is_mark};
+ghost use Rattle.nugwier_report.specs.Text.{count_left_out, front_of, left_out};
+ghost use Rattle.nugwier_report.specs.Text.{left_of, letters_of, nameless_number, nameless_signed, number_in, number_text};
 ghost use Rattle.nugwier_report.specs.Text.{other_flags};
 ghost use Rattle.nugwier_report.specs.Text.{row_text, section_letter, segment_flags, segment_letter, shown, shown_addend};
 ghost use Rattle.nugwier_report.specs.Text.{shown_character, shown_decimal, shown_flag, shown_flags, shown_index, shown_name, shown_nameless};
-ghost use Rattle.nugwier_report.specs.Text.{shown_number, shown_order, shown_padded, shown_text, signed_hex};
+ghost use Rattle.nugwier_report.specs.Text.{shown_number, shown_order, shown_padded, shown_signed, shown_text, signed_hex};
 ghost use Rattle.nugwier_report.specs.Text.{shown_version, text_in, wide};
 
 use crate::escape::add_shown;
@@ -38,6 +39,8 @@ pub enum Shown {
     Digits8,
     /// A number as 16 hexadecimal digits.
     Digits16,
+    /// A number with a sign, in decimal.
+    Signed,
     /// The byte order that a number of `EI_DATA` stands for.
     Order,
     /// The flags of a section or of a segment, as letters.
@@ -68,8 +71,11 @@ pub enum Shown {
     Character,
     /// Bytes, as two digits each.
     Pairs,
-    /// Bytes, 16 in a line: the offset of the first, their digits, and the characters of ASCII that they are.
-    Dump,
+    /// The same of the first ones, at most this number, and how many are left out.
+    Front(usize),
+    /// Bytes, 16 in a line: the address of the first, their digits, and the characters of ASCII that they are. The
+    /// number at this place is the address of the first byte of all.
+    Dump(usize),
 }
 
 /// A column: the place of the member that it shows, and how.
@@ -164,8 +170,13 @@ fn add_value<W: Write>(
         Shown::Version(flag) => add_version(value, value_at(members, flag), lines, out),
         Shown::Flags(count) => add_flag_names(count, value, lines, out),
         Shown::Character => add_character(value, lines, out),
+        Shown::Signed => add_signed(value, lines, out),
         Shown::Pairs => lines.bytes("", bytes_in(value), out),
-        Shown::Dump => add_dump(bytes_in(value), lines, out),
+        Shown::Front(most) => add_front(most, bytes_in(value), lines, out),
+        Shown::Dump(address) => {
+            let address = number_in(value_at(members, address));
+            add_dump(address, bytes_in(value), lines, out);
+        }
         _ => add_number(form, value, lines, out),
     }
 }
@@ -176,6 +187,16 @@ fn bytes_in<'a>(value: Value<'a>) -> &'a [u8]
     match value {
         Value::Bytes(bytes) => bytes,
         _ => &[],
+    }
+}
+
+// The number that a value is, or 0.
+fn number_in(value: Value<'_>) -> u64
+    ensures { result ≡ number_in (content_of value.entry) }
+{
+    match value {
+        Value::Number(n) => n,
+        _ => 0,
     }
 }
 
@@ -253,6 +274,16 @@ fn add_addend<W: Write>(addend: Value<'_>, symbol: Value<'_>, lines: &mut LineBu
         (Value::Signed(0), _) => lines.text("", out),
         (Value::Signed(addend), _) => add_signed_hex("+", addend, lines, out),
         _ => lines.text("", out),
+    }
+}
+
+fn add_signed<W: Write>(value: Value<'_>, lines: &mut LineBuffer, out: &mut W)
+    ensures { Adds (W.contents out.old) lines.old (W.contents out.new) lines.new
+        (shown_signed (content_of value.entry)) }
+{
+    match value {
+        Value::Signed(n) => lines.signed("", n, out),
+        _ => lines.text("-", out),
     }
 }
 
@@ -473,21 +504,50 @@ fn add_character<W: Write>(value: Value<'_>, lines: &mut LineBuffer, out: &mut W
     }
 }
 
+// ---- bytes
+
+// The first bytes, at most this number, and how many are left out.
+fn add_front<W: Write>(most: usize, bytes: &[u8], lines: &mut LineBuffer, out: &mut W)
+    ensures { Adds (W.contents out.old) lines.old (W.contents out.new) lines.new (front_of most bytes.now) }
+{
+    lines.bytes("", first_of(most, bytes), out);
+    add_left_out(bytes.len().saturating_sub(most), lines, out);
+}
+
+fn add_left_out<W: Write>(count: usize, lines: &mut LineBuffer, out: &mut W)
+    ensures { Adds (W.contents out.old) lines.old (W.contents out.new) lines.new (left_out count) }
+{
+    if count == 0 {
+        lines.text("", out);
+    } else {
+        add_count_left_out(count as u64, lines, out);
+    }
+}
+
+#[tactic(auto, unfolding(crate::specs::Text::count_left_out))]
+fn add_count_left_out<W: Write>(count: u64, lines: &mut LineBuffer, out: &mut W)
+    ensures { Adds (W.contents out.old) lines.old (W.contents out.new) lines.new (count_left_out count) }
+{
+    lines.text(" .. ", out);
+    lines.decimal("", count, out);
+    lines.text(" bytes more", out);
+}
+
 // ---- bytes, 16 in a line
 
 // The bytes in a line.
 const LINE: usize = 16;
 
 #[tactic(auto, using(crate::proofs::Dump::line_begins, crate::proofs::Dump::no_lines))]
-fn add_dump<W: Write>(bytes: &[u8], lines: &mut LineBuffer, out: &mut W)
-    ensures { Adds (W.contents out.old) lines.old (W.contents out.new) lines.new (dump bytes.now) }
+fn add_dump<W: Write>(address: u64, bytes: &[u8], lines: &mut LineBuffer, out: &mut W)
+    ensures { Adds (W.contents out.old) lines.old (W.contents out.new) lines.new (dump address bytes.now) }
 {
     let count = bytes.len().div_ceil(LINE);
     let mut line = 0;
     while line < count {
         let offset = LINE * line;
         let part = first_of(LINE, rest_of(offset, bytes));
-        add_line(offset as u64, part, lines, out);
+        add_line(address.wrapping_add(offset as u64), part, lines, out);
         line += 1;
     }
 }
@@ -502,20 +562,20 @@ pub(crate) fn first_of<T>(count: usize, items: &[T]) -> &[T]
     }
 }
 
-fn add_line<W: Write>(offset: u64, line: &[u8], lines: &mut LineBuffer, out: &mut W)
-    ensures { Adds (W.contents out.old) lines.old (W.contents out.new) lines.new (dump_line offset line.now) }
+fn add_line<W: Write>(address: u64, line: &[u8], lines: &mut LineBuffer, out: &mut W)
+    ensures { Adds (W.contents out.old) lines.old (W.contents out.new) lines.new (dump_line address line.now) }
 {
-    add_offset(offset, lines, out);
+    add_address(address, lines, out);
     add_columns(line, lines, out);
     add_dump_characters(line, lines, out);
 }
 
-#[tactic(auto, unfolding(crate::specs::Text::dump_offset))]
-fn add_offset<W: Write>(offset: u64, lines: &mut LineBuffer, out: &mut W)
-    ensures { Adds (W.contents out.old) lines.old (W.contents out.new) lines.new (dump_offset offset) }
+#[tactic(auto, unfolding(crate::specs::Text::dump_address))]
+fn add_address<W: Write>(address: u64, lines: &mut LineBuffer, out: &mut W)
+    ensures { Adds (W.contents out.old) lines.old (W.contents out.new) lines.new (dump_address address) }
 {
     lines.text("  ", out);
-    add_wide(offset, lines, out);
+    add_wide(address, lines, out);
     lines.text("  ", out);
 }
 

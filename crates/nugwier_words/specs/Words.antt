@@ -1,10 +1,10 @@
 -- What the words of a command line ask for: `parsed`, at the end, beside what `nugwier --help` says.
 use Rattle.std.specs.Prelude.{◌≡◌, ◌⊎◌, ◌^◌, ◌==◌, ◌||◌, ◌&&◌, not, Bool, true, false, if◌then◌else◌, nat_lt, ℕ}
-use Rattle.std.specs.Prelude.{List, [], ◌∷◌, ◌++◌, codes, drop, length, slice_index, Option, Some, None, is_some}
+use Rattle.std.specs.Prelude.{List, [], ◌∷◌, ◌++◌, codes, drop, length, map, slice_index, Option, Some, None, is_some}
 use Rattle.std.specs.Prelude.{option_map}
 use Rattle.std.specs.Prelude.{Result, Ok, Err}
 use Rattle.std.specs.Char.{is_digit}
-use Rattle.std.specs.List.{find, slice_split, starts_with}
+use Rattle.std.specs.List.{after_first, before_first, find, slice_split, starts_with}
 use Rattle.std.specs.Str.{bytes_eq}
 use Rattle.std.specs.Str.Parse.{digits_value}
 use Rattle.nugwier_report.specs.Hardening.{requirement_word}
@@ -20,6 +20,7 @@ use Rattle.nugwier_words.specs.declared.asked.Awaited.TheVariants.{Folder, Nothi
 use Rattle.nugwier_words.specs.declared.asked.Word.{Word}
 use Rattle.nugwier_words.specs.declared.asked.Word.TheVariants.{End, File, Help, Json, Options, Recursive}
 use Rattle.nugwier_words.specs.declared.letters.Letters.{Letters}
+use Rattle.nugwier_words.specs.declared.words.AskedAddress.{AskedAddress}
 use Rattle.nugwier_words.specs.declared.words.Command.{Command}
 use Rattle.nugwier_words.specs.declared.words.Command.TheVariants.{Address, Bindings, BuildId, Check, Exports, Harden}
 use Rattle.nugwier_words.specs.declared.words.Command.TheVariants.{List as ListCommand, Needed, Plan, Symbols, Tree}
@@ -41,40 +42,58 @@ use denote.Ref.{Bor}
 
 -- ---- what is asked for
 
+-- an address, and the section that it is in, if one is given
+pub record Sought : Type 0 where
+  pub section : Option (List ℕ)
+  pub address : ℕ
+
 -- a command with its options, the files, and the addresses: the lists of a `Job`
 pub record Task : Type 0 where
   pub command : Command
   pub parts : Parts
-  pub contents : List Wanted
+  pub contents : List (Form × List ℕ)
   pub files : List (Bor (List ℕ))
-  pub addresses : List ℕ
+  pub addresses : List Sought
   pub symbols : SymbolOptions
   pub requirements : List Requirement
   pub is_json : Bool
   pub is_recursive : Bool
-  pub searches : List (Bor (List ℕ))
+  pub searches : List (List ℕ)
   pub has_cache : Bool
-  pub root : Option (Bor (List ℕ))
+  pub root : Option (List ℕ)
 
 pub data Answer : Type 0 where
   help : Option Command → Answer
   version : Answer
   run : Task → Answer
 
+-- the content of a section, by its name or its number
+abbrev pub wanted_view : Wanted → Form × List ℕ
+wanted_view wanted = (wanted.form, wanted.section.now)
+
+abbrev pub text_of : Option (Bor (List ℕ)) → Option (List ℕ)
+text_of word = option_map (λ (w : Bor (List ℕ)). w.now) word
+
+abbrev pub texts_of : List (Bor (List ℕ)) → List (List ℕ)
+texts_of words = map (λ (word : Bor (List ℕ)). word.now) words
+
+abbrev pub sought : AskedAddress → Sought
+sought asked = record { section = text_of asked.section; address = asked.address }
+
 abbrev pub task_of : Job → Task
 task_of job = record {
   command = job.command;
   parts = job.parts;
-  contents = job.contents.items;
+  contents = map wanted_view job.contents.items;
   files = job.files.items;
-  addresses = job.addresses.items;
+  addresses = map sought job.addresses.items;
   symbols = job.symbols;
   requirements = job.requirements.items;
   is_json = job.is_json;
   is_recursive = job.is_recursive;
-  searches = job.searches.items;
+  searches = texts_of job.searches.items;
   has_cache = job.has_cache;
-  root = job.root;
+  root = text_of job.root;
 }
 
 abbrev pub answer_of : Request → Answer
@@ -131,6 +150,7 @@ abbrev pub parts_all : Bool → Parts
 parts_all is_listed = record {
   header = is_listed;
   sections = is_listed;
+  groups = is_listed;
   segments = is_listed;
   symbols = is_listed;
   dynamic_symbols = is_listed;
@@ -148,6 +168,7 @@ abbrev pub with_part : Parts → ℕ → Option Parts
 with_part parts letter =
     if letter == code "h" then Some (record parts { header = true })
     else if letter == code "S" then Some (record parts { sections = true })
+    else if letter == code "g" then Some (record parts { groups = true })
     else if letter == code "l" then Some (record parts { segments = true })
     else if letter == code "s" then Some (record parts { symbols = true })
     else if letter == code "D" then Some (record parts { dynamic_symbols = true })
@@ -158,13 +179,8 @@ with_part parts letter =
     else if letter == code "a" then Some (parts_all true)
     else None
 
--- after the letters x and p, whose section is the next word, none may follow
 abbrev pub with_list_letter : Letters → ℕ → Option Letters
-with_list_letter letters letter =
-    if is_some letters.form then None
-    else if letter == code "x" then Some (record letters { form = Some Bytes })
-    else if letter == code "p" then Some (record letters { form = Some Strings })
-    else option_map (λ parts. record letters { parts = parts }) (with_part letters.parts letter)
+with_list_letter letters letter = option_map (λ parts. record letters { parts = parts }) (with_part letters.parts letter)
 
 -- the words of `symbols` after two hyphens, as of GNU nm; of those that exclude each other the last one counts
 unfoldable pub with_symbol_word : SymbolOptions → List ℕ → Option SymbolOptions
@@ -226,14 +242,14 @@ with_word_of command letters word =
 pub record SoFar : Type 0 where
   pub parts : Parts
   pub symbols : SymbolOptions
-  pub contents : List Wanted
+  pub contents : List (Form × List ℕ)
   pub files : List (Bor (List ℕ))
   pub requirements : List Requirement
   pub is_json : Bool
   pub is_recursive : Bool
-  pub searches : List (Bor (List ℕ))
+  pub searches : List (List ℕ)
   pub has_cache : Bool
-  pub root : Option (Bor (List ℕ))
+  pub root : Option (List ℕ)
   pub awaited : Awaited
   pub has_ended : Bool
 
@@ -241,14 +257,14 @@ abbrev pub so_far : Asked → SoFar
 so_far asked = record {
   parts = asked.parts;
   symbols = asked.symbols;
-  contents = asked.contents.items;
+  contents = map wanted_view asked.contents.items;
   files = asked.files.items;
   requirements = asked.requirements.items;
   is_json = asked.is_json;
   is_recursive = asked.is_recursive;
-  searches = asked.searches.items;
+  searches = texts_of asked.searches.items;
   has_cache = asked.has_cache;
-  root = asked.root;
+  root = text_of asked.root;
   awaited = asked.awaited;
   has_ended = asked.has_ended;
 }
@@ -288,67 +304,84 @@ pub data Step : Type 0 where
   helps : Step
   wrong : WordError → Step
 
--- a word of letters; the last one may need a section
-abbrev pub awaited_form : Option Form → Bor (List ℕ) → Awaited
-awaited_form None word = Nothing
-awaited_form (Some form) word = Section form word
+-- what the options so far ask for
+abbrev pub letters_of : SoFar → Letters
+letters_of asked = record { parts = asked.parts; symbols = asked.symbols }
 
 abbrev pub with_found : Command → SoFar → Bor (List ℕ) → Option Letters → Step
 with_found command asked word None = wrong (NotOption command word)
 with_found command asked word (Some letters) =
-    next (record asked {
-      parts = letters.parts;
-      symbols = letters.symbols;
-      awaited = awaited_form letters.form word;
-    })
+    next (record asked { parts = letters.parts; symbols = letters.symbols })
 
+-- a word of `symbols` and `exports`
 abbrev pub with_listed : Command → SoFar → Bor (List ℕ) → Step
-with_listed command asked word =
-    with_found command asked word
-    (with_word_of command (record { parts = asked.parts; symbols = asked.symbols; form = None }) word.now)
+with_listed command asked word = with_found command asked word (with_word_of command (letters_of asked) word.now)
 
--- the options of `tree` and `bindings`: a folder to search, or the one of the files, is the next word
+-- A word of `list` is cut at its first x or p, the last letter of the word, which needs a section: what follows it in the
+-- word, or if nothing does the next word.
+abbrev pub is_x : ℕ → Bool
+is_x c = c == code "x"
+
+abbrev pub is_p : ℕ → Bool
+is_p c = c == code "p"
+
+-- how many letters stand before the first x, and before the first p; all if there is none
+abbrev pub before_x : List ℕ → ℕ
+before_x word = length (before_first is_x word)
+
+abbrev pub before_p : List ℕ → ℕ
+before_p word = length (before_first is_p word)
+
+abbrev pub cut_form : List ℕ → Option Form
+cut_form word =
+    if nat_lt (before_x word) (before_p word) then Some Bytes
+    else if nat_lt (before_p word) (before_x word) then Some Strings
+    else None
+
+abbrev pub cut_letters : List ℕ → List ℕ
+cut_letters word = if nat_lt (before_x word) (before_p word) then before_first is_x word else before_first is_p word
+
+abbrev pub cut_section : List ℕ → List ℕ
+cut_section word = if nat_lt (before_x word) (before_p word) then after_first is_x word else after_first is_p word
+
+abbrev pub with_form : SoFar → Bor (List ℕ) → Option Form → List ℕ → SoFar
+with_form asked word None section = asked
+with_form asked word (Some form) section =
+    if length section == 0 then record asked { awaited = Section form word }
+    else record asked { contents = asked.contents ++ (form, section) ∷ [] }
+
+abbrev pub with_list_letters : SoFar → Bor (List ℕ) → Option Letters → Step
+with_list_letters asked word None = wrong (NotOption ListCommand word)
+with_list_letters asked word (Some letters) =
+    let listed = record asked { parts = letters.parts; symbols = letters.symbols } in
+    next (with_form listed word (cut_form word.now) (cut_section word.now))
+
+abbrev pub with_list_word : SoFar → Bor (List ℕ) → Step
+with_list_word asked word =
+    with_list_letters asked word (with_word_of ListCommand (letters_of asked) (cut_letters word.now))
+
+-- a folder to search
+abbrev pub with_folder : SoFar → List ℕ → Step
+with_folder asked folder = next (record asked { searches = asked.searches ++ folder ∷ []; awaited = Nothing })
+
+-- the folder of the files; the last one counts
+abbrev pub with_root : SoFar → List ℕ → Step
+with_root asked folder = next (record asked { root = Some folder; awaited = Nothing })
+
+-- an option with its folder in one word
+abbrev pub with_given : Command → SoFar → Bor (List ℕ) → Step
+with_given command asked word =
+    if starts_with ◌==◌ word.now (codes "--search=") then with_folder asked (drop 9 word.now)
+    else if starts_with ◌==◌ word.now (codes "--root=") then with_root asked (drop 7 word.now)
+    else wrong (NotOption command word)
+
+-- the options of `tree` and `bindings`: a folder is the next word, or stands in the same one after `=`
 abbrev pub with_search : Command → SoFar → Bor (List ℕ) → Step
 with_search command asked word =
     if bytes_eq word.now (codes "--search") then next (record asked { awaited = Folder word })
     else if bytes_eq word.now (codes "--root") then next (record asked { awaited = Root word })
     else if bytes_eq word.now (codes "--no-cache") then next (record asked { has_cache = false })
-    else wrong (NotOption command word)
-
--- the option of `harden`: the list of what is required is the next word
-abbrev pub with_require : SoFar → Bor (List ℕ) → Step
-with_require asked word =
-    if bytes_eq word.now (codes "--require") then next (record asked { awaited = Requirements word })
-    else wrong (NotOption Harden word)
-
--- any other command has no options but --json, --recursive and --help
-abbrev pub with_options : Command → SoFar → Bor (List ℕ) → Step
-with_options ListCommand asked word = with_listed ListCommand asked word
-with_options Symbols asked word = with_listed Symbols asked word
-with_options Exports asked word = with_listed Exports asked word
-with_options Tree asked word = with_search Tree asked word
-with_options Bindings asked word = with_search Bindings asked word
-with_options Harden asked word = with_require asked word
-with_options other asked word = wrong (NotOption other word)
-
-abbrev pub with_word : Word → Command → SoFar → Bor (List ℕ) → Step
-with_word File command asked word = next (record asked { files = asked.files ++ word ∷ [] })
-with_word Help command asked word = helps
-with_word Json command asked word = next (record asked { is_json = true })
-with_word Recursive command asked word = next (record asked { is_recursive = true })
-with_word End command asked word = next (record asked { has_ended = true })
-with_word Options command asked word = with_options command asked word
-
-abbrev pub with_section : Form → SoFar → Bor (List ℕ) → Step
-with_section form asked word =
-    next (record asked { contents = asked.contents ++ record { form = form; section = word } ∷ []; awaited = Nothing })
-
-abbrev pub with_folder : SoFar → Bor (List ℕ) → Step
-with_folder asked word = next (record asked { searches = asked.searches ++ word ∷ []; awaited = Nothing })
-
--- the last one counts
-abbrev pub with_root : SoFar → Bor (List ℕ) → Step
-with_root asked word = next (record asked { root = Some word; awaited = Nothing })
+    else with_given command asked word
 
 unfoldable pub requirement_of : List ℕ → Option Requirement
 requirement_of word =
@@ -377,19 +410,49 @@ AreAdded answer new true = answer ≡ Some new
 AreAdded answer new false = answer ≡ None
 
 abbrev pub required : SoFar → Bor (List ℕ) → Option (List Requirement) → Step
-required asked list (Some all) = next (record asked { requirements = all; awaited = Nothing })
-required asked list None = wrong (NotRequirement list)
+required asked word (Some all) = next (record asked { requirements = all; awaited = Nothing })
+required asked word None = wrong (NotRequirement word)
 
-abbrev pub with_requirements : SoFar → Bor (List ℕ) → Step
-with_requirements asked word = required asked word (requirements_in word.now asked.requirements)
+-- those of a list, which is this word or stands in it
+abbrev pub with_requirements : SoFar → Bor (List ℕ) → List ℕ → Step
+with_requirements asked word list = required asked word (requirements_in list asked.requirements)
+
+-- the option of `harden`: the list of what is required is the next word, or stands in the same one after `=`
+abbrev pub with_require : SoFar → Bor (List ℕ) → Step
+with_require asked word =
+    if bytes_eq word.now (codes "--require") then next (record asked { awaited = Requirements word })
+    else if starts_with ◌==◌ word.now (codes "--require=") then with_requirements asked word (drop 10 word.now)
+    else wrong (NotOption Harden word)
+
+-- any other command has no options but --json, --recursive and --help
+abbrev pub with_options : Command → SoFar → Bor (List ℕ) → Step
+with_options ListCommand asked word = with_list_word asked word
+with_options Symbols asked word = with_listed Symbols asked word
+with_options Exports asked word = with_listed Exports asked word
+with_options Tree asked word = with_search Tree asked word
+with_options Bindings asked word = with_search Bindings asked word
+with_options Harden asked word = with_require asked word
+with_options other asked word = wrong (NotOption other word)
+
+abbrev pub with_word : Word → Command → SoFar → Bor (List ℕ) → Step
+with_word File command asked word = next (record asked { files = asked.files ++ word ∷ [] })
+with_word Help command asked word = helps
+with_word Json command asked word = next (record asked { is_json = true })
+with_word Recursive command asked word = next (record asked { is_recursive = true })
+with_word End command asked word = next (record asked { has_ended = true })
+with_word Options command asked word = with_options command asked word
+
+abbrev pub with_section : Form → SoFar → Bor (List ℕ) → Step
+with_section form asked word =
+    next (record asked { contents = asked.contents ++ (form, word.now) ∷ []; awaited = Nothing })
 
 -- an option takes the next word, whatever it is
 abbrev pub step_for : Awaited → Command → SoFar → Bor (List ℕ) → Step
 step_for Nothing command asked word = with_word (kind_of word.now asked.has_ended) command asked word
 step_for (Section form option) command asked word = with_section form asked word
-step_for (Folder option) command asked word = with_folder asked word
-step_for (Root option) command asked word = with_root asked word
-step_for (Requirements option) command asked word = with_requirements asked word
+step_for (Folder option) command asked word = with_folder asked word.now
+step_for (Root option) command asked word = with_root asked word.now
+step_for (Requirements option) command asked word = with_requirements asked word word.now
 
 abbrev pub step : Command → SoFar → Bor (List ℕ) → Step
 step command asked word = step_for asked.awaited command asked word
@@ -419,17 +482,30 @@ abbrev pub number_of : List ℕ → Option ℕ
 number_of digits =
     if is_number digits && nat_lt (digits_value 16 digits) (2 ^ 64) then Some (digits_value 16 digits) else None
 
-abbrev pub address_of : List ℕ → Option ℕ
-address_of word = number_of (without_0x word)
+-- one character more before a section, if there is one, and an address
+abbrev pub divided_from : ℕ → Option (List ℕ) → List ℕ → Option (List ℕ) × List ℕ
+divided_from c (Some section) address = (Some (c ∷ section), address)
+divided_from c None address = if c == code ":" then (Some [], address) else (None, c ∷ address)
+
+-- a section before the last colon, if there is a colon, and an address
+abbrev pub divided : List ℕ → Option (List ℕ) × List ℕ
+divided [] = (None, [])
+divided (c ∷ cs) = let rest = divided cs in divided_from c rest.0 rest.1
+
+abbrev pub sought_at : Option (List ℕ) → Option ℕ → Option Sought
+sought_at section address = option_map (λ n. record { section = section; address = n }) address
+
+abbrev pub address_of : List ℕ → Option Sought
+address_of word = let parts = divided word in sought_at parts.0 (number_of (without_0x parts.1))
 
 -- those of words after these, or the first word that is none
-abbrev pub addresses_after : List ℕ → List (Bor (List ℕ)) → Result (List ℕ) WordError
+abbrev pub addresses_after : List Sought → List (Bor (List ℕ)) → Result (List Sought) WordError
 addresses_after addresses [] = Ok addresses
 addresses_after addresses (word ∷ words) =
     elim (address_of word.now) [ Some n ↦ addresses_after (addresses ++ n ∷ []) words | None ↦ Err (NotAddress word) ]
 
-abbrev pub AreAddresses : Result (List ℕ) WordError → Result (Vec ℕ) WordError → Type 0
-AreAddresses answer (Ok addresses) = answer ≡ Ok addresses.items
+abbrev pub AreAddresses : Result (List Sought) WordError → Result (Vec AskedAddress) WordError → Type 0
+AreAddresses answer (Ok addresses) = answer ≡ Ok (map sought addresses.items)
 AreAddresses answer (Err error) = (error ≡ Memory) ⊎ (answer ≡ Err error)
 
 -- ---- after the last word
@@ -437,14 +513,13 @@ AreAddresses answer (Err error) = (error ≡ Memory) ⊎ (answer ≡ Err error)
 -- without options, `list` lists all parts
 abbrev pub has_part : Parts → Bool
 has_part parts =
-    parts.header || parts.sections || parts.segments || parts.symbols || parts.dynamic_symbols || parts.dynamic
-    || parts.relocations || parts.notes || parts.versions
+    parts.header || parts.sections || parts.groups || parts.segments || parts.symbols || parts.dynamic_symbols
+    || parts.dynamic || parts.relocations || parts.notes || parts.versions
 
-abbrev pub listed_parts : Parts → List Wanted → Parts
-listed_parts parts [] = if has_part parts then parts else parts_all true
-listed_parts parts (wanted ∷ more) = parts
+abbrev pub listed_parts : Parts → List (Form × List ℕ) → Parts
+listed_parts parts contents = if length contents == 0 && not (has_part parts) then parts_all true else parts
 
-abbrev pub run_on : Command → SoFar → List (Bor (List ℕ)) → List ℕ → Result Answer WordError
+abbrev pub run_on : Command → SoFar → List (Bor (List ℕ)) → List Sought → Result Answer WordError
 run_on command asked files addresses = Ok (run (record {
   command = command;
   parts = listed_parts asked.parts asked.contents;
@@ -461,11 +536,11 @@ run_on command asked files addresses = Ok (run (record {
 }))
 
 -- `address` takes one file, and the others are addresses, one or more
-abbrev pub with_addresses : SoFar → List (Bor (List ℕ)) → List ℕ → Result Answer WordError
+abbrev pub with_addresses : SoFar → List (Bor (List ℕ)) → List Sought → Result Answer WordError
 with_addresses asked files [] = Err NoAddress
 with_addresses asked files (address ∷ addresses) = run_on Address asked files (address ∷ addresses)
 
-abbrev pub at_addresses : SoFar → List (Bor (List ℕ)) → Result (List ℕ) WordError → Result Answer WordError
+abbrev pub at_addresses : SoFar → List (Bor (List ℕ)) → Result (List Sought) WordError → Result Answer WordError
 at_addresses asked files (Ok addresses) = with_addresses asked files addresses
 at_addresses asked files (Err error) = Err error
 

@@ -1,15 +1,17 @@
 //! Addresses among the words.
-ghost use Rattle.nugwier_words.specs.Words.{AreAddresses, address_of, addresses_after, number_of, without_0x};
+ghost use Rattle.nugwier_words.specs.Words.{AreAddresses, address_of, addresses_after, divided, number_of, sought};
+ghost use Rattle.nugwier_words.specs.Words.{text_of, without_0x};
+ghost use Rattle.std.specs.Option.{option_map};
 ghost use Rattle.std.specs.Prelude.{◌≡◌, []};
 
-use crate::words::WordError;
+use crate::words::{AskedAddress, WordError};
 use std::alloc::Global;
 
 /// The addresses that words are. `Address` for the first word that is none.
 pub(crate) fn parse_addresses<'a>(
     alloc: Global,
     words: &[&'a str],
-) -> Result<Vec<u64>, WordError<'a>>
+) -> Result<Vec<AskedAddress<'a>>, WordError<'a>>
     ensures { AreAddresses (addresses_after [] words.now) result }
 {
     let mut addresses = Vec::new(alloc);
@@ -22,11 +24,23 @@ pub(crate) fn parse_addresses<'a>(
     Ok(addresses)
 }
 
-// A number in hexadecimal, with or without `0x`.
-fn parse_address(word: &str) -> Option<u64>
-    ensures { result ≡ address_of word.now }
+// A number in hexadecimal, with or without `0x`, after a section and a colon or alone.
+fn parse_address<'a>(word: &'a str) -> Option<AskedAddress<'a>>
+    ensures { option_map sought result ≡ address_of word.now }
 {
-    parse_number(without_0x(word))
+    let (section, address) = divided(word);
+    let address = parse_number(without_0x(address))?;
+    Some(AskedAddress { section, address })
+}
+
+// The section before the last colon, if there is a colon, and the address.
+fn divided<'a>(word: &'a str) -> (Option<&'a str>, &'a str)
+    ensures { (text_of result.0, result.1.now) ≡ divided word.now }
+{
+    match word.rsplit_once(':') {
+        Some((section, address)) => (Some(section), address),
+        None => (None, word),
+    }
 }
 
 // A number in hexadecimal. A plus sign, which std allows, is no digit.

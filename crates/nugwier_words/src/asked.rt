@@ -1,14 +1,15 @@
 //! What the words after a command ask for, from left to right.
-ghost use Rattle.nugwier_words.specs.Words.{IsParsed, IsStep, answer_of, awaited_form, finished, has_part, kind_of};
-ghost use Rattle.nugwier_words.specs.Words.{listed_parts, nothing, run_on, so_far, step, with_addresses, with_files};
-ghost use Rattle.nugwier_words.specs.Words.{with_folder, with_options, with_requirements, with_root, with_search};
-ghost use Rattle.nugwier_words.specs.Words.{with_listed, with_section, with_word, with_word_of};
-ghost use Rattle.std.specs.Prelude.{◌≡◌, Ok, drop, take};
+ghost use Rattle.nugwier_words.specs.Words.{IsParsed, IsStep, answer_of, finished, has_part, kind_of, letters_of};
+ghost use Rattle.nugwier_words.specs.Words.{listed_parts, next, nothing, run_on, so_far, sought, step, wanted_view};
+ghost use Rattle.nugwier_words.specs.Words.{with_addresses, with_files, with_folder, with_form, with_given};
+ghost use Rattle.nugwier_words.specs.Words.{with_list_word, with_listed, with_options, with_requirements, with_root};
+ghost use Rattle.nugwier_words.specs.Words.{with_search, with_section, with_word, with_word_of};
+ghost use Rattle.std.specs.Prelude.{◌≡◌, Ok, drop, map, take};
 
 use crate::address::parse_addresses;
-use crate::letters::{Letters, add_letters, add_long_word};
+use crate::letters::{Letters, add_letters, add_long_word, cut};
 use crate::requirements::add_requirements;
-use crate::words::{Command, Form, Job, Parts, Request, Wanted, WordError};
+use crate::words::{AskedAddress, Command, Form, Job, Parts, Request, Wanted, WordError};
 use nugwier_report::hardening::Requirement;
 use nugwier_report::symbol_options::SymbolOptions;
 use std::alloc::Global;
@@ -83,7 +84,7 @@ impl<'a> Asked<'a> {
             Awaited::Section(form, _) => self.add_section(form, word),
             Awaited::Folder(_) => self.add_folder(word),
             Awaited::Root(_) => Ok(self.set_root(word)),
-            Awaited::Requirements(_) => self.add_requirements(word),
+            Awaited::Requirements(_) => self.add_requirements(word, word),
         }
     }
 
@@ -96,7 +97,7 @@ impl<'a> Asked<'a> {
     }
 
     fn add_folder(&mut self, folder: &'a str) -> Result<bool, WordError<'a>>
-        ensures { IsStep (with_folder (so_far self.old) folder.entry) (so_far self.new) result }
+        ensures { IsStep (with_folder (so_far self.old) folder.now) (so_far self.new) result }
     {
         self.searches.push(folder)?;
         self.awaited = Awaited::Nothing;
@@ -104,18 +105,19 @@ impl<'a> Asked<'a> {
     }
 
     fn set_root(&mut self, folder: &'a str) -> bool
-        ensures { IsStep (with_root (so_far self.old) folder.entry) (so_far self.new) (Ok result) }
+        ensures { IsStep (with_root (so_far self.old) folder.now) (so_far self.new) (Ok result) }
     {
         self.root = Some(folder);
         self.awaited = Awaited::Nothing;
         false
     }
 
-    fn add_requirements(&mut self, list: &'a str) -> Result<bool, WordError<'a>>
-        ensures { IsStep (with_requirements (so_far self.old) list.entry) (so_far self.new) result }
+    // Adds those of a list. An error names the word, which is the list or has it.
+    fn add_requirements(&mut self, word: &'a str, list: &str) -> Result<bool, WordError<'a>>
+        ensures { IsStep (with_requirements (so_far self.old) word.entry list.now) (so_far self.new) result }
     {
         if !add_requirements(self.alloc, list, &mut self.requirements)? {
-            return Err(WordError::Requirement(list));
+            return Err(WordError::Requirement(word));
         }
         self.awaited = Awaited::Nothing;
         Ok(false)
@@ -141,9 +143,8 @@ impl<'a> Asked<'a> {
         ensures { IsStep (with_options command (so_far self.old) word.entry) (so_far self.new) result }
     {
         match command {
-            Command::List | Command::Symbols | Command::Exports => {
-                self.add_letters(command, word)
-            }
+            Command::List => self.add_list_word(word),
+            Command::Symbols | Command::Exports => self.add_letters(command, word),
             Command::Tree | Command::Bindings => self.add_search(command, word),
             Command::Harden => self.add_require(word),
             _ => Err(WordError::Option(command, word)),
@@ -153,17 +154,55 @@ impl<'a> Asked<'a> {
     fn add_letters(&mut self, command: Command, word: &'a str) -> Result<bool, WordError<'a>>
         ensures { IsStep (with_listed command (so_far self.old) word.entry) (so_far self.new) result }
     {
-        let letters = Letters {
-            parts: self.parts,
-            symbols: self.symbols,
-            form: None,
-        };
-        let Some(letters) = options_in(command, letters, word) else {
+        let Some(letters) = options_in(command, self.letters(), word) else {
             return Err(WordError::Option(command, word));
         };
         self.parts = letters.parts;
         self.symbols = letters.symbols;
-        self.awaited = awaited_form(letters.form, word);
+        Ok(false)
+    }
+
+    // What the options so far ask for.
+    fn letters(&self) -> Letters
+        ensures { result ≡ letters_of (so_far self.now) }
+    {
+        Letters {
+            parts: self.parts,
+            symbols: self.symbols,
+        }
+    }
+
+    // A word of letters, the last of which may need a section.
+    fn add_list_word(&mut self, word: &'a str) -> Result<bool, WordError<'a>>
+        ensures { IsStep (with_list_word (so_far self.old) word.entry) (so_far self.new) result }
+    {
+        let (letters, form, section) = cut(word);
+        let Some(letters) = options_in(Command::List, self.letters(), letters) else {
+            return Err(WordError::Option(Command::List, word));
+        };
+        self.parts = letters.parts;
+        self.symbols = letters.symbols;
+        self.add_form(word, form, section)
+    }
+
+    // The content of the section after a letter or, if nothing follows it in the word, of the one that the next word
+    // names.
+    fn add_form(
+        &mut self,
+        word: &'a str,
+        form: Option<Form>,
+        section: &'a str,
+    ) -> Result<bool, WordError<'a>>
+        ensures { IsStep (next (with_form (so_far self.old) word.entry form section.now)) (so_far self.new) result }
+    {
+        let Some(form) = form else {
+            return Ok(false);
+        };
+        if section.is_empty() {
+            self.awaited = Awaited::Section(form, word);
+        } else {
+            self.contents.push(Wanted { form, section })?;
+        }
         Ok(false)
     }
 
@@ -174,19 +213,35 @@ impl<'a> Asked<'a> {
             "--search" => self.awaited = Awaited::Folder(word),
             "--root" => self.awaited = Awaited::Root(word),
             "--no-cache" => self.has_cache = false,
-            _ => return Err(WordError::Option(command, word)),
+            _ => return self.add_given(command, word),
         }
         Ok(false)
+    }
+
+    // An option with its folder in one word.
+    fn add_given(&mut self, command: Command, word: &'a str) -> Result<bool, WordError<'a>>
+        ensures { IsStep (with_given command (so_far self.old) word.entry) (so_far self.new) result }
+    {
+        if let Some(folder) = word.strip_prefix("--search=") {
+            return self.add_folder(folder);
+        }
+        match word.strip_prefix("--root=") {
+            Some(folder) => Ok(self.set_root(folder)),
+            None => Err(WordError::Option(command, word)),
+        }
     }
 
     fn add_require(&mut self, word: &'a str) -> Result<bool, WordError<'a>>
         ensures { IsStep (with_options Command.Harden (so_far self.old) word.entry) (so_far self.new) result }
     {
-        match word {
-            "--require" => self.awaited = Awaited::Requirements(word),
-            _ => return Err(WordError::Option(Command::Harden, word)),
+        if word == "--require" {
+            self.awaited = Awaited::Requirements(word);
+            return Ok(false);
         }
-        Ok(false)
+        match word.strip_prefix("--require=") {
+            Some(list) => self.add_requirements(word, list),
+            None => Err(WordError::Option(Command::Harden, word)),
+        }
     }
 
     /// What the words ask for, if no word follows.
@@ -220,8 +275,12 @@ impl<'a> Asked<'a> {
     }
 
     // Runs `address` on the first file. The other words have been read as addresses.
-    fn at_addresses(mut self, addresses: Vec<u64>) -> Result<Request<'a>, WordError<'a>>
-        ensures { IsParsed (with_addresses (so_far self.entry) (take 1 self.entry.files.items) addresses.items) result }
+    fn at_addresses(
+        mut self,
+        addresses: Vec<AskedAddress<'a>>,
+    ) -> Result<Request<'a>, WordError<'a>>
+        ensures { IsParsed (with_addresses (so_far self.entry) (take 1 self.entry.files.items)
+            (map sought addresses.entry.items)) result }
     {
         if addresses.is_empty() {
             return Err(WordError::NoAddress);
@@ -230,8 +289,9 @@ impl<'a> Asked<'a> {
         Ok(self.run(Command::Address, addresses))
     }
 
-    fn run(self, command: Command, addresses: Vec<u64>) -> Request<'a>
-        ensures { Ok (answer_of result) ≡ run_on command (so_far self.entry) self.entry.files.items addresses.items }
+    fn run(self, command: Command, addresses: Vec<AskedAddress<'a>>) -> Request<'a>
+        ensures { Ok (answer_of result)
+            ≡ run_on command (so_far self.entry) self.entry.files.items (map sought addresses.entry.items) }
     {
         Request::Run(Job {
             command,
@@ -286,19 +346,9 @@ fn after_first(word: &[u8]) -> &[u8]
     }
 }
 
-// What the last letter of a word needs.
-fn awaited_form<'a>(form: Option<Form>, word: &'a str) -> Awaited<'a>
-    ensures { result ≡ awaited_form form word.entry }
-{
-    match form {
-        Some(form) => Awaited::Section(form, word),
-        None => Awaited::Nothing,
-    }
-}
-
 // The parts that `list` lists: without options all.
 fn listed_parts(parts: Parts, contents: &[Wanted]) -> Parts
-    ensures { result ≡ listed_parts parts contents.now }
+    ensures { result ≡ listed_parts parts (map wanted_view contents.now) }
 {
     if contents.is_empty() && !has_part(parts) {
         Parts::each(true)
@@ -310,7 +360,7 @@ fn listed_parts(parts: Parts, contents: &[Wanted]) -> Parts
 fn has_part(parts: Parts) -> bool
     ensures { result ≡ has_part parts }
 {
-    let listed = parts.header || parts.sections || parts.segments || parts.symbols;
-    let linked = parts.dynamic_symbols || parts.dynamic || parts.relocations;
-    listed || linked || parts.notes || parts.versions
+    let headers = parts.header || parts.sections || parts.groups || parts.segments;
+    let symbols = parts.symbols || parts.dynamic_symbols || parts.dynamic;
+    headers || symbols || parts.relocations || parts.notes || parts.versions
 }

@@ -45,6 +45,7 @@ Lists the parts of a file that the options name; without options, all of -a.
 
   -h           the file header
   -S           the sections
+  -g           the section groups, with their sections
   -l           the segments
   -s           the symbols
   -D           the symbols for dynamic linking, with their versions
@@ -53,12 +54,12 @@ Lists the parts of a file that the options name; without options, all of -a.
   -n           the notes
   -V           the versions that the file defines, and those that it needs of other files
   -a           all of these
-  -x SECTION   the bytes of a section, by its name or its number
-  -p SECTION   the strings of a section, by its name or its number
+  -x SECTION   the bytes of all sections of a name, or of the section of a number
+  -p SECTION   the strings of all sections of a name, or of the section of a number
   --json       an object of JSON for each record, one a line, in place of lines for people
   -R           of a FILE that is a folder, the ELF files below it
 
-Letters may stand together, as in -hSl. After -- each word is a file.";
+Letters may stand together, as in -hSl, and a section may follow its letter, as in -x28. After -- each word is a file.";
 
 const SYMBOLS: &str = "\
 usage: nugwier symbols [OPTION..] FILE..
@@ -142,14 +143,18 @@ Prints how each file is hardened against attacks, in one line:
 A dash stands for what is not known, and for no path. Files have no headings.
 
   --require LIST  tells what a file lacks of these, on standard error: pie, relro (full), bindnow, nx, canary, fortify,
-                  runpath (no unsafe folder), ibt, shstk, bti, pac, stripped; the words have commas between them";
+                  runpath (no unsafe folder), ibt, shstk, bti, pac, stripped; the words have commas between them. The
+                  list may also follow after =, as in --require=nx,pie";
 
 const ADDRESS: &str = "\
-usage: nugwier address [--json] [-R] FILE ADDRESS..
+usage: nugwier address [--json] [-R] FILE [SECTION:]ADDRESS..
 
 Prints, for each address, NAME+DISTANCE of the last symbol of a function or a variable that starts there or before, and
 says so if the address lies past its end. An address is in hexadecimal, with or without 0x. The symbols are those of
-list -s or, if the file has none, those for dynamic linking.";
+list -s or, if the file has none, those for dynamic linking.
+
+With a section, by its name or its number, only the symbols of this section count. In a relocatable file an address is
+an offset in a section, so it needs one.";
 
 const TREE: &str = "\
 usage: nugwier tree [--json] [-R] [--search FOLDER].. [--root FOLDER] [--no-cache] FILE..
@@ -159,12 +164,14 @@ that is found, or 'not found'. A library stands below the one that needs it firs
 
   --search FOLDER   looks for libraries in this folder, as if LD_LIBRARY_PATH named it
   --root FOLDER     takes all paths below this folder, that of FILE too, as in the image of another system
-  --no-cache        does not take what /etc/ld.so.cache lists
+  --no-cache        takes the folders of /etc/ld.so.conf in place of what /etc/ld.so.cache lists
+
+A folder may also follow after =, as in --root=FOLDER.
 
 Libraries are looked for as the dynamic linker does: in the folders of DT_RPATH of the object that needs them and of its
 loaders, those of --search, those of DT_RUNPATH of the object, then at the path that /etc/ld.so.cache has, and in the
 usual folders of its machine, such as /lib/x86_64-linux-gnu, /lib64 and /usr/lib. $ORIGIN is the folder of the object's
-path. LD_LIBRARY_PATH and ld.so.conf are not read.";
+path. Without a cache the folders of /etc/ld.so.conf take its place. LD_LIBRARY_PATH is not read.";
 
 const BINDINGS: &str = "\
 usage: nugwier bindings [--json] [-R] [--search FOLDER].. [--root FOLDER] [--no-cache] FILE..

@@ -1,21 +1,21 @@
 //! Options that ask for what is listed: letters, which may stand together in a word, and long words.
 ghost use Rattle.nugwier_words.specs.Words.{long_word, with_export_word, with_letter, with_letters, with_part};
+ghost use Rattle.nugwier_words.specs.Words.{cut_form, cut_letters, cut_section, is_p, is_x};
 ghost use Rattle.nugwier_words.specs.Words.{with_list_letter, with_long_word, with_symbol_word};
+ghost use Rattle.std.specs.List.{after_first, before_first};
 ghost use Rattle.std.specs.Prelude.{◌≡◌};
 
 use crate::words::{Command, Form, Parts};
 use nugwier_report::symbol_options::{Extent, SymbolOptions, SymbolOrder};
 
-/// What options ask for. After the letters of `form`, the next word is a section.
+/// What options ask for.
 #[derive(Clone, Copy)]
 pub(crate) struct Letters {
     pub parts: Parts,
     pub symbols: SymbolOptions,
-    pub form: Option<Form>,
 }
 
-/// Adds the letters of a word. Returns `None` if one is no option of the command, or stands after one that needs a
-/// section.
+/// Adds the letters of a word. Returns `None` if one is no option of the command.
 pub(crate) fn add_letters(command: Command, mut letters: Letters, word: &[u8]) -> Option<Letters>
     ensures { result ≡ with_letters command letters word.now }
 {
@@ -37,14 +37,7 @@ fn add_letter(command: Command, letters: Letters, letter: u8) -> Option<Letters>
 fn add_list_letter(mut letters: Letters, letter: u8) -> Option<Letters>
     ensures { result ≡ with_list_letter letters letter }
 {
-    if letters.form.is_some() {
-        return None;
-    }
-    match letter {
-        b'x' => letters.form = Some(Form::Bytes),
-        b'p' => letters.form = Some(Form::Strings),
-        _ => letters.parts = add_part(letters.parts, letter)?,
-    }
+    letters.parts = add_part(letters.parts, letter)?;
     Some(letters)
 }
 
@@ -54,6 +47,7 @@ fn add_part(mut parts: Parts, letter: u8) -> Option<Parts>
     match letter {
         b'h' => parts.header = true,
         b'S' => parts.sections = true,
+        b'g' => parts.groups = true,
         b'l' => parts.segments = true,
         b's' => parts.symbols = true,
         b'D' => parts.dynamic_symbols = true,
@@ -65,6 +59,46 @@ fn add_part(mut parts: Parts, letter: u8) -> Option<Parts>
         _ => return None,
     }
     Some(parts)
+}
+
+/// Cuts a word of `list` at its first `x` or `p`, which needs a section. Returns the letters before it, the form that it
+/// asks for, and what follows it; a word without such a letter as a whole.
+pub(crate) fn cut(word: &str) -> (&str, Option<Form>, &str)
+    ensures letters { result.0.now ≡ cut_letters word.now }
+    ensures form { result.1 ≡ cut_form word.now }
+    ensures section { result.2.now ≡ cut_section word.now }
+{
+    let (before_x, after_x) = around_x(word);
+    let (before_p, after_p) = around_p(word);
+    if before_x.len() < before_p.len() {
+        (before_x, Some(Form::Bytes), after_x)
+    } else if before_p.len() < before_x.len() {
+        (before_p, Some(Form::Strings), after_p)
+    } else {
+        (before_p, None, after_p)
+    }
+}
+
+// The text before the first `x` and the text after it; the whole word if it has none.
+fn around_x(word: &str) -> (&str, &str)
+    ensures before { result.0.now ≡ before_first is_x word.now }
+    ensures after { result.1.now ≡ after_first is_x word.now }
+{
+    match word.split_once('x') {
+        Some(parts) => parts,
+        None => (word, ""),
+    }
+}
+
+// The text before the first `p` and the text after it; the whole word if it has none.
+fn around_p(word: &str) -> (&str, &str)
+    ensures before { result.0.now ≡ before_first is_p word.now }
+    ensures after { result.1.now ≡ after_first is_p word.now }
+{
+    match word.split_once('p') {
+        Some(parts) => parts,
+        None => (word, ""),
+    }
 }
 
 // The long word that a letter of `symbols` stands for; an empty one if it is none.

@@ -79,6 +79,7 @@ impl fmt::Display for Command {
 pub struct Parts {
     pub header: bool,
     pub sections: bool,
+    pub groups: bool,
     pub segments: bool,
     pub symbols: bool,
     pub dynamic_symbols: bool,
@@ -96,6 +97,7 @@ impl Parts {
         Parts {
             header: is_listed,
             sections: is_listed,
+            groups: is_listed,
             segments: is_listed,
             symbols: is_listed,
             dynamic_symbols: is_listed,
@@ -121,6 +123,13 @@ pub struct Wanted<'a> {
     pub section: &'a str,
 }
 
+/// An address, and the section that it is in, by its name or its number, if one is given.
+#[derive(Debug, Clone, Copy)]
+pub struct AskedAddress<'a> {
+    pub section: Option<&'a str>,
+    pub address: u64,
+}
+
 /// What a command line asks for of files.
 #[derive(Debug, Drop)]
 pub struct Job<'a> {
@@ -131,7 +140,7 @@ pub struct Job<'a> {
     pub contents: Vec<Wanted<'a>>,
     pub files: Vec<&'a str>,
     /// The addresses for `address`.
-    pub addresses: Vec<u64>,
+    pub addresses: Vec<AskedAddress<'a>>,
     /// The options of `symbols` and `exports`.
     pub symbols: SymbolOptions,
     /// What `harden` requires of each file.

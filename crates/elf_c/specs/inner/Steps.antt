@@ -43,7 +43,7 @@ module _ (size : ℕ) (range : Ranges) where
       range ei_nident (size_of (tail_fields ident.1)) >>= λ tail.
       err_map Parse (header_with_tail any_is_little ident tail)
 
-  -- the first section header, of which the part is read that lies in the file
+  -- the first section header; the part of it that lies in the file is read
   abbrev pub first_by : FileHeader AnyEndian → Result SectionHeader ReadError
   first_by h =
       range (min h.e_shoff size) (min (size_by section_header_layout h.class) (size - h.e_shoff)) >>= λ part.

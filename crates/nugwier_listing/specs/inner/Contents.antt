@@ -1,19 +1,19 @@
 -- The content of sections that was taken.
-use Rattle.std.specs.Prelude.{ℕ, List, Result}
-use Rattle.std.specs.Borrow.{Bor}
-use Rattle.std.specs.Option.{option_map}
+use Rattle.std.specs.Prelude.{List, ◌∷◌, []}
+use Rattle.elf_reading.specs.Leading.{data_view}
 use Rattle.elf_records.specs.Number.{ok_map}
-use Rattle.elf_records.specs.declared.parse.ParseError.{ParseError}
-use Rattle.nugwier_report.specs.Said.{Said}
-use Rattle.nugwier_listing.specs.Contents.{found_said}
+use Rattle.nugwier_report.specs.Said.{Said, whole, wrong}
+use Rattle.nugwier_report.specs.declared.problem.Fault.TheVariants.{NoSection}
+use Rattle.nugwier_report.specs.declared.problem.Part.TheVariants.{File}
+use Rattle.nugwier_listing.specs.Contents.{section_said}
 use Rattle.nugwier_listing.specs.declared.contents.ContentPart.{ContentPart}
+use Rattle.nugwier_listing.specs.declared.contents.ContentPart.TheVariants as part
+use Rattle.nugwier_listing.specs.declared.contents.SectionContent.{SectionContent}
 
-abbrev pub bytes_view : Result (Bor (List ℕ)) ParseError → Result (List ℕ) ParseError
-bytes_view bytes = ok_map (λ b. b.now) bytes
-
-abbrev pub found_view : ℕ × Result (Bor (List ℕ)) ParseError → ℕ × Result (List ℕ) ParseError
-found_view found = (found.0, bytes_view found.1)
+abbrev pub section_part_said : SectionContent → List Said
+section_part_said part = section_said part.form part.number part.name.now part.section (ok_map data_view part.content)
 
 -- of a section that is wanted, and that was taken
 abbrev pub part_said : ContentPart → List Said
-part_said part = found_said part.wanted.form part.wanted.section.now (option_map found_view part.found)
+part_said (part.Section section) = section_part_said section
+part_said (part.Missing word) = wrong (whole File) (NoSection word.now) ∷ []

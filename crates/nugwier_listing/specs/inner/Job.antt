@@ -16,6 +16,7 @@ use Rattle.nugwier_listing.specs.declared.list.PartTables.{PartTables}
 use Rattle.nugwier_listing.specs.declared.list.PartTables.TheVariants as part
 use Rattle.nugwier_listing.specs.inner.Contents.{part_said as content_said}
 use Rattle.nugwier_listing.specs.inner.Dynamic.{entries_said, needed_said}
+use Rattle.nugwier_listing.specs.inner.Groups.{tables_said as groups_said}
 use Rattle.nugwier_listing.specs.inner.Hardening.{tables_said as hardening_said}
 use Rattle.nugwier_listing.specs.inner.Notes.{part_said as notes_said}
 use Rattle.nugwier_listing.specs.inner.Relocations.{tables_said}
@@ -30,6 +31,7 @@ module _ {E : Type 0} (little : E → Bool) where
   unfoldable pub part_said : PartTables E → List Said
   part_said (part.Header h kind) = header_said little h kind
   part_said (part.Sections t) = taken_sections_said t
+  part_said (part.Groups t) = groups_said t
   part_said (part.Segments t) = segments_said t
   part_said (part.Symbols t) = table_said t
   part_said (part.Dynamic t) = entries_said t
@@ -40,13 +42,14 @@ module _ {E : Type 0} (little : E → Bool) where
   unfoldable pub list_said : ListTables E → List Said
   list_said t = flat_map part_said t.parts.items ++ flat_map content_said t.contents.items
 
-  abbrev pub IsTablesSaid : List ℕ → List ℕ → JobTables E → List Said → Type 0
-  IsTablesSaid path addresses (Listed t) said = said ≡ list_said t
-  IsTablesSaid path addresses (Symbols t) said = said ≡ table_said t
-  IsTablesSaid path addresses (Needed t) said = said ≡ needed_said t
-  IsTablesSaid path addresses (BuildId t) said = said ≡ identity_said (ok_map (option_map (λ id. id.now)) t)
-  IsTablesSaid path addresses (Plan t) said = said ≡ plan_said (ok_map (λ plan. plan.items) t)
-  IsTablesSaid path addresses (Check checked) said = AreFoundSaid path (ok_map (λ faults. faults.items) checked) said
-  IsTablesSaid path addresses (Hardening t) said = said ≡ hardening_said little path t
-  IsTablesSaid path addresses (Address t) said = AreSaidBy addresses (ok_map (option_map symbols_view) t) said
-  IsTablesSaid path addresses Nothing said = said ≡ []
+  abbrev pub IsTablesSaid : List ℕ → JobTables E → List Said → Type 0
+  IsTablesSaid path (Listed t) said = said ≡ list_said t
+  IsTablesSaid path (Symbols t) said = said ≡ table_said t
+  IsTablesSaid path (Needed t) said = said ≡ needed_said t
+  IsTablesSaid path (BuildId t) said = said ≡ identity_said (ok_map (option_map (λ id. id.now)) t)
+  IsTablesSaid path (Plan t) said = said ≡ plan_said (ok_map (λ plan. plan.items) t)
+  IsTablesSaid path (Check checked) said = AreFoundSaid path (ok_map (λ faults. faults.items) checked) said
+  IsTablesSaid path (Hardening t) said = said ≡ hardening_said little path t
+  IsTablesSaid path (Address t) said =
+      AreSaidBy t.machine t.addresses.items (ok_map (option_map symbols_view) t.symbols) said
+  IsTablesSaid path Nothing said = said ≡ []

@@ -11,7 +11,7 @@ returns g c =
     let left = items_left symbol_reads in
     let all = table_items symbol_reads (table_view c.args.symbols.now) in
     items_from_collect _ c.collect.ensures.ran
-    (YieldsList-from_map _ location
+    (YieldsList-from_map _ (location c.args.machine)
     (YieldsList-at c.map.ensures.source (YieldsList-from_filter _ (λ one. has_address one.1)
     (YieldsList-from_enumerate {ys = all} (YieldsList-from_first (λ x. x) left all cc) cc)
     c.filter.ensures.closure (λ x b q k. search (rules, tests))))

@@ -6,29 +6,15 @@ use Rattle.elf_worked.specs.Files.{in_four}
 use Rattle.elf_worked.specs.SoundSections.{gnu_with, sysv_with}
 use Rattle.elf_worked.proofs.built.faulty_sections_are_not_built.Goals as goal
 
-pub returns-clause-endless : goal.returns-clause-endless
-returns-clause-endless c = λ names put built. has_endless.0 (sysv_sound names put (sysv_with 8 (in_four 1)) built)
-
-pub returns-clause-past_chains : goal.returns-clause-past_chains
-returns-clause-past_chains c = λ names put built. has_past_chains.0 (sysv_sound names put (sysv_with 8 []) built)
-
-pub returns-clause-sysv_unreadable : goal.returns-clause-sysv_unreadable
-returns-clause-sysv_unreadable c = λ names put built. has_unreadable.0 (sysv_sound names put (sysv_with 11 (in_four 0)) built)
-
-pub returns-clause-wrong_bucket : goal.returns-clause-wrong_bucket
-returns-clause-wrong_bucket c = λ names put built. has_wrong_bucket.0 (sysv_sound names put (sysv_with 8 (in_four 2)) built)
-
-pub returns-clause-shift : goal.returns-clause-shift
-returns-clause-shift c = λ names built. has_shift.0 (gnu_sound names (gnu_with 3 32 0xc0 0x06 0x09) built)
-
-pub returns-clause-gnu_unreadable : goal.returns-clause-gnu_unreadable
-returns-clause-gnu_unreadable c = λ names built. has_unreadable_gnu.0 (gnu_sound names (gnu_with 8 5 0xc0 0x06 0x09) built)
-
-pub returns-clause-wrong_hash : goal.returns-clause-wrong_hash
-returns-clause-wrong_hash c = λ names built. has_wrong_hash.0 (gnu_sound names (gnu_with 3 5 0xc0 0x06 0x0b) built)
-
-pub returns-clause-no_bloom_bit : goal.returns-clause-no_bloom_bit
-returns-clause-no_bloom_bit c = λ names built. has_no_bloom_bit.0 (gnu_sound names (gnu_with 3 5 0x40 0x06 0x09) built)
-
-pub returns-clause-not_in_run : goal.returns-clause-not_in_run
-returns-clause-not_in_run c = λ names built. has_not_in_run.0 (gnu_sound names (gnu_with 3 5 0xc0 0x07 0x09) built)
+pub returns : goal.returns
+returns c = record {
+  endless = λ names put built. has_endless.0 (sysv_sound names put (sysv_with 8 (in_four 1)) built);
+  past_chains = λ names put built. has_past_chains.0 (sysv_sound names put (sysv_with 8 []) built);
+  sysv_unreadable = λ names put built. has_unreadable.0 (sysv_sound names put (sysv_with 11 (in_four 0)) built);
+  wrong_bucket = λ names put built. has_wrong_bucket.0 (sysv_sound names put (sysv_with 8 (in_four 2)) built);
+  shift = λ names built. has_shift.0 (gnu_sound names (gnu_with 3 32 0xc0 0x06 0x09) built);
+  gnu_unreadable = λ names built. has_unreadable_gnu.0 (gnu_sound names (gnu_with 8 5 0xc0 0x06 0x09) built);
+  wrong_hash = λ names built. has_wrong_hash.0 (gnu_sound names (gnu_with 3 5 0xc0 0x06 0x0b) built);
+  no_bloom_bit = λ names built. has_no_bloom_bit.0 (gnu_sound names (gnu_with 3 5 0x40 0x06 0x09) built);
+  not_in_run = λ names built. has_not_in_run.0 (gnu_sound names (gnu_with 3 5 0xc0 0x07 0x09) built);
+}

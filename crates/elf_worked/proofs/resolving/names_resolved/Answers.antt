@@ -1,23 +1,22 @@
-use Rattle.elf_worked.proofs.Resolved.{in_both, in_both_turned, in_none, in_the_second, no_objects, not_none, not_the_later}
+use Rattle.std.proofs.Common.{ℕ, List, [], ◌∷◌, codes, lit≤, arith}
+use Rattle.elf_hash_check.specs.Object.{Has}
+use Rattle.elf_linking.specs.Resolve.{At}
+use Rattle.elf_worked.proofs.Below.{below_one, below_two}
+use Rattle.elf_worked.proofs.Resolved.{b_in_one, b_in_two, c_in_one, c_in_two, d_in_one, d_in_two, one_has_b, two_has_b, two_has_c}
+use Rattle.elf_worked.specs.ObjectLists.{first_object, second_object}
 use Rattle.elf_worked.proofs.resolving.names_resolved.Goals as goal
 
-pub returns-clause-in_both : goal.returns-clause-in_both
-returns-clause-in_both c = in_both
+-- the object at a place of both does not have the name
+abbrev HasNot : List ℕ → ℕ → Type 0
+HasNot name place = At (λ object. object) (first_object ∷ second_object ∷ []) name place (Has name) → ⊥
 
-pub returns-clause-in_both_turned : goal.returns-clause-in_both_turned
-returns-clause-in_both_turned c = in_both_turned
-
-pub returns-clause-in_the_second : goal.returns-clause-in_the_second
-returns-clause-in_the_second c = in_the_second
-
-pub returns-clause-not_the_later : goal.returns-clause-not_the_later
-returns-clause-not_the_later c = not_the_later
-
-pub returns-clause-not_none : goal.returns-clause-not_none
-returns-clause-not_none c = not_none
-
-pub returns-clause-in_none : goal.returns-clause-in_none
-returns-clause-in_none c = in_none
-
-pub returns-clause-no_objects : goal.returns-clause-no_objects
-returns-clause-no_objects c = no_objects
+pub returns : goal.returns
+returns c = record {
+  in_both = ((one_has_b, λ k below has. absurd (omega (arith, below))), b_in_one);
+  in_both_turned = ((two_has_b, λ k below has. absurd (omega (arith, below))), b_in_two);
+  in_the_second = ((two_has_c, below_one (HasNot (codes "c")) (λ has. c_in_one has.0 has.1)), c_in_two);
+  not_the_later = λ h. h.0.1 0 (lit≤ tt) one_has_b;
+  not_none = λ h. h 0 (lit≤ tt) one_has_b;
+  in_none = below_two (HasNot (codes "d")) (λ has. d_in_one has.0 has.1) (λ has. d_in_two has.0 has.1);
+  no_objects = λ k below has. absurd (omega (arith, below));
+}

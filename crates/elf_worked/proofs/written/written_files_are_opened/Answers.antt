@@ -1,17 +1,12 @@
-use Rattle.elf_worked.proofs.WrittenFiles.{file_opened, names_found, sections_listed, segments_listed}
+use Rattle.elf_worked.proofs.WrittenFiles.{file_opened, listed_sections, listed_segments, names_read}
 use Rattle.elf_worked.proofs.written.written_files_are_opened.Goals as goal
 
-pub returns-clause-view : goal.returns-clause-view
-returns-clause-view g c = λ little of_byte h sections segments bytes w. file_opened little h of_byte sections segments bytes w
-
-pub returns-clause-sections : goal.returns-clause-sections
-returns-clause-sections g c = λ little of_byte h sections segments bytes w.
-    sections_listed little h of_byte sections segments bytes w
-
-pub returns-clause-segments : goal.returns-clause-segments
-returns-clause-segments g c = λ little of_byte h sections segments bytes w.
-    segments_listed little h of_byte sections segments bytes w
-
-pub returns-clause-names : goal.returns-clause-names
-returns-clause-names g c = λ little of_byte h sections segments names bytes w n.
-    names_found little h of_byte sections segments names bytes w n
+pub returns : goal.returns
+returns g c = record {
+  view = λ little of_byte h sections segments bytes w. file_opened little h of_byte sections segments bytes w;
+  sections = λ little of_byte h sections segments bytes w. listed_sections little h sections bytes w.small w.sections_lie;
+  segments = λ little of_byte h sections segments bytes w.
+      listed_segments little h sections segments bytes w.small w.segments_lie;
+  names = λ little of_byte h sections segments names bytes w.
+      names_read little h of_byte sections segments names bytes w.small w.sections_lie;
+}

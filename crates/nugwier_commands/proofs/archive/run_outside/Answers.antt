@@ -1,7 +1,7 @@
 use Rattle.std.proofs.Common.{◌≡◌, Bool, ℕ, List, ap, ◌∙◌, refl, subst}
 use Rattle.std.specs.Str.{is_utf8}
 use Rattle.nugwier_commands.proofs.Lifting.{as_problem, as_said}
-use Rattle.nugwier_commands.proofs.Texts.{no_text, text}
+use Rattle.nugwier_programs.proofs.Texts.{no_text, text}
 use Rattle.nugwier_commands.specs.Run.{IsBytesSaid, IsElfSaid, IsOutsideSaid, IsSaidAt, outside_path}
 use Rattle.nugwier_words.specs.Words.{task_of}
 use Rattle.nugwier_commands.proofs.archive.run_outside.Goals as goal

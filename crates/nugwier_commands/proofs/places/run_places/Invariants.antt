@@ -9,6 +9,6 @@ use Rattle.nugwier_commands.proofs.places.run_places.Given as goal
 abbrev pub invariant-places : goal.invariant-places
 invariant-places g l =
     let task = task_of l.job in
-    ArePlacesSoFar (g.F.Files.known l.files) (g.F.Files.folders l.files) task (first_heading task.command None) (map named task.files)
+    ArePlacesSoFar (g.F.Files.known l.files) task (first_heading task.command None) (map named task.files)
     (record { out = g.W.Write.contents l.fn.out; err = g.V.Write.contents l.fn.err }) l.heading (places_of l.walk)
     (record { out = g.W.Write.contents l.out; err = g.V.Write.contents l.err }) l.are_right l.are_told

@@ -1,18 +1,19 @@
-use Rattle.std.proofs.Common.{ℕ, List, Option, refl, ◌≡◌}
+use Rattle.std.proofs.Common.{ℕ, List, Option, ap, sym, ◌≡◌}
 use Rattle.std.proofs.lemmas.Result.{IfOk-weaker}
 use Rattle.std.specs.Option.{option_map}
 use Rattle.elf_linking.specs.Tree.{Found, found_view, opened_whole}
+use Rattle.nugwier_files.specs.Folder.{contents_known}
 use Rattle.nugwier_programs.specs.Tree.{AreObjects, AreOpened, order_view, search_view}
 use Rattle.nugwier_programs.proofs.tree.objects.Goals as goal
 
 pub returns : goal.returns
 returns g c =
-    let contents = g.L.Libraries.contents c.args.libraries.now in
+    let known = g.F.Files.known c.args.files.now in
     let search = search_view c.args.search in
     let program = found_view c.args.program in
     IfOk-weaker c.opened_objects.result
-    (λ order. (opened : (List ℕ → Option (List ℕ)) → List ℕ → Option Found) → option_map opened_whole contents ≡ option_map opened contents
-    → AreOpened opened contents search program (order_view order))
-    (λ order. AreObjects contents search program (order_view order))
-    (λ order h. h opened_whole refl)
+    (λ order. (opened : (List ℕ → Option (List ℕ)) → List ℕ → Option Found)
+    → option_map opened_whole (g.F.Libraries.contents c.args.files.now) ≡ option_map opened (contents_known known) → AreOpened opened known search program (order_view order))
+    (λ order. AreObjects known search program (order_view order))
+    (λ order h. h opened_whole (ap (option_map opened_whole) (sym c.has_libraries.ensures)))
     c.opened_objects.ensures

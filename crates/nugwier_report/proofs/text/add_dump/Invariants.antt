@@ -10,7 +10,7 @@ invariant-loop-line g l =
     (l.line ≤ l.count)
     × (l.count ≡ div_ceil (length l.bytes) 16)
     × Leads (g.W.Write.contents l.initial.out) l.initial.lines (g.W.Write.contents l.out) l.lines
-    (dump_lines (l.count - l.line) (16 * l.line) (drop (16 * l.line) l.bytes)) (dump l.bytes)
+    (dump_lines l.address (l.count - l.line) (16 * l.line) (drop (16 * l.line) l.bytes)) (dump l.address l.bytes)
 
 abbrev pub decreases-loop-line : goal.decreases-loop-line
 decreases-loop-line g l = l.count - l.line

@@ -6,5 +6,4 @@ use Rattle.nugwier_commands.proofs.walk.Walk.next.Given as goal
 -- what is found from here on is what is found
 abbrev pub invariant-visits : goal.invariant-visits
 invariant-visits g l =
-    IfSome (g.F.Files.known l.files) (λ files. IfSome (g.F.Files.folders l.files) (λ folders.
-    IsFoundLater files folders (places_of l.fn.self) (places_of l.self)))
+    IfSome (g.F.Files.known l.files) (λ files. IsFoundLater files (places_of l.fn.self) (places_of l.self))

@@ -1,0 +1,50 @@
+-- What is said of the section groups of a file.
+use Rattle.std.specs.Prelude.{ℕ, ◌==◌, if◌then◌else◌, List, [], Result, Ok, drop}
+use Rattle.elf.specs.Answers.{symbols_of}
+use Rattle.elf.specs.Data.{content}
+use Rattle.elf.specs.ObjectFile.{ObjectFile, table_of}
+use Rattle.elf_abi.specs.declared.abi.TheConstants.{SHT_GROUP}
+use Rattle.elf_records.specs.Number.{number_at}
+use Rattle.elf_records.specs.Record.{◌>>=◌}
+use Rattle.elf_records.specs.Symbol.{symbol_reads}
+use Rattle.elf_records.specs.Table.{Table, table_get, table_items}
+use Rattle.elf_records.specs.Word.{u32_reads}
+use Rattle.elf_records.specs.declared.parse.ParseError.{ParseError}
+use Rattle.elf_records.specs.declared.section.SectionHeader.{SectionHeader}
+use Rattle.nugwier_listing.specs.Headings.{known_names}
+use Rattle.nugwier_listing.specs.Read.{read_said}
+use Rattle.nugwier_report.specs.Groups.{GroupView, group_said}
+use Rattle.nugwier_report.specs.Labels.{Named}
+use Rattle.nugwier_report.specs.Relocations.{symbol_name}
+use Rattle.nugwier_report.specs.Said.{Said, numbered}
+use Rattle.nugwier_report.specs.declared.problem.Part.TheVariants.{Section}
+
+-- the name of symbol n of a table with these strings
+abbrev pub signature_in : Named → ℕ → Table × List ℕ → Result (List ℕ) ParseError
+signature_in named n symbols = table_get symbol_reads symbols.0 n >>= symbol_name named symbols.1
+
+-- sh_link is the section of a symbol table, and sh_info the number of one of its symbols
+abbrev pub signature_of : Named → ObjectFile → SectionHeader → Result (List ℕ) ParseError
+signature_of named file s = file.section_at s.sh_link >>= symbols_of file >>= signature_in named s.sh_info
+
+-- the members, and the flag word before them, which are words of four bytes
+abbrev pub group_in : Named → ObjectFile → SectionHeader → List ℕ → Result GroupView ParseError
+group_in named file s bytes = number_at file.little 4 bytes 0 >>= λ flags. Ok (record {
+  flags = flags;
+  members = table_items u32_reads (table_of file (drop 4 bytes));
+  signature = signature_of named file s;
+})
+
+abbrev pub group_of : Named → ObjectFile → SectionHeader → Result GroupView ParseError
+group_of named file s = content file s >>= group_in named file s
+
+-- of section k, if it is a group
+abbrev pub groups_in : Named → ObjectFile → ℕ → SectionHeader → List Said
+groups_in named file k s =
+    if s.sh_type == SHT_GROUP then read_said (Section k) (group_said named k) (group_of named file s) else []
+
+abbrev pub groups_said : Named → ObjectFile → List Said
+groups_said named file = numbered (groups_in named file) 0 file.sections
+
+abbrev pub said_of_groups : ObjectFile → List Said
+said_of_groups file = groups_said (record { sections = file.sections; names = known_names file }) file
