@@ -40,7 +40,7 @@ beside path name = beside_after path (last_slash 0 None path) name
 abbrev pub pattern_in : List ℕ → List ℕ → List ℕ
 pattern_in path pattern = if starts_with ◌==◌ pattern (codes "/") then pattern else beside path pattern
 
--- ---- what is still to be looked at
+-- ---- what is still to be read or listed
 
 -- a folder of libraries; a file of configuration; or the files that a pattern matches
 pub data Pending : Type 0 where
@@ -109,7 +109,7 @@ module _ (files : KnownFiles) where
   abbrev pub AreMatched : List ℕ → List (List ℕ) → Type 0
   AreMatched pattern paths = AreMatchedBy (is_pattern (name_in pattern)) pattern paths
 
-  -- ---- one after the other
+  -- ---- step by step
 
   -- what the lines of a file name. A file that is not there has no lines.
   abbrev pub named_by : List ℕ → List Pending

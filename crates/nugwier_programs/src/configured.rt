@@ -25,7 +25,7 @@ const CONFIGURATION: &[u8] = b"/etc/ld.so.conf";
 
 const MOST_FILES: usize = 1000;
 
-/// What is still to be looked at.
+/// What is still to be read or listed.
 #[derive(Debug, Drop)]
 pub(crate) enum Pending {
     /// A folder of libraries.
@@ -36,7 +36,7 @@ pub(crate) enum Pending {
     Matching(Vec<u8>),
 }
 
-/// What is still to be looked at, the next one last, the files that were read, and the folders.
+/// What is still to be read or listed, the next one last, the files that were read, and the folders.
 #[derive(Debug, Drop)]
 pub(crate) struct Listing {
     pending: Vec<Pending>,
