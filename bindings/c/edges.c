@@ -185,6 +185,23 @@ static void find_at(const struct nugwier_table *table, uint64_t address)
            "another symbol at an address");
 }
 
+/* The first of all faults is that of the check, fewer places hold the same ones, and what is past them stays. */
+static void read_faults(const struct nugwier_file *file, const struct nugwier_fault *first)
+{
+    struct nugwier_fault faults[64], some[3];
+    size_t count = 0, count_of_some = 0;
+    memset(some, 0x5a, sizeof some);
+    expect(!nugwier_faults(file, faults, 64, &count).code && count <= 64, "the faults of a file in memory");
+    expect((count == 0) == (first->kind == NUGWIER_NO_FAULT), "faults of a sound file, or none");
+    expect(!count || !memcmp(faults, first, sizeof *first), "another first fault");
+    expect(!nugwier_faults(file, some, 2, &count_of_some).code, "the first faults");
+    expect(count_of_some == (count < 2 ? count : 2), "another number of first faults");
+    expect(!memcmp(some, faults, count_of_some * sizeof *some), "other first faults");
+    for (const uint8_t *byte = (const uint8_t *)(some + count_of_some); byte < (const uint8_t *)(some + 3); byte++)
+        expect(*byte == 0x5a, "a place past the faults was written");
+    expect(!nugwier_faults(file, NULL, 0, &count).code && count == 0, "faults without places");
+}
+
 /* Of a file that is called sound these calls return no error. */
 static void read_checked(const struct nugwier_file *file)
 {
@@ -197,6 +214,7 @@ static void read_checked(const struct nugwier_file *file)
     size_t length = nugwier_fault_text(&fault, text, sizeof text);
     expect(sound == (fault.kind == NUGWIER_NO_FAULT) && sound == (length == 0), "a fault of a sound file, or none");
     expect(length < sizeof text, "a long text of a fault");
+    read_faults(file, &fault);
     if (!sound) return;
     struct nugwier_section named = {0};
     struct nugwier_versions versions = {0};
@@ -590,6 +608,9 @@ static void no_file(const uint8_t *bytes, size_t length)
     status = nugwier_check(&file, &sound, &fault);
     expect(status.code == NUGWIER_NOT_LOADED && status.first == 0 && status.second == 100, "a check of no bytes");
     expect(sound && fault.kind == 7, "a check that was not made wrote something");
+    size_t count = 5;
+    status = nugwier_faults(&file, &fault, 1, &count);
+    expect(status.code == NUGWIER_NOT_LOADED && count == 5 && fault.kind == 7, "faults of no bytes");
     struct nugwier_segment segment = {.offset = 40, .filesz = 0};
     struct nugwier_bytes part = {bytes, length};
     expect(!nugwier_segment_data(&file, &segment, &part).code && !part.bytes_len, "an empty range is not loaded");
@@ -816,6 +837,20 @@ static void nothing(void)
     expect(name.found && name.bytes_len == 9 && !memcmp(name.bytes, "EM_X86_64", 9), "the name of a machine");
     nugwier_e_machine_name(0xfffe, &name);
     expect(!name.found, "the name of no machine");
+    nugwier_r_type_name(43, 21, &name);  // EM_SPARCV9, as readelf prints it
+    expect(name.found && name.bytes_len == 16 && !memcmp(name.bytes, "R_SPARC_JMP_SLOT", 16), "a type of relocations");
+    nugwier_r_type_name(0, 1, &name);
+    expect(!name.found && name.bytes_len == 0, "a type of relocations of no machine");
+    nugwier_machine_sh_type_name(40, 0x70000001, &name);
+    expect(name.found && name.bytes_len == 13 && !memcmp(name.bytes, "SHT_ARM_EXIDX", 13), "a type of sections of ARM");
+    nugwier_machine_p_type_name(62, 1, &name);
+    expect(name.found && name.bytes_len == 7 && !memcmp(name.bytes, "PT_LOAD", 7), "a type of segments of a machine");
+    nugwier_machine_d_tag_name(8, 0x70000013, &name);
+    expect(name.found && name.bytes_len == 14 && !memcmp(name.bytes, "DT_MIPS_GOTSYM", 14), "a tag of MIPS");
+    nugwier_n_type_name((const uint8_t *)"GNU", 3, 3, &name);
+    expect(name.found && name.bytes_len == 15 && !memcmp(name.bytes, "NT_GNU_BUILD_ID", 15), "a type of notes of GNU");
+    nugwier_n_type_name(NULL, 0, 3, &name);
+    expect(!name.found && name.bytes_len == 0, "a type of notes of nobody");
     nugwier_error_name(NUGWIER_BAD_MAGIC, &name);
     expect(name.found && name.bytes_len == 8 && !memcmp(name.bytes, "BadMagic", 8), "the name of an error");
 }

@@ -653,6 +653,12 @@ struct nugwier_fault {
  * nugwier_string at its name. */
 struct nugwier_status nugwier_check(const struct nugwier_file *file, bool *sound, struct nugwier_fault *fault);
 
+/* Fills `faults` with the faults of a file, in the order of nugwier_check, and sets `count` to how many were written:
+ * `faults_len` at most. If it is less, these are all. Each part of the file that is not sound has one, the first that
+ * is looked for. The file is sound if it has none. The errors are those of nugwier_check; then nothing is written. */
+struct nugwier_status nugwier_faults(const struct nugwier_file *file, struct nugwier_fault *faults, size_t faults_len,
+                                     size_t *count);
+
 /* The text of a fault, as "section 5: no bytes at its range", without a 0 byte at its end. It is written over the front
  * of `text`, as far as there is room; the call returns the length of the whole text, which is below 256.
  * NUGWIER_NO_FAULT has no text. */
@@ -678,6 +684,15 @@ void nugwier_st_vis_name(uint8_t st_vis, struct nugwier_name *name);
 void nugwier_ch_type_name(uint32_t ch_type, struct nugwier_name *name);
 void nugwier_note_abi_tag_os_name(uint32_t os, struct nugwier_name *name);
 void nugwier_d_tag_name(int64_t d_tag, struct nugwier_name *name);
+
+/* The names of what depends on the machine of the file (`e_machine`) or on the owner of a note, whose name is without the
+ * 0 byte at its end: R_X86_64_JUMP_SLOT, SHT_ARM_EXIDX, PT_ARM_EXIDX, DT_MIPS_GOTSYM, NT_GNU_BUILD_ID. A type or a tag
+ * that the machine does not name has the name of any machine, as DT_RELR, or that of the calls above. */
+void nugwier_r_type_name(uint16_t e_machine, uint32_t r_type, struct nugwier_name *name);
+void nugwier_machine_sh_type_name(uint16_t e_machine, uint32_t sh_type, struct nugwier_name *name);
+void nugwier_machine_p_type_name(uint16_t e_machine, uint32_t p_type, struct nugwier_name *name);
+void nugwier_machine_d_tag_name(uint16_t e_machine, int64_t d_tag, struct nugwier_name *name);
+void nugwier_n_type_name(const uint8_t *owner, size_t owner_len, uint64_t n_type, struct nugwier_name *name);
 
 /* The name of the error with the code of a status, as BadMagic. */
 void nugwier_error_name(uint32_t code, struct nugwier_name *name);

@@ -462,6 +462,21 @@ class Changed(unittest.TestCase):
         with nugwier.open(bytes(self.content)) as file:
             self.assertIsNone(file.dynamic_symbols[1].version)
 
+    def test_all_faults(self):
+        """More faults than the first array has places: no section has bytes."""
+        count = 0
+        for section in self.sections.values():
+            if section.kind not in (0, 8) and section.size:
+                struct.pack_into("<Q", self.content, self.of_section(section.name, 24), 1 << 60)
+                count += 1
+        with nugwier.open(bytes(self.content)) as file:
+            faults = file.faults()
+            self.assertEqual(faults[0], file.check())
+        self.assertGreater(count, 16)
+        of_bytes = [fault for fault in faults if fault.kind is FaultKind.SECTION_NO_BYTES]
+        # the names of the sections cannot be read either, and are told once
+        self.assertEqual((faults[0].kind, len(of_bytes)), (FaultKind.NO_NAMES, count))
+
     def test_every_byte_of_the_headers(self):
         """Whatever a byte is changed to, each call returns or raises the error of the library."""
         for at in list(range(4, 64)) + list(range(self.header["shoff"], len(self.content), 197)):
@@ -588,6 +603,11 @@ class Numbers(unittest.TestCase):
         with self.assertRaises(ValueError):
             SHT("SHT_NOTE")
 
+    # What <elf.h> numbers in its own way: EM_ALPHA, DT_LOOS by a draft, a type of ARC as the one after it, and three of
+    # SuperH that linkers and readelf have at other numbers.
+    OTHERS_OF_THE_SYSTEM = ("EM_ALPHA", "DT_ENCODING", "R_ARC_TLS_DTPOFF_S9", "R_SH_GNU_VTINHERIT", "R_SH_GNU_VTENTRY",
+                            "R_SH_SWITCH8")
+
     @unittest.skipUnless(os.path.isfile("/usr/include/elf.h"), "there is no <elf.h>")
     def test_constants_of_the_system(self):
         theirs = {}
@@ -599,8 +619,7 @@ class Numbers(unittest.TestCase):
         for module in (constants, notes):
             for kind in vars(module).values():
                 for name, value in getattr(kind, "__members__", {}).items():
-                    # <elf.h> has another number for EM_ALPHA, and the number of DT_LOOS from a draft
-                    if name in theirs and name not in ("EM_ALPHA", "DT_ENCODING"):
+                    if name in theirs and name not in self.OTHERS_OF_THE_SYSTEM:
                         self.assertEqual(value, theirs[name], name)
                         compared += 1
         self.assertGreater(compared, 1000)

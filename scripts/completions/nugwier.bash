@@ -19,7 +19,8 @@ _nugwier() {
         esac
         case $word in
             -*)
-                mapfile -t COMPREPLY < <(compgen -W "-h -S -g -l -s -D -d -r -n -V -a -x -p --json -R --recursive --help" -- "$word")
+                mapfile -t COMPREPLY < <(compgen -W "-h -S -g -l -s -D -d -r -n -V -I -a -x -p -W --wide \
+--color=always --color=never --json -R --recursive --help" -- "$word")
                 return
                 ;;
         esac
@@ -28,7 +29,7 @@ _nugwier() {
             mapfile -t COMPREPLY < <(compgen -d -- "$word")
             return
         elif [ "${word#-}" != "$word" ]; then
-            mapfile -t COMPREPLY < <(compgen -W "--search --root --no-cache --json -R --recursive --help" -- "$word")
+            mapfile -t COMPREPLY < <(compgen -W "--search --root --no-cache --color=always --color=never --json -R --recursive --help" -- "$word")
             return
         fi
     elif [ "${COMP_WORDS[1]}" = harden ]; then
@@ -37,19 +38,22 @@ _nugwier() {
                 "pie relro bindnow nx canary fortify runpath ibt shstk bti pac stripped" -- "$word")
             return
         elif [ "${word#-}" != "$word" ]; then
-            mapfile -t COMPREPLY < <(compgen -W "--require --json -R --recursive --help" -- "$word")
+            mapfile -t COMPREPLY < <(compgen -W "--require --color=always --color=never --json -R --recursive --help" -- "$word")
             return
         fi
+    elif [ "${COMP_WORDS[1]}" = symbols ] && { [ "$before" = --format ] || [ "$before" = -f ]; }; then
+        mapfile -t COMPREPLY < <(compgen -W "posix bsd" -- "$word")
+        return
     elif [ "${COMP_WORDS[1]}" = symbols ] && [ "${word#-}" != "$word" ]; then
         mapfile -t COMPREPLY < <(compgen -W \
             "-D -g -u -n -p -S -P --dynamic --extern-only --undefined-only --defined-only --numeric-sort --size-sort \
---no-sort --print-size --format=posix --json --help" -- "$word")
+--no-sort --print-size --format=posix --format -f --color=always --color=never --json --help" -- "$word")
         return
     elif [ "${COMP_WORDS[1]}" = exports ] && [ "${word#-}" != "$word" ]; then
-        mapfile -t COMPREPLY < <(compgen -W "--functions --json --help" -- "$word")
+        mapfile -t COMPREPLY < <(compgen -W "--functions --color=always --color=never --json --help" -- "$word")
         return
     elif [ "${word#-}" != "$word" ]; then
-        mapfile -t COMPREPLY < <(compgen -W "--json -R --recursive --help" -- "$word")
+        mapfile -t COMPREPLY < <(compgen -W "--color=always --color=never --json -R --recursive --help" -- "$word")
         return
     fi
     mapfile -t COMPREPLY < <(compgen -f -- "$word")

@@ -15,6 +15,7 @@ complete -c nugwier -n "not __fish_seen_subcommand_from $commands" -a bindings -
 complete -c nugwier -n "not __fish_seen_subcommand_from $commands" -l version -d "the version"
 complete -c nugwier -l help -d "how it is called"
 complete -c nugwier -n "__fish_seen_subcommand_from $commands" -l json -d "objects of JSON"
+complete -c nugwier -n "__fish_seen_subcommand_from $commands" -l color -x -a "always never" -d "bold headings"
 complete -c nugwier -n "__fish_seen_subcommand_from $commands" -s R -l recursive -d "ELF files below folders"
 complete -c nugwier -n "__fish_seen_subcommand_from $commands" -F
 complete -c nugwier -n "__fish_seen_subcommand_from list" -s h -d "file header"
@@ -27,9 +28,11 @@ complete -c nugwier -n "__fish_seen_subcommand_from list" -s d -d "dynamic entri
 complete -c nugwier -n "__fish_seen_subcommand_from list" -s r -d relocations
 complete -c nugwier -n "__fish_seen_subcommand_from list" -s n -d notes
 complete -c nugwier -n "__fish_seen_subcommand_from list" -s V -d versions
+complete -c nugwier -n "__fish_seen_subcommand_from list" -s I -d "chains of hash sections"
 complete -c nugwier -n "__fish_seen_subcommand_from list" -s a -d all
 complete -c nugwier -n "__fish_seen_subcommand_from list" -s x -x -d "bytes of a section"
 complete -c nugwier -n "__fish_seen_subcommand_from list" -s p -x -d "strings of a section"
+complete -c nugwier -n "__fish_seen_subcommand_from list" -s W -l wide -d "all bytes of notes"
 complete -c nugwier -n "__fish_seen_subcommand_from symbols" -s D -l dynamic -d "those for dynamic linking"
 complete -c nugwier -n "__fish_seen_subcommand_from symbols" -s g -l extern-only -d "those that other files can see"
 complete -c nugwier -n "__fish_seen_subcommand_from symbols" -s u -l undefined-only -d "undefined ones"
@@ -38,7 +41,8 @@ complete -c nugwier -n "__fish_seen_subcommand_from symbols" -s n -l numeric-sor
 complete -c nugwier -n "__fish_seen_subcommand_from symbols" -l size-sort -d "in the order of sizes"
 complete -c nugwier -n "__fish_seen_subcommand_from symbols" -s p -l no-sort -d "in the order of the table"
 complete -c nugwier -n "__fish_seen_subcommand_from symbols" -s S -l print-size -d "with sizes"
-complete -c nugwier -n "__fish_seen_subcommand_from symbols" -s P -l format=posix -d "as POSIX has it"
+complete -c nugwier -n "__fish_seen_subcommand_from symbols" -s P -d "as POSIX has it"
+complete -c nugwier -n "__fish_seen_subcommand_from symbols" -s f -l format -x -a "posix bsd" -d format
 complete -c nugwier -n "__fish_seen_subcommand_from exports" -l functions -d "functions alone"
 complete -c nugwier -n "__fish_seen_subcommand_from harden" -l require -x -a "pie relro bindnow nx canary fortify runpath ibt shstk bti pac stripped" -d "what a file must have"
 complete -c nugwier -n "__fish_seen_subcommand_from tree bindings" -l search -x -a "(__fish_complete_directories)" -d "folder of libraries"

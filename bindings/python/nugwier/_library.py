@@ -118,6 +118,7 @@ _CALLS: Any = {
         "open": (*_RAW, POINTER(File)),
         "open_ranges": (c_uint64, *_RAW, POINTER(File)),
         "check": (POINTER(File), POINTER(c_bool), POINTER(Fault)),
+        "faults": (POINTER(File), POINTER(Fault), c_size_t, POINTER(c_size_t)),
         "section": (POINTER(File), c_size_t, POINTER(Section)),
         "segment": (POINTER(File), c_size_t, POINTER(Segment)),
         "section_names": (POINTER(File), POINTER(Names)),

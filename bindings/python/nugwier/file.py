@@ -511,8 +511,25 @@ class ElfFile:
         """
         raw, sound = c.Fault(), ctypes.c_bool(False)
         self._call("check", byref(sound), byref(raw))
-        if sound.value:
-            return None
+        return None if sound.value else self._fault(raw)
+
+    def faults(self) -> list[Fault]:
+        """All faults of the file, none if it is sound: the first one of each part that is not.
+
+            >>> with nugwier.open("/bin/sh") as file:
+            ...     file.faults()
+            []
+        """
+        count, room = ctypes.c_size_t(0), 16
+        while True:
+            places = (c.Fault * room)()
+            self._call("faults", places, room, byref(count))
+            if count.value < room:
+                return [self._fault(raw) for raw in places[:count.value]]
+            room *= 2
+
+    @staticmethod
+    def _fault(raw: c.Fault) -> Fault:
         part = Part(raw.part)
         return Fault(FaultKind(raw.kind), part, raw.index if part is Part.SECTION else None,
                      raw.index if part is Part.SEGMENT else None, raw.first, raw.second, c.text_of("fault_text", raw))

@@ -106,3 +106,27 @@ pub fn check_file<E: EndianParse>(file: &ElfBytes<'_, E>) -> Result<(), Fault> {
         Err(Fault::of(&fault))
     }
 }
+
+/// Returns all faults of a file, in the order of `check_file`: none if it is sound. Each part of the file that is not
+/// sound has one, the first that is looked for.
+///
+/// ```no_run
+/// use nugwier::{check::all_faults, endian::AnyEndian, ElfBytes};
+///
+/// let bytes = std::fs::read("/bin/sh").unwrap();
+/// let file = ElfBytes::<AnyEndian>::minimal_parse(&bytes).unwrap();
+/// for fault in all_faults(&file) {
+///     println!("{fault}");
+/// }
+/// ```
+#[cfg(feature = "std")]
+pub fn all_faults<E: EndianParse>(file: &ElfBytes<'_, E>) -> Vec<Fault> {
+    let mut places = vec![ffi::Fault::default(); 16];
+    loop {
+        let count = ffi::faults(&file.handle(), &mut places);
+        if count < places.len() {
+            return places[..count].iter().map(Fault::of).collect();
+        }
+        places.resize(2 * count, ffi::Fault::default());
+    }
+}

@@ -446,6 +446,17 @@ pub struct Name<'a> {
     pub bytes: Bytes<'a>,
 }
 
+impl<'a> Name<'a> {
+    /// The name, if there is one. All names are ASCII.
+    pub fn text(&self) -> Option<&'a str> {
+        if self.found {
+            core::str::from_utf8(self.bytes.get()).ok()
+        } else {
+            None
+        }
+    }
+}
+
 // A pair of a pointer and a length stands for a slice; the lifetimes that tie what is written to what was given are
 // stated by the functions below.
 extern "C" {
@@ -530,9 +541,25 @@ extern "C" {
     fn nugwier_ch_type_name(ch_type: u32, name: &mut Name<'static>);
     fn nugwier_note_abi_tag_os_name(os: u32, name: &mut Name<'static>);
     fn nugwier_d_tag_name(d_tag: i64, name: &mut Name<'static>);
+    fn nugwier_r_type_name(e_machine: u16, r_type: u32, name: &mut Name<'static>);
+    fn nugwier_machine_sh_type_name(e_machine: u16, sh_type: u32, name: &mut Name<'static>);
+    fn nugwier_machine_p_type_name(e_machine: u16, p_type: u32, name: &mut Name<'static>);
+    fn nugwier_machine_d_tag_name(e_machine: u16, d_tag: i64, name: &mut Name<'static>);
+    fn nugwier_n_type_name(
+        owner: *const u8,
+        owner_len: usize,
+        n_type: u64,
+        name: &mut Name<'static>,
+    );
     fn nugwier_error_name(code: u32, name: &mut Name<'static>);
     fn nugwier_error_text(status: &Status, text: *mut u8, text_len: usize) -> usize;
     fn nugwier_check(file: &File<'_, '_>, sound: &mut bool, fault: &mut Fault) -> Status;
+    fn nugwier_faults(
+        file: &File<'_, '_>,
+        faults: *mut Fault,
+        faults_len: usize,
+        count: &mut usize,
+    ) -> Status;
     fn nugwier_fault_text(fault: &Fault, text: *mut u8, text_len: usize) -> usize;
     fn nugwier_note(notes: &Notes<'_>, offset: &mut usize, note: &mut Note<'_>) -> Status;
     fn nugwier_symbol(table: &Table<'_>, index: usize, symbol: &mut Symbol) -> Status;
@@ -787,6 +814,31 @@ pub fn d_tag_name(d_tag: i64, name: &mut Name<'static>) {
     unsafe { nugwier_d_tag_name(d_tag, name) }
 }
 
+pub fn r_type_name(e_machine: u16, r_type: u32, name: &mut Name<'static>) {
+    // SAFETY: the export accepts all values of these types, and writes values of these types.
+    unsafe { nugwier_r_type_name(e_machine, r_type, name) }
+}
+
+pub fn machine_sh_type_name(e_machine: u16, sh_type: u32, name: &mut Name<'static>) {
+    // SAFETY: the export accepts all values of these types, and writes values of these types.
+    unsafe { nugwier_machine_sh_type_name(e_machine, sh_type, name) }
+}
+
+pub fn machine_p_type_name(e_machine: u16, p_type: u32, name: &mut Name<'static>) {
+    // SAFETY: the export accepts all values of these types, and writes values of these types.
+    unsafe { nugwier_machine_p_type_name(e_machine, p_type, name) }
+}
+
+pub fn machine_d_tag_name(e_machine: u16, d_tag: i64, name: &mut Name<'static>) {
+    // SAFETY: the export accepts all values of these types, and writes values of these types.
+    unsafe { nugwier_machine_d_tag_name(e_machine, d_tag, name) }
+}
+
+pub fn n_type_name(owner: &[u8], n_type: u64, name: &mut Name<'static>) {
+    // SAFETY: the pointer and the length are those of a slice, and the export writes values of these types.
+    unsafe { nugwier_n_type_name(owner.as_ptr(), owner.len(), n_type, name) }
+}
+
 pub fn error_name(code: u32, name: &mut Name<'static>) {
     // SAFETY: the export accepts all values of these types, and writes values of these types.
     unsafe { nugwier_error_name(code, name) }
@@ -801,6 +853,15 @@ pub fn error_text(status: &Status, text: &mut [u8]) -> usize {
 pub fn check(file: &File<'_, '_>, sound: &mut bool, fault: &mut Fault) -> Status {
     // SAFETY: the export accepts all values of these types, and writes values of these types.
     unsafe { nugwier_check(file, sound, fault) }
+}
+
+/// Writes the first faults of a file over the front of `faults`. Returns how many.
+pub fn faults(file: &File<'_, '_>, faults: &mut [Fault]) -> usize {
+    let mut count = 0;
+    // SAFETY: the export writes faults within this slice, which overlaps nothing.
+    // All of the file is loaded, so there is no other status than that of success.
+    unsafe { nugwier_faults(file, faults.as_mut_ptr(), faults.len(), &mut count) };
+    count
 }
 
 /// Writes the text of a fault over the front of `text`, as far as there is room. Returns the length of the whole text.

@@ -5,7 +5,7 @@
 //! notes, versions and hash sections. This crate gives their results Rust's types, and reads the records of other types
 //! by their own `parse_at`. Its uses of `unsafe` are all in `ffi.rs`.
 //!
-//! The modules [`check`], [`fault_kinds`], [`linking`] and [`named`] have what `elf` does not have.
+//! The modules [`check`], [`fault_kinds`], [`linking`], [`named`] and [`names`] have what `elf` does not have.
 #![cfg_attr(not(feature = "std"), no_std)]
 #![deny(unsafe_code)]
 #![warn(missing_docs, missing_debug_implementations, rust_2018_idioms)]
@@ -35,6 +35,7 @@ pub mod gnu_symver;
 pub mod hash;
 pub mod linking;
 pub mod named;
+pub mod names;
 pub mod note;
 pub mod parse;
 mod records;

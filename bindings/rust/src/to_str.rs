@@ -10,15 +10,6 @@ use alloc::string::{String, ToString};
 #[path = "../../../crates/elf_abi/src/to_str/rows.rt"]
 mod rows;
 
-// The name that a call wrote, if there is one. All names are ASCII.
-fn text(name: ffi::Name<'static>) -> Option<&'static str> {
-    if name.found {
-        core::str::from_utf8(name.bytes.get()).ok()
-    } else {
-        None
-    }
-}
-
 // The name of a value in a table in the order of values.
 fn name_of(table: &[(u16, &'static str)], value: u16) -> Option<&'static str> {
     let index = table.binary_search_by_key(&value, |row| row.0).ok()?;
@@ -29,7 +20,7 @@ fn name_of(table: &[(u16, &'static str)], value: u16) -> Option<&'static str> {
 pub fn e_osabi_to_str(e_osabi: u8) -> Option<&'static str> {
     let mut name = ffi::Name::default();
     ffi::e_osabi_name(e_osabi, &mut name);
-    text(name)
+    name.text()
 }
 
 /// The name of an operating system's ABI, or the number in parentheses after the field's name.
@@ -45,7 +36,7 @@ pub fn e_osabi_to_string(e_osabi: u8) -> String {
 pub fn e_type_to_str(e_type: u16) -> Option<&'static str> {
     let mut name = ffi::Name::default();
     ffi::e_type_name(e_type, &mut name);
-    text(name)
+    name.text()
 }
 
 /// What kind of file it is, in words, if it has a name.
@@ -66,7 +57,7 @@ pub fn e_type_to_string(e_type: u16) -> String {
 pub fn e_machine_to_str(e_machine: u16) -> Option<&'static str> {
     let mut name = ffi::Name::default();
     ffi::e_machine_name(e_machine, &mut name);
-    text(name)
+    name.text()
 }
 
 /// The machine, in words, if it has a name.
@@ -87,7 +78,7 @@ pub fn e_machine_to_string(e_machine: u16) -> String {
 pub fn sh_type_to_str(sh_type: u32) -> Option<&'static str> {
     let mut name = ffi::Name::default();
     ffi::sh_type_name(sh_type, &mut name);
-    text(name)
+    name.text()
 }
 
 /// The name of a type of section, or the number in parentheses after the field's name.
@@ -116,7 +107,7 @@ pub fn p_flags_to_string(p_flags: u32) -> String {
 pub fn p_type_to_str(p_type: u32) -> Option<&'static str> {
     let mut name = ffi::Name::default();
     ffi::p_type_name(p_type, &mut name);
-    text(name)
+    name.text()
 }
 
 /// The name of a type of segment, or the number in parentheses after the field's name.
@@ -132,7 +123,7 @@ pub fn p_type_to_string(p_type: u32) -> String {
 pub fn st_symtype_to_str(st_symtype: u8) -> Option<&'static str> {
     let mut name = ffi::Name::default();
     ffi::st_symtype_name(st_symtype, &mut name);
-    text(name)
+    name.text()
 }
 
 /// The name of a type of symbol, or the number in parentheses after the field's name.
@@ -148,7 +139,7 @@ pub fn st_symtype_to_string(st_symtype: u8) -> String {
 pub fn st_bind_to_str(st_bind: u8) -> Option<&'static str> {
     let mut name = ffi::Name::default();
     ffi::st_bind_name(st_bind, &mut name);
-    text(name)
+    name.text()
 }
 
 /// The name of a binding of a symbol, or the number in parentheses after the field's name.
@@ -164,7 +155,7 @@ pub fn st_bind_to_string(st_bind: u8) -> String {
 pub fn st_vis_to_str(st_vis: u8) -> Option<&'static str> {
     let mut name = ffi::Name::default();
     ffi::st_vis_name(st_vis, &mut name);
-    text(name)
+    name.text()
 }
 
 /// The name of a visibility of a symbol, or the number in parentheses after the field's name.
@@ -180,19 +171,19 @@ pub fn st_vis_to_string(st_vis: u8) -> String {
 pub fn ch_type_to_str(ch_type: u32) -> Option<&'static str> {
     let mut name = ffi::Name::default();
     ffi::ch_type_name(ch_type, &mut name);
-    text(name)
+    name.text()
 }
 
 /// The name of the operating system of an ABI tag, if it has one.
 pub fn note_abi_tag_os_to_str(os: u32) -> Option<&'static str> {
     let mut name = ffi::Name::default();
     ffi::note_abi_tag_os_name(os, &mut name);
-    text(name)
+    name.text()
 }
 
 /// The name of the tag of a dynamic entry, if it has one.
 pub fn d_tag_to_str(d_tag: i64) -> Option<&'static str> {
     let mut name = ffi::Name::default();
     ffi::d_tag_name(d_tag, &mut name);
-    text(name)
+    name.text()
 }

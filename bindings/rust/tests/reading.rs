@@ -223,6 +223,26 @@ fn values_have_names() {
         nugwier::to_str::sh_type_to_string(0x12345),
         "sh_type(0x12345)"
     );
+    // as readelf prints them
+    use nugwier::names;
+    let types = [
+        (3, 7, "R_386_JUMP_SLOT"),
+        (4, 21, "R_68K_JMP_SLOT"),
+        (15, 129, "R_PARISC_IPLT"),
+        (43, 22, "R_SPARC_RELATIVE"),
+    ];
+    for (e_machine, r_type, name) in types {
+        assert_eq!(names::relocation_type(e_machine, r_type), Some(name));
+    }
+    assert_eq!(names::relocation_type(0, 7), None);
+    assert_eq!(names::section_type(40, 0x7000_0001), Some("SHT_ARM_EXIDX"));
+    assert_eq!(names::section_type(62, 19), Some("SHT_RELR"));
+    assert_eq!(names::segment_type(40, 0x7000_0001), Some("PT_ARM_EXIDX"));
+    assert_eq!(names::segment_type(62, 1), Some("PT_LOAD"));
+    assert_eq!(names::tag(43, 0x7000_0001), Some("DT_SPARC_REGISTER"));
+    assert_eq!(names::tag(43, 0x7000_0002), None);
+    assert_eq!(names::note_type(b"GNU", 3), Some("NT_GNU_BUILD_ID"));
+    assert_eq!(names::note_type(b"", 3), None);
     assert_eq!(nugwier::hash::gnu_hash(b"printf"), 0x156b2bb8);
     assert_eq!(nugwier::hash::sysv_hash(b"printf"), 0x077905a6);
 }

@@ -17,3 +17,4 @@ pub mod Opened
 pub mod Follows
 pub mod DynamicNames
 pub mod Nearest
+pub mod FaultPlaces

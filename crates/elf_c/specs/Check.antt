@@ -1,5 +1,6 @@
 -- What a check of a file returns and writes, and what calls about a sound file return.
-use Rattle.std.specs.Prelude.{◌≡◌, ℕ, ◌<◌, Bool, true, false, List, length, Some, Result, Ok, Err}
+use Rattle.std.specs.Prelude.{◌≡◌, ℕ, ◌<◌, ◌≤◌, ◌++◌, Bool, true, false, List, drop, length, map, take, Some, Result, Ok}
+use Rattle.std.specs.Prelude.{Err}
 use Rattle.elf_records.specs.StringTable.{string_at}
 use Rattle.elf_records.specs.Symbol.{symbol_reads}
 use Rattle.elf_records.specs.Table.{Table, table_get, table_len}
@@ -11,6 +12,7 @@ use Rattle.elf.specs.Data.{section_data}
 use Rattle.elf.specs.Names.{name_table}
 use Rattle.elf.specs.ObjectFile.{ObjectFile}
 use Rattle.elf.specs.declared.read_error.ReadError.{ReadError}
+use Rattle.elf_check.specs.AllFaults.{AreAllFaults, AreFaults, Subject, subjects}
 use Rattle.elf_check.specs.Faults.{IsTrueOfFile}
 use Rattle.elf_check.specs.Sound.{SoundFile}
 use Rattle.elf_check.specs.declared.faults.FileFault.{FileFault}
@@ -31,6 +33,23 @@ IsChecked file false fault =
 abbrev pub IsCheckWritten : NugwierFile → Result (List ℕ) ReadError → Bool → Bool → NugwierFault → NugwierFault → Type 0
 IsCheckWritten file (Ok bytes) was sound old fault = IsChecked (file_over file bytes) sound fault
 IsCheckWritten file (Err e) was sound old fault = (sound ≡ was) × (fault ≡ old)
+
+-- ---- all faults
+
+-- the places below a number hold the first faults of a file: those of the first subjects of the check. If there are
+-- more places, there are no more faults.
+abbrev pub AreFirstFaults : ObjectFile → ℕ → List NugwierFault → Type 0
+AreFirstFaults file count places =
+    (found : List FileFault) × (length found ≡ count) × (take count places ≡ map fault_shown found)
+    × ((first : List Subject) × (left : List Subject) × (subjects file ≡ first ++ left) × AreFaults file first found)
+    × (count < length places → AreAllFaults file found)
+
+-- what a call wrote, before which the old ones were there
+abbrev pub IsFaultsWritten : NugwierFile → Result (List ℕ) ReadError → ℕ → ℕ → List NugwierFault → List NugwierFault →
+    Type 0
+IsFaultsWritten file (Ok bytes) was count old new =
+    (count ≤ length new) × AreFirstFaults (file_over file bytes) count new × (drop count new ≡ drop count old)
+IsFaultsWritten file (Err e) was count old new = (count ≡ was) × (new ≡ old)
 
 -- ---- calls that return no error
 

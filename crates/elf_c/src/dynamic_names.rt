@@ -3,7 +3,6 @@
 ghost use Rattle.std.specs.Prelude.{◌≡◌, [], IfOk, IfSome, drop, true};
 ghost use Rattle.std.specs.Option.{option_map};
 ghost use Rattle.elf_abi.specs.Values.{dt_rpath, dt_runpath, dt_soname};
-ghost use Rattle.elf_records.specs.Dynamic.{has_tag};
 ghost use Rattle.elf_records.specs.Number.{ok_map};
 ghost use Rattle.elf_records.specs.Table.{table_view};
 ghost use Rattle.elf_dynamic.specs.dynamic_view.Entries.{entries_in};
@@ -21,6 +20,7 @@ use crate::strings::NugwierFoundBytes;
 use crate::table::{NugwierTable, records_in, table_shown};
 use elf::laws::tables::{iter_gives_len_records, iter_gives_whatever_get_gives};
 use elf::{abi, reader};
+use elf_dynamic::dynamic_view::has_tag;
 use elf_linking::needed::{DT_AUXILIARY, DT_FILTER, NamesError, strings_of};
 use elf_parts::dynamic::{Dyn, DynamicTable};
 use elf_parts::endian::AnyEndian;
@@ -44,13 +44,6 @@ pub struct NugwierNeeded<'data> {
     pub found: bool,
     pub tag: i64,
     pub name: &'data [u8],
-}
-
-// Whether an entry has a tag.
-fn has_tag(entry: &Dyn, tag: i64) -> bool
-    ensures { result ≡ has_tag tag entry.now }
-{
-    entry.d_tag == tag
 }
 
 // The first entry of a table, before one with the tag `DT_NULL`, with a tag.

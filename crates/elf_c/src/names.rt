@@ -10,9 +10,19 @@ ghost use Rattle.elf_abi.specs.SectionNames.{ch_type_names, sh_type_names};
 ghost use Rattle.elf_abi.specs.SegmentNames.{p_type_names};
 ghost use Rattle.elf_abi.specs.SymbolNames.{st_bind_names, st_symtype_names, st_vis_names};
 ghost use Rattle.elf_abi.specs.Names.{name_of};
+ghost use Rattle.elf_names.specs.Notes.{note_type_name};
+ghost use Rattle.elf_names.specs.Relocations.{relocation_type_name};
+ghost use Rattle.elf_names.specs.Sections.{section_type_name};
+ghost use Rattle.elf_names.specs.Segments.{segment_type_name};
+ghost use Rattle.elf_names.specs.Tags.{tag_name};
 ghost use Rattle.elf_c.specs.Names.{error_name, name_shown, name_view};
 
 use elf_abi::to_str;
+use elf_names::notes::note_type_name;
+use elf_names::relocations::relocation_type_name;
+use elf_names::sections::section_type_name;
+use elf_names::segments::segment_type_name;
+use elf_names::tags::tag_name;
 
 /// The name of a value, if it has one. If it has none, `bytes` is empty. The bytes stay as long as the program runs.
 #[repr(C)]
@@ -124,6 +134,62 @@ pub extern "C" fn nugwier_d_tag_name(d_tag: i64, name: &mut NugwierName<'static>
     ensures { name_view name.new ≡ name_shown (name_of int_eq d_tag_names d_tag) }
 {
     write_name(to_str::d_tag_to_str(d_tag), name);
+}
+
+/// Writes the name of a type of relocations in files of a machine (`e_machine`), as `R_X86_64_JUMP_SLOT`.
+#[unsafe(no_mangle)]
+pub extern "C" fn nugwier_r_type_name(e_machine: u16, r_type: u32, name: &mut NugwierName<'static>)
+    ensures { name_view name.new ≡ name_shown (relocation_type_name e_machine r_type) }
+{
+    write_name(relocation_type_name(e_machine, r_type), name);
+}
+
+/// Writes the name of a type of sections in files of a machine (`e_machine`): that of the machine, as `SHT_ARM_EXIDX`, or
+/// that of any machine, as `SHT_RELR`; of a type that neither list has, that of `nugwier_sh_type_name`.
+#[unsafe(no_mangle)]
+pub extern "C" fn nugwier_machine_sh_type_name(
+    e_machine: u16,
+    sh_type: u32,
+    name: &mut NugwierName<'static>,
+)
+    ensures { name_view name.new ≡ name_shown (section_type_name e_machine sh_type) }
+{
+    write_name(section_type_name(e_machine, sh_type), name);
+}
+
+/// Writes the name of a type of segments in files of a machine (`e_machine`): that of the machine, as `PT_ARM_EXIDX`, or
+/// that of any machine; of a type that neither list has, that of `nugwier_p_type_name`.
+#[unsafe(no_mangle)]
+pub extern "C" fn nugwier_machine_p_type_name(
+    e_machine: u16,
+    p_type: u32,
+    name: &mut NugwierName<'static>,
+)
+    ensures { name_view name.new ≡ name_shown (segment_type_name e_machine p_type) }
+{
+    write_name(segment_type_name(e_machine, p_type), name);
+}
+
+/// Writes the name of a tag in files of a machine (`e_machine`): that of the machine, as `DT_MIPS_GOTSYM`, or that of any
+/// machine, as `DT_RELR`; of a tag that neither list has, that of `nugwier_d_tag_name`.
+#[unsafe(no_mangle)]
+pub extern "C" fn nugwier_machine_d_tag_name(
+    e_machine: u16,
+    d_tag: i64,
+    name: &mut NugwierName<'static>,
+)
+    ensures { name_view name.new ≡ name_shown (tag_name e_machine d_tag) }
+{
+    write_name(tag_name(e_machine, d_tag), name);
+}
+
+/// Writes the name of a type of notes of an owner, as `NT_GNU_BUILD_ID`. The name of the owner is without the 0 byte at
+/// its end.
+#[unsafe(no_mangle)]
+pub extern "C" fn nugwier_n_type_name(owner: &[u8], n_type: u64, name: &mut NugwierName<'static>)
+    ensures { name_view name.new ≡ name_shown (note_type_name owner.now n_type) }
+{
+    write_name(note_type_name(owner, n_type), name);
 }
 
 // The name of the error with a code.

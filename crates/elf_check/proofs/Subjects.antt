@@ -17,6 +17,7 @@ use Rattle.elf_check.specs.AllFaults.{AreFaults, IsFaultOfSubject, IsTrueByItsel
 use Rattle.elf_check.specs.AllFaults.{SegmentAt, SingleType, SoundByItself, SoundSubject, StartsAsChecked, Subject}
 use Rattle.elf_check.specs.AllFaults.{below, section_subjects, segment_subjects, subjects, type_subjects}
 use Rattle.elf_check.specs.AllFaults.{version_subjects}
+use Rattle.elf_check.specs.FaultWalk.{Checking, IsNextFault, unchecked}
 use Rattle.elf_check.specs.Faults.{IsTrueOfFile}
 use Rattle.elf_check.specs.Members.{AllSound}
 use Rattle.elf_check.specs.Sections.{IsTrueOfSection, IsTrueOfUnnamed, SoundSection, SoundUnnamed, is_repeated}
@@ -24,7 +25,6 @@ use Rattle.elf_check.specs.Sections.{repeated_type, single_types}
 use Rattle.elf_check.specs.Segments.{SoundSegment, SoundSegments, SoundTypes}
 use Rattle.elf_check.specs.SegmentsFaults.{IsTrueOfSegments}
 use Rattle.elf_check.specs.Sound.{SoundFile}
-use Rattle.elf_check.specs.inner.Walk.{Adds, Stops}
 use Rattle.elf_check.specs.versions.InFile.{IsTrueOfDefs, IsTrueOfIndexSection, IsTrueOfNeeds, IsTrueOfVersions}
 use Rattle.elf_check.specs.versions.InFile.{IsTrueOfVersionsOf, SoundDefsOf, SoundIndexSection, SoundNeedsOf}
 use Rattle.elf_check.specs.versions.InFile.{SoundVersions, SoundVersionsOf}
@@ -92,12 +92,13 @@ module _ (file : ObjectFile) (fault : FileFault) where
   not_sound (x ∷ xs) (inl here) all = true_subject file x fault here all.0
   not_sound (x ∷ xs) (inr first) all = not_sound xs first.1 all.1
 
-  -- if it was stopped at the first one
-  pub stopped : (xs : List Subject) → Stops file xs (λ faults. faults ≡ fault ∷ []) [] → FirstIn file xs fault
-  stopped xs s =
-      let r = s.2 in
-      subst (λ (xs : List Subject). FirstIn file xs fault) (sym r.2)
-      (first_before r.0 r.1 (first_in r.0 [] (subst (AreFaults file r.0) s.1 r.3)))
+  -- where a walk begins, if its first fault is this one
+  pub first_next : (before after : Checking) (all : List Subject) → before ≡ unchecked file all → IsNextFault before after (Some fault) → FirstIn file all fault
+  first_next before after all new next =
+      let f = (subst (λ (b : Checking). IsNextFault b after (Some fault)) new next).2 in
+      let left = f.3.0 in
+      subst (λ (xs : List Subject). FirstIn file xs fault) (sym (f.3.1 ∙ ap (λ (xs : List Subject). xs ++ left) f.1))
+      (first_before f.0 left (first_in f.0 [] f.2))
 
   -- in the first of two lists, or in the second
   either : {C : Type 0} (xs ys : List Subject) → FirstIn file (xs ++ ys) fault → (FirstIn file xs fault → C) → (AllByRecursion (SoundSubject file) xs → FirstIn file ys fault → C) → C
@@ -384,9 +385,11 @@ all_of_none : (file : ObjectFile) (xs : List Subject) → AreFaults file xs [] �
 all_of_none file [] none = tt
 all_of_none file (x ∷ xs) none = (none.0, all_of_none file xs none.1)
 
--- where none was added to none
-pub none_of : (file : ObjectFile) (xs : List Subject) → Adds file xs [] [] → AllByRecursion (SoundSubject file) xs
-none_of file xs a = all_of_none file xs (subst (AreFaults file xs) (sym a.1) a.2)
+-- where a walk begins, if there is none
+pub none_next : (file : ObjectFile) (before after : Checking) (all : List Subject) → before ≡ unchecked file all → IsNextFault before after None → AllByRecursion (SoundSubject file) all
+none_next file before after all new next =
+    let f = (subst (λ (b : Checking). IsNextFault b after None) new next).2 in
+    all_of_none file all (subst (λ (xs : List Subject). AreFaults file xs []) (sym f.1) f.2)
 
 pub none_if_sound : (file : ObjectFile) (faults : List FileFault) → ((i : ℕ) → slice_get file.sections i ≡ result_ok (file.section_at i)) → AreFaults file (subjects file) faults → (faults ≡ []) ↔ SoundFile file
 none_if_sound file [] listed are = (λ none. file_of file listed (all_of_none file (subjects file) are), λ sound. refl)

@@ -27,8 +27,10 @@ pub mod BuildId
 pub mod Sound
 pub mod Faults
 pub mod Verdict
--- all faults of a file
+-- all faults of a file, and a walk over them
 pub mod AllFaults
+pub mod Stages
+pub mod FaultWalk
 -- the views of a file that was checked, and of its parts
 pub mod Whole
 pub mod DynamicViews

@@ -4,9 +4,8 @@ ghost use Rattle.elf.specs.ElfBytes.{view};
 ghost use Rattle.elf.specs.ObjectFile.{object_file};
 ghost use Rattle.elf_check.specs.AllFaults.{AreAllFaults};
 
+use crate::checking::fault_walk;
 use crate::faults::FileFault;
-use crate::listed::sections_are_listed;
-use crate::walk::give_faults;
 use elf::ElfBytes;
 use elf::endian::EndianParse;
 use elf::gnu_symver::{Needed, VerDefIterator};
@@ -42,8 +41,10 @@ pub fn all_faults_in<'data, E: EndianParse>(
 ) -> Result<Vec<FileFault>, AllocError>
     ensures { IfOk result (λ faults. AreAllFaults (object_file E.little (view file.now)) faults.items) }
 {
-    sections_are_listed(file);
+    let mut walk = fault_walk(file);
     let mut faults = Vec::new(alloc);
-    give_faults(file, needed, defined, &mut faults)?;
+    while let Some(fault) = walk.next_fault(needed, defined) {
+        faults.push(fault)?;
+    }
     Ok(faults)
 }

@@ -3,6 +3,7 @@
 
 mod all;
 mod chains;
+mod checking;
 mod dynamic;
 pub mod faults;
 mod hashes;
@@ -19,6 +20,7 @@ mod walk;
 mod whole;
 
 pub use all::{all_faults, all_faults_in};
+pub use checking::{FaultWalk, fault_walk};
 pub use relocations::Relocation;
 pub use whole::{
     WholeDefinition, WholeDynamic, WholeFile, WholeNames, WholeRelocations, WholeSection,

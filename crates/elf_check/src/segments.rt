@@ -8,8 +8,8 @@ ghost use Rattle.elf_check.specs.SegmentsWhole.{segments_file};
 ghost use Rattle.elf_check.specs.declared.faults.FileFault.TheVariants.{Segments};
 ghost use Rattle.elf_check.specs.declared.segments.faults.SegmentsFault.{SegmentsFault};
 
+use crate::checking::segment_fault_walk;
 use crate::faults::FileFault;
-use crate::walk::{First, give_faults_of_segments};
 use elf::ElfBytes;
 use elf::endian::EndianParse;
 
@@ -52,10 +52,7 @@ pub fn segments_fault<E: EndianParse>(file: &ElfBytes<'_, E>) -> Option<Segments
     ensures { let whole = object_file E.little (view file.now) in
         MatchOption result (SoundSegments whole) (λ fault. (¬ SoundSegments whole) × IsTrueOfSegments whole fault) }
 {
-    match give_faults_of_segments(file, &mut First) {
-        Ok(()) => None,
-        Err(fault) => as_segments(fault),
-    }
+    as_segments(segment_fault_walk(file).next_fault(&mut [], &mut [])?)
 }
 
 /// Checks the segments of a file: `Ok` exactly if they are sound, otherwise the fault of `segments_fault`.

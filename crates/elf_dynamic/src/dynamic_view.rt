@@ -16,10 +16,10 @@ mod symbol_table;
 mod version_table;
 pub mod worked;
 
-pub use entries::{TagValues, dynamic_table, required, value, values};
+pub use entries::{TagValues, dynamic_table, has_tag, required, value, values};
 pub use error::DynamicError;
 pub use hashes::{gnu_hash, sysv_hash};
-pub use relocations::{PltRelocations, plt_relocations, relas, relr_bytes, rels};
+pub use relocations::{PltRelocations, address_size, plt_relocations, relas, relr_bytes, rels};
 pub use segments::{bytes_from, bytes_of, part_of};
 pub use string_table::{name_of, string_part, strings};
 pub use symbol_table::{symbol_count, symbol_part, symbols, symbols_with_strings};

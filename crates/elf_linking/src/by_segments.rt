@@ -1,6 +1,6 @@
 //! What the dynamic linker uses of a file, through its segments: the relocations, the symbols with their strings and
 //! their versions, and the hash table.
-ghost use Rattle.std.specs.Prelude.{◌≡◌, ◌≤◌, ◌^◌, Some, map};
+ghost use Rattle.std.specs.Prelude.{◌≡◌, ◌^◌, Some, map};
 ghost use Rattle.std.specs.Option.{option_map};
 ghost use Rattle.elf.specs.Answers.{relas_left, rels_left, symbols_view};
 ghost use Rattle.elf.specs.ElfBytes.{view};
@@ -22,7 +22,6 @@ ghost use Rattle.elf_linking.specs.declared.resolve.ObjectFault.TheVariants.{Dyn
 ghost use Rattle.elf_linking.specs.inner.BySegments.{relocations_view, section_view};
 ghost use Rattle.elf_parts.specs.GnuFind.{gnu_view};
 ghost use Rattle.elf_parts.specs.gnu_symver.Table.{versions_view};
-ghost use Rattle.elf_records.specs.Class.{address_size};
 ghost use Rattle.elf_records.specs.Number.{ok_map};
 ghost use Rattle.elf_records.specs.StringTable.{strings_view};
 ghost use Rattle.elf_records.specs.Table.{table_view};
@@ -40,7 +39,7 @@ use elf::string_table::StringTable;
 use elf::symbol::{Symbol, SymbolTable};
 use elf::{ElfBytes, abi};
 use elf_dynamic::dynamic_view;
-use elf_dynamic::dynamic_view::{DynamicError, PltRelocations};
+use elf_dynamic::dynamic_view::{DynamicError, PltRelocations, address_size};
 use elf_hash_check::hashcheck::{AnyChecked, Checked, HashKind, check_any};
 use elf_parts::parse::ParseAt;
 
@@ -276,16 +275,6 @@ fn versions<'f, E: EndianParse>(
 }
 
 // ---- the hash section
-
-fn address_size(class: Class) -> u64
-    ensures size { result ≡ address_size class }
-    ensures most { result ≤ 8 }
-{
-    match class {
-        Class::ELF32 => 4,
-        Class::ELF64 => 8,
-    }
-}
 
 // The size of a GNU hash section.
 fn gnu_size<E: EndianParse>(class: Class, table: &GnuHashTable<'_, E>) -> u64

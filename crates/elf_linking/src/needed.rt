@@ -1,7 +1,6 @@
 //! The names by which the dynamic linker finds a file and the libraries that it loads with it.
 ghost use Rattle.std.specs.Prelude.{◌≡◌, ◌≢◌, Err, IfOk, IfSome, None, Ok, map};
 ghost use Rattle.std.specs.Option.{option_map};
-ghost use Rattle.elf_records.specs.Dynamic.{has_tag};
 ghost use Rattle.elf_records.specs.Number.{ok_map};
 ghost use Rattle.elf_records.specs.Table.{table_view};
 ghost use Rattle.elf.specs.Answers.{dynamic};
@@ -24,7 +23,7 @@ use elf::endian::EndianParse;
 use elf::reader::{Reader, dynamic};
 use elf::string_table::{StringTable, TerminatedStrings};
 use elf::{ElfStream, ParseError, ReadError, StreamSource, abi};
-use elf_dynamic::dynamic_view::part_of;
+use elf_dynamic::dynamic_view::{has_tag, part_of};
 use std::alloc::{AllocError, AllocFailed, Allocator, Global};
 use thiserror::Error;
 
@@ -152,13 +151,6 @@ impl From<ReadError> for NamesError {
             ReadError::NotLoaded(range) => NamesError::Missing(range),
         }
     }
-}
-
-// Whether the entry has a tag, one of `DT_*`.
-fn has_tag(entry: &Dyn, tag: i64) -> bool
-    ensures { result ≡ has_tag tag entry.now }
-{
-    entry.d_tag == tag
 }
 
 /// Returns the entries of a table before the first with the tag `DT_NULL`, which ends it. The only error is a failed

@@ -3,6 +3,7 @@ use Rattle.std.specs.Prelude.{ℕ, ◌==◌, Bool, if◌then◌else◌, bit_and,
 use Rattle.std.specs.Borrow.{Bor}
 use Rattle.elf_abi.specs.declared.abi.TheConstants as machine
 use Rattle.elf_names.specs.declared.flags.TheConstants as names
+use Rattle.elf_names.specs.declared.machines.TheConstants as linux
 
 -- the bits that a flag has to do with, their value if it is set, and its name
 abbrev pub Flag : Type 0
@@ -42,6 +43,18 @@ file_flags e_machine =
     if e_machine == machine.EM_ARM then flags names.ARM.now
     else if e_machine == machine.EM_MIPS then flags names.MIPS.now
     else if e_machine == machine.EM_PPC then flags names.PPC.now
+    else if e_machine == machine.EM_PPC64 then flags names.PPC64.now
     else if e_machine == machine.EM_RISCV then flags names.RISCV.now
+    else if e_machine == machine.EM_S390 then flags names.S390.now
     else if e_machine == machine.EM_LOONGARCH then flags names.LOONGARCH.now
+    else if e_machine == machine.EM_PARISC then flags names.PARISC.now
+    else if e_machine == machine.EM_SH then flags names.SH.now
+    else if e_machine == machine.EM_SPARC then flags names.SPARC.now
+    else if e_machine == machine.EM_SPARC32PLUS then flags names.SPARC.now
+    else if e_machine == machine.EM_SPARCV9 then flags names.SPARCV9.now
+    else if e_machine == machine.EM_ALPHA then flags names.ALPHA.now
+    else if e_machine == linux.GNU_ALPHA then flags names.ALPHA.now
+    else if e_machine == machine.EM_IA_64 then flags names.IA_64.now
+    else if e_machine == machine.EM_CSKY then flags names.CSKY.now
+    else if e_machine == machine.EM_OPENRISC then flags names.OPENRISC.now
     else []

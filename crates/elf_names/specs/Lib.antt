@@ -1,4 +1,5 @@
 pub mod Flags
+pub mod Machines
 pub mod Notes
 pub mod Relocations
 pub mod Sections

@@ -5,6 +5,7 @@ use Rattle.elf_abi.specs.SectionNames.{sh_type_names}
 use Rattle.elf_abi.specs.Names.{Row, name_of}
 use Rattle.elf_abi.specs.declared.abi.TheConstants as machine
 use Rattle.elf_names.specs.Table.{rows}
+use Rattle.elf_names.specs.declared.machines.TheConstants as linux
 use Rattle.elf_names.specs.declared.sections.TheConstants as names
 
 -- of files of this machine
@@ -16,6 +17,12 @@ section_types e_machine =
     else if e_machine == machine.EM_RISCV then rows names.RISCV.now
     else if e_machine == machine.EM_MIPS then rows names.MIPS.now
     else if e_machine == machine.EM_IA_64 then rows names.IA_64.now
+    else if e_machine == machine.EM_PARISC then rows names.PARISC.now
+    else if e_machine == machine.EM_ARC_COMPACT then rows names.ARC.now
+    else if e_machine == machine.EM_ARC_COMPACT2 then rows names.ARC.now
+    else if e_machine == machine.EM_CSKY then rows names.CSKY.now
+    else if e_machine == machine.EM_ALPHA then rows names.ALPHA.now
+    else if e_machine == linux.GNU_ALPHA then rows names.ALPHA.now
     else []
 
 -- of files of any machine

@@ -15,6 +15,8 @@ segment_types e_machine =
     else if e_machine == machine.EM_RISCV then rows names.RISCV.now
     else if e_machine == machine.EM_MIPS then rows names.MIPS.now
     else if e_machine == machine.EM_S390 then rows names.S390.now
+    else if e_machine == machine.EM_PARISC then rows names.PARISC.now
+    else if e_machine == machine.EM_IA_64 then rows names.IA_64.now
     else []
 
 -- of files of any machine

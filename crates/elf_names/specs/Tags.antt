@@ -6,6 +6,7 @@ use Rattle.elf_abi.specs.DynamicNames.{d_tag_names}
 use Rattle.elf_abi.specs.Names.{Row, name_of}
 use Rattle.elf_abi.specs.declared.abi.TheConstants as machine
 use Rattle.elf_names.specs.Table.{rows}
+use Rattle.elf_names.specs.declared.machines.TheConstants as linux
 use Rattle.elf_names.specs.declared.tags.TheConstants as names
 
 -- the tags of entries whose numbers are flags
@@ -25,6 +26,13 @@ tags e_machine =
     else if e_machine == machine.EM_PPC then rows names.PPC.now
     else if e_machine == machine.EM_PPC64 then rows names.PPC64.now
     else if e_machine == machine.EM_RISCV then rows names.RISCV.now
+    else if e_machine == machine.EM_SPARC then rows names.SPARC.now
+    else if e_machine == machine.EM_SPARC32PLUS then rows names.SPARC.now
+    else if e_machine == machine.EM_SPARCV9 then rows names.SPARC.now
+    else if e_machine == machine.EM_ALPHA then rows names.ALPHA.now
+    else if e_machine == linux.GNU_ALPHA then rows names.ALPHA.now
+    else if e_machine == machine.EM_IA_64 then rows names.IA_64.now
+    else if e_machine == machine.EM_ALTERA_NIOS2 then rows names.NIOS2.now
     else []
 
 -- of files of any machine

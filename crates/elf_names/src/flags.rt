@@ -3,6 +3,7 @@ ghost use Rattle.std.specs.Prelude.{◌≡◌};
 ghost use Rattle.elf_names.specs.Flags.{dynamic_flags, dynamic_flags_1, file_flags, flag_of, flags_of, is_set};
 ghost use Rattle.elf_names.specs.Flags.{section_flags, segment_flags};
 
+use crate::machines::GNU_ALPHA;
 use elf_abi::abi;
 
 /// A flag of a number: the bits that it has to do with, their value if it is set, and its name.
@@ -123,8 +124,20 @@ pub fn file_flags(e_machine: u16) -> Flags
         abi::EM_ARM => ARM,
         abi::EM_MIPS => MIPS,
         abi::EM_PPC => PPC,
+        abi::EM_PPC64 => PPC64,
         abi::EM_RISCV => RISCV,
+        abi::EM_S390 => S390,
         abi::EM_LOONGARCH => LOONGARCH,
+        abi::EM_PARISC => PARISC,
+        abi::EM_SH => SH,
+        abi::EM_SPARC => SPARC,
+        abi::EM_SPARC32PLUS => SPARC,
+        abi::EM_SPARCV9 => SPARCV9,
+        abi::EM_ALPHA => ALPHA,
+        GNU_ALPHA => ALPHA,
+        abi::EM_IA_64 => IA_64,
+        abi::EM_CSKY => CSKY,
+        abi::EM_OPENRISC => OPENRISC,
         _ => &[],
     }
 }
@@ -198,3 +211,93 @@ pub const LOONGARCH: Flags = &[
     (0x7, 0x3, "EF_LOONGARCH_ABI_DOUBLE_FLOAT"),
     (0xc0, 0x40, "EF_LOONGARCH_OBJABI_V1"),
 ];
+
+/// Of 64-bit PowerPC: the version of the ABI, in the bits of EF_PPC64_ABI.
+pub const PPC64: Flags = &[(0x3, 0x1, "EF_PPC64_ABI_V1"), (0x3, 0x2, "EF_PPC64_ABI_V2")];
+
+/// Of s390 and s390x.
+pub const S390: Flags = &[(0x1, 0x1, "EF_S390_HIGH_GPRS")];
+
+/// Of PA-RISC: what a program expects, and the version of the architecture.
+pub const PARISC: Flags = &[
+    (0x10000, 0x10000, "EF_PARISC_TRAPNIL"),
+    (0x20000, 0x20000, "EF_PARISC_EXT"),
+    (0x40000, 0x40000, "EF_PARISC_LSB"),
+    (0x80000, 0x80000, "EF_PARISC_WIDE"),
+    (0x100000, 0x100000, "EF_PARISC_NO_KABP"),
+    (0x400000, 0x400000, "EF_PARISC_LAZYSWAP"),
+    (0xffff, 0x20b, "EFA_PARISC_1_0"),
+    (0xffff, 0x210, "EFA_PARISC_1_1"),
+    (0xffff, 0x214, "EFA_PARISC_2_0"),
+];
+
+/// Of SuperH: the processor, in the bits of EF_SH_MACH_MASK, and the kind of code.
+pub const SH: Flags = &[
+    (0x1f, 0x1, "EF_SH1"),
+    (0x1f, 0x2, "EF_SH2"),
+    (0x1f, 0x3, "EF_SH3"),
+    (0x1f, 0x4, "EF_SH_DSP"),
+    (0x1f, 0x5, "EF_SH3_DSP"),
+    (0x1f, 0x6, "EF_SH4AL_DSP"),
+    (0x1f, 0x8, "EF_SH3E"),
+    (0x1f, 0x9, "EF_SH4"),
+    (0x1f, 0xb, "EF_SH2E"),
+    (0x1f, 0xc, "EF_SH4A"),
+    (0x1f, 0xd, "EF_SH2A"),
+    (0x1f, 0x10, "EF_SH4_NOFPU"),
+    (0x1f, 0x11, "EF_SH4A_NOFPU"),
+    (0x1f, 0x12, "EF_SH4_NOMMU_NOFPU"),
+    (0x1f, 0x13, "EF_SH2A_NOFPU"),
+    (0x1f, 0x14, "EF_SH3_NOMMU"),
+    (0x1f, 0x15, "EF_SH2A_SH4_NOFPU"),
+    (0x1f, 0x16, "EF_SH2A_SH3_NOFPU"),
+    (0x1f, 0x17, "EF_SH2A_SH4"),
+    (0x1f, 0x18, "EF_SH2A_SH3E"),
+    (0x100, 0x100, "EF_SH_PIC"),
+    (0x8000, 0x8000, "EF_SH_FDPIC"),
+];
+
+/// Of 32-bit SPARC.
+pub const SPARC: Flags = &[
+    (0x100, 0x100, "EF_SPARC_32PLUS"),
+    (0x200, 0x200, "EF_SPARC_SUN_US1"),
+    (0x400, 0x400, "EF_SPARC_HAL_R1"),
+    (0x800, 0x800, "EF_SPARC_SUN_US3"),
+    (0x800000, 0x800000, "EF_SPARC_LEDATA"),
+];
+
+/// Of 64-bit SPARC: the order of memory too, in the bits of EF_SPARCV9_MM.
+pub const SPARCV9: Flags = &[
+    (0x100, 0x100, "EF_SPARC_32PLUS"),
+    (0x200, 0x200, "EF_SPARC_SUN_US1"),
+    (0x400, 0x400, "EF_SPARC_HAL_R1"),
+    (0x800, 0x800, "EF_SPARC_SUN_US3"),
+    (0x800000, 0x800000, "EF_SPARC_LEDATA"),
+    (0x3, 0x0, "EF_SPARCV9_TSO"),
+    (0x3, 0x1, "EF_SPARCV9_PSO"),
+    (0x3, 0x2, "EF_SPARCV9_RMO"),
+];
+
+/// Of Alpha.
+pub const ALPHA: Flags = &[
+    (0x1, 0x1, "EF_ALPHA_32BIT"),
+    (0x2, 0x2, "EF_ALPHA_CANRELAX"),
+];
+
+/// Of IA-64.
+pub const IA_64: Flags = &[
+    (0x10, 0x10, "EF_IA_64_ABI64"),
+    (0x20, 0x20, "EF_IA_64_REDUCEDFP"),
+    (0x40, 0x40, "EF_IA_64_CONS_GP"),
+    (0x80, 0x80, "EF_IA_64_NOFUNCDESC_CONS_GP"),
+    (0x100, 0x100, "EF_IA_64_ABSOLUTE"),
+];
+
+/// Of C-SKY: the version of the ABI.
+pub const CSKY: Flags = &[
+    (0xf0000000, 0x10000000, "EF_CSKY_ABIV1"),
+    (0xf0000000, 0x20000000, "EF_CSKY_ABIV2"),
+];
+
+/// Of OpenRISC.
+pub const OPENRISC: Flags = &[(0x1, 0x1, "EF_OR1K_NODELAY")];

@@ -2,6 +2,7 @@
 #![tactic(auto)]
 
 pub mod flags;
+pub mod machines;
 pub mod notes;
 pub mod relocations;
 pub mod sections;

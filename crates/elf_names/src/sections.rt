@@ -4,6 +4,7 @@ ghost use Rattle.std.specs.Option.{option_copied};
 ghost use Rattle.elf_names.specs.Sections.{any_section_types, section_types, section_type_name};
 ghost use Rattle.elf_names.specs.Table.{rows_of};
 
+use crate::machines::GNU_ALPHA;
 use crate::table::{Names, name_in};
 use elf_abi::{abi, to_str};
 
@@ -54,6 +55,12 @@ pub fn section_types(e_machine: u16) -> Names<u32>
         abi::EM_RISCV => RISCV,
         abi::EM_MIPS => MIPS,
         abi::EM_IA_64 => IA_64,
+        abi::EM_PARISC => PARISC,
+        abi::EM_ARC_COMPACT => ARC,
+        abi::EM_ARC_COMPACT2 => ARC,
+        abi::EM_CSKY => CSKY,
+        abi::EM_ALPHA => ALPHA,
+        GNU_ALPHA => ALPHA,
         _ => &[],
     }
 }
@@ -115,3 +122,22 @@ pub const IA_64: Names<u32> = &[
     (0x70000000, "SHT_IA_64_EXT"),
     (0x70000001, "SHT_IA_64_UNWIND"),
 ];
+
+/// Of PA-RISC.
+pub const PARISC: Names<u32> = &[
+    (0x70000000, "SHT_PARISC_EXT"),
+    (0x70000001, "SHT_PARISC_UNWIND"),
+    (0x70000002, "SHT_PARISC_DOC"),
+];
+
+/// Of Alpha.
+pub const ALPHA: Names<u32> = &[
+    (0x70000001, "SHT_ALPHA_DEBUG"),
+    (0x70000002, "SHT_ALPHA_REGINFO"),
+];
+
+/// Of ARCompact and ARC HS.
+pub const ARC: Names<u32> = &[(0x70000001, "SHT_ARC_ATTRIBUTES")];
+
+/// Of C-SKY.
+pub const CSKY: Names<u32> = &[(0x70000001, "SHT_CSKY_ATTRIBUTES")];

@@ -47,6 +47,8 @@ pub fn segment_types(e_machine: u16) -> Names<u32>
         abi::EM_RISCV => RISCV,
         abi::EM_MIPS => MIPS,
         abi::EM_S390 => S390,
+        abi::EM_PARISC => PARISC,
+        abi::EM_IA_64 => IA_64,
         _ => &[],
     }
 }
@@ -74,3 +76,15 @@ pub const MIPS: Names<u32> = &[
 
 /// Of s390 and s390x.
 pub const S390: Names<u32> = &[(0x70000000, "PT_S390_PGSTE")];
+
+/// Of PA-RISC.
+pub const PARISC: Names<u32> = &[
+    (0x70000000, "PT_PARISC_ARCHEXT"),
+    (0x70000001, "PT_PARISC_UNWIND"),
+];
+
+/// Of IA-64.
+pub const IA_64: Names<u32> = &[
+    (0x70000000, "PT_IA_64_ARCHEXT"),
+    (0x70000001, "PT_IA_64_UNWIND"),
+];

@@ -4,6 +4,7 @@ ghost use Rattle.std.specs.Option.{option_copied};
 ghost use Rattle.elf_names.specs.Tags.{any_tags, tags, tag_name};
 ghost use Rattle.elf_names.specs.Table.{rows_of};
 
+use crate::machines::GNU_ALPHA;
 use crate::table::{Names, name_in};
 use elf_abi::{abi, to_str};
 
@@ -56,6 +57,13 @@ pub fn tags(e_machine: u16) -> Names<i64>
         abi::EM_PPC => PPC,
         abi::EM_PPC64 => PPC64,
         abi::EM_RISCV => RISCV,
+        abi::EM_SPARC => SPARC,
+        abi::EM_SPARC32PLUS => SPARC,
+        abi::EM_SPARCV9 => SPARC,
+        abi::EM_ALPHA => ALPHA,
+        GNU_ALPHA => ALPHA,
+        abi::EM_IA_64 => IA_64,
+        abi::EM_ALTERA_NIOS2 => NIOS2,
         _ => &[],
     }
 }
@@ -146,3 +154,15 @@ pub const PPC64: Names<i64> = &[
 
 /// Of RISC-V.
 pub const RISCV: Names<i64> = &[(0x70000001, "DT_RISCV_VARIANT_CC")];
+
+/// Of SPARC.
+pub const SPARC: Names<i64> = &[(0x70000001, "DT_SPARC_REGISTER")];
+
+/// Of Alpha.
+pub const ALPHA: Names<i64> = &[(0x70000000, "DT_ALPHA_PLTRO")];
+
+/// Of IA-64.
+pub const IA_64: Names<i64> = &[(0x70000000, "DT_IA_64_PLT_RESERVE")];
+
+/// Of Nios II.
+pub const NIOS2: Names<i64> = &[(0x70000002, "DT_NIOS2_GP")];

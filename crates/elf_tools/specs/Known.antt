@@ -30,7 +30,7 @@ located_in section symbol address size =
 abbrev pub located_at : ℕ → ℕ → ℕ → Located
 located_at symbol address size = located_in 1 symbol address size
 
--- symbols by address: one at 16, and two at 32, of which the second is in section 2
+-- symbols by address: one at 16, and two at 32, the second of them in section 2
 abbrev pub by_address : List Located
 by_address = located_at 3 16 4 ∷ located_at 1 32 0 ∷ located_in 2 2 32 8 ∷ []
 

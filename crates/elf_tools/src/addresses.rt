@@ -86,8 +86,8 @@ fn has_code_bit(machine: u16, symbol: &Symbol) -> bool
 }
 
 /// Returns the address of the first byte of a symbol, in a file for this machine (`e_machine`). It is the value of the
-/// symbol, but for functions of ARM and MIPS. Bit 0 of their values is no part of the address: it is set for Thumb,
-/// MIPS16 and microMIPS code.
+/// symbol. Of functions of ARM and MIPS, bit 0 of the value is no part of the address: it is set for Thumb, MIPS16 and
+/// microMIPS code.
 pub fn code_address(machine: u16, symbol: &Symbol) -> u64
     ensures { result ≡ code_address machine symbol.now }
 {

@@ -1,7 +1,7 @@
 //! The contents of an ELF file as text: the calls of a listing, and the program that writes it.
 //!
-//! `bytes` writes the text of a call over an `ElfBytes`, and `stream` over an `ElfStream`, of which it first loads what
-//! the call reads. `runs` has runs of a list of calls, and `show` the program.
+//! `bytes` writes the text of a call over an `ElfBytes`. `stream` first loads what the call reads of an `ElfStream`,
+//! and writes its text. `runs` has runs of a list of calls, and `show` the program.
 #![tactic(auto)]
 
 pub mod bytes;

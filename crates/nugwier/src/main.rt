@@ -7,7 +7,7 @@ use nugwier_report::escape::Escaped;
 use std::alloc::{AllocError, Global};
 use std::env::{Env, FillError};
 use std::io;
-use std::io::{BufWriter, Write};
+use std::io::{BufWriter, IsTerminal, Write};
 use std::process::ExitCode;
 use std::str::from_utf8;
 
@@ -44,9 +44,27 @@ fn run_words(rt: &HostRuntime) -> io::Result<u8> {
     // A problem is told in one write.
     let err = BufWriter::new(rt.alloc(), rt.stderr())?;
     let files = SystemFiles::new(rt);
-    let (outcome, _, _) = run(rt.alloc(), words.as_slice(), &files, out, err);
+    let (outcome, _, _) = run(
+        rt.alloc(),
+        shows_bold(rt),
+        words.as_slice(),
+        &files,
+        out,
+        err,
+    );
     let status = outcome.status();
     Ok(if are_text { status } else { status.max(1) })
+}
+
+// Whether headings are bold: on a terminal, unless NO_COLOR is set to a text (https://no-color.org).
+fn shows_bold(rt: &HostRuntime) -> bool {
+    let mut room = [0; 1];
+    let has_no_color = match rt.var("NO_COLOR", &mut room) {
+        Ok(length) => length > 0,
+        Err(FillError::NotPresent) => false,
+        Err(FillError::TooLong) => true,
+    };
+    rt.stdout().is_terminal() && !has_no_color
 }
 
 // The words after the program's name that are UTF-8, and whether all are.

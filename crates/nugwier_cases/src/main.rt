@@ -102,6 +102,7 @@ fn show_case<W: Write>(rt: &HostRuntime, case: &str, out: &mut W) -> io::Result<
     };
     let (outcome, listed, told) = run(
         rt.alloc(),
+        false,
         words.as_slice(),
         &files,
         Vec::new(rt.alloc()),

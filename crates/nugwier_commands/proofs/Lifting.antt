@@ -19,26 +19,26 @@ module _ {W V : Type 0} (out_of : W → Option (List ℕ)) (err_of : V → Optio
   abbrev pub IsOwnWritten : Summary → Type 0
   IsOwnWritten summary =
       (named : Named) × (said : List Said) × Says named said
-      × IsWritten task.is_json path named before (written_by out_of err_of ended) summary (heading_said heading path ++ said)
+      × IsWritten task.format path named before (written_by out_of err_of ended) summary (heading_said heading path ++ said)
 
   pub as_all : (All : List Listing → Type 0) → ((named : Named) (said : List Said) → Says named said → All (listing_of heading path named said ∷ []))
       → IsSaidAndWritten out_of err_of Says task heading path before ended → AreSaidAndWritten out_of err_of All task before ended
   as_all All lift is =
-      IfOk-weaker ended.said IsOwnWritten (λ summary. (all : List Listing) × All all × AreWritten task.is_json before (written_by out_of err_of ended) summary all)
-      (λ summary h. let own = listing_of heading path h.0 h.1 in (own ∷ [], lift h.0 h.1 h.2, written_one task.is_json before (written_by out_of err_of ended) summary own h.3)) is
+      IfOk-weaker ended.said IsOwnWritten (λ summary. (all : List Listing) × All all × AreWritten task.format before (written_by out_of err_of ended) summary all)
+      (λ summary h. let own = listing_of heading path h.0 h.1 in (own ∷ [], lift h.0 h.1 h.2, written_one task.format before (written_by out_of err_of ended) summary own h.3)) is
 
   pub as_item : (known : Known) (archive : List ℕ) (item : Item) → ((named : Named) (said : List Said) → Says named said → IsItemSaid known task heading archive item (listing_of heading path named said))
       → IsSaidAndWritten out_of err_of Says task heading path before ended → IsItemEnded out_of err_of known task heading archive item before ended
   as_item known archive item lift is =
       IfOk-weaker ended.said IsOwnWritten
-      (λ summary. (own : Listing) × IsItemSaid known task heading archive item own × IsWritten task.is_json own.path own.named before (written_by out_of err_of ended) summary own.said)
+      (λ summary. (own : Listing) × IsItemSaid known task heading archive item own × IsWritten task.format own.path own.named before (written_by out_of err_of ended) summary own.said)
       (λ summary h. (listing_of heading path h.0 h.1, lift h.0 h.1 h.2, h.3)) is
 
   -- a problem with the file as a whole
-  pub as_problem : (fault : Fault) → IfOk ended.said (λ summary. IsWritten task.is_json path no_sections before (written_by out_of err_of ended) summary (heading_said heading path ++ wrong (whole File) fault ∷ []))
+  pub as_problem : (fault : Fault) → IfOk ended.said (λ summary. IsWritten task.format path no_sections before (written_by out_of err_of ended) summary (heading_said heading path ++ wrong (whole File) fault ∷ []))
       → Says no_sections (wrong (whole File) fault ∷ []) → IsSaidAndWritten out_of err_of Says task heading path before ended
   as_problem fault told is =
-      IfOk-weaker ended.said (λ summary. IsWritten task.is_json path no_sections before (written_by out_of err_of ended) summary (heading_said heading path ++ wrong (whole File) fault ∷ [])) IsOwnWritten
+      IfOk-weaker ended.said (λ summary. IsWritten task.format path no_sections before (written_by out_of err_of ended) summary (heading_said heading path ++ wrong (whole File) fault ∷ [])) IsOwnWritten
       (λ summary h. (no_sections, wrong (whole File) fault ∷ [], is, h)) told
 
   -- what is said in other words
@@ -47,5 +47,5 @@ module _ {W V : Type 0} (out_of : W → Option (List ℕ)) (err_of : V → Optio
   as_said Others lift is =
       IfOk-weaker ended.said IsOwnWritten
       (λ summary. (named : Named) × (said : List Said) × Others named said
-      × IsWritten task.is_json path named before (written_by out_of err_of ended) summary (heading_said heading path ++ said))
+      × IsWritten task.format path named before (written_by out_of err_of ended) summary (heading_said heading path ++ said))
       (λ summary h. (h.0, h.1, lift h.0 h.1 h.2, h.3)) is

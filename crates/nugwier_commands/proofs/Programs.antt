@@ -26,7 +26,7 @@ module _ {W V : Type 0} (out_of : W → Option (List ℕ)) (err_of : V → Optio
   abbrev pub IsProgramEnded : Type 0
   IsProgramEnded =
       IfOk ended.said (λ summary. (said : List Said) × IsProgramSaid known task.command task path bytes no_sections said
-      × IsWritten task.is_json path no_sections before (written_by out_of err_of ended) summary (heading_said heading path ++ said))
+      × IsWritten task.format path no_sections before (written_by out_of err_of ended) summary (heading_said heading path ++ said))
 
   abbrev pub IsContentEnded : Type 0
   IsContentEnded = IsSaidAndWritten out_of err_of (IsContentSaid known task.command task path bytes) task heading path before ended
@@ -36,9 +36,9 @@ module _ {W V : Type 0} (out_of : W → Option (List ℕ)) (err_of : V → Optio
   as_content lift is =
       IfOk-weaker ended.said
       (λ summary. (said : List Said) × IsProgramSaid known task.command task path bytes no_sections said
-      × IsWritten task.is_json path no_sections before (written_by out_of err_of ended) summary (heading_said heading path ++ said))
+      × IsWritten task.format path no_sections before (written_by out_of err_of ended) summary (heading_said heading path ++ said))
       (λ summary. (named : Named) × (said : List Said) × IsContentSaid known task.command task path bytes named said
-      × IsWritten task.is_json path named before (written_by out_of err_of ended) summary (heading_said heading path ++ said))
+      × IsWritten task.format path named before (written_by out_of err_of ended) summary (heading_said heading path ++ said))
       (λ summary h. (no_sections, h.0, lift h.0 h.1, h.2)) is
 
   pub of_tree : task.command ≡ Tree → IsProgramEnded → IsContentEnded

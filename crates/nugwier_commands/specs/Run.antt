@@ -37,6 +37,7 @@ use Rattle.nugwier_report.specs.declared.kind.Kind.TheVariants.{FileHeading, Nex
 use Rattle.nugwier_report.specs.declared.problem.Fault.TheVariants.{OtherFormat, Read, System}
 use Rattle.nugwier_report.specs.declared.problem.Fault.{Fault}
 use Rattle.nugwier_report.specs.declared.problem.Part.TheVariants.{File, SectionHeaders}
+use Rattle.nugwier_report.specs.declared.report.Format.{Format}
 use Rattle.nugwier_report.specs.declared.report.Summary.{Summary}
 use Rattle.nugwier_words.specs.Help.{help_of}
 use Rattle.nugwier_words.specs.WordTexts.{word_text}
@@ -100,9 +101,9 @@ pub record Written : Type 0 where
 
 -- what was said was written after what the writers had: its records, and, unless a write of a problem failed, its
 -- problems. The summary says whether nothing of it is wrong
-abbrev pub IsWritten : Bool → List ℕ → Named → Written → Written → Summary → List Said → Type 0
-IsWritten is_json path named before after summary said =
-    IsTold is_json path before.out after.out said × (summary.is_right ≡ all_right said)
+abbrev pub IsWritten : Format → List ℕ → Named → Written → Written → Summary → List Said → Type 0
+IsWritten format path named before after summary said =
+    IsTold format path before.out after.out said × (summary.is_right ≡ all_right said)
     × (summary.is_told ≡ true → AreProblemsTold path named before.err after.err said)
 
 -- ---- the files of the words
@@ -173,8 +174,8 @@ pub record Listing : Type 0 where
 abbrev pub listing_of : Option Kind → List ℕ → Named → List Said → Listing
 listing_of heading path named said = record { path = path; named = named; said = heading_said heading path ++ said }
 
-abbrev pub listing_text : Bool → Listing → List ℕ
-listing_text is_json listing = flat_map (told_line is_json listing.path) listing.said
+abbrev pub listing_text : Format → Listing → List ℕ
+listing_text format listing = flat_map (told_line format listing.path) listing.said
 
 -- the text of all that is wrong
 abbrev pub IsProblemsOf : List Listing → List ℕ → Type 0
@@ -184,9 +185,9 @@ IsProblemsOf (listing ∷ others) problems =
     × IsProblemsOf others after × (problems ≡ own ++ after)
 
 -- all that is said was written
-abbrev pub AreWritten : Bool → Written → Written → Summary → List Listing → Type 0
-AreWritten is_json before after summary all =
-    Appends before.out after.out (flat_map (listing_text is_json) all)
+abbrev pub AreWritten : Format → Written → Written → Summary → List Listing → Type 0
+AreWritten format before after summary all =
+    Appends before.out after.out (flat_map (listing_text format) all)
     × (summary.is_right ≡ list_all (λ (listing : Listing). all_right listing.said) all)
     × (summary.is_told ≡ true → (problems : List ℕ) × IsProblemsOf all problems
     × Appends before.err after.err problems)
@@ -332,7 +333,7 @@ AreSaidBy true known task all =
 abbrev pub IsTaskAnswered : Known → Written → Written → Summary → Task → Type 0
 IsTaskAnswered known before after summary task =
     (all : List Listing) × AreSaidBy task.is_recursive known task all
-    × AreWritten task.is_json before after summary all
+    × AreWritten task.format before after summary all
 
 -- a text, and a newline, and nothing is wrong
 abbrev pub IsPrinted : List ℕ → Written → Written → Summary → Type 0

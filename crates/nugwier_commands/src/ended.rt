@@ -53,7 +53,7 @@ impl<W: Write, V: Write> Ended<W, V> {
     // After all was said in a report.
     fn all_said(report: Report<'_, W, V>) -> Ended<W, V>
         ensures { (summary : Summary) × (result.said ≡ Ok summary) × (report.entry.is_lost ≡ false
-            → IsWritten report.entry.is_json report.entry.path report.entry.named
+            → IsWritten report.entry.format report.entry.path report.entry.named
             (record { out = report.entry.start; err = report.entry.told_start })
             (written_by W.contents V.contents result) summary report.entry.said) }
     {
@@ -141,11 +141,11 @@ impl<'j> Target<'j> {
     ) -> Ended<W, V>
         ensures { IfOk result.said (λ summary. (said : List Said)
             × IsTablesSaid E.little self.now.path.now tables.entry said
-            × IsWritten self.now.job.now.is_json self.now.path.now (named_by labels.entry)
+            × IsWritten self.now.job.now.format self.now.path.now (named_by labels.entry)
             (record { out = W.contents out; err = V.contents err }) (written_by W.contents V.contents result) summary
             (heading_said self.now.heading self.now.path.now ++ (unread_said unread ++ said))) }
     {
-        let mut report = Report::new(alloc, self.path, self.job.is_json, labels, out, err);
+        let mut report = Report::new(alloc, self.path, self.job.format, labels, out, err);
         match self.say(alloc, unread, tables, &mut report) {
             Ok(()) => Ended::all_said(report),
             Err(stop) => Ended::stopped(report, stop),
@@ -189,11 +189,11 @@ impl<'j> Target<'j> {
     ) -> Ended<W, V>
         ensures { IfOk result.said (λ summary. (said : List Said) × IsNamedSaid (F.known files.now)
             (search_of (task_of self.now.job.now)) (found_view program) said
-            × IsWritten self.now.job.now.is_json self.now.path.now no_sections
+            × IsWritten self.now.job.now.format self.now.path.now no_sections
             (record { out = W.contents out; err = V.contents err }) (written_by W.contents V.contents result) summary
             (heading_said self.now.heading self.now.path.now ++ said)) }
     {
-        let mut report = Report::new(alloc, self.path, self.job.is_json, NO_LABELS, out, err);
+        let mut report = Report::new(alloc, self.path, self.job.format, NO_LABELS, out, err);
         match self.tell_named(alloc, files, program, &mut report) {
             Ok(()) => Ended::all_said(report),
             Err(stop) => Ended::stopped(report, stop),
@@ -232,11 +232,11 @@ impl<'j> Target<'j> {
     ) -> Ended<W, V>
         ensures { IfOk result.said (λ summary. (said : List Said) × IsProgramSaid (F.known files.now)
             self.now.job.now.command (task_of self.now.job.now) self.now.path.now «data».items no_sections said
-            × IsWritten self.now.job.now.is_json self.now.path.now no_sections
+            × IsWritten self.now.job.now.format self.now.path.now no_sections
             (record { out = W.contents out; err = V.contents err }) (written_by W.contents V.contents result) summary
             (heading_said self.now.heading self.now.path.now ++ said)) }
     {
-        let mut report = Report::new(alloc, self.path, self.job.is_json, NO_LABELS, out, err);
+        let mut report = Report::new(alloc, self.path, self.job.format, NO_LABELS, out, err);
         match self.say_loaded(alloc, files, data, &mut report) {
             Ok(()) => Ended::all_said(report),
             Err(stop) => Ended::stopped(report, stop),
@@ -251,11 +251,11 @@ impl<'j> Target<'j> {
         out: W,
         err: V,
     ) -> Ended<W, V>
-        ensures { IfOk result.said (λ summary. IsWritten self.now.job.now.is_json self.now.path.now no_sections
+        ensures { IfOk result.said (λ summary. IsWritten self.now.job.now.format self.now.path.now no_sections
             (record { out = W.contents out; err = V.contents err }) (written_by W.contents V.contents result) summary
             (heading_said self.now.heading self.now.path.now ++ wrong (whole File) fault.entry ∷ [])) }
     {
-        let mut report = Report::new(alloc, self.path, self.job.is_json, NO_LABELS, out, err);
+        let mut report = Report::new(alloc, self.path, self.job.format, NO_LABELS, out, err);
         match self.tell(fault, &mut report) {
             Ok(()) => Ended::all_said(report),
             Err(stop) => Ended::stopped(report, stop),

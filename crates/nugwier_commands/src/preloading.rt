@@ -6,6 +6,7 @@ use elf::endian::EndianParse;
 use elf::section::SectionHeader;
 use elf::segment::ProgramHeader;
 use elf::{ElfStream, ParseError, StreamSource, abi};
+use nugwier_listing::chains::is_hash;
 use nugwier_listing::contents::has_name;
 use nugwier_listing::headings::known_names;
 use nugwier_listing::taking::NotTaken;
@@ -15,9 +16,9 @@ use std::alloc::{AllocError, Global};
 // A range of a file, by its start and its size.
 type Range = (u64, u64);
 
-/// Loads the relocations, groups, notes and versions that a job takes, with the sections that they link to, and the
-/// sections that it names. A file may declare many of them that overlap: if they are in sum longer than the file, it is
-/// loaded whole. The error is that of the source or of an allocation.
+/// Loads the relocations, groups, notes and versions that a job takes, with the sections that they link to, hash
+/// sections, and the sections that it names. A file may declare many of them that overlap: if they are in sum longer
+/// than the file, it is loaded whole. The error is that of the source or of an allocation.
 pub(crate) fn preload<E: EndianParse, S: StreamSource>(
     alloc: Global,
     job: &Job<'_>,
@@ -84,6 +85,11 @@ fn takes_sections(job: &Job<'_>, sh_type: u32) -> bool {
     }
 }
 
+// Whether a job takes all hash sections. Their symbols are not taken.
+fn takes_chains(job: &Job<'_>) -> bool {
+    matches!(job.command, Command::List) && job.parts.chains
+}
+
 fn takes_notes(job: &Job<'_>) -> bool {
     match job.command {
         Command::List => job.parts.notes,
@@ -146,6 +152,8 @@ fn add_sections(
                 add_links(sections, section, ranges)?;
             }
             last_link = section.sh_link;
+        } else if takes_chains(job) && is_hash(section) {
+            add_section(section, ranges)?;
         }
     }
     Ok(())

@@ -59,18 +59,20 @@ impl Outcome {
 }
 
 /// Does what the words, the arguments after the program's name, ask for. Writes listings to `out`, and flushes it.
-/// Tells on `err` what is wrong, and ignores an error of that write. Returns how the run ended, and the writers.
+/// Headings are bold if this is said here, unless the words say something else. Tells on `err` what is wrong, and ignores
+/// an error of that write. Returns how the run ended, and the writers.
 pub fn run<F: Files, W: Write, V: Write>(
     alloc: Global,
+    is_bold: bool,
     words: &[&str],
     files: &F,
     out: W,
     err: V,
 ) -> (Outcome, W, V)
     ensures { IsRun (F.known files.now) (record { out = W.contents out; err = V.contents err })
-        (record { out = W.contents result.1; err = V.contents result.2 }) (parsed words.now) result.0 }
+        (record { out = W.contents result.1; err = V.contents result.2 }) (parsed is_bold words.now) result.0 }
 {
-    match parse_words(alloc, words) {
+    match parse_words(alloc, is_bold, words) {
         Ok(Request::Help(command)) => outcome_of(print(help(command), out, err)),
         Ok(Request::Version) => outcome_of(print(VERSION, out, err)),
         Ok(Request::Run(job)) => outcome_of(run_job(alloc, &job, files, out, err)),

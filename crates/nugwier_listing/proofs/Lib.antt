@@ -9,3 +9,6 @@ mod PartViews
 mod Hardened
 -- the symbols of a table, each with its number
 pub mod Ordered
+-- the chains of hash sections: the length of one, and how many have a length
+pub mod ChainWalks
+pub mod Counting

@@ -25,6 +25,8 @@ pub mod Labels
 pub mod Relocations
 -- the section groups
 pub mod Groups
+-- the chains of hash sections
+pub mod Chains
 -- what is said of a file that is checked
 pub mod Check
 -- the content of sections

@@ -12,6 +12,8 @@ pub mod Dynamic
 pub mod Relocations
 -- the section groups that were taken
 pub mod Groups
+-- the chains of hash sections that were taken
+pub mod Chains
 -- the content that was taken
 pub mod Contents
 pub mod Job

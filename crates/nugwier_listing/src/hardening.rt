@@ -55,6 +55,7 @@ use elf::string_table::TerminatedStrings;
 use elf::symbol::{Symbol, SymbolTable};
 use elf::{ParseError, abi};
 use elf_check::notes::note_align;
+use elf_dynamic::dynamic_view::has_tag;
 use nugwier_report::hardening::{
     FileKind, Hardening, Relro, Requirement, SearchPaths, say_hardening,
 };
@@ -465,23 +466,17 @@ fn entries_in<'a>(known: &'a Option<LinkEntries<'_>>) -> Option<&'a [Dyn]>
     }
 }
 
-fn has_tag(tag: i64, entry: &Dyn) -> bool
-    ensures { result ≡ has_tag tag entry.now }
-{
-    entry.d_tag == tag
-}
-
 // Whether an entry has this tag, and its number a bit of the mask.
 fn has_flag(tag: i64, mask: u64, entry: &Dyn) -> bool
     ensures { result ≡ has_flag tag mask entry.now }
 {
-    has_tag(tag, entry) && entry.d_val() & mask != 0
+    has_tag(entry, tag) && entry.d_val() & mask != 0
 }
 
 fn binds_now(entry: &Dyn) -> bool
     ensures { result ≡ binds_now entry.now }
 {
-    has_tag(abi::DT_BIND_NOW, entry)
+    has_tag(entry, abi::DT_BIND_NOW)
         || has_flag(abi::DT_FLAGS, abi::DF_BIND_NOW as u64, entry)
         || has_flag(abi::DT_FLAGS_1, abi::DF_1_NOW as u64, entry)
 }
@@ -525,7 +520,7 @@ fn has_marked_pie(entries: &[Dyn]) -> bool
 fn is_debugged(entries: &[Dyn]) -> bool
     ensures { result ≡ list_any (has_tag dt_debug) entries.now }
 {
-    entries.iter().any(|entry| has_tag(abi::DT_DEBUG, entry))
+    entries.iter().any(|entry| has_tag(entry, abi::DT_DEBUG))
 }
 
 fn dynamic_kind(has_interpreter: bool, entries: &[Dyn]) -> FileKind
@@ -593,7 +588,7 @@ fn found_path<'f, W: Write, V: Write>(
 fn first_tagged(tag: i64, entries: &[Dyn]) -> Option<usize>
     ensures { result ≡ first_tagged tag entries.now }
 {
-    entries.iter().position(|entry| has_tag(tag, entry))
+    entries.iter().position(|entry| has_tag(entry, tag))
 }
 
 fn path_at<'f, W: Write, V: Write>(

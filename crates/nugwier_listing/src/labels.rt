@@ -57,5 +57,6 @@ fn has_sections(parts: &Parts) -> bool
     ensures { result ≡ has_sections parts.now }
 {
     let listed = parts.sections || parts.groups || parts.symbols || parts.dynamic_symbols;
-    listed || parts.dynamic || parts.relocations || parts.notes || parts.versions
+    let others = parts.notes || parts.versions || parts.chains;
+    listed || parts.dynamic || parts.relocations || others
 }

@@ -3,6 +3,7 @@
 #![tactic(auto)]
 
 mod addresses;
+pub mod chains;
 mod check;
 pub mod contents;
 mod dynamic;

@@ -7,6 +7,7 @@ ghost use Rattle.nugwier_listing.specs.inner.Job.{list_said, part_said};
 ghost use Rattle.nugwier_report.specs.Said.{saying};
 ghost use Rattle.nugwier_words.specs.Words.{task_of};
 
+use crate::chains::{ChainsPart, take_chains};
 use crate::contents::{ContentPart, take_contents};
 use crate::dynamic::{FoundEntries, say_entries, take_dynamic};
 use crate::groups::{GroupTables, say_groups, take_groups};
@@ -43,10 +44,11 @@ enum ListedPart {
     Relocations,
     Notes,
     Versions,
+    Chains,
 }
 
 // All of them, in the order of a listing.
-static PARTS: [ListedPart; 10] = [
+static PARTS: [ListedPart; 11] = [
     ListedPart::Header,
     ListedPart::Sections,
     ListedPart::Groups,
@@ -57,6 +59,7 @@ static PARTS: [ListedPart; 10] = [
     ListedPart::Relocations,
     ListedPart::Notes,
     ListedPart::Versions,
+    ListedPart::Chains,
 ];
 
 // A part that was taken.
@@ -71,6 +74,7 @@ enum PartTables<'f, E: EndianParse> {
     Relocations(RelocationTables<'f, E>),
     Notes(Vec<NotePart<'f>>),
     Versions(Vec<VersionPart<'f, E>>),
+    Chains(Vec<ChainsPart<'f>>),
 }
 
 /// All that is listed: the parts that are asked for, and the contents of sections.
@@ -148,6 +152,7 @@ fn is_listed(parts: &Parts, part: ListedPart) -> bool
         ListedPart::Relocations => parts.relocations,
         ListedPart::Notes => parts.notes,
         ListedPart::Versions => parts.versions,
+        ListedPart::Chains => parts.chains,
     }
 }
 
@@ -174,6 +179,7 @@ fn take_part<'f, E: EndianParse, R: ListedFile<E>>(
         ListedPart::Relocations => Ok(PartTables::Relocations(take_relocations(alloc, file)?)),
         ListedPart::Notes => Ok(PartTables::Notes(take_notes(alloc, file)?)),
         ListedPart::Versions => Ok(PartTables::Versions(take_version_lists(alloc, file)?)),
+        ListedPart::Chains => Ok(PartTables::Chains(take_chains(alloc, file)?)),
     }
 }
 
@@ -222,5 +228,6 @@ fn say_part<E: EndianParse, W: Write, V: Write>(
         PartTables::Relocations(found) => say_relocations(alloc, found, report),
         PartTables::Notes(parts) => say_each(parts, report),
         PartTables::Versions(parts) => say_each(parts, report),
+        PartTables::Chains(parts) => say_each(parts, report),
     }
 }

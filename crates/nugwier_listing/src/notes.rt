@@ -169,8 +169,11 @@ fn add_segment<'f, E: EndianParse, R: ListedFile<E>>(
     Ok(after)
 }
 
-// Bytes, if no more than this number are left to list.
-fn within<'f>(left: u64, bytes: Result<&'f [u8], ParseError>) -> Result<&'f [u8], Fault<'static>>
+/// Returns bytes, if no more than this number are left to list.
+pub(crate) fn within<'f>(
+    left: u64,
+    bytes: Result<&'f [u8], ParseError>,
+) -> Result<&'f [u8], Fault<'static>>
     ensures { ok_map (λ bytes. bytes.now) result ≡ within left (ok_map (λ bytes. bytes.now) bytes.entry) }
 {
     match bytes {
@@ -180,8 +183,8 @@ fn within<'f>(left: u64, bytes: Result<&'f [u8], ParseError>) -> Result<&'f [u8]
     }
 }
 
-// How many may be listed after them.
-fn left_after(left: u64, bytes: &Result<&[u8], ParseError>) -> u64
+/// Returns how many may be listed after them.
+pub(crate) fn left_after(left: u64, bytes: &Result<&[u8], ParseError>) -> u64
     ensures { result ≡ left_after left (ok_map (λ bytes. bytes.now) bytes.now) }
 {
     match bytes {

@@ -1,5 +1,5 @@
 -- The folders of ld.so.conf, one step at a time, and the files that a pattern matches, in order.
-use Rattle.std.proofs.Common.{◌≡◌, ◌+◌, ℕ, suc, Bool, true, false, List, [], ◌∷◌, ◌++◌, get_or, length, map, reverse, Option, Some, None, IfSome, refl, sym, ap, subst, ◌∙◌, arith}
+use Rattle.std.proofs.Common.{◌≡◌, ◌+◌, ℕ, suc, Bool, true, false, List, [], ◌∷◌, ◌++◌, get_or, length, map, reverse, Option, Some, None, Result, Ok, Err, IfSome, OnOk, not, refl, sym, ap, subst, ◌∙◌, true≢false, arith}
 use Rattle.std.proofs.lemmas.List.{get_or-map, length-map, nil_from_length, reverse-append}
 use Rattle.std.proofs.lemmas.List.Sorted.{IsPermutation-map}
 use Rattle.std.specs.Cmp.Lexicographic.{slice_cmp}
@@ -11,7 +11,7 @@ use Rattle.std.specs.Vec.{vec_items}
 use Rattle.std.specs.Prelude.{codes, cond, unwrap_or}
 use Rattle.elf_dynamic.specs.Conf.{conf_entries}
 use Rattle.nugwier_files.specs.Folder.{KnownFiles, Place}
-use Rattle.nugwier_programs.specs.Configured.{AreConfigured, AreFrom, IsInOrder, IsStep, Lists, Pending, file, is_passed, named_by, pending_of}
+use Rattle.nugwier_programs.specs.Configured.{AreConfigured, AreFrom, IsInOrder, IsStep, Lists, Pending, file, is_passed, named_by, pending_of, with_read}
 use Rattle.nugwier_programs.specs.Configured.{pending_view, places_at, places_in}
 use Rattle.nugwier_programs.specs.declared.configured.Pending.{Pending as Given}
 
@@ -53,13 +53,21 @@ pub nothing_pending : (items : List Given) → length items ≡ 0 → map pendin
 nothing_pending items none = ap (λ (l : List Given). map pending_view (reverse l)) (nil_from_length items none)
 
 -- a file that is read
+pub not_passed : (added passed : Bool) → added ≡ not passed → added ≡ true → passed ≡ false
+not_passed added false is some = refl
+not_passed added true is some = absurd (true≢false (sym some ∙ is))
+
+pub on_ok_both : {T E P Q R : Type 0} (r : Result T E) → (P → Q → R) → OnOk r P → OnOk r Q → OnOk r R
+on_ok_both (Ok x) step p q = step p q
+on_ok_both (Err e) step p q = tt
+
 pub file_read : (known : Option KnownFiles) (path content : List ℕ) (others : List Pending) (lists : Lists) (next : List Pending) (grown : Lists) → is_passed path lists ≡ false
     → IfSome known (λ files. content ≡ unwrap_or (files.contents path) []) → next ≡ map (pending_of path) (conf_entries content) ++ others
-    → grown ≡ record lists { read = lists.read ++ path ∷ [] } → IfSome known (λ files. IsStep files (file path) others lists next grown)
+    → grown ≡ with_read path lists → IfSome known (λ files. IsStep files (file path) others lists next grown)
 file_read None path content others lists next grown passed is named read = tt
 file_read (Some files) path content others lists next grown passed is named read = (
   named ∙ ap (λ (bytes : List ℕ). map (pending_of path) (conf_entries bytes) ++ others) is ∙ sym (ap (λ (b : Bool). cond b [] (named_by files path) ++ others) passed),
-  read ∙ sym (ap (λ (b : Bool). cond b lists (record lists { read = lists.read ++ path ∷ [] })) passed),
+  read,
 )
 
 -- ---- the names of a folder

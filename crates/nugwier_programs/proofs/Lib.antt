@@ -2,6 +2,7 @@ pub mod Walk
 pub mod Bound
 pub mod Scopes
 -- names by shell patterns, and the folders of ld.so.conf
+pub mod Listed
 pub mod Matching
 pub mod Configuring
 pub mod Texts

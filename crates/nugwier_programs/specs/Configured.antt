@@ -7,7 +7,6 @@ use Rattle.std.specs.List.{list_any, starts_with}
 use Rattle.std.specs.List.Sorted.{IsPermutation, IsSortedByKey}
 use Rattle.std.specs.Ordering.{nat_cmp}
 use Rattle.std.specs.Str.{bytes_eq, is_utf8}
-use Rattle.std.specs.Vec.{vec_items}
 use Rattle.elf_dynamic.specs.Conf.{Entry, conf_entries}
 use Rattle.elf_linking.specs.Tree.{folder_of, last_slash}
 use Rattle.nugwier_files.specs.Folder.{Folder, KnownFiles, Place, has, none, unreadable}
@@ -158,4 +157,4 @@ abbrev pub pending_in : Listing → List Pending
 pending_in listing = map pending_view (reverse listing.pending.items)
 
 abbrev pub lists_of : Listing → Lists
-lists_of listing = record { read = map vec_items listing.read.items; folders = map vec_items listing.folders.items }
+lists_of listing = record { read = listing.read; folders = listing.folders }

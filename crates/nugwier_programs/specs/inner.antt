@@ -2,3 +2,5 @@
 pub mod Walk
 -- the files and the objects of a scope, as the code has them
 pub mod Scope
+-- paths, and a set of the same
+pub mod Paths

@@ -1,16 +1,17 @@
 //! The folders of `/etc/ld.so.conf`, from which `ldconfig` makes the linker's cache (the manual page ldconfig(8)). They
 //! count in place of a cache.
-ghost use Rattle.std.specs.Prelude.{◌≡◌, ◌++◌, ◌∷◌, [], codes, ◌&&◌, IfOk, IfSome, OnOk, map, unwrap_or};
+ghost use Rattle.std.specs.Prelude.{◌≡◌, ◌++◌, ◌∷◌, [], codes, ◌&&◌, IfOk, IfSome, OnOk, map, not, unwrap_or};
 ghost use Rattle.std.specs.Vec.{vec_items};
 ghost use Rattle.elf_dynamic.specs.Conf.{line_view};
 ghost use Rattle.elf_linking.specs.Search.{folders_view};
 ghost use Rattle.nugwier_files.specs.Folder.{place_of};
 ghost use Rattle.nugwier_programs.specs.Configured.{AreConfigured, AreListed, AreMatched, IsInOrder, IsStep, beside};
-ghost use Rattle.nugwier_programs.specs.Configured.{file, is_file, is_listed, is_passed, lists_of};
+ghost use Rattle.nugwier_programs.specs.Configured.{file, is_file, is_passed, lists_of};
 ghost use Rattle.nugwier_programs.specs.Configured.{name_in, names_matched, pattern_in, pending_in, pending_of};
-ghost use Rattle.nugwier_programs.specs.Configured.{pending_view, places_at, places_in, with_folder};
+ghost use Rattle.nugwier_programs.specs.Configured.{pending_view, places_at, places_in, with_folder, with_read};
 ghost use Rattle.nugwier_programs.specs.Patterns.{is_match};
 
+use crate::paths::Paths;
 use crate::patterns::{bytes_from, first_bytes, is_match, is_pattern};
 use elf_dynamic::conf::{ConfLine, conf_lines};
 use elf_linking::tree::{folder_of, last_slash};
@@ -40,19 +41,8 @@ pub(crate) enum Pending {
 #[derive(Debug, Drop)]
 pub(crate) struct Listing {
     pending: Vec<Pending>,
-    read: Vec<Vec<u8>>,
-    folders: Vec<Vec<u8>>,
-}
-
-fn is_listed(paths: &[Vec<u8>], path: &[u8]) -> bool
-    ensures { result ≡ is_listed (map vec_items paths.now) path.now }
-{
-    for other in paths {
-        if path == other.as_slice() {
-            return true;
-        }
-    }
-    false
+    read: Paths,
+    folders: Paths,
 }
 
 // The last name of a path.
@@ -208,18 +198,16 @@ impl Listing {
         pending.push(Pending::File(path))?;
         Ok(Listing {
             pending,
-            read: Vec::new(alloc),
-            folders: Vec::new(alloc),
+            read: Paths::new(alloc),
+            folders: Paths::new(alloc),
         })
     }
 
-    fn add_folder(&mut self, path: Vec<u8>) -> Result<(), AllocError>
+    fn add_folder(&mut self, alloc: Global, path: Vec<u8>) -> Result<(), AllocError>
         ensures pending { OnOk result (pending_in self.new ≡ pending_in self.old) }
         ensures lists { OnOk result (lists_of self.new ≡ with_folder path.items (lists_of self.old)) }
     {
-        if !is_listed(self.folders.as_slice(), &path) {
-            self.folders.push(path)?;
-        }
+        self.folders.add(alloc, path)?;
         Ok(())
     }
 
@@ -252,10 +240,17 @@ impl Listing {
         Ok(())
     }
 
-    fn is_passed(&self, path: &[u8]) -> bool
-        ensures { result ≡ is_passed path.now (lists_of self.now) }
+    // Adds a file to those that were read, if it is to be read, and returns whether it is.
+    fn add_read(&mut self, alloc: Global, path: &[u8]) -> Result<bool, AllocError>
+        ensures added { IfOk result (λ added. added ≡ not (is_passed path.now (lists_of self.old))) }
+        ensures pending { OnOk result (pending_in self.new ≡ pending_in self.old) }
+        ensures lists { OnOk result (lists_of self.new ≡ with_read path.now (lists_of self.old)) }
     {
-        self.read.len() >= MOST_FILES || is_listed(self.read.as_slice(), path)
+        if self.read.len() >= MOST_FILES {
+            return Ok(false);
+        }
+        let path = Vec::from_slice(alloc, path)?;
+        self.read.add(alloc, path)
     }
 
     // Reads a file of configuration.
@@ -268,14 +263,12 @@ impl Listing {
         ensures { OnOk result (IfSome (F.known files.now) (λ files. IsStep files (file path.items)
             (pending_in self.old) (lists_of self.old) (pending_in self.new) (lists_of self.new))) }
     {
-        if self.is_passed(&path) {
+        if !self.add_read(alloc, &path)? {
             return Ok(());
         }
         let content = content_of(alloc, files, &path)?;
         let lines = conf_lines(alloc, &content)?;
-        self.enter_lines(alloc, &path, lines)?;
-        self.read.push(path)?;
-        Ok(())
+        self.enter_lines(alloc, &path, lines)
     }
 
     // Looks at what is next.
@@ -284,7 +277,7 @@ impl Listing {
             (pending_in self.old) (lists_of self.old) (pending_in self.new) (lists_of self.new))) }
     {
         match next {
-            Pending::Folder(path) => self.add_folder(path),
+            Pending::Folder(path) => self.add_folder(alloc, path),
             Pending::File(path) => self.read_file(alloc, files, path),
             Pending::Matching(pattern) => {
                 let paths = paths_matched(alloc, files, &pattern)?;
@@ -314,7 +307,7 @@ fn configured_folders<F: Files>(alloc: Global, files: &F) -> Result<Vec<Vec<u8>>
     let mut listing = Listing::new(alloc)?;
     'steps: for _ in 0..u64::MAX {
         let Some(next) = listing.pending.pop() else {
-            return Ok(listing.folders);
+            return Ok(listing.folders.into_list());
         };
         listing.step(alloc, files, next)?;
     }

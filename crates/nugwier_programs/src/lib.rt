@@ -3,6 +3,7 @@
 
 pub mod bindings;
 mod configured;
+mod paths;
 pub mod patterns;
 pub mod tree;
 mod usual;

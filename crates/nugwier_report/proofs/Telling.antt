@@ -6,6 +6,8 @@ use Rattle.std.specs.Result.{OnOk, is_ok}
 use Rattle.nugwier_report.specs.declared.kind.Kind.{Kind}
 use Rattle.nugwier_report.specs.declared.problem.Fault.{Fault}
 use Rattle.nugwier_report.specs.declared.problem.Place.{Place}
+use Rattle.nugwier_report.specs.declared.report.Format.{Format}
+use Rattle.nugwier_report.specs.declared.report.Format.TheVariants.{Json, Text}
 use Rattle.nugwier_report.specs.Labels.{Named}
 use Rattle.nugwier_report.specs.Problems.{AreProblemsTold, IsProblemsText, IsTextOf, problem_line}
 use Rattle.nugwier_report.specs.Said.{Members, Said, all_right, is_right_one, states, wrong}
@@ -23,10 +25,10 @@ appends_both (Some a) (Some b) None x y h k = k
 appends_both (Some a) (Some b) (Some c) x y h k = k ∙ ap (λ (t : List ℕ). t ++ y) h ∙ append_assoc a x y
 
 -- the writer got one more line
-pub told_more : (json : Bool) (path : List ℕ) (start now next : Option (List ℕ)) (said : List Said) (s : Said) → IsTold json path start now said → Appends now next (told_line json path s) → IsTold json path start next (said ++ s ∷ [])
-told_more json path start now next said s h more =
-    subst (λ (t : List ℕ). Appends start next t) (sym (text_more (told_line json path) said s))
-    (appends_both start now next (flat_map (told_line json path) said) (told_line json path s) h more)
+pub told_more : (format : Format) (path : List ℕ) (start now next : Option (List ℕ)) (said : List Said) (s : Said) → IsTold format path start now said → Appends now next (told_line format path s) → IsTold format path start next (said ++ s ∷ [])
+told_more format path start now next said s h more =
+    subst (λ (t : List ℕ). Appends start next t) (sym (text_more (told_line format path) said s))
+    (appends_both start now next (flat_map (told_line format path) said) (told_line format path s) h more)
 
 -- a writer that keeps its bytes got nothing
 kept : (now next : Option (List ℕ)) → Keeps now next → Appends now next []
@@ -35,8 +37,8 @@ kept (Some a) None h = h
 kept (Some a) (Some b) h = h ∙ sym (append-nil a)
 
 -- the writer got nothing, and the line is empty
-told_nothing : (json : Bool) (path : List ℕ) (start now next : Option (List ℕ)) (said : List Said) (s : Said) → told_line json path s ≡ [] → Keeps now next → IsTold json path start now said → IsTold json path start next (said ++ s ∷ [])
-told_nothing json path start now next said s empty same h = told_more json path start now next said s h (rw empty (kept now next same))
+told_nothing : (format : Format) (path : List ℕ) (start now next : Option (List ℕ)) (said : List Said) (s : Said) → told_line format path s ≡ [] → Keeps now next → IsTold format path start now said → IsTold format path start next (said ++ s ∷ [])
+told_nothing format path start now next said s empty same h = told_more format path start now next said s h (rw empty (kept now next same))
 
 pub right_more : (said : List Said) (s : Said) → is_right_one s ≡ true → all_right (said ++ s ∷ []) ≡ all_right said
 right_more [] s h = ap (λ (b : Bool). b && true) h
@@ -98,31 +100,31 @@ module _ (path : List ℕ) (named : Named) where
 -- ---- a report
 
 -- what a report keeps to
-abbrev pub Holds : Bool → Bool → List ℕ → Option (List ℕ) → Option (List ℕ) → Bool → List Said → Type 0
-Holds lost json path start now right said = (lost ≡ false → IsTold json path start now said) × (right ≡ all_right said)
+abbrev pub Holds : Bool → Format → List ℕ → Option (List ℕ) → Option (List ℕ) → Bool → List Said → Type 0
+Holds lost format path start now right said = (lost ≡ false → IsTold format path start now said) × (right ≡ all_right said)
 
-pub holds_more : (lost json : Bool) (path : List ℕ) (start start' now next : Option (List ℕ)) (right : Bool) (said said' : List Said) (s : Said)
-    → Holds lost json path start now right said → start' ≡ start → said' ≡ said ++ s ∷ [] → is_right_one s ≡ true
-    → Appends now next (told_line json path s) → Holds lost json path start' next right said'
-holds_more lost json path start start' now next right said said' s h begun more is written =
-    (λ kept. rw (begun, more) (told_more json path start now next said s (h.0 kept) written), rw more (h.1 ∙ sym (right_more said s is)))
+pub holds_more : (lost : Bool) (format : Format) (path : List ℕ) (start start' now next : Option (List ℕ)) (right : Bool) (said said' : List Said) (s : Said)
+    → Holds lost format path start now right said → start' ≡ start → said' ≡ said ++ s ∷ [] → is_right_one s ≡ true
+    → Appends now next (told_line format path s) → Holds lost format path start' next right said'
+holds_more lost format path start start' now next right said said' s h begun more is written =
+    (λ kept. rw (begun, more) (told_more format path start now next said s (h.0 kept) written), rw more (h.1 ∙ sym (right_more said s is)))
 
-pub holds_lost : (lost json : Bool) (path : List ℕ) (start start' now next : Option (List ℕ)) (right : Bool) (said said' : List Said) (s : Said)
-    → Holds lost json path start now right said → said' ≡ said ++ s ∷ [] → is_right_one s ≡ true → Holds true json path start' next right said'
-holds_lost lost json path start start' now next right said said' s h more is =
+pub holds_lost : (lost : Bool) (format : Format) (path : List ℕ) (start start' now next : Option (List ℕ)) (right : Bool) (said said' : List Said) (s : Said)
+    → Holds lost format path start now right said → said' ≡ said ++ s ∷ [] → is_right_one s ≡ true → Holds true format path start' next right said'
+holds_lost lost format path start start' now next right said said' s h more is =
     (λ kept. cc, rw more (h.1 ∙ sym (right_more said s is)))
 
-pub nothing_told : (json : Bool) (path : List ℕ) (place : Place) (fault : Fault) → told_line json path (wrong place fault) ≡ []
-nothing_told true path place fault = refl
-nothing_told false path place fault = refl
+pub nothing_told : (format : Format) (path : List ℕ) (place : Place) (fault : Fault) → told_line format path (wrong place fault) ≡ []
+nothing_told Json path place fault = refl
+nothing_told (Text style) path place fault = refl
 
-pub holds_wrong : (lost json : Bool) (path : List ℕ) (start start' now next : Option (List ℕ)) (right : Bool) (said said' : List Said) (place : Place) (fault : Fault)
-    → Holds lost json path start now right said → start' ≡ start → said' ≡ said ++ wrong place fault ∷ [] → Keeps now next
-    → Holds lost json path start' next false said'
-holds_wrong lost json path start start' now next right said said' place fault h begun more same =
-    (λ kept. rw (begun, more) (told_nothing json path start now next said (wrong place fault) (nothing_told json path place fault) same (h.0 kept)), rw more (sym (wrong_more said (wrong place fault) refl)))
+pub holds_wrong : (lost : Bool) (format : Format) (path : List ℕ) (start start' now next : Option (List ℕ)) (right : Bool) (said said' : List Said) (place : Place) (fault : Fault)
+    → Holds lost format path start now right said → start' ≡ start → said' ≡ said ++ wrong place fault ∷ [] → Keeps now next
+    → Holds lost format path start' next false said'
+holds_wrong lost format path start start' now next right said said' place fault h begun more same =
+    (λ kept. rw (begun, more) (told_nothing format path start now next said (wrong place fault) (nothing_told format path place fault) same (h.0 kept)), rw more (sym (wrong_more said (wrong place fault) refl)))
 
-pub holds_wrong_lost : (json : Bool) (path : List ℕ) (start now : Option (List ℕ)) (said said' : List Said) (place : Place) (fault : Fault)
-    → said' ≡ said ++ wrong place fault ∷ [] → Holds true json path start now false said'
-holds_wrong_lost json path start now said said' place fault more =
+pub holds_wrong_lost : (format : Format) (path : List ℕ) (start now : Option (List ℕ)) (said said' : List Said) (place : Place) (fault : Fault)
+    → said' ≡ said ++ wrong place fault ∷ [] → Holds true format path start now false said'
+holds_wrong_lost format path start now said said' place fault more =
     (λ kept. cc, rw more (sym (wrong_more said (wrong place fault) refl)))

@@ -1,6 +1,7 @@
 -- What is said of the notes of the owner CORE, which describe a process that Linux wrote into a core file. Their sources
 -- are include/uapi/linux/elf.h, elfcore.h, auxvec.h and fs/binfmt_elf.c of Linux.
-use Rattle.std.specs.Prelude.{ℕ, ◌-◌, ◌*◌, ◌/◌, ◌%◌, ◌==◌, nat_eq, nat_le, Bool, false, if◌then◌else◌, List, [], ◌∷◌, ◌++◌}
+use Rattle.std.specs.Prelude.{ℕ, ◌-◌, ◌*◌, ◌/◌, ◌%◌, ◌==◌, ◌||◌, ◌&&◌, nat_eq, nat_le, Bool, false, true, if◌then◌else◌}
+use Rattle.std.specs.Prelude.{List, [], ◌∷◌, ◌++◌}
 use Rattle.std.specs.Prelude.{codes, drop, filter, length, take, ℤ, Option, Some, None}
 use Rattle.std.specs.Option.{option_and_then, option_map}
 use Rattle.std.specs.Result.{result_ok}
@@ -34,7 +35,7 @@ is_core_note name = bytes_eq name (codes "CORE\0")
 abbrev pub sizes : ℕ → ℕ → CoreSizes
 sizes status process = record { status = status; process = process }
 
--- of a 32-bit file: EM_386, EM_MIPS, EM_PPC, EM_S390, EM_ARM, EM_RISCV
+-- of a 32-bit file: EM_386, EM_MIPS (of the ABI o32), EM_PPC, EM_S390, EM_ARM, EM_X86_64 (x32), EM_RISCV
 abbrev pub short_sizes : ℕ → Option CoreSizes
 short_sizes machine =
     if machine == 3 then Some (sizes 144 124)
@@ -42,10 +43,11 @@ short_sizes machine =
     else if machine == 20 then Some (sizes 268 128)
     else if machine == 22 then Some (sizes 224 124)
     else if machine == 40 then Some (sizes 148 124)
+    else if machine == 62 then Some (sizes 296 124)
     else if machine == 243 then Some (sizes 204 128)
     else None
 
--- of a 64-bit file: EM_MIPS, EM_PPC64, EM_S390, EM_X86_64, EM_AARCH64, EM_RISCV
+-- of a 64-bit file: EM_MIPS, EM_PPC64, EM_S390, EM_X86_64, EM_AARCH64, EM_RISCV, EM_LOONGARCH
 abbrev pub long_sizes : ℕ → Option CoreSizes
 long_sizes machine =
     if machine == 8 then Some (sizes 480 136)
@@ -54,11 +56,16 @@ long_sizes machine =
     else if machine == 62 then Some (sizes 336 136)
     else if machine == 183 then Some (sizes 392 136)
     else if machine == 243 then Some (sizes 376 136)
+    else if machine == 258 then Some (sizes 480 136)
     else None
 
 abbrev pub core_sizes : Class → ℕ → Option CoreSizes
 core_sizes ELF32 machine = short_sizes machine
 core_sizes ELF64 machine = long_sizes machine
+
+abbrev pub is_short : Class → Bool
+is_short ELF32 = true
+is_short ELF64 = false
 
 -- ---- NT_PRSTATUS: elf_prstatus
 
@@ -75,10 +82,18 @@ status_fields file bytes =
     option_and_then (λ signal. option_map (λ pid. record { signal = signal; pid = pid })
     (number_in file.is_little bytes (pid_offset file.class))) (short_in file bytes 12)
 
+-- of the ABI n32 of MIPS (EM_MIPS), whose registers have 64 bits
+abbrev pub is_n32_status : NoteFile → List ℕ → Bool
+is_n32_status file bytes = is_short file.class && file.machine == 8 && length bytes == 440
+
+abbrev pub is_status : NoteFile → List ℕ → Bool
+is_status file bytes = elim (core_sizes file.class file.machine) [
+  | Some known ↦ length bytes == known.status || is_n32_status file bytes
+  | None ↦ false
+]
+
 abbrev pub status_in : NoteFile → List ℕ → Option ProcessStatus
-status_in file bytes =
-    option_and_then (λ known. if length bytes == known.status then status_fields file bytes else None)
-    (core_sizes file.class file.machine)
+status_in file bytes = if is_status file bytes then status_fields file bytes else None
 
 abbrev pub status_members : Part → ℕ → ProcessStatus → Members
 status_members part i status =

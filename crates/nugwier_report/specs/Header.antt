@@ -2,10 +2,10 @@
 use Rattle.std.specs.Prelude.{ℕ, Bool, List, [], ◌∷◌, Option, Some, codes, nat_eq, if◌then◌else◌}
 use Rattle.std.specs.Option.{option_map}
 use Rattle.elf_abi.specs.HeaderNames.{e_osabi_names, e_type_names}
-use Rattle.elf_abi.specs.MachineNames.{e_machine_names}
 use Rattle.elf_abi.specs.Names.{name_of}
 use Rattle.elf_abi.specs.Values.{elfclass32, elfclass64, elfdata2lsb, elfdata2msb}
 use Rattle.elf_names.specs.Flags.{file_flags}
+use Rattle.elf_names.specs.Machines.{machine_name}
 use Rattle.elf_records.specs.declared.file.Class.{Class}
 use Rattle.elf_records.specs.declared.file.Class.TheVariants.{ELF32, ELF64}
 use Rattle.elf_records.specs.declared.file.FileHeader.{FileHeader}
@@ -46,7 +46,7 @@ header_members little h kind =
     ∷ (codes "e_type", number h.e_type)
     ∷ (codes "e_type_name", word (name_of nat_eq e_type_names h.e_type))
     ∷ (codes "e_machine", number h.e_machine)
-    ∷ (codes "e_machine_name", word (name_of nat_eq e_machine_names h.e_machine))
+    ∷ (codes "e_machine_name", word (machine_name h.e_machine))
     ∷ (codes "e_version", number h.version)
     ∷ (codes "e_entry", number h.e_entry)
     ∷ (codes "e_phoff", number h.e_phoff)

@@ -1,5 +1,5 @@
 -- The kinds of records: the name of each in an object of JSON, and the text and the columns of its row for people.
-use Rattle.std.specs.Prelude.{ℕ, List, Option}
+use Rattle.std.specs.Prelude.{ℕ, Bool, true, false, List, Option}
 use Rattle.std.specs.Option.{option_map}
 use Rattle.nugwier_report.specs.declared.kind.Kind.{Kind}
 use Rattle.nugwier_report.specs.declared.kind.Kind.TheVariants as kind
@@ -81,6 +81,8 @@ layout_of kind.Verdaux = constant layout.VERDAUX
 layout_of kind.VerdefEnd = constant layout.VERDEF_END
 layout_of kind.Verneed = constant layout.VERNEED
 layout_of kind.Vernaux = constant layout.VERNAUX
+layout_of kind.ChainsHeading = constant layout.CHAINS_HEADING
+layout_of kind.ChainLength = constant layout.CHAIN_LENGTH
 layout_of kind.BytesHeading = constant layout.BYTES_HEADING
 layout_of kind.StringsHeading = constant layout.STRINGS_HEADING
 layout_of kind.NoBytes = constant layout.NO_BYTES
@@ -105,3 +107,25 @@ layout_of kind.BoundAddress = constant layout.BOUND_ADDRESS
 layout_of kind.Unbound = constant layout.UNBOUND
 layout_of kind.UnboundAddress = constant layout.UNBOUND_ADDRESS
 layout_of kind.SameAddress = constant layout.SAME_ADDRESS
+
+-- the kinds whose records may be bold
+abbrev pub is_heading : Kind → Bool
+is_heading kind.FileHeading = true
+is_heading kind.NextFileHeading = true
+is_heading kind.SectionsHeading = true
+is_heading kind.SegmentsHeading = true
+is_heading kind.SegmentSectionsHeading = true
+is_heading kind.SymbolsHeading = true
+is_heading kind.DynamicSymbolsHeading = true
+is_heading kind.EntriesHeading = true
+is_heading kind.RelocationsHeading = true
+is_heading kind.RelocationTableHeading = true
+is_heading kind.SectionNotesHeading = true
+is_heading kind.SegmentNotesHeading = true
+is_heading kind.DefinedHeading = true
+is_heading kind.NeededHeading = true
+is_heading kind.ChainsHeading = true
+is_heading kind.BytesHeading = true
+is_heading kind.StringsHeading = true
+is_heading kind.MappingsHeading = true
+is_heading other = false

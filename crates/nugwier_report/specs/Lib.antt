@@ -46,6 +46,7 @@ pub mod VersionRecords
 pub mod Dynamic
 pub mod Relocations
 pub mod Groups
+pub mod Chains
 pub mod Verdicts
 -- how a file is hardened
 pub mod Hardening

@@ -105,6 +105,7 @@ fault_text (fault.System e) = None
 fault_text fault.Missing = words (codes "the file has none")
 fault_text fault.Repeated = words (codes "left out: those up to here have more bytes than the file")
 fault_text fault.TooMany = words (codes "too many to list those of each segment")
+fault_text fault.LongChains = words (codes "its chains do not end, or share symbols")
 fault_text fault.NoAddress = words (codes "no entry DT_STRTAB gives their address")
 fault_text fault.NoSize = words (codes "no entry DT_STRSZ gives their size")
 fault_text (fault.NotLoaded address) =

@@ -1,11 +1,10 @@
 -- What is said of relocations (gABI, chapter "Relocation").
 use Rattle.std.specs.Prelude.{ℕ, ◌/◌, ◌%◌, ◌==◌, ◌&&◌, ℤ, Bool, if◌then◌else◌, List, [], ◌∷◌, ◌++◌, Option, Some, None}
-use Rattle.std.specs.Prelude.{Result, Ok, codes, false, nat_eq, take, unwrap_or}
+use Rattle.std.specs.Prelude.{Result, Ok, codes, false, take, unwrap_or}
 use Rattle.std.specs.Option.{option_map}
 use Rattle.std.specs.Result.{result_ok}
-use Rattle.elf_abi.specs.Names.{name_of}
 use Rattle.elf_abi.specs.declared.abi.TheConstants.{EM_MIPS}
-use Rattle.elf_names.specs.Relocations.{relocation_types}
+use Rattle.elf_names.specs.Relocations.{relocation_type_name}
 use Rattle.elf_parts.specs.gnu_symver.Table.{Versions}
 use Rattle.elf_records.specs.Number.{ok_map}
 use Rattle.elf_records.specs.Record.{◌>>=◌}
@@ -135,7 +134,7 @@ table_name (part.Relocations table) = Some (tag_name table)
 table_name _ = None
 
 abbrev pub type_name : Machine → ℕ → Option (List ℕ)
-type_name machine r_type = name_of nat_eq (relocation_types machine.e_machine) r_type
+type_name machine r_type = relocation_type_name machine.e_machine r_type
 
 abbrev pub addend_of : Option ℤ → Content
 addend_of (Some n) = signed n

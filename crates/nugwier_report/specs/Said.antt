@@ -10,6 +10,7 @@ use Rattle.nugwier_report.specs.declared.problem.Fault.TheVariants.{Read}
 use Rattle.nugwier_report.specs.declared.problem.Item.TheVariants.{Whole}
 use Rattle.nugwier_report.specs.declared.problem.Part.{Part}
 use Rattle.nugwier_report.specs.declared.problem.Place.{Place}
+use Rattle.nugwier_report.specs.declared.report.Format.{Format}
 
 -- the value of a member
 pub data Content : Type 0 where
@@ -69,7 +70,7 @@ all_right (s ∷ said) = is_right_one s && all_right said
 -- problems had, whether a write of a record failed, and what was said
 pub record Telling : Type 0 where
   pub path : List ℕ
-  pub is_json : Bool
+  pub format : Format
   pub named : Named
   pub start : Option (List ℕ)
   pub told_start : Option (List ℕ)

@@ -1,5 +1,5 @@
 -- Rows for people.
-use Rattle.std.specs.Prelude.{ℕ, ◌+◌, ◌-◌, ◌*◌, ◌/◌, ◌==◌, ℤ, Bool, false, true, if◌then◌else◌, nat_lt, suc, pos}
+use Rattle.std.specs.Prelude.{ℕ, ◌+◌, ◌-◌, ◌*◌, ◌/◌, ◌%◌, ◌==◌, ℤ, Bool, false, true, if◌then◌else◌, nat_lt, suc, pos}
 use Rattle.std.specs.Prelude.{negsuc, bit_and, List, [], ◌∷◌}
 use Rattle.std.specs.Prelude.{Option, Some, None, ◌&&◌, codes, drop, length, nat_le, replicate, take, zero}
 use Rattle.std.specs.Fmt.{decimal, digits, signed_decimal}
@@ -70,6 +70,21 @@ shown_number form _ = codes "-"
 abbrev pub shown_signed : Content → List ℕ
 shown_signed (signed n) = signed_decimal n
 shown_signed _ = codes "-"
+
+-- how many tenths of a percent a number is of another one, rounded to the nearest, and to an even one if two are
+abbrev pub tenths : ℕ → ℕ → ℕ
+tenths n all =
+    let whole = n * 1000 / all in
+    let rest = 2 * (n * 1000 % all) in
+    if nat_lt rest all then whole else if nat_lt all rest then whole + 1 else whole + whole % 2
+
+unfoldable pub percent : ℕ → List ℕ
+percent n = shown_decimal 3 (n / 10) ⧺ codes "." ⧺ decimal (n % 10) ⧺ codes "%"
+
+-- the share of a number in another one; a number above that one, and any share of 0, has none
+abbrev pub shown_percent : Content → Content → List ℕ
+shown_percent (number n) (number all) = if nat_lt 0 all && nat_le n all then percent (tenths n all) else codes "     -"
+shown_percent n all = codes "     -"
 
 -- in hexadecimal, with this before it if it is not negative
 abbrev pub signed_hex : List ℕ → ℤ → List ℕ
@@ -173,6 +188,10 @@ left_out n = if n == 0 then [] else count_left_out n
 abbrev pub front_of : ℕ → List ℕ → List ℕ
 front_of most content = hex_of (take most content) ⧺ left_out (length content - most)
 
+-- in a wide row all
+abbrev pub shown_front : Bool → ℕ → List ℕ → List ℕ
+shown_front is_wide most content = if is_wide then hex_of content else front_of most content
+
 -- ---- bytes, 16 in a line
 
 abbrev pub bytes_in : Content → List ℕ
@@ -228,31 +247,43 @@ content_of_one None = nothing
 abbrev pub content_at : Members → ℕ → Content
 content_at members place = content_of_one (slice_get members place)
 
-abbrev pub shown : Shown → Content → Members → List ℕ
-shown (shows.Addend symbol) c members = shown_addend c (content_at members symbol)
-shown (shows.Name skipped width n) c members = shown_name skipped width c (content_at members n)
-shown (shows.Index width n) c members = shown_index width c (content_at members n)
-shown shows.Text c members = shown_text c
-shown (shows.Padded width) c members = shown_padded width (text_in c)
-shown (shows.Version place) c members = shown_version c (content_at members place)
-shown (shows.Flags count) c members = shown_flags count c
-shown shows.Character c members = shown_character c
-shown shows.Signed c members = shown_signed c
-shown shows.Pairs c members = hex_of (bytes_in c)
-shown (shows.Front most) c members = front_of most (bytes_in c)
-shown (shows.Dump address) c members = dump (number_in (content_at members address)) (bytes_in c)
-shown form c members = shown_number form c
-
--- the member of a column
-abbrev pub cell : Members → Column → List ℕ
-cell members column = shown column.1 (content_at members column.0) members
-
 -- the byte in the text of a row (the percent sign) in whose place a column stands
 abbrev pub is_mark : ℕ → Bool
 is_mark b = b == 37
 
--- the text of a row, with the columns in the places of its marks
-abbrev pub row_text : Members → List ℕ → List Column → List ℕ
-row_text members row [] = row
-row_text members row (column ∷ columns) =
-    before_first is_mark row ⧺ cell members column ⧺ row_text members (after_first is_mark row) columns
+-- in wide rows, or in narrow ones
+module _ (is_wide : Bool) where
+  abbrev pub shown : Shown → Content → Members → List ℕ
+  shown (shows.Addend symbol) c members = shown_addend c (content_at members symbol)
+  shown (shows.Name skipped width n) c members = shown_name skipped width c (content_at members n)
+  shown (shows.Index width n) c members = shown_index width c (content_at members n)
+  shown shows.Text c members = shown_text c
+  shown (shows.Padded width) c members = shown_padded width (text_in c)
+  shown (shows.Version place) c members = shown_version c (content_at members place)
+  shown (shows.Flags count) c members = shown_flags count c
+  shown shows.Character c members = shown_character c
+  shown shows.Signed c members = shown_signed c
+  shown (shows.Percent all) c members = shown_percent c (content_at members all)
+  shown shows.Pairs c members = hex_of (bytes_in c)
+  shown (shows.Front most) c members = shown_front is_wide most (bytes_in c)
+  shown (shows.Dump address) c members = dump (number_in (content_at members address)) (bytes_in c)
+  shown form c members = shown_number form c
+
+  -- the member of a column
+  abbrev pub cell : Members → Column → List ℕ
+  cell members column = shown column.1 (content_at members column.0) members
+
+  -- the text of a row, with the columns in the places of its marks
+  abbrev pub row_text : Members → List ℕ → List Column → List ℕ
+  row_text members row [] = row
+  row_text members row (column ∷ columns) =
+      before_first is_mark row ⧺ cell members column ⧺ row_text members (after_first is_mark row) columns
+
+-- ---- bold text
+
+-- between the escape sequences that begin and end it (ECMA-48, SGR); 27 is ESC
+unfoldable pub framed : List ℕ → List ℕ
+framed row = (27 ∷ codes "[1m") ⧺ row ⧺ (27 ∷ codes "[0m")
+
+abbrev pub bold_if : Bool → List ℕ → List ℕ
+bold_if is_bold row = if is_bold then framed row else row

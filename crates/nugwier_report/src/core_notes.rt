@@ -5,7 +5,8 @@ ghost use Rattle.elf_names.specs.Table.{rows_of};
 ghost use Rattle.nugwier_report.specs.CoreNotes.{auxiliary_said, auxiliary_types, code_offset, core_said, core_sizes};
 ghost use Rattle.nugwier_report.specs.CoreNotes.{entries_said, entry_in, entry_members, entry_said, error_offset};
 ghost use Rattle.nugwier_report.specs.CoreNotes.{files_in, files_members, files_said, is_auxiliary, is_core_note};
-ghost use Rattle.nugwier_report.specs.CoreNotes.{is_process, long_sizes, mapped_in, mapped_members, mapped_said};
+ghost use Rattle.nugwier_report.specs.CoreNotes.{is_n32_status, is_process, is_status, long_sizes, mapped_in};
+ghost use Rattle.nugwier_report.specs.CoreNotes.{mapped_members, mapped_said};
 ghost use Rattle.nugwier_report.specs.CoreNotes.{mappings_in, mappings_said, names_at, nul_count, pid_offset};
 ghost use Rattle.nugwier_report.specs.CoreNotes.{process_arguments, process_members, process_name, process_said};
 ghost use Rattle.nugwier_report.specs.CoreNotes.{short_in, short_sizes, signal_fields, signal_in, signal_members};
@@ -80,6 +81,7 @@ fn short_sizes(machine: u16) -> Option<CoreSizes>
         abi::EM_PPC => Some(sizes(268, 128)),
         abi::EM_S390 => Some(sizes(224, 124)),
         abi::EM_ARM => Some(sizes(148, 124)),
+        abi::EM_X86_64 => Some(sizes(296, 124)),
         abi::EM_RISCV => Some(sizes(204, 128)),
         _ => None,
     }
@@ -96,6 +98,7 @@ fn long_sizes(machine: u16) -> Option<CoreSizes>
         abi::EM_X86_64 => Some(sizes(336, 136)),
         abi::EM_AARCH64 => Some(sizes(392, 136)),
         abi::EM_RISCV => Some(sizes(376, 136)),
+        abi::EM_LOONGARCH => Some(sizes(480, 136)),
         _ => None,
     }
 }
@@ -145,11 +148,27 @@ fn status_fields(file: NoteFile, bytes: &[u8]) -> Option<ProcessStatus>
 fn status_in(file: NoteFile, bytes: &[u8]) -> Option<ProcessStatus>
     ensures { result ≡ status_in file bytes.now }
 {
-    if bytes.len() == core_sizes(file.class, file.machine)?.status {
+    if is_status(file, bytes) {
         status_fields(file, bytes)
     } else {
         None
     }
+}
+
+fn is_status(file: NoteFile, bytes: &[u8]) -> bool
+    ensures { result ≡ is_status file bytes.now }
+{
+    match core_sizes(file.class, file.machine) {
+        Some(known) => bytes.len() == known.status || is_n32_status(file, bytes),
+        None => false,
+    }
+}
+
+// Whether it is one of the ABI n32 of MIPS, whose registers have 64 bits.
+fn is_n32_status(file: NoteFile, bytes: &[u8]) -> bool
+    ensures { result ≡ is_n32_status file bytes.now }
+{
+    matches!(file.class, Class::ELF32) && file.machine == abi::EM_MIPS && bytes.len() == 440
 }
 
 fn say_status<W: Write, V: Write>(

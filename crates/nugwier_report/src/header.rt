@@ -12,6 +12,7 @@ use crate::problem::Stop;
 use crate::report::Report;
 use elf_abi::{abi, to_str};
 use elf_names::flags::file_flags;
+use elf_names::machines::machine_name;
 use elf_parts::endian::EndianParse;
 use elf_parts::file::{Class, FileHeader};
 use std::io::Write;
@@ -55,7 +56,7 @@ fn header_members<E: EndianParse>(
         ("e_machine", Value::Number(header.e_machine as u64)),
         (
             "e_machine_name",
-            Value::Word(to_str::e_machine_to_str(header.e_machine)),
+            Value::Word(machine_name(header.e_machine)),
         ),
         ("e_version", Value::Number(header.version as u64)),
         ("e_entry", Value::Number(header.e_entry)),

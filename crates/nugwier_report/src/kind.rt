@@ -2,12 +2,12 @@
 //! column stands in the place of each `%` in the text.
 ghost use Rattle.std.specs.Prelude.{◌≡◌};
 ghost use Rattle.std.specs.Option.{option_copied};
-ghost use Rattle.nugwier_report.specs.Kinds.{layout_of};
+ghost use Rattle.nugwier_report.specs.Kinds.{is_heading, layout_of};
 
 use crate::text::Column;
 use crate::text::Shown::{
     Addend, Character, Decimal, Depth, Digits, Digits8, Digits16, Dump, Flags, Front, Hexadecimal,
-    Index, Name, Order, Padded, Pairs, SectionFlags, SegmentFlags, Signed, Text, Version,
+    Index, Name, Order, Padded, Pairs, Percent, SectionFlags, SegmentFlags, Signed, Text, Version,
 };
 
 /// A kind of record.
@@ -143,6 +143,10 @@ pub enum Kind {
     Verneed,
     /// A version that is needed.
     Vernaux,
+    /// The heading of the chains of a hash section: its number, its name and the number of its buckets.
+    ChainsHeading,
+    /// How many buckets of a hash section have a chain of a length.
+    ChainLength,
     /// The heading of the bytes of a section: its number and its name.
     BytesHeading,
     /// The heading of the strings of a section.
@@ -270,6 +274,8 @@ impl Kind {
             Kind::VerdefEnd => VERDEF_END,
             Kind::Verneed => VERNEED,
             Kind::Vernaux => VERNAUX,
+            Kind::ChainsHeading => CHAINS_HEADING,
+            Kind::ChainLength => CHAIN_LENGTH,
             Kind::BytesHeading => BYTES_HEADING,
             Kind::StringsHeading => STRINGS_HEADING,
             Kind::NoBytes => NO_BYTES,
@@ -294,6 +300,22 @@ impl Kind {
             Kind::Unbound => UNBOUND,
             Kind::UnboundAddress => UNBOUND_ADDRESS,
             Kind::SameAddress => SAME_ADDRESS,
+        }
+    }
+
+    /// Whether records of the kind are headings, which may be bold.
+    pub fn is_heading(self) -> bool
+        ensures { result ≡ is_heading self }
+    {
+        match self {
+            Kind::FileHeading | Kind::NextFileHeading => true,
+            Kind::SectionsHeading | Kind::SegmentsHeading | Kind::SegmentSectionsHeading => true,
+            Kind::SymbolsHeading | Kind::DynamicSymbolsHeading | Kind::EntriesHeading => true,
+            Kind::RelocationsHeading | Kind::RelocationTableHeading => true,
+            Kind::SectionNotesHeading | Kind::SegmentNotesHeading => true,
+            Kind::DefinedHeading | Kind::NeededHeading | Kind::ChainsHeading => true,
+            Kind::BytesHeading | Kind::StringsHeading | Kind::MappingsHeading => true,
+            _ => false,
         }
     }
 }
@@ -811,6 +833,27 @@ pub const VERNAUX: Layout = (
         Column(4, Decimal(5)),
         Column(3, Hexadecimal),
         Column(6, Text),
+    ],
+);
+
+pub const CHAINS_HEADING: Layout = (
+    None,
+    "Buckets of hash section % (%) by the length of their chains, % in all:\n  length   buckets   share  coverage\n",
+    &[
+        Column(0, Decimal(0)),
+        Column(1, Text),
+        Column(2, Decimal(0)),
+    ],
+);
+
+pub const CHAIN_LENGTH: Layout = (
+    Some("chain_length"),
+    "% %  %    %\n",
+    &[
+        Column(1, Decimal(8)),
+        Column(2, Decimal(9)),
+        Column(2, Percent(3)),
+        Column(4, Percent(5)),
     ],
 );
 

@@ -6,6 +6,7 @@
 pub mod addresses;
 pub mod bindings;
 pub mod build_id;
+pub mod chains;
 pub mod contents;
 mod core_notes;
 mod descriptors;

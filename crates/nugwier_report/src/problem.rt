@@ -141,6 +141,8 @@ pub enum Fault<'a> {
     Repeated,
     /// There are too many to list those of each segment.
     TooMany,
+    /// The chains of a hash section have more symbols than the section has chain words.
+    LongChains,
     /// No entry gives the address of the strings.
     NoAddress,
     /// No entry gives the size of the strings.
@@ -196,6 +198,7 @@ impl fmt::Display for Fault<'_> {
                 f.write_str("left out: those up to here have more bytes than the file")
             }
             Fault::TooMany => f.write_str("too many to list those of each segment"),
+            Fault::LongChains => f.write_str("its chains do not end, or share symbols"),
             Fault::NoAddress => f.write_str("no entry DT_STRTAB gives their address"),
             Fault::NoSize => f.write_str("no entry DT_STRSZ gives their size"),
             Fault::NotLoaded(address) => {

@@ -26,8 +26,7 @@ use crate::text::first_of;
 use crate::versions::{ShownVersion, shown_version};
 use elf_abi::abi;
 use elf_dynamic::relr::RelrIterator;
-use elf_names::relocations::relocation_types;
-use elf_names::table::name_in;
+use elf_names::relocations::relocation_type_name;
 use elf_parts::endian::EndianParse;
 use elf_parts::file::Class;
 use elf_parts::gnu_symver::SymbolVersions;
@@ -399,7 +398,7 @@ fn members_of<'a>(
 fn type_name(machine: Machine, r_type: u32) -> Option<&'static str>
     ensures { option_copied result ≡ type_name machine r_type }
 {
-    name_in(relocation_types(machine.e_machine), r_type)
+    relocation_type_name(machine.e_machine, r_type)
 }
 
 fn addend_of(addend: Option<i64>) -> Value<'static>

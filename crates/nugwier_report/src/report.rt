@@ -7,7 +7,7 @@ ghost use Rattle.nugwier_report.specs.Labels.{named_by};
 ghost use Rattle.nugwier_report.specs.Noted.{members_said, noted};
 ghost use Rattle.nugwier_report.specs.Problems.{AreProblemsTold, problem_line};
 ghost use Rattle.nugwier_report.specs.Said.{all_right, is_right_one, saying, states, unread, wrong};
-ghost use Rattle.nugwier_report.specs.Told.{IsTold, object_if, told_line};
+ghost use Rattle.nugwier_report.specs.Told.{IsTold, object_if, text_of, told_line};
 
 use crate::escape::Escaped;
 use crate::json::{Member, write_object};
@@ -15,19 +15,28 @@ use crate::kind::Kind;
 use crate::log::{Log, Note};
 use crate::names::Labels;
 use crate::problem::{Fault, Place, Stop, Told};
-use crate::text::write_row;
+use crate::text::{Style, write_row};
 use elf_parts::parse::ParseError;
 use std::alloc::Global;
 use std::io;
 use std::io::Write;
 use std::marker::Model;
 
+/// How records are written.
+#[derive(Debug, Clone, Copy)]
+pub enum Format {
+    /// As objects of JSON.
+    Json,
+    /// As rows for people.
+    Text(Style),
+}
+
 /// A report of the file of this path. Contracts see what was said.
 #[derive(Drop)]
 pub struct Report<'p, W: Write, V: Write> {
     alloc: Global,
     path: &'p str,
-    is_json: bool,
+    format: Format,
     labels: Labels<'p>,
     out: W,
     err: V,
@@ -59,7 +68,7 @@ impl<'p, W: Write, V: Write> Model for Report<'p, W, V> {
 
     ghost view = { λ r. record {
       path = r.path.now;
-      is_json = r.is_json;
+      format = r.format;
       named = named_by r.labels;
       start = W.contents r.log.start;
       told_start = V.contents r.told.start;
@@ -69,7 +78,7 @@ impl<'p, W: Write, V: Write> Model for Report<'p, W, V> {
     } };
 
     ghost invariant = { λ r. (r.is_lost
-        ≡ false → IsTold r.is_json r.path.now (W.contents r.log.start) (W.contents r.out) r.log.said)
+        ≡ false → IsTold r.format r.path.now (W.contents r.log.start) (W.contents r.out) r.log.said)
         × (r.is_right ≡ all_right r.log.said)
         × (r.is_told ≡ true → AreProblemsTold r.path.now (named_by r.labels) (V.contents r.told.start)
         (V.contents r.err) r.log.said) };
@@ -80,14 +89,14 @@ impl<'p, W: Write, V: Write> Report<'p, W, V> {
     pub fn new(
         alloc: Global,
         path: &'p str,
-        is_json: bool,
+        format: Format,
         labels: Labels<'p>,
         out: W,
         err: V,
     ) -> Report<'p, W, V>
         ensures { result ≡ record {
           path = path.now;
-          is_json = is_json;
+          format = format;
           named = named_by labels.entry;
           start = W.contents out;
           told_start = V.contents err;
@@ -101,7 +110,7 @@ impl<'p, W: Write, V: Write> Report<'p, W, V> {
         Report {
             alloc,
             path,
-            is_json,
+            format,
             labels,
             out,
             err,
@@ -117,14 +126,14 @@ impl<'p, W: Write, V: Write> Report<'p, W, V> {
     pub fn end(self) -> (Summary, W, V)
         ensures right { result.0.is_right ≡ all_right self.entry.said }
         ensures text { self.entry.is_lost
-            ≡ false → IsTold self.entry.is_json self.entry.path self.entry.start (W.contents result.1) self.entry.said }
+            ≡ false → IsTold self.entry.format self.entry.path self.entry.start (W.contents result.1) self.entry.said }
         ensures problems { result.0.is_told ≡ true → AreProblemsTold self.entry.path self.entry.named
             self.entry.told_start (V.contents result.2) self.entry.said }
     {
         let Report {
             alloc: _,
             path: _,
-            is_json: _,
+            format: _,
             labels: _,
             out,
             err,
@@ -143,7 +152,7 @@ impl<'p, W: Write, V: Write> Report<'p, W, V> {
     {
         let note = Note::States(kind, members);
         self.log = self.log.then(&note);
-        if let Err(error) = write_note(self.path, self.is_json, &note, &mut self.out) {
+        if let Err(error) = write_note(self.path, self.format, &note, &mut self.out) {
             self.is_lost = true;
             return Err(Stop::Write(error));
         }
@@ -188,18 +197,31 @@ impl<'p, W: Write, V: Write> Report<'p, W, V> {
 }
 
 // Writes what is said, if it is not wrong.
-fn write_note<W: Write>(path: &str, is_json: bool, note: &Note<'_>, out: &mut W) -> io::Result<()>
+fn write_note<W: Write>(path: &str, format: Format, note: &Note<'_>, out: &mut W) -> io::Result<()>
     ensures { OnOk result (Appends (W.contents out.old) (W.contents out.new)
-        (told_line is_json path.now (noted note.now))) }
+        (told_line format path.now (noted note.now))) }
 {
-    match *note {
-        Note::States(kind, members) if is_json => write_named(path, kind, members, out),
-        Note::States(kind, members) => {
-            let (_, row, columns) = kind.layout();
-            write_row(row, columns, members, out)
+    match (*note, format) {
+        (Note::States(kind, members), Format::Json) => write_named(path, kind, members, out),
+        (Note::States(kind, members), Format::Text(style)) => {
+            write_text(style, kind, members, out)
         }
-        Note::Wrong(_, _) => Ok(()),
+        (Note::Wrong(_, _), _) => Ok(()),
     }
+}
+
+// Writes the row of a record.
+fn write_text<W: Write>(
+    style: Style,
+    kind: Kind,
+    members: &[Member<'_>],
+    out: &mut W,
+) -> io::Result<()>
+    ensures { OnOk result (Appends (W.contents out.old) (W.contents out.new)
+        (text_of style kind (members_said members.now))) }
+{
+    let (_, row, columns) = kind.layout();
+    write_row(style, kind.is_heading(), row, columns, members, out)
 }
 
 // Writes an object, if the kind of the record has a name.

@@ -1,5 +1,5 @@
 //! Rows for people: a text for each record, by the columns of its kind.
-ghost use Rattle.std.specs.Prelude.{◌≡◌, ◌+◌, ◌-◌, ◌*◌, ◌/◌, OnOk, drop, length, replicate, take};
+ghost use Rattle.std.specs.Prelude.{◌≡◌, ◌+◌, ◌-◌, ◌*◌, ◌/◌, ◌<◌, ◌≤◌, ◌&&◌, OnOk, drop, length, replicate, take};
 ghost use Rattle.std.specs.Fmt.{decimal};
 ghost use Rattle.std.specs.Io.KnownBytes.{Appends};
 ghost use Rattle.std.specs.List.{after_first, before_first, flat_map};
@@ -14,7 +14,8 @@ ghost use Rattle.nugwier_report.specs.Text.{left_of, letters_of, nameless_number
 ghost use Rattle.nugwier_report.specs.Text.{other_flags};
 ghost use Rattle.nugwier_report.specs.Text.{row_text, section_letter, segment_flags, segment_letter, shown, shown_addend};
 ghost use Rattle.nugwier_report.specs.Text.{shown_character, shown_decimal, shown_flag, shown_flags, shown_index, shown_name, shown_nameless};
-ghost use Rattle.nugwier_report.specs.Text.{shown_number, shown_order, shown_padded, shown_signed, shown_text, signed_hex};
+ghost use Rattle.nugwier_report.specs.Text.{shown_front, shown_number, shown_order, shown_padded, shown_percent};
+ghost use Rattle.nugwier_report.specs.Text.{bold_if, framed, percent, shown_signed, shown_text, signed_hex, tenths};
 ghost use Rattle.nugwier_report.specs.Text.{shown_version, text_in, wide};
 
 use crate::escape::add_shown;
@@ -41,6 +42,8 @@ pub enum Shown {
     Digits16,
     /// A number with a sign, in decimal.
     Signed,
+    /// The share of a number in the one at this place, in percent. A number above that one has none, nor has any of 0.
+    Percent(usize),
     /// The byte order that a number of `EI_DATA` stands for.
     Order,
     /// The flags of a section or of a segment, as letters.
@@ -71,7 +74,7 @@ pub enum Shown {
     Character,
     /// Bytes, as two digits each.
     Pairs,
-    /// The same of the first ones, at most this number, and how many are left out.
+    /// The same of the first ones, at most this number, and how many are left out. Wide rows have all.
     Front(usize),
     /// Bytes, 16 in a line: the address of the first, their digits, and the characters of ASCII that they are. The
     /// number at this place is the address of the first byte of all.
@@ -82,22 +85,41 @@ pub enum Shown {
 #[derive(Clone, Copy)]
 pub struct Column(pub usize, pub Shown);
 
-/// Writes the row of a record: this text, with a column in the place of each `%`.
+/// How rows are written.
+#[derive(Debug, Clone, Copy)]
+pub struct Style {
+    /// Whether long bytes are shown as a whole.
+    pub is_wide: bool,
+    /// Whether headings are bold.
+    pub is_bold: bool,
+}
+
+/// Writes the row of a record: this text, with a column in the place of each `%`. A heading may be bold.
 pub fn write_row<W: Write>(
+    style: Style,
+    is_heading: bool,
     row: &str,
     columns: &[Column],
     members: &[Member<'_>],
     out: &mut W,
 ) -> io::Result<()>
     ensures { OnOk result (Appends (W.contents out.old) (W.contents out.new)
-        (row_text (members_said members.now) row.now columns.now)) }
+        (bold_if (style.is_bold && is_heading)
+        (row_text style.is_wide (members_said members.now) row.now columns.now))) }
 {
     let mut lines = LineBuffer::empty();
-    add_cells(row, columns, members, &mut lines, out);
+    if style.is_bold && is_heading {
+        add_bold(style.is_wide, row, columns, members, &mut lines, out);
+    } else {
+        add_cells(style.is_wide, row, columns, members, &mut lines, out);
+    }
     lines.end(out)
 }
 
-fn add_cells<W: Write>(
+// Adds a row between the escape sequences that begin and end bold text (ECMA-48, SGR).
+#[tactic(auto, unfolding(crate::specs::Text::framed))]
+fn add_bold<W: Write>(
+    is_wide: bool,
     row: &str,
     columns: &[Column],
     members: &[Member<'_>],
@@ -105,13 +127,29 @@ fn add_cells<W: Write>(
     out: &mut W,
 )
     ensures { Adds (W.contents out.old) lines.old (W.contents out.new) lines.new
-        (row_text (members_said members.now) row.now columns.now) }
+        (framed (row_text is_wide (members_said members.now) row.now columns.now)) }
+{
+    lines.text("\x1b[1m", out);
+    add_cells(is_wide, row, columns, members, lines, out);
+    lines.text("\x1b[0m", out);
+}
+
+fn add_cells<W: Write>(
+    is_wide: bool,
+    row: &str,
+    columns: &[Column],
+    members: &[Member<'_>],
+    lines: &mut LineBuffer,
+    out: &mut W,
+)
+    ensures { Adds (W.contents out.old) lines.old (W.contents out.new) lines.new
+        (row_text is_wide (members_said members.now) row.now columns.now) }
 {
     let mut rest = row;
     for column in columns {
         let (before, after) = at_mark(rest);
         lines.text(before, out);
-        add_cell(*column, members, lines, out);
+        add_cell(is_wide, *column, members, lines, out);
         rest = after;
     }
     lines.text(rest, out);
@@ -128,12 +166,18 @@ fn at_mark(row: &str) -> (&str, &str)
     }
 }
 
-fn add_cell<W: Write>(column: Column, members: &[Member<'_>], lines: &mut LineBuffer, out: &mut W)
+fn add_cell<W: Write>(
+    is_wide: bool,
+    column: Column,
+    members: &[Member<'_>],
+    lines: &mut LineBuffer,
+    out: &mut W,
+)
     ensures { Adds (W.contents out.old) lines.old (W.contents out.new) lines.new
-        (cell (members_said members.now) column) }
+        (cell is_wide (members_said members.now) column) }
 {
     let value = value_at(members, column.0);
-    add_value(column.1, value, members, lines, out);
+    add_value(is_wide, column.1, value, members, lines, out);
 }
 
 // The value of the member at a place.
@@ -147,6 +191,7 @@ fn value_at<'a>(members: &[Member<'a>], place: usize) -> Value<'a>
 }
 
 fn add_value<W: Write>(
+    is_wide: bool,
     form: Shown,
     value: Value<'_>,
     members: &[Member<'_>],
@@ -154,7 +199,7 @@ fn add_value<W: Write>(
     out: &mut W,
 )
     ensures { Adds (W.contents out.old) lines.old (W.contents out.new) lines.new
-        (shown form (content_of value.entry) (members_said members.now)) }
+        (shown is_wide form (content_of value.entry) (members_said members.now)) }
 {
     match form {
         Shown::Addend(symbol) => add_addend(value, value_at(members, symbol), lines, out),
@@ -171,8 +216,9 @@ fn add_value<W: Write>(
         Shown::Flags(count) => add_flag_names(count, value, lines, out),
         Shown::Character => add_character(value, lines, out),
         Shown::Signed => add_signed(value, lines, out),
+        Shown::Percent(all) => add_share(value, value_at(members, all), lines, out),
         Shown::Pairs => lines.bytes("", bytes_in(value), out),
-        Shown::Front(most) => add_front(most, bytes_in(value), lines, out),
+        Shown::Front(most) => add_front_or_all(is_wide, most, bytes_in(value), lines, out),
         Shown::Dump(address) => {
             let address = number_in(value_at(members, address));
             add_dump(address, bytes_in(value), lines, out);
@@ -285,6 +331,45 @@ fn add_signed<W: Write>(value: Value<'_>, lines: &mut LineBuffer, out: &mut W)
         Value::Signed(n) => lines.signed("", n, out),
         _ => lines.text("-", out),
     }
+}
+
+fn add_share<W: Write>(number: Value<'_>, all: Value<'_>, lines: &mut LineBuffer, out: &mut W)
+    ensures { Adds (W.contents out.old) lines.old (W.contents out.new) lines.new
+        (shown_percent (content_of number.entry) (content_of all.entry)) }
+{
+    match (number, all) {
+        (Value::Number(n), Value::Number(all)) if 0 < all && n <= all => {
+            add_percent(tenths(n, all), lines, out);
+        }
+        _ => lines.text("     -", out),
+    }
+}
+
+// How many tenths of a percent a number is of another one, rounded to the nearest, and to an even one if two are.
+fn tenths(n: u64, all: u64) -> u64
+    requires some { 0 < all }
+    requires part { n ≤ all }
+    ensures { result ≡ tenths n all }
+{
+    let scaled = n as u128 * 1000;
+    let whole = (scaled / all as u128) as u64;
+    let rest = 2 * (scaled % all as u128);
+    if rest < all as u128 {
+        whole
+    } else if (all as u128) < rest {
+        whole + 1
+    } else {
+        whole + whole % 2
+    }
+}
+
+#[tactic(auto, unfolding(crate::specs::Text::percent))]
+fn add_percent<W: Write>(tenths: u64, lines: &mut LineBuffer, out: &mut W)
+    ensures { Adds (W.contents out.old) lines.old (W.contents out.new) lines.new (percent tenths) }
+{
+    add_decimal(3, tenths / 10, lines, out);
+    lines.decimal(".", tenths % 10, out);
+    lines.text("%", out);
 }
 
 // A number in hexadecimal, with this before it if it is not negative.
@@ -505,6 +590,23 @@ fn add_character<W: Write>(value: Value<'_>, lines: &mut LineBuffer, out: &mut W
 }
 
 // ---- bytes
+
+// All bytes in a wide row.
+fn add_front_or_all<W: Write>(
+    is_wide: bool,
+    most: usize,
+    bytes: &[u8],
+    lines: &mut LineBuffer,
+    out: &mut W,
+)
+    ensures { Adds (W.contents out.old) lines.old (W.contents out.new) lines.new (shown_front is_wide most bytes.now) }
+{
+    if is_wide {
+        lines.bytes("", bytes, out);
+    } else {
+        add_front(most, bytes, lines, out);
+    }
+}
 
 // The first bytes, at most this number, and how many are left out.
 fn add_front<W: Write>(most: usize, bytes: &[u8], lines: &mut LineBuffer, out: &mut W)

@@ -36,6 +36,10 @@ word_text (wrong.NoList c w) =
 word_text (wrong.Requirement w) =
     words (codes "nugwier harden: no such requirement: '") ++? quoted w.now
     ++? words (codes "'; see nugwier harden --help")
+word_text (wrong.NoFormat w) =
+    words (codes "nugwier symbols: no format after '") ++? quoted w.now ++? words (codes "'; see nugwier symbols --help")
+word_text (wrong.Format w) =
+    words (codes "nugwier symbols: no such format: '") ++? quoted w.now ++? words (codes "'; see nugwier symbols --help")
 word_text (wrong.Address w) =
     words (codes "nugwier address: '") ++? quoted w.now ++? words (codes "' is no address; see nugwier address --help")
 word_text wrong.NoAddress = words (codes "nugwier address: no address; see nugwier address --help")

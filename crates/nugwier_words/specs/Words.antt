@@ -11,14 +11,18 @@ use Rattle.nugwier_report.specs.Hardening.{requirement_word}
 use Rattle.nugwier_report.specs.SymbolOptions.{no_options}
 use Rattle.nugwier_report.specs.declared.hardening.Requirement.{Requirement}
 use Rattle.nugwier_report.specs.declared.hardening.Requirement.TheVariants as need
+use Rattle.nugwier_report.specs.declared.report.Format.{Format}
+use Rattle.nugwier_report.specs.declared.report.Format.TheVariants.{Json as JsonFormat, Text}
 use Rattle.nugwier_report.specs.declared.symbol_options.Extent.TheVariants.{Defined, Undefined}
 use Rattle.nugwier_report.specs.declared.symbol_options.SymbolOptions.{SymbolOptions}
 use Rattle.nugwier_report.specs.declared.symbol_options.SymbolOrder.TheVariants as order
 use Rattle.nugwier_words.specs.declared.asked.Asked.{Asked}
 use Rattle.nugwier_words.specs.declared.asked.Awaited.{Awaited}
-use Rattle.nugwier_words.specs.declared.asked.Awaited.TheVariants.{Folder, Nothing, Requirements, Root, Section}
+use Rattle.nugwier_words.specs.declared.asked.Awaited.TheVariants.{Folder, Format as AwaitedFormat, Nothing}
+use Rattle.nugwier_words.specs.declared.asked.Awaited.TheVariants.{Requirements, Root}
+use Rattle.nugwier_words.specs.declared.asked.Awaited.TheVariants.{Section}
 use Rattle.nugwier_words.specs.declared.asked.Word.{Word}
-use Rattle.nugwier_words.specs.declared.asked.Word.TheVariants.{End, File, Help, Json, Options, Recursive}
+use Rattle.nugwier_words.specs.declared.asked.Word.TheVariants.{Bold, End, File, Help, Json, Options, Plain, Recursive}
 use Rattle.nugwier_words.specs.declared.letters.Letters.{Letters}
 use Rattle.nugwier_words.specs.declared.words.AskedAddress.{AskedAddress}
 use Rattle.nugwier_words.specs.declared.words.Command.{Command}
@@ -34,7 +38,8 @@ use Rattle.nugwier_words.specs.declared.words.Wanted.{Wanted}
 use Rattle.nugwier_words.specs.declared.words.WordError.{WordError}
 use Rattle.nugwier_words.specs.declared.words.WordError.TheVariants.{Address as NotAddress, Command as NotCommand}
 use Rattle.nugwier_words.specs.declared.words.WordError.TheVariants.{Memory, NoAddress, NoCommand, NoFile, NoFolder}
-use Rattle.nugwier_words.specs.declared.words.WordError.TheVariants.{NoList, NoSection, Option as NotOption}
+use Rattle.nugwier_words.specs.declared.words.WordError.TheVariants.{Format as NotFormat, NoFormat, NoList}
+use Rattle.nugwier_words.specs.declared.words.WordError.TheVariants.{NoSection, Option as NotOption}
 use Rattle.nugwier_words.specs.declared.words.WordError.TheVariants.{Requirement as NotRequirement}
 use Rattle.std.specs.Global.{Vec}
 use Prim.Native.String.{String}
@@ -56,7 +61,7 @@ pub record Task : Type 0 where
   pub addresses : List Sought
   pub symbols : SymbolOptions
   pub requirements : List Requirement
-  pub is_json : Bool
+  pub format : Format
   pub is_recursive : Bool
   pub searches : List (List ℕ)
   pub has_cache : Bool
@@ -89,7 +94,7 @@ task_of job = record {
   addresses = map sought job.addresses.items;
   symbols = job.symbols;
   requirements = job.requirements.items;
-  is_json = job.is_json;
+  format = job.format;
   is_recursive = job.is_recursive;
   searches = texts_of job.searches.items;
   has_cache = job.has_cache;
@@ -158,6 +163,7 @@ parts_all is_listed = record {
   relocations = is_listed;
   notes = is_listed;
   versions = is_listed;
+  chains = is_listed;
 }
 
 -- of one character
@@ -176,11 +182,18 @@ with_part parts letter =
     else if letter == code "r" then Some (record parts { relocations = true })
     else if letter == code "n" then Some (record parts { notes = true })
     else if letter == code "V" then Some (record parts { versions = true })
+    else if letter == code "I" then Some (record parts { chains = true })
     else if letter == code "a" then Some (parts_all true)
     else None
 
 abbrev pub with_list_letter : Letters → ℕ → Option Letters
-with_list_letter letters letter = option_map (λ parts. record letters { parts = parts }) (with_part letters.parts letter)
+with_list_letter letters letter =
+    if letter == code "W" then Some (record letters { is_wide = true })
+    else option_map (λ parts. record letters { parts = parts }) (with_part letters.parts letter)
+
+-- the long word of `list`
+abbrev pub with_wide : Letters → List ℕ → Option Letters
+with_wide letters word = if bytes_eq word (codes "wide") then Some (record letters { is_wide = true }) else None
 
 -- the words of `symbols` after two hyphens, as of GNU nm; of those that exclude each other the last one counts
 unfoldable pub with_symbol_word : SymbolOptions → List ℕ → Option SymbolOptions
@@ -194,6 +207,7 @@ with_symbol_word symbols word =
     else if bytes_eq word (codes "size-sort") then Some (record symbols { order = order.Size })
     else if bytes_eq word (codes "print-size") then Some (record symbols { has_sizes = true })
     else if bytes_eq word (codes "format=posix") then Some (record symbols { is_portable = true })
+    else if bytes_eq word (codes "format=bsd") then Some (record symbols { is_portable = false })
     else None
 
 -- the word of `exports`
@@ -207,6 +221,7 @@ with_symbols letters found = option_map (λ symbols. record letters { symbols = 
 abbrev pub with_long_word : Command → Letters → List ℕ → Option Letters
 with_long_word Symbols letters word = with_symbols letters (with_symbol_word letters.symbols word)
 with_long_word Exports letters word = with_symbols letters (with_export_word letters.symbols word)
+with_long_word ListCommand letters word = with_wide letters word
 with_long_word other letters word = None
 
 -- the long word that a letter of `symbols` stands for
@@ -246,6 +261,8 @@ pub record SoFar : Type 0 where
   pub files : List (Bor (List ℕ))
   pub requirements : List Requirement
   pub is_json : Bool
+  pub is_wide : Bool
+  pub is_bold : Bool
   pub is_recursive : Bool
   pub searches : List (List ℕ)
   pub has_cache : Bool
@@ -261,6 +278,8 @@ so_far asked = record {
   files = asked.files.items;
   requirements = asked.requirements.items;
   is_json = asked.is_json;
+  is_wide = asked.is_wide;
+  is_bold = asked.is_bold;
   is_recursive = asked.is_recursive;
   searches = texts_of asked.searches.items;
   has_cache = asked.has_cache;
@@ -269,14 +288,17 @@ so_far asked = record {
   has_ended = asked.has_ended;
 }
 
-abbrev pub nothing : SoFar
-nothing = record {
+-- before the first word; headings are bold or not
+abbrev pub nothing : Bool → SoFar
+nothing is_bold = record {
   parts = parts_all false;
   symbols = no_options;
   contents = [];
   files = [];
   requirements = [];
   is_json = false;
+  is_wide = false;
+  is_bold = is_bold;
   is_recursive = false;
   searches = [];
   has_cache = true;
@@ -295,6 +317,8 @@ kind_of word has_ended =
     else if bytes_eq word (codes "--help") then Help
     else if bytes_eq word (codes "--json") then Json
     else if bytes_eq word (codes "-R") || bytes_eq word (codes "--recursive") then Recursive
+    else if bytes_eq word (codes "--color=always") then Bold
+    else if bytes_eq word (codes "--color=never") then Plain
     else if bytes_eq word (codes "--") then End
     else Options
 
@@ -306,16 +330,34 @@ pub data Step : Type 0 where
 
 -- what the options so far ask for
 abbrev pub letters_of : SoFar → Letters
-letters_of asked = record { parts = asked.parts; symbols = asked.symbols }
+letters_of asked = record { parts = asked.parts; symbols = asked.symbols; is_wide = asked.is_wide }
 
 abbrev pub with_found : Command → SoFar → Bor (List ℕ) → Option Letters → Step
 with_found command asked word None = wrong (NotOption command word)
 with_found command asked word (Some letters) =
-    next (record asked { parts = letters.parts; symbols = letters.symbols })
+    next (record asked { parts = letters.parts; symbols = letters.symbols; is_wide = letters.is_wide })
 
 -- a word of `symbols` and `exports`
 abbrev pub with_listed : Command → SoFar → Bor (List ℕ) → Step
 with_listed command asked word = with_found command asked word (with_word_of command (letters_of asked) word.now)
+
+-- a word of `symbols`; after `--format` and `-f` the next word is a format
+abbrev pub with_symbols_word : SoFar → Bor (List ℕ) → Step
+with_symbols_word asked word =
+    if bytes_eq word.now (codes "--format") || bytes_eq word.now (codes "-f")
+    then next (record asked { awaited = AwaitedFormat word })
+    else with_listed Symbols asked word
+
+abbrev pub is_portable : SoFar → Bool → Step
+is_portable asked is =
+    next (record asked { symbols = record asked.symbols { is_portable = is }; awaited = Nothing })
+
+-- of POSIX, or of BSD, which is the usual one
+abbrev pub with_format : SoFar → Bor (List ℕ) → Step
+with_format asked word =
+    if bytes_eq word.now (codes "posix") then is_portable asked true
+    else if bytes_eq word.now (codes "bsd") then is_portable asked false
+    else wrong (NotFormat word)
 
 -- A word of `list` is cut at its first x or p, the last letter of the word, which needs a section: what follows it in the
 -- word, or if nothing does the next word.
@@ -353,7 +395,7 @@ with_form asked word (Some form) section =
 abbrev pub with_list_letters : SoFar → Bor (List ℕ) → Option Letters → Step
 with_list_letters asked word None = wrong (NotOption ListCommand word)
 with_list_letters asked word (Some letters) =
-    let listed = record asked { parts = letters.parts; symbols = letters.symbols } in
+    let listed = record asked { parts = letters.parts; symbols = letters.symbols; is_wide = letters.is_wide } in
     next (with_form listed word (cut_form word.now) (cut_section word.now))
 
 abbrev pub with_list_word : SoFar → Bor (List ℕ) → Step
@@ -427,7 +469,7 @@ with_require asked word =
 -- any other command has no options but --json, --recursive and --help
 abbrev pub with_options : Command → SoFar → Bor (List ℕ) → Step
 with_options ListCommand asked word = with_list_word asked word
-with_options Symbols asked word = with_listed Symbols asked word
+with_options Symbols asked word = with_symbols_word asked word
 with_options Exports asked word = with_listed Exports asked word
 with_options Tree asked word = with_search Tree asked word
 with_options Bindings asked word = with_search Bindings asked word
@@ -439,6 +481,8 @@ with_word File command asked word = next (record asked { files = asked.files ++ 
 with_word Help command asked word = helps
 with_word Json command asked word = next (record asked { is_json = true })
 with_word Recursive command asked word = next (record asked { is_recursive = true })
+with_word Bold command asked word = next (record asked { is_bold = true })
+with_word Plain command asked word = next (record asked { is_bold = false })
 with_word End command asked word = next (record asked { has_ended = true })
 with_word Options command asked word = with_options command asked word
 
@@ -453,6 +497,7 @@ step_for (Section form option) command asked word = with_section form asked word
 step_for (Folder option) command asked word = with_folder asked word.now
 step_for (Root option) command asked word = with_root asked word.now
 step_for (Requirements option) command asked word = with_requirements asked word word.now
+step_for (AwaitedFormat option) command asked word = with_format asked word
 
 abbrev pub step : Command → SoFar → Bor (List ℕ) → Step
 step command asked word = step_for asked.awaited command asked word
@@ -514,10 +559,14 @@ AreAddresses answer (Err error) = (error ≡ Memory) ⊎ (answer ≡ Err error)
 abbrev pub has_part : Parts → Bool
 has_part parts =
     parts.header || parts.sections || parts.groups || parts.segments || parts.symbols || parts.dynamic_symbols
-    || parts.dynamic || parts.relocations || parts.notes || parts.versions
+    || parts.dynamic || parts.relocations || parts.notes || parts.versions || parts.chains
 
 abbrev pub listed_parts : Parts → List (Form × List ℕ) → Parts
 listed_parts parts contents = if length contents == 0 && not (has_part parts) then parts_all true else parts
+
+abbrev pub format_of : SoFar → Format
+format_of asked =
+    if asked.is_json then JsonFormat else Text (record { is_wide = asked.is_wide; is_bold = asked.is_bold })
 
 abbrev pub run_on : Command → SoFar → List (Bor (List ℕ)) → List Sought → Result Answer WordError
 run_on command asked files addresses = Ok (run (record {
@@ -528,7 +577,7 @@ run_on command asked files addresses = Ok (run (record {
   addresses = addresses;
   symbols = asked.symbols;
   requirements = asked.requirements;
-  is_json = asked.is_json;
+  format = format_of asked;
   is_recursive = asked.is_recursive;
   searches = asked.searches;
   has_cache = asked.has_cache;
@@ -559,6 +608,7 @@ finished_for (Section form option) command asked = Err (NoSection option)
 finished_for (Folder option) command asked = Err (NoFolder command option)
 finished_for (Root option) command asked = Err (NoFolder command option)
 finished_for (Requirements option) command asked = Err (NoList command option)
+finished_for (AwaitedFormat option) command asked = Err (NoFormat option)
 
 abbrev pub finished : Command → SoFar → Result Answer WordError
 finished command asked = finished_for asked.awaited command asked
@@ -586,18 +636,20 @@ abbrev pub helped : List (Bor (List ℕ)) → Result Answer WordError
 helped [] = Ok (help None)
 helped (word ∷ words) = helped_for word (command_of word.now)
 
-abbrev pub parsed_for : Bor (List ℕ) → Option Command → List (Bor (List ℕ)) → Result Answer WordError
-parsed_for first None words = Err (unknown first)
-parsed_for first (Some command) words = after command nothing words
+-- headings are bold or not, unless the words say something else
+module _ (is_bold : Bool) where
+  abbrev pub parsed_for : Bor (List ℕ) → Option Command → List (Bor (List ℕ)) → Result Answer WordError
+  parsed_for first None words = Err (unknown first)
+  parsed_for first (Some command) words = after command (nothing is_bold) words
 
--- by the first word
-abbrev pub parsed_from : Bor (List ℕ) → List (Bor (List ℕ)) → Result Answer WordError
-parsed_from first words =
-    if bytes_eq first.now (codes "--help") || bytes_eq first.now (codes "-h") then Ok (help None)
-    else if bytes_eq first.now (codes "--version") || bytes_eq first.now (codes "-V") then Ok version
-    else if bytes_eq first.now (codes "help") then helped words
-    else parsed_for first (command_of first.now) words
+  -- by the first word
+  abbrev pub parsed_from : Bor (List ℕ) → List (Bor (List ℕ)) → Result Answer WordError
+  parsed_from first words =
+      if bytes_eq first.now (codes "--help") || bytes_eq first.now (codes "-h") then Ok (help None)
+      else if bytes_eq first.now (codes "--version") || bytes_eq first.now (codes "-V") then Ok version
+      else if bytes_eq first.now (codes "help") then helped words
+      else parsed_for first (command_of first.now) words
 
-abbrev pub parsed : List (Bor (List ℕ)) → Result Answer WordError
-parsed [] = Err NoCommand
-parsed (first ∷ words) = parsed_from first words
+  abbrev pub parsed : List (Bor (List ℕ)) → Result Answer WordError
+  parsed [] = Err NoCommand
+  parsed (first ∷ words) = parsed_from first words

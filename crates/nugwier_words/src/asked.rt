@@ -1,5 +1,6 @@
 //! What the words after a command ask for, from left to right.
-ghost use Rattle.nugwier_words.specs.Words.{IsParsed, IsStep, answer_of, finished, has_part, kind_of, letters_of};
+ghost use Rattle.nugwier_words.specs.Words.{IsParsed, IsStep, answer_of, finished, format_of, has_part, kind_of};
+ghost use Rattle.nugwier_words.specs.Words.{letters_of, with_format, with_symbols_word};
 ghost use Rattle.nugwier_words.specs.Words.{listed_parts, next, nothing, run_on, so_far, sought, step, wanted_view};
 ghost use Rattle.nugwier_words.specs.Words.{with_addresses, with_files, with_folder, with_form, with_given};
 ghost use Rattle.nugwier_words.specs.Words.{with_list_word, with_listed, with_options, with_requirements, with_root};
@@ -11,7 +12,9 @@ use crate::letters::{Letters, add_letters, add_long_word, cut};
 use crate::requirements::add_requirements;
 use crate::words::{AskedAddress, Command, Form, Job, Parts, Request, Wanted, WordError};
 use nugwier_report::hardening::Requirement;
+use nugwier_report::report::Format;
 use nugwier_report::symbol_options::SymbolOptions;
+use nugwier_report::text::Style;
 use std::alloc::Global;
 
 // What a word after the command is.
@@ -20,6 +23,8 @@ enum Word {
     Help,
     Json,
     Recursive,
+    Bold,
+    Plain,
     // After this word all are files.
     End,
     Options,
@@ -33,6 +38,7 @@ pub(crate) enum Awaited<'a> {
     Folder(&'a str),
     Root(&'a str),
     Requirements(&'a str),
+    Format(&'a str),
 }
 
 /// What the words so far ask for.
@@ -45,6 +51,8 @@ pub(crate) struct Asked<'a> {
     files: Vec<&'a str>,
     requirements: Vec<Requirement>,
     is_json: bool,
+    is_wide: bool,
+    is_bold: bool,
     is_recursive: bool,
     searches: Vec<&'a str>,
     has_cache: bool,
@@ -55,8 +63,8 @@ pub(crate) struct Asked<'a> {
 
 impl<'a> Asked<'a> {
     /// What no word asks for.
-    pub fn new(alloc: Global) -> Self
-        ensures { so_far result ≡ nothing }
+    pub fn new(alloc: Global, is_bold: bool) -> Self
+        ensures { so_far result ≡ nothing is_bold }
     {
         Asked {
             alloc,
@@ -66,6 +74,8 @@ impl<'a> Asked<'a> {
             files: Vec::new(alloc),
             requirements: Vec::new(alloc),
             is_json: false,
+            is_wide: false,
+            is_bold,
             is_recursive: false,
             searches: Vec::new(alloc),
             has_cache: true,
@@ -85,6 +95,7 @@ impl<'a> Asked<'a> {
             Awaited::Folder(_) => self.add_folder(word),
             Awaited::Root(_) => Ok(self.set_root(word)),
             Awaited::Requirements(_) => self.add_requirements(word, word),
+            Awaited::Format(_) => self.set_format(word),
         }
     }
 
@@ -112,6 +123,18 @@ impl<'a> Asked<'a> {
         false
     }
 
+    fn set_format(&mut self, word: &'a str) -> Result<bool, WordError<'a>>
+        ensures { IsStep (with_format (so_far self.old) word.entry) (so_far self.new) result }
+    {
+        match word {
+            "posix" => self.symbols.is_portable = true,
+            "bsd" => self.symbols.is_portable = false,
+            _ => return Err(WordError::Format(word)),
+        }
+        self.awaited = Awaited::Nothing;
+        Ok(false)
+    }
+
     // Adds those of a list. An error names the word, which is the list or has it.
     fn add_requirements(&mut self, word: &'a str, list: &str) -> Result<bool, WordError<'a>>
         ensures { IsStep (with_requirements (so_far self.old) word.entry list.now) (so_far self.new) result }
@@ -133,6 +156,8 @@ impl<'a> Asked<'a> {
             Word::Help => return Ok(true),
             Word::Json => self.is_json = true,
             Word::Recursive => self.is_recursive = true,
+            Word::Bold => self.is_bold = true,
+            Word::Plain => self.is_bold = false,
             Word::End => self.has_ended = true,
             Word::Options => return self.add_options(command, word),
         }
@@ -144,11 +169,23 @@ impl<'a> Asked<'a> {
     {
         match command {
             Command::List => self.add_list_word(word),
-            Command::Symbols | Command::Exports => self.add_letters(command, word),
+            Command::Symbols => self.add_symbols_word(word),
+            Command::Exports => self.add_letters(command, word),
             Command::Tree | Command::Bindings => self.add_search(command, word),
             Command::Harden => self.add_require(word),
             _ => Err(WordError::Option(command, word)),
         }
+    }
+
+    // A word of `symbols`, which may need a format.
+    fn add_symbols_word(&mut self, word: &'a str) -> Result<bool, WordError<'a>>
+        ensures { IsStep (with_symbols_word (so_far self.old) word.entry) (so_far self.new) result }
+    {
+        match word {
+            "--format" | "-f" => self.awaited = Awaited::Format(word),
+            _ => return self.add_letters(Command::Symbols, word),
+        }
+        Ok(false)
     }
 
     fn add_letters(&mut self, command: Command, word: &'a str) -> Result<bool, WordError<'a>>
@@ -159,6 +196,7 @@ impl<'a> Asked<'a> {
         };
         self.parts = letters.parts;
         self.symbols = letters.symbols;
+        self.is_wide = letters.is_wide;
         Ok(false)
     }
 
@@ -169,6 +207,7 @@ impl<'a> Asked<'a> {
         Letters {
             parts: self.parts,
             symbols: self.symbols,
+            is_wide: self.is_wide,
         }
     }
 
@@ -182,6 +221,7 @@ impl<'a> Asked<'a> {
         };
         self.parts = letters.parts;
         self.symbols = letters.symbols;
+        self.is_wide = letters.is_wide;
         self.add_form(word, form, section)
     }
 
@@ -255,6 +295,7 @@ impl<'a> Asked<'a> {
                 Err(WordError::NoFolder(command, word))
             }
             Awaited::Requirements(word) => Err(WordError::NoList(command, word)),
+            Awaited::Format(word) => Err(WordError::NoFormat(word)),
         }
     }
 
@@ -289,10 +330,25 @@ impl<'a> Asked<'a> {
         Ok(self.run(Command::Address, addresses))
     }
 
+    // How records are listed.
+    fn format(&self) -> Format
+        ensures { result ≡ format_of (so_far self.now) }
+    {
+        if self.is_json {
+            Format::Json
+        } else {
+            Format::Text(Style {
+                is_wide: self.is_wide,
+                is_bold: self.is_bold,
+            })
+        }
+    }
+
     fn run(self, command: Command, addresses: Vec<AskedAddress<'a>>) -> Request<'a>
         ensures { Ok (answer_of result)
             ≡ run_on command (so_far self.entry) self.entry.files.items (map sought addresses.entry.items) }
     {
+        let format = self.format();
         Request::Run(Job {
             command,
             parts: listed_parts(self.parts, &self.contents),
@@ -301,7 +357,7 @@ impl<'a> Asked<'a> {
             files: self.files,
             addresses,
             requirements: self.requirements,
-            is_json: self.is_json,
+            format,
             is_recursive: self.is_recursive,
             searches: self.searches,
             has_cache: self.has_cache,
@@ -321,6 +377,8 @@ fn kind_of(word: &str, has_ended: bool) -> Word
         "--help" => Word::Help,
         "--json" => Word::Json,
         "-R" | "--recursive" => Word::Recursive,
+        "--color=always" => Word::Bold,
+        "--color=never" => Word::Plain,
         "--" => Word::End,
         _ => Word::Options,
     }
@@ -362,5 +420,6 @@ fn has_part(parts: Parts) -> bool
 {
     let headers = parts.header || parts.sections || parts.groups || parts.segments;
     let symbols = parts.symbols || parts.dynamic_symbols || parts.dynamic;
-    headers || symbols || parts.relocations || parts.notes || parts.versions
+    let others = parts.relocations || parts.notes || parts.versions || parts.chains;
+    headers || symbols || others
 }

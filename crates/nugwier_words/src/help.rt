@@ -27,6 +27,8 @@ usage: nugwier COMMAND [OPTION..] FILE..
   COMMAND --help    how the command is called, also help COMMAND
   COMMAND --json    an object of JSON for each record, one a line, in place of lines for people
   COMMAND -R        of a FILE that is a folder, the ELF files below it (or --recursive)
+  COMMAND --color=always, --color=never
+                    bold headings, or none; without these, bold on a terminal, unless NO_COLOR is set
   --version         the version of nugwier
 
 FILE is a path, or - for standard input. Of several files each has a heading. What cannot be read is told on
@@ -53,9 +55,11 @@ Lists the parts of a file that the options name; without options, all of -a.
   -r           the relocations, with the names of their symbols
   -n           the notes
   -V           the versions that the file defines, and those that it needs of other files
+  -I           how long the chains of hash sections are
   -a           all of these
   -x SECTION   the bytes of all sections of a name, or of the section of a number
   -p SECTION   the strings of all sections of a name, or of the section of a number
+  -W           all bytes of a note, in place of the first 32 (or --wide)
   --json       an object of JSON for each record, one a line, in place of lines for people
   -R           of a FILE that is a folder, the ELF files below it
 
@@ -76,7 +80,7 @@ default version. Symbols that stand for sections and files are left out.
       --size-sort       in the order of their sizes, which stand in the place of values; only defined ones with a size
   -p, --no-sort         in the order of the table
   -S, --print-size      the size after the value, if it is not 0
-  -P, --format=posix    as POSIX has it: name, letter, value and size
+  -P, --format=posix    as POSIX has it: name, letter, value and size (or -f posix; bsd is the usual format)
   -R, --recursive       of a FILE that is a folder, the ELF files below it
       --json            an object of JSON for each record, one a line, in place of lines for people
 

@@ -1,7 +1,7 @@
 //! Options that ask for what is listed: letters, which may stand together in a word, and long words.
 ghost use Rattle.nugwier_words.specs.Words.{long_word, with_export_word, with_letter, with_letters, with_part};
 ghost use Rattle.nugwier_words.specs.Words.{cut_form, cut_letters, cut_section, is_p, is_x};
-ghost use Rattle.nugwier_words.specs.Words.{with_list_letter, with_long_word, with_symbol_word};
+ghost use Rattle.nugwier_words.specs.Words.{with_list_letter, with_long_word, with_symbol_word, with_wide};
 ghost use Rattle.std.specs.List.{after_first, before_first};
 ghost use Rattle.std.specs.Prelude.{◌≡◌};
 
@@ -13,6 +13,7 @@ use nugwier_report::symbol_options::{Extent, SymbolOptions, SymbolOrder};
 pub(crate) struct Letters {
     pub parts: Parts,
     pub symbols: SymbolOptions,
+    pub is_wide: bool,
 }
 
 /// Adds the letters of a word. Returns `None` if one is no option of the command.
@@ -37,7 +38,11 @@ fn add_letter(command: Command, letters: Letters, letter: u8) -> Option<Letters>
 fn add_list_letter(mut letters: Letters, letter: u8) -> Option<Letters>
     ensures { result ≡ with_list_letter letters letter }
 {
-    letters.parts = add_part(letters.parts, letter)?;
+    if letter == b'W' {
+        letters.is_wide = true;
+    } else {
+        letters.parts = add_part(letters.parts, letter)?;
+    }
     Some(letters)
 }
 
@@ -55,6 +60,7 @@ fn add_part(mut parts: Parts, letter: u8) -> Option<Parts>
         b'r' => parts.relocations = true,
         b'n' => parts.notes = true,
         b'V' => parts.versions = true,
+        b'I' => parts.chains = true,
         b'a' => parts = Parts::each(true),
         _ => return None,
     }
@@ -125,9 +131,20 @@ pub(crate) fn add_long_word(command: Command, letters: Letters, word: &str) -> O
     let symbols = match command {
         Command::Symbols => add_symbol_word(letters.symbols, word)?,
         Command::Exports => add_export_word(letters.symbols, word)?,
+        Command::List => return add_list_word(letters, word),
         _ => return None,
     };
     Some(Letters { symbols, ..letters })
+}
+
+fn add_list_word(mut letters: Letters, word: &str) -> Option<Letters>
+    ensures { result ≡ with_wide letters word.now }
+{
+    match word {
+        "wide" => letters.is_wide = true,
+        _ => return None,
+    }
+    Some(letters)
 }
 
 // Of the options that exclude each other the last one counts.
@@ -145,6 +162,7 @@ fn add_symbol_word(mut symbols: SymbolOptions, word: &str) -> Option<SymbolOptio
         "size-sort" => symbols.order = SymbolOrder::Size,
         "print-size" => symbols.has_sizes = true,
         "format=posix" => symbols.is_portable = true,
+        "format=bsd" => symbols.is_portable = false,
         _ => return None,
     }
     Some(symbols)

@@ -7,6 +7,7 @@ ghost use Rattle.std.specs.Prelude.{◌≡◌};
 use crate::asked::Asked;
 use nugwier_report::escape::Escaped;
 use nugwier_report::hardening::Requirement;
+use nugwier_report::report::Format;
 use nugwier_report::symbol_options::SymbolOptions;
 use std::alloc::{AllocError, AllocFailed, Global};
 use std::error::Error;
@@ -87,6 +88,7 @@ pub struct Parts {
     pub relocations: bool,
     pub notes: bool,
     pub versions: bool,
+    pub chains: bool,
 }
 
 impl Parts {
@@ -105,6 +107,7 @@ impl Parts {
             relocations: is_listed,
             notes: is_listed,
             versions: is_listed,
+            chains: is_listed,
         }
     }
 }
@@ -145,8 +148,8 @@ pub struct Job<'a> {
     pub symbols: SymbolOptions,
     /// What `harden` requires of each file.
     pub requirements: Vec<Requirement>,
-    /// Whether records are listed as objects of JSON.
-    pub is_json: bool,
+    /// How records are listed.
+    pub format: Format,
     /// Whether the ELF files below a folder are listed.
     pub is_recursive: bool,
     /// The folders in which `tree` and `bindings` search for libraries, before the usual ones.
@@ -183,6 +186,10 @@ pub enum WordError<'a> {
     NoList(Command, &'a str),
     /// The list has a word that is no requirement.
     Requirement(&'a str),
+    /// The option of `symbols` needs a format.
+    NoFormat(&'a str),
+    /// The word is no format of `symbols`.
+    Format(&'a str),
     /// The word is no address in hexadecimal.
     Address(&'a str),
     NoAddress,
@@ -249,6 +256,20 @@ impl fmt::Display for WordError<'_> {
                     "nugwier harden: no such requirement: '{word}'; see nugwier harden --help"
                 )
             }
+            WordError::NoFormat(word) => {
+                let word = Escaped(word.as_bytes());
+                write!(
+                    f,
+                    "nugwier symbols: no format after '{word}'; see nugwier symbols --help"
+                )
+            }
+            WordError::Format(word) => {
+                let word = Escaped(word.as_bytes());
+                write!(
+                    f,
+                    "nugwier symbols: no such format: '{word}'; see nugwier symbols --help"
+                )
+            }
             WordError::Address(word) => {
                 let word = Escaped(word.as_bytes());
                 write!(
@@ -282,34 +303,41 @@ impl<'a, T: Drop> From<AllocFailed<T>> for WordError<'a> {
     }
 }
 
-/// Returns what the words, the arguments after the program's name, ask for.
+/// Returns what the words, the arguments after the program's name, ask for. Headings are bold if this is said here,
+/// unless the words say something else.
 ///
-/// Errors, in order: `NoCommand` without words; `Command` if the first word, or the one after `help`, is no command; then, of the first word
-/// that is wrong, `Option`, `Requirement`, `NoSection`, `NoFolder` or `NoList`; `NoFile` if no word is a file; of
-/// `address`, `Address` for the first word after the file that is no address, and `NoAddress` if there is no such word.
+/// Errors, in order: `NoCommand` without words; `Command` if the first word, or the one after `help`, is no command;
+/// then, of the first word that is wrong, `Option`, `Requirement`, `Format`, `NoSection`, `NoFolder`, `NoList` or
+/// `NoFormat`; `NoFile` if no word is a file; of `address`, `Address` for the first word after the file that is no
+/// address, and `NoAddress` if there is no such word.
 /// `Memory` if an allocation failed.
-pub fn parse_words<'a>(alloc: Global, words: &[&'a str]) -> Result<Request<'a>, WordError<'a>>
-    ensures { IsParsed (parsed words.now) result }
+pub fn parse_words<'a>(
+    alloc: Global,
+    is_bold: bool,
+    words: &[&'a str],
+) -> Result<Request<'a>, WordError<'a>>
+    ensures { IsParsed (parsed is_bold words.now) result }
 {
     let [first, rest @ ..] = words else {
         return Err(WordError::NoCommand);
     };
-    parse_from(alloc, *first, rest)
+    parse_from(alloc, is_bold, *first, rest)
 }
 
 fn parse_from<'a>(
     alloc: Global,
+    is_bold: bool,
     first: &'a str,
     words: &[&'a str],
 ) -> Result<Request<'a>, WordError<'a>>
-    ensures { IsParsed (parsed_from first.entry words.now) result }
+    ensures { IsParsed (parsed_from is_bold first.entry words.now) result }
 {
     match first {
         "--help" | "-h" => Ok(Request::Help(None)),
         "--version" | "-V" => Ok(Request::Version),
         "help" => parse_help(words),
         word => match parse_command(word) {
-            Some(command) => parse_rest(alloc, command, words),
+            Some(command) => parse_rest(alloc, is_bold, command, words),
             None => Err(WordError::Command(word, nearest(word))),
         },
     }
@@ -376,12 +404,13 @@ fn is_near(word: &[u8], other: &[u8]) -> bool
 
 fn parse_rest<'a>(
     alloc: Global,
+    is_bold: bool,
     command: Command,
     words: &[&'a str],
 ) -> Result<Request<'a>, WordError<'a>>
-    ensures { IsParsed (after command nothing words.now) result }
+    ensures { IsParsed (after command (nothing is_bold) words.now) result }
 {
-    let mut asked = Asked::new(alloc);
+    let mut asked = Asked::new(alloc, is_bold);
     for word in words {
         if asked.add(command, *word)? {
             return Ok(Request::Help(Some(command)));

@@ -5,10 +5,10 @@ ghost use Rattle.elf_check.specs.Verdict.{IsVerdict};
 ghost use Rattle.elf_check.specs.Whole.{whole_view};
 
 use super::WholeFile;
+use crate::checking::fault_walk;
 use crate::faults::{FileFault, FileVerdict};
 use crate::listed::sections_are_listed;
 use crate::sections::section_count;
-use crate::walk::{First, give_faults};
 use elf::ElfBytes;
 use elf::endian::EndianParse;
 use elf::gnu_symver::{Needed, VerDefIterator};
@@ -45,9 +45,9 @@ pub fn check_file_in<'a, 'data, E: EndianParse>(
         return FileVerdict::Faulty(FileFault::NoNames);
     };
     sections_are_listed(file);
-    match give_faults(file, needed, defined, &mut First) {
-        Err(fault) => FileVerdict::Faulty(fault),
-        Ok(()) => FileVerdict::Sound(WholeFile {
+    match fault_walk(file).next_fault(needed, defined) {
+        Some(fault) => FileVerdict::Faulty(fault),
+        None => FileVerdict::Sound(WholeFile {
             file,
             names,
             sections: section_count(file),

@@ -18,8 +18,8 @@ use elf::reader::{Reader, segment_dynamic};
 use elf::segment::ProgramHeader;
 use elf_parts::parse::ParsingIterator;
 
-// Whether the entry has a tag, one of `DT_*`.
-fn has_tag(entry: &Dyn, tag: i64) -> bool
+/// Returns whether the entry has a tag, one of `DT_*`.
+pub fn has_tag(entry: &Dyn, tag: i64) -> bool
     ensures { result ≡ has_tag tag entry.now }
 {
     entry.d_tag == tag

@@ -1,5 +1,5 @@
 //! The relocations.
-ghost use Rattle.std.specs.Prelude.{◌≡◌, IfErr, IfOk};
+ghost use Rattle.std.specs.Prelude.{◌≡◌, ◌≤◌, IfErr, IfOk};
 ghost use Rattle.std.specs.Option.{option_map};
 ghost use Rattle.elf.specs.Answers.{relas_left, rels_left};
 ghost use Rattle.elf.specs.Parts.{loaded};
@@ -118,9 +118,10 @@ pub fn relas<'f, E: EndianParse, R: Reader<E>>(
     }
 }
 
-// The size of an address in bytes.
-fn address_size(class: Class) -> u64
-    ensures { result ≡ address_size class }
+/// Returns the size of an address in bytes.
+pub fn address_size(class: Class) -> u64
+    ensures size { result ≡ address_size class }
+    ensures most { result ≤ 8 }
 {
     match class {
         Class::ELF32 => 4,

@@ -43,7 +43,7 @@ module _ {W V : Type 0} (out_of : W → Option (List ℕ)) (err_of : V → Optio
   abbrev pub IsSaidAndWritten : (Named → List Said → Type 0) → Task → Option Kind → List ℕ → Written → Ended W V → Type 0
   IsSaidAndWritten Says task heading path before ended =
       IfOk ended.said (λ summary. (named : Named) × (said : List Said) × Says named said
-      × IsWritten task.is_json path named before (written_by ended) summary (heading_said heading path ++ said))
+      × IsWritten task.format path named before (written_by ended) summary (heading_said heading path ++ said))
 
   -- or nothing was written
   abbrev pub IsListed : (Named → List Said → Type 0) → Task → Option Kind → List ℕ → Written → Listed W V → Type 0
@@ -72,7 +72,7 @@ module _ {W V : Type 0} (out_of : W → Option (List ℕ)) (err_of : V → Optio
   abbrev pub AreSaidAndWritten : (List Listing → Type 0) → Task → Written → Ended W V → Type 0
   AreSaidAndWritten Say task before ended =
       IfOk ended.said (λ summary. (all : List Listing) × Say all
-      × AreWritten task.is_json before (written_by ended) summary all)
+      × AreWritten task.format before (written_by ended) summary all)
 
   -- what a run says of a path
   abbrev pub IsPathEnded : Known → Task → Option Kind → List ℕ → Written → Ended W V → Type 0
@@ -83,7 +83,7 @@ module _ {W V : Type 0} (out_of : W → Option (List ℕ)) (err_of : V → Optio
   abbrev pub IsItemEnded : Known → Task → Option Kind → List ℕ → Item → Written → Ended W V → Type 0
   IsItemEnded known task heading path item before ended =
       IfOk ended.said (λ summary. (own : Listing) × IsItemSaid known task heading path item own
-      × IsWritten task.is_json own.path own.named before (written_by ended) summary own.said)
+      × IsWritten task.format own.path own.named before (written_by ended) summary own.said)
 
 -- the bytes at the start of the file with this content
 abbrev pub IsFrontOf : Option (List ℕ) → List ℕ → Type 0

@@ -9,7 +9,7 @@ use Rattle.nugwier_commands.proofs.run.run_files.Goals as goal
 pub loop-place-init : goal.loop-place-init
 loop-place-init g c =
     let task = task_of c.args.job.now in
-    first_of_all task.is_json (record { out = g.W.Write.contents c.args.out; err = g.V.Write.contents c.args.err }) (AreFilesSaid (g.F.Files.known c.args.files.now) task 0 c.as_slice-path-items.result.now)
+    first_of_all task.format (record { out = g.W.Write.contents c.args.out; err = g.V.Write.contents c.args.err }) (AreFilesSaid (g.F.Files.known c.args.files.now) task 0 c.as_slice-path-items.result.now)
 
 pub loop-place-preserved : goal.loop-place-preserved
 loop-place-preserved g c =
@@ -31,5 +31,5 @@ returns g c =
     let before : Written = record { out = out_of c.args.out; err = err_of c.args.err } in
     let now : Written = record { out = out_of c.loop-place.out; err = err_of c.loop-place.err } in
     let items = c.as_slice-path-items.result.now in
-    subst (λ (paths : List (Bor (List ℕ))). IsDone task.is_json before (AreFilesSaid known task 0 paths) now c.loop-place.are_right c.loop-place.are_told) c.as_slice-path-items.ensures.value
+    subst (λ (paths : List (Bor (List ℕ))). IsDone task.format before (AreFilesSaid known task 0 paths) now c.loop-place.are_right c.loop-place.are_told) c.as_slice-path-items.ensures.value
     (all_ended known task before items c.loop-place.place now c.loop-place.are_right c.loop-place.are_told (drop_all c.loop-place.place items c.loop-place-test.false) c.loop-place.invariant)

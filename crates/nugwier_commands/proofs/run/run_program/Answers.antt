@@ -25,9 +25,9 @@ returns-in-Ok g c =
     let IsSaid : Saying = λ bytes named said. IsProgramSaid known task.command task path bytes named said in
     IfOk-weaker ended.said
     (λ summary. (said : List Said) × IsSaid bytes no_sections said
-    × IsWritten task.is_json path no_sections before after summary (heading_said heading path ++ said))
+    × IsWritten task.format path no_sections before after summary (heading_said heading path ++ said))
     (λ summary. (named : Named) × (said : List Said) × IsSaidAt known IsSaid path named said
-    × IsWritten task.is_json path named before after summary (heading_said heading path ++ said))
+    × IsWritten task.format path named before after summary (heading_said heading path ++ said))
     (λ summary h. (no_sections, h.0, read_as known IsSaid path bytes no_sections h.0 c.in-Ok.ensures.content h.1, h.2))
     c.say_program.ensures
 

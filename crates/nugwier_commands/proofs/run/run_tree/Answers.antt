@@ -21,8 +21,8 @@ returns-in-Some g c is =
     let after = written_by g.W.Write.contents g.V.Write.contents ended in
     IfOk-weaker ended.said
     (λ summary. ((said : List Said) × IsNamedSaid known (search_of task) (found_view c.in-Some.program) said
-    × IsWritten task.is_json path no_sections before after summary (heading_said c.args.target.heading path ++ said)))
+    × IsWritten task.format path no_sections before after summary (heading_said c.args.target.heading path ++ said)))
     (λ summary. ((named : Named) × (said : List Said) × IsSaidAt known (λ bytes named said. IsProgramSaid known Tree task path bytes named said) path named said
-    × IsWritten task.is_json path named before after summary (heading_said c.args.target.heading path ++ said)))
+    × IsWritten task.format path named before after summary (heading_said c.args.target.heading path ++ said)))
     (λ summary h. (no_sections, h.0, tree_said known task path (found_view c.in-Some.program) h.0 c.in-Some.ensures h.1, h.2))
     c.say_named.ensures

@@ -1,6 +1,7 @@
-use Rattle.std.proofs.Common.{◌∙◌, sym}
+use Rattle.std.proofs.Common.{◌∙◌, ℕ, List, subst, sym}
+use Rattle.std.specs.Prelude.{IfSome}
 use Rattle.nugwier_programs.proofs.Configuring.{begun, ended, nothing_pending, stepped}
-use Rattle.nugwier_programs.specs.Configured.{lists_of, pending_in}
+use Rattle.nugwier_programs.specs.Configured.{AreConfigured, lists_of, pending_in}
 use Rattle.nugwier_programs.proofs.configured.configured_folders.Goals as goal
 
 pub steps-init : goal.steps-init
@@ -10,7 +11,11 @@ steps-init g c =
 
 pub returns-in_default : goal.returns-in_default
 returns-in_default g c =
-    ended (g.F.Files.known c.args.files.now) (pending_in c.steps.listing) (lists_of c.steps.listing) (nothing_pending c.steps.listing.pending.items (sym c.steps.listing.pending.ok.0 ∙ c.in_default.ensures.cases.0)) c.steps.invariant
+    let known = g.F.Files.known c.args.files.now in
+    let listing = c.steps.listing in
+    let none = nothing_pending listing.pending.items (sym listing.pending.ok.0 ∙ c.in_default.ensures.cases.0) in
+    subst (λ (folders : List (List ℕ)). IfSome known (λ files. AreConfigured files folders)) (sym c.into_list.ensures)
+    (ended known (pending_in listing) (lists_of listing) none c.steps.invariant)
 
 pub steps-preserved : goal.steps-preserved
 steps-preserved g c =

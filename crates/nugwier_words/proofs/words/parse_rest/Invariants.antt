@@ -5,4 +5,4 @@ use Rattle.nugwier_words.proofs.words.parse_rest.Given as goal
 -- the words so far, and then those that are left, ask for what all do
 abbrev pub invariant-loop-word : goal.invariant-loop-word
 invariant-loop-word l =
-    after l.command (so_far l.asked) (drop l.word-index l.words) ≡ after l.command nothing l.words
+    after l.command (so_far l.asked) (drop l.word-index l.words) ≡ after l.command (nothing l.is_bold) l.words

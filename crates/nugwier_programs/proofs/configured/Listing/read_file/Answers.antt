@@ -1,10 +1,8 @@
-use Rattle.std.proofs.Common.{◌≡◌, ◌∷◌, ◌++◌, ◌∙◌, [], ℕ, List, ap, map, subst, sym}
-use Rattle.std.proofs.lemmas.List.{map-append}
+use Rattle.std.proofs.Common.{◌≡◌, ◌++◌, ◌∙◌, [], ℕ, List, ap, map, subst, sym}
 use Rattle.std.specs.Prelude.{IfSome, unwrap_or}
-use Rattle.std.specs.Vec.{vec_items}
 use Rattle.elf_dynamic.specs.Conf.{Entry, conf_entries, line_view}
-use Rattle.nugwier_programs.proofs.Configuring.{file_read}
-use Rattle.nugwier_programs.specs.Configured.{Lists, is_passed, lists_of, pending_in, pending_of}
+use Rattle.nugwier_programs.proofs.Configuring.{file_read, not_passed, on_ok_both}
+use Rattle.nugwier_programs.specs.Configured.{is_passed, lists_of, pending_in, pending_of, with_read}
 use Rattle.nugwier_programs.proofs.configured.Listing.read_file.Goals as goal
 
 pub returns : goal.returns
@@ -14,16 +12,13 @@ returns g c =
     let content = c.in_ok-content.content.items in
     let others = pending_in c.args.self.now in
     let lists = lists_of c.args.self.now in
-    let entered = c.enter_lines.new.self in
-    let read = entered.read.items in
-    let folders = map vec_items entered.folders.items in
-    let passed = sym (c.is_passed.ensures ∙ ap (λ (p : List ℕ). is_passed p lists) c.deref.ensures.value) ∙ c.if-is_passed.false in
+    let passed = sym (ap (λ (p : List ℕ). is_passed p lists) c.deref.ensures.value)
+    ∙ not_passed c.in_ok-add_read.field-0 (is_passed c.deref.result.now lists) c.in_ok-add_read.ensures.added c.if-not-branch.false in
     let is = subst (λ (p : List ℕ). IfSome known (λ files. content ≡ unwrap_or (files.contents p) [])) c.deref-2.ensures.value c.in_ok-content.ensures in
     let lines = c.in_ok-lines.ensures ∙ ap conf_entries c.deref-3.ensures.value in
-    let named = c.in_ok-enter_lines.ensures.pending
-    ∙ ap (λ (p : List ℕ). map (pending_of p) (map line_view c.in_ok-lines.lines.items) ++ others) c.deref-4.ensures.value
-    ∙ ap (λ (l : List Entry). map (pending_of path) l ++ others) lines in
-    let made : List (List ℕ) → Lists = λ all. record { read = all; folders = folders } in
-    let added = ap (λ l. made (map vec_items l)) c.in_ok-push.ensures.items ∙ ap made (map-append vec_items read (c.args.path ∷ []))
-    ∙ ap (λ (l : Lists). record l { read = l.read ++ path ∷ [] }) c.in_ok-enter_lines.ensures.lists in
-    file_read known path content others lists _ _ passed is named added
+    on_ok_both c.enter_lines.result (λ pending grown.
+    file_read known path content others lists _ _ passed is
+    (pending ∙ ap (λ (p : List ℕ). map (pending_of p) (map line_view c.in_ok-lines.lines.items) ++ pending_in c.add_read.new.self) c.deref-4.ensures.value
+    ∙ ap (λ (l : List Entry). map (pending_of path) l ++ pending_in c.add_read.new.self) lines
+    ∙ ap (λ l. map (pending_of path) (conf_entries content) ++ l) c.in_ok-add_read.ensures.pending)
+    (grown ∙ c.in_ok-add_read.ensures.lists ∙ ap (λ (p : List ℕ). with_read p lists) c.deref.ensures.value)) c.enter_lines.ensures.pending c.enter_lines.ensures.lists
