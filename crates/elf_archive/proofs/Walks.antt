@@ -1,5 +1,5 @@
 -- The members of an archive, entry by entry.
-use Rattle.std.proofs.Common.{◌≡◌, ℕ, zero, suc, ◌+◌, ◌-◌, ◌<◌, ◌≤◌, Bool, true, Option, Some, None, List, [], ◌∷◌}
+use Rattle.std.proofs.Common.{◌≡◌, ℕ, zero, suc, ◌+◌, ◌-◌, ◌<◌, ◌≤◌, Bool, true, false, Option, Some, None, List, [], ◌∷◌}
 use Rattle.std.proofs.Common.{Result, Ok, Err, refl, ap, sym, ◌∙◌, arith, length, drop, take}
 use Rattle.std.specs.Prelude.{nat_lt, if◌then◌else◌}
 use Rattle.std.proofs.lemmas.Bool.Decides.{nat_tests}
@@ -7,9 +7,10 @@ use Rattle.std.proofs.lemmas.Grind.{common_steps}
 use Rattle.std.specs.List.{cons_option}
 use Rattle.std.specs.Option.{option_map}
 use Rattle.elf_archive.specs.Archive.{Entry, Item, entry_in, items_from, items_within, member_of, names_after}
-use Rattle.elf_archive.specs.Archive.{has_header, sized_at, with_entry}
+use Rattle.elf_archive.specs.Archive.{content_of, entry_of, has_header, held_at, named_at, sized_at, with_entry}
 use Rattle.elf_archive.specs.Fields.{decimal_in, trimmed}
 use Rattle.elf_archive.specs.declared.archive.ArchiveError.{ArchiveError}
+use Rattle.elf_archive.specs.declared.archive.ArchiveError.TheVariants.{Header}
 
 -- an entry whose size is there
 pub entry_by : (is_thin : Bool) (o : ℕ) (names bytes : List ℕ) (size : ℕ) → has_header bytes ≡ true → decimal_in (trimmed 32 (take 10 (drop 48 bytes))) ≡ Some size
@@ -17,10 +18,31 @@ pub entry_by : (is_thin : Bool) (o : ℕ) (names bytes : List ℕ) (size : ℕ) 
 unfolding entry_in
 entry_by is_thin o names bytes size header spelled = rw (header, spelled) refl
 
+named_after : (o : ℕ) (content : List ℕ) (entry : Option Entry) (found : Entry × ℕ) → named_at o content entry ≡ Ok found → o < found.1
+named_after o content None found e = grind (arith, common_steps)
+named_after o content (Some entry) found e = grind (arith, common_steps)
+
+held_after : (o : ℕ) (names name : List ℕ) (content : Option (List ℕ)) (found : Entry × ℕ) → held_at o names name content ≡ Ok found → o < found.1
+held_after o names name None found e = grind (arith, common_steps)
+held_after o names name (Some content) found e = named_after o content (entry_of names name content) found e
+
+sized_after : (is_thin : Bool) (o : ℕ) (names name after : List ℕ) (size : Option ℕ) (found : Entry × ℕ) → sized_at is_thin o names name after size ≡ Ok found → o < found.1
+sized_after is_thin o names name after None found e = grind (arith, common_steps)
+sized_after is_thin o names name after (Some size) found e = held_after o names name (content_of is_thin name size after) found e
+
+read_after : (header : Bool) (o : ℕ) (read : Result (Entry × ℕ) ArchiveError) (found : Entry × ℕ)
+    → (read ≡ Ok found → o < found.1) → (if header then read else Err (Header o)) ≡ Ok found → o < found.1
+read_after true o read found later e = later e
+read_after false o read found later e = grind (arith, common_steps)
+
 -- the next entry is after this one
 pub entry_after : (is_thin : Bool) (o : ℕ) (names bytes : List ℕ) (found : Entry × ℕ) → entry_in is_thin o names bytes ≡ Ok found → o < found.1
 unfolding entry_in
-entry_after is_thin o names bytes found e = grind (arith, common_steps)
+entry_after is_thin o names bytes found e =
+    let name = trimmed 32 (take 16 bytes) in
+    let size = decimal_in (trimmed 32 (take 10 (drop 48 bytes))) in
+    read_after (has_header bytes) o (sized_at is_thin o names name (drop 60 bytes) size) found
+    (sized_after is_thin o names name (drop 60 bytes) size found) e
 
 module _ (is_thin : Bool) (bytes : List ℕ) where
   past : (most o : ℕ) (names : List ℕ) → length bytes ≤ o → items_within most is_thin bytes names o ≡ []

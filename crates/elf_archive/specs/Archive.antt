@@ -7,7 +7,7 @@ use Rattle.std.specs.List.{cons_option, starts_with}
 use Rattle.std.specs.Option.{option_map}
 use Rattle.std.specs.Str.{bytes_eq}
 use Rattle.std.specs.Fmt.{digits}
-use Rattle.elf_archive.specs.Fields.{decimal_in, long_name, trimmed, without_slash}
+use Rattle.elf_archive.specs.Fields.{decimal_in, long_name, place_in, trimmed, without_slash}
 use Rattle.elf_archive.specs.declared.archive.ArchiveError.{ArchiveError}
 use Rattle.elf_archive.specs.declared.archive.ArchiveError.TheVariants.{Header, Name, NotAnArchive, PastEnd, Size}
 use Rattle.elf_archive.specs.declared.archive.Member.{Member}
@@ -63,7 +63,7 @@ abbrev pub entry_of : List ℕ → List ℕ → List ℕ → Option Entry
 entry_of names name content =
     if is_index name then Some Index
     else if is_long_names name then Some (LongNames content)
-    else if starts_with ◌==◌ name (codes "/") then entry_named_long names content (decimal_in (drop 1 name))
+    else if starts_with ◌==◌ name (codes "/") then entry_named_long names content (place_in name)
     else if starts_with ◌==◌ name (codes "#1/") then entry_named_inside content (decimal_in (drop 3 name))
     else Some (entry_of_short name content)
 

@@ -35,6 +35,11 @@ decimal_in (digit ∷ digits) = with_digits (Some 0) (digit ∷ digits)
 abbrev pub without_slash : List ℕ → List ℕ
 without_slash name = if ends_with ◌==◌ name (codes "/") then take (length name - 1) name else name
 
+-- the place of a long name, after the slash that begins the field. GNU ar leaves a slash at the end of the field if the
+-- name has fifteen bytes
+abbrev pub place_in : List ℕ → Option ℕ
+place_in field = decimal_in (trimmed 32 (without_slash (drop 1 field)))
+
 abbrev pub is_newline : ℕ → Bool
 is_newline b = b == 10
 

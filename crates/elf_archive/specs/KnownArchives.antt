@@ -22,6 +22,13 @@ thin =
     ++ codes "/0              0           0     0     644     4         `\n"
     ++ codes "/0              0           0     0     644     4         `\n"
 
+-- the first name has fifteen bytes, and its field a slash at its end
+abbrev pub thin_of_fifteen : List ℕ
+thin_of_fifteen =
+    codes "!<thin>\n//                                              24        `\nabcdefghijklmno/\nb.txt/\n"
+    ++ codes "/0             /0           0     0     644     1         `\n"
+    ++ codes "/17             0           0     0     644     1         `\n"
+
 -- an index, a name with 0 bytes after it, and a short one
 abbrev pub bsd : List ℕ
 bsd =

@@ -8,7 +8,7 @@ ghost use Rattle.elf_archive.specs.Fields.{decimal_in};
 ghost use Rattle.elf_archive.specs.inner.Entries.{entry_and_next, entry_view};
 
 use crate::archive::ArchiveError;
-use crate::fields::{decimal_in, long_name, trimmed, without_slash};
+use crate::fields::{decimal_in, long_name, place_in, trimmed, without_slash};
 
 /// What a header with its content is.
 #[derive(Debug, Clone, Copy)]
@@ -89,7 +89,7 @@ fn entry_of<'a>(names: &'a [u8], name: &'a [u8], content: &'a [u8]) -> Option<En
     } else if is_long_names(name) {
         Some(Entry::LongNames(content))
     } else if name.starts_with(b"/") {
-        entry_named_long(names, content, decimal_in(&name[1..]))
+        entry_named_long(names, content, place_in(name))
     } else if name.starts_with(b"#1/") {
         entry_named_inside(content, decimal_in(&name[3..]))
     } else {

@@ -1,7 +1,7 @@
 //! The fields of headers: text with spaces after it.
 ghost use Rattle.std.specs.Prelude.{◌≡◌, position};
 ghost use Rattle.std.specs.Option.{option_map};
-ghost use Rattle.elf_archive.specs.Fields.{decimal_in, is_digit, is_newline, long_name, trimmed, with_digit};
+ghost use Rattle.elf_archive.specs.Fields.{decimal_in, is_digit, is_newline, long_name, place_in, trimmed, with_digit};
 ghost use Rattle.elf_archive.specs.Fields.{without_slash};
 
 /// Returns the bytes without those at their end that fill the field.
@@ -56,6 +56,14 @@ pub(crate) fn without_slash(name: &[u8]) -> &[u8]
     } else {
         name
     }
+}
+
+/// Returns the place of a long name, which a field gives after the slash that begins it. GNU ar leaves a slash at the end
+/// of the field if the name has fifteen bytes.
+pub(crate) fn place_in(field: &[u8]) -> Option<u64>
+    ensures { result ≡ place_in field.now }
+{
+    decimal_in(trimmed(b' ', without_slash(field.get(1..)?)))
 }
 
 // The place of the end of the first line.

@@ -2,6 +2,7 @@
 ghost use Rattle.std.specs.Prelude.{◌≡◌, ◌++◌, [], ◌∷◌, codes, Err, Ok};
 ghost use Rattle.elf_archive.specs.Archive.{members_in};
 ghost use Rattle.elf_archive.specs.KnownArchives.{bsd, elsewhere, gnu, header, held, magic, one, thin};
+ghost use Rattle.elf_archive.specs.KnownArchives.{thin_of_fifteen};
 ghost use Rattle.elf_archive.specs.declared.archive.ArchiveError.TheVariants.{Header, Name, NotAnArchive, PastEnd, Size};
 
 /// Names end with a slash; long ones are in a member of their own. Each header is at an even offset.
@@ -11,6 +12,8 @@ pub fn archives_of_gnu()
         ∷ held (codes "a_name_longer_than_fifteen") 160 (codes "two") ∷ held (codes "b") 224 (codes "xyz") ∷ []) }
     ensures thin { members_in thin
         ≡ Ok (elsewhere (codes "a.txt") 76 ∷ elsewhere (codes "a.txt") 136 ∷ []) }
+    ensures fifteen { members_in thin_of_fifteen
+        ≡ Ok (elsewhere (codes "abcdefghijklmno") 92 ∷ elsewhere (codes "b.txt") 152 ∷ []) }
     ensures index { members_in (one (codes "/               ") (codes "4         ") (codes "\n\n\n\n")) ≡ Ok [] }
     ensures wide_index { members_in (one (codes "/SYM64/         ") (codes "2         ") (codes "\n\n")) ≡ Ok [] }
     ensures empty { members_in magic ≡ Ok [] }
