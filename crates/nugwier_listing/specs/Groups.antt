@@ -2,7 +2,7 @@
 use Rattle.std.specs.Prelude.{ℕ, ◌==◌, if◌then◌else◌, List, [], Result, Ok, drop}
 use Rattle.elf.specs.Answers.{symbols_of}
 use Rattle.elf.specs.Data.{content}
-use Rattle.elf.specs.ObjectFile.{ObjectFile, table_of}
+use Rattle.elf.specs.ObjectFile.{ObjectFile, err_map, table_of}
 use Rattle.elf_abi.specs.declared.abi.TheConstants.{SHT_GROUP}
 use Rattle.elf_records.specs.Number.{number_at}
 use Rattle.elf_records.specs.Record.{◌>>=◌}
@@ -12,11 +12,14 @@ use Rattle.elf_records.specs.Word.{u32_reads}
 use Rattle.elf_records.specs.declared.parse.ParseError.{ParseError}
 use Rattle.elf_records.specs.declared.section.SectionHeader.{SectionHeader}
 use Rattle.nugwier_listing.specs.Headings.{known_names}
-use Rattle.nugwier_listing.specs.Read.{read_said}
+use Rattle.nugwier_listing.specs.Notes.{left_after, numbered_within, within}
+use Rattle.nugwier_listing.specs.Read.{given_said}
 use Rattle.nugwier_report.specs.Groups.{GroupView, group_said}
 use Rattle.nugwier_report.specs.Labels.{Named}
 use Rattle.nugwier_report.specs.Relocations.{symbol_name}
-use Rattle.nugwier_report.specs.Said.{Said, numbered}
+use Rattle.nugwier_report.specs.Said.{Said}
+use Rattle.nugwier_report.specs.declared.problem.Fault.{Fault}
+use Rattle.nugwier_report.specs.declared.problem.Fault.TheVariants.{Read}
 use Rattle.nugwier_report.specs.declared.problem.Part.TheVariants.{Section}
 
 -- the name of symbol n of a table with these strings
@@ -35,16 +38,21 @@ group_in named file s bytes = number_at file.little 4 bytes 0 >>= λ flags. Ok (
   signature = signature_of named file s;
 })
 
-abbrev pub group_of : Named → ObjectFile → SectionHeader → Result GroupView ParseError
-group_of named file s = content file s >>= group_in named file s
+abbrev pub group_of : Named → ObjectFile → SectionHeader → Result (List ℕ) Fault → Result GroupView Fault
+group_of named file s bytes = bytes >>= λ listed. err_map Read (group_in named file s listed)
 
--- of section k, if it is a group
-abbrev pub groups_in : Named → ObjectFile → ℕ → SectionHeader → List Said
-groups_in named file k s =
-    if s.sh_type == SHT_GROUP then read_said (Section k) (group_said named k) (group_of named file s) else []
+-- of section k, if it is a group. Sections may share their bytes: no more bytes are listed than the file has
+abbrev pub groups_in : Named → ObjectFile → ℕ → ℕ → SectionHeader → List Said
+groups_in named file left k s =
+    if s.sh_type == SHT_GROUP then
+    given_said (Section k) (group_said named k) (group_of named file s (within left (content file s))) else []
+
+-- how many bytes of groups are left to list after a section
+abbrev pub after_group : ObjectFile → ℕ → SectionHeader → ℕ
+after_group file left s = if s.sh_type == SHT_GROUP then left_after left (content file s) else left
 
 abbrev pub groups_said : Named → ObjectFile → List Said
-groups_said named file = numbered (groups_in named file) 0 file.sections
+groups_said named file = numbered_within (groups_in named file) (after_group file) file.size 0 file.sections
 
 abbrev pub said_of_groups : ObjectFile → List Said
 said_of_groups file = groups_said (record { sections = file.sections; names = known_names file }) file

@@ -65,7 +65,7 @@ left_after left (Ok bytes) = left - length bytes
 left_after left (Err e) = left
 
 -- of items that are numbered from k, each with what is left for it
-abbrev pub numbered_within : {X : Type 0} → (ℕ → ℕ → X → List Said) → (ℕ → X → ℕ) → ℕ → ℕ → List X → List Said
+abbrev pub numbered_within : {X Y : Type 0} → (ℕ → ℕ → X → List Y) → (ℕ → X → ℕ) → ℕ → ℕ → List X → List Y
 numbered_within said after left k [] = []
 numbered_within said after left k (x ∷ xs) = said left k x ++ numbered_within said after (after left x) (k + 1) xs
 

@@ -1,5 +1,6 @@
 -- What is said of the versions that a file defines, and of those that it needs of other files.
-use Rattle.std.specs.Prelude.{ℕ, ◌==◌, ◌||◌, Bool, true, false, if◌then◌else◌, List, [], ◌∷◌, Result, Ok}
+use Rattle.std.specs.Prelude.{ℕ, ◌-◌, ◌==◌, ◌||◌, nat_lt, Bool, true, false, if◌then◌else◌, List, [], ◌∷◌, length}
+use Rattle.std.specs.Prelude.{Option, Some, None, Result, Ok, Err}
 use Rattle.elf_abi.specs.Values.{sht_gnu_verdef, sht_gnu_verneed}
 use Rattle.elf_parts.specs.gnu_symver.Lists.{ver_defs, ver_needs}
 use Rattle.elf_parts.specs.declared.gnu_symver.records.VerDef.{VerDef}
@@ -11,13 +12,16 @@ use Rattle.elf_records.specs.Table.{Table, table_in}
 use Rattle.elf_records.specs.declared.parse.ParseError.{ParseError}
 use Rattle.elf_records.specs.declared.section.SectionHeader.{SectionHeader}
 use Rattle.elf.specs.Data.{content}
-use Rattle.elf.specs.ObjectFile.{ObjectFile}
+use Rattle.elf.specs.ObjectFile.{ObjectFile, err_map}
 use Rattle.nugwier_listing.specs.Headings.{heading_members, known_names, name_shown}
-use Rattle.nugwier_listing.specs.Read.{read_said}
-use Rattle.nugwier_report.specs.Said.{Said, numbered, states}
+use Rattle.nugwier_listing.specs.Notes.{left_after, numbered_within, within}
+use Rattle.nugwier_listing.specs.Read.{given_said}
+use Rattle.nugwier_report.specs.Said.{Said, states}
 use Rattle.nugwier_report.specs.VersionRecords.{definitions_said, needs_said}
 use Rattle.nugwier_report.specs.declared.kind.Kind.{Kind}
 use Rattle.nugwier_report.specs.declared.kind.Kind.TheVariants.{DefinedHeading, NeededHeading}
+use Rattle.nugwier_report.specs.declared.problem.Fault.{Fault}
+use Rattle.nugwier_report.specs.declared.problem.Fault.TheVariants.{Read, Repeated}
 use Rattle.nugwier_report.specs.declared.problem.Part.TheVariants.{Section}
 
 -- ---- what a file has
@@ -42,11 +46,35 @@ records_in s table =
 abbrev pub linked_content : ObjectFile → SectionHeader → Result (List ℕ) ParseError
 linked_content file s = file.section_at s.sh_link >>= content file
 
--- the versions of a section, and the strings that have their names
-abbrev pub versions_of : ObjectFile → SectionHeader → Result (Records × List ℕ) ParseError
-versions_of file s =
-    content file s >>= λ bytes. linked_content file s >>= λ strings.
-    Ok (records_in s (table_in file.little file.class bytes), strings)
+-- what is left of a number after these, if they are no more
+abbrev pub left_of : {A : Type 0} → ℕ → List A → Option ℕ
+left_of left [] = Some left
+left_of left (x ∷ xs) = if nat_lt left 1 then None else left_of (left - 1) xs
+
+abbrev pub if_left : Option ℕ → (ℕ → Bool) → Bool
+if_left None more = false
+if_left (Some left) more = more left
+
+-- all auxiliary entries are no more than this number: versions may share theirs
+abbrev pub fits : {V A : Type 0} → ℕ → List (V × List A) → Bool
+fits left [] = true
+fits left (one ∷ more) = if_left (left_of left one.1) (λ n. fits n more)
+
+abbrev pub are_within : ℕ → Records → Bool
+are_within most (defined definitions) = fits most definitions
+are_within most (needed needs) = fits most needs
+
+-- versions, if their auxiliary entries are no more than the bytes that they are in
+abbrev pub listed_in : ObjectFile → SectionHeader → List ℕ → Result Records Fault
+listed_in file s bytes =
+    let records = records_in s (table_in file.little file.class bytes) in
+    if are_within (length bytes) records then Ok records else Err Repeated
+
+-- the versions of a section, and the strings that have their names, if its bytes are listed
+abbrev pub versions_of : ObjectFile → SectionHeader → Result (List ℕ) Fault → Result (Records × List ℕ) Fault
+versions_of file s bytes =
+    bytes >>= λ listed. err_map Read (linked_content file s) >>= λ strings.
+    listed_in file s listed >>= λ records. Ok (records, strings)
 
 -- ---- what is said of it
 
@@ -60,15 +88,20 @@ records_said k (defined definitions, strings) = definitions_said (Section k) str
 records_said k (needed needs, strings) = needs_said (Section k) strings needs
 
 -- a heading, and the versions, or that they cannot be read
-abbrev pub section_said : ℕ → List ℕ → Bool → Result (Records × List ℕ) ParseError → List Said
+abbrev pub section_said : ℕ → List ℕ → Bool → Result (Records × List ℕ) Fault → List Said
 section_said k name defining found =
-    states (heading_of defining) (heading_members k name) ∷ read_said (Section k) (records_said k) found
+    states (heading_of defining) (heading_members k name) ∷ given_said (Section k) (records_said k) found
 
--- of section k, if it defines or needs versions
-abbrev pub versions_in : ObjectFile → ℕ → SectionHeader → List Said
-versions_in file k s =
-    if has_versions s
-    then section_said k (name_shown (known_names file) s) (is_defining s) (versions_of file s) else []
+-- of section k, if it defines or needs versions. Sections may share their bytes: no more are listed than the file has
+abbrev pub versions_in : ObjectFile → ℕ → ℕ → SectionHeader → List Said
+versions_in file left k s =
+    if has_versions s then
+    section_said k (name_shown (known_names file) s) (is_defining s) (versions_of file s (within left (content file s)))
+    else []
+
+-- how many bytes of versions are left to list after a section
+abbrev pub after_versions : ObjectFile → ℕ → SectionHeader → ℕ
+after_versions file left s = if has_versions s then left_after left (content file s) else left
 
 abbrev pub said_of_version_lists : ObjectFile → List Said
-said_of_version_lists file = numbered (versions_in file) 0 file.sections
+said_of_version_lists file = numbered_within (versions_in file) (after_versions file) file.size 0 file.sections

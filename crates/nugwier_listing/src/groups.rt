@@ -3,7 +3,7 @@ ghost use Rattle.std.specs.Prelude.{◌≡◌, ◌++◌, IfOk, OnOk};
 ghost use Rattle.std.specs.List.{flat_map};
 ghost use Rattle.elf.specs.Answers.{symbols_view};
 ghost use Rattle.elf_records.specs.Number.{ok_map};
-ghost use Rattle.nugwier_listing.specs.Groups.{group_in, group_of, groups_in, groups_said, said_of_groups};
+ghost use Rattle.nugwier_listing.specs.Groups.{after_group, group_in, group_of, groups_in, groups_said, said_of_groups};
 ghost use Rattle.nugwier_listing.specs.Groups.{signature_in, signature_of};
 ghost use Rattle.nugwier_listing.specs.Whole.{file_of};
 ghost use Rattle.nugwier_listing.specs.inner.Groups.{part_said, tables_said};
@@ -12,6 +12,7 @@ ghost use Rattle.nugwier_report.specs.Labels.{named_by};
 ghost use Rattle.nugwier_report.specs.Said.{saying};
 
 use crate::listed::ListedFile;
+use crate::notes::{left_after, within};
 use crate::relocations::labels_of;
 use crate::taking;
 use crate::taking::{NotTaken, Symbols};
@@ -34,7 +35,7 @@ use std::io::Write;
 #[derive(Drop)]
 pub struct GroupPart<'f, E: EndianParse> {
     number: u64,
-    group: Result<Group<'f, E>, ParseError>,
+    group: Result<Group<'f, E>, Fault<'static>>,
 }
 
 /// The section groups of a file, and the sections with their names.
@@ -66,45 +67,57 @@ fn take_sections<'f, E: EndianParse, R: ListedFile<E>>(
         ≡ groups_said (named_by labels.now) (file_of (R.file file.now) (R.bytes file.now))) }
 {
     let mut parts = Vec::new(alloc);
+    let mut left = file.size();
     let mut number = 0;
     for section in file.section_list() {
-        add_section(file, labels, number, section, &mut parts)?;
+        left = add_section(file, labels, left, number, section, &mut parts)?;
         number += 1;
     }
     Ok(parts)
 }
 
-// Takes the group of a section, if it is one, and adds it.
+// Takes the group of a section, if it is one, and adds it. Returns how many bytes of groups may follow.
 fn add_section<'f, E: EndianParse, R: ListedFile<E>>(
     file: &'f R,
     labels: &Labels<'f>,
+    left: u64,
     number: u64,
     section: &SectionHeader,
     parts: &mut Vec<GroupPart<'f, E>>,
-) -> Result<(), NotTaken>
-    ensures { OnOk result (flat_map (part_said (named_by labels.now)) parts.new.items
+) -> Result<u64, NotTaken>
+    ensures after { IfOk result (λ after. after
+        ≡ after_group (file_of (R.file file.now) (R.bytes file.now)) left section.now) }
+    ensures taken { OnOk result (flat_map (part_said (named_by labels.now)) parts.new.items
         ≡ flat_map (part_said (named_by labels.now)) parts.old.items
-        ++ groups_in (named_by labels.now) (file_of (R.file file.now) (R.bytes file.now)) number section.now) }
+        ++ groups_in (named_by labels.now) (file_of (R.file file.now) (R.bytes file.now)) left number section.now) }
 {
     if section.sh_type != abi::SHT_GROUP {
-        return Ok(());
+        return Ok(left);
     }
-    let group = take_group(file, labels, section)?;
+    let bytes = taking::content(file, section)?;
+    let after = left_after(left, &bytes);
+    let group = take_group(file, labels, section, within(left, bytes))?;
     parts.push(GroupPart { number, group })?;
-    Ok(())
+    Ok(after)
 }
 
 fn take_group<'f, E: EndianParse, R: ListedFile<E>>(
     file: &'f R,
     labels: &Labels<'f>,
     section: &SectionHeader,
-) -> Result<Result<Group<'f, E>, ParseError>, NotTaken>
+    bytes: Result<&'f [u8], Fault<'static>>,
+) -> Result<Result<Group<'f, E>, Fault<'static>>, NotTaken>
     ensures { IfOk result (λ found. ok_map group_view found
-        ≡ group_of (named_by labels.now) (file_of (R.file file.now) (R.bytes file.now)) section.now) }
+        ≡ group_of (named_by labels.now) (file_of (R.file file.now) (R.bytes file.now)) section.now
+        (ok_map (λ bytes. bytes.now) bytes.entry)) }
 {
-    match taking::content(file, section)? {
-        Ok(bytes) => group_in(file, labels, section, bytes),
-        Err(error) => Ok(Err(error)),
+    let bytes = match bytes {
+        Ok(bytes) => bytes,
+        Err(fault) => return Ok(Err(fault)),
+    };
+    match group_in(file, labels, section, bytes)? {
+        Ok(group) => Ok(Ok(group)),
+        Err(error) => Ok(Err(Fault::Read(error))),
     }
 }
 
@@ -202,6 +215,6 @@ fn say_part<E: EndianParse, W: Write, V: Write>(
     let GroupPart { number, group } = part;
     match group {
         Ok(group) => say_group(number, group, labels, report),
-        Err(error) => report.problem(Part::Section(number).whole(), Fault::Read(error)),
+        Err(fault) => report.problem(Part::Section(number).whole(), fault),
     }
 }

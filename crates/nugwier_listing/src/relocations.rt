@@ -10,7 +10,8 @@ ghost use Rattle.nugwier_listing.specs.Headings.{known_names};
 ghost use Rattle.nugwier_listing.specs.Read.{if_read};
 ghost use Rattle.nugwier_listing.specs.Relocations.{are_relocations, each_said, in_table, linked_table, machine_of};
 ghost use Rattle.nugwier_listing.specs.Relocations.{placed_said, records_of, records_said, relative_in, relocations_in};
-ghost use Rattle.nugwier_listing.specs.Relocations.{relocations_of, said_of_relocations, section_relocations};
+ghost use Rattle.nugwier_listing.specs.Relocations.{after_relocations, relocations_of, said_of_relocations};
+ghost use Rattle.nugwier_listing.specs.Relocations.{section_relocations, sections_relocations};
 ghost use Rattle.nugwier_listing.specs.Relocations.{section_symbols, symbols_if, symbols_unread, table_members};
 ghost use Rattle.nugwier_listing.specs.Relocations.{table_records, table_relocations, used_by};
 ghost use Rattle.nugwier_listing.specs.Whole.{file_of};
@@ -19,12 +20,13 @@ ghost use Rattle.nugwier_listing.specs.inner.Relocations.{records_view, symbols_
 ghost use Rattle.nugwier_report.specs.Labels.{named_by};
 ghost use Rattle.nugwier_report.specs.Noted.{members_said};
 ghost use Rattle.nugwier_report.specs.Relocations.{used_view};
-ghost use Rattle.nugwier_report.specs.Said.{numbered, saying};
+ghost use Rattle.nugwier_report.specs.Said.{saying};
 ghost use Rattle.nugwier_report.specs.declared.problem.Fault.TheVariants.{Read as IsRead};
 
 use crate::headings::{heading_members, known_names, name_shown};
 use crate::linked::FoundVersions;
 use crate::listed::ListedFile;
+use crate::notes::{left_after, within};
 use crate::symbols::known_versions;
 use crate::taking::NotTaken;
 use crate::{linked, taking};
@@ -438,52 +440,63 @@ fn take_sections<'f, E: EndianParse, R: ListedFile<E>>(
     alloc: Global,
     file: &'f R,
 ) -> Result<Vec<RelocationPart<'f, E>>, NotTaken>
-    ensures { let whole = file_of (R.file file.now) (R.bytes file.now) in
-        IfOk result (λ parts. flat_map part_views parts.items ≡ numbered (relocations_in whole) 0 whole.sections) }
+    ensures { IfOk result (λ parts. flat_map part_views parts.items
+        ≡ sections_relocations (file_of (R.file file.now) (R.bytes file.now))) }
 {
     let names = known_names(file)?;
     let mut parts = Vec::new(alloc);
+    let mut left = file.size();
     let mut number = 0;
     for section in file.section_list() {
-        add_section(file, &names, number, section, &mut parts)?;
+        left = add_section(file, &names, left, number, section, &mut parts)?;
         number += 1;
     }
     Ok(parts)
 }
 
-// Takes the relocations of a section, if it has any, and adds them.
+// Takes the relocations of a section, if it has any, and adds them. Returns how many bytes of relocations may follow.
 #[tactic(auto, unfolding(crate::specs::Relocations::relocations_in))]
 fn add_section<'f, E: EndianParse, R: ListedFile<E>>(
     file: &'f R,
     names: &Option<TerminatedStrings<'f>>,
+    left: u64,
     number: u64,
     section: &SectionHeader,
     parts: &mut Vec<RelocationPart<'f, E>>,
-) -> Result<(), NotTaken>
-    ensures { let whole = file_of (R.file file.now) (R.bytes file.now) in
+) -> Result<u64, NotTaken>
+    ensures after { IfOk result (λ after. after
+        ≡ after_relocations (file_of (R.file file.now) (R.bytes file.now)) left section.now) }
+    ensures taken { let whole = file_of (R.file file.now) (R.bytes file.now) in
         names.now ≡ known_names whole → OnOk result (flat_map part_views parts.new.items
-        ≡ flat_map part_views parts.old.items ++ relocations_in whole number section.now) }
+        ≡ flat_map part_views parts.old.items ++ relocations_in whole left number section.now) }
 {
     if !are_relocations(section) {
-        return Ok(());
+        return Ok(left);
     }
-    let part = take_part(file, names, number, section)?;
+    let bytes = taking::content(file, section)?;
+    let after = left_after(left, &bytes);
+    let part = take_part(file, names, within(left, bytes), number, section)?;
     parts.push(part)?;
-    Ok(())
+    Ok(after)
 }
 
+// The relocations of a section, if its bytes are listed.
 fn take_part<'f, E: EndianParse, R: ListedFile<E>>(
     file: &'f R,
     names: &Option<TerminatedStrings<'f>>,
+    bytes: Result<&'f [u8], Fault<'f>>,
     number: u64,
     section: &SectionHeader,
 ) -> Result<RelocationPart<'f, E>, NotTaken>
     ensures { let whole = file_of (R.file file.now) (R.bytes file.now) in
-        names.now ≡ known_names whole
-        → IfOk result (λ part. part_view part ≡ section_relocations whole number section.now) }
+        names.now ≡ known_names whole → IfOk result (λ part. part_view part
+        ≡ section_relocations whole (ok_map (λ bytes. bytes.now) bytes.entry) number section.now) }
 {
     let symbols = used_symbols(file, section.sh_link)?;
-    let records = take_records(file, section)?;
+    let records = match bytes {
+        Ok(_) => take_records(file, section)?,
+        Err(fault) => Err(fault),
+    };
     Ok(RelocationPart {
         place: RelocationPlace::Section(number, name_shown(names, section)),
         symbols,

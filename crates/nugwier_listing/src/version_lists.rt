@@ -4,8 +4,10 @@ ghost use Rattle.std.specs.List.{flat_map};
 ghost use Rattle.elf_records.specs.Number.{ok_map};
 ghost use Rattle.elf_records.specs.Table.{table_in};
 ghost use Rattle.nugwier_listing.specs.Headings.{known_names, name_shown};
-ghost use Rattle.nugwier_listing.specs.Read.{read_said};
-ghost use Rattle.nugwier_listing.specs.VersionLists.{has_versions, heading_of, is_defining, linked_content, records_in};
+ghost use Rattle.nugwier_listing.specs.Read.{given_said};
+ghost use Rattle.elf_parts.specs.gnu_symver.Lists.{ver_def_aux_left, ver_defs_left, ver_need_aux_left, ver_needs_left};
+ghost use Rattle.nugwier_listing.specs.VersionLists.{after_versions, are_within, fits, has_versions, heading_of, is_defining};
+ghost use Rattle.nugwier_listing.specs.VersionLists.{left_of, linked_content, listed_in, records_in};
 ghost use Rattle.nugwier_listing.specs.VersionLists.{records_said, said_of_version_lists, section_said};
 ghost use Rattle.nugwier_listing.specs.VersionLists.{versions_in, versions_of};
 ghost use Rattle.nugwier_listing.specs.Whole.{file_of};
@@ -15,12 +17,13 @@ ghost use Rattle.nugwier_report.specs.declared.problem.Part.TheVariants.{Section
 
 use crate::headings::{heading_members, known_names, name_shown};
 use crate::listed::ListedFile;
+use crate::notes::{left_after, within};
 use crate::parts::TakenPart;
 use crate::taking;
 use crate::taking::NotTaken;
 use elf::endian::EndianParse;
 use elf::file::Class;
-use elf::gnu_symver::{VerDefIterator, VerNeedIterator};
+use elf::gnu_symver::{VerDefAuxIterator, VerDefIterator, VerNeedAuxIterator, VerNeedIterator};
 use elf::headers::Headers;
 use elf::section::SectionHeader;
 use elf::string_table::{StringTable, TerminatedStrings};
@@ -52,7 +55,7 @@ pub struct VersionPart<'f, E: EndianParse> {
     number: u64,
     name: &'f [u8],
     is_defining: bool,
-    versions: Result<TakenVersions<'f, E>, ParseError>,
+    versions: Result<TakenVersions<'f, E>, Fault<'static>>,
 }
 
 impl<'f, E: EndianParse> TakenPart for VersionPart<'f, E> {
@@ -80,44 +83,52 @@ pub(crate) fn take_version_lists<'f, E: EndianParse, R: ListedFile<E>>(
 {
     let names = known_names(file)?;
     let mut parts = Vec::new(alloc);
+    let mut left = file.size();
     let mut number = 0;
     for section in file.section_list() {
-        add_section(file, &names, number, section, &mut parts)?;
+        left = add_section(file, &names, left, number, section, &mut parts)?;
         number += 1;
     }
     Ok(parts)
 }
 
-// Takes the versions of a section, if it has any, and adds them.
+// Takes the versions of a section, if it has any, and adds them. Returns how many bytes of versions may follow.
 fn add_section<'f, E: EndianParse, R: ListedFile<E>>(
     file: &'f R,
     names: &Option<TerminatedStrings<'f>>,
+    left: u64,
     number: u64,
     section: &SectionHeader,
     parts: &mut Vec<VersionPart<'f, E>>,
-) -> Result<(), NotTaken>
-    ensures { let whole = file_of (R.file file.now) (R.bytes file.now) in
+) -> Result<u64, NotTaken>
+    ensures after { IfOk result (λ after. after
+        ≡ after_versions (file_of (R.file file.now) (R.bytes file.now)) left section.now) }
+    ensures taken { let whole = file_of (R.file file.now) (R.bytes file.now) in
         names.now ≡ known_names whole → OnOk result (flat_map part_said parts.new.items
-        ≡ flat_map part_said parts.old.items ++ versions_in whole number section.now) }
+        ≡ flat_map part_said parts.old.items ++ versions_in whole left number section.now) }
 {
     if !has_versions(section) {
-        return Ok(());
+        return Ok(left);
     }
-    let part = take_part(file, names, number, section)?;
+    let bytes = taking::content(file, section)?;
+    let after = left_after(left, &bytes);
+    let part = take_part(file, names, within(left, bytes), number, section)?;
     parts.push(part)?;
-    Ok(())
+    Ok(after)
 }
 
 fn take_part<'f, E: EndianParse, R: ListedFile<E>>(
     file: &'f R,
     names: &Option<TerminatedStrings<'f>>,
+    bytes: Result<&'f [u8], Fault<'static>>,
     number: u64,
     section: &SectionHeader,
 ) -> Result<VersionPart<'f, E>, NotTaken>
     ensures { IfOk result (λ part. part_said part ≡ section_said number (name_shown names.now section.now)
-        (is_defining section.now) (versions_of (file_of (R.file file.now) (R.bytes file.now)) section.now)) }
+        (is_defining section.now) (versions_of (file_of (R.file file.now) (R.bytes file.now)) section.now
+        (ok_map (λ bytes. bytes.now) bytes.entry))) }
 {
-    let versions = take_versions(file, section)?;
+    let versions = take_versions(file, section, bytes)?;
     Ok(VersionPart {
         number,
         name: name_shown(names, section),
@@ -143,22 +154,105 @@ fn is_defining(section: &SectionHeader) -> bool
 fn take_versions<'f, E: EndianParse, R: ListedFile<E>>(
     file: &'f R,
     section: &SectionHeader,
-) -> Result<Result<TakenVersions<'f, E>, ParseError>, NotTaken>
+    bytes: Result<&'f [u8], Fault<'static>>,
+) -> Result<Result<TakenVersions<'f, E>, Fault<'static>>, NotTaken>
     ensures { IfOk result (λ found. ok_map versions_view found
-        ≡ versions_of (file_of (R.file file.now) (R.bytes file.now)) section.now) }
+        ≡ versions_of (file_of (R.file file.now) (R.bytes file.now)) section.now
+        (ok_map (λ bytes. bytes.now) bytes.entry)) }
 {
-    let bytes = match taking::content(file, section)? {
+    let bytes = match bytes {
         Ok(bytes) => bytes,
-        Err(error) => return Ok(Err(error)),
+        Err(fault) => return Ok(Err(fault)),
     };
     let strings = match linked_content(file, section)? {
         Ok(strings) => strings,
-        Err(error) => return Ok(Err(error)),
+        Err(error) => return Ok(Err(Fault::Read(error))),
     };
-    let order = file.endianness();
-    let records = records_in(order, file.class(), section, bytes);
     let strings = TerminatedStrings::new(&StringTable::new(strings));
-    Ok(Ok(TakenVersions { records, strings }))
+    match listed_in(file, section, bytes) {
+        Ok(records) => Ok(Ok(TakenVersions { records, strings })),
+        Err(fault) => Ok(Err(fault)),
+    }
+}
+
+// The versions in the bytes of a section, if their auxiliary entries are no more than the bytes.
+fn listed_in<'f, E: EndianParse, R: ListedFile<E>>(
+    file: &'f R,
+    section: &SectionHeader,
+    bytes: &'f [u8],
+) -> Result<TakenRecords<'f, E>, Fault<'static>>
+    ensures { ok_map records_view result
+        ≡ listed_in (file_of (R.file file.now) (R.bytes file.now)) section.now bytes.now }
+{
+    let (order, class) = (file.endianness(), file.class());
+    let records = records_in(order, class, section, bytes);
+    if are_within(bytes.len() as u64, records) {
+        Ok(records_in(order, class, section, bytes))
+    } else {
+        Err(Fault::Repeated)
+    }
+}
+
+// Whether all auxiliary entries are no more than this number. Versions may share theirs.
+fn are_within<E: EndianParse>(most: u64, records: TakenRecords<'_, E>) -> bool
+    ensures { result ≡ are_within most (records_view records.entry) }
+{
+    match records {
+        TakenRecords::Defined(definitions) => fits_definitions(most, definitions),
+        TakenRecords::Needed(needs) => fits_needs(most, needs),
+    }
+}
+
+fn fits_definitions<E: EndianParse>(most: u64, definitions: VerDefIterator<'_, E>) -> bool
+    ensures { result ≡ fits most (ver_defs_left definitions.entry) }
+{
+    let mut left = most;
+    for definition in definitions {
+        let Some(after) = left_of_definition(left, definition.1) else {
+            return false;
+        };
+        left = after;
+    }
+    true
+}
+
+fn left_of_definition<E: EndianParse>(left: u64, records: VerDefAuxIterator<'_, E>) -> Option<u64>
+    ensures { result ≡ left_of left (ver_def_aux_left records.entry) }
+{
+    let mut left = left;
+    for _ in records {
+        if left < 1 {
+            return None;
+        }
+        left -= 1;
+    }
+    Some(left)
+}
+
+fn fits_needs<E: EndianParse>(most: u64, needs: VerNeedIterator<'_, E>) -> bool
+    ensures { result ≡ fits most (ver_needs_left needs.entry) }
+{
+    let mut left = most;
+    for need in needs {
+        let Some(after) = left_of_need(left, need.1) else {
+            return false;
+        };
+        left = after;
+    }
+    true
+}
+
+fn left_of_need<E: EndianParse>(left: u64, records: VerNeedAuxIterator<'_, E>) -> Option<u64>
+    ensures { result ≡ left_of left (ver_need_aux_left records.entry) }
+{
+    let mut left = left;
+    for _ in records {
+        if left < 1 {
+            return None;
+        }
+        left -= 1;
+    }
+    Some(left)
 }
 
 fn linked_content<'f, E: EndianParse, R: ListedFile<E>>(
@@ -204,15 +298,15 @@ fn heading_of(is_defining: bool) -> Kind
 // Says the versions of a section, or that they cannot be read.
 fn say_read<E: EndianParse, W: Write, V: Write>(
     section: u64,
-    versions: Result<TakenVersions<'_, E>, ParseError>,
+    versions: Result<TakenVersions<'_, E>, Fault<'static>>,
     report: &mut Report<'_, W, V>,
 ) -> Result<(), Stop>
     ensures { OnOk result (report.new ≡ saying report.old
-        (read_said (Section section) (records_said section) (ok_map versions_view versions.entry))) }
+        (given_said (Section section) (records_said section) (ok_map versions_view versions.entry))) }
 {
     match versions {
         Ok(versions) => say_each(section, versions, report),
-        Err(error) => report.problem(Part::Section(section).whole(), Fault::Read(error)),
+        Err(fault) => report.problem(Part::Section(section).whole(), fault),
     }
 }
 
