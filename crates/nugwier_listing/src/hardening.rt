@@ -56,6 +56,7 @@ use elf::symbol::{Symbol, SymbolTable};
 use elf::{ParseError, abi};
 use elf_check::notes::note_align;
 use elf_dynamic::dynamic_view::has_tag;
+use elf_linking::needed;
 use nugwier_report::hardening::{
     FileKind, Hardening, Relro, Requirement, SearchPaths, say_hardening,
 };
@@ -130,20 +131,16 @@ pub(crate) fn take_kind<E: EndianParse, R: ListedFile<E>>(
     ensures { let header = R.header file.now in IfOk result (λ kind. kind
         ≡ kind_of header.e_type header.e_machine (file_of (R.file file.now) (R.bytes file.now))) }
 {
-    let entries = take_dynamic(alloc, file)?;
     let e_type = file.file_header().e_type;
-    Ok(file_kind(e_type, file.segment_list(), entries_read(&entries)))
-}
-
-// The entries, if they could be read. A file without any has no entries.
-fn entries_read<'a>(found: &'a FoundEntries<'_>) -> Option<&'a [Dyn]>
-    ensures { option_copied result
-        ≡ option_map (λ k. k.0) (known_entries (ok_map (option_map entries_view) found.now)) }
-{
-    match found {
-        Ok(Some(found)) => Some(found.entries.as_slice()),
-        Ok(None) => Some(&[]),
-        Err(_) => None,
+    let segments = file.segment_list();
+    // without the strings that the entries name
+    match taking::dynamic(file)? {
+        Ok(Some(table)) => {
+            let entries = needed::entries_in(alloc, &table)?;
+            Ok(file_kind(e_type, segments, Some(entries.as_slice())))
+        }
+        Ok(None) => Ok(file_kind(e_type, segments, Some(&[]))),
+        Err(_) => Ok(file_kind(e_type, segments, None)),
     }
 }
 
