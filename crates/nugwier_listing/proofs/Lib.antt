@@ -12,3 +12,5 @@ pub mod Ordered
 -- the chains of hash sections: the length of one, and how many have a length
 pub mod ChainWalks
 pub mod Counting
+-- auxiliary entries of versions
+pub mod Auxiliary

@@ -1,6 +1,7 @@
 -- What is said of the versions that a file defines, and of those that it needs of other files.
-use Rattle.std.specs.Prelude.{ℕ, ◌-◌, ◌==◌, ◌||◌, nat_lt, Bool, true, false, if◌then◌else◌, List, [], ◌∷◌, length}
-use Rattle.std.specs.Prelude.{Option, Some, None, Result, Ok, Err}
+use Rattle.std.specs.Prelude.{ℕ, ◌==◌, ◌||◌, nat_le, Bool, true, false, if◌then◌else◌, List, [], ◌∷◌, length}
+use Rattle.std.specs.Prelude.{Result, Ok, Err}
+use Rattle.std.specs.List.{sum_by}
 use Rattle.elf_abi.specs.Values.{sht_gnu_verdef, sht_gnu_verneed}
 use Rattle.elf_parts.specs.gnu_symver.Lists.{ver_defs, ver_needs}
 use Rattle.elf_parts.specs.declared.gnu_symver.records.VerDef.{VerDef}
@@ -46,23 +47,13 @@ records_in s table =
 abbrev pub linked_content : ObjectFile → SectionHeader → Result (List ℕ) ParseError
 linked_content file s = file.section_at s.sh_link >>= content file
 
--- what is left of a number after these, if they are no more
-abbrev pub left_of : {A : Type 0} → ℕ → List A → Option ℕ
-left_of left [] = Some left
-left_of left (x ∷ xs) = if nat_lt left 1 then None else left_of (left - 1) xs
-
-abbrev pub if_left : Option ℕ → (ℕ → Bool) → Bool
-if_left None more = false
-if_left (Some left) more = more left
-
--- all auxiliary entries are no more than this number: versions may share theirs
-abbrev pub fits : {V A : Type 0} → ℕ → List (V × List A) → Bool
-fits left [] = true
-fits left (one ∷ more) = if_left (left_of left one.1) (λ n. fits n more)
+-- how many auxiliary entries versions have in all: they may share theirs
+abbrev pub auxiliary_count : {V A : Type 0} → List (V × List A) → ℕ
+auxiliary_count all = sum_by (λ one. length one.1) all
 
 abbrev pub are_within : ℕ → Records → Bool
-are_within most (defined definitions) = fits most definitions
-are_within most (needed needs) = fits most needs
+are_within most (defined definitions) = nat_le (auxiliary_count definitions) most
+are_within most (needed needs) = nat_le (auxiliary_count needs) most
 
 -- versions, if their auxiliary entries are no more than the bytes that they are in
 abbrev pub listed_in : ObjectFile → SectionHeader → List ℕ → Result Records Fault

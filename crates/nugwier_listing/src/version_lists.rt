@@ -6,12 +6,12 @@ ghost use Rattle.elf_records.specs.Table.{table_in};
 ghost use Rattle.nugwier_listing.specs.Headings.{known_names, name_shown};
 ghost use Rattle.nugwier_listing.specs.Read.{given_said};
 ghost use Rattle.elf_parts.specs.gnu_symver.Lists.{ver_def_aux_left, ver_defs_left, ver_need_aux_left, ver_needs_left};
-ghost use Rattle.nugwier_listing.specs.VersionLists.{after_versions, are_within, fits, has_versions, heading_of, is_defining};
-ghost use Rattle.nugwier_listing.specs.VersionLists.{left_of, linked_content, listed_in, records_in};
+ghost use Rattle.nugwier_listing.specs.VersionLists.{after_versions, are_within, has_versions, heading_of, is_defining};
+ghost use Rattle.nugwier_listing.specs.VersionLists.{linked_content, listed_in, records_in};
 ghost use Rattle.nugwier_listing.specs.VersionLists.{records_said, said_of_version_lists, section_said};
 ghost use Rattle.nugwier_listing.specs.VersionLists.{versions_in, versions_of};
 ghost use Rattle.nugwier_listing.specs.Whole.{file_of};
-ghost use Rattle.nugwier_listing.specs.inner.VersionLists.{part_said, records_view, versions_view};
+ghost use Rattle.nugwier_listing.specs.inner.VersionLists.{fits, left_of, part_said, records_view, versions_view};
 ghost use Rattle.nugwier_report.specs.Said.{saying};
 ghost use Rattle.nugwier_report.specs.declared.problem.Part.TheVariants.{Section};
 
@@ -194,6 +194,7 @@ fn listed_in<'f, E: EndianParse, R: ListedFile<E>>(
 }
 
 // Whether all auxiliary entries are no more than this number. Versions may share theirs.
+#[tactic(auto, using(crate::proofs::Auxiliary::fits_is))]
 fn are_within<E: EndianParse>(most: u64, records: TakenRecords<'_, E>) -> bool
     ensures { result ≡ are_within most (records_view records.entry) }
 {

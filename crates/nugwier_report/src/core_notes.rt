@@ -488,7 +488,7 @@ pub struct MappedFiles {
     pub names_at: usize,
 }
 
-/// A mapping: its addresses, and the page of the file where it begins.
+/// A mapping: its addresses, and the page of the file at its start.
 #[derive(Clone, Copy)]
 pub struct MappedFile {
     pub start: u64,

@@ -211,7 +211,7 @@ impl<'a> Asked<'a> {
         }
     }
 
-    // A word of letters, the last of which may need a section.
+    // A word of letters. The last one may need a section.
     fn add_list_word(&mut self, word: &'a str) -> Result<bool, WordError<'a>>
         ensures { IsStep (with_list_word (so_far self.old) word.entry) (so_far self.new) result }
     {

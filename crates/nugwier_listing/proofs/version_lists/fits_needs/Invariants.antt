@@ -1,6 +1,6 @@
 use Rattle.std.proofs.Common.{◌≡◌}
 use Rattle.elf_parts.specs.gnu_symver.Lists.{ver_needs_left}
-use Rattle.nugwier_listing.specs.VersionLists.{fits}
+use Rattle.nugwier_listing.specs.inner.VersionLists.{fits}
 use Rattle.nugwier_listing.proofs.version_lists.fits_needs.Given as goal
 
 -- what is left for those that are left decides

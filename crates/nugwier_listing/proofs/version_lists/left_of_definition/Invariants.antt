@@ -1,6 +1,6 @@
 use Rattle.std.proofs.Common.{◌≡◌}
 use Rattle.elf_parts.specs.gnu_symver.Lists.{ver_def_aux_left}
-use Rattle.nugwier_listing.specs.VersionLists.{left_of}
+use Rattle.nugwier_listing.specs.inner.VersionLists.{left_of}
 use Rattle.nugwier_listing.proofs.version_lists.left_of_definition.Given as goal
 
 -- what is left for those that are left is what is left after all
